@@ -1,0 +1,101 @@
+-- The marks of a device in memory after a write.
+use Rattle.std.proofs.Common.{◌≡◌, ⊎_elim, ℕ, ◌+◌, ◌-◌, ◌≤◌, Bool, true, List, length, take, drop, get_or, replicate, sym, ◌∙◌, ap, subst, arith, length-drop}
+use Rattle.std.proofs.lemmas.List.{length-take-le, get_or-take, get_or-drop, get_or-replicate, length-replicate}
+use Rattle.std.proofs.lemmas.Bool.{cases_lt, false≢true}
+use Rattle.tmem_disk.specs.Disk.{overwritten, SameOutside}
+use Rattle.tmem_disk.specs.Sim.{LeftBy}
+use Rattle.tmem_disk.proofs.Ranges.{length-overwritten, get_or-below, get_or-within, get_or-above, take-overwritten, drop-overwritten}
+
+-- the written range is marked, and all else agrees as before
+pub agrees_after : (synced : List ℕ) (marks : List Bool) (present : List ℕ) (at : ℕ) (bytes : List ℕ) → length marks ≡ length present → at + length bytes ≤ length present → LeftBy synced marks present
+    → LeftBy synced (overwritten marks at (replicate (length bytes) true)) (overwritten present at bytes)
+agrees_after synced marks present at bytes same fits agrees = record {
+  size = length-overwritten present at bytes fits ∙ agrees.size;
+  stays = λ i unmarked. ⊎_elim
+      (λ below. get_or-below present at bytes fits i 0 below ∙ agrees.stays i (sym (get_or-below marks at trues within i true below) ∙ unmarked))
+      (λ from. ⊎_elim
+      (λ to. absurd (false≢true (sym unmarked ∙ get_or-within marks at trues within i true from (omega (arith, long)) ∙ get_or-replicate (length bytes) (i - at) true true (omega arith))))
+      (λ above. get_or-above present at bytes fits i 0 above ∙ agrees.stays i (sym (get_or-above marks at trues within i true (omega (arith, long))) ∙ unmarked))
+      (cases_lt i (at + length bytes)))
+      (cases_lt i at);
+}
+  where
+    trues : List Bool
+    trues = replicate (length bytes) true
+
+    long : length trues ≡ length bytes
+    long = length-replicate (length bytes) true
+
+    within : at + length trues ≤ length marks
+    within = omega (arith, long)
+
+-- what may be left after a write might have been left before it, with anything in the range
+pub left_after : (synced : List ℕ) (marks : List Bool) (at n : ℕ) → length marks ≡ length synced → at + n ≤ length synced → (c : List ℕ) → LeftBy synced (overwritten marks at (replicate n true)) c → (b : List ℕ) × LeftBy synced marks b × SameOutside at n b c
+left_after synced marks at n same fits c left = (before, earlier, step)
+  where
+    put_back : List ℕ
+    put_back = take n (drop at synced)
+
+    long : length put_back ≡ n
+    long = length-take-le n (drop at synced) (omega (arith, length-drop at synced))
+
+    before : List ℕ
+    before = overwritten c at put_back
+
+    room : at + length put_back ≤ length c
+    room = omega (arith, long, left.size)
+
+    trues : List Bool
+    trues = replicate n true
+
+    long_marks : length trues ≡ n
+    long_marks = length-replicate n true
+
+    within : at + length trues ≤ length marks
+    within = omega (arith, long_marks)
+
+    earlier : LeftBy synced marks before
+    earlier = record {
+      size = length-overwritten c at put_back room ∙ left.size;
+      stays = λ i unmarked. ⊎_elim
+          (λ below. get_or-below c at put_back room i 0 below ∙ left.stays i (get_or-below marks at trues within i true below ∙ unmarked))
+          (λ from. ⊎_elim
+          (λ to.
+          let place : at + (i - at) ≡ i = omega arith in
+          get_or-within c at put_back room i 0 from (omega (arith, long)) ∙ get_or-take n (drop at synced) (i - at) 0 (omega arith) ∙ get_or-drop at synced (i - at) 0 ∙ ap (λ (k : ℕ). get_or synced k 0) place)
+          (λ above. get_or-above c at put_back room i 0 (omega (arith, long)) ∙ left.stays i (get_or-above marks at trues within i true (omega (arith, long_marks)) ∙ unmarked))
+          (cases_lt i (at + n)))
+          (cases_lt i at);
+    }
+
+    step : SameOutside at n before c
+    step = subst (λ (k : ℕ). SameOutside at k before c) long (record {
+      size = sym (length-overwritten c at put_back room);
+      before = sym (take-overwritten c at put_back room);
+      after = sym (drop-overwritten c at put_back room);
+    })
+
+-- and all of that may be left
+pub left_all : (synced : List ℕ) (marks : List Bool) (at n : ℕ) → length marks ≡ length synced → at + n ≤ length synced → (c : List ℕ) → ((b : List ℕ) × LeftBy synced marks b × SameOutside at n b c) → LeftBy synced (overwritten marks at (replicate n true)) c
+left_all synced marks at n same fits c from = record {
+  size = from.2.size ∙ from.1.size;
+  stays = λ i unmarked. ⊎_elim
+      (λ below. sym (get_or-take at c i 0 below) ∙ ap (λ (l : List ℕ). get_or l i 0) from.2.before ∙ get_or-take at from.0 i 0 below ∙ from.1.stays i (sym (get_or-below marks at trues within i true below) ∙ unmarked))
+      (λ above_at. ⊎_elim
+      (λ to. absurd (false≢true (sym unmarked ∙ get_or-within marks at trues within i true above_at (omega (arith, long)) ∙ get_or-replicate n (i - at) true true (omega arith))))
+      (λ above.
+      let place : at + n + (i - (at + n)) ≡ i = omega arith in
+      ap (λ (k : ℕ). get_or c k 0) (sym place) ∙ sym (get_or-drop (at + n) c (i - (at + n)) 0) ∙ ap (λ (l : List ℕ). get_or l (i - (at + n)) 0) from.2.after
+      ∙ get_or-drop (at + n) from.0 (i - (at + n)) 0 ∙ ap (λ (k : ℕ). get_or from.0 k 0) place ∙ from.1.stays i (sym (get_or-above marks at trues within i true (omega (arith, long))) ∙ unmarked))
+      (cases_lt i (at + n)))
+      (cases_lt i at);
+}
+  where
+    trues : List Bool
+    trues = replicate n true
+
+    long : length trues ≡ n
+    long = length-replicate n true
+
+    within : at + length trues ≤ length marks
+    within = omega (arith, long)

@@ -1,0 +1,76 @@
+-- The bytes of a device in memory, and what a stop leaves of them.
+use Rattle.std.specs.Prelude.{◌≡◌, ◌⊎◌, ⊤, ℕ, Bool, true, false, Option, Some, None, if◌then◌else◌, List, [], ◌∷◌, length, drop, replicate, slice_index, slice_index_or}
+use mathlib.Core.Logic.{inl, inr}
+use Rattle.tmem_disk.specs.Disk.{DeviceView, overwritten}
+use Rattle.tmem_disk.specs.declared.power.Fill.{Fill}
+use Rattle.tmem_disk.specs.declared.power.Fill.TheVariants.{Old, New, Byte}
+
+-- The bytes that a read gives, those as at the last successful sync, and a mark for each byte that was written since.
+pub record Bytes : Type 0 where
+  pub present : List ℕ
+  pub synced : List ℕ
+  pub marks : List Bool
+
+-- so many zeros, none of them marked
+abbrev pub blank : ℕ → Bytes
+blank size = record { present = replicate size 0; synced = replicate size 0; marks = replicate size false }
+
+-- with these bytes from a place on, and their places marked
+abbrev pub written : ℕ → List ℕ → Bytes → Bytes
+written at bytes b = record { present = overwritten b.present at bytes; synced = b.synced; marks = overwritten b.marks at (replicate (length bytes) true) }
+
+-- with these as the bytes that a read gives and as the synced ones, and no mark
+abbrev pub settled : List ℕ → Bytes
+settled bytes = record { present = bytes; synced = bytes; marks = replicate (length bytes) false }
+
+-- these bytes, with one byte in each marked place
+abbrev pub stamped : ℕ → List ℕ → List Bool → List ℕ
+stamped byte [] marks = []
+stamped byte (b ∷ bytes) [] = b ∷ bytes
+stamped byte (b ∷ bytes) (marked ∷ marks) = (if marked then byte else b) ∷ stamped byte bytes marks
+
+-- what a stop with this fill leaves
+abbrev pub filled : Fill → Bytes → List ℕ
+filled Old b = b.synced
+filled New b = b.present
+filled (Byte byte) b = stamped byte b.present b.marks
+
+-- a call at a stopped device changes no byte
+abbrev pub unless_stopped : Option Fill → Bytes → Bytes → Bytes
+unless_stopped (Some fill) before after = before
+unless_stopped None before after = after
+
+-- a stop leaves the bytes as at the last sync, and anything in the marked places
+pub record LeftBy (synced : List ℕ) (marks : List Bool) (c : List ℕ) : Type 0 where
+  pub size : length c ≡ length synced
+  pub stays : (i : ℕ) → slice_index_or marks i true ≡ false → slice_index c i ≡ slice_index synced i
+
+-- a stop at one of these moments might have left it
+abbrev pub LeftAtSome : List (List ℕ × List Bool) → List ℕ → Type 0
+LeftAtSome [] c = ⊥
+LeftAtSome (m ∷ moments) c = LeftBy m.0 m.1 c ⊎ LeftAtSome moments c
+
+-- a stop now or at a moment from number t on
+abbrev pub LeftSince : List (List ℕ × List Bool) → List ℕ → List Bool → ℕ → List ℕ → Type 0
+LeftSince moments synced marks t c = LeftBy synced marks c ⊎ LeftAtSome (drop t moments) c
+
+none_left : (moments : List (List ℕ × List Bool)) (c : List ℕ) → LeftAtSome (drop (length moments) moments) c → ⊥
+none_left [] c left = left
+none_left (m ∷ moments) c left = none_left moments c left
+
+-- from the number of the past moments on there is only this one
+pub left_now : (moments : List (List ℕ × List Bool)) (synced : List ℕ) (marks : List Bool) (c : List ℕ) → LeftSince moments synced marks (length moments) c → LeftBy synced marks c
+left_now moments synced marks c (inl now) = now
+left_now moments synced marks c (inr before) = absurd (none_left moments c before)
+
+-- a device in memory, by its count of faults, its bytes and its moments
+abbrev pub memory_view : ℕ → List ℕ → List (List ℕ × List Bool) → List ℕ → List Bool → DeviceView
+memory_view failures present moments synced marks = record {
+  capacity = length present;
+  failures = failures;
+  keeps_model = ⊤;
+  seen = present;
+  may_leave = LeftBy synced marks;
+  moment = length moments;
+  left_since = LeftSince moments synced marks;
+}

@@ -1,0 +1,19 @@
+//! The device that everything stands on: what a read of it gives, what a stop at any moment may leave of it, and
+//! when its calls fail. `SimDisk` is such a device in memory, which can be stopped at a chosen write. Beside them are
+//! the refusals of the whole workspace and the names of its invariants.
+#![tactic(auto)]
+
+mod disk;
+mod fault;
+mod history;
+mod name;
+mod power;
+mod sim;
+#[cfg(test)]
+mod tests;
+
+pub use disk::{DeviceFault, Disk};
+pub use fault::{Cause, Fault};
+pub use name::Name;
+pub use power::Fill;
+pub use sim::SimDisk;

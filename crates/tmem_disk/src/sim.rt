@@ -1,0 +1,235 @@
+// A device in memory that can be stopped at a chosen write.
+ghost use Rattle.std.specs.Prelude.{◌≡◌, ◌<◌, ◌≤◌, ◌+◌, ◌^◌, ◌↔◌, true, length, replicate, slice_range, IsTrue, IsErr, IfOk, IfSome, OnOk, OnErr, IsOkUnless};
+ghost use Rattle.tmem_disk.specs.Disk.{IsCall, SameDevice, overwritten, Reads, SameSeenOutside, Rewritten, LeavesOnly, LeavesEach, StillLeaves, IsSynced, Elapses};
+ghost use Rattle.tmem_disk.specs.Start.{IsNewDevice};
+ghost use Rattle.tmem_disk.specs.Power.{IsStopped, running, arming, restarted, reading, writing, syncing, after, Fails};
+ghost use Rattle.tmem_disk.specs.Sim.{LeftBy, memory_view, left_now, blank, written, settled, filled, stamped};
+
+use crate::history::{History, Platter};
+use crate::power::{Plan, Power};
+use crate::{DeviceFault, Disk, Fault, Fill};
+use std::alloc::Global;
+
+/// Bytes in memory. It keeps the disk model, and no call but `new` takes memory. A call fails where the device stands
+/// at a stop, and a write also where it meets the stop that is armed.
+#[derive(Drop)]
+pub struct SimDisk {
+    present: Vec<u8>,
+    platter: Platter,
+    failures: u64,
+    power: Power,
+    history: History,
+    ghost agrees: { LeftBy platter.synced.items platter.marks.items present.items },
+    ghost marked: { length platter.marks.items ≡ length present.items },
+    ghost fits: { length present.items < 2 ^ 64 },
+    ghost counted: { failures < 2 ^ 64 },
+}
+
+impl SimDisk {
+    ghost use Rattle.tmem_disk.specs.SimParts.{power_of, bytes_of};
+
+    /// A device of this many zeros, with nothing left to sync and no stop armed. `Memory` is its one refusal.
+    pub fn new(alloc: Global, size: u64) -> Result<SimDisk, Fault>
+        ensures made { IfOk result (λ disk. IsNewDevice size (⟦<SimDisk as Disk>⟧.view disk)) }
+        ensures bytes { IfOk result (λ disk. bytes_of disk ≡ blank size) }
+        ensures power { IfOk result (λ disk. power_of disk ≡ running) }
+        ensures refused { IsOkUnless result Fault.Memory }
+    {
+        let len = size as usize;
+        Ok(SimDisk {
+            present: vec![in alloc; 0; len]?,
+            platter: Platter {
+                synced: vec![in alloc; 0; len]?,
+                marks: vec![in alloc; false; len]?,
+            },
+            failures: 0,
+            power: Power {
+                stopped: None,
+                armed: None,
+            },
+            history: History::Start,
+        })
+    }
+
+    /// Stops the device at write number `k` from now, where 0 is the next: that call and all later ones fail until
+    /// `restart`, at which the bytes written since the last successful sync take the fill, those of that write too.
+    /// It takes the place of a stop that was armed before. At a stopped device it counts from the restart.
+    pub fn stop_at_write(&mut self, k: u64, fill: Fill)
+        ensures same { SameDevice (⟦<SimDisk as Disk>⟧.view self.old) (⟦<SimDisk as Disk>⟧.view self.new) }
+        ensures bytes { bytes_of self.new ≡ bytes_of self.old }
+        ensures power { power_of self.new ≡ arming (Plan.AtWrite k fill) (power_of self.old) }
+    {
+        self.power.armed = Some(Plan::AtWrite(k, fill));
+    }
+
+    /// Whether it stands at a stop.
+    pub fn is_stopped(&self) -> bool
+        ensures { IsTrue result ↔ IsStopped (power_of self.now) }
+    {
+        self.power.is_stopped()
+    }
+
+    /// Starts a stopped device again. The bytes that the stop left are the synced ones then, and nothing counts as
+    /// written. What was armed meanwhile stays armed.
+    pub fn restart(&mut self)
+        requires { IsStopped (power_of self.old) }
+        ensures left { (⟦<SimDisk as Disk>⟧.view self.old).may_leave (⟦<SimDisk as Disk>⟧.view self.new).seen }
+        ensures durable { IsSynced (⟦<SimDisk as Disk>⟧.view self.new) }
+        ensures capacity { (⟦<SimDisk as Disk>⟧.view self.new).capacity ≡ (⟦<SimDisk as Disk>⟧.view self.old).capacity }
+        ensures failures { (⟦<SimDisk as Disk>⟧.view self.new).failures ≡ (⟦<SimDisk as Disk>⟧.view self.old).failures }
+        ensures time { let D = ⟦<SimDisk as Disk>⟧ in Elapses (D.view self.old) (D.view self.new) (D.view self.new).may_leave }
+        ensures bytes { IfSome (power_of self.old).stopped (λ fill. bytes_of self.new ≡ settled (filled fill (bytes_of self.old))) }
+        ensures power { power_of self.new ≡ restarted (power_of self.old) }
+    {
+        let fill = self.power.restart();
+        self.history = History::with(&self.history, &self.platter);
+        fill_marked(&mut self.present, &self.platter, fill);
+        self.platter.synced.copy_from_slice(&self.present);
+        self.platter.marks.fill(false);
+    }
+
+    // Writes over a range, and marks it.
+    fn store(&mut self, from: usize, bytes: &[u8])
+        requires { from + length bytes.now ≤ length self.old.present.items }
+        ensures bytes { bytes_of self.new ≡ written from bytes.now (bytes_of self.old) }
+        ensures failures { self.new.failures ≡ self.old.failures }
+        ensures power { self.new.power ≡ self.old.power }
+        ensures stop { LeavesEach (⟦<SimDisk as Disk>⟧.view self.new) (Rewritten from (length bytes.now) (⟦<SimDisk as Disk>⟧.view self.old)) }
+        ensures time { let D = ⟦<SimDisk as Disk>⟧ in Elapses (D.view self.old) (D.view self.new) (D.view self.new).may_leave }
+    {
+        self.history = History::with(&self.history, &self.platter);
+        mark(&mut self.platter.marks, from, bytes.len());
+        overwrite(&mut self.present, from, bytes);
+    }
+}
+
+// Writes over the bytes from a place on.
+fn overwrite(buffer: &mut Vec<u8>, from: usize, bytes: &[u8])
+    requires { from + length bytes.now ≤ length buffer.old.items }
+    ensures { buffer.new.items ≡ overwritten buffer.old.items from bytes.now }
+{
+    buffer[from..from + bytes.len()].copy_from_slice(bytes);
+}
+
+// Marks so many bytes from a place on as written.
+fn mark(marks: &mut Vec<bool>, from: usize, count: usize)
+    requires { from + count ≤ length marks.old.items }
+    ensures { marks.new.items ≡ overwritten marks.old.items from (replicate count true) }
+{
+    marks[from..from + count].fill(true);
+}
+
+// Gives the marked bytes their fill.
+fn fill_marked(present: &mut Vec<u8>, platter: &Platter, fill: Fill)
+    requires marked { length platter.now.marks.items ≡ length present.old.items }
+    requires agrees { LeftBy platter.now.synced.items platter.now.marks.items present.old.items }
+    ensures left { LeftBy platter.now.synced.items platter.now.marks.items present.new.items }
+    ensures filled { present.new.items ≡ filled fill (record { present = present.old.items; synced = platter.now.synced.items; marks = platter.now.marks.items }) }
+{
+    match fill {
+        Fill::Old => present.copy_from_slice(&platter.synced),
+        Fill::New => {}
+        Fill::Byte(byte) => stamp(present, &platter.marks, byte),
+    }
+}
+
+// Writes a byte into each marked place.
+fn stamp(present: &mut Vec<u8>, marks: &[bool], byte: u8)
+    requires { length marks.now ≡ length present.old.items }
+    ensures { present.new.items ≡ stamped byte present.old.items marks.now }
+{
+    for i in 0..marks.len() {
+        if marks[i] {
+            present[i] = byte;
+        }
+    }
+}
+
+impl Disk for SimDisk {
+    ghost use Rattle.tmem_disk.specs.Moments.{moments_of};
+    ghost use Rattle.tmem_disk.specs.SimParts.{power_of, bytes_of, bytes_after_write, bytes_after_sync};
+
+    ghost view = { λ d. memory_view d.failures d.present.items (moments_of d.history) d.platter.synced.items d.platter.marks.items };
+
+    ghost use Rattle.std.proofs.Common.{inl, refl, sym, ◌∙◌};
+
+    ghost is_device = { λ d. record {
+      capacity_fits = d.fits;
+      failures_fit = d.counted;
+      seen_is_whole = λ k. refl;
+      left_is_whole = λ c k left. left.size ∙ sym d.agrees.size;
+      seen_may_stay = λ k. d.agrees;
+      counts_now = λ t c k le now. inl now;
+      only_now = λ c k left. left_now (moments_of d.history) d.platter.synced.items d.platter.marks.items c left;
+    } };
+
+    fn size(&self) -> u64 {
+        self.present.len() as u64
+    }
+
+    fn read(&mut self, at: u64, into: &mut [u8]) -> Result<(), DeviceFault>
+        requires { at + length into.old ≤ (⟦<SimDisk as Disk>⟧.view self.old).capacity }
+        ensures call { IsCall (⟦<SimDisk as Disk>⟧.view self.old) (⟦<SimDisk as Disk>⟧.view self.new) result (λ f. f ≡ DeviceFault.Read) }
+        ensures time { Elapses (⟦<SimDisk as Disk>⟧.view self.old) (⟦<SimDisk as Disk>⟧.view self.new) (⟦<SimDisk as Disk>⟧.view self.new).may_leave }
+        ensures bytes { (⟦<SimDisk as Disk>⟧.view self.new).keeps_model → OnOk result (into.new ≡ slice_range (⟦<SimDisk as Disk>⟧.view self.old).seen at (at + length into.old)) }
+        ensures seen { Reads (⟦<SimDisk as Disk>⟧.view self.new) (⟦<SimDisk as Disk>⟧.view self.old).seen }
+        ensures stop { LeavesEach (⟦<SimDisk as Disk>⟧.view self.new) (⟦<SimDisk as Disk>⟧.view self.old).may_leave }
+        ensures fails { IsErr result ↔ Fails reading (power_of self.old) }
+        ensures power { power_of self.new ≡ after reading (power_of self.old) }
+        ensures unchanged { bytes_of self.new ≡ bytes_of self.old }
+    {
+        if self.power.is_stopped() {
+            self.failures = self.failures.saturating_add(1);
+            return Err(DeviceFault::Read);
+        }
+        let from = at as usize;
+        into.copy_from_slice(&self.present[from..from + into.len()]);
+        Ok(())
+    }
+
+    fn write_at(&mut self, at: u64, bytes: &[u8]) -> Result<(), DeviceFault>
+        requires { at + length bytes.now ≤ (⟦<SimDisk as Disk>⟧.view self.old).capacity }
+        ensures call { IsCall (⟦<SimDisk as Disk>⟧.view self.old) (⟦<SimDisk as Disk>⟧.view self.new) result (λ f. f ≡ DeviceFault.Write) }
+        ensures time { Elapses (⟦<SimDisk as Disk>⟧.view self.old) (⟦<SimDisk as Disk>⟧.view self.new) (⟦<SimDisk as Disk>⟧.view self.new).may_leave }
+        ensures written { OnOk result (Reads (⟦<SimDisk as Disk>⟧.view self.new) (overwritten (⟦<SimDisk as Disk>⟧.view self.old).seen at bytes.now)) }
+        ensures elsewhere { SameSeenOutside at (length bytes.now) (⟦<SimDisk as Disk>⟧.view self.old) (⟦<SimDisk as Disk>⟧.view self.new) }
+        ensures stop { LeavesOnly (⟦<SimDisk as Disk>⟧.view self.new) (Rewritten at (length bytes.now) (⟦<SimDisk as Disk>⟧.view self.old)) }
+        ensures torn { OnOk result (LeavesEach (⟦<SimDisk as Disk>⟧.view self.new) (Rewritten at (length bytes.now) (⟦<SimDisk as Disk>⟧.view self.old))) }
+        ensures still { StillLeaves (⟦<SimDisk as Disk>⟧.view self.old) (⟦<SimDisk as Disk>⟧.view self.new) }
+        ensures fails { IsErr result ↔ Fails (writing at) (power_of self.old) }
+        ensures power { power_of self.new ≡ after (writing at) (power_of self.old) }
+        ensures marked { bytes_of self.new ≡ bytes_after_write (power_of self.old) at bytes.now (bytes_of self.old) }
+    {
+        if self.power.is_stopped() {
+            self.failures = self.failures.saturating_add(1);
+            return Err(DeviceFault::Write);
+        }
+        self.store(at as usize, bytes);
+        if self.power.stops_at_write(at) {
+            self.failures = self.failures.saturating_add(1);
+            return Err(DeviceFault::Write);
+        }
+        Ok(())
+    }
+
+    fn sync(&mut self) -> Result<(), DeviceFault>
+        ensures call { IsCall (⟦<SimDisk as Disk>⟧.view self.old) (⟦<SimDisk as Disk>⟧.view self.new) result (λ f. f ≡ DeviceFault.Sync) }
+        ensures time { Elapses (⟦<SimDisk as Disk>⟧.view self.old) (⟦<SimDisk as Disk>⟧.view self.new) (⟦<SimDisk as Disk>⟧.view self.new).may_leave }
+        ensures durable { OnOk result (IsSynced (⟦<SimDisk as Disk>⟧.view self.new)) }
+        ensures seen { Reads (⟦<SimDisk as Disk>⟧.view self.new) (⟦<SimDisk as Disk>⟧.view self.old).seen }
+        ensures stop { LeavesOnly (⟦<SimDisk as Disk>⟧.view self.new) (⟦<SimDisk as Disk>⟧.view self.old).may_leave }
+        ensures not_synced { OnErr result (LeavesEach (⟦<SimDisk as Disk>⟧.view self.new) (⟦<SimDisk as Disk>⟧.view self.old).may_leave) }
+        ensures fails { IsErr result ↔ Fails syncing (power_of self.old) }
+        ensures power { power_of self.new ≡ after syncing (power_of self.old) }
+        ensures settled { bytes_of self.new ≡ bytes_after_sync (power_of self.old) (bytes_of self.old) }
+    {
+        if self.power.is_stopped() {
+            self.failures = self.failures.saturating_add(1);
+            return Err(DeviceFault::Sync);
+        }
+        self.history = History::with(&self.history, &self.platter);
+        self.platter.synced.copy_from_slice(&self.present);
+        self.platter.marks.fill(false);
+        Ok(())
+    }
+}
