@@ -46,7 +46,7 @@ pub record IsCall {T E : Type 0} (old new : DeviceView) (result : Result T E) (I
   pub fault : IfErr result IsFault
   pub model : new.keeps_model → old.keeps_model
 
--- nothing of it has changed, and no time has gone by
+-- nothing of it has changed, and no moment has gone by
 pub record SameDevice (old new : DeviceView) : Type 0 where
   pub capacity : new.capacity ≡ old.capacity
   pub failures : new.failures ≡ old.failures
@@ -76,11 +76,11 @@ Reads d bytes = d.keeps_model → d.seen ≡ bytes
 abbrev pub SameSeenOutside : ℕ → ℕ → DeviceView → DeviceView → Type 0
 SameSeenOutside at n old new = new.keeps_model → SameOutside at n old.seen new.seen
 
--- a stop leaves what has P
+-- a stop leaves only what has P
 pub record LeavesOnly (d : DeviceView) (P : List ℕ → Type 0) : Type 0 where
   pub each : d.keeps_model → (c : List ℕ) → d.may_leave c → P c
 
--- a stop leaves what has P, and each of that
+-- a stop may leave exactly what has P
 abbrev pub LeavesEach : DeviceView → (List ℕ → Type 0) → Type 0
 LeavesEach d P = d.keeps_model → (c : List ℕ) → d.may_leave c ↔ P c
 
@@ -88,11 +88,11 @@ LeavesEach d P = d.keeps_model → (c : List ℕ) → d.may_leave c ↔ P c
 abbrev pub StillLeaves : DeviceView → DeviceView → Type 0
 StillLeaves old new = new.keeps_model → (c : List ℕ) → old.may_leave c → new.may_leave c
 
--- a stop leaves what a read gives
+-- a stop leaves only what a read gives
 abbrev pub IsSynced : DeviceView → Type 0
 IsSynced d = d.keeps_model → (c : List ℕ) → d.may_leave c → c ≡ d.seen
 
--- a stop at any moment between leaves what has P
+-- a stop at any moment from the one to the other leaves only what has P
 pub record AtEachMoment (old new : DeviceView) (P : List ℕ → Type 0) : Type 0 where
   pub each : new.keeps_model → (c : List ℕ) → new.left_since old.moment c → P c
 

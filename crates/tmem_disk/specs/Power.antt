@@ -9,6 +9,10 @@ use Rattle.tmem_disk.specs.declared.power.Power.{Power}
 abbrev pub IsStopped : Power → Type 0
 IsStopped power = IsSome power.stopped
 
+-- the fill of the stop that it stands at
+abbrev pub fill_of : Power → Option Fill
+fill_of power = power.stopped
+
 -- it runs, and nothing is armed
 abbrev pub running : Power
 running = record { stopped = None; armed = None }

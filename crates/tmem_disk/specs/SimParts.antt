@@ -1,6 +1,9 @@
 -- What the clauses of a device in memory see of it, beside what they see of every device.
 use Rattle.std.specs.Prelude.{ℕ, List}
-use Rattle.tmem_disk.specs.Sim.{Bytes, written, settled, unless_stopped}
+use Rattle.std.proofs.Common.{inl, refl, sym, ◌∙◌}
+use Rattle.tmem_disk.specs.Sim.{Bytes, written, settled, unless_stopped, memory_view, left_now}
+use Rattle.tmem_disk.specs.Disk.{DeviceView, IsDevice}
+use Rattle.tmem_disk.specs.Moments.{moments_of}
 use Rattle.tmem_disk.specs.declared.power.Power.{Power}
 use Rattle.tmem_disk.specs.declared.sim.SimDisk.{SimDisk}
 
@@ -11,6 +14,22 @@ power_of disk = disk.power
 -- its bytes
 abbrev pub bytes_of : SimDisk → Bytes
 bytes_of disk = record { present = disk.present.items; synced = disk.platter.synced.items; marks = disk.platter.marks.items }
+
+-- what every device shows
+abbrev pub view_of : SimDisk → DeviceView
+view_of disk = memory_view disk.failures disk.present.items (moments_of disk.history) disk.platter.synced.items disk.platter.marks.items
+
+-- it is a device
+pub is_device_of : (disk : SimDisk) → IsDevice (view_of disk)
+is_device_of disk = record {
+  capacity_fits = disk.fits;
+  failures_fit = disk.counted;
+  seen_is_whole = λ k. refl;
+  left_is_whole = λ c k left. left.size ∙ sym disk.agrees.size;
+  seen_may_stay = λ k. disk.agrees;
+  counts_now = λ t c k le now. inl now;
+  only_now = λ c k left. left_now (moments_of disk.history) disk.platter.synced.items disk.platter.marks.items c left;
+}
 
 -- what a write leaves: nothing changes where the device was stopped before
 abbrev pub bytes_after_write : Power → ℕ → List ℕ → Bytes → Bytes

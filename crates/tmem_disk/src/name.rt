@@ -16,7 +16,7 @@ const LONGEST: usize = 16;
 #[derive(Clone, Copy)]
 pub struct Name {
     // zeros behind the letters
-    bytes: [u8; 16],
+    bytes: [u8; LONGEST],
     len: u8,
 }
 
@@ -48,7 +48,7 @@ impl Name {
         if letters.is_empty() || letters.len() > LONGEST || !all_letters(letters) {
             return Err(Fault::BadName);
         }
-        let mut bytes = [0; 16];
+        let mut bytes = [0; LONGEST];
         bytes[..letters.len()].copy_from_slice(letters);
         Ok(Name {
             bytes,

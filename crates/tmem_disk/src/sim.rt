@@ -2,8 +2,8 @@
 ghost use Rattle.std.specs.Prelude.{◌≡◌, ◌<◌, ◌≤◌, ◌+◌, ◌^◌, ◌↔◌, true, length, replicate, slice_range, IsTrue, IsErr, IfOk, IfSome, OnOk, OnErr, IsOkUnless};
 ghost use Rattle.tmem_disk.specs.Disk.{IsCall, SameDevice, overwritten, Reads, SameSeenOutside, Rewritten, LeavesOnly, LeavesEach, StillLeaves, IsSynced, Elapses};
 ghost use Rattle.tmem_disk.specs.Start.{IsNewDevice};
-ghost use Rattle.tmem_disk.specs.Power.{IsStopped, running, arming, restarted, reading, writing, syncing, after, Fails};
-ghost use Rattle.tmem_disk.specs.Sim.{LeftBy, memory_view, left_now, blank, written, settled, filled, stamped};
+ghost use Rattle.tmem_disk.specs.Power.{IsStopped, fill_of, running, arming, restarted, reading, writing, syncing, after, Fails};
+ghost use Rattle.tmem_disk.specs.Sim.{LeftBy, blank, written, settled, filled, stamped};
 
 use crate::history::{History, Platter};
 use crate::power::{Plan, Power};
@@ -78,14 +78,12 @@ impl SimDisk {
         ensures capacity { (⟦<SimDisk as Disk>⟧.view self.new).capacity ≡ (⟦<SimDisk as Disk>⟧.view self.old).capacity }
         ensures failures { (⟦<SimDisk as Disk>⟧.view self.new).failures ≡ (⟦<SimDisk as Disk>⟧.view self.old).failures }
         ensures time { let D = ⟦<SimDisk as Disk>⟧ in Elapses (D.view self.old) (D.view self.new) (D.view self.new).may_leave }
-        ensures bytes { IfSome (power_of self.old).stopped (λ fill. bytes_of self.new ≡ settled (filled fill (bytes_of self.old))) }
+        ensures bytes { IfSome (fill_of (power_of self.old)) (λ fill. bytes_of self.new ≡ settled (filled fill (bytes_of self.old))) }
         ensures power { power_of self.new ≡ restarted (power_of self.old) }
     {
         let fill = self.power.restart();
-        self.history = History::with(&self.history, &self.platter);
         fill_marked(&mut self.present, &self.platter, fill);
-        self.platter.synced.copy_from_slice(&self.present);
-        self.platter.marks.fill(false);
+        self.settle();
     }
 
     // Writes over a range, and marks it.
@@ -100,6 +98,19 @@ impl SimDisk {
         self.history = History::with(&self.history, &self.platter);
         mark(&mut self.platter.marks, from, bytes.len());
         overwrite(&mut self.present, from, bytes);
+    }
+
+    // Makes the bytes that a read gives the synced ones, with no mark.
+    fn settle(&mut self)
+        ensures bytes { bytes_of self.new ≡ settled (bytes_of self.old).present }
+        ensures failures { self.new.failures ≡ self.old.failures }
+        ensures power { self.new.power ≡ self.old.power }
+        ensures durable { IsSynced (⟦<SimDisk as Disk>⟧.view self.new) }
+        ensures time { let D = ⟦<SimDisk as Disk>⟧ in Elapses (D.view self.old) (D.view self.new) (D.view self.new).may_leave }
+    {
+        self.history = History::with(&self.history, &self.platter);
+        self.platter.synced.copy_from_slice(&self.present);
+        self.platter.marks.fill(false);
     }
 }
 
@@ -146,22 +157,11 @@ fn stamp(present: &mut Vec<u8>, marks: &[bool], byte: u8)
 }
 
 impl Disk for SimDisk {
-    ghost use Rattle.tmem_disk.specs.Moments.{moments_of};
-    ghost use Rattle.tmem_disk.specs.SimParts.{power_of, bytes_of, bytes_after_write, bytes_after_sync};
+    ghost use Rattle.tmem_disk.specs.SimParts.{view_of, is_device_of, power_of, bytes_of, bytes_after_write, bytes_after_sync};
 
-    ghost view = { λ d. memory_view d.failures d.present.items (moments_of d.history) d.platter.synced.items d.platter.marks.items };
+    ghost view = { view_of };
 
-    ghost use Rattle.std.proofs.Common.{inl, refl, sym, ◌∙◌};
-
-    ghost is_device = { λ d. record {
-      capacity_fits = d.fits;
-      failures_fit = d.counted;
-      seen_is_whole = λ k. refl;
-      left_is_whole = λ c k left. left.size ∙ sym d.agrees.size;
-      seen_may_stay = λ k. d.agrees;
-      counts_now = λ t c k le now. inl now;
-      only_now = λ c k left. left_now (moments_of d.history) d.platter.synced.items d.platter.marks.items c left;
-    } };
+    ghost is_device = { is_device_of };
 
     fn size(&self) -> u64 {
         self.present.len() as u64
@@ -227,9 +227,7 @@ impl Disk for SimDisk {
             self.failures = self.failures.saturating_add(1);
             return Err(DeviceFault::Sync);
         }
-        self.history = History::with(&self.history, &self.platter);
-        self.platter.synced.copy_from_slice(&self.present);
-        self.platter.marks.fill(false);
+        self.settle();
         Ok(())
     }
 }

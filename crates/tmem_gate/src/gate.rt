@@ -1,5 +1,5 @@
 // The calls on one cell.
-ghost use Rattle.std.specs.Prelude.{◌≡◌, ◌⊎◌, ◌<◌, ◌≤◌, ◌+◌, ◌↔◌, [], ◌∷◌, List, ℕ, length, IsTrue, IfOk, OnOk};
+ghost use Rattle.std.specs.Prelude.{◌≡◌, ◌⊎◌, ◌<◌, ◌≤◌, ◌+◌, ◌↔◌, [], ◌∷◌, List, ℕ, length, IsTrue, IfOk, OnOk, IsErrOf};
 ghost use Rattle.tmem_disk.specs.Disk.{IsCall, Elapses, overwritten, Reads, SameSeenOutside, LeavesOnly, LeavesEach, IsSynced, AtEachMoment, Rewritten};
 ghost use Rattle.tmem_gate.specs.Gate.{IsOpenAt, IsClosed, StandsClosed, HasBody, IsClosedOver, IsOpenOver, IsWhole};
 
@@ -39,6 +39,9 @@ pub fn put_body<D: Disk>(disk: &mut D, at: u64, bytes: &[u8]) -> Result<(), Devi
     ensures stands { OnOk result (LeavesOnly (D.view disk.new) (IsClosedOver at bytes.now)) }
     ensures written { OnOk result (Reads (D.view disk.new) (overwritten (D.view disk.old).seen (at + 1) bytes.now)) }
     ensures durable { OnOk result (IsSynced (D.view disk.new)) }
+
+    // Where the sync failed, the body was written.
+    ensures unsynced { IsErrOf result DeviceFault.Sync → Reads (D.view disk.new) (overwritten (D.view disk.old).seen (at + 1) bytes.now) }
 {
     disk.write_at(at + 1, bytes)?;
     disk.sync()?;
@@ -61,6 +64,9 @@ pub fn open_gate<D: Disk>(disk: &mut D, at: u64) -> Result<(), DeviceFault>
     ensures stands { (body : List ℕ) → LeavesOnly (D.view disk.old) (HasBody at body) → OnOk result (LeavesOnly (D.view disk.new) (IsOpenOver at body)) }
     ensures written { OnOk result (Reads (D.view disk.new) (overwritten (D.view disk.old).seen at (0xA5 ∷ []))) }
     ensures durable { OnOk result (IsSynced (D.view disk.new)) }
+
+    // Where the sync failed, the gate was written.
+    ensures unsynced { IsErrOf result DeviceFault.Sync → Reads (D.view disk.new) (overwritten (D.view disk.old).seen at (0xA5 ∷ [])) }
 {
     disk.write_at(at, &[GATE_OPEN])?;
     disk.sync()?;
