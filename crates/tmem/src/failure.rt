@@ -1,0 +1,30 @@
+//! Why a run ends before its last line, and with which status.
+ghost use Rattle.std.specs.Prelude.{◌≤◌};
+
+use crate::script::ScriptError;
+use thiserror::Error;
+use tmem_disk::Fault;
+
+/// Why the program did not do all that it was asked. Its text is what the user is told.
+#[derive(Debug, Drop, Error)]
+pub enum Failure {
+    #[error(transparent)]
+    Script(#[from] ScriptError),
+    /// The device, its format or its opening was refused, or memory for the way there.
+    #[error(transparent)]
+    Refused(#[from] Fault),
+    #[error("output failed")]
+    Output,
+}
+
+impl Failure {
+    /// The status that the program ends with: 3 where there was no script to play, and else 1.
+    pub fn status(&self) -> u8
+        ensures { result ≤ 3 }
+    {
+        match self {
+            Failure::Script(ScriptError::Unreadable | ScriptError::NoScript) => 3,
+            Failure::Script(ScriptError::Memory(_)) | Failure::Refused(_) | Failure::Output => 1,
+        }
+    }
+}

@@ -1,0 +1,29 @@
+//! The pieces that several JSON forms of a script have.
+use crate::script::ScriptError;
+use serde_json::{Map, Value};
+
+/// The value of a key that has to be there.
+pub fn member_of<'a>(members: &'a Map<String, Value>, key: &str) -> Result<&'a Value, ScriptError> {
+    members.get(key).ok_or(ScriptError::NoScript)
+}
+
+/// The two items of an array of two.
+pub fn pair_of(value: &Value) -> Result<(&Value, &Value), ScriptError> {
+    let items = value.as_array().ok_or(ScriptError::NoScript)?;
+    match items.as_slice() {
+        [first, second] => Ok((first, second)),
+        _ => Err(ScriptError::NoScript),
+    }
+}
+
+/// A whole number from 0 to 65535, written without a point or an exponent.
+pub fn short_of(value: &Value) -> Result<u16, ScriptError> {
+    let number = value.as_u64().ok_or(ScriptError::NoScript)?;
+    u16::try_from(number).map_err(|_| ScriptError::NoScript)
+}
+
+/// A whole number from 0 to 255, written without a point or an exponent.
+pub fn byte_of(value: &Value) -> Result<u8, ScriptError> {
+    let number = value.as_u64().ok_or(ScriptError::NoScript)?;
+    u8::try_from(number).map_err(|_| ScriptError::NoScript)
+}

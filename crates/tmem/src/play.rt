@@ -1,0 +1,60 @@
+//! Plays a script on a device in memory.
+ghost use Rattle.std.specs.Prelude.{◌≡◌, IfOk, true};
+
+use crate::failure::Failure;
+use crate::line::ReplyLine;
+use crate::script::{Line, Script};
+use std::alloc::Global;
+use std::fmt::Display;
+use std::io::Write;
+use tmem_disk::{Disk, Fault, SimDisk};
+use tmem_world::{Layout, Reply, World, format};
+
+/// Plays a script on a fresh device, and prints a line for the opening and one for each event. A
+/// refused event is printed as its refusal, and the next is played.
+pub fn play<W: Write>(alloc: Global, script: Script, out: &mut W) -> Result<(), Failure> {
+    let Script { vars, slots, lines } = script;
+    let mut world = fresh_world(alloc, vars, slots)?;
+    print(out, ReplyLine(Reply::Opened(world.count())))?;
+    for line in lines {
+        match line {
+            Line::Event(playable) => print(out, ReplyLine(world.step(playable.event)))?,
+            Line::Show => print_state(out, &world, vars)?,
+        }
+    }
+    Ok(())
+}
+
+fn fresh_world(alloc: Global, vars: u16, slots: u16) -> Result<World<SimDisk>, Fault>
+    ensures { IfOk result (λ w. (w.vars ≡ vars) × (w.is_open ≡ true)) }
+{
+    let layout = Layout::new(vars, slots)?;
+    let mut disk = SimDisk::new(alloc, layout.end())?;
+    format(&mut disk, vars, slots)?;
+    match World::open(alloc, disk, vars, slots) {
+        Ok(world) => Ok(world),
+        Err((fault, _)) => Err(fault),
+    }
+}
+
+fn print<W: Write, T: Display + Drop>(out: &mut W, line: T) -> Result<(), Failure> {
+    writeln!(out, "{line}").map_err(|_| Failure::Output)
+}
+
+fn print_state<D: Disk + Drop, W: Write>(
+    out: &mut W,
+    world: &World<D>,
+    vars: u16,
+) -> Result<(), Failure>
+    requires { world.now.vars ≡ vars }
+{
+    if !world.is_open() {
+        return print(out, ReplyLine(Reply::Fault(Fault::Closed)));
+    }
+    write!(out, "state count={} names= values=", world.count()).map_err(|_| Failure::Output)?;
+    for var in 0..vars {
+        let comma = if var == 0 { "" } else { "," };
+        write!(out, "{comma}{}", world.value(var)).map_err(|_| Failure::Output)?;
+    }
+    print(out, "")
+}
