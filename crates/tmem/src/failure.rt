@@ -15,15 +15,20 @@ pub enum Failure {
     Refused(#[from] Fault),
     #[error("output failed")]
     Output,
+    /// The command line is no text, so its words could not even be read.
+    #[error("the command line is not UTF-8")]
+    Words,
 }
 
 impl Failure {
-    /// The status that the program ends with: 3 where there was no script to play, and else 1.
+    /// The status that the program ends with: 3 where there was no script to play, 2 where there were
+    /// no words, and else 1.
     pub fn status(&self) -> u8
         ensures { result ≤ 3 }
     {
         match self {
             Failure::Script(ScriptError::Unreadable | ScriptError::NoScript) => 3,
+            Failure::Words => 2,
             Failure::Script(ScriptError::Memory(_)) | Failure::Refused(_) | Failure::Output => 1,
         }
     }

@@ -17,12 +17,13 @@ mod tx;
 mod words;
 
 use std::process::ExitCode;
-use std::{env, io};
-use words::run_words;
+use words::{run_words, tell, words_of};
 
-fn main(rt: HostRuntime) -> io::Result<ExitCode> {
-    let words: Vec<String> = env::args(&rt)?.collect(rt.alloc())?;
+fn main(rt: HostRuntime) -> ExitCode {
     let (mut input, mut out, mut err) = (rt.stdin(), rt.stdout(), rt.stderr());
-    let status = run_words(&rt, words, &mut input, &mut out, &mut err);
-    Ok(ExitCode::from(status))
+    let status = match words_of(&rt) {
+        Ok(words) => run_words(&rt, words, &mut input, &mut out, &mut err),
+        Err(failure) => tell(&failure, &mut err),
+    };
+    ExitCode::from(status)
 }

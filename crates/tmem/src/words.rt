@@ -7,10 +7,22 @@ use crate::script::{Script, ScriptError};
 use clap::error::ErrorKind;
 use clap::{Arg, Command};
 use std::alloc::{AllocError, Global};
-use std::fs;
+use std::env::Env;
 use std::io::{LineWriter, Read, Write};
 use std::rt::Files;
+use std::{env, fs, io};
 use tmem_disk::Fault;
+
+/// The words of the command line, the program's name first.
+pub fn words_of(rt: &(impl Env + AllocGlobal)) -> Result<Vec<String>, Failure> {
+    match env::args(rt) {
+        Ok(words) => Ok(words.collect(rt.alloc()).map_err(Fault::from)?),
+        Err(error) if error.kind() == io::ErrorKind::OutOfMemory => {
+            Err(Failure::Refused(Fault::Memory))
+        }
+        Err(_) => Err(Failure::Words),
+    }
+}
 
 /// Does what the words of a command line say, the program's name first, and answers the status: 0
 /// where all was done, 1 where it was refused on the way, 2 where the words were refused, 3 where
@@ -37,11 +49,17 @@ pub fn run_words<R: Read, W: Write, E: Write>(
     };
     match outcome {
         Ok(()) => 0,
-        Err(failure) => {
-            let _ = writeln!(err, "tmem: {failure}");
-            failure.status()
-        }
+        Err(failure) => tell(&failure, err),
     }
+}
+
+/// Prints a failure, and answers its status.
+pub fn tell<E: Write>(failure: &Failure, err: &mut E) -> u8
+    ensures { result ≤ 3 }
+{
+    // Where this fails too, nobody is left to tell.
+    let _ = writeln!(err, "tmem: {failure}");
+    failure.status()
 }
 
 /// The path of the script to run, or none for standard input.

@@ -1,5 +1,8 @@
 //! The command line.
 use super::{FIRST, FIRST_OUT, play, run};
+use crate::words::{tell, words_of};
+use std::alloc::Global;
+use std::env::{Env, FillError};
 use std::test::Fail;
 
 const HELP: &str = "Durable transactions, played from scripts
@@ -86,4 +89,62 @@ fn refused_words_are_status_two(rt: HostRuntime) -> Result<(), Fail> {
         run(&rt, words, FIRST.as_bytes())?.expect(format_args!("{words:?}"), 2, "", text)?;
     }
     Ok(())
+}
+
+/// A command line of these words.
+#[derive(Drop)]
+struct Given<'a> {
+    alloc: Global,
+    words: &'a [&'a [u8]],
+}
+
+impl Alloc for Given<'_> {
+    type A = Global;
+
+    fn alloc(&self) -> Global {
+        self.alloc
+    }
+}
+
+impl Env for Given<'_> {
+    fn arg(&self, i: usize, buf: &mut [u8]) -> Result<usize, FillError> {
+        let word = self.words.get(i).ok_or(FillError::NotPresent)?;
+        match buf.get_mut(..word.len()) {
+            Some(start) => start.copy_from_slice(word),
+            None => return Err(FillError::TooLong),
+        }
+        Ok(word.len())
+    }
+
+    fn var(&self, _name: &str, _buf: &mut [u8]) -> Result<usize, FillError> {
+        Err(FillError::NotPresent)
+    }
+
+    fn var_at(&self, _i: usize, _buf: &mut [u8]) -> Result<usize, FillError> {
+        Err(FillError::NotPresent)
+    }
+}
+
+#[test]
+fn reads_the_words_of_the_command_line(rt: HostRuntime) -> Result<(), Fail> {
+    let alloc = rt.alloc();
+    let whole = words_of(&Given {
+        alloc,
+        words: &[b"tmem".as_slice(), b"run".as_slice()],
+    })?;
+    assert_eq!(rt; whole.len(), 2);
+    assert!(rt; whole[0].as_str() == "tmem" && whole[1].as_str() == "run");
+    let broken = words_of(&Given {
+        alloc,
+        words: &[b"tmem".as_slice(), b"\xff".as_slice()],
+    });
+    let mut err = Vec::new(alloc);
+    match broken {
+        Ok(_) => Err(Fail::new("words that are not UTF-8 were read")),
+        Err(failure) => {
+            assert_eq!(rt; tell(&failure, &mut err), 2);
+            assert!(rt; err.as_slice() == "tmem: the command line is not UTF-8\n".as_bytes());
+            Ok(())
+        }
+    }
 }
