@@ -24,7 +24,8 @@ pub trait Disk {
         requires { at + length into.old ≤ (view self.old).capacity }
         ensures call { IsCall (view self.old) (view self.new) result (λ f. f ≡ DeviceFault.Read) }
         ensures time { Elapses (view self.old) (view self.new) (view self.new).may_leave }
-        ensures bytes { (view self.new).keeps_model → OnOk result (into.new ≡ slice_range (view self.old).seen at (at + length into.old)) }
+        ensures bytes { (view self.new).keeps_model →
+            OnOk result (into.new ≡ slice_range (view self.old).seen at (at + length into.old)) }
         ensures seen { Reads (view self.new) (view self.old).seen }
         ensures stop { LeavesEach (view self.new) (view self.old).may_leave };
 
