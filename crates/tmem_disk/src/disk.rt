@@ -24,11 +24,13 @@ pub trait Disk {
         requires { at + length into.old ≤ (view self.old).capacity }
         ensures call { IsCall (view self.old) (view self.new) result (λ f. f ≡ DeviceFault.Read) }
         ensures time { Elapses (view self.old) (view self.new) (view self.new).may_leave }
-        ensures bytes { (view self.new).keeps_model → OnOk result (into.new ≡ slice_range (view self.old).seen at (at + length into.old)) }
+        ensures bytes { (view self.new).keeps_model →
+            OnOk result (into.new ≡ slice_range (view self.old).seen at (at + length into.old)) }
         ensures seen { Reads (view self.new) (view self.old).seen }
         ensures stop { LeavesEach (view self.new) (view self.old).may_leave };
 
-    /// Writes over the bytes from a place on. Until a sync, a stop may leave any bytes in that range.
+    /// Writes over the bytes from a place on. Until a sync succeeds, a stop may leave any bytes in that range, and where
+    /// the write fails a read may give any there too.
     fn write_at(&mut self, at: u64, bytes: &[u8]) -> Result<(), DeviceFault>
         requires { at + length bytes.now ≤ (view self.old).capacity }
         ensures call { IsCall (view self.old) (view self.new) result (λ f. f ≡ DeviceFault.Write) }
@@ -39,7 +41,7 @@ pub trait Disk {
         ensures still { StillLeaves (view self.old) (view self.new) }
         ensures torn { OnOk result (LeavesEach (view self.new) (Rewritten at (length bytes.now) (view self.old))) };
 
-    /// After it, a stop leaves what a read gives.
+    /// After it, a stop leaves what a read gives. Where it fails, a stop may leave what it might have left before.
     fn sync(&mut self) -> Result<(), DeviceFault>
         ensures call { IsCall (view self.old) (view self.new) result (λ f. f ≡ DeviceFault.Sync) }
         ensures time { Elapses (view self.old) (view self.new) (view self.new).may_leave }

@@ -26,11 +26,11 @@ pub struct SimDisk {
 }
 
 impl SimDisk {
-    ghost use Rattle.tmem_disk.specs.SimParts.{power_of, bytes_of};
+    ghost use Rattle.tmem_disk.specs.SimParts.{view_of, power_of, bytes_of};
 
     /// A device of this many zeros, with nothing left to sync and no stop armed. `Memory` is its one refusal.
     pub fn new(alloc: Global, size: u64) -> Result<SimDisk, Fault>
-        ensures made { IfOk result (λ disk. IsNewDevice size (⟦<SimDisk as Disk>⟧.view disk)) }
+        ensures made { IfOk result (λ disk. IsNewDevice size (view_of disk)) }
         ensures bytes { IfOk result (λ disk. bytes_of disk ≡ blank size) }
         ensures power { IfOk result (λ disk. power_of disk ≡ running) }
         ensures refused { IsOkUnless result Fault.Memory }
@@ -55,7 +55,7 @@ impl SimDisk {
     /// `restart`, at which the bytes written since the last successful sync take the fill, those of that write too.
     /// It takes the place of a stop that was armed before. At a stopped device it counts from the restart.
     pub fn stop_at_write(&mut self, k: u64, fill: Fill)
-        ensures same { SameDevice (⟦<SimDisk as Disk>⟧.view self.old) (⟦<SimDisk as Disk>⟧.view self.new) }
+        ensures same { SameDevice (view_of self.old) (view_of self.new) }
         ensures bytes { bytes_of self.new ≡ bytes_of self.old }
         ensures power { power_of self.new ≡ arming (Plan.AtWrite k fill) (power_of self.old) }
     {
@@ -73,12 +73,13 @@ impl SimDisk {
     /// written. What was armed meanwhile stays armed.
     pub fn restart(&mut self)
         requires { IsStopped (power_of self.old) }
-        ensures left { (⟦<SimDisk as Disk>⟧.view self.old).may_leave (⟦<SimDisk as Disk>⟧.view self.new).seen }
-        ensures durable { IsSynced (⟦<SimDisk as Disk>⟧.view self.new) }
-        ensures capacity { (⟦<SimDisk as Disk>⟧.view self.new).capacity ≡ (⟦<SimDisk as Disk>⟧.view self.old).capacity }
-        ensures failures { (⟦<SimDisk as Disk>⟧.view self.new).failures ≡ (⟦<SimDisk as Disk>⟧.view self.old).failures }
-        ensures time { let D = ⟦<SimDisk as Disk>⟧ in Elapses (D.view self.old) (D.view self.new) (D.view self.new).may_leave }
-        ensures bytes { IfSome (fill_of (power_of self.old)) (λ fill. bytes_of self.new ≡ settled (filled fill (bytes_of self.old))) }
+        ensures left { (view_of self.old).may_leave (view_of self.new).seen }
+        ensures durable { IsSynced (view_of self.new) }
+        ensures capacity { (view_of self.new).capacity ≡ (view_of self.old).capacity }
+        ensures failures { (view_of self.new).failures ≡ (view_of self.old).failures }
+        ensures time { Elapses (view_of self.old) (view_of self.new) (view_of self.new).may_leave }
+        ensures bytes { IfSome (fill_of (power_of self.old))
+            (λ fill. bytes_of self.new ≡ settled (filled fill (bytes_of self.old))) }
         ensures power { power_of self.new ≡ restarted (power_of self.old) }
     {
         let fill = self.power.restart();
@@ -92,8 +93,8 @@ impl SimDisk {
         ensures bytes { bytes_of self.new ≡ written from bytes.now (bytes_of self.old) }
         ensures failures { self.new.failures ≡ self.old.failures }
         ensures power { self.new.power ≡ self.old.power }
-        ensures stop { LeavesEach (⟦<SimDisk as Disk>⟧.view self.new) (Rewritten from (length bytes.now) (⟦<SimDisk as Disk>⟧.view self.old)) }
-        ensures time { let D = ⟦<SimDisk as Disk>⟧ in Elapses (D.view self.old) (D.view self.new) (D.view self.new).may_leave }
+        ensures stop { LeavesEach (view_of self.new) (Rewritten from (length bytes.now) (view_of self.old)) }
+        ensures time { Elapses (view_of self.old) (view_of self.new) (view_of self.new).may_leave }
     {
         self.history = History::with(&self.history, &self.platter);
         mark(&mut self.platter.marks, from, bytes.len());
@@ -105,8 +106,8 @@ impl SimDisk {
         ensures bytes { bytes_of self.new ≡ settled (bytes_of self.old).present }
         ensures failures { self.new.failures ≡ self.old.failures }
         ensures power { self.new.power ≡ self.old.power }
-        ensures durable { IsSynced (⟦<SimDisk as Disk>⟧.view self.new) }
-        ensures time { let D = ⟦<SimDisk as Disk>⟧ in Elapses (D.view self.old) (D.view self.new) (D.view self.new).may_leave }
+        ensures durable { IsSynced (view_of self.new) }
+        ensures time { Elapses (view_of self.old) (view_of self.new) (view_of self.new).may_leave }
     {
         self.history = History::with(&self.history, &self.platter);
         self.platter.synced.copy_from_slice(&self.present);
@@ -135,7 +136,8 @@ fn fill_marked(present: &mut Vec<u8>, platter: &Platter, fill: Fill)
     requires marked { length platter.now.marks.items ≡ length present.old.items }
     requires agrees { LeftBy platter.now.synced.items platter.now.marks.items present.old.items }
     ensures left { LeftBy platter.now.synced.items platter.now.marks.items present.new.items }
-    ensures filled { present.new.items ≡ filled fill (record { present = present.old.items; synced = platter.now.synced.items; marks = platter.now.marks.items }) }
+    ensures filled { present.new.items ≡
+        filled fill (record { present = present.old.items; synced = platter.now.synced.items; marks = platter.now.marks.items }) }
 {
     match fill {
         Fill::Old => present.copy_from_slice(&platter.synced),
@@ -168,12 +170,13 @@ impl Disk for SimDisk {
     }
 
     fn read(&mut self, at: u64, into: &mut [u8]) -> Result<(), DeviceFault>
-        requires { at + length into.old ≤ (⟦<SimDisk as Disk>⟧.view self.old).capacity }
-        ensures call { IsCall (⟦<SimDisk as Disk>⟧.view self.old) (⟦<SimDisk as Disk>⟧.view self.new) result (λ f. f ≡ DeviceFault.Read) }
-        ensures time { Elapses (⟦<SimDisk as Disk>⟧.view self.old) (⟦<SimDisk as Disk>⟧.view self.new) (⟦<SimDisk as Disk>⟧.view self.new).may_leave }
-        ensures bytes { (⟦<SimDisk as Disk>⟧.view self.new).keeps_model → OnOk result (into.new ≡ slice_range (⟦<SimDisk as Disk>⟧.view self.old).seen at (at + length into.old)) }
-        ensures seen { Reads (⟦<SimDisk as Disk>⟧.view self.new) (⟦<SimDisk as Disk>⟧.view self.old).seen }
-        ensures stop { LeavesEach (⟦<SimDisk as Disk>⟧.view self.new) (⟦<SimDisk as Disk>⟧.view self.old).may_leave }
+        requires { at + length into.old ≤ (view_of self.old).capacity }
+        ensures call { IsCall (view_of self.old) (view_of self.new) result (λ f. f ≡ DeviceFault.Read) }
+        ensures time { Elapses (view_of self.old) (view_of self.new) (view_of self.new).may_leave }
+        ensures bytes { (view_of self.new).keeps_model →
+            OnOk result (into.new ≡ slice_range (view_of self.old).seen at (at + length into.old)) }
+        ensures seen { Reads (view_of self.new) (view_of self.old).seen }
+        ensures stop { LeavesEach (view_of self.new) (view_of self.old).may_leave }
         ensures fails { IsErr result ↔ Fails reading (power_of self.old) }
         ensures power { power_of self.new ≡ after reading (power_of self.old) }
         ensures unchanged { bytes_of self.new ≡ bytes_of self.old }
@@ -188,14 +191,14 @@ impl Disk for SimDisk {
     }
 
     fn write_at(&mut self, at: u64, bytes: &[u8]) -> Result<(), DeviceFault>
-        requires { at + length bytes.now ≤ (⟦<SimDisk as Disk>⟧.view self.old).capacity }
-        ensures call { IsCall (⟦<SimDisk as Disk>⟧.view self.old) (⟦<SimDisk as Disk>⟧.view self.new) result (λ f. f ≡ DeviceFault.Write) }
-        ensures time { Elapses (⟦<SimDisk as Disk>⟧.view self.old) (⟦<SimDisk as Disk>⟧.view self.new) (⟦<SimDisk as Disk>⟧.view self.new).may_leave }
-        ensures written { OnOk result (Reads (⟦<SimDisk as Disk>⟧.view self.new) (overwritten (⟦<SimDisk as Disk>⟧.view self.old).seen at bytes.now)) }
-        ensures elsewhere { SameSeenOutside at (length bytes.now) (⟦<SimDisk as Disk>⟧.view self.old) (⟦<SimDisk as Disk>⟧.view self.new) }
-        ensures stop { LeavesOnly (⟦<SimDisk as Disk>⟧.view self.new) (Rewritten at (length bytes.now) (⟦<SimDisk as Disk>⟧.view self.old)) }
-        ensures torn { OnOk result (LeavesEach (⟦<SimDisk as Disk>⟧.view self.new) (Rewritten at (length bytes.now) (⟦<SimDisk as Disk>⟧.view self.old))) }
-        ensures still { StillLeaves (⟦<SimDisk as Disk>⟧.view self.old) (⟦<SimDisk as Disk>⟧.view self.new) }
+        requires { at + length bytes.now ≤ (view_of self.old).capacity }
+        ensures call { IsCall (view_of self.old) (view_of self.new) result (λ f. f ≡ DeviceFault.Write) }
+        ensures time { Elapses (view_of self.old) (view_of self.new) (view_of self.new).may_leave }
+        ensures written { OnOk result (Reads (view_of self.new) (overwritten (view_of self.old).seen at bytes.now)) }
+        ensures elsewhere { SameSeenOutside at (length bytes.now) (view_of self.old) (view_of self.new) }
+        ensures stop { LeavesOnly (view_of self.new) (Rewritten at (length bytes.now) (view_of self.old)) }
+        ensures torn { OnOk result (LeavesEach (view_of self.new) (Rewritten at (length bytes.now) (view_of self.old))) }
+        ensures still { StillLeaves (view_of self.old) (view_of self.new) }
         ensures fails { IsErr result ↔ Fails (writing at) (power_of self.old) }
         ensures power { power_of self.new ≡ after (writing at) (power_of self.old) }
         ensures marked { bytes_of self.new ≡ bytes_after_write (power_of self.old) at bytes.now (bytes_of self.old) }
@@ -213,12 +216,12 @@ impl Disk for SimDisk {
     }
 
     fn sync(&mut self) -> Result<(), DeviceFault>
-        ensures call { IsCall (⟦<SimDisk as Disk>⟧.view self.old) (⟦<SimDisk as Disk>⟧.view self.new) result (λ f. f ≡ DeviceFault.Sync) }
-        ensures time { Elapses (⟦<SimDisk as Disk>⟧.view self.old) (⟦<SimDisk as Disk>⟧.view self.new) (⟦<SimDisk as Disk>⟧.view self.new).may_leave }
-        ensures durable { OnOk result (IsSynced (⟦<SimDisk as Disk>⟧.view self.new)) }
-        ensures seen { Reads (⟦<SimDisk as Disk>⟧.view self.new) (⟦<SimDisk as Disk>⟧.view self.old).seen }
-        ensures stop { LeavesOnly (⟦<SimDisk as Disk>⟧.view self.new) (⟦<SimDisk as Disk>⟧.view self.old).may_leave }
-        ensures not_synced { OnErr result (LeavesEach (⟦<SimDisk as Disk>⟧.view self.new) (⟦<SimDisk as Disk>⟧.view self.old).may_leave) }
+        ensures call { IsCall (view_of self.old) (view_of self.new) result (λ f. f ≡ DeviceFault.Sync) }
+        ensures time { Elapses (view_of self.old) (view_of self.new) (view_of self.new).may_leave }
+        ensures durable { OnOk result (IsSynced (view_of self.new)) }
+        ensures seen { Reads (view_of self.new) (view_of self.old).seen }
+        ensures stop { LeavesOnly (view_of self.new) (view_of self.old).may_leave }
+        ensures not_synced { OnErr result (LeavesEach (view_of self.new) (view_of self.old).may_leave) }
         ensures fails { IsErr result ↔ Fails syncing (power_of self.old) }
         ensures power { power_of self.new ≡ after syncing (power_of self.old) }
         ensures settled { bytes_of self.new ≡ bytes_after_sync (power_of self.old) (bytes_of self.old) }
