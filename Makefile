@@ -1,11 +1,15 @@
 # The README's commands.
 
-# Plays the first script, on a device in memory, once it is proved.
+# Plays the first script, on a device in memory, once everything that it runs is proved.
 run:
 	cd crates/tmem && rt run -- run < ../../examples/first.json
 
-# Proves and tests everything.
-test:
+# Proves and tests everything, and plays each example against its output.
+test: examples
 	rt ci
 
-.PHONY: run test
+# Plays each example against its output, without proving anything.
+examples:
+	cd crates/tmem && rt try --cases ../../examples -- run
+
+.PHONY: run test examples

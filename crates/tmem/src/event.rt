@@ -1,21 +1,18 @@
 //! One event of a script, from its JSON form.
 ghost use Rattle.std.specs.Prelude.{IfOk, ◌<◌};
-ghost use Rattle.tmem_world.specs.Event.{FitsSlots};
+ghost use Rattle.tmem_world.specs.Events.{NamesSlot};
 
 use crate::json::{byte_of, pair_of};
 use crate::script::ScriptError;
 use crate::tx::tx_of;
 use serde_json::Value;
 use std::alloc::Global;
-use tmem_world::Event;
-
-/// The attempt slots of a world are numbered from 0 to one below this.
-const ATTEMPT_SLOTS: u8 = 16;
+use tmem_world::{ATTEMPTS, Event};
 
 /// Reads an event: a word such as `"flush"`, or an object with one member such as `{"turn":0}`. Its
 /// attempt slot is one that a world has.
 pub fn event_of(alloc: Global, value: &Value) -> Result<Event, ScriptError>
-    ensures { IfOk result FitsSlots }
+    ensures { IfOk result NamesSlot }
 {
     match value {
         Value::String(word) => event_of_word(word.as_str()),
@@ -28,7 +25,7 @@ pub fn event_of(alloc: Global, value: &Value) -> Result<Event, ScriptError>
 }
 
 fn event_of_word(word: &str) -> Result<Event, ScriptError>
-    ensures { IfOk result FitsSlots }
+    ensures { IfOk result NamesSlot }
 {
     match word {
         "flush" => Ok(Event::Flush),
@@ -39,7 +36,7 @@ fn event_of_word(word: &str) -> Result<Event, ScriptError>
 }
 
 fn event_of_member(alloc: Global, key: &str, body: &Value) -> Result<Event, ScriptError>
-    ensures { IfOk result FitsSlots }
+    ensures { IfOk result NamesSlot }
 {
     match key {
         "begin" => {
@@ -64,7 +61,7 @@ fn slot_of(value: &Value) -> Result<u8, ScriptError>
     ensures { IfOk result (λ slot. slot < 16) }
 {
     let slot = byte_of(value)?;
-    if slot >= ATTEMPT_SLOTS {
+    if slot as usize >= ATTEMPTS {
         return Err(ScriptError::NoScript);
     }
     Ok(slot)

@@ -1,5 +1,6 @@
 //! Plays a script on a device in memory.
-ghost use Rattle.std.specs.Prelude.{◌≡◌, IfOk, true};
+ghost use Rattle.std.specs.Prelude.{◌≡◌, IfOk};
+ghost use Rattle.tmem_world.specs.Represents.{numbers_of, HoldsSession};
 
 use crate::failure::Failure;
 use crate::line::ReplyLine;
@@ -26,14 +27,15 @@ pub fn play<W: Write>(alloc: Global, script: Script, out: &mut W) -> Result<(), 
 }
 
 fn fresh_world(alloc: Global, vars: u16, slots: u16) -> Result<World<SimDisk>, Fault>
-    ensures { IfOk result (λ w. (w.vars ≡ vars) × (w.is_open ≡ true)) }
+    ensures { IfOk result (λ world. ((numbers_of world).vars ≡ vars) × HoldsSession world) }
 {
     let layout = Layout::new(vars, slots)?;
     let mut disk = SimDisk::new(alloc, layout.end())?;
     format(&mut disk, vars, slots)?;
-    match World::open(alloc, disk, vars, slots) {
+    let opened = World::open(alloc, disk, vars, slots);
+    match opened {
         Ok(world) => Ok(world),
-        Err((fault, _)) => Err(fault),
+        Err(refusal) => Err(refusal.0),
     }
 }
 
@@ -46,7 +48,7 @@ fn print_state<D: Disk + Drop, W: Write>(
     world: &World<D>,
     vars: u16,
 ) -> Result<(), Failure>
-    requires { world.now.vars ≡ vars }
+    requires { (numbers_of world.now).vars ≡ vars }
 {
     if !world.is_open() {
         return print(out, ReplyLine(Reply::Fault(Fault::Closed)));

@@ -1,5 +1,5 @@
 //! Scripts: the numbers of a device, and what is to be done on it.
-ghost use Rattle.tmem_world.specs.Event.{FitsSlots};
+ghost use Rattle.tmem_world.specs.Events.{NamesSlot};
 
 use crate::event::event_of;
 use crate::json::{member_of, short_of};
@@ -30,7 +30,7 @@ pub enum Line {
 #[derive(Drop)]
 pub struct Playable {
     pub event: Event,
-    ghost fits: { FitsSlots event },
+    ghost fits: { NamesSlot event },
 }
 
 /// Why a script was not read.

@@ -1,0 +1,36 @@
+use Rattle.std.proofs.Common.{◌≡◌, ◌<◌, ◌+◌, ◌++◌, ◌∷◌, [], ◌∙◌, List, length, arith, sym, ap, subst, length-append, append_assoc}
+use Rattle.std.specs.Vec.{vec_capacity, vec_len}
+use Rattle.std.proofs.lemmas.Grind.{common_steps}
+use Rattle.tmem_world.specs.declared.event.Event.{Event}
+use Rattle.tmem_world.specs.declared.event.Reply.{Reply}
+use Rattle.tmem_world.specs.declared.layout.Layout.{Layout}
+use Rattle.tmem_world.specs.WorldModel.{Run, Allows}
+use Rattle.tmem_world.proofs.Runs.{run-append}
+use Rattle.tmem_world.proofs.world.World.play.Goals as goal
+
+pub loop-event-preserved : goal.loop-event-preserved
+loop-event-preserved g c =
+    let so = c.loop-event.invariant in
+    let taken : c.loop-event.event-iterator.rest.items ≡ c.in-Some.event ∷ c.next.new.self.rest.items = c.in-Some.ensures.steps.0 in
+    let parts : (c.loop-event.yielded ++ c.in-Some.event ∷ []) ++ c.next.new.self.rest.items ≡ c.args.events.items =
+    append_assoc c.loop-event.yielded (c.in-Some.event ∷ []) c.next.new.self.rest.items ∙ ap (λ (es : List Event). c.loop-event.yielded ++ es) (sym taken) ∙ so.parts in
+    let more = length-append (c.loop-event.yielded ++ c.in-Some.event ∷ []) c.next.new.self.rest.items in
+    let one : length (c.loop-event.yielded ++ c.in-Some.event ∷ []) ≡ length c.loop-event.yielded + 1 = length-append c.loop-event.yielded (c.in-Some.event ∷ []) in
+    let room : vec_len c.loop-event.replies < vec_capacity c.loop-event.replies = omega (arith, more, one, ap length parts, so.room, so.long) in
+    let pushed : c.push.new.self.items ≡ c.loop-event.replies.items ++ c.step-reply.result ∷ [] = grind (arith, common_steps) in
+    record {
+      layout = c.step-reply.ensures.numbers ∙ so.layout;
+      model = λ k. so.model (c.step-reply.ensures.model k);
+      parts = parts;
+      long = grind (arith, common_steps, one);
+      room = omega (arith, so.room, c.push.ensures.capacity);
+      run = λ m r k.
+          let before = so.run m r (c.step-reply.ensures.model k) in
+          let now = c.step-reply.ensures.step before.0 before.2 k in
+          let allowed = subst (λ (l : Layout). Allows l.vars before.0 c.in-Some.event c.step-reply.result now.0) so.layout now.1 in (
+            now.0,
+            subst (λ (rs : List Reply). Run c.args.self.now.layout.vars m (c.loop-event.yielded ++ c.in-Some.event ∷ []) rs now.0) (sym pushed)
+                (run-append c.args.self.now.layout.vars c.loop-event.yielded c.loop-event.replies.items c.in-Some.event c.step-reply.result m before.0 now.0 before.1 allowed),
+            now.2,
+          );
+    }

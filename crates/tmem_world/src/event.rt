@@ -1,0 +1,46 @@
+// What a world is asked, and what it answers.
+use crate::tx::Tx;
+use tmem_disk::Fault;
+
+/// How many attempts a world holds, numbered from 0.
+pub const ATTEMPTS: usize = 16;
+
+/// One atomic action of a caller.
+#[derive(Debug, Drop)]
+pub enum Event {
+    /// Makes a plan of a transaction. The slot, below 16, holds it, whatever it held before.
+    Begin { slot: u8, tx: Tx },
+    /// Evaluates the slot's plan.
+    Turn { slot: u8 },
+    /// Settles the slot's plan once it has ended.
+    Settle { slot: u8 },
+    /// Makes accepted transactions durable.
+    Flush,
+    /// Asks how many accepted transactions are durable.
+    Look,
+    /// Drops the session and all slots, and opens the same device again.
+    Reopen,
+}
+
+/// What an event is answered.
+#[derive(Clone, Copy, Debug, PartialEq, Eq)]
+pub enum Reply {
+    /// The slot holds the plan.
+    Begun,
+    /// The plan has ended.
+    Ended,
+    /// The slot is empty, or what it holds has not ended.
+    Idle,
+    /// The transaction was accepted, as the one of this number, and ended with these registers.
+    Committed { number: u64, registers: [i64; 16] },
+    /// The transaction wrote nothing. It ended with these registers, after so many accepted ones.
+    Seen { at: u64, registers: [i64; 16] },
+    /// So many accepted transactions are durable.
+    Durable(u64),
+    /// So many accepted transactions are known durable.
+    Looked(u64),
+    /// The device was opened, and so many accepted transactions were found.
+    Opened(u64),
+    /// The event was refused.
+    Fault(Fault),
+}
