@@ -35,7 +35,9 @@ fn a_fresh_device_is_opened_again(rt: HostRuntime) -> Result<(), Fail> {
 
 #[test]
 fn what_was_not_flushed_is_gone(rt: HostRuntime) -> Result<(), Fail> {
-    let script = format!(in rt.alloc(); r#"{{"vars":4,"slots":4,"events":[{WRITE},"reopen","show"]}}"#)?;
+    let script = format!(in rt.alloc();
+        r#"{{"vars":4,"slots":4,"events":[{WRITE},"reopen","show"]}}"#
+    )?;
     let lines = "opened 0
 begun
 ended
