@@ -75,3 +75,8 @@ fn with_name(alloc: Global, words: &[&str]) -> Result<Vec<String>, AllocError> {
 fn play(rt: &HostRuntime, script: &str) -> Result<Outcome, Fail> {
     run(rt, &["run"], script.as_bytes())
 }
+
+/// Fails where a script is not played to its end with these lines.
+fn expect_lines(rt: &HostRuntime, script: &str, lines: &str) -> Result<(), Fail> {
+    play(rt, script)?.expect(script, 0, lines, "")
+}

@@ -1,5 +1,5 @@
 //! What is a script, and what its lines print.
-use super::{BAD_SCRIPT, FIRST, FIRST_OUT, play, run};
+use super::{BAD_SCRIPT, FIRST, FIRST_OUT, expect_lines, play, run};
 use std::alloc::{AllocError, Global};
 use std::test::Fail;
 
@@ -26,10 +26,6 @@ fn nested(alloc: Global, depth: usize) -> Result<String, AllocError> {
 
 fn expect_bad(rt: &HostRuntime, script: &str) -> Result<(), Fail> {
     play(rt, script)?.expect(script, 3, "", BAD_SCRIPT)
-}
-
-fn expect_lines(rt: &HostRuntime, script: &str, lines: &str) -> Result<(), Fail> {
-    play(rt, script)?.expect(script, 0, lines, "")
 }
 
 #[test]

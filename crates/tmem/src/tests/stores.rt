@@ -1,14 +1,15 @@
-//! What is kept and what is lost, and the limits of a plan and of what may wait.
-use super::play;
+//! What is kept and what is lost, what a content is refused by, and the limits of a plan and of what may wait.
+use super::expect_lines;
 use std::alloc::{AllocError, Global};
 use std::test::Fail;
+use tmem_disk::{Disk, Fault, SimDisk};
+use tmem_world::{World, format};
 
 const WRITE: &str =
-    r#"{"begin":[0,{"seq":[{"put":[0,1]},{"write":[0,0]}]}]},{"turn":0},{"settle":0}"#;
+    r#"{"begin":[0,{"seq":[{"put":[0,5]},{"write":[0,0]}]}]},{"turn":0},{"settle":0}"#;
 
-fn expect_lines(rt: &HostRuntime, script: &str, lines: &str) -> Result<(), Fail> {
-    play(rt, script)?.expect(script, 0, lines, "")
-}
+/// How long a device of four variables and four slots is.
+const END: u64 = 22016;
 
 /// A transaction of that many leaves in one sequence.
 fn row(alloc: Global, leaf: &str, count: usize) -> Result<String, AllocError> {
@@ -79,4 +80,95 @@ fn as_many_as_may_wait_and_one_more(rt: HostRuntime) -> Result<(), Fail> {
     script.push_str(r#","flush",{"settle":0},"flush"]}"#)?;
     lines.push_str("begun\nended\nfault 5 full\ndurable 1\ncommitted 256\nfault 6 logfull\n")?;
     expect_lines(&rt, script.as_str(), lines.as_str())
+}
+
+/// Writes one byte, and makes it last.
+fn poke(disk: &mut SimDisk, at: u64, byte: u8) -> Result<(), Fail> {
+    if at >= disk.size() {
+        return Err(Fail::new("no such place"));
+    }
+    if disk.write_at(at, &[byte]).is_err() || disk.sync().is_err() {
+        return Err(Fail::new("not written"));
+    }
+    Ok(())
+}
+
+/// What opening a fresh device with these bytes poked into it is refused by.
+fn refusal_after(alloc: Global, pokes: &[(u64, u8)]) -> Result<Option<Fault>, Fail> {
+    let mut disk = SimDisk::new(alloc, END)?;
+    format(&mut disk, 4, 4)?;
+    for (at, byte) in pokes {
+        poke(&mut disk, *at, *byte)?;
+    }
+    let opened = World::open(alloc, disk, 4, 4);
+    match opened {
+        Ok(_) => Ok(None),
+        Err(refusal) => Ok(Some(refusal.0)),
+    }
+}
+
+#[test]
+fn what_a_content_is_refused_by(rt: HostRuntime) -> Result<(), Fail> {
+    let (gate, letter, version, vars, rest) = (0, 1, 5, 6, 10);
+    let (image, generation, second_image) = (512, 513, 3072);
+    let (slot_0, slot_1) = (5632, 9728);
+    let table: &[(&[(u64, u8)], Option<Fault>)] = &[
+        (&[], None),
+        (&[(gate, 0)], Some(Fault::NotFormatted)),
+        (&[(letter, 0x74)], Some(Fault::NotFormatted)),
+        (&[(letter, 0x74), (version, 2)], Some(Fault::NotFormatted)),
+        (&[(version, 2)], Some(Fault::Damaged)),
+        (&[(vars, 0)], Some(Fault::Damaged)),
+        (&[(rest, 1)], Some(Fault::Damaged)),
+        (&[(rest, 1), (vars, 5)], Some(Fault::Damaged)),
+        (&[(vars, 5)], Some(Fault::Geometry)),
+        (&[(vars, 5), (image, 0)], Some(Fault::Geometry)),
+        (&[(image, 0)], Some(Fault::Damaged)),
+        (&[(generation, 2)], Some(Fault::Damaged)),
+        (&[(second_image, 0xa5)], Some(Fault::Damaged)),
+        (&[(slot_0, 0xa5)], Some(Fault::Damaged)),
+        (&[(slot_1, 0xa5)], Some(Fault::Damaged)),
+    ];
+    for (pokes, want) in table {
+        let had = refusal_after(rt.alloc(), pokes)?;
+        assert_eq!(rt; had, *want, "after {pokes:?}");
+    }
+    Ok(())
+}
+
+/// Every byte of a device.
+fn content(alloc: Global, disk: &mut SimDisk) -> Result<Vec<u8>, Fail> {
+    let len = disk.size() as usize;
+    let mut bytes = vec![in alloc; 0; len]?;
+    match disk.read(0, &mut bytes) {
+        Ok(()) => Ok(bytes),
+        Err(_) => Err(Fail::new("not read")),
+    }
+}
+
+/// A device of this many bytes, each 0x5A.
+fn stained(alloc: Global, size: u64) -> Result<SimDisk, Fail> {
+    let mut disk = SimDisk::new(alloc, size)?;
+    let stain = vec![in alloc; 0x5a; disk.size() as usize]?;
+    if disk.write_at(0, &stain).is_err() || disk.sync().is_err() {
+        return Err(Fail::new("not written"));
+    }
+    Ok(disk)
+}
+
+#[test]
+fn format_writes_zeros_where_nothing_stands(rt: HostRuntime) -> Result<(), Fail> {
+    let alloc = rt.alloc();
+    let mut disk = stained(alloc, END + 100)?;
+    format(&mut disk, 4, 4)?;
+    let had = content(alloc, &mut disk)?;
+    let mut want = Vec::from_slice(alloc, b"\xa5TMEM\x01\x04\x00\x04\x00")?;
+    want.resize(512, 0)?;
+    want.extend_from_slice(&[0xa5, 1])?;
+    want.resize(END as usize, 0)?;
+    want.resize(END as usize + 100, 0x5a)?;
+    assert_eq!(rt; had.len(), want.len());
+    let differs = had.iter().zip(want.iter()).position(|(a, b)| a != b);
+    assert_eq!(rt; differs, None);
+    Ok(())
 }
