@@ -9,16 +9,18 @@ pub const ATTEMPTS: usize = 16;
 #[derive(Debug, Drop)]
 pub enum Event {
     /// Makes a plan of a transaction. The slot, below 16, holds it, whatever it held before.
+    /// Refused with `Closed`, `BadPlan`.
     Begin { slot: u8, tx: Tx },
-    /// Evaluates the slot's plan.
+    /// Evaluates the slot's plan. Refused with `Closed`, `Memory`.
     Turn { slot: u8 },
-    /// Settles the slot's plan once it has ended.
+    /// Settles the slot's plan once it has ended. Refused with `Closed`, `Full`, `Spent`.
     Settle { slot: u8 },
-    /// Makes accepted transactions durable.
+    /// Makes the oldest accepted transaction that waits durable. Refused with `Closed`, `LogFull`, `Device`, `Unknown`.
     Flush,
-    /// Asks how many accepted transactions are durable.
+    /// Asks how many accepted transactions are known durable. Refused with `Closed`.
     Look,
-    /// Drops the session and all slots, and opens the same device again.
+    /// Drops the session and all slots, and opens the same device again. Refused with `Memory`, `Device`,
+    /// `NotFormatted`, `Damaged`, `Geometry`, and then no session stands.
     Reopen,
 }
 

@@ -7,9 +7,10 @@ use tmem_disk::Fault;
 /// The greatest number of variables.
 pub const MOST_VARS: u16 = 1024;
 
-/// The least and the greatest number of log slots.
+/// The least number of log slots.
 pub const LEAST_SLOTS: u16 = 2;
 
+/// The greatest number of log slots.
 pub const MOST_SLOTS: u16 = 64;
 
 /// How many variables and log slots a device has, within the limits. Places and sizes are in bytes.
