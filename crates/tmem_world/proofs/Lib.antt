@@ -1,3 +1,4 @@
+pub mod Acknowledged
 pub mod Appending
 pub mod Batches
 pub mod Effects
@@ -21,6 +22,7 @@ pub mod Settling
 pub mod Spelled
 pub mod Standing
 pub mod States
+pub mod Still
 pub mod Unique
 pub mod Writing
 pub mod Zeros

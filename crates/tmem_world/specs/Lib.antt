@@ -9,6 +9,7 @@ pub mod Looks
 pub mod Parts
 pub mod Plans
 pub mod Reading
+pub mod Replies
 pub mod Represents
 pub mod Run
 pub mod Sessions

@@ -1,5 +1,5 @@
 -- When a world is at a point of a run.
-use Rattle.std.specs.Prelude.{Err, IsSome, ◌≡◌, ◌≤◌, ◌⊎◌, ⊤, ◌+◌, ◌-◌, ℕ, Bool, true, false, List, length, map, drop, Option, Some, None}
+use Rattle.std.specs.Prelude.{Err, IsSome, ◌≡◌, ◌<◌, ◌≤◌, ◌⊎◌, ⊤, ◌+◌, ◌-◌, ℕ, Bool, true, false, List, length, map, drop, Option, Some, None}
 use Rattle.std.specs.List.{AllZip, AllByRecursion}
 use Rattle.tmem_disk.specs.Disk.{DeviceView, LeavesOnly, Reads}
 use Rattle.tmem_disk.specs.declared.fault.Fault.{Fault}
@@ -7,6 +7,7 @@ use Rattle.tmem_world.specs.Calls.{Uses, FitsOn, IsWhy}
 use Rattle.tmem_world.specs.State as states
 use Rattle.tmem_world.specs.declared.tx.Tx.{Tx}
 use Rattle.tmem_world.specs.declared.event.Event.{Event}
+use Rattle.tmem_world.specs.declared.event.Event.TheVariants as event
 use Rattle.tmem_world.specs.declared.event.Reply.{Reply}
 use Rattle.tmem_world.specs.declared.layout.Layout.{Layout}
 use Rattle.tmem_world.specs.declared.session.Slot.{Slot}
@@ -17,6 +18,7 @@ use Rattle.tmem_world.specs.State.{Effect}
 use Rattle.tmem_world.specs.Run.{outcome}
 use Rattle.tmem_world.specs.Attempts.{IsRight}
 use Rattle.tmem_world.specs.Stands.{StandsFor}
+use Rattle.tmem_world.specs.Replies.{IsAcknowledged}
 use Rattle.tmem_world.specs.WorldModel.{WorldModel, Attempt, NoAttempt, Begun, Ended, Session, Open, Closed, Gone, present, cut, Allows, Run}
 
 -- its numbers of variables and log slots
@@ -25,6 +27,10 @@ numbers_of w = w.layout
 
 abbrev pub device_of : {D : Type 0} {d : _} → World D d → D
 device_of w = w.disk
+
+-- how many transactions it knows to be durable
+abbrev pub durable_of : {D : Type 0} {d : _} → World D d → ℕ
+durable_of w = w.durable
 
 -- the slot holds this attempt
 abbrev pub SlotIs : Slot → Attempt → Type 0
@@ -79,15 +85,21 @@ pub record Represents {D : Type 0} {d : _} (w : World D d) (m : WorldModel) : Ty
   pub failures : (d.view w.disk).failures ≡ m.failures
   pub device : LeavesOnly (d.view w.disk) (StandsAt w.layout.vars w.layout.slots m)
 
+-- What opening finds rests on the device's premise, and no other answer does.
+abbrev pub RestsOn : Type 0 → Event → Type 0
+RestsOn premise event.Reopen = premise
+RestsOn premise _ = ⊤
+
 -- From each point of a run that the old world is at, the event may be answered so, and the new world is at the next point.
 abbrev pub Steps : {D : Type 0} {d : _} → World D d → Event → Reply → World D d → Type 0
 Steps {d = d} old e r new =
-    (m : WorldModel) → Represents old m → (d.view new.disk).keeps_model → (m' : WorldModel) × Allows old.layout.vars m e r m' × Represents new m'
+    (m : WorldModel) → Represents old m → RestsOn ((d.view new.disk).keeps_model) e → (m' : WorldModel) × Allows old.layout.vars m e r m' × Represents new m'
 
--- The same for a list of events, one after another.
+-- The same for a list of events, one after another. What was durable stays so, and what the replies acknowledge is durable.
 abbrev pub Plays : {D : Type 0} {d : _} → World D d → List Event → List Reply → World D d → Type 0
 Plays {d = d} old es rs new =
-    (m : WorldModel) → Represents old m → (d.view new.disk).keeps_model → (m' : WorldModel) × Run old.layout.vars m es rs m' × Represents new m'
+    (m : WorldModel) → Represents old m → (d.view new.disk).keeps_model
+    → (m' : WorldModel) × Run old.layout.vars m es rs m' × Represents new m' × (m.durable ≤ m'.durable) × ((number : ℕ) → IsAcknowledged rs number → number < m'.durable)
 
 -- a session stands, also a closed one
 abbrev pub HoldsSession : {D : Type 0} {d : _} → World D d → Type 0

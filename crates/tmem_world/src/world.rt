@@ -40,7 +40,8 @@ pub struct World<D: Disk> {
 }
 
 impl<D: Disk> World<D> {
-    ghost use Rattle.tmem_world.specs.Represents.{Represents, Steps, Plays, HoldsSession, IsBack, numbers_of, device_of};
+    ghost use Rattle.tmem_world.specs.Represents.{Represents, Steps, Plays, HoldsSession, IsBack, numbers_of, device_of, durable_of};
+    ghost use Rattle.tmem_world.specs.Replies.{failures_by, failures_by_all, FlushedNothing, IsStill};
 
     /// Opens a device of these numbers: finds what its content stands for, and begins a session there.
     /// Refused by `Geometry` where the numbers are out of limits, the device is smaller than their layout, or it was
@@ -85,6 +86,8 @@ impl<D: Disk> World<D> {
     pub fn step(&mut self, event: Event) -> Reply
         requires { NamesSlot event }
         ensures step { Steps self.old event result self.new }
+        ensures failures { (D.view (device_of self.new)).failures ≡ failures_by result (D.view (device_of self.old)).failures }
+        ensures still { IsStill (durable_of self.old) event result → device_of self.new ≡ device_of self.old }
         ensures numbers { numbers_of self.new ≡ numbers_of self.old }
         ensures model { (D.view (device_of self.new)).keeps_model → (D.view (device_of self.old)).keeps_model }
     {
@@ -102,7 +105,9 @@ impl<D: Disk> World<D> {
     pub fn play(&mut self, events: Vec<Event>) -> Result<Vec<Reply>, Fault>
         requires { All NamesSlot events.items }
         ensures run { IfOk result (λ replies. Plays self.old events.items replies.items self.new) }
+        ensures failures { IfOk result (λ replies. (D.view (device_of self.new)).failures ≡ failures_by_all replies.items (D.view (device_of self.old)).failures) }
         ensures numbers { numbers_of self.new ≡ numbers_of self.old }
+        ensures model { (D.view (device_of self.new)).keeps_model → (D.view (device_of self.old)).keeps_model }
         ensures err { IfErr result (λ f. (f ≡ Fault.Memory) × (self.new ≡ self.old)) }
     {
         let mut replies = Vec::with_capacity(self.alloc, events.len())?;
@@ -163,6 +168,7 @@ impl<D: Disk> World<D> {
     fn begin(&mut self, slot: u8, tx: Tx) -> Reply
         requires { slot < 16 }
         ensures step { Steps self.old (Event.Begin slot tx) result self.new }
+        ensures failures { failures_by result (D.view self.old.disk).failures ≡ (D.view self.old.disk).failures }
         ensures kept { (self.new.layout ≡ self.old.layout) × (self.new.disk ≡ self.old.disk) }
     {
         if self.session.is_none() {
@@ -181,6 +187,7 @@ impl<D: Disk> World<D> {
     fn turn(&mut self, slot: u8) -> Reply
         requires { slot < 16 }
         ensures step { Steps self.old (Event.Turn slot) result self.new }
+        ensures failures { failures_by result (D.view self.old.disk).failures ≡ (D.view self.old.disk).failures }
         ensures kept { (self.new.layout ≡ self.old.layout) × (self.new.disk ≡ self.old.disk) }
     {
         if self.session.is_none() {
@@ -204,6 +211,7 @@ impl<D: Disk> World<D> {
     fn settle(&mut self, slot: u8) -> Reply
         requires { slot < 16 }
         ensures step { Steps self.old (Event.Settle slot) result self.new }
+        ensures failures { failures_by result (D.view self.old.disk).failures ≡ (D.view self.old.disk).failures }
         ensures kept { (self.new.layout ≡ self.old.layout) × (self.new.disk ≡ self.old.disk) }
     {
         match &mut self.session {
@@ -215,6 +223,8 @@ impl<D: Disk> World<D> {
     // Makes the oldest transaction that waits durable.
     fn flush(&mut self) -> Reply
         ensures step { Steps self.old Event.Flush result self.new }
+        ensures failures { (D.view self.new.disk).failures ≡ failures_by result (D.view self.old.disk).failures }
+        ensures still { FlushedNothing self.old.durable result → self.new.disk ≡ self.old.disk }
         ensures layout { self.new.layout ≡ self.old.layout }
         ensures model { (D.view self.new.disk).keeps_model → (D.view self.old.disk).keeps_model }
     {
@@ -236,7 +246,8 @@ impl<D: Disk> World<D> {
 
     // Asks how many transactions are durable.
     fn look(&self) -> Reply
-        ensures { Steps self.now Event.Look result self.now }
+        ensures step { Steps self.now Event.Look result self.now }
+        ensures failures { failures_by result (D.view self.now.disk).failures ≡ (D.view self.now.disk).failures }
     {
         if self.session.is_none() {
             return Reply::Fault(Fault::Closed);
@@ -247,6 +258,7 @@ impl<D: Disk> World<D> {
     // Opens the device again.
     fn reopen(&mut self) -> Reply
         ensures step { Steps self.old Event.Reopen result self.new }
+        ensures failures { (D.view self.new.disk).failures ≡ failures_by result (D.view self.old.disk).failures }
         ensures layout { self.new.layout ≡ self.old.layout }
         ensures model { (D.view self.new.disk).keeps_model → (D.view self.old.disk).keeps_model }
     {

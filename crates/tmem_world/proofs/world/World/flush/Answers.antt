@@ -2,6 +2,7 @@ use Rattle.std.proofs.Common.{arith, refl, ap, ◌≡◌, ◌≤◌, length}
 use Rattle.std.specs.Prelude.{Ok, Err, is_none}
 use Rattle.tmem_world.proofs.Points.{in_session}
 use Rattle.tmem_world.proofs.Flushed.{flushes, wrote_below}
+use Rattle.tmem_world.proofs.Still.{flush_still}
 use Rattle.tmem_world.proofs.world.World.flush.Goals as goal
 
 pub doubtful_after-self-requires : goal.doubtful_after-self-requires
@@ -22,3 +23,9 @@ pub returns-in-Err-clause-step : goal.returns-in-Err-clause-step
 returns-in-Err-clause-step g c = λ m r keeps.
     let done = flushes _ _ m c.in-Some.session c.flush.new.self r c.in-Some.is refl refl refl c.flush.ensures.state (Err c.in-Err.fault) c.in-Err.ensures.uses refl c.doubtful_after-self.ensures c.in-Err.ensures.flushed in
     (done.0, in_session c.args.self.now.session m _ _ _ r.session (ap is_none c.in-Some.is) done.1, done.2)
+
+pub returns-in-Ok-clause-still : goal.returns-in-Ok-clause-still
+returns-in-Ok-clause-still g c = flush_still _ _ _ c.in-Some.session c.flush.new.self _ _ (c.flush.new.disk ≡ c.args.self.now.disk) (Ok c.in-Ok.durable) c.in-Ok.ensures.flushed
+
+pub returns-in-Err-clause-still : goal.returns-in-Err-clause-still
+returns-in-Err-clause-still g c = flush_still _ _ _ c.in-Some.session c.flush.new.self _ _ (c.flush.new.disk ≡ c.args.self.now.disk) (Err c.in-Err.fault) c.in-Err.ensures.flushed

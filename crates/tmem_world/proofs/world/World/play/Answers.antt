@@ -1,12 +1,26 @@
-use Rattle.std.proofs.Common.{◌≡◌, ◌<◌, ◌+◌, ◌++◌, ◌∷◌, [], ◌∙◌, List, length, arith, sym, ap, subst, length-append, append_assoc}
+use Rattle.std.proofs.Common.{◌≡◌, ⊎_elim, ◌<◌, ◌+◌, ◌++◌, ◌∷◌, [], ◌∙◌, List, length, arith, sym, ap, subst, length-append, append_assoc}
 use Rattle.std.specs.Vec.{vec_capacity, vec_len}
 use Rattle.std.proofs.lemmas.Grind.{common_steps}
 use Rattle.tmem_world.specs.declared.event.Event.{Event}
 use Rattle.tmem_world.specs.declared.event.Reply.{Reply}
 use Rattle.tmem_world.specs.declared.layout.Layout.{Layout}
 use Rattle.tmem_world.specs.WorldModel.{Run, Allows}
+use Rattle.tmem_world.specs.Replies.{failures_by, failures_by_all, IsAcknowledged}
+use Rattle.tmem_world.specs.Represents.{RestsOn}
+use Rattle.tmem_world.specs.declared.event.Event.TheVariants as event
+use Rattle.tmem_world.proofs.Acknowledged.{keeps, acknowledged-append}
 use Rattle.tmem_world.proofs.Runs.{run-append}
+use Rattle.tmem_world.proofs.Still.{failures-append}
 use Rattle.tmem_world.proofs.world.World.play.Goals as goal
+
+-- under the premise each event rests on it
+rests : (P : Type 0) (e : Event) → P → RestsOn P e
+rests P (event.Begin slot tx) p = tt
+rests P (event.Turn slot) p = tt
+rests P (event.Settle slot) p = tt
+rests P event.Flush p = tt
+rests P event.Look p = tt
+rests P event.Reopen p = p
 
 pub loop-event-preserved : goal.loop-event-preserved
 loop-event-preserved g c =
@@ -21,16 +35,21 @@ loop-event-preserved g c =
     record {
       layout = c.step-reply.ensures.numbers ∙ so.layout;
       model = λ k. so.model (c.step-reply.ensures.model k);
+      failures = c.step-reply.ensures.failures ∙ ap (failures_by c.step-reply.result) so.failures ∙ sym (failures-append c.loop-event.replies.items c.step-reply.result (g.D.Disk.view c.args.self.now.disk).failures) ∙ ap (λ (rs : List Reply). failures_by_all rs (g.D.Disk.view c.args.self.now.disk).failures) (sym pushed);
       parts = parts;
       long = grind (arith, common_steps, one);
       room = omega (arith, so.room, c.push.ensures.capacity);
       run = λ m r k.
           let before = so.run m r (c.step-reply.ensures.model k) in
-          let now = c.step-reply.ensures.step before.0 before.2 k in
+          let now = c.step-reply.ensures.step before.0 before.2 (rests _ c.in-Some.event k) in
+          let kept = keeps c.loop-event.self.layout.vars before.0 c.in-Some.event c.step-reply.result now.0 before.2.numbers.durable now.1 in
           let allowed = subst (λ (l : Layout). Allows l.vars before.0 c.in-Some.event c.step-reply.result now.0) so.layout now.1 in (
             now.0,
             subst (λ (rs : List Reply). Run c.args.self.now.layout.vars m (c.loop-event.yielded ++ c.in-Some.event ∷ []) rs now.0) (sym pushed)
                 (run-append c.args.self.now.layout.vars c.loop-event.yielded c.loop-event.replies.items c.in-Some.event c.step-reply.result m before.0 now.0 before.1 allowed),
             now.2,
+            omega (arith, before.3, kept.durable),
+            λ number is. ⊎_elim (λ among. let below = before.4 number among in omega (arith, below, kept.durable)) (λ last. omega (arith, last, kept.acknowledged))
+                (acknowledged-append c.loop-event.replies.items c.step-reply.result number (subst (λ (rs : List Reply). IsAcknowledged rs number) pushed is)),
           );
     }

@@ -8,6 +8,7 @@ use Rattle.tmem_world.specs.Settle.{FitsSlot}
 use Rattle.tmem_world.proofs.Points.{in_session, slot_holds}
 use Rattle.tmem_world.proofs.Settling.{settles_fit, settles_counted, settles_free}
 use Rattle.tmem_world.proofs.Settled.{settles}
+use Rattle.tmem_world.proofs.Still.{settle_failures}
 use Rattle.tmem_world.proofs.world.World.settle.Goals as goal
 
 pub invariant_of-self-in-Some-clause-fit : goal.invariant_of-self-in-Some-clause-fit
@@ -35,3 +36,6 @@ returns-in-Some-clause-step g c = λ m r keeps.
     let holds = slot_holds _ m c.args.slot c.index_mut.result.now r below c.index_mut.ensures.value in
     let done = settles _ _ m c.args.slot c.in-Some.session c.settle.new.self r refl refl refl refl c.in-Some.is refl _ c.settle.new.slot (attempt_at m c.args.slot) c.settle.result c.index_mut.ensures.value refl holds c.settle.ensures in
     (done.0, in_session c.args.self.now.session m _ _ _ r.session (ap is_none c.in-Some.is) done.1, done.2)
+
+pub returns-in-Some-clause-failures : goal.returns-in-Some-clause-failures
+returns-in-Some-clause-failures g c = settle_failures _ _ _ _ c.settle.result _ c.settle.ensures

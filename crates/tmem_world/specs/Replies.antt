@@ -1,0 +1,43 @@
+-- What a reply tells of the device, and what it acknowledges.
+use Rattle.std.specs.Prelude.{◌≡◌, ⊤, ◌⊎◌, ℕ, ◌<◌, List, [], ◌∷◌}
+use Rattle.tmem_disk.specs.declared.fault.Fault.TheVariants as fault
+use Rattle.tmem_world.specs.declared.event.Event.{Event}
+use Rattle.tmem_world.specs.declared.event.Event.TheVariants as event
+use Rattle.tmem_world.specs.declared.event.Reply.{Reply}
+use Rattle.tmem_world.specs.declared.event.Reply.TheVariants as reply
+use Rattle.tmem_world.specs.Calls.{failures_after}
+
+-- how many calls of the device have failed, once an event was answered so
+abbrev pub failures_by : Reply → ℕ → ℕ
+failures_by (reply.Fault f) n = failures_after f n
+failures_by _ n = n
+
+-- the same for a list of replies, one after another
+abbrev pub failures_by_all : List Reply → ℕ → ℕ
+failures_by_all [] n = n
+failures_by_all (r ∷ rs) n = failures_by_all rs (failures_by r n)
+
+-- A flush was answered without a write, where so many were durable before it.
+abbrev pub FlushedNothing : ℕ → Reply → Type 0
+FlushedNothing durable (reply.Durable n) = n ≡ durable
+FlushedNothing durable (reply.Fault fault.Device) = ⊥
+FlushedNothing durable (reply.Fault fault.Unknown) = ⊥
+FlushedNothing durable _ = ⊤
+
+-- The event was answered so without a call of the device: only a flush that writes and opening make any.
+abbrev pub IsStill : ℕ → Event → Reply → Type 0
+IsStill durable event.Flush r = FlushedNothing durable r
+IsStill durable event.Reopen r = ⊥
+IsStill durable _ r = ⊤
+
+-- the transactions below this number are acknowledged by the reply
+abbrev pub acknowledged : Reply → ℕ
+acknowledged (reply.Durable n) = n
+acknowledged (reply.Looked n) = n
+acknowledged (reply.Opened n) = n
+acknowledged _ = 0
+
+-- one of these replies acknowledges the transaction of this number
+abbrev pub IsAcknowledged : List Reply → ℕ → Type 0
+IsAcknowledged [] number = ⊥
+IsAcknowledged (r ∷ rs) number = (number < acknowledged r) ⊎ IsAcknowledged rs number
