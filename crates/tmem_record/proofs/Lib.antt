@@ -1,0 +1,5 @@
+pub mod Batching
+pub mod Beginnings
+pub mod Folding
+pub mod Naming
+pub mod Writing

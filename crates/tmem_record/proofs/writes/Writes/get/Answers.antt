@@ -1,0 +1,6 @@
+use Rattle.std.proofs.Common.{rules}
+use Rattle.tmem_record.proofs.Writing.{look-find}
+use Rattle.tmem_record.proofs.writes.Writes.get.Goals as goal
+
+pub returns : goal.returns
+returns c = rw (look-find c.args.self.now c.args.var) (search rules)

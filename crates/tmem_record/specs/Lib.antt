@@ -1,0 +1,6 @@
+pub mod Batch
+pub mod Begins
+pub mod Distinct
+pub mod Names
+pub mod State
+pub mod Writes

@@ -1,0 +1,153 @@
+// A list of effects that fits one slot of the log.
+ghost use Rattle.std.specs.Prelude.{◌≡◌, ◌≤◌, ◌<◌, ◌+◌, ◌*◌, ◌==◌, ◌↔◌, [], ◌∷◌, ◌++◌, length, sum_by, IsTrue, IfOk};
+ghost use Rattle.std.specs.Bool.{OnTrue, OnFalse};
+ghost use Rattle.tmem_record.specs.State.{IsEmptyEffect, AreWrites, AreChecks};
+ghost use Rattle.tmem_record.specs.declared.names.TheConstants.{MAX_CHECKS};
+ghost use Rattle.tmem_record.specs.Batch.{record_length, records_length, IsBatch};
+
+use crate::effect::Effect;
+use std::alloc::{AllocError, Global};
+use std::marker::Model;
+use tmem_disk::Name;
+
+/// How many records a batch may have.
+pub const MAX_RECORDS: usize = 64;
+
+/// How many bytes the records of a batch may have together.
+pub const BATCH_BYTES: usize = 4077;
+
+/// How many bytes one record has at most: with 64 writes, and 8 names of 16 letters.
+pub const MAX_RECORD_BYTES: usize = 778;
+
+/// Effects that are to be written together, in order. There is room for all of them from the start.
+#[derive(Drop)]
+pub struct Batch {
+    // made beforehand: those from `len` on are not in the batch
+    effects: Vec<Effect>,
+    len: usize,
+    // the bytes of those in the batch
+    used: usize,
+}
+
+impl Model for Batch {
+    ghost use Rattle.std.specs.Prelude.{List, take};
+    ghost use Rattle.tmem_record.specs.State.{Effect as EffectOf};
+    ghost use Rattle.tmem_record.specs.Batch.{FillsBatch};
+
+    ghost Value = { List EffectOf };
+
+    ghost view = { λ b. take b.len b.effects.items };
+
+    ghost invariant = { λ b. FillsBatch b.effects.items b.len b.used };
+}
+
+impl Batch {
+    /// An empty batch, with room for 64 records and 4077 bytes.
+    pub fn new(alloc: Global) -> Result<Batch, AllocError>
+        ensures { IfOk result (λ batch. batch ≡ []) }
+    {
+        let effects = spare(alloc)?;
+        Ok(Batch {
+            effects,
+            len: 0,
+            used: 0,
+        })
+    }
+
+    /// How many records it has.
+    pub fn len(&self) -> usize
+        ensures len { result ≡ length self.now }
+        ensures few { result ≤ MAX_RECORDS }
+    {
+        self.len
+    }
+
+    /// Whether it has no record.
+    pub fn is_empty(&self) -> bool
+        ensures { result ≡ (length self.now == 0) }
+    {
+        self.len == 0
+    }
+
+    /// How many bytes its records will have together.
+    pub fn used(&self) -> usize
+        ensures used { result ≡ records_length self.now }
+        ensures most { result ≤ BATCH_BYTES }
+    {
+        self.used
+    }
+
+    /// Its records in order.
+    pub fn effects(&self) -> &[Effect]
+        ensures effects { result.now ≡ self.now }
+        ensures is_batch { IsBatch self.now }
+    {
+        &self.effects[..self.len]
+    }
+
+    /// Forgets all records.
+    pub fn clear(&mut self)
+        ensures { self.new ≡ [] }
+    {
+        self.len = 0;
+        self.used = 0;
+    }
+
+    /// Puts a record last. Where there are 64 records already, or its bytes do not fit, nothing changes and the answer
+    /// is false.
+    pub fn push(&mut self, effect: &Effect) -> bool
+        requires { ¬ IsEmptyEffect effect.now }
+        ensures fits { IsTrue result
+            ↔ ((length self.old < MAX_RECORDS)
+            × (records_length self.old + record_length effect.now ≤ BATCH_BYTES)) }
+        ensures pushed { OnTrue result (self.new ≡ self.old ++ effect.now ∷ []) }
+        ensures room { length self.old < MAX_RECORDS
+            → records_length self.old + MAX_RECORD_BYTES ≤ BATCH_BYTES
+            → IsTrue result }
+        ensures full { OnFalse result (self.new ≡ self.old) }
+    {
+        let bytes = length_of(effect);
+        if self.len == MAX_RECORDS || BATCH_BYTES - self.used < bytes {
+            return false;
+        }
+        self.effects[self.len].copy_from(effect);
+        self.len += 1;
+        self.used += bytes;
+        true
+    }
+}
+
+// 64 effects to be filled.
+fn spare(alloc: Global) -> Result<Vec<Effect>, AllocError>
+    ensures { IfOk result (λ effects. length effects.items ≡ MAX_RECORDS) }
+{
+    let mut effects = Vec::new(alloc);
+    for _ in 0..MAX_RECORDS {
+        let effect = Effect::new(alloc)?;
+        effects.push(effect)?;
+    }
+    Ok(effects)
+}
+
+// How many bytes a record will have.
+fn length_of(effect: &Effect) -> usize
+    ensures length { result ≡ record_length effect.now }
+    ensures most { result ≤ MAX_RECORD_BYTES }
+    ensures writes { AreWrites effect.now.writes }
+    ensures names { AreChecks effect.now.names }
+{
+    1 + 10 * effect.writes.as_slice().len() + 1 + names_length(effect.names.as_slice())
+}
+
+// How many bytes the names will have, each behind its length.
+fn names_length(names: &[Name]) -> usize
+    requires { length names.now ≤ MAX_CHECKS }
+    ensures bytes { result ≡ sum_by (λ n. 1 + length n) names.now }
+    ensures few { result ≤ 17 * length names.now }
+{
+    let mut bytes = 0;
+    for name in names {
+        bytes += 1 + name.as_bytes().len();
+    }
+    bytes
+}

@@ -1,0 +1,134 @@
+// What all accepted transactions made.
+ghost use Rattle.std.specs.Prelude.{◌≡◌, ◌≤◌, ◌<◌, ◌+◌, ◌^◌, length, All, IfOk, Some, slice_get};
+ghost use Rattle.tmem_record.specs.Names.{has_name, with_names, AreRegistered};
+ghost use Rattle.tmem_record.specs.State.{apply, first_state, written};
+
+use crate::effect::Effect;
+use crate::names::{MAX_NAMES, NameSet};
+use std::alloc::{AllocError, Global};
+use std::marker::Model;
+use tmem_disk::Name;
+
+/// How many transactions were accepted, the registered names, and the value of each variable.
+#[derive(Drop)]
+pub struct State {
+    count: u64,
+    names: NameSet,
+    values: Vec<i64>,
+}
+
+impl Model for State {
+    ghost use Rattle.tmem_record.specs.State.{State as StateOf};
+
+    ghost Value = { StateOf };
+
+    ghost view = { λ s. record { count = s.count; names = s.names; values = s.values.items } };
+}
+
+impl State {
+    /// Where a store of so many variables begins: nothing accepted, no name, and each variable 0.
+    pub fn first(alloc: Global, vars: u16) -> Result<State, AllocError>
+        ensures { IfOk result (λ s. s ≡ first_state vars) }
+    {
+        let names = NameSet::new(alloc)?;
+        let values = vec![in alloc; 0; vars as usize]?;
+        Ok(State {
+            count: 0,
+            names,
+            values,
+        })
+    }
+
+    /// The state of these parts.
+    pub fn of(count: u64, names: NameSet, values: Vec<i64>) -> State
+        ensures count { result.count ≡ count }
+        ensures names { result.names ≡ names }
+        ensures values { result.values ≡ values.items }
+    {
+        State {
+            count,
+            names,
+            values,
+        }
+    }
+
+    /// How many transactions were accepted.
+    pub fn count(&self) -> u64
+        ensures { result ≡ self.now.count }
+    {
+        self.count
+    }
+
+    /// The registered names, in ascending order of their bytes.
+    pub fn names(&self) -> &[Name]
+        ensures names { result.now ≡ self.now.names }
+        ensures are_registered { AreRegistered self.now.names }
+    {
+        self.names.as_slice()
+    }
+
+    /// The value of each variable.
+    pub fn values(&self) -> &[i64]
+        ensures { result.now ≡ self.now.values }
+    {
+        &self.values
+    }
+
+    /// The value of one variable.
+    pub fn value(&self, var: u16) -> i64
+        requires { var < length self.now.values }
+        ensures { slice_get self.now.values var ≡ Some result }
+    {
+        self.values[var as usize]
+    }
+
+    /// Whether a name is registered.
+    pub fn has(&self, name: &Name) -> bool
+        ensures { result ≡ has_name self.now.names name.now }
+    {
+        self.names.has(name)
+    }
+
+    /// The same state in memory of its own.
+    pub fn copy(&self, alloc: Global) -> Result<State, AllocError>
+        ensures { IfOk result (λ s. s ≡ self.now) }
+    {
+        let names = self.names.copy(alloc)?;
+        let values = Vec::from_slice(alloc, &self.values)?;
+        Ok(State {
+            count: self.count,
+            names,
+            values,
+        })
+    }
+
+    /// Accepts a transaction: its variables are set, its names are added, and the count grows by 1.
+    pub fn accept(&mut self, effect: &Effect)
+        requires within { All (λ w. w.0 < length self.old.values) effect.now.writes }
+        requires countable { self.old.count + 1 < 2 ^ 64 }
+        requires room { length (with_names self.old.names effect.now.names) ≤ MAX_NAMES }
+        ensures { self.new ≡ apply self.old effect.now }
+    {
+        set_all(&mut self.values, effect.writes.as_slice());
+        insert_all(&mut self.names, effect.names.as_slice());
+        self.count += 1;
+    }
+}
+
+fn set_all(values: &mut Vec<i64>, writes: &[(u16, i64)])
+    requires { All (λ w. w.0 < length values.old.items) writes.now }
+    ensures { values.new.items ≡ written values.old.items writes.now }
+{
+    for write in writes {
+        values[write.0 as usize] = write.1;
+    }
+}
+
+fn insert_all(names: &mut NameSet, more: &[Name])
+    requires { length (with_names names.old more.now) ≤ MAX_NAMES }
+    ensures { names.new ≡ with_names names.old more.now }
+{
+    for name in more {
+        names.insert(name);
+    }
+}

@@ -1,0 +1,122 @@
+// The writes of a transaction.
+ghost use Rattle.std.specs.Prelude.{◌≡◌, ◌≤◌, ◌<◌, ◌==◌, [], length, IsNone, IfOk, is_some, position, find, option_map};
+ghost use Rattle.std.specs.List.{list_any};
+ghost use Rattle.tmem_record.specs.Writes.{look, with_write, AreWrites};
+
+use std::alloc::{AllocError, Global};
+use std::marker::Model;
+
+/// How many variables one transaction may write.
+pub const MAX_WRITES: usize = 64;
+
+/// The writes of a transaction: each variable once, in order of its first write, with its last value. There is room
+/// for all of them from the start.
+#[derive(Drop)]
+pub struct Writes {
+    items: Vec<(u16, i64)>,
+}
+
+impl Model for Writes {
+    ghost use Rattle.std.specs.Prelude.{ℕ, ℤ, List, ◌≤◌, vec_capacity};
+    ghost use Rattle.tmem_record.specs.Writes.{AreWrites};
+
+    ghost Value = { List (ℕ × ℤ) };
+
+    ghost view = { λ w. w.items.items };
+
+    ghost invariant = { λ w. AreWrites w.items.items × (64 ≤ vec_capacity w.items) };
+}
+
+impl Writes {
+    /// No writes, with room for 64.
+    pub fn new(alloc: Global) -> Result<Writes, AllocError>
+        ensures { IfOk result (λ writes. writes ≡ []) }
+    {
+        let items = Vec::with_capacity(alloc, MAX_WRITES)?;
+        Ok(Writes { items })
+    }
+
+    /// How many variables are written.
+    pub fn len(&self) -> usize
+        ensures len { result ≡ length self.now }
+        ensures few { result ≤ MAX_WRITES }
+    {
+        self.items.len()
+    }
+
+    /// Whether no variable is written.
+    pub fn is_empty(&self) -> bool
+        ensures { result ≡ (length self.now == 0) }
+    {
+        self.items.is_empty()
+    }
+
+    /// The writes in order.
+    pub fn as_slice(&self) -> &[(u16, i64)]
+        ensures writes { result.now ≡ self.now }
+        ensures are_writes { AreWrites self.now }
+    {
+        &self.items
+    }
+
+    /// The value that a variable takes, if it is written.
+    pub fn get(&self, var: u16) -> Option<i64>
+        ensures { result ≡ look self.now var }
+    {
+        value(&self.items, var)
+    }
+
+    /// Whether a variable is written.
+    pub fn has(&self, var: u16) -> bool
+        ensures { result ≡ is_some (look self.now var) }
+    {
+        is_written(&self.items, var)
+    }
+
+    /// Writes a variable: it keeps the place of its first write.
+    pub fn put(&mut self, var: u16, value: i64)
+        requires { IsNone (look self.old var) → length self.old < MAX_WRITES }
+        ensures { self.new ≡ with_write self.old var value }
+    {
+        match place(&self.items, var) {
+            Some(at) => self.items[at] = (var, value),
+            None => self.items.push((var, value)).unwrap(),
+        }
+    }
+
+    /// Takes over the writes of another.
+    pub fn copy_from(&mut self, other: &Writes)
+        ensures { self.new ≡ other.now }
+    {
+        self.items.clear();
+        self.items.extend_from_slice(&other.items).unwrap();
+    }
+
+    /// Forgets all writes.
+    pub fn clear(&mut self)
+        ensures { self.new ≡ [] }
+    {
+        self.items.clear();
+    }
+}
+
+// Where a variable stands.
+fn place(writes: &[(u16, i64)], var: u16) -> Option<usize>
+    ensures { result ≡ position (λ w. var == w.0) writes.now }
+{
+    writes.iter().position(|w| var == w.0)
+}
+
+// The value of the first write of a variable.
+fn value(writes: &[(u16, i64)], var: u16) -> Option<i64>
+    ensures { result ≡ option_map (λ w. w.1) (find (λ w. var == w.0) writes.now) }
+{
+    writes.iter().find(|w| var == w.0).map(|w| w.1)
+}
+
+// Whether a variable is written.
+fn is_written(writes: &[(u16, i64)], var: u16) -> bool
+    ensures { result ≡ list_any (λ w. var == w.0) writes.now }
+{
+    writes.iter().any(|w| var == w.0)
+}
