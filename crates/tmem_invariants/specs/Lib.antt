@@ -1,0 +1,5 @@
+pub mod Answers
+pub mod Chosen
+pub mod Examples
+pub mod Meanings
+pub mod Names

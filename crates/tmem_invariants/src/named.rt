@@ -1,0 +1,78 @@
+// What the layers above ask of a table of invariants.
+
+ghost use Rattle.std.specs.Prelude.{◌≡◌, ◌↔◌, ℕ, ℤ, ◌<◌, ◌≤◌, Some, List, length, slice_get, All, IsTrue, IsSome, IfSome};
+ghost use Rattle.tmem_invariants.specs.Meanings.{Meanings, AllHold, DifferInWritten, first_false, touched};
+ghost use Rattle.tmem_invariants.specs.Names.{IsDistinct, first_missing, is_among, name_at};
+
+use tmem_disk::Name;
+
+/// The most invariants of a table.
+pub const MAX_INVARIANTS: usize = 64;
+
+/// Invariants in order, known by their names. A map of values is a slice with an entry for each variable. No call takes
+/// memory.
+pub trait Tests {
+    /// The names, in the table's order.
+    ghost names: { Self → List (List ℕ) };
+
+    /// The number of variables.
+    ghost vars: { Self → ℕ };
+
+    /// Each answers what these meanings say of its name, over the footprint that they give it.
+    ghost is_stated: { Self → Meanings → Type 0 };
+
+    /// How many there are.
+    fn len(&self) -> usize
+        ensures { result ≡ length (names self.now) };
+
+    /// The number of variables.
+    fn vars(&self) -> u16
+        ensures { result ≡ vars self.now };
+
+    /// The name at a place of the table's order.
+    fn name(&self, place: usize) -> Name
+        requires { place < length (names self.now) }
+        ensures { slice_get (names self.now) place ≡ Some result };
+
+    /// The place of a name, if it is there.
+    fn place(&self, name: &Name) -> Option<usize>
+        ensures there { IsSome result ↔ IsTrue (is_among (names self.now) name.now) }
+        ensures place { IfSome result (λ place. slice_get (names self.now) place ≡ Some name.now) };
+
+    /// The first of the registered names that is not there: the first by bytes, where they ascend.
+    fn missing(&self, registered: &[Name]) -> Option<Name>
+        ensures { result ≡ first_missing (names self.now) registered.now };
+
+    /// The place of the first false one of all that are registered or proposed. A name that is not there counts for
+    /// nothing.
+    fn test_all(&self, values: &[i64], registered: &[Name], proposed: &[Name]) -> Option<usize>
+        requires { length values.now ≡ vars self.now }
+        ensures within { IfSome result (λ place. place < length (names self.now)) }
+        ensures first { (m : Meanings) → is_stated self.now m → name_at (names self.now) result ≡ first_false m (names self.now) registered.now proposed.now values.now };
+
+    /// The place of the first false one of the proposed ones and of those registered ones whose footprint has a written
+    /// variable. Where the registered ones held before those writes, that is the first false one of all.
+    fn test_touched(
+        &self,
+        values: &[i64],
+        registered: &[Name],
+        proposed: &[Name],
+        written: &[(u16, i64)],
+    ) -> Option<usize>
+        requires sized { length values.now ≡ vars self.now }
+        requires written { All (λ write. write.0 < vars self.now) written.now }
+        ensures within { IfSome result (λ place. place < length (names self.now)) }
+        ensures first { (m : Meanings) → is_stated self.now m → name_at (names self.now) result ≡ first_false m (names self.now) (touched m written.now registered.now) proposed.now values.now }
+
+        // as if all had been tested
+        ensures all { (m : Meanings) (before : List ℤ) → is_stated self.now m → DifferInWritten written.now before values.now → AllHold m registered.now before → name_at (names self.now) result ≡ first_false m (names self.now) registered.now proposed.now values.now };
+
+    /// There are at most `MAX_INVARIANTS`.
+    ghost few: { (tests : Self) → length (names tests) ≤ 64 };
+
+    /// No name stands twice.
+    ghost distinct: { (tests : Self) → IsDistinct (names tests) };
+
+    /// There are meanings that they answer.
+    ghost has_meanings: { (tests : Self) → ∥ ((m : Meanings) × is_stated tests m) ∥₁ };
+}
