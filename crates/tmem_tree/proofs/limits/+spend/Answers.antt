@@ -1,0 +1,7 @@
+use Rattle.std.proofs.Common.{arith}
+use Rattle.tmem_tree.specs.Plans.{is_counted}
+use Rattle.tmem_tree.proofs.Rows.{count-Seq}
+use Rattle.tmem_tree.proofs.limits.+spend.Goals as goal
+
+pub loop-t-init : goal.loop-t-init
+loop-t-init g t c = grind (arith, count-Seq (is_counted c.args.cause (g.S.StoredSteps.arities c.args.steps.now) c.args.vars) c.in-Seq.txs)

@@ -1,0 +1,79 @@
+-- How deep a transaction is, and how many of its nodes pass a test.
+use Rattle.std.specs.Prelude.{ℕ, ◌+◌, max, Bool, true, false, not, ◌||◌, ◌==◌, nat_le, List, [], ◌∷◌, length, slice_index_or, if◌then◌else◌}
+use Rattle.std.specs.List.{list_any}
+use Rattle.tmem_tree.specs.declared.tx.Tx.{Tx, Row_of-Tx, end_of-Tx, more_of-Tx}
+use Rattle.tmem_tree.specs.declared.tx.Tx.TheVariants.{Seq', Put, Read, Write, Step, When', OrElse'}
+
+abbrev mutual
+  -- a leaf or an empty Seq has depth 1
+  pub depth : Tx → ℕ
+  depth (Seq' shape txs) = 1 + depth_of_all txs
+  depth (When' reg p a q b) = 1 + max (depth a) (depth b)
+  depth (OrElse' p first q second) = 1 + max (depth first) (depth second)
+  depth _ = 1
+
+  pub depth_of_all : {m : _} → Row_of-Tx m → ℕ
+  depth_of_all end_of-Tx = 0
+  depth_of_all (more_of-Tx tx txs) = max (depth tx) (depth_of_all txs)
+
+abbrev pub one_if : Bool → ℕ
+one_if passes = if passes then 1 else 0
+
+module _ (test : Tx → Bool) where
+  abbrev mutual
+    -- how many nodes pass the test
+    pub count : Tx → ℕ
+    count (Seq' shape txs) = one_if (test (Seq' shape txs)) + count_all txs
+    count (When' reg p a q b) = one_if (test (When' reg p a q b)) + (count a + count b)
+    count (OrElse' p first q second) = one_if (test (OrElse' p first q second)) + (count first + count second)
+    count tx = one_if (test tx)
+
+    pub count_all : {m : _} → Row_of-Tx m → ℕ
+    count_all end_of-Tx = 0
+    count_all (more_of-Tx tx txs) = count tx + count_all txs
+
+-- each constructor is a node
+abbrev pub is_node : Tx → Bool
+is_node _ = true
+
+abbrev pub is_write : Tx → Bool
+is_write (Write var reg) = true
+is_write _ = false
+
+abbrev pub is_no_register : ℕ → Bool
+is_no_register reg = nat_le 16 reg
+
+-- it names a register that is not below 16
+abbrev pub has_bad_register : Tx → Bool
+has_bad_register (Put reg number) = is_no_register reg
+has_bad_register (Read var reg) = is_no_register reg
+has_bad_register (Write var reg) = is_no_register reg
+has_bad_register (Step index args out) = is_no_register out || list_any is_no_register args.items
+has_bad_register (When' reg p a q b) = is_no_register reg
+has_bad_register _ = false
+
+-- it names a variable that is not below the number of variables
+abbrev pub has_bad_variable : ℕ → Tx → Bool
+has_bad_variable vars (Read var reg) = nat_le vars var
+has_bad_variable vars (Write var reg) = nat_le vars var
+has_bad_variable vars _ = false
+
+-- it calls a step that is not there
+abbrev pub has_bad_step : List ℕ → Tx → Bool
+has_bad_step arities (Step index args out) = nat_le (length arities) index
+has_bad_step arities _ = false
+
+-- it calls a step that is there, on a number of arguments that is not the step's
+abbrev pub has_bad_arguments : List ℕ → Tx → Bool
+has_bad_arguments arities (Step index args out) =
+    not (length args.items == slice_index_or arities index (length args.items))
+has_bad_arguments arities _ = false
+
+-- the same over a list of trees
+abbrev pub depth_in : List Tx → ℕ
+depth_in [] = 0
+depth_in (tx ∷ txs) = max (depth tx) (depth_in txs)
+
+abbrev pub count_in : (Tx → Bool) → List Tx → ℕ
+count_in test [] = 0
+count_in test (tx ∷ txs) = count test tx + count_in test txs

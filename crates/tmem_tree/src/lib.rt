@@ -1,0 +1,21 @@
+//! Transactions as trees, and the stored steps that they call.
+//!
+//! `Run` in `specs/` says what a transaction does to a map, and `Visited` which variables it reads of the map. A `Plan` is
+//! a transaction within the limits, so that whoever runs it needs no test of its own. `Steps` keeps each stored step with
+//! the meaning that its maker stated; the layers above ask for `StoredSteps`, and name no closure.
+#![tactic(auto)]
+
+mod limits;
+mod plan;
+mod step;
+mod steps;
+mod tx;
+
+pub use limits::{MAX_DEPTH, MAX_NODES, MAX_WRITES, REGISTERS};
+pub use plan::Plan;
+pub use step::{MAX_ARGUMENTS, Step, StepAnswer, StepEntry};
+pub use steps::{MAX_STEPS, Steps, StoredSteps};
+pub use tx::Tx;
+
+#[cfg(test)]
+mod tests;

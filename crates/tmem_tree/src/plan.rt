@@ -1,0 +1,86 @@
+// A transaction within the limits.
+
+ghost use Rattle.std.specs.Prelude.{◌≡◌, IfOk, IfErr, IfSome, IsNone};
+ghost use Rattle.tmem_tree.specs.Plans.{BreaksNone, IsLeastBroken, IsWithinLimits, FitsSteps, FitsVariables};
+
+use crate::limits::{MAX_DEPTH, MAX_NODES, MAX_WRITES, is_within_depth, spend};
+use crate::steps::StoredSteps;
+use crate::tx::Tx;
+use std::marker::Model;
+use tmem_disk::{Cause, Fault};
+
+/// A transaction that breaks no limit. Contracts see it as its tree.
+#[derive(Drop)]
+pub struct Plan {
+    tx: Tx,
+}
+
+impl Model for Plan {
+    ghost use Rattle.tmem_tree.specs.declared.tx.Tx.{Tx};
+    ghost use Rattle.tmem_tree.specs.contracts.tx.Tx as tree;
+    ghost use Rattle.std.specs.Coded.{codes};
+
+    ghost Value = { Tx };
+
+    ghost coded = { Prim.hlevel (codes, tree.the_row.coded) };
+
+    ghost use Rattle.tmem_tree.specs.Plans.{IsWithinLimits};
+
+    ghost view = { λ plan. plan.tx };
+
+    ghost invariant = { λ plan. IsWithinLimits plan.tx };
+}
+
+impl Plan {
+    /// The plan, for these steps and so many variables. Refused with the least cause by number whose limit is broken.
+    #[tactic(auto, using(crate::proofs::Unbroken::fits_steps, crate::proofs::Unbroken::fits_variables))]
+    pub fn new<S: StoredSteps>(tx: Tx, steps: &S, vars: u16) -> Result<Plan, Fault>
+        ensures plan { IfOk result (λ plan. plan ≡ tx) }
+        ensures fine { IfOk result (λ _. BreaksNone (S.arities steps.now) vars tx) }
+        ensures steps { IfOk result (λ _. FitsSteps (S.arities steps.now) tx) }
+        ensures variables { IfOk result (λ _. FitsVariables vars tx) }
+        ensures least { IfErr result (λ fault. (cause : Cause) × (fault ≡ Fault.BadPlan cause) × IsLeastBroken (S.arities steps.now) vars tx cause) }
+    {
+        match least_broken(&tx, steps, vars) {
+            Some(cause) => Err(Fault::BadPlan(cause)),
+            None => Ok(Plan { tx }),
+        }
+    }
+
+    /// The transaction.
+    pub fn tree(&self) -> &Tx
+        ensures tree { result.now ≡ self.now }
+        ensures limits { IsWithinLimits self.now }
+    {
+        &self.tx
+    }
+}
+
+// The least limit that is broken, if one is.
+fn least_broken<S: StoredSteps>(tx: &Tx, steps: &S, vars: u16) -> Option<Cause>
+    ensures some { IfSome result (λ cause. IsLeastBroken (S.arities steps.now) vars tx.now cause) }
+    ensures none { IsNone result → BreaksNone (S.arities steps.now) vars tx.now }
+{
+    if !is_within_depth(tx, MAX_DEPTH) {
+        return Some(Cause::TooDeep);
+    }
+    if spend(tx, Cause::TooManyNodes, steps, vars, MAX_NODES).is_none() {
+        return Some(Cause::TooManyNodes);
+    }
+    if spend(tx, Cause::TooManyWrites, steps, vars, MAX_WRITES).is_none() {
+        return Some(Cause::TooManyWrites);
+    }
+    if spend(tx, Cause::BadRegister, steps, vars, 0).is_none() {
+        return Some(Cause::BadRegister);
+    }
+    if spend(tx, Cause::BadVariable, steps, vars, 0).is_none() {
+        return Some(Cause::BadVariable);
+    }
+    if spend(tx, Cause::BadStep, steps, vars, 0).is_none() {
+        return Some(Cause::BadStep);
+    }
+    if spend(tx, Cause::BadArguments, steps, vars, 0).is_none() {
+        return Some(Cause::BadArguments);
+    }
+    None
+}
