@@ -1,0 +1,84 @@
+-- Entries by their variables: what was inserted, and the variables each once.
+use Rattle.std.proofs.Common.{◌≡◌, ℕ, ℤ, Bool, true, false, List, [], ◌∷◌, ◌++◌, Option, Some, None, nat_eq, cond, refl, sym, ap, ◌∙◌, append_assoc}
+use Rattle.std.proofs.lemmas.Bool.{eqb-true, eq-eqb}
+use Rattle.indexmap.specs.IndexMap.{insert_entry}
+use Rattle.tmem_record.specs.Writes.{look}
+use Rattle.tmem_tree.specs.Visited.{has, noted, each_once}
+use Rattle.tmem_tentative.specs.Right.{valued, if_there, first_lacking}
+
+-- not both: they are different variables
+swap_look : (a c : Bool) (x n : ℤ) (o : Option ℤ) → (a ≡ true → c ≡ true → ⊥) → cond a (Some x) (cond c (Some n) o) ≡ cond c (Some n) (cond a (Some x) o)
+swap_look true true x n o h = absurd (h refl refl)
+swap_look true false x n o h = refl
+swap_look false true x n o h = refl
+swap_look false false x n o h = refl
+
+twice_look : (c : Bool) (x n : ℤ) (o : Option ℤ) → cond c (Some n) o ≡ cond c (Some n) (cond c (Some x) o)
+twice_look true x n o = refl
+twice_look false x n o = refl
+
+-- a look at what was inserted
+pub look-insert : (es : List (ℕ × ℤ)) (k : ℕ) (n : ℤ) (v : ℕ) → look (insert_entry nat_eq es k n) v ≡ cond (nat_eq v k) (Some n) (look es v)
+look-insert [] k n v = refl
+look-insert (e ∷ es) k n v = on (nat_eq k e.0) refl (look-insert es k n v) where
+  on : (b : Bool) → nat_eq k e.0 ≡ b → look (insert_entry nat_eq es k n) v ≡ cond (nat_eq v k) (Some n) (look es v) → look (cond b ((e.0, n) ∷ es) (e ∷ insert_entry nat_eq es k n)) v ≡ cond (nat_eq v k) (Some n) (cond (nat_eq v e.0) (Some e.1) (look es v))
+  on true is ih =
+      let same : e.0 ≡ k = sym (eqb-true k e.0 is) in
+      ap (λ y. cond (nat_eq v y) (Some n) (look es v)) same ∙ twice_look (nat_eq v k) e.1 n (look es v) ∙ ap (λ y. cond (nat_eq v k) (Some n) (cond (nat_eq v y) (Some e.1) (look es v))) (sym same)
+  on false is ih =
+      ap (cond (nat_eq v e.0) (Some e.1)) ih ∙ swap_look (nat_eq v e.0) (nat_eq v k) e.1 n (look es v) (λ p q.
+      let same : k ≡ e.0 = sym (eqb-true v k q) ∙ eqb-true v e.0 p in
+      let both : true ≡ false = sym (eq-eqb k e.0 same) ∙ is in
+      cc)
+
+-- the values of a map at some variables, and at one more
+pub insert-valued : (values : ℕ → ℤ) (vars : List ℕ) (var : ℕ) → insert_entry nat_eq (valued values vars) var (values var) ≡ valued values (noted vars var)
+insert-valued values [] var = refl
+insert-valued values (x ∷ xs) var = on (nat_eq var x) refl (has xs var) (insert-valued values xs var) where
+  on : (b : Bool) → nat_eq var x ≡ b → (c : Bool) → insert_entry nat_eq (valued values xs) var (values var) ≡ valued values (cond c xs (xs ++ var ∷ [])) → cond b ((x, values var) ∷ valued values xs) ((x, values x) ∷ insert_entry nat_eq (valued values xs) var (values var)) ≡ valued values (cond (cond b true c) (x ∷ xs) (x ∷ xs ++ var ∷ []))
+  on true is c ih = ap (λ y. (x, values y) ∷ valued values xs) (eqb-true var x is)
+  on false is true ih = ap (λ es. (x, values x) ∷ es) ih
+  on false is false ih = ap (λ es. (x, values x) ∷ es) ih
+
+-- the visited variables are noted with their values
+abbrev pub note : (ℕ → ℤ) → List (ℕ × ℤ) → List ℕ → List (ℕ × ℤ)
+note values seen [] = seen
+note values seen (var ∷ vars) = note values (insert_entry nat_eq seen var (values var)) vars
+
+pub note-append : (values : ℕ → ℤ) (seen : List (ℕ × ℤ)) (xs ys : List ℕ) → note values seen (xs ++ ys) ≡ note values (note values seen xs) ys
+note-append values seen [] ys = refl
+note-append values seen (x ∷ xs) ys = note-append values (insert_entry nat_eq seen x (values x)) xs ys
+
+pub note-valued : (values : ℕ → ℤ) (seen vars : List ℕ) → note values (valued values seen) vars ≡ valued values (each_once seen vars)
+note-valued values seen [] = refl
+note-valued values seen (var ∷ vars) =
+    ap (λ es. note values es vars) (insert-valued values seen var) ∙ note-valued values (noted seen var) vars
+
+module _ (reads : List (ℕ × ℤ)) where
+  -- one that is there is not lacking
+  lacking_there : (xs vars : List ℕ) (var : ℕ) (n : ℤ) → look reads var ≡ Some n → first_lacking reads (xs ++ vars) ≡ first_lacking reads (xs ++ var ∷ vars)
+  lacking_there [] vars var n is = sym (ap (λ o. if_there o var (first_lacking reads vars)) is)
+  lacking_there (x ∷ xs) vars var n is = ap (if_there (look reads x) x) (lacking_there xs vars var n is)
+
+  -- a second mention changes nothing
+  lacking_again : (xs vars : List ℕ) (var : ℕ) → has xs var ≡ true → first_lacking reads (xs ++ vars) ≡ first_lacking reads (xs ++ var ∷ vars)
+  lacking_again [] vars var there = cc
+  lacking_again (x ∷ xs) vars var there = on (look reads x) refl (nat_eq var x) refl there (lacking_again xs vars var) where
+    on : (o : Option ℤ) → look reads x ≡ o → (b : Bool) → nat_eq var x ≡ b → cond b true (has xs var) ≡ true → (has xs var ≡ true → first_lacking reads (xs ++ vars) ≡ first_lacking reads (xs ++ var ∷ vars)) → if_there o x (first_lacking reads (xs ++ vars)) ≡ if_there o x (first_lacking reads (xs ++ var ∷ vars))
+    on None is b e h ih = refl
+    on (Some n) is true e h ih = lacking_there xs vars var n (ap (look reads) (eqb-true var x e) ∙ is)
+    on (Some n) is false e h ih = ih h
+
+  lacking_once : (seen vars : List ℕ) → first_lacking reads (each_once seen vars) ≡ first_lacking reads (seen ++ vars)
+  lacking_once seen [] = ap (first_lacking reads) (sym (nil_right seen)) where
+    nil_right : (xs : List ℕ) → xs ++ [] ≡ xs
+    nil_right [] = refl
+    nil_right (x ∷ xs) = ap (λ l. x ∷ l) (nil_right xs)
+  lacking_once seen (var ∷ vars) = lacking_once (noted seen var) vars ∙ on (has seen var) refl where
+    on : (b : Bool) → has seen var ≡ b → first_lacking reads (cond b seen (seen ++ var ∷ []) ++ vars) ≡ first_lacking reads (seen ++ var ∷ vars)
+    on true there = lacking_again seen vars var there
+    on false there = ap (first_lacking reads) (append_assoc seen (var ∷ []) vars)
+
+  -- the first lacking variable is the same where each is mentioned once
+  pub first_lacking-each_once : (vars : List ℕ) → first_lacking reads (each_once [] vars) ≡ first_lacking reads vars
+  first_lacking-each_once vars = lacking_once [] vars

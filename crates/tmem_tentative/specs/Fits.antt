@@ -1,0 +1,39 @@
+-- What whoever settles an attempt may rely on, whatever the steps mean.
+use Rattle.std.specs.Prelude.{◌≡◌, ℕ, ℤ, ◌<◌, ◌≤◌, List, [], length, None, nat_eq, All}
+use Rattle.std.specs.List.{IsDistinct}
+use Rattle.std.specs.Map.{keys_of}
+use Rattle.tmem_record.specs.Writes.{look}
+use Rattle.tmem_record.specs.declared.effect.Effect.{Effect}
+use Rattle.tmem_tentative.specs.declared.attempt.Outcome.{Outcome}
+use Rattle.tmem_tentative.specs.declared.attempt.Outcome.TheVariants.{Need, Ended}
+use Rattle.tmem_tentative.specs.declared.attempt.Attempt.{Attempt}
+use Rattle.tmem_tentative.specs.declared.attempt.Ending.{Ending}
+use Rattle.tmem_tentative.specs.declared.attempt.Ending.TheVariants.{Normal, Retry, Abort}
+use Rattle.tmem_tentative.specs.Right.{IsBlank}
+
+-- each variable is written once, and no more variables and names than a plan may have: no plan has names yet
+pub record IsPlansEffect (effect : Effect) : Type 0 where
+  pub once : IsDistinct nat_eq (keys_of effect.writes)
+  pub few : length effect.writes ≤ 64
+  pub few_names : length effect.names ≤ 8
+  pub no_names : effect.names ≡ []
+
+abbrev pub IsBlankUnlessNormal : Ending → Attempt → Type 0
+IsBlankUnlessNormal Normal a = Unit {0}
+IsBlankUnlessNormal Retry a = IsBlank a
+IsBlankUnlessNormal (Abort code) a = IsBlank a
+
+-- a variable that the reads lack, or an attempt whose effect a plan may have
+abbrev pub IsFit : List (ℕ × ℤ) → Outcome → Type 0
+IsFit reads (Need var) = look reads var ≡ None
+IsFit reads (Ended a) = IsPlansEffect a.effect × IsBlankUnlessNormal a.ending a
+
+-- each variable that it read or wrote is one of so many
+abbrev pub IsForVariables : ℕ → Attempt → Type 0
+IsForVariables vars a =
+    All (λ var. var < vars) (keys_of a.reads.entries) × All (λ var. var < vars) (keys_of a.effect.writes)
+
+-- each variable is one of so many
+abbrev pub IsWithin : ℕ → Outcome → Type 0
+IsWithin vars (Need var) = var < vars
+IsWithin vars (Ended a) = IsForVariables vars a

@@ -1,0 +1,15 @@
+-- The log as a state.
+use Rattle.tmem_tentative.specs.declared.log.Log.{Log}
+use Rattle.tmem_tentative.specs.declared.log.Flow.{Flow}
+use Rattle.tmem_tentative.specs.declared.log.Flow.TheVariants.{Normal, Need, Retry, Abort}
+use Rattle.tmem_tentative.specs.Eval as eval
+use Rattle.tmem_tentative.specs.Eval.{State, Goes, Needs, Retries, Aborts}
+
+abbrev pub state_of : Log → State
+state_of log = record { registers = log.registers; effect = log.effect; seen = log.reads.entries }
+
+abbrev pub flow_of : Flow → State → eval.Flow
+flow_of Normal s = Goes s
+flow_of (Need var) s = Needs var
+flow_of Retry s = Retries s.seen
+flow_of (Abort code) s = Aborts code s.seen
