@@ -1,0 +1,28 @@
+use Rattle.std.proofs.Common.{length}
+use Rattle.std.proofs.lemmas.List.Elements.{All-push}
+use Rattle.tmem_record.proofs.Folding.{length-values-apply}
+use Rattle.tmem_core.specs.Accepted.{IsAccepted}
+use Rattle.tmem_core.proofs.Registered.{AreRegistered-with_names}
+use Rattle.tmem_core.proofs.Places.{writes_within, not_empty}
+use Rattle.tmem_core.proofs.core_state.Core.accept.Goals as goal
+
+pub accept-requires-clause-within : goal.accept-requires-clause-within
+accept-requires-clause-within c = writes_within (length c.args.self.now.state.values) c.args.effect.now.writes c.requires.variables
+
+pub invariant_of-self-clause-each : goal.invariant_of-self-clause-each
+invariant_of-self-clause-each c =
+    let core = c.args.self.now in
+    let e = c.args.effect.now in
+    let vars = length core.state.values in
+    let is : IsAccepted vars e = record {
+      effect = record { writes = c.changes.ensures.writes; within = writes_within vars e.writes c.requires.variables; names = c.changes.ensures.names };
+      not_empty = not_empty e c.changes.result c.changes.ensures.changes c.if-not-changes.false;
+    } in
+    rw (c.accept.ensures, c.push.ensures, length-values-apply core.state e) (All-push (IsAccepted vars) core.waiting e core.each is)
+
+pub invariant_of-self-clause-registered : goal.invariant_of-self-clause-registered
+invariant_of-self-clause-registered c =
+    rw c.accept.ensures (AreRegistered-with_names c.args.self.now.state.names c.args.effect.now.names c.changes.ensures.names.names c.requires.room c.args.self.now.registered)
+
+pub returns-clause-vars : goal.returns-clause-vars
+returns-clause-vars c = rw c.accept.ensures (length-values-apply c.args.self.now.state c.args.effect.now)

@@ -1,0 +1,243 @@
+// The core.
+ghost use Rattle.std.specs.Prelude.{◌≡◌, ◌≤◌, ◌<◌, ◌+◌, ◌-◌, true, false, not, [], ◌++◌, length, drop, take, slice_get, Some, All, IfOk, IfErr};
+ghost use Rattle.std.specs.Map.{keys_of};
+ghost use Rattle.std.proofs.Props.{props};
+ghost use Rattle.tmem_record.specs.Names.{has_name, with_names, AreChecks, AreRegistered, AreRegistered-prop};
+ghost use Rattle.tmem_record.specs.State.{fold};
+ghost use Rattle.tmem_record.specs.Writes.{AreWrites};
+ghost use Rattle.tmem_record.specs.declared.names.TheConstants.{MAX_NAMES};
+ghost use Rattle.tmem_tree.specs.declared.tx.Tx.{Tx};
+ghost use Rattle.tmem_tree.specs.Answers.{Meanings};
+ghost use Rattle.tmem_tentative.specs.Fits.{IsForVariables};
+ghost use Rattle.tmem_tentative.specs.Right.{IsRight};
+ghost use Rattle.tmem_core.specs.Settle.{is_stale};
+ghost use Rattle.tmem_core.specs.Verdict.{is_nothing};
+ghost use Rattle.tmem_core.specs.Accepted.{IsAccepted, IsAccepted-prop};
+
+use crate::settled::Settled;
+use crate::waiting::{MAX_WAITING, Waiting};
+use std::alloc::Global;
+use tmem_disk::{Fault, Name};
+use tmem_record::{Batch, Effect, State};
+use tmem_tentative::{Attempt, Ending, Reads};
+use tmem_tree::REGISTERS;
+
+/// How many records one `take` puts into a batch, at the most.
+pub const MAX_TAKEN: usize = 1;
+
+/// The present state, and the effects that are accepted and not known durable. Contracts speak of its parts by the words
+/// of `specs/Held`.
+#[derive(Drop)]
+pub struct Core {
+    state: State,
+    waiting: Waiting,
+    durable: u64,
+    is_shut: bool,
+
+    /// What is accepted is durable or waits.
+    pub ghost counted: { state.count ≡ durable + length waiting },
+
+    /// At most `MAX_WAITING` wait.
+    pub ghost few: { length waiting ≤ 256 },
+
+    /// At most 64 names are registered, in ascending order.
+    pub ghost registered: { AreRegistered state.names } by { Prim.hlevel (props, AreRegistered-prop) },
+
+    /// Each that waits changes something, and no variable that is not there.
+    pub ghost each: { All (IsAccepted (length state.values)) waiting } by { Prim.hlevel (props, IsAccepted-prop) },
+}
+
+impl Core {
+    ghost use Rattle.tmem_core.specs.Held.{state_of, waiting_of, durable_of, is_shut_of};
+    ghost use Rattle.tmem_core.specs.Verdict.{verdict, accepted_of};
+    ghost use Rattle.tmem_core.specs.Settle.{settle_answer, normal_answer, accepted_by, Judges};
+
+    /// A core of this state, all of it durable, with room for all that may wait: no other call takes memory. Its only fault
+    /// is want of memory.
+    pub fn new(alloc: Global, state: &State) -> Result<Core, Fault>
+        ensures state { IfOk result (λ core. state_of core ≡ state.now) }
+        ensures waiting { IfOk result (λ core. waiting_of core ≡ []) }
+        ensures durable { IfOk result (λ core. durable_of core ≡ state.now.count) }
+        ensures shut { IfOk result (λ core. is_shut_of core ≡ false) }
+        ensures fault { IfErr result (λ fault. fault ≡ Fault.Memory) }
+    {
+        // these are registered names, as those of every core
+        let _ = state.names();
+        let state = state.copy(alloc)?;
+        let waiting = Waiting::new(alloc)?;
+        let durable = state.count();
+        Ok(Core {
+            state,
+            waiting,
+            durable,
+            is_shut: false,
+        })
+    }
+
+    /// How many variables there are.
+    pub fn vars(&self) -> usize
+        ensures { result ≡ length (state_of self.now).values }
+    {
+        self.state.values().len()
+    }
+
+    /// The present value of a variable, also of a core that is shut.
+    pub fn peek(&self, var: u16) -> i64
+        requires { var < length (state_of self.now).values }
+        ensures { slice_get (state_of self.now).values var ≡ Some result }
+    {
+        self.state.value(var)
+    }
+
+    /// How many transactions were accepted.
+    pub fn count(&self) -> u64
+        ensures { result ≡ (state_of self.now).count }
+    {
+        self.state.count()
+    }
+
+    /// How many of them are known durable.
+    pub fn durable(&self) -> u64
+        ensures { result ≡ durable_of self.now }
+    {
+        self.durable
+    }
+
+    /// Whether it was shut.
+    pub fn is_shut(&self) -> bool
+        ensures { result ≡ is_shut_of self.now }
+    {
+        self.is_shut
+    }
+
+    /// Whether a name is registered.
+    pub fn has(&self, name: &Name) -> bool
+        ensures { result ≡ has_name (state_of self.now).names name.now }
+    {
+        self.state.has(name)
+    }
+
+    /// The registered names, in ascending order of their bytes.
+    pub fn names(&self) -> &[Name]
+        ensures names { result.now ≡ (state_of self.now).names }
+        ensures are_registered { AreRegistered (state_of self.now).names }
+    {
+        self.state.names()
+    }
+
+    /// Every later attempt is refused as `Closed`.
+    pub fn shut(&mut self)
+        ensures shut { is_shut_of self.new ≡ true }
+        ensures state { state_of self.new ≡ state_of self.old }
+        ensures waiting { waiting_of self.new ≡ waiting_of self.old }
+        ensures durable { durable_of self.new ≡ durable_of self.old }
+    {
+        self.is_shut = true;
+    }
+
+    /// Settles an attempt by the present state, and accepts its effect where it commits. Refused with `Closed` where the
+    /// core is shut; with `Conflict` where a value that was read is not the present one; with `Full` where as many as may
+    /// wait do; with `Spent` where no greater count is left. Nothing changes then.
+    pub fn settle(&mut self, attempt: &Attempt) -> Result<Settled, Fault>
+        requires variables { IsForVariables (length (state_of self.old).values) attempt.now }
+        requires room { length (with_names (state_of self.old).names attempt.now.effect.names) ≤ MAX_NAMES }
+        ensures answer { result ≡ settle_answer (is_shut_of self.old) (state_of self.old) (durable_of self.old) attempt.now }
+        ensures state { state_of self.new ≡ fold (state_of self.old) (accepted_by result attempt.now.effect) }
+        ensures waiting { waiting_of self.new ≡ waiting_of self.old ++ accepted_by result attempt.now.effect }
+        ensures durable { durable_of self.new ≡ durable_of self.old }
+        ensures shut { is_shut_of self.new ≡ is_shut_of self.old }
+        ensures vars { length (state_of self.new).values ≡ length (state_of self.old).values }
+        ensures verdict { (steps : Meanings) (tx : Tx) → IsRight steps tx attempt.now → Judges (state_of self.old) attempt.now result (verdict steps tx (state_of self.old)) (accepted_of steps tx (state_of self.old)) }
+    {
+        if self.is_shut {
+            return Err(Fault::Closed);
+        }
+        if is_stale(&self.state, &attempt.reads) {
+            return Err(Fault::Conflict);
+        }
+        match attempt.ending {
+            Ending::Normal => self.accept(&attempt.effect, attempt.registers),
+            Ending::Retry => Ok(Settled::Retry),
+            Ending::Abort(code) => Ok(Settled::Aborted(code)),
+        }
+    }
+
+    // Settles an attempt that ended normally on the present values.
+    fn accept(&mut self, effect: &Effect, registers: [i64; REGISTERS]) -> Result<Settled, Fault>
+        requires variables { All (λ var. var < length (state_of self.old).values) (keys_of effect.now.writes) }
+        requires room { length (with_names (state_of self.old).names effect.now.names) ≤ MAX_NAMES }
+        ensures answer { result ≡ normal_answer (state_of self.old) (durable_of self.old) effect.now registers }
+        ensures state { state_of self.new ≡ fold (state_of self.old) (accepted_by result effect.now) }
+        ensures waiting { waiting_of self.new ≡ waiting_of self.old ++ accepted_by result effect.now }
+        ensures durable { durable_of self.new ≡ durable_of self.old }
+        ensures shut { is_shut_of self.new ≡ is_shut_of self.old }
+        ensures vars { length (state_of self.new).values ≡ length (state_of self.old).values }
+    {
+        let number = self.state.count();
+        if !changes(effect) {
+            return Ok(Settled::Seen {
+                at: number,
+                registers,
+            });
+        }
+        if number - self.durable == MAX_WAITING as u64 {
+            return Err(Fault::Full);
+        }
+        if number == u64::MAX {
+            return Err(Fault::Spent);
+        }
+        self.state.accept(effect);
+        self.waiting.push(effect);
+        Ok(Settled::Committed { number, registers })
+    }
+
+    /// Empties the batch and puts in what waits from this number on, `MAX_TAKEN` records at the most.
+    pub fn take(&self, from: u64, batch: &mut Batch)
+        requires known { durable_of self.now ≤ from }
+        requires accepted { from ≤ (state_of self.now).count }
+        ensures { batch.new ≡ take MAX_TAKEN (drop (from - durable_of self.now) (waiting_of self.now)) }
+    {
+        batch.clear();
+        if from < self.state.count() {
+            let effect = self.waiting.get((from - self.durable) as usize);
+            let _ = batch.push(effect);
+        }
+    }
+
+    /// So many are known durable from now on, and do not wait any more.
+    pub fn note_durable(&mut self, number: u64)
+        requires known { durable_of self.old ≤ number }
+        requires accepted { number ≤ (state_of self.old).count }
+        ensures durable { durable_of self.new ≡ number }
+        ensures waiting { waiting_of self.new ≡ drop (number - durable_of self.old) (waiting_of self.old) }
+        ensures state { state_of self.new ≡ state_of self.old }
+        ensures shut { is_shut_of self.new ≡ is_shut_of self.old }
+    {
+        self.waiting.drop_oldest((number - self.durable) as usize);
+        self.durable = number;
+    }
+}
+
+// Whether some value that was read is not the present one.
+fn is_stale(state: &State, reads: &Reads) -> bool
+    requires { All (λ var. var < length state.now.values) (keys_of reads.now.entries) }
+    ensures { result ≡ is_stale state.now reads.now.entries }
+{
+    for (var, value) in reads.iter() {
+        if state.value(*var) != *value {
+            return true;
+        }
+    }
+    false
+}
+
+// Whether an effect changes anything.
+fn changes(effect: &Effect) -> bool
+    ensures changes { result ≡ not (is_nothing effect.now) }
+    ensures writes { AreWrites effect.now.writes }
+    ensures names { AreChecks effect.now.names }
+{
+    let writes = effect.writes.as_slice();
+    let names = effect.names.as_slice();
+    !(writes.is_empty() && names.is_empty())
+}

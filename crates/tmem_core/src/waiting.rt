@@ -1,0 +1,68 @@
+// The effects that are accepted and not known durable.
+ghost use Rattle.std.specs.Prelude.{◌≡◌, ◌≤◌, ◌<◌, [], ◌∷◌, ◌++◌, length, drop, slice_get, Some, IfOk};
+
+use std::alloc::{AllocError, Global};
+use std::marker::Model;
+use tmem_record::Effect;
+
+/// How many accepted transactions may wait to be made durable.
+pub const MAX_WAITING: usize = 256;
+
+/// The effects that wait, the oldest first. There is room for all of them from the start.
+#[derive(Drop)]
+pub(crate) struct Waiting {
+    // made beforehand: those from `len` on do not wait
+    effects: Vec<Effect>,
+    len: usize,
+}
+
+impl Model for Waiting {
+    ghost use Rattle.std.specs.Prelude.{List, take, length, ◌≡◌, ◌≤◌};
+    ghost use Rattle.tmem_record.specs.declared.effect.Effect.{Effect as EffectOf};
+
+    ghost Value = { List EffectOf };
+
+    ghost view = { λ w. take w.len w.effects.items };
+
+    ghost invariant = { λ w. (length w.effects.items ≡ 256) × (w.len ≤ 256) };
+}
+
+impl Waiting {
+    /// No effect waits.
+    pub(crate) fn new(alloc: Global) -> Result<Waiting, AllocError>
+        ensures { IfOk result (λ waiting. waiting ≡ []) }
+    {
+        let mut effects = Vec::new(alloc);
+        for _ in 0..MAX_WAITING {
+            let effect = Effect::new(alloc)?;
+            effects.push(effect)?;
+        }
+        Ok(Waiting { effects, len: 0 })
+    }
+
+    /// The effect that waits behind so many others.
+    pub(crate) fn get(&self, index: usize) -> &Effect
+        requires { index < length self.now }
+        ensures { slice_get self.now index ≡ Some result.now }
+    {
+        &self.effects[index]
+    }
+
+    /// Another effect waits, behind all others.
+    pub(crate) fn push(&mut self, effect: &Effect)
+        requires { length self.old < MAX_WAITING }
+        ensures { self.new ≡ self.old ++ effect.now ∷ [] }
+    {
+        self.effects[self.len].copy_from(effect);
+        self.len += 1;
+    }
+
+    /// The oldest ones do not wait any more.
+    pub(crate) fn drop_oldest(&mut self, many: usize)
+        requires { many ≤ length self.old }
+        ensures { self.new ≡ drop many self.old }
+    {
+        self.effects.rotate_left(many);
+        self.len -= many;
+    }
+}
