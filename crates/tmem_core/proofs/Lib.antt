@@ -1,3 +1,4 @@
+pub mod Folded
 pub mod Places
 pub mod Present
 pub mod Registered

@@ -6,12 +6,14 @@ use Rattle.tmem_disk.specs.declared.fault.Fault.{Fault}
 use Rattle.tmem_disk.specs.declared.fault.Fault.TheVariants as fault
 use Rattle.tmem_record.specs.State.{State}
 use Rattle.tmem_record.specs.declared.effect.Effect.{Effect}
+use Rattle.tmem_tree.specs.declared.tx.Tx.{Tx}
+use Rattle.tmem_tree.specs.Answers.{Meanings}
 use Rattle.tmem_tentative.specs.declared.attempt.Attempt.{Attempt}
 use Rattle.tmem_tentative.specs.declared.attempt.Ending as ending
 use Rattle.tmem_tentative.specs.declared.attempt.Ending.TheVariants as ended
 use Rattle.tmem_core.specs.declared.settled.Settled.{Settled}
 use Rattle.tmem_core.specs.declared.settled.Settled.TheVariants.{Committed, Seen, Retry, Aborted}
-use Rattle.tmem_core.specs.Verdict.{map_of, is_nothing, accepted}
+use Rattle.tmem_core.specs.Verdict.{map_of, is_nothing, accepted, accepted_of}
 
 -- some value that was read is not the present one
 abbrev pub is_stale : State → List (ℕ × ℤ) → Bool
@@ -44,10 +46,22 @@ abbrev pub accepted_by : Result Settled Fault → Effect → List Effect
 accepted_by (Ok settled) e = accepted settled e
 accepted_by (Err f) e = []
 
--- what the answer to an attempt tells of the verdict on the state, and of what the plan adds there: it is that verdict, and
--- accepts just that; or there was no room, and the verdict was to commit
-abbrev pub Judges : State → Attempt → Result Settled Fault → Settled → List Effect → Type 0
-Judges s a (Ok settled) v added = (v ≡ settled) × (added ≡ accepted settled a.effect)
-Judges s a (Err fault.Full) v added = (v ≡ Committed s.count a.registers) × (added ≡ a.effect ∷ [])
-Judges s a (Err fault.Spent) v added = (v ≡ Committed s.count a.registers) × (added ≡ a.effect ∷ [])
-Judges s a (Err f) v added = Unit {0}
+-- a verdict as an answer, where so many are known durable: to commit takes room and a greater count
+abbrev pub allowed : Settled → ℕ → Result Settled Fault
+allowed (Committed number registers) durable =
+    if number - durable == 256 then Err fault.Full
+    else if number == 18446744073709551615 then Err fault.Spent
+    else Ok (Committed number registers)
+allowed v durable = Ok v
+
+-- the answer that a verdict on the state gives, where these values were read
+abbrev pub judged : Bool → State → ℕ → List (ℕ × ℤ) → Settled → Result Settled Fault
+judged shut s durable reads v =
+    if shut then Err fault.Closed
+    else if is_stale s reads then Err fault.Conflict
+    else allowed v durable
+
+-- what an answer accepts of an attempt is what the plan adds to the state
+abbrev pub IsAdded : Meanings → Tx → State → Attempt → Result Settled Fault → Type 0
+IsAdded steps tx s a (Ok settled) = accepted settled a.effect ≡ accepted_of steps tx s
+IsAdded steps tx s a (Err f) = Unit {0}

@@ -12,7 +12,7 @@ ghost use Rattle.tmem_tentative.specs.Fits.{IsForVariables};
 ghost use Rattle.tmem_tentative.specs.Right.{IsRight};
 ghost use Rattle.tmem_core.specs.Settle.{is_stale};
 ghost use Rattle.tmem_core.specs.Verdict.{is_nothing};
-ghost use Rattle.tmem_core.specs.Accepted.{IsAccepted, IsAccepted-prop};
+ghost use Rattle.tmem_core.specs.Accepted.{IsAccepted, IsAccepted-prop, IsFolded};
 
 use crate::settled::Settled;
 use crate::waiting::{MAX_WAITING, Waiting};
@@ -37,6 +37,9 @@ pub struct Core {
     /// What is accepted is durable or waits.
     pub ghost counted: { state.count ≡ durable + length waiting },
 
+    /// The state is what those that wait make of a state at the durable number.
+    pub ghost folded: { ∥ IsFolded durable waiting state ∥₁ },
+
     /// At most `MAX_WAITING` wait.
     pub ghost few: { length waiting ≤ 256 },
 
@@ -49,8 +52,8 @@ pub struct Core {
 
 impl Core {
     ghost use Rattle.tmem_core.specs.Held.{state_of, waiting_of, durable_of, is_shut_of};
-    ghost use Rattle.tmem_core.specs.Verdict.{verdict, accepted_of};
-    ghost use Rattle.tmem_core.specs.Settle.{settle_answer, normal_answer, accepted_by, Judges};
+    ghost use Rattle.tmem_core.specs.Verdict.{verdict};
+    ghost use Rattle.tmem_core.specs.Settle.{settle_answer, normal_answer, accepted_by, judged, IsAdded};
 
     /// A core of this state, all of it durable, with room for all that may wait: no other call takes memory. Its only fault
     /// is want of memory.
@@ -147,7 +150,9 @@ impl Core {
         ensures durable { durable_of self.new ≡ durable_of self.old }
         ensures shut { is_shut_of self.new ≡ is_shut_of self.old }
         ensures vars { length (state_of self.new).values ≡ length (state_of self.old).values }
-        ensures verdict { (steps : Meanings) (tx : Tx) → IsRight steps tx attempt.now → Judges (state_of self.old) attempt.now result (verdict steps tx (state_of self.old)) (accepted_of steps tx (state_of self.old)) }
+        ensures verdict { (steps : Meanings) (tx : Tx) → IsRight steps tx attempt.now
+            → result ≡ judged (is_shut_of self.old) (state_of self.old) (durable_of self.old) attempt.now.reads.entries (verdict steps tx (state_of self.old)) }
+        ensures added { (steps : Meanings) (tx : Tx) → IsRight steps tx attempt.now → IsAdded steps tx (state_of self.old) attempt.now result }
     {
         if self.is_shut {
             return Err(Fault::Closed);

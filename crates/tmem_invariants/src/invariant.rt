@@ -18,8 +18,11 @@ pub type Test = Box<dyn Fn(&[i64]) -> bool + Send>;
 /// each list of the footprint's length, and there is a meaning that it then answers.
 #[derive(Drop)]
 pub struct Invariant {
+    /// What it is known by.
     pub name: Name,
+    /// The variables whose values the closure is handed, in this order.
     pub footprint: Vec<u16>,
+    /// The closure.
     pub test: Test,
     ghost not_empty: { 1 ≤ length footprint.items },
     ghost short: { length footprint.items ≤ 16 },

@@ -59,8 +59,7 @@ pub trait Tests {
         proposed: &[Name],
         written: &[(u16, i64)],
     ) -> Option<usize>
-        requires sized { length values.now ≡ vars self.now }
-        requires written { All (λ write. write.0 < vars self.now) written.now }
+        requires { length values.now ≡ vars self.now }
         ensures within { IfSome result (λ place. place < length (names self.now)) }
         ensures first { (m : Meanings) → is_stated self.now m → name_at (names self.now) result ≡ first_false m (names self.now) (touched m written.now registered.now) proposed.now values.now }
 

@@ -12,7 +12,9 @@ use tmem_disk::{Fault, Name};
 /// Invariants in order, over some number of variables.
 #[derive(Drop)]
 pub struct Table {
+    /// The invariants, in order.
     pub entries: Vec<Invariant>,
+    /// How many variables there are.
     pub vars: u16,
     ghost few: { length entries.items ≤ 64 },
     ghost distinct: { IsDistinct (map (λ entry. entry.name) entries.items) },

@@ -9,7 +9,9 @@ use std::alloc::{AllocError, Global};
 /// What a transaction changes: the variables that it writes and the names that it checks.
 #[derive(Drop)]
 pub struct Effect {
+    /// The variables that it writes, each with its value.
     pub writes: Writes,
+    /// The names that it checks.
     pub names: Names,
 }
 

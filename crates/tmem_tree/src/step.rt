@@ -11,8 +11,11 @@ pub const MAX_ARGUMENTS: u8 = 4;
 /// What a step answers.
 #[derive(Clone, Copy, Debug, PartialEq, Eq)]
 pub enum StepAnswer {
+    /// A number for the register.
     Value(i64),
+    /// The transaction retries.
     Retry,
+    /// The transaction gives up, with this code.
     Abort(u16),
 }
 
@@ -23,7 +26,9 @@ pub type Step = Box<dyn Fn(&[i64]) -> StepAnswer + Send + Sync>;
 /// meaning that it then answers.
 #[derive(Drop)]
 pub struct StepEntry {
+    /// How many arguments it takes.
     pub arity: u8,
+    /// The closure.
     pub step: Step,
     ghost few: { arity ≤ 4 },
     ghost callable: { MayCall (Step.pre step) arity },

@@ -45,6 +45,7 @@ pub trait StoredSteps {
 /// Stored steps that are closures.
 #[derive(Drop)]
 pub struct Steps {
+    /// The steps, each at its index.
     pub entries: Vec<StepEntry>,
     ghost few: { length entries.items ≤ 64 },
 }

@@ -2,7 +2,7 @@
 
 /// A transaction: a tree of reads, writes and stored steps over 16 registers (Harris et al. 2005, section 3, with
 /// registers in place of bound variables).
-#[derive(Drop)]
+#[derive(Debug, Drop)]
 pub enum Tx {
     /// Does nothing.
     Skip,

@@ -2,6 +2,7 @@ use Rattle.std.proofs.Common.{length}
 use Rattle.std.proofs.lemmas.List.Elements.{All-push}
 use Rattle.tmem_record.proofs.Folding.{length-values-apply}
 use Rattle.tmem_core.specs.Accepted.{IsAccepted}
+use Rattle.tmem_core.proofs.Folded.{folded-push}
 use Rattle.tmem_core.proofs.Registered.{AreRegistered-with_names}
 use Rattle.tmem_core.proofs.Places.{writes_within, not_empty}
 use Rattle.tmem_core.proofs.core_state.Core.accept.Goals as goal
@@ -26,3 +27,8 @@ invariant_of-self-clause-registered c =
 
 pub returns-clause-vars : goal.returns-clause-vars
 returns-clause-vars c = rw c.accept.ensures (length-values-apply c.args.self.now.state c.args.effect.now)
+
+pub invariant_of-self-clause-folded : goal.invariant_of-self-clause-folded
+invariant_of-self-clause-folded c =
+    let core = c.args.self.now in
+    rw (c.accept.ensures, c.push.ensures) (folded-push core.durable core.waiting c.args.effect.now core.state core.folded)

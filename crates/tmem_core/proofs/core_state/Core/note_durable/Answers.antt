@@ -1,0 +1,18 @@
+use Rattle.std.proofs.Common.{◌≡◌, ℕ, ◌+◌, ◌-◌, length, drop, arith, subst}
+use Rattle.std.proofs.lemmas.List.Elements.{All-drop}
+use Rattle.tmem_core.specs.Accepted.{IsAccepted, IsFolded}
+use Rattle.tmem_core.proofs.Folded.{folded-drop}
+use Rattle.tmem_core.proofs.core_state.Core.note_durable.Goals as goal
+
+pub invariant_of-self-clause-folded : goal.invariant_of-self-clause-folded
+invariant_of-self-clause-folded c =
+    let core = c.args.self.now in
+    let k = c.args.number - core.durable in
+    let same : core.durable + k ≡ c.args.number = omega (arith, c.requires.known) in
+    rw c.drop_oldest.ensures (subst (λ (n : ℕ). ∥ IsFolded n (drop k core.waiting) core.state ∥₁) same
+    (folded-drop core.durable k core.waiting core.state (omega (arith, core.counted, c.requires.accepted)) core.folded))
+
+pub invariant_of-self-clause-each : goal.invariant_of-self-clause-each
+invariant_of-self-clause-each c =
+    let core = c.args.self.now in
+    rw c.drop_oldest.ensures (All-drop (IsAccepted (length core.state.values)) (c.args.number - core.durable) core.waiting core.each)
