@@ -16,6 +16,15 @@ pub fn pair_of(value: &Value) -> Result<(&Value, &Value), ScriptError> {
     }
 }
 
+/// The three items of an array of three.
+pub fn triple_of(value: &Value) -> Result<(&Value, &Value, &Value), ScriptError> {
+    let items = value.as_array().ok_or(ScriptError::NoScript)?;
+    match items.as_slice() {
+        [first, second, third] => Ok((first, second, third)),
+        _ => Err(ScriptError::NoScript),
+    }
+}
+
 /// A whole number from 0 to 65535, written without a point or an exponent.
 pub fn short_of(value: &Value) -> Result<u16, ScriptError> {
     let number = value.as_u64().ok_or(ScriptError::NoScript)?;

@@ -10,6 +10,7 @@ impl fmt::Display for ReplyLine {
     fn fmt<W: fmt::Write>(&self, f: &mut fmt::Formatter<W>) -> fmt::Result {
         match &self.0 {
             Reply::Begun => write!(f, "begun"),
+            Reply::Read { var, value } => write!(f, "read {var} {value}"),
             Reply::Ended => write!(f, "ended"),
             Reply::Idle => write!(f, "idle"),
             Reply::Committed { number, .. } => write!(f, "committed {number}"),
@@ -17,6 +18,8 @@ impl fmt::Display for ReplyLine {
                 write!(f, "seen {at} ")?;
                 f.write_joined(registers.iter(), ",")
             }
+            Reply::Retry => write!(f, "retry"),
+            Reply::Aborted(code) => write!(f, "aborted {code}"),
             Reply::Durable(durable) => write!(f, "durable {durable}"),
             Reply::Looked(durable) => write!(f, "look {durable}"),
             Reply::Opened(count) => write!(f, "opened {count}"),

@@ -1,8 +1,8 @@
 //! `tmem`: plays scripts of durable transactions, and prints a line for each event.
 //!
 //! `words` reads the command line; `script` a script, with `event` and `tx` for its parts and `json`
-//! for what these share; `play` plays what was read on a device; `line` spells the replies; and
-//! `failure` says with which status a run ends.
+//! for what these share; `steps` has the stored steps that a transaction can call; `play` plays what
+//! was read on a device; `line` spells the replies; and `failure` says with which status a run ends.
 #![tactic(auto)]
 
 mod event;
@@ -11,6 +11,7 @@ mod json;
 mod line;
 mod play;
 mod script;
+mod steps;
 #[cfg(test)]
 mod tests;
 mod tx;

@@ -1,21 +1,59 @@
 //! Plays a script on a device in memory.
-ghost use Rattle.std.specs.Prelude.{◌≡◌, IfOk};
+ghost use Rattle.std.specs.Prelude.{◌≡◌, IfOk, length};
+ghost use Rattle.tmem.specs.Steps.{sum_of, difference_of, at_least};
 ghost use Rattle.tmem_world.specs.Represents.{numbers_of, HoldsSession};
 
 use crate::failure::Failure;
 use crate::line::ReplyLine;
 use crate::script::{Line, Script};
+use crate::steps::{add, need, steps_of, sub};
 use std::alloc::Global;
 use std::fmt::Display;
 use std::io::Write;
 use tmem_disk::{Disk, Fault, SimDisk};
+use tmem_tree::{StepAnswer, StoredSteps};
 use tmem_world::{Layout, Reply, World, format};
 
 /// Plays a script on a fresh device, and prints a line for the opening and one for each event. A
 /// refused event is printed as its refusal, and the next is played.
 pub fn play<W: Write>(alloc: Global, script: Script, out: &mut W) -> Result<(), Failure> {
+    let sum = Box::new(
+        alloc,
+        |args: &[i64]| -> StepAnswer
+            requires { length args.now ≡ 2 }
+            ensures { result ≡ sum_of args.now }
+        { add(args) },
+    );
+    let difference = Box::new(
+        alloc,
+        |args: &[i64]| -> StepAnswer
+            requires { length args.now ≡ 2 }
+            ensures { result ≡ difference_of args.now }
+        { sub(args) },
+    );
+    let floor = Box::new(
+        alloc,
+        |args: &[i64]| -> StepAnswer
+            requires { length args.now ≡ 2 }
+            ensures { result ≡ at_least args.now }
+        { need(args) },
+    );
+    let sum = sum.map_err(Fault::from)?;
+    let difference = difference.map_err(Fault::from)?;
+    let floor = floor.map_err(Fault::from)?;
+    let steps = steps_of(alloc, sum, difference, floor)?;
+    play_with(alloc, script, steps, out)
+}
+
+/// Plays a script, with these stored steps.
+fn play_with<S: StoredSteps + Drop, W: Write>(
+    alloc: Global,
+    script: Script,
+    steps: S,
+    out: &mut W,
+) -> Result<(), Failure> {
     let Script { vars, slots, lines } = script;
-    let mut world = fresh_world(alloc, vars, slots)?;
+    let mut world = fresh_world(alloc, vars, slots, steps)?;
     print(out, ReplyLine(Reply::Opened(world.count())))?;
     for line in lines {
         match line {
@@ -26,13 +64,18 @@ pub fn play<W: Write>(alloc: Global, script: Script, out: &mut W) -> Result<(), 
     Ok(())
 }
 
-fn fresh_world(alloc: Global, vars: u16, slots: u16) -> Result<World<SimDisk>, Fault>
+fn fresh_world<S: StoredSteps + Drop>(
+    alloc: Global,
+    vars: u16,
+    slots: u16,
+    steps: S,
+) -> Result<World<SimDisk, S>, Fault>
     ensures { IfOk result (λ world. ((numbers_of world).vars ≡ vars) × HoldsSession world) }
 {
     let layout = Layout::new(vars, slots)?;
     let mut disk = SimDisk::new(alloc, layout.end())?;
     format(&mut disk, vars, slots)?;
-    let opened = World::open(alloc, disk, vars, slots);
+    let opened = World::open(alloc, disk, vars, slots, steps);
     match opened {
         Ok(world) => Ok(world),
         Err(refusal) => Err(refusal.0),
@@ -43,9 +86,9 @@ fn print<W: Write, T: Display + Drop>(out: &mut W, line: T) -> Result<(), Failur
     writeln!(out, "{line}").map_err(|_| Failure::Output)
 }
 
-fn print_state<D: Disk + Drop, W: Write>(
+fn print_state<D: Disk + Drop, S: StoredSteps + Drop, W: Write>(
     out: &mut W,
-    world: &World<D>,
+    world: &World<D, S>,
     vars: u16,
 ) -> Result<(), Failure>
     requires { (numbers_of world.now).vars ≡ vars }

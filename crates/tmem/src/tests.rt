@@ -3,6 +3,7 @@
 mod scripts;
 mod stores;
 mod streams;
+mod trees;
 mod words;
 
 use crate::words::run_words;

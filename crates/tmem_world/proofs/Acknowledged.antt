@@ -1,16 +1,22 @@
 -- What is acknowledged is durable.
-use Rattle.std.proofs.Common.{◌≡◌, inl, inr, ⊎_elim, ℕ, ◌-◌, ◌<◌, ◌≤◌, ◌^◌, Bool, true, false, cond, nat_eq, List, [], ◌∷◌, ◌++◌, refl, ap, subst, sym, arith}
-use Rattle.std.specs.Prelude.{◌⊎◌, MatchBool}
+use Rattle.std.proofs.Common.{◌≡◌, inl, inr, ⊎_elim, ℕ, ◌<◌, ◌≤◌, Bool, true, false, nat_eq, List, [], ◌∷◌, ◌++◌, refl, ap, subst, sym, arith}
+use Rattle.std.specs.Prelude.{◌⊎◌, ℤ, Option, Some, None, Result, Ok, Err, MatchBool}
 use Rattle.tmem_disk.specs.declared.fault.Fault.{Fault}
 use Rattle.tmem_disk.specs.declared.fault.Fault.TheVariants as fault
-use Rattle.tmem_world.specs.declared.tx.Tx.{Tx}
+use Rattle.tmem_tree.specs.declared.tx.Tx.{Tx}
+use Rattle.tmem_tree.specs.Answers.{Meanings}
+use Rattle.tmem_tree.specs.Visited.{visited}
+use Rattle.tmem_tentative.specs.Right.{first_lacking}
+use Rattle.tmem_core.specs.declared.settled.Settled.{Settled}
+use Rattle.tmem_core.specs.declared.settled.Settled.TheVariants.{Committed, Seen, Retry, Aborted}
+use Rattle.tmem_core.specs.Verdict.{map_of, verdict}
+use Rattle.tmem_core.specs.Settle.{judged}
 use Rattle.tmem_world.specs.declared.event.Event.{Event}
 use Rattle.tmem_world.specs.declared.event.Event.TheVariants as event
 use Rattle.tmem_world.specs.declared.event.Reply.{Reply}
 use Rattle.tmem_world.specs.declared.event.Reply.TheVariants as reply
-use Rattle.tmem_world.specs.Verdict.{Verdict, Seen, Committed, verdict}
 use Rattle.tmem_world.specs.Replies.{acknowledged, IsAcknowledged}
-use Rattle.tmem_world.specs.WorldModel.{WorldModel, Attempt, NoAttempt, Begun, Ended, Session, Open, Closed, Gone, present, attempt_at, Begins, TurnsFrom, settled_by, settled_in, settled, FlushesOne, FlushesIn, Reopens, InSession, Allows}
+use Rattle.tmem_world.specs.WorldModel.{WorldModel, Attempt, NoAttempt, Begun, Ended, Session, Open, Closed, Gone, Setting, present, attempt_at, overridden, goes_on, Begins, TurnsFrom, is_closed, settled_as, settled, FlushesOne, FlushesIn, Reopens, InSession, Allows}
 
 -- The reply acknowledges no more than is durable in the run after it, and nothing durable is lost.
 pub record Keeps (m : WorldModel) (r : Reply) (m' : WorldModel) : Type 0 where
@@ -33,36 +39,38 @@ in_session Gone m r m' allowed then is = keeps_same m r (reply.Fault fault.Close
 in_session Open m r m' allowed then is = then is
 in_session Closed m r m' allowed then is = then is
 
-begins : (vars : ℕ) (m : WorldModel) (slot : ℕ) (tx : Tx) (r : Reply) (m' : WorldModel) → Begins vars m slot tx r m' → Keeps m r m'
-begins vars m slot tx reply.Begun m' is = keeps_none m reply.Begun m' refl (ap (λ (x : WorldModel). x.durable) is.1)
-begins vars m slot tx (reply.Fault f) m' is = keeps_none m (reply.Fault f) m' refl (ap (λ (x : WorldModel). x.durable) is.1)
-begins vars m slot tx _ m' is = absurd is
+begins : (set : Setting) (m : WorldModel) (slot : ℕ) (tx : Tx) (r : Reply) (m' : WorldModel) → Begins set m slot tx r m' → Keeps m r m'
+begins set m slot tx reply.Begun m' is = keeps_none m reply.Begun m' refl (ap (λ (x : WorldModel). x.durable) is.1)
+begins set m slot tx (reply.Fault f) m' is = keeps_none m (reply.Fault f) m' refl (ap (λ (x : WorldModel). x.durable) is.1)
+begins set m slot tx _ m' is = absurd is
 
-turns : (a : Attempt) (m : WorldModel) (slot : ℕ) (r : Reply) (m' : WorldModel) → TurnsFrom a m slot r m' → Keeps m r m'
-turns NoAttempt m slot r m' is = keeps_same m r reply.Idle m' (omega arith) is
-turns (Ended plan) m slot r m' is = keeps_same m r reply.Ended m' (omega arith) is
-turns (Begun plan) m slot r m' is =
-    ⊎_elim (λ now. keeps_none m r m' (ap acknowledged now.0) (ap (λ (x : WorldModel). x.durable) now.1)) (λ none. keeps_same m r (reply.Fault fault.Memory) m' (omega arith) none) is
+goes_on-keeps : (need : Option ℕ) (steps : Meanings) (m : WorldModel) (slot : ℕ) (plan : Tx) (reads : List (ℕ × ℤ)) → Keeps m (goes_on need steps m slot plan reads).0 (goes_on need steps m slot plan reads).1
+goes_on-keeps (Some var) steps m slot plan reads = record { acknowledged = omega arith; durable = omega arith }
+goes_on-keeps None steps m slot plan reads = record { acknowledged = omega arith; durable = omega arith }
 
-either : (m : WorldModel) (b : Bool) (x y : Reply × WorldModel) → Keeps m x.0 x.1 → Keeps m y.0 y.1 → Keeps m (cond b x y).0 (cond b x y).1
-either m true x y one other = one
-either m false x y one other = other
+-- both parts of a pair
+as_pair : (m : WorldModel) (r : Reply) (m' : WorldModel) (x : Reply × WorldModel) → (r, m') ≡ x → Keeps m x.0 x.1 → Keeps m r m'
+as_pair m r m' x is keeps = subst (λ (y : Reply × WorldModel). Keeps m y.0 y.1) (sym is) keeps
 
-settles_by : (v : Verdict) (m : WorldModel) (slot : ℕ) (plan : Tx) → Keeps m (settled_by v m slot plan).0 (settled_by v m slot plan).1
-settles_by (Seen at registers) m slot plan = record { acknowledged = omega arith; durable = omega arith }
-settles_by (Committed number registers) m slot plan =
-    either m (nat_eq (number - m.durable) 256) _ _ (record { acknowledged = omega arith; durable = omega arith })
-    (either m (nat_eq number (2 ^ 64 - 1)) _ _ (record { acknowledged = omega arith; durable = omega arith }) (record { acknowledged = omega arith; durable = omega arith }))
+turns : (steps : Meanings) (a : Attempt) (m : WorldModel) (slot : ℕ) (r : Reply) (m' : WorldModel) → TurnsFrom steps a m slot r m' → Keeps m r m'
+turns steps NoAttempt m slot r m' is = keeps_same m r reply.Idle m' (omega arith) is
+turns steps (Ended plan reads) m slot r m' is = keeps_same m r reply.Ended m' (omega arith) is
+turns steps (Begun plan reads) m slot r m' is =
+    let need = first_lacking reads (visited steps plan (overridden reads (map_of (present steps m)))) in
+    ⊎_elim (λ now. as_pair m r m' (goes_on need steps m slot plan reads) now (goes_on-keeps need steps m slot plan reads)) (λ none. keeps_same m r (reply.Fault fault.Memory) m' (omega arith) none) is
 
-settles : (a : Attempt) (m : WorldModel) (slot : ℕ) → Keeps m (settled a m slot).0 (settled a m slot).1
-settles NoAttempt m slot = record { acknowledged = omega arith; durable = omega arith }
-settles (Begun plan) m slot = record { acknowledged = omega arith; durable = omega arith }
-settles (Ended plan) m slot = by_session m.session
-  where
-    by_session : (s : Session) → Keeps m (settled_in s m slot plan).0 (settled_in s m slot plan).1
-    by_session Open = settles_by (verdict plan (present m)) m slot plan
-    by_session Closed = record { acknowledged = omega arith; durable = omega arith }
-    by_session Gone = record { acknowledged = omega arith; durable = omega arith }
+settles_as : (x : Result Settled Fault) (m : WorldModel) (slot : ℕ) (plan : Tx) → Keeps m (settled_as x m slot plan).0 (settled_as x m slot plan).1
+settles_as (Ok (Committed number registers)) m slot plan = record { acknowledged = omega arith; durable = omega arith }
+settles_as (Ok (Seen at registers)) m slot plan = record { acknowledged = omega arith; durable = omega arith }
+settles_as (Ok Retry) m slot plan = record { acknowledged = omega arith; durable = omega arith }
+settles_as (Ok (Aborted code)) m slot plan = record { acknowledged = omega arith; durable = omega arith }
+settles_as (Err f) m slot plan = record { acknowledged = omega arith; durable = omega arith }
+
+settles : (steps : Meanings) (a : Attempt) (m : WorldModel) (slot : ℕ) → Keeps m (settled steps a m slot).0 (settled steps a m slot).1
+settles steps NoAttempt m slot = record { acknowledged = omega arith; durable = omega arith }
+settles steps (Begun plan reads) m slot = record { acknowledged = omega arith; durable = omega arith }
+settles steps (Ended plan reads) m slot =
+    settles_as (judged (is_closed m.session) (present steps m) m.durable reads (verdict steps plan (present steps m))) m slot plan
 
 flushes_one : (m : WorldModel) (r : Reply) (m' : WorldModel) → FlushesOne m r m' → Keeps m r m'
 flushes_one m (reply.Durable n) m' is =
@@ -81,12 +89,12 @@ either_of : (b : Bool) (P Q R : Type 0) → (P → R) → (Q → R) → MatchBoo
 either_of true P Q R one other is = one is
 either_of false P Q R one other is = other is
 
-flushes_in : (s : Session) (m : WorldModel) (r : Reply) (m' : WorldModel) → FlushesIn s m r m' → Keeps m r m'
-flushes_in Open m r m' is =
-    either_of (nat_eq m.durable (present m).count) _ _ (Keeps m r m') (λ so. keeps_same m r (reply.Durable m.durable) m' (omega arith) so)
+flushes_in : (steps : Meanings) (s : Session) (m : WorldModel) (r : Reply) (m' : WorldModel) → FlushesIn steps s m r m' → Keeps m r m'
+flushes_in steps Open m r m' is =
+    either_of (nat_eq m.durable (present steps m).count) _ _ (Keeps m r m') (λ so. keeps_same m r (reply.Durable m.durable) m' (omega arith) so)
     (λ so. either_of (nat_eq m.used 1) _ _ (Keeps m r m') (λ full. keeps_same m r (reply.Fault fault.LogFull) m' (omega arith) full) (λ one. flushes_one m r m' one) so) is
-flushes_in Closed m r m' is = keeps_same m r (reply.Fault fault.Closed) m' (omega arith) is
-flushes_in Gone m r m' is = keeps_same m r (reply.Fault fault.Closed) m' (omega arith) is
+flushes_in steps Closed m r m' is = keeps_same m r (reply.Fault fault.Closed) m' (omega arith) is
+flushes_in steps Gone m r m' is = keeps_same m r (reply.Fault fault.Closed) m' (omega arith) is
 
 reopens : (m : WorldModel) (r : Reply) (m' : WorldModel) → m.durable ≤ m.doubtful → Reopens m r m' → Keeps m r m'
 reopens m (reply.Opened n) m' below is =
@@ -102,14 +110,14 @@ reopens m (reply.Fault f) m' below is = keeps_none m (reply.Fault f) m' refl (sa
 reopens m _ m' below is = absurd is
 
 -- so it is of each event
-pub keeps : (vars : ℕ) (m : WorldModel) (e : Event) (r : Reply) (m' : WorldModel) → m.durable ≤ m.doubtful → Allows vars m e r m' → Keeps m r m'
-keeps vars m (event.Begin slot tx) r m' below is = in_session m.session m r m' _ (begins vars m slot tx r m') is
-keeps vars m (event.Turn slot) r m' below is = in_session m.session m r m' _ (turns (attempt_at m slot) m slot r m') is
-keeps vars m (event.Settle slot) r m' below is =
-    in_session m.session m r m' _ (λ (so : (r, m') ≡ settled (attempt_at m slot) m slot). subst (λ (x : Reply × WorldModel). Keeps m x.0 x.1) (sym so) (settles (attempt_at m slot) m slot)) is
-keeps vars m event.Flush r m' below is = in_session m.session m r m' _ (flushes_in m.session m r m') is
-keeps vars m event.Look r m' below is = in_session m.session m r m' _ (keeps_same m r (reply.Looked m.durable) m' (omega arith)) is
-keeps vars m event.Reopen r m' below is = reopens m r m' below is
+pub keeps : (set : Setting) (m : WorldModel) (e : Event) (r : Reply) (m' : WorldModel) → m.durable ≤ m.doubtful → Allows set m e r m' → Keeps m r m'
+keeps set m (event.Begin slot tx) r m' below is = in_session m.session m r m' _ (begins set m slot tx r m') is
+keeps set m (event.Turn slot) r m' below is = in_session m.session m r m' _ (turns set.steps (attempt_at m slot) m slot r m') is
+keeps set m (event.Settle slot) r m' below is =
+    in_session m.session m r m' _ (λ (so : (r, m') ≡ settled set.steps (attempt_at m slot) m slot). as_pair m r m' _ so (settles set.steps (attempt_at m slot) m slot)) is
+keeps set m event.Flush r m' below is = in_session m.session m r m' _ (flushes_in set.steps m.session m r m') is
+keeps set m event.Look r m' below is = in_session m.session m r m' _ (keeps_same m r (reply.Looked m.durable) m' (omega arith)) is
+keeps set m event.Reopen r m' below is = reopens m r m' below is
 
 -- what these replies and one more acknowledge
 pub acknowledged-append : (rs : List Reply) (r : Reply) (number : ℕ) → IsAcknowledged (rs ++ r ∷ []) number → IsAcknowledged rs number ⊎ (number < acknowledged r)

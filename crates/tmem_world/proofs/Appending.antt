@@ -4,7 +4,8 @@ use Rattle.std.specs.Prelude.{slice_get}
 use Rattle.std.proofs.lemmas.Bool.{cases_eq}
 use Rattle.tmem_disk.specs.Disk.{DeviceView, IsDevice, LeavesOnly, AtEachMoment, Elapses, SameOutside, Rewritten}
 use Rattle.tmem_gate.specs.Gate.{IsOpenAt, IsClosed, HasBody, IsClosedOver, IsOpenOver}
-use Rattle.tmem_world.specs.State.{Effect, State, apply}
+use Rattle.tmem_record.specs.State.{State, apply}
+use Rattle.tmem_record.specs.declared.effect.Effect.{Effect}
 use Rattle.tmem_world.specs.Layout.{image_place, slot_place}
 use Rattle.tmem_world.specs.Spelling.{block_body, image_body, batch_bytes, IsRecord}
 use Rattle.tmem_world.specs.Stands.{Holds, HoldsLog, StandsFor, used_of, replayed}

@@ -1,11 +1,19 @@
 -- The writes of a record, and the batch around them.
-use Rattle.std.proofs.Common.{◌≡◌, ◌<◌, ◌≤◌, ◌+◌, ◌*◌, ◌^◌, ℕ, zero, suc, ℤ, pos, List, [], ◌∷◌, ◌++◌, length, get_or, refl, sym, ◌∙◌, ap, subst, arith}
-use Rattle.std.specs.Prelude.{Any}
-use Rattle.std.proofs.lemmas.List.{append-nil, length_push}
+use Rattle.std.proofs.Common.{◌≡◌, ◌<◌, ◌≤◌, ◌+◌, ◌*◌, ◌^◌, ◌==◌, ℕ, zero, suc, ℤ, pos, Bool, true, false, cond, nat_eq, List, [], ◌∷◌, ◌++◌, length, get_or, Some, is_some, IsNone, refl, sym, ◌∙◌, ap, subst, arith}
+use Rattle.std.specs.Prelude.{Any, FitsSigned, Option, None, Result, Ok, Err, IfOk, IfSome, IfNone}
+use Rattle.std.specs.Int.{w64}
+use Rattle.std.proofs.lemmas.Bool.Decides.{nat_tests}
+use Rattle.std.proofs.lemmas.List.{append-nil, length_push, length-map, get_or-map}
+use Rattle.std.proofs.lemmas.List.Folds.{Any-from_list_any}
 use Rattle.std.proofs.lemmas.List.Concat.{flat_map-append}
 use Rattle.std.proofs.lemmas.List.Elements.{All-push, All-get_or, All-nil}
-use Rattle.tmem_world.specs.State.{Effect}
-use Rattle.tmem_world.specs.Spelling.{value_bytes, write_bytes, record_bytes, batch_bytes, AreDistinct, IsRecord, HasValues}
+use Rattle.tmem_disk.specs.Name.{IsName}
+use Rattle.tmem_record.specs.Names.{AreChecks}
+use Rattle.tmem_record.specs.Writes.{variables, look, with_write, AreWrites}
+use Rattle.tmem_record.specs.declared.effect.Effect.{Effect}
+use Rattle.tmem_record.proofs.Writing.{is_some-look, distinct-push}
+use Rattle.tmem_core.specs.Accepted.{IsAccepted}
+use Rattle.tmem_world.specs.Spelling.{value_bytes, write_bytes, record_bytes, batch_bytes, IsRecord, HasValues}
 use Rattle.tmem_world.specs.Reading.{StandsAt, number_bytes, writes_bytes, HoldsWrites, IsHead}
 use Rattle.tmem_world.specs.Parts.{BeginsWith}
 use Rattle.tmem_world.proofs.Lengths.{length-write_bytes, length-flat, length-batch_bytes}
@@ -46,32 +54,53 @@ one_write_more at ws w bytes before here =
     (moved (at + 10 * length ws) (at + length (writes_bytes ws)) (write_bytes w) bytes (ap (λ (n : ℕ). at + n) (sym (length-writes_bytes ws))) here))
 
 -- two writes of distinct places are of two variables
-apart : (ws : List (ℕ × ℤ)) (i j : ℕ) (d : ℕ × ℤ) → AreDistinct ws → i < j → j < length ws → (get_or ws j d).0 ≡ (get_or ws i d).0 → ⊥
-apart [] i j d distinct before below same = absurd (omega arith)
-apart (w ∷ ws) zero zero d distinct before below same = absurd (omega arith)
-apart (w ∷ ws) zero (suc j) d distinct before below same = All-get_or (λ (u : ℕ × ℤ). u.0 ≡ w.0 → ⊥) ws j d (omega arith) distinct.0 same
-apart (w ∷ ws) (suc i) zero d distinct before below same = absurd (omega arith)
-apart (w ∷ ws) (suc i) (suc j) d distinct before below same = apart ws i j d distinct.1 (omega arith) (omega arith) same
+apart : (ws : List (ℕ × ℤ)) (i j : ℕ) (d : ℕ × ℤ) → AreWrites ws → i < j → j < length ws → (get_or ws j d).0 ≡ (get_or ws i d).0 → ⊥
+apart ws i j d are before below same =
+    let var : ℕ × ℤ → ℕ = λ w. w.0 in
+    let all : length (variables ws) ≡ length ws = length-map ws var in
+    let first = get_or-map var ws i d 0 (omega arith) in
+    let second = get_or-map var ws j d 0 below in
+    are.distinct i j 0 before (omega (arith, all)) (first ∙ sym same ∙ sym second)
 
--- a variable that stands in none of the writes joins them
-distinct_push : (ws : List (ℕ × ℤ)) (w : ℕ × ℤ) → AreDistinct ws → (Any (λ (u : ℕ × ℤ). u.0 ≡ w.0) ws → ⊥) → AreDistinct (ws ++ w ∷ [])
-distinct_push [] w distinct new = (All-nil (λ (u : ℕ × ℤ). u.0 ≡ w.0 → ⊥), tt)
-distinct_push (v ∷ ws) w distinct new = (
-  All-push (λ (u : ℕ × ℤ). u.0 ≡ v.0 → ⊥) ws w distinct.0 (λ same. new (0, v, omega arith, refl, sym same)),
-  distinct_push ws w distinct.1 (λ any. new (suc any.0, any.1, omega (arith, any.2), any.3, any.4)),
-)
+-- a variable that is not written joins the writes at their end
+with_write_new : (ws : List (ℕ × ℤ)) (var : ℕ) (value : ℤ) → IsNone (look ws var) → with_write ws var value ≡ ws ++ (var, value) ∷ []
+with_write_new [] var value new = refl
+with_write_new (w ∷ ws) var value new = by (nat_eq var w.0) (with_write_new ws var value) new
+  where
+    by : (b : Bool) → (IsNone (look ws var) → with_write ws var value ≡ ws ++ (var, value) ∷ []) → IsNone (cond b (Some w.1) (look ws var)) → cond b ((var, value) ∷ ws) (w ∷ with_write ws var value) ≡ w ∷ (ws ++ (var, value) ∷ [])
+    by true rest written = cc
+    by false rest new = ap (λ (l : List (ℕ × ℤ)). w ∷ l) (rest new)
+
+-- a variable that is written stands in one of the writes
+written_there : (ws : List (ℕ × ℤ)) (var : ℕ) → is_some (look ws var) ≡ true → Any (λ (u : ℕ × ℤ). u.0 ≡ var) ws
+written_there ws var written =
+    let any = Any-from_list_any (λ (u : ℕ × ℤ). var == u.0) ws (sym (is_some-look ws var) ∙ written) in
+    (any.0, any.1, any.2, any.3, sym (grind (arith, nat_tests, any.4)))
 
 pub holds_none : (vars from : ℕ) (bytes : List ℕ) → HoldsWrites vars from 0 [] bytes
-holds_none vars from bytes = record { counted = refl; within = All-nil (λ (w : ℕ × ℤ). w.0 < vars); distinct = tt; there = no_writes from bytes }
-
-pub holds_push : (vars from i : ℕ) (ws : List (ℕ × ℤ)) (w : ℕ × ℤ) (bytes : List ℕ) → HoldsWrites vars from i ws bytes → StandsAt (from + 10 * i) (write_bytes w) bytes → (w.0 < vars) × (Any (λ (u : ℕ × ℤ). u.0 ≡ w.0) ws → ⊥)
-    → HoldsWrites vars from (i + 1) (ws ++ w ∷ []) bytes
-holds_push vars from i ws w bytes holds here follows = record {
-  counted = length_push ws w ∙ ap (λ (n : ℕ). n + 1) holds.counted;
-  within = All-push (λ (u : ℕ × ℤ). u.0 < vars) ws w holds.within follows.0;
-  distinct = distinct_push ws w holds.distinct follows.1;
-  there = one_write_more from ws w bytes holds.there (moved (from + 10 * i) (from + 10 * length ws) (write_bytes w) bytes (ap (λ (n : ℕ). from + 10 * n) (sym holds.counted)) here);
+holds_none vars from bytes = record {
+  counted = refl;
+  within = All-nil (λ (w : ℕ × ℤ). w.0 < vars);
+  are_writes = record { few = omega arith; distinct = λ i j d before below. absurd (omega (arith, below)) };
+  there = no_writes from bytes;
 }
+
+pub holds_push : (vars from i : ℕ) (ws : List (ℕ × ℤ)) (var : ℕ) (value : ℤ) (bytes : List ℕ) → HoldsWrites vars from i ws bytes → StandsAt (from + 10 * i) (write_bytes (var, value)) bytes → i < 64 → var < vars → IsNone (look ws var)
+    → HoldsWrites vars from (i + 1) (with_write ws var value) bytes
+holds_push vars from i ws var value bytes holds here room exists new =
+    subst (λ (l : List (ℕ × ℤ)). HoldsWrites vars from (i + 1) l bytes) (sym (with_write_new ws var value new)) (record {
+      counted = length_push ws (var, value) ∙ ap (λ (n : ℕ). n + 1) holds.counted;
+      within = All-push (λ (u : ℕ × ℤ). u.0 < vars) ws (var, value) holds.within exists;
+      are_writes = distinct-push ws var value new (omega (arith, holds.counted)) holds.are_writes;
+      there = one_write_more from ws (var, value) bytes holds.there (moved (from + 10 * i) (from + 10 * length ws) (write_bytes (var, value)) bytes (ap (λ (n : ℕ). from + 10 * n) (sym holds.counted)) here);
+    })
+
+pub values_none : HasValues []
+values_none = All-nil (λ (u : ℕ × ℤ). FitsSigned w64 u.1)
+
+-- and the values stay of 64 bits
+pub values_push : (ws : List (ℕ × ℤ)) (var : ℕ) (value : ℤ) → HasValues ws → FitsSigned w64 value → IsNone (look ws var) → HasValues (with_write ws var value)
+values_push ws var value values fits new = subst HasValues (sym (with_write_new ws var value new)) (All-push (λ (u : ℕ × ℤ). FitsSigned w64 u.1) ws (var, value) values fits)
 
 -- the variable that stands at a place is that of each list of writes that is spelled there
 one_var : (vars from count i : ℕ) (ws : List (ℕ × ℤ)) (w d : ℕ × ℤ) (bytes : List ℕ) → vars < 2 ^ 16 → w.0 < 2 ^ 16 → HoldsWrites vars from count ws bytes → i < count → StandsAt (from + 10 * i) (write_bytes w) bytes → (get_or ws i d).0 ≡ w.0
@@ -80,28 +109,28 @@ one_var vars from count i ws w d bytes few fits holds below here =
     let exists : (get_or ws i d).0 < vars = All-get_or (λ (u : ℕ × ℤ). u.0 < vars) ws i d within holds.within in
     one_number_at 2 (from + 10 * i) (get_or ws i d).0 w.0 bytes (omega arith) fits (var_of (from + 10 * i) (get_or ws i d) bytes (write_there from ws bytes i d within holds.there)) (var_of (from + 10 * i) w bytes here)
 
--- where no list of writes may follow, none is spelled
-pub none_follows : (vars from i count : ℕ) (ws : List (ℕ × ℤ)) (w : ℕ × ℤ) (bytes : List ℕ) → vars < 2 ^ 16 → w.0 < 2 ^ 16 → HoldsWrites vars from i ws bytes → i < count → StandsAt (from + 10 * i) (write_bytes w) bytes
-    → ((w.0 < vars) × (Any (λ (u : ℕ × ℤ). u.0 ≡ w.0) ws → ⊥) → ⊥) → (others : List (ℕ × ℤ)) → HoldsWrites vars from count others bytes → ⊥
-none_follows vars from i count ws w bytes few fits holds below here refused others whole = refused (exists, new)
-  where
-    d : ℕ × ℤ
-    d = (0, pos 0)
+-- where the write that stands next is of a variable that does not exist, or that is written, no list of writes is spelled
+module _ (vars from i count : ℕ) (ws : List (ℕ × ℤ)) (w : ℕ × ℤ) (bytes : List ℕ) (few : vars < 2 ^ 16) (fits : w.0 < 2 ^ 16) (holds : HoldsWrites vars from i ws bytes) (below : i < count) (here : StandsAt (from + 10 * i) (write_bytes w) bytes) where
+  first_of : ℕ × ℤ
+  first_of = (0, pos 0)
 
-    here_too : (get_or others i d).0 ≡ w.0
-    here_too = one_var vars from count i others w d bytes few fits whole below here
+  here_too : (others : List (ℕ × ℤ)) → HoldsWrites vars from count others bytes → (get_or others i first_of).0 ≡ w.0
+  here_too others whole = one_var vars from count i others w first_of bytes few fits whole below here
 
-    exists : w.0 < vars
-    exists = subst (λ (n : ℕ). n < vars) here_too (All-get_or (λ (u : ℕ × ℤ). u.0 < vars) others i d (omega (arith, whole.counted)) whole.within)
+  pub none_within : vars ≤ w.0 → (others : List (ℕ × ℤ)) → HoldsWrites vars from count others bytes → ⊥
+  none_within beyond others whole =
+      let exists : w.0 < vars = subst (λ (n : ℕ). n < vars) (here_too others whole) (All-get_or (λ (u : ℕ × ℤ). u.0 < vars) others i first_of (omega (arith, whole.counted)) whole.within) in
+      absurd (omega arith)
 
-    new : Any (λ (u : ℕ × ℤ). u.0 ≡ w.0) ws → ⊥
-    new any =
-        let before : any.0 < i = omega (arith, any.2, holds.counted) in
-        let there = write_there from ws bytes any.0 any.1 any.2 holds.there in
-        let is_known : (get_or ws any.0 any.1).0 ≡ w.0 = ap (λ (u : ℕ × ℤ). u.0) any.3 ∙ any.4 in
-        let known : (get_or ws any.0 any.1).0 < 2 ^ 16 = omega (arith, is_known) in
-        let same = one_var vars from count any.0 others (get_or ws any.0 any.1) d bytes few known whole (omega arith) there in
-        apart others any.0 i d whole.distinct before (omega (arith, whole.counted)) (here_too ∙ sym (same ∙ is_known))
+  pub none_apart : is_some (look ws w.0) ≡ true → (others : List (ℕ × ℤ)) → HoldsWrites vars from count others bytes → ⊥
+  none_apart written others whole =
+      let any = written_there ws w.0 written in
+      let before : any.0 < i = omega (arith, any.2, holds.counted) in
+      let there = write_there from ws bytes any.0 any.1 any.2 holds.there in
+      let is_known : (get_or ws any.0 any.1).0 ≡ w.0 = ap (λ (u : ℕ × ℤ). u.0) any.3 ∙ any.4 in
+      let known : (get_or ws any.0 any.1).0 < 2 ^ 16 = omega (arith, is_known) in
+      let same = one_var vars from count any.0 others (get_or ws any.0 any.1) first_of bytes few known whole (omega arith) there in
+      apart others any.0 i first_of whole.are_writes before (omega (arith, whole.counted)) (here_too others whole ∙ sym (same ∙ is_known))
 
 abbrev behind_count : Effect → List ℕ
 behind_count e = writes_bytes e.writes ++ 0 ∷ []
@@ -167,14 +196,43 @@ module _ (first : ℕ) (e : Effect) (bytes : List ℕ) where
 pub one_head : (first n m : ℕ) (bytes : List ℕ) → IsHead first n bytes → IsHead first m bytes → n ≡ m
 one_head first n m bytes one other = sym (same_byte 18 n bytes one.count) ∙ same_byte 18 m bytes other.count
 
--- a record and its writes
-pub record_of : (vars first n : ℕ) (ws : List (ℕ × ℤ)) (bytes : List ℕ) → IsHead first n bytes → HoldsWrites vars 19 n ws bytes → HasValues ws → IsRecord vars (record { writes = ws })
-record_of vars first n ws bytes head holds values = record { some = omega (arith, head.some, holds.counted); few = omega (arith, head.few, holds.counted); within = holds.within; distinct = holds.distinct; numbers = values }
+-- no names are checked
+no_checks : AreChecks []
+no_checks = record { few = omega arith; names = All-nil IsName; distinct = λ i j d before below. absurd (omega (arith, below)) }
 
-pub batch_of : (vars first n : ℕ) (ws : List (ℕ × ℤ)) (bytes : List ℕ) → IsHead first n bytes → HoldsWrites vars 19 n ws bytes → BeginsWith bytes (batch_bytes 1 first (record { writes = ws } ∷ []))
-batch_of vars first n ws bytes head holds = join_batch first (record { writes = ws }) bytes (subst (λ (k : ℕ). IsHead first k bytes) (sym holds.counted) head) holds.there
+-- a record and its writes
+pub record_of : (vars first n : ℕ) (e : Effect) (bytes : List ℕ) → IsHead first n bytes → HoldsWrites vars 19 n e.writes bytes → e.names ≡ [] → HasValues e.writes → IsRecord vars e
+record_of vars first n e bytes head holds none values = record {
+  effect = record { writes = holds.are_writes; within = holds.within; names = subst AreChecks (sym none) no_checks };
+  some = omega (arith, head.some, holds.counted);
+  no_names = none;
+  numbers = values;
+}
+
+pub batch_of : (vars first n : ℕ) (e : Effect) (bytes : List ℕ) → IsHead first n bytes → HoldsWrites vars 19 n e.writes bytes → BeginsWith bytes (batch_bytes 1 first (e ∷ []))
+batch_of vars first n e bytes head holds = join_batch first e bytes (subst (λ (k : ℕ). IsHead first k bytes) (sym holds.counted) head) holds.there
 
 pub no_batch : (vars first n : ℕ) (bytes : List ℕ) → IsHead first n bytes → ((ws : List (ℕ × ℤ)) → HoldsWrites vars 19 n ws bytes → ⊥) → (e : Effect) → IsRecord vars e → BeginsWith bytes (batch_bytes 1 first (e ∷ [])) → ⊥
 no_batch vars first n bytes head none e fits begins =
-    let parts = split_batch first e bytes fits.some fits.few begins in
-    none e.writes (record { counted = one_head first (length e.writes) n bytes parts.0 head; within = fits.within; distinct = fits.distinct; there = parts.1 })
+    let parts = split_batch first e bytes fits.some fits.effect.writes.few begins in
+    none e.writes (record { counted = one_head first (length e.writes) n bytes parts.0 head; within = fits.effect.within; are_writes = fits.effect.writes; there = parts.1 })
+
+-- an effect that is accepted and checks no name is one that a record can hold
+pub accepted_record : (vars : ℕ) (e : Effect) → IsAccepted vars e → e.names ≡ [] → HasValues e.writes → IsRecord vars e
+accepted_record vars e accepted none values = record { effect = accepted.effect; some = some e.writes refl; no_names = none; numbers = values }
+  where
+    some : (ws : List (ℕ × ℤ)) → e.writes ≡ ws → 1 ≤ length ws
+    some [] is = absurd (accepted.not_empty (record { writes = is; names = none }))
+    some (w ∷ ws) is = omega arith
+
+-- what three facts give of what was found, if anything was
+pub each_found : {T E : Type 0} {P Q R S : T → Type 0} → (r : Result (Option T) E) → IfOk r (λ o. IfSome o P) → IfOk r (λ o. IfSome o Q) → IfOk r (λ o. IfSome o R) → ((x : T) → P x → Q x → R x → S x) → IfOk r (λ o. IfSome o S)
+each_found (Ok (Some x)) p q r from = from x p q r
+each_found (Ok None) p q r from = tt
+each_found (Err e) p q r from = tt
+
+-- and what one fact gives where nothing was
+pub none_found : {T E P Q : Type 0} → (r : Result (Option T) E) → IfOk r (λ o. IfNone o P) → (P → Q) → IfOk r (λ o. IfNone o Q)
+none_found (Ok (Some x)) p from = tt
+none_found (Ok None) p from = from p
+none_found (Err e) p from = tt

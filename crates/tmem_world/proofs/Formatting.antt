@@ -8,7 +8,7 @@ use Rattle.std.proofs.lemmas.List.Elements.{All-replicate}
 use Rattle.byteorder.specs.Endian.{little_bytes}
 use Rattle.tmem_disk.specs.Disk.{DeviceView, IsDevice, IsSynced, LeavesOnly, SameOutside, SameSeenOutside}
 use Rattle.tmem_gate.specs.Gate.{IsClosed, IsOpenOver}
-use Rattle.tmem_world.specs.State.{first_state}
+use Rattle.tmem_record.specs.State.{first_state}
 use Rattle.tmem_world.specs.Layout.{pages_of, image_place, slot_place, end_place}
 use Rattle.tmem_world.specs.Spelling.{block_body, value_bytes, pages_body, image_body}
 use Rattle.tmem_world.specs.Stands.{StandsFor}
@@ -88,7 +88,7 @@ module _ (vars slots : ℕ) (some : 1 ≤ slots) (zeroed with_image whole : List
   formatted gen numbers = stands_unused (record {
     block = numbers;
     copy_0 = subst (λ (at : ℕ). IsOpenOver at (image_body vars 1 (first_state vars)) whole) first_place (spelled_image gen);
-    fits = record { count = omega arith; values = length-replicate vars (pos 0); numbers = All-replicate (FitsSigned w64) vars (pos 0) zero_fits };
+    fits = record { count = omega arith; no_names = refl; values = length-replicate vars (pos 0); numbers = All-replicate (FitsSigned w64) vars (pos 0) zero_fits };
     copy_1 = closed_at_zero (image_place vars 1) whole (later_get (image_place vars 1) (omega arith) (omega arith));
     slot_0 = closed_at_zero (slot_place vars 0) whole (later_get (slot_place vars 0) (omega arith) (omega arith));
     behind = λ k one below. closed_at_zero (slot_place vars k) whole (later_get (slot_place vars k) (omega arith) (omega arith));

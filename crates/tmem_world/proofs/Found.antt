@@ -7,7 +7,8 @@ use Rattle.tmem_disk.specs.declared.fault.Fault.{Fault}
 use Rattle.tmem_disk.specs.declared.fault.Fault.TheVariants.{NotFormatted, Damaged, Geometry}
 use Rattle.tmem_gate.specs.Gate.{IsOpenAt, IsOpenOver}
 use Rattle.tmem_world.specs.Calls.{IsWhy, IsRefusal}
-use Rattle.tmem_world.specs.State.{Effect, State}
+use Rattle.tmem_record.specs.State.{State}
+use Rattle.tmem_record.specs.declared.effect.Effect.{Effect}
 use Rattle.tmem_world.specs.Layout.{image_place, slot_place, image_size}
 use Rattle.tmem_world.specs.Spelling.{block_body, image_body, batch_bytes, IsRecord}
 use Rattle.tmem_world.specs.Parts.{BeginsWith, HoldsImage, ClosedBehind, HoldsSlots}
@@ -52,20 +53,20 @@ front_of c cell at n front body place read short =
 
 -- an open slot 0 over an image whose count has no next
 pub too_many : (vars slots count : ℕ) (log : Option Effect) (c : List ℕ) → IsOpenAt (slot_place vars 0) c → 2 ^ 64 ≤ count + 1 → HoldsSlots vars slots count log c → ⊥
-too_many vars slots count None c is_open last holds = (holds.slot_0 (record { count = count; values = [] }) refl).not_open is_open
-too_many vars slots count (Some e) c is_open last holds = let fits = (holds.slot_0 (record { count = count; values = [] }) refl).1 in absurd (omega (arith, fits))
+too_many vars slots count None c is_open last holds = (holds.slot_0 (record { count = count; names = []; values = [] }) refl).not_open is_open
+too_many vars slots count (Some e) c is_open last holds = let fits = (holds.slot_0 (record { count = count; names = []; values = [] }) refl).1 in absurd (omega (arith, fits))
 
 -- an open slot 0 whose body begins with no batch
 pub no_log : (vars slots count at n : ℕ) (log : Option Effect) (c body : List ℕ) → at ≡ slot_place vars 0 → n ≡ 4095 → IsOpenAt (slot_place vars 0) c → body ≡ slice_range c (at + 1) (at + 1 + n)
     → ((e : Effect) → IsRecord vars e → BeginsWith body (batch_bytes 1 count (e ∷ [])) → ⊥) → HoldsSlots vars slots count log c → ⊥
-no_log vars slots count at n None c body place size is_open read none holds = (holds.slot_0 (record { count = count; values = [] }) refl).not_open is_open
+no_log vars slots count at n None c body place size is_open read none holds = (holds.slot_0 (record { count = count; names = []; values = [] }) refl).not_open is_open
 no_log vars slots count at n (Some e) c body place size is_open read none holds =
-    let cell = holds.slot_0 (record { count = count; values = [] }) refl in
+    let cell = holds.slot_0 (record { count = count; names = []; values = [] }) refl in
     none e cell.0 (begins vars count at n e c body place size cell.0 read cell.2)
   where
     begins : (vars count at n : ℕ) (e : Effect) (c body : List ℕ) → at ≡ slot_place vars 0 → n ≡ 4095 → IsRecord vars e → body ≡ slice_range c (at + 1) (at + 1 + n) → IsOpenOver (slot_place vars 0) (batch_bytes 1 count (e ∷ [])) c
         → BeginsWith body (batch_bytes 1 count (e ∷ []))
-    begins vars count at n e c body place size fits read cell = record { begins = front_of c (slot_place vars 0) at n (batch_bytes 1 count (e ∷ [])) body place read (omega (arith, size, fits.few, length-batch_bytes 1 count e)) ∙ cell.body }
+    begins vars count at n e c body place size fits read cell = record { begins = front_of c (slot_place vars 0) at n (batch_bytes 1 count (e ∷ [])) body place read (omega (arith, size, fits.effect.writes.few, length-batch_bytes 1 count e)) ∙ cell.body }
 
 -- slot 0 is open over the batch that its body begins with
 pub log_found : (vars slots count at n : ℕ) (e : Effect) (c body : List ℕ) → at ≡ slot_place vars 0 → n ≡ 4095 → IsOpenAt (slot_place vars 0) c → body ≡ slice_range c (at + 1) (at + 1 + n) → IsRecord vars e → count + 1 < 2 ^ 64
@@ -76,7 +77,7 @@ log_found vars slots count at n e c body place size is_open read fits room begin
     omega (arith, same),
     subst (λ (k : ℕ). IsOpenOver (slot_place vars 0) (batch_bytes 1 k (e ∷ [])) c) (sym same) (record {
       gate = is_open;
-      body = sym (front_of c (slot_place vars 0) at n (batch_bytes 1 count (e ∷ [])) body place read (omega (arith, size, fits.few, length-batch_bytes 1 count e))) ∙ begins.begins;
+      body = sym (front_of c (slot_place vars 0) at n (batch_bytes 1 count (e ∷ [])) body place read (omega (arith, size, fits.effect.writes.few, length-batch_bytes 1 count e))) ∙ begins.begins;
     }),
   );
   closed = closed;

@@ -1,6 +1,6 @@
 -- An image and its parts.
 use Rattle.std.proofs.Common.{◌≡◌, ◌+◌, ◌*◌, ◌-◌, ℕ, List, ◌++◌, length, refl, sym, ◌∙◌, ap, arith}
-use Rattle.tmem_world.specs.State.{State}
+use Rattle.tmem_record.specs.State.{State}
 use Rattle.tmem_world.specs.Layout.{pages_of, image_size}
 use Rattle.tmem_world.specs.Spelling.{pages_body, image_body}
 use Rattle.tmem_world.specs.Reading.{StandsAt, number_bytes, zero_bytes, values_bytes, IsFramed}

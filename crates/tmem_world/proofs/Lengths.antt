@@ -4,7 +4,8 @@ use Rattle.std.proofs.lemmas.List.{length-replicate}
 use Rattle.std.specs.Int.{w64, cast_unsigned}
 use Rattle.byteorder.specs.Endian.{little_bytes}
 use Rattle.byteorder.specs.Numbers.{length-bytes_low_first}
-use Rattle.tmem_world.specs.State.{Effect, State}
+use Rattle.tmem_record.specs.State.{State}
+use Rattle.tmem_record.specs.declared.effect.Effect.{Effect}
 use Rattle.tmem_world.specs.Layout.{pages_of}
 use Rattle.tmem_world.specs.Spelling.{block_body, value_bytes, pages_body, image_body, write_bytes, record_bytes, batch_bytes}
 

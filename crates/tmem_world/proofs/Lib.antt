@@ -1,7 +1,6 @@
 pub mod Acknowledged
 pub mod Appending
 pub mod Batches
-pub mod Effects
 pub mod Flushed
 pub mod Flushing
 pub mod Formatting
@@ -14,15 +13,12 @@ pub mod Points
 pub mod Ranges
 pub mod Recovering
 pub mod Reopened
-pub mod Rows
 pub mod Runs
 pub mod Serial
 pub mod Settled
 pub mod Settling
 pub mod Spelled
 pub mod Standing
-pub mod States
 pub mod Still
 pub mod Unique
-pub mod Writing
 pub mod Zeros

@@ -8,13 +8,16 @@ use Rattle.tmem_world.specs.declared.session.Slot.{Slot}
 use Rattle.tmem_world.specs.declared.session.Slot.TheVariants as slot
 use Rattle.tmem_world.specs.declared.session.Session as core
 use Rattle.tmem_world.specs.declared.world.World.{World}
-use Rattle.tmem_world.specs.State.{Effect, State}
-use Rattle.tmem_world.specs.declared.tx.Tx.{Tx}
-use Rattle.tmem_world.specs.Verdict.{serial_state}
+use Rattle.tmem_record.specs.State.{State}
+use Rattle.tmem_record.specs.declared.effect.Effect.{Effect}
+use Rattle.tmem_tree.specs.declared.tx.Tx.{Tx}
+use Rattle.tmem_tree.specs.Answers.{Meanings}
+use Rattle.tmem_core.specs.Held.{state_of, waiting_of, durable_of, is_shut_of}
+use Rattle.tmem_core.specs.Verdict.{serial_state}
 use Rattle.tmem_world.specs.Stands.{StandsFor}
 use Rattle.tmem_world.specs.Calls.{IsWhy}
 use Rattle.tmem_world.specs.WorldModel.{opening, cut}
-use Rattle.tmem_world.specs.Represents.{HasSession, Represents, session_of, effects}
+use Rattle.tmem_world.specs.Represents.{HasSession, Represents, session_of}
 use Rattle.tmem_world.proofs.Reopened.{no_slots_held}
 
 abbrev none_of : (A : Type 0) → List A
@@ -33,24 +36,25 @@ nothing_taken : (n : ℕ) → take n (none_of Tx) ≡ none_of Tx
 nothing_taken zero = refl
 nothing_taken (suc n) = refl
 
-nothing_behind : (n : ℕ) (es : List Effect) → es ≡ [] → es ≡ drop n (effects [])
+nothing_behind : (n : ℕ) (es : List Effect) → es ≡ [] → es ≡ drop n (none_of Effect)
 nothing_behind zero es none = none
 nothing_behind (suc n) es none = none
 
-module _ {D : Type 0} {d : _} (w : World D d) (s : core.Session) (failures : ℕ) (seen : List ℕ) (some : w.session ≡ Some s) (durable : w.durable ≡ s.core.state.count) (doubtful : w.doubtful ≡ s.core.state.count) (fresh : s.core.waiting.items ≡ [])
-    (running : s.is_closed ≡ false) (sized : length w.slots.items ≡ 16) (emptied : All (λ (x : Slot). x ≡ slot.Empty) w.slots.items) (same : (d.view w.disk).failures ≡ failures)
-    (stands : (d.view w.disk).keeps_model → StandsFor w.layout.vars w.layout.slots s.used s.core.state seen) (reads : Reads (d.view w.disk) seen) (synced : IsSynced (d.view w.disk)) where
-  cut_here : cut (opening s.core.state s.used failures) s.core.state.count ≡ s.core.state
-  cut_here = ap (serial_state s.core.state) (nothing_taken (s.core.state.count - s.core.state.count))
+module _ {D S : Type 0} {d t : _} (steps : Meanings) (w : World D S d t) (s : core.Session) (failures : ℕ) (seen : List ℕ) (some : w.session ≡ Some s) (durable : w.durable ≡ (state_of s.core).count) (doubtful : w.doubtful ≡ (state_of s.core).count) (fresh : waiting_of s.core ≡ []) (all : durable_of s.core ≡ (state_of s.core).count)
+    (running : is_shut_of s.core ≡ false) (sized : length w.slots.items ≡ 16) (emptied : All (λ (x : Slot). x ≡ slot.Empty) w.slots.items) (same : (d.view w.disk).failures ≡ failures)
+    (stands : (d.view w.disk).keeps_model → StandsFor w.layout.vars w.layout.slots s.used (state_of s.core) seen) (reads : Reads (d.view w.disk) seen) (synced : IsSynced (d.view w.disk)) where
+  cut_here : cut steps (opening (state_of s.core) s.used failures) (state_of s.core).count ≡ (state_of s.core)
+  cut_here = ap (serial_state steps (state_of s.core)) (nothing_taken ((state_of s.core).count - (state_of s.core).count))
 
   -- a world that was just opened is where a run begins
-  pub opens : Represents w (opening s.core.state s.used failures)
+  pub opens : Represents steps w (opening (state_of s.core) s.used failures)
   opens = record {
     numbers = record { opened = omega arith; durable = omega arith; doubtful = omega arith; each = tt };
-    slots = no_slots_held w.slots.items sized emptied;
-    session = subst (λ (o : Option core.Session). HasSession o (opening s.core.state s.used failures)) (sym some) (record {
+    slots = no_slots_held steps w.slots.items sized emptied;
+    session = subst (λ (o : Option core.Session). HasSession steps o (opening (state_of s.core) s.used failures)) (sym some) (record {
       state = refl;
-      waiting = nothing_behind (s.core.state.count - s.core.state.count) s.core.waiting.items fresh;
+      durable = all;
+      waiting = nothing_behind ((state_of s.core).count - (state_of s.core).count) (waiting_of s.core) fresh;
       used = refl;
       session = ap session_of (sym running);
       certain = λ yes. refl;
@@ -59,7 +63,7 @@ module _ {D : Type 0} {d : _} (w : World D d) (s : core.Session) (failures : ℕ
     doubtful = doubtful;
     failures = same;
     device = record {
-      each = λ k c left. inl (subst (λ (b : List ℕ). StandsFor w.layout.vars w.layout.slots s.used (cut (opening s.core.state s.used failures) s.core.state.count) b) (sym (synced k c left ∙ reads k))
+      each = λ k c left. inl (subst (λ (b : List ℕ). StandsFor w.layout.vars w.layout.slots s.used (cut steps (opening (state_of s.core) s.used failures) (state_of s.core).count) b) (sym (synced k c left ∙ reads k))
           (subst (λ (t : State). StandsFor w.layout.vars w.layout.slots s.used t seen) (sym cut_here) (stands k)));
     };
   }

@@ -1,21 +1,31 @@
 -- How a world goes from one point of a run to the next.
-use Rattle.std.proofs.Common.{◌≡◌, inl, inr, ℕ, zero, suc, ◌<◌, Bool, true, false, List, [], ◌∷◌, length, get_or, refl, sym, ◌∙◌, ap, subst, arith, Option, Some, None}
-use Rattle.std.specs.Prelude.{slice_set, is_none}
+use Rattle.std.proofs.Common.{◌≡◌, inl, inr, ℕ, ℤ, zero, suc, ◌<◌, Bool, true, false, List, [], ◌∷◌, ◌++◌, length, get_or, refl, sym, ◌∙◌, ap, subst, arith, Option, Some, None}
+use Rattle.std.specs.Prelude.{slice_set, is_none, nat_eq}
+use Rattle.std.proofs.lemmas.List.{set-get_or}
+use Rattle.indexmap.proofs.CallerLemmas.{insert_entry-new}
 use Rattle.std.specs.List.{AllZip}
+use Rattle.std.proofs.Common.{HashMap, BuildHasherDefault, FoldHasher}
 use Rattle.tmem_disk.specs.Disk.{LeavesOnly}
-use Rattle.tmem_world.specs.declared.tx.Tx.{Tx}
+use Rattle.tmem_tree.specs.declared.tx.Tx.{Tx}
+use Rattle.tmem_tree.specs.Answers.{Meanings}
+use Rattle.tmem_tree.specs.Visited.{visited}
+use Rattle.tmem_record.specs.Writes.{look}
+use Rattle.tmem_tentative.specs.Right.{IsRight, IsOutcome, Agrees, first_lacking}
+use Rattle.tmem_tentative.specs.declared.attempt.Outcome.TheVariants as outcome
+use Rattle.tmem_core.specs.Held.{is_shut_of}
+use Rattle.tmem_core.specs.Verdict.{map_of}
 use Rattle.tmem_world.specs.declared.event.Reply.{Reply}
 use Rattle.tmem_world.specs.declared.event.Reply.TheVariants as reply
 use Rattle.tmem_disk.specs.declared.fault.Fault.TheVariants as fault
-use Rattle.tmem_world.specs.declared.attempt.Attempt as attempt
-use Rattle.tmem_world.specs.declared.plan.Plan.{Plan}
+use Rattle.tmem_tentative.specs.declared.attempt.Attempt as attempt
 use Rattle.tmem_world.specs.declared.session.Slot.{Slot}
 use Rattle.tmem_world.specs.declared.session.Slot.TheVariants as slot
 use Rattle.tmem_world.specs.declared.session.Session as core
 use Rattle.tmem_world.specs.declared.layout.Layout.{Layout}
 use Rattle.tmem_world.specs.declared.world.World.{World}
-use Rattle.tmem_world.specs.WorldModel.{WorldModel, Attempt, NoAttempt, Begun, Ended, Session, InSession, TurnsFrom, with_attempt, attempt_at}
-use Rattle.tmem_world.specs.Represents.{SlotIs, HasSession, Represents, StandsAt, session_of}
+use Rattle.tmem_world.specs.WorldModel.{WorldModel, Attempt, NoAttempt, Begun, Ended, Session, InSession, TurnsFrom, value_or, overridden, goes_on, present, with_attempt, attempt_at}
+use Rattle.tmem_world.specs.Settle.{Joins, Keeps}
+use Rattle.tmem_world.specs.Represents.{SlotIs, HasSession, Represents, StandsCut, session_of}
 
 pub AllZip-set : {A B : Type 0} (R : A → B → Type 0) (xs : List A) (ys : List B) (k : ℕ) (x : A) (y : B) → AllZip R xs ys → R x y → AllZip R (slice_set xs k x) (slice_set ys k y)
 AllZip-set R [] [] k x y each here = tt
@@ -25,31 +35,31 @@ AllZip-set R (a ∷ xs) (b ∷ ys) zero x y each here = (here, each.1)
 AllZip-set R (a ∷ xs) (b ∷ ys) (suc k) x y each here = (each.0, AllZip-set R xs ys k x y each.1 here)
 
 -- where there is a session, an event is answered as in a session
-pub in_session : (o : Option core.Session) (m : WorldModel) (r : Reply) (m' : WorldModel) (allowed : Type 0) → HasSession o m → is_none o ≡ false → allowed → InSession m.session m r m' allowed
-in_session None m r m' allowed has some it = cc
-in_session (Some s) m r m' allowed has some it = by_state s.is_closed has.session
+pub in_session : (steps : Meanings) (o : Option core.Session) (m : WorldModel) (r : Reply) (m' : WorldModel) (allowed : Type 0) → HasSession steps o m → is_none o ≡ false → allowed → InSession m.session m r m' allowed
+in_session steps None m r m' allowed has some it = cc
+in_session steps (Some s) m r m' allowed has some it = by_state (is_shut_of s.core) has.session
   where
     by_state : (b : Bool) → m.session ≡ session_of b → InSession m.session m r m' allowed
     by_state true is = subst (λ (z : Session). InSession z m r m' allowed) (sym is) it
     by_state false is = subst (λ (z : Session). InSession z m r m' allowed) (sym is) it
 
-module _ {D : Type 0} {d : _} (w w' : World D d) (m : WorldModel) where
+module _ {D S : Type 0} {d s : _} (steps : Meanings) (w w' : World D S d s) (m : WorldModel) where
   -- one attempt changes, and nothing else
-  pub with_slot : (k : ℕ) (s : Slot) (a : Attempt) → Represents w m → SlotIs s a → w'.slots.items ≡ slice_set w.slots.items k s → w'.session ≡ w.session → w'.durable ≡ w.durable → w'.doubtful ≡ w.doubtful → w'.disk ≡ w.disk → w'.layout ≡ w.layout
-      → Represents w' (with_attempt m k a)
-  with_slot k s a r here slots session durable doubtful disk layout = record {
+  pub with_slot : (k : ℕ) (x : Slot) (a : Attempt) → Represents steps w m → SlotIs steps x a → w'.slots.items ≡ slice_set w.slots.items k x → w'.session ≡ w.session → w'.durable ≡ w.durable → w'.doubtful ≡ w.doubtful → w'.disk ≡ w.disk → w'.layout ≡ w.layout
+      → Represents steps w' (with_attempt m k a)
+  with_slot k x a r here slots session durable doubtful disk layout = record {
     numbers = record { opened = r.numbers.opened; durable = r.numbers.durable; doubtful = r.numbers.doubtful; each = r.numbers.each };
-    slots = subst (λ (l : List Slot). AllZip SlotIs l (slice_set m.attempts k a)) (sym slots) (AllZip-set SlotIs w.slots.items m.attempts k s a r.slots here);
-    session = subst (λ (o : Option core.Session). HasSession o (with_attempt m k a)) (sym session) (kept w.session r.session);
+    slots = subst (λ (l : List Slot). AllZip (SlotIs steps) l (slice_set m.attempts k a)) (sym slots) (AllZip-set (SlotIs steps) w.slots.items m.attempts k x a r.slots here);
+    session = subst (λ (o : Option core.Session). HasSession steps o (with_attempt m k a)) (sym session) (kept w.session r.session);
     durable = durable ∙ r.durable;
     doubtful = doubtful ∙ r.doubtful;
-    failures = ap (λ (x : D). (d.view x).failures) disk ∙ r.failures;
-    device = subst (λ (x : D). LeavesOnly (d.view x) (StandsAt w'.layout.vars w'.layout.slots m)) (sym disk) (subst (λ (l : Layout). LeavesOnly (d.view w.disk) (StandsAt l.vars l.slots m)) (sym layout) r.device);
+    failures = ap (λ (y : D). (d.view y).failures) disk ∙ r.failures;
+    device = subst (λ (y : D). LeavesOnly (d.view y) (StandsCut steps w'.layout.vars w'.layout.slots m)) (sym disk) (subst (λ (l : Layout). LeavesOnly (d.view w.disk) (StandsCut steps l.vars l.slots m)) (sym layout) r.device);
   }
     where
-      kept : (o : Option core.Session) → HasSession o m → HasSession o (with_attempt m k a)
+      kept : (o : Option core.Session) → HasSession steps o m → HasSession steps o (with_attempt m k a)
       kept None has = has
-      kept (Some s) has = record { state = has.state; waiting = has.waiting; used = has.used; session = has.session; certain = has.certain }
+      kept (Some o) has = record { state = has.state; durable = has.durable; waiting = has.waiting; used = has.used; session = has.session; certain = has.certain }
 
 pub AllZip-at : {A B : Type 0} (R : A → B → Type 0) (xs : List A) (ys : List B) (k : ℕ) (d : A) (e : B) → AllZip R xs ys → k < length xs → R (get_or xs k d) (get_or ys k e)
 AllZip-at R [] ys k d e each below = absurd (omega arith)
@@ -57,29 +67,89 @@ AllZip-at R (a ∷ xs) [] k d e each below = absurd each
 AllZip-at R (a ∷ xs) (b ∷ ys) zero d e each below = each.0
 AllZip-at R (a ∷ xs) (b ∷ ys) (suc k) d e each below = AllZip-at R xs ys k d e each.1 (omega arith)
 
+-- what stands at a place, whatever would stand where there is none
+pub at_place : {A : Type 0} (xs : List A) (k : ℕ) (d e : A) → k < length xs → get_or xs k d ≡ get_or xs k e
+at_place [] k d e below = absurd (omega arith)
+at_place (x ∷ xs) zero d e below = refl
+at_place (x ∷ xs) (suc k) d e below = at_place xs k d e (omega arith)
+
 -- the attempt that a slot holds
-pub slot_holds : {D : Type 0} {d : _} (w : World D d) (m : WorldModel) (k : ℕ) (s : Slot) → Represents w m → k < length w.slots.items → s ≡ get_or w.slots.items k s → SlotIs s (attempt_at m k)
-slot_holds w m k s r below is = subst (λ (t : Slot). SlotIs t (attempt_at m k)) (sym is) (AllZip-at SlotIs w.slots.items m.attempts k s NoAttempt r.slots below)
+pub slot_holds : {D S : Type 0} {d s : _} (steps : Meanings) (w : World D S d s) (m : WorldModel) (k : ℕ) (x : Slot) → Represents steps w m → k < length w.slots.items → x ≡ get_or w.slots.items k x → SlotIs steps x (attempt_at m k)
+slot_holds steps w m k x r below is = subst (λ (t : Slot). SlotIs steps t (attempt_at m k)) (sym is) (AllZip-at (SlotIs steps) w.slots.items m.attempts k x NoAttempt r.slots below)
 
-pub turns_idle : (s : Slot) (a : Attempt) (m : WorldModel) (k : ℕ) → SlotIs s a → s ≡ slot.Empty → TurnsFrom a m k reply.Idle m
-turns_idle slot.Empty NoAttempt m k holds is = (refl, refl)
-turns_idle slot.Empty (Begun tx) m k holds is = absurd holds
-turns_idle slot.Empty (Ended tx) m k holds is = absurd holds
-turns_idle (slot.Begun plan) a m k holds is = cc
-turns_idle (slot.Ended x) a m k holds is = cc
+pub turns_idle : (steps : Meanings) (s : Slot) (a : Attempt) (m : WorldModel) (k : ℕ) → SlotIs steps s a → s ≡ slot.Empty → TurnsFrom steps a m k reply.Idle m
+turns_idle steps slot.Empty NoAttempt m k holds is = (refl, refl)
+turns_idle steps slot.Empty (Begun tx rs) m k holds is = absurd holds
+turns_idle steps slot.Empty (Ended tx rs) m k holds is = absurd holds
+turns_idle steps (slot.Begun plan reads) a m k holds is = cc
+turns_idle steps (slot.Ended x) a m k holds is = cc
 
-pub turns_ended : (s : Slot) (a : Attempt) (m : WorldModel) (k : ℕ) (x : attempt.Attempt) → SlotIs s a → s ≡ slot.Ended x → TurnsFrom a m k reply.Ended m
-turns_ended (slot.Ended y) (Ended tx) m k x holds is = (refl, refl)
-turns_ended (slot.Ended y) NoAttempt m k x holds is = absurd holds
-turns_ended (slot.Ended y) (Begun tx) m k x holds is = absurd holds
-turns_ended slot.Empty a m k x holds is = cc
-turns_ended (slot.Begun plan) a m k x holds is = cc
+pub turns_ended : (steps : Meanings) (s : Slot) (a : Attempt) (m : WorldModel) (k : ℕ) (x : attempt.Attempt) → SlotIs steps s a → s ≡ slot.Ended x → TurnsFrom steps a m k reply.Ended m
+turns_ended steps (slot.Ended y) (Ended tx rs) m k x holds is = (refl, refl)
+turns_ended steps (slot.Ended y) NoAttempt m k x holds is = absurd holds
+turns_ended steps (slot.Ended y) (Begun tx rs) m k x holds is = absurd holds
+turns_ended steps slot.Empty a m k x holds is = cc
+turns_ended steps (slot.Begun plan reads) a m k x holds is = cc
 
-pub turns_over : (s : Slot) (a : Attempt) (m : WorldModel) (k : ℕ) (plan : Plan) → SlotIs s a → s ≡ slot.Begun plan → TurnsFrom a m k reply.Ended (with_attempt m k (Ended plan.tx)) × TurnsFrom a m k (reply.Fault fault.Memory) m
-turns_over (slot.Begun p) (Begun tx) m k plan holds is =
+-- the map overridden by reads agrees with them
+pub overridden-agrees : (reads : List (ℕ × ℤ)) (values : ℕ → ℤ) → Agrees (overridden reads values) reads
+overridden-agrees reads values var n is = ap (λ (o : Option ℤ). value_or o (values var)) is
+
+-- what a slot with a begun plan is in the run
+pub is_begun : (steps : Meanings) (s : Slot) (a : Attempt) (plan : Tx) (reads : _) → SlotIs steps s a → s ≡ slot.Begun plan reads → a ≡ Begun plan reads.entries
+is_begun steps (slot.Begun p q) (Begun tx rs) plan reads holds is =
     let same : p ≡ plan = cc in
-    (inl (refl, ap (λ (t : Tx). with_attempt m k (Ended t)) (sym (ap (λ (q : Plan). q.tx) same) ∙ holds)), inr (refl, refl))
-turns_over (slot.Begun p) NoAttempt m k plan holds is = absurd holds
-turns_over (slot.Begun p) (Ended tx) m k plan holds is = absurd holds
-turns_over slot.Empty a m k plan holds is = cc
-turns_over (slot.Ended x) a m k plan holds is = cc
+    let also : q ≡ reads = cc in
+    ap (λ (t : Tx). Begun t rs) (sym holds.0 ∙ same) ∙ ap (Begun plan) (sym holds.1 ∙ ap (λ x. x.entries) also)
+is_begun steps (slot.Begun p q) NoAttempt plan reads holds is = absurd holds
+is_begun steps (slot.Begun p q) (Ended tx rs) plan reads holds is = absurd holds
+is_begun steps slot.Empty a plan reads holds is = cc
+is_begun steps (slot.Ended x) a plan reads holds is = cc
+
+-- the answer to a turn of a begun plan, by what its reads lack
+pub turns_on : (steps : Meanings) (m : WorldModel) (k : ℕ) (a : Attempt) (plan : Tx) (reads : List (ℕ × ℤ)) (need : Option ℕ) (r : Reply) (m' : WorldModel) → a ≡ Begun plan reads
+    → first_lacking reads (visited steps plan (overridden reads (map_of (present steps m)))) ≡ need → (r, m') ≡ goes_on need steps m k plan reads → TurnsFrom steps a m k r m'
+turns_on steps m k a plan reads need r m' begun lacks is =
+    subst (λ (x : Attempt). TurnsFrom steps x m k r m') (sym begun) (inl (is ∙ ap (λ (n : Option ℕ). goes_on n steps m k plan reads) (sym lacks)))
+
+pub turns_short : (steps : Meanings) (m : WorldModel) (k : ℕ) (a : Attempt) (plan : Tx) (reads : List (ℕ × ℤ)) → a ≡ Begun plan reads → TurnsFrom steps a m k (reply.Fault fault.Memory) m
+turns_short steps m k a plan reads begun = subst (λ (x : Attempt). TurnsFrom steps x m k (reply.Fault fault.Memory) m) (sym begun) (inr (refl, refl))
+
+-- a begun plan that needs a variable reads its present value
+pub turns_read : (steps : Meanings) (m : WorldModel) (k : ℕ) (x : Slot) (plan : Tx) (reads : _) (var : ℕ) (value : ℤ) → SlotIs steps x (attempt_at m k) → x ≡ slot.Begun plan reads → IsOutcome steps plan reads.entries (outcome.Need var) → value ≡ map_of (present steps m) var
+    → TurnsFrom steps (attempt_at m k) m k (reply.Read var value) (with_attempt m k (Begun plan (reads.entries ++ (var, value) ∷ [])))
+turns_read steps m k x plan reads var value holds is right same =
+    let P : ℤ → Type 0 = λ n. TurnsFrom steps (attempt_at m k) m k (reply.Read var n) (with_attempt m k (Begun plan (reads.entries ++ (var, n) ∷ []))) in
+    subst P (sym same)
+    (turns_on steps m k (attempt_at m k) plan reads.entries (Some var) _ _ (is_begun steps x (attempt_at m k) plan reads holds is)
+    (right (overridden reads.entries (map_of (present steps m))) (overridden-agrees reads.entries (map_of (present steps m)))) refl)
+
+-- and its slot holds it with that value
+pub joined : (steps : Meanings) (plan : Tx) (reads : HashMap ℕ ℤ (BuildHasherDefault FoldHasher)) (var : ℕ) (value : ℤ) (x : Slot) → look reads.entries var ≡ None → Joins (slot.Begun plan reads) var value x → SlotIs steps x (Begun plan (reads.entries ++ (var, value) ∷ []))
+joined steps plan reads var value (slot.Begun p q) lacks is = (is.0, is.1 ∙ insert_entry-new nat_eq reads var value lacks)
+joined steps plan reads var value slot.Empty lacks is = absurd is
+joined steps plan reads var value (slot.Ended a) lacks is = absurd is
+
+-- a slot that keeps its plan and its reads holds what it held
+pub kept : (steps : Meanings) (x y : Slot) (a : Attempt) → SlotIs steps x a → Keeps x y → SlotIs steps y a
+kept steps slot.Empty y a holds is = subst (λ (z : Slot). SlotIs steps z a) (sym is) holds
+kept steps (slot.Ended e) y a holds is = subst (λ (z : Slot). SlotIs steps z a) (sym is) holds
+kept steps (slot.Begun p q) (slot.Begun p' q') (Begun tx rs) holds is = (is.0 ∙ holds.0, is.1 ∙ holds.1)
+kept steps (slot.Begun p q) slot.Empty a holds is = absurd is
+kept steps (slot.Begun p q) (slot.Ended e) a holds is = absurd is
+kept steps (slot.Begun p q) (slot.Begun p' q') NoAttempt holds is = absurd holds
+kept steps (slot.Begun p q) (slot.Begun p' q') (Ended tx rs) holds is = absurd holds
+
+-- the attempt that is there
+pub same_attempt : (m : WorldModel) (k : ℕ) → with_attempt m k (attempt_at m k) ≡ m
+same_attempt m k = ap (λ (xs : List Attempt). record m { attempts = xs }) (set-get_or m.attempts k NoAttempt)
+
+-- a plan that lacks nothing has ended
+pub turns_end : (steps : Meanings) (m : WorldModel) (k : ℕ) (x : Slot) (plan : Tx) (reads : _) (a : attempt.Attempt) → SlotIs steps x (attempt_at m k) → x ≡ slot.Begun plan reads → IsOutcome steps plan reads.entries (outcome.Ended a)
+    → TurnsFrom steps (attempt_at m k) m k reply.Ended (with_attempt m k (Ended plan a.reads.entries)) × IsRight steps plan a
+turns_end steps m k x plan reads a holds is right =
+    let values = overridden reads.entries (map_of (present steps m)) in
+    let so = right.0 values (overridden-agrees reads.entries (map_of (present steps m))) in (
+      turns_on steps m k (attempt_at m k) plan reads.entries None _ _ (is_begun steps x (attempt_at m k) plan reads holds is) so.0 (ap (λ (rs : List (ℕ × ℤ)). (reply.Ended, with_attempt m k (Ended plan rs))) so.1),
+      right.1,
+    )

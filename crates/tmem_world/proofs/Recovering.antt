@@ -7,7 +7,8 @@ use Rattle.tmem_disk.specs.declared.fault.Fault.{Fault}
 use Rattle.tmem_disk.specs.declared.fault.Fault.TheVariants.{Memory, Device, NotFormatted, Damaged, Geometry}
 use Rattle.tmem_disk.specs.Disk.{DeviceView, LeavesOnly, IsSynced}
 use Rattle.tmem_gate.specs.Gate.{IsOpenOver}
-use Rattle.tmem_world.specs.State.{Effect, State, apply, written}
+use Rattle.tmem_record.specs.State.{State, apply, written}
+use Rattle.tmem_record.specs.declared.effect.Effect.{Effect}
 use Rattle.tmem_world.specs.Layout.{image_place, slot_place}
 use Rattle.tmem_world.specs.Spelling.{block_body, image_body, batch_bytes}
 use Rattle.tmem_world.specs.Stands.{Holds, HoldsLog, StandsFor}

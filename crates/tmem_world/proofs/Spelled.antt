@@ -1,10 +1,12 @@
 -- A spelling, as it is put into a buffer part by part.
-use Rattle.std.proofs.Common.{◌≡◌, ◌<◌, ◌≤◌, ◌+◌, ◌-◌, ℕ, ℤ, pos, List, [], ◌∷◌, ◌++◌, length, take, drop, get_or, replicate, codes, flat_map, sym, ◌∙◌, ap, arith, append_assoc}
+use Rattle.std.proofs.Common.{◌≡◌, ◌<◌, ◌≤◌, ◌+◌, ◌-◌, ℕ, ℤ, pos, List, [], ◌∷◌, ◌++◌, length, take, drop, get_or, replicate, codes, flat_map, sym, ◌∙◌, ap, subst, arith, append_assoc}
 use Rattle.std.proofs.lemmas.List.{take_more, flat_map_more, append-nil, take-append-drop, drop-replicate, drop-drop}
+use Rattle.std.proofs.lemmas.List.Elements.{All-push}
+use Rattle.std.specs.Prelude.{FitsSigned}
 use Rattle.std.specs.Int.{w64, cast_unsigned}
 use Rattle.byteorder.specs.Endian.{little_bytes}
-use Rattle.tmem_world.specs.State.{Effect}
-use Rattle.tmem_world.specs.Spelling.{block_body, value_bytes, write_bytes, record_bytes, batch_bytes}
+use Rattle.tmem_record.specs.declared.effect.Effect.{Effect}
+use Rattle.tmem_world.specs.Spelling.{block_body, value_bytes, write_bytes, record_bytes, batch_bytes, HasValues}
 
 -- a write more
 pub write_more : (ws : List (ℕ × ℤ)) (i : ℕ) → i < length ws → (front b0 b1 b2 var value : List ℕ) → b0 ≡ front ++ flat_map write_bytes (take i ws) → b1 ≡ b0 ++ var → b2 ≡ b1 ++ value
@@ -16,6 +18,10 @@ write_more ws i below front b0 b1 b2 var value before first second var_is value_
     ∙ ap (λ (l : List ℕ). (front ++ flat_map write_bytes (take i ws)) ++ (little_bytes 2 (get_or ws i (0, pos 0)).0 ++ l)) value_is
     ∙ flat_map_more write_bytes front (take i ws) (get_or ws i (0, pos 0))
     ∙ ap (λ (l : List (ℕ × ℤ)). front ++ flat_map write_bytes l) (sym (take_more ws i (0, pos 0) below))
+
+-- and one value more of 64 bits
+pub values_more : (ws : List (ℕ × ℤ)) (i : ℕ) → i < length ws → HasValues (take i ws) → FitsSigned w64 (get_or ws i (0, pos 0)).1 → HasValues (take (i + 1) ws)
+values_more ws i below values fits = subst HasValues (sym (take_more ws i (0, pos 0) below)) (All-push (λ (w : ℕ × ℤ). FitsSigned w64 w.1) (take i ws) (get_or ws i (0, pos 0)) values fits)
 
 -- a batch of one record, from its parts
 pub batch_is : (first : ℕ) (e : Effect) (b0 b1 b2 b3 b4 b5 generation number records count : List ℕ) → b0 ≡ generation → b1 ≡ b0 ++ number → b2 ≡ b1 ++ records → b3 ≡ b2 ++ count → b4 ≡ b3 ++ flat_map write_bytes e.writes → b5 ≡ b4 ++ 0 ∷ []

@@ -7,7 +7,8 @@ use Rattle.std.proofs.lemmas.List.{append-nil, map-set, take_at, drop_at}
 use Rattle.std.proofs.lemmas.List.Elements.{All-head, All-tail, All-weaker}
 use Rattle.byteorder.specs.Endian.{little_bytes, little_number}
 use Rattle.tmem_gate.specs.Gate.{IsOpenOver}
-use Rattle.tmem_world.specs.State.{Effect, State, apply, written}
+use Rattle.tmem_record.specs.State.{State, apply, written, with_names}
+use Rattle.tmem_record.specs.declared.effect.Effect.{Effect}
 use Rattle.tmem_world.specs.Layout.{slot_place}
 use Rattle.tmem_world.specs.Spelling.{value_bytes, write_bytes, image_body, batch_bytes, IsRecord}
 use Rattle.tmem_world.specs.Stands.{Holds, StandsFor, used_of, replayed}
@@ -98,11 +99,11 @@ one_log : (vars count : ℕ) (e f : Effect) (c : List ℕ) → vars < 2 ^ 16 →
     → map kept_write e.writes ≡ map kept_write f.writes
 one_log vars count e f c few fits fits' cell cell' =
     let bytes : List ℕ = drop (slot_place vars 0 + 1) c in
-    let mine = split_batch count e bytes fits.some fits.few (batch_begins vars count e c cell) in
-    let theirs = split_batch count f bytes fits'.some fits'.few (batch_begins vars count f c cell') in
+    let mine = split_batch count e bytes fits.some fits.effect.writes.few (batch_begins vars count e c cell) in
+    let theirs = split_batch count f bytes fits'.some fits'.effect.writes.few (batch_begins vars count f c cell') in
     let long = one_head count (length e.writes) (length f.writes) bytes mine.0 theirs.0 in
     let same = one_part 19 (writes_bytes e.writes) (writes_bytes f.writes) bytes (length-writes_bytes e.writes ∙ ap (λ (n : ℕ). 10 * n) long ∙ sym (length-writes_bytes f.writes)) mine.1 theirs.1 in
-    same_writes e.writes f.writes long (below e.writes fits.within) (below f.writes fits'.within) same
+    same_writes e.writes f.writes long (below e.writes fits.effect.within) (below f.writes fits'.effect.within) same
   where
     below : (ws : List (ℕ × ℤ)) → All (λ (w : ℕ × ℤ). w.0 < vars) ws → All (λ (w : ℕ × ℤ). w.0 < 2 ^ 16) ws
     below ws within = All-weaker (λ (w : ℕ × ℤ). w.0 < vars) (λ (w : ℕ × ℤ). w.0 < 2 ^ 16) (λ w exists. omega (arith, exists, few)) ws within
@@ -116,35 +117,40 @@ one_kept vars slots i j log log' c one other =
     let long : length i.values ≡ length j.values = one.fits.values ∙ sym other.fits.values in
     same_values i.values j.values long (one_part 2047 (values_bytes i.values) (values_bytes j.values) bytes (length-values_bytes i.values ∙ ap (λ (n : ℕ). 8 * n) long ∙ sym (length-values_bytes j.values)) mine.values theirs.values)
 
-same_state : (s t : State) → s.count ≡ t.count → AreValues s.values → AreValues t.values → map kept s.values ≡ map kept t.values → s ≡ t
-same_state s t count fits fits' values = from s.count t.count s.values t.values count (sym (all_kept s.values fits) ∙ values ∙ all_kept t.values fits')
+same_state : (s t : State) → s.count ≡ t.count → s.names ≡ [] → t.names ≡ [] → AreValues s.values → AreValues t.values → map kept s.values ≡ map kept t.values → s ≡ t
+same_state s t count none none' fits fits' values = from s.count t.count s.names t.names s.values t.values count (none ∙ sym none') (sym (all_kept s.values fits) ∙ values ∙ all_kept t.values fits')
   where
-    made : ℕ → List ℤ → State
-    made m xs = record { count = m; values = xs }
+    made : ℕ → List (List ℕ) → List ℤ → State
+    made m ns xs = record { count = m; names = ns; values = xs }
 
-    from : (m n : ℕ) (xs ys : List ℤ) → m ≡ n → xs ≡ ys → made m xs ≡ made n ys
-    from m n xs ys e f = ap (λ (k : ℕ). made k xs) e ∙ ap (made n) f
+    from : (m n : ℕ) (ns os : List (List ℕ)) (xs ys : List ℤ) → m ≡ n → ns ≡ os → xs ≡ ys → made m ns xs ≡ made n os ys
+    from m n ns os xs ys e f g = ap (λ (k : ℕ). made k ns xs) e ∙ ap (λ (l : List (List ℕ)). made n l xs) f ∙ ap (made n os) g
 
 -- the values of what a content stands for are of 64 bits
 are_values : (vars slots : ℕ) (i : State) (log : Option Effect) (c : List ℕ) → Holds vars slots i log c → AreValues (replayed i log).values
 are_values vars slots i None c holds = holds.fits.numbers
 are_values vars slots i (Some e) c holds = values_written i.values e.writes holds.fits.numbers holds.slot_0.0.numbers
 
+-- and it has no names
+no_names : (vars slots : ℕ) (i : State) (log : Option Effect) (c : List ℕ) → Holds vars slots i log c → (replayed i log).names ≡ []
+no_names vars slots i None c holds = holds.fits.no_names
+no_names vars slots i (Some e) c holds = ap (with_names i.names) holds.slot_0.0.no_names ∙ holds.fits.no_names
+
 module _ (vars slots : ℕ) (few : vars < 2 ^ 16) (c : List ℕ) where
-  by_logs : (i j : State) (log log' : Option Effect) → Holds vars slots i log c → Holds vars slots j log' c → AreValues (replayed i log).values → AreValues (replayed j log').values → (used_of log ≡ used_of log') × (replayed i log ≡ replayed j log')
-  by_logs i j None None one other fits fits' = (refl, same_state i j (one_count vars i j c (image_of one) (image_of other)) fits fits' (one_kept vars slots i j None None c one other))
-  by_logs i j None (Some f) one other fits fits' = absurd (one.slot_0.not_open other.slot_0.2.gate)
-  by_logs i j (Some e) None one other fits fits' = absurd (other.slot_0.not_open one.slot_0.2.gate)
-  by_logs i j (Some e) (Some f) one other fits fits' =
+  by_logs : (i j : State) (log log' : Option Effect) → Holds vars slots i log c → Holds vars slots j log' c → (replayed i log).names ≡ [] → (replayed j log').names ≡ [] → AreValues (replayed i log).values → AreValues (replayed j log').values → (used_of log ≡ used_of log') × (replayed i log ≡ replayed j log')
+  by_logs i j None None one other none none' fits fits' = (refl, same_state i j (one_count vars i j c (image_of one) (image_of other)) none none' fits fits' (one_kept vars slots i j None None c one other))
+  by_logs i j None (Some f) one other none none' fits fits' = absurd (one.slot_0.not_open other.slot_0.2.gate)
+  by_logs i j (Some e) None one other none none' fits fits' = absurd (other.slot_0.not_open one.slot_0.2.gate)
+  by_logs i j (Some e) (Some f) one other none none' fits fits' =
       let count = one_count vars i j c (image_of one) (image_of other) in
       let writes = one_log vars j.count e f c few one.slot_0.0 other.slot_0.0 (subst (λ (n : ℕ). IsOpenOver (slot_place vars 0) (batch_bytes 1 n (e ∷ [])) c) count one.slot_0.2) other.slot_0.2 in (
         refl,
-        same_state (apply i e) (apply j f) (ap (λ (n : ℕ). n + 1) count) fits fits' (kept_written i.values e.writes
+        same_state (apply i e) (apply j f) (ap (λ (n : ℕ). n + 1) count) none none' fits fits' (kept_written i.values e.writes
             ∙ ap (λ (l : List ℤ). written l (map kept_write e.writes)) (one_kept vars slots i j (Some e) (Some f) c one other) ∙ ap (written (map kept j.values)) writes ∙ sym (kept_written j.values f.writes)),
       )
 
   -- a content stands for one state at most
   pub stands_for_one : (used used' : ℕ) (s s' : State) → StandsFor vars slots used s c → StandsFor vars slots used' s' c → (used ≡ used') × (s ≡ s')
   stands_for_one used used' s s' one other =
-      let same = by_logs one.image other.image one.log other.log one.holds other.holds (are_values vars slots one.image one.log c one.holds) (are_values vars slots other.image other.log c other.holds) in
+      let same = by_logs one.image other.image one.log other.log one.holds other.holds (no_names vars slots one.image one.log c one.holds) (no_names vars slots other.image other.log c other.holds) (are_values vars slots one.image one.log c one.holds) (are_values vars slots other.image other.log c other.holds) in
       (sym one.is_used ∙ same.0 ∙ other.is_used, sym one.is_state ∙ same.1 ∙ other.is_state)

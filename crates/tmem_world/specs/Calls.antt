@@ -3,7 +3,8 @@ use Rattle.std.specs.Prelude.{◌≡◌, ◌≤◌, ℕ, List, ◌⊎◌, Result
 use Rattle.tmem_disk.specs.Disk.{DeviceView, LeavesOnly, after_fault}
 use Rattle.tmem_disk.specs.declared.fault.Fault.{Fault}
 use Rattle.tmem_disk.specs.declared.fault.Fault.TheVariants.{Memory, Device, Unknown, NotFormatted, Damaged, Geometry}
-use Rattle.tmem_world.specs.State.{Effect, State, apply}
+use Rattle.tmem_record.specs.State.{State, apply}
+use Rattle.tmem_record.specs.declared.effect.Effect.{Effect}
 use Rattle.tmem_world.specs.Layout.{IsLayout, end_place}
 use Rattle.tmem_world.specs.Stands.{StandsFor}
 

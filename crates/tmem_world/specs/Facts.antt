@@ -1,12 +1,11 @@
 -- That some words have one proof at most.
-use Rattle.std.specs.Prelude.{ℕ}
+use Rattle.std.specs.Prelude.{ℕ, List}
 use Rattle.std.proofs.Props.{props}
 use Rattle.tmem_world.specs.declared.session.Slot.{Slot}
 use Rattle.tmem_world.specs.declared.session.Slot.TheVariants.{Empty, Begun, Ended}
-use Rattle.tmem_world.specs.Distinct.{AreDistinct-prop}
 use Rattle.tmem_world.specs.Settle.{FitsSlot}
 
-pub FitsSlot-prop : (vars : ℕ) (slot : Slot) → IsProp (FitsSlot vars slot)
-FitsSlot-prop vars Empty = hlevel
-FitsSlot-prop vars (Begun plan) = hlevel props
-FitsSlot-prop vars (Ended a) = hlevel (props, AreDistinct-prop)
+pub FitsSlot-prop : (vars : ℕ) (arities : List ℕ) (slot : Slot) → IsProp (FitsSlot vars arities slot)
+FitsSlot-prop vars arities Empty = hlevel
+FitsSlot-prop vars arities (Begun plan reads) = hlevel props
+FitsSlot-prop vars arities (Ended a) = hlevel props

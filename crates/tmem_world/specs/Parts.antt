@@ -1,7 +1,8 @@
 -- The parts of a content, as they are found one after another.
 use Rattle.std.specs.Prelude.{◌≡◌, ◌<◌, ◌≤◌, ℕ, List, Option, length, take}
 use Rattle.tmem_gate.specs.Gate.{IsClosed, IsOpenOver}
-use Rattle.tmem_world.specs.State.{Effect, State}
+use Rattle.tmem_record.specs.State.{State}
+use Rattle.tmem_record.specs.declared.effect.Effect.{Effect}
 use Rattle.tmem_world.specs.Layout.{image_place, slot_place}
 use Rattle.tmem_world.specs.Spelling.{image_body, IsImage}
 use Rattle.tmem_world.specs.Stands.{HoldsLog}

@@ -3,7 +3,8 @@ use Rattle.std.specs.Prelude.{◌≡◌, ◌<◌, ◌≤◌, ◌+◌, ◌*◌, �
 use Rattle.byteorder.specs.Endian.{little_bytes}
 use Rattle.tmem_world.specs.Layout.{pages_of}
 pub use Rattle.tmem_world.specs.Spelling.{AreValues, HasValues}
-use Rattle.tmem_world.specs.Spelling.{value_bytes, write_bytes, AreDistinct}
+use Rattle.tmem_world.specs.Spelling.{value_bytes, write_bytes}
+use Rattle.tmem_record.specs.Writes.{AreWrites}
 
 -- these stand in the bytes from that place on
 pub record StandsAt (at : ℕ) (part bytes : List ℕ) : Type 0 where
@@ -32,7 +33,7 @@ pub record IsFramed (vars : ℕ) (bytes : List ℕ) : Type 0 where
 pub record HoldsWrites (vars from count : ℕ) (ws : List (ℕ × ℤ)) (bytes : List ℕ) : Type 0 where
   pub counted : length ws ≡ count
   pub within : All (λ (w : ℕ × ℤ). w.0 < vars) ws
-  pub distinct : AreDistinct ws
+  pub are_writes : AreWrites ws
   pub there : StandsAt from (writes_bytes ws) bytes
 
 -- the head and the end of a batch of generation 1 with one record of so many writes

@@ -1,25 +1,30 @@
 -- What a session keeps, and what a flush does to it.
-use Rattle.std.specs.Prelude.{◌≡◌, ◌≢◌, ◌≤◌, ◌<◌, ◌⊎◌, ◌+◌, ◌^◌, ℕ, true, false, List, [], ◌∷◌, length, drop, Result, Ok, Err}
+use Rattle.std.specs.Prelude.{◌≡◌, ◌≢◌, ◌≤◌, ◌⊎◌, ◌+◌, ℕ, true, false, List, [], ◌∷◌, length, drop, All, Result, Ok, Err}
 use Rattle.tmem_disk.specs.Disk.{DeviceView, LeavesOnly}
 use Rattle.tmem_disk.specs.declared.fault.Fault.{Fault}
 use Rattle.tmem_disk.specs.declared.fault.Fault.TheVariants as fault
 use Rattle.tmem_gate.specs.Gate.{IsClosed}
 use Rattle.tmem_world.specs.declared.session.Session.{Session}
-use Rattle.tmem_world.specs.State.{Effect, State}
+use Rattle.tmem_record.specs.State.{State}
+use Rattle.tmem_record.specs.declared.effect.Effect.{Effect}
+use Rattle.tmem_core.specs.Held.{state_of, waiting_of, durable_of, is_shut_of}
 use Rattle.tmem_world.specs.Layout.{slot_place}
 use Rattle.tmem_world.specs.Stands.{StandsFor}
 use Rattle.tmem_world.specs.Calls.{Appended}
 
--- The count is what is durable and what waits, there is a value for each variable, and at most one slot of the log is used.
-pub record IsCounted (vars durable : ℕ) (s : Session) : Type 0 where
-  pub count : s.core.state.count ≡ durable + length s.core.waiting.items
-  pub values : length s.core.state.values ≡ vars
+-- There is a value for each variable, what waits has no names, and at most one slot of the log is used.
+pub record IsCounted (vars : ℕ) (s : Session) : Type 0 where
+  pub values : length (state_of s.core).values ≡ vars
+  pub no_names : All (λ (e : Effect). e.names ≡ []) (waiting_of s.core)
   pub used : s.used ≤ 1
-  pub fits : s.core.state.count < 2 ^ 64
+
+-- so many are known durable
+pub record IsKnown (durable : ℕ) (s : Session) : Type 0 where
+  pub is : durable_of s.core ≡ durable
 
 -- while the log is not used, its slot stands closed on the disk
 abbrev pub IsFree : ℕ → Session → DeviceView → Type 0
-IsFree vars s d = s.is_closed ≡ false → s.used ≡ 0 → LeavesOnly d (IsClosed (slot_place vars 0))
+IsFree vars s d = is_shut_of s.core ≡ false → s.used ≡ 0 → LeavesOnly d (IsClosed (slot_place vars 0))
 
 -- how many are durable after the answer of a flush
 abbrev pub durable_after : Result ℕ Fault → ℕ → ℕ
@@ -37,28 +42,28 @@ LeftByFlush vars slots durable e old new answer =
     (s : State) → s.count ≡ durable → LeavesOnly old (StandsFor vars slots 0 s) → Appended vars slots s e new answer
 
 -- the oldest effect was to be written
-pub record Writes (vars slots durable : ℕ) (e : Effect) (old : Session) (dold : DeviceView) (answer : Result (Unit {0}) Fault) (dnew : DeviceView) : Type 0 where
-  pub running : old.is_closed ≡ false
+pub record Writes (vars slots : ℕ) (e : Effect) (old : Session) (dold : DeviceView) (answer : Result (Unit {0}) Fault) (dnew : DeviceView) : Type 0 where
+  pub running : is_shut_of old.core ≡ false
   pub unused : old.used ≡ 0
-  pub oldest : (rest : List Effect) × (old.core.waiting.items ≡ e ∷ rest)
-  pub left : LeftByFlush vars slots durable e dold dnew answer
+  pub oldest : (rest : List Effect) × (waiting_of old.core ≡ e ∷ rest)
+  pub left : LeftByFlush vars slots (durable_of old.core) e dold dnew answer
 
 -- the session after a device failure
 pub record ClosesBy (old new : Session) : Type 0 where
-  pub closed : new.is_closed ≡ true
-  pub waiting : new.core.waiting.items ≡ old.core.waiting.items
+  pub closed : is_shut_of new.core ≡ true
+  pub waiting : waiting_of new.core ≡ waiting_of old.core
   pub used : new.used ≡ old.used
 
 -- What a flush did: it was closed; nothing waited; the log was full; or it wrote the oldest effect. The device is the same where nothing was written.
-abbrev pub Flushes : ℕ → ℕ → ℕ → Session → DeviceView → Result ℕ Fault → Session → DeviceView → Type 0 → Type 0
-Flushes vars slots durable old dold (Err fault.Closed) new dnew same = (old.is_closed ≡ true) × (new ≡ old) × same
-Flushes vars slots durable old dold (Err fault.LogFull) new dnew same =
-    (old.is_closed ≡ false) × (old.core.waiting.items ≢ []) × (old.used ≡ 1) × (new ≡ old) × same
-Flushes vars slots durable old dold (Ok n) new dnew same =
-    ((n ≡ durable) × (old.is_closed ≡ false) × (old.core.waiting.items ≡ []) × (new ≡ old) × same)
-    ⊎ ((n ≡ durable + 1) × (new.core.waiting.items ≡ drop 1 old.core.waiting.items) × (new.used ≡ 1) × (new.is_closed ≡ false) × ((e : Effect) × Writes vars slots durable e old dold (Ok tt) dnew))
-Flushes vars slots durable old dold (Err fault.Device) new dnew same =
-    ClosesBy old new × ((e : Effect) × Writes vars slots durable e old dold (Err fault.Device) dnew)
-Flushes vars slots durable old dold (Err fault.Unknown) new dnew same =
-    ClosesBy old new × ((e : Effect) × Writes vars slots durable e old dold (Err fault.Unknown) dnew)
-Flushes vars slots durable old dold (Err _) new dnew same = ⊥
+abbrev pub Flushes : ℕ → ℕ → Session → DeviceView → Result ℕ Fault → Session → DeviceView → Type 0 → Type 0
+Flushes vars slots old dold (Err fault.Closed) new dnew same = (is_shut_of old.core ≡ true) × (new ≡ old) × same
+Flushes vars slots old dold (Err fault.LogFull) new dnew same =
+    (is_shut_of old.core ≡ false) × (waiting_of old.core ≢ []) × (old.used ≡ 1) × (new ≡ old) × same
+Flushes vars slots old dold (Ok n) new dnew same =
+    ((n ≡ durable_of old.core) × (is_shut_of old.core ≡ false) × (waiting_of old.core ≡ []) × (new ≡ old) × same)
+    ⊎ ((n ≡ durable_of old.core + 1) × (waiting_of new.core ≡ drop 1 (waiting_of old.core)) × (new.used ≡ 1) × (is_shut_of new.core ≡ false) × ((e : Effect) × Writes vars slots e old dold (Ok tt) dnew))
+Flushes vars slots old dold (Err fault.Device) new dnew same =
+    ClosesBy old new × ((e : Effect) × Writes vars slots e old dold (Err fault.Device) dnew)
+Flushes vars slots old dold (Err fault.Unknown) new dnew same =
+    ClosesBy old new × ((e : Effect) × Writes vars slots e old dold (Err fault.Unknown) dnew)
+Flushes vars slots old dold (Err _) new dnew same = ⊥

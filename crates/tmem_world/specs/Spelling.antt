@@ -2,7 +2,8 @@
 use Rattle.std.specs.Prelude.{◌≡◌, ◌<◌, ◌≤◌, ℕ, ◌*◌, ◌-◌, ◌^◌, ℤ, List, [], ◌∷◌, ◌++◌, length, flat_map, codes, replicate, All, FitsSigned}
 use Rattle.std.specs.Int.{w64, cast_unsigned}
 use Rattle.byteorder.specs.Endian.{little_bytes}
-use Rattle.tmem_world.specs.State.{Effect, State}
+use Rattle.tmem_record.specs.State.{State, IsEffect}
+use Rattle.tmem_record.specs.declared.effect.Effect.{Effect}
 use Rattle.tmem_world.specs.Layout.{pages_of}
 
 -- the letters, the version, the two numbers, and 0 up to byte 512
@@ -32,11 +33,6 @@ record_bytes e = length e.writes ∷ (flat_map write_bytes e.writes ++ 0 ∷ [])
 unfoldable pub batch_bytes : ℕ → ℕ → List Effect → List ℕ
 batch_bytes generation first effects = little_bytes 8 generation ++ (little_bytes 8 first ++ (little_bytes 2 (length effects) ++ flat_map record_bytes effects))
 
--- no variable stands twice
-abbrev pub AreDistinct : List (ℕ × ℤ) → Type 0
-AreDistinct [] = Unit {0}
-AreDistinct (w ∷ ws) = All (λ (u : ℕ × ℤ). u.0 ≡ w.0 → ⊥) ws × AreDistinct ws
-
 -- values of 64 bits
 abbrev pub AreValues : List ℤ → Type 0
 AreValues zs = All (FitsSigned w64) zs
@@ -47,14 +43,14 @@ HasValues ws = All (λ (w : ℕ × ℤ). FitsSigned w64 w.1) ws
 
 -- an effect that a record can hold
 pub record IsRecord (vars : ℕ) (e : Effect) : Type 0 where
+  pub effect : IsEffect vars e
   pub some : 1 ≤ length e.writes
-  pub few : length e.writes ≤ 64
-  pub within : All (λ (w : ℕ × ℤ). w.0 < vars) e.writes
-  pub distinct : AreDistinct e.writes
+  pub no_names : e.names ≡ []
   pub numbers : HasValues e.writes
 
 -- a state that an image can hold
 pub record IsImage (vars : ℕ) (s : State) : Type 0 where
   pub count : s.count < 2 ^ 64
+  pub no_names : s.names ≡ []
   pub values : length s.values ≡ vars
   pub numbers : AreValues s.values

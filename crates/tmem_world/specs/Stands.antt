@@ -1,7 +1,8 @@
 -- Which state the content of a device stands for.
 use Rattle.std.specs.Prelude.{◌≡◌, ◌<◌, ◌≤◌, ℕ, ◌+◌, ◌^◌, List, [], ◌∷◌, Option, Some, None}
 use Rattle.tmem_gate.specs.Gate.{IsClosed, IsOpenOver}
-use Rattle.tmem_world.specs.State.{Effect, State, apply}
+use Rattle.tmem_record.specs.State.{State, apply}
+use Rattle.tmem_record.specs.declared.effect.Effect.{Effect}
 use Rattle.tmem_world.specs.Layout.{image_place, slot_place}
 use Rattle.tmem_world.specs.Spelling.{block_body, image_body, batch_bytes, IsRecord, IsImage}
 

@@ -1,22 +1,35 @@
 -- What a list of events may be answered.
-use Rattle.std.specs.Prelude.{◌≡◌, ◌⊎◌, ⊤, ℕ, ◌+◌, ◌-◌, ◌^◌, List, [], ◌∷◌, ◌++◌, take, replicate, nat_eq, if◌then◌else◌, MatchBool, slice_index_or, slice_set}
+use Rattle.std.specs.Prelude.{◌≡◌, ◌⊎◌, ⊤, ℕ, ◌+◌, ◌-◌, ℤ, Bool, true, false, List, [], ◌∷◌, ◌++◌, Option, Some, None, Result, Ok, Err, take, replicate, nat_eq, MatchBool, slice_index_or, slice_set}
 use Rattle.tmem_disk.specs.Disk.{after_fault}
 use Rattle.tmem_disk.specs.declared.fault.Fault.{Fault}
 use Rattle.tmem_disk.specs.declared.fault.Fault.TheVariants as fault
-use Rattle.tmem_world.specs.declared.tx.Tx.{Tx}
+use Rattle.tmem_record.specs.State.{State}
+use Rattle.tmem_record.specs.Writes.{look}
+use Rattle.tmem_tree.specs.declared.tx.Tx.{Tx}
+use Rattle.tmem_tree.specs.Answers.{Meanings}
+use Rattle.tmem_tree.specs.Plans.{BreaksNone, IsLeastBroken}
+use Rattle.tmem_tree.specs.Visited.{visited}
+use Rattle.tmem_tentative.specs.Right.{first_lacking, valued}
+use Rattle.tmem_core.specs.declared.settled.Settled.{Settled}
+use Rattle.tmem_core.specs.declared.settled.Settled.TheVariants.{Committed, Seen, Retry, Aborted}
+use Rattle.tmem_core.specs.Verdict.{map_of, verdict, serial_state}
+use Rattle.tmem_core.specs.Settle.{judged}
 use Rattle.tmem_world.specs.declared.event.Event.{Event}
 use Rattle.tmem_world.specs.declared.event.Event.TheVariants as event
 use Rattle.tmem_world.specs.declared.event.Reply.{Reply}
 use Rattle.tmem_world.specs.declared.event.Reply.TheVariants as reply
-use Rattle.tmem_world.specs.Plans.{BreaksNone, IsLeastBroken}
-use Rattle.tmem_world.specs.State.{State}
-use Rattle.tmem_world.specs.Verdict.{Verdict, Seen, Committed, verdict, serial_state}
 
--- one caller's attempt
+-- What a store is opened with: how many variables it has, how many arguments each stored step takes, and what they answer.
+pub record Setting : Type 0 where
+  pub vars : ℕ
+  pub arities : List ℕ
+  pub steps : Meanings
+
+-- one caller's attempt: a plan with the values that it has read so far, or one that has ended with all that it read
 pub data Attempt : Type 0 where
   NoAttempt : Attempt
-  Begun : (plan : Tx) → Attempt
-  Ended : (plan : Tx) → Attempt
+  Begun : (plan : Tx) → (reads : List (ℕ × ℤ)) → Attempt
+  Ended : (plan : Tx) → (reads : List (ℕ × ℤ)) → Attempt
 
 pub data Session : Type 0 where
   Open : Session
@@ -43,12 +56,12 @@ pub record WorldModel : Type 0 where
   pub session : Session
 
 -- the state after those of the accepted transactions whose numbers are below n
-abbrev pub cut : WorldModel → ℕ → State
-cut m n = serial_state m.opened (take (n - m.opened.count) m.accepted)
+abbrev pub cut : Meanings → WorldModel → ℕ → State
+cut steps m n = serial_state steps m.opened (take (n - m.opened.count) m.accepted)
 
 -- the state after every accepted transaction
-abbrev pub present : WorldModel → State
-present m = serial_state m.opened m.accepted
+abbrev pub present : Meanings → WorldModel → State
+present steps m = serial_state steps m.opened m.accepted
 
 -- where a run begins
 abbrev pub opening : State → ℕ → ℕ → WorldModel
@@ -70,39 +83,60 @@ abbrev pub with_attempt : WorldModel → ℕ → Attempt → WorldModel
 with_attempt m slot a = record m { attempts = slice_set m.attempts slot a }
 
 -- a plan is begun, or the least broken limit is named
-abbrev pub IsPlanFault : ℕ → Tx → Fault → Type 0
-IsPlanFault vars tx fault.Memory = ⊤
-IsPlanFault vars tx (fault.BadPlan cause) = IsLeastBroken vars tx cause
-IsPlanFault vars tx _ = ⊥
+abbrev pub IsPlanFault : Setting → Tx → Fault → Type 0
+IsPlanFault set tx fault.Memory = ⊤
+IsPlanFault set tx (fault.BadPlan cause) = IsLeastBroken set.arities set.vars tx cause
+IsPlanFault set tx _ = ⊥
 
-abbrev pub Begins : ℕ → WorldModel → ℕ → Tx → Reply → WorldModel → Type 0
-Begins vars m slot tx reply.Begun m' = BreaksNone vars tx × (m' ≡ with_attempt m slot (Begun tx))
-Begins vars m slot tx (reply.Fault f) m' = IsPlanFault vars tx f × (m' ≡ m)
-Begins vars m slot tx _ m' = ⊥
+abbrev pub Begins : Setting → WorldModel → ℕ → Tx → Reply → WorldModel → Type 0
+Begins set m slot tx reply.Begun m' = BreaksNone set.arities set.vars tx × (m' ≡ with_attempt m slot (Begun tx []))
+Begins set m slot tx (reply.Fault f) m' = IsPlanFault set tx f × (m' ≡ m)
+Begins set m slot tx _ m' = ⊥
 
--- a begun plan is evaluated; one that has ended stays so
-abbrev pub TurnsFrom : Attempt → WorldModel → ℕ → Reply → WorldModel → Type 0
-TurnsFrom NoAttempt m slot r m' = (r ≡ reply.Idle) × (m' ≡ m)
-TurnsFrom (Ended plan) m slot r m' = (r ≡ reply.Ended) × (m' ≡ m)
-TurnsFrom (Begun plan) m slot r m' =
-    ((r ≡ reply.Ended) × (m' ≡ with_attempt m slot (Ended plan))) ⊎ ((r ≡ reply.Fault fault.Memory) × (m' ≡ m))
+-- the values that were read, and those of the map for all other variables
+abbrev pub value_or : Option ℤ → ℤ → ℤ
+value_or (Some n) other = n
+value_or None other = other
 
--- what a plan that has ended is answered while the session is open, and the run after it
-abbrev pub settled_by : Verdict → WorldModel → ℕ → Tx → Reply × WorldModel
-settled_by (Seen at registers) m slot plan = (reply.Seen at registers, with_attempt m slot NoAttempt)
-settled_by (Committed number registers) m slot plan =
-    if nat_eq (number - m.durable) 256 then (reply.Fault fault.Full, m)
-    else if nat_eq number (2 ^ 64 - 1) then (reply.Fault fault.Spent, m)
-    else (reply.Committed number registers, record (with_attempt m slot NoAttempt) { accepted = m.accepted ++ plan ∷ [] })
+abbrev pub overridden : List (ℕ × ℤ) → (ℕ → ℤ) → ℕ → ℤ
+overridden reads values var = value_or (look reads var) (values var)
 
-abbrev pub settled_in : Session → WorldModel → ℕ → Tx → Reply × WorldModel
-settled_in Open m slot plan = settled_by (verdict plan (present m)) m slot plan
-settled_in _ m slot plan = (reply.Fault fault.Closed, m)
+-- A plan that visits a variable which its reads lack reads the present value of the first of these; one that lacks none has ended.
+abbrev pub goes_on : Option ℕ → Meanings → WorldModel → ℕ → Tx → List (ℕ × ℤ) → Reply × WorldModel
+goes_on (Some var) steps m slot plan reads =
+    let value = map_of (present steps m) var in
+    (reply.Read var value, with_attempt m slot (Begun plan (reads ++ (var, value) ∷ [])))
+goes_on None steps m slot plan reads =
+    let values = overridden reads (map_of (present steps m)) in
+    (reply.Ended, with_attempt m slot (Ended plan (valued values (visited steps plan values))))
 
-abbrev pub settled : Attempt → WorldModel → ℕ → Reply × WorldModel
-settled NoAttempt m slot = (reply.Idle, m)
-settled (Begun plan) m slot = (reply.Idle, m)
-settled (Ended plan) m slot = settled_in m.session m slot plan
+-- a begun plan is run on the present map overridden by its reads; one that has ended stays so
+abbrev pub TurnsFrom : Meanings → Attempt → WorldModel → ℕ → Reply → WorldModel → Type 0
+TurnsFrom steps NoAttempt m slot r m' = (r ≡ reply.Idle) × (m' ≡ m)
+TurnsFrom steps (Ended plan reads) m slot r m' = (r ≡ reply.Ended) × (m' ≡ m)
+TurnsFrom steps (Begun plan reads) m slot r m' =
+    ((r, m') ≡ goes_on (first_lacking reads (visited steps plan (overridden reads (map_of (present steps m))))) steps m slot plan reads)
+    ⊎ ((r ≡ reply.Fault fault.Memory) × (m' ≡ m))
+
+abbrev pub is_closed : Session → Bool
+is_closed Open = false
+is_closed _ = true
+
+-- An answer to a plan that has ended, as a reply, and the run after it. A refused attempt stays in its slot.
+abbrev pub settled_as : Result Settled Fault → WorldModel → ℕ → Tx → Reply × WorldModel
+settled_as (Ok (Committed number registers)) m slot plan =
+    (reply.Committed number registers, record (with_attempt m slot NoAttempt) { accepted = m.accepted ++ plan ∷ [] })
+settled_as (Ok (Seen at registers)) m slot plan = (reply.Seen at registers, with_attempt m slot NoAttempt)
+settled_as (Ok Retry) m slot plan = (reply.Retry, with_attempt m slot NoAttempt)
+settled_as (Ok (Aborted code)) m slot plan = (reply.Aborted code, with_attempt m slot NoAttempt)
+settled_as (Err f) m slot plan = (reply.Fault f, m)
+
+-- A plan that has ended is answered by its verdict on the present state, while the values that it read are the present ones.
+abbrev pub settled : Meanings → Attempt → WorldModel → ℕ → Reply × WorldModel
+settled steps NoAttempt m slot = (reply.Idle, m)
+settled steps (Begun plan reads) m slot = (reply.Idle, m)
+settled steps (Ended plan reads) m slot =
+    settled_as (judged (is_closed m.session) (present steps m) m.durable reads (verdict steps plan (present steps m))) m slot plan
 
 -- One record is made durable, or the device fails and the session is closed. After an unknown outcome the doubtful number is what the record would have reached.
 abbrev pub FlushesOne : WorldModel → Reply → WorldModel → Type 0
@@ -113,12 +147,12 @@ FlushesOne m (reply.Fault fault.Unknown) m' =
     m' ≡ record m { session = Closed; failures = after_fault m.failures; doubtful = m.durable + 1 }
 FlushesOne m _ m' = ⊥
 
-abbrev pub FlushesIn : Session → WorldModel → Reply → WorldModel → Type 0
-FlushesIn Open m r m' =
-    MatchBool (nat_eq m.durable (present m).count)
+abbrev pub FlushesIn : Meanings → Session → WorldModel → Reply → WorldModel → Type 0
+FlushesIn steps Open m r m' =
+    MatchBool (nat_eq m.durable (present steps m).count)
     ((r ≡ reply.Durable m.durable) × (m' ≡ m))
     (MatchBool (nat_eq m.used 1) ((r ≡ reply.Fault fault.LogFull) × (m' ≡ m)) (FlushesOne m r m'))
-FlushesIn _ m r m' = (r ≡ reply.Fault fault.Closed) × (m' ≡ m)
+FlushesIn steps _ m r m' = (r ≡ reply.Fault fault.Closed) × (m' ≡ m)
 
 -- without a session
 abbrev pub dropped : WorldModel → WorldModel
@@ -139,17 +173,17 @@ InSession Gone m r m' allowed = (r ≡ reply.Fault fault.Closed) × (m' ≡ m)
 InSession _ m r m' allowed = allowed
 
 -- In this run the event may be answered so, and leads to that run.
-abbrev pub Allows : ℕ → WorldModel → Event → Reply → WorldModel → Type 0
-Allows vars m (event.Begin slot tx) r m' = InSession m.session m r m' (Begins vars m slot tx r m')
-Allows vars m (event.Turn slot) r m' = InSession m.session m r m' (TurnsFrom (attempt_at m slot) m slot r m')
-Allows vars m (event.Settle slot) r m' = InSession m.session m r m' ((r, m') ≡ settled (attempt_at m slot) m slot)
-Allows vars m event.Flush r m' = InSession m.session m r m' (FlushesIn m.session m r m')
-Allows vars m event.Look r m' = InSession m.session m r m' ((r ≡ reply.Looked m.durable) × (m' ≡ m))
-Allows vars m event.Reopen r m' = Reopens m r m'
+abbrev pub Allows : Setting → WorldModel → Event → Reply → WorldModel → Type 0
+Allows set m (event.Begin slot tx) r m' = InSession m.session m r m' (Begins set m slot tx r m')
+Allows set m (event.Turn slot) r m' = InSession m.session m r m' (TurnsFrom set.steps (attempt_at m slot) m slot r m')
+Allows set m (event.Settle slot) r m' = InSession m.session m r m' ((r, m') ≡ settled set.steps (attempt_at m slot) m slot)
+Allows set m event.Flush r m' = InSession m.session m r m' (FlushesIn set.steps m.session m r m')
+Allows set m event.Look r m' = InSession m.session m r m' ((r ≡ reply.Looked m.durable) × (m' ≡ m))
+Allows set m event.Reopen r m' = Reopens m r m'
 
 -- These events may be answered so, one after another.
-abbrev pub Run : ℕ → WorldModel → List Event → List Reply → WorldModel → Type 0
-Run vars m [] [] m' = m' ≡ m
-Run vars m (e ∷ es) (r ∷ rs) m' = (mid : WorldModel) × Allows vars m e r mid × Run vars mid es rs m'
-Run vars m [] (r ∷ rs) m' = ⊥
-Run vars m (e ∷ es) [] m' = ⊥
+abbrev pub Run : Setting → WorldModel → List Event → List Reply → WorldModel → Type 0
+Run set m [] [] m' = m' ≡ m
+Run set m (e ∷ es) (r ∷ rs) m' = (mid : WorldModel) × Allows set m e r mid × Run set mid es rs m'
+Run set m [] (r ∷ rs) m' = ⊥
+Run set m (e ∷ es) [] m' = ⊥

@@ -1,5 +1,5 @@
 // The calls of a device and of its cells, each failure as a fault.
-ghost use Rattle.std.specs.Prelude.{◌≡◌, ◌<◌, ◌≤◌, ◌+◌, ◌↔◌, List, ℕ, length, slice_range, IsTrue, IfOk, OnOk, IfErr};
+ghost use Rattle.std.specs.Prelude.{◌≡◌, ◌<◌, ◌≤◌, ◌+◌, ◌↔◌, length, slice_range, IsTrue, IfOk, OnOk, IfErr};
 ghost use Rattle.tmem_disk.specs.Disk.{LeavesOnly, IsSynced, SameSeenOutside, Reads, overwritten};
 ghost use Rattle.tmem_gate.specs.Gate.{IsOpenAt, IsClosed, IsOpenOver};
 ghost use Rattle.tmem_world.specs.Calls.{Uses};

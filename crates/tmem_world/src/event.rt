@@ -1,19 +1,21 @@
 // What a world is asked, and what it answers.
-use crate::tx::Tx;
 use tmem_disk::Fault;
+use tmem_tree::{REGISTERS, Tx};
 
 /// How many attempts a world holds, numbered from 0.
 pub const ATTEMPTS: usize = 16;
 
 /// One atomic action of a caller.
-#[derive(Debug, Drop)]
+#[derive(Drop)]
 pub enum Event {
     /// Makes a plan of a transaction. The slot, below 16, holds it, whatever it held before.
     /// Refused with `Closed`, `BadPlan`.
     Begin { slot: u8, tx: Tx },
-    /// Evaluates the slot's plan. Refused with `Closed`, `Memory`.
+    /// Evaluates the slot's plan on the values that it has read. Where it needs one more, that is read.
+    /// Refused with `Closed`, `Memory`.
     Turn { slot: u8 },
-    /// Settles the slot's plan once it has ended. Refused with `Closed`, `Full`, `Spent`.
+    /// Settles the slot's attempt once it has ended. Refused with `Closed`, `Conflict`, `Full`, `Spent`; the slot keeps
+    /// it then.
     Settle { slot: u8 },
     /// Makes the oldest accepted transaction that waits durable. Refused with `Closed`, `LogFull`, `Device`, `Unknown`.
     Flush,
@@ -29,14 +31,29 @@ pub enum Event {
 pub enum Reply {
     /// The slot holds the plan.
     Begun,
+    /// The plan needed this variable, and read its present value.
+    Read {
+        var: u16,
+        value: i64,
+    },
     /// The plan has ended.
     Ended,
     /// The slot is empty, or what it holds has not ended.
     Idle,
     /// The transaction was accepted, as the one of this number, and ended with these registers.
-    Committed { number: u64, registers: [i64; 16] },
-    /// The transaction wrote nothing. It ended with these registers, after so many accepted ones.
-    Seen { at: u64, registers: [i64; 16] },
+    Committed {
+        number: u64,
+        registers: [i64; REGISTERS],
+    },
+    /// The transaction changes nothing. It ended with these registers, after so many accepted ones.
+    Seen {
+        at: u64,
+        registers: [i64; REGISTERS],
+    },
+    /// The transaction asks to be run again once some value that it read has changed.
+    Retry,
+    /// The transaction gave up, with this code.
+    Aborted(u16),
     /// So many accepted transactions are durable.
     Durable(u64),
     /// So many accepted transactions are known durable.

@@ -1,65 +1,16 @@
-// How many transactions were accepted and the value of each variable, and their bytes in an image copy.
-ghost use Rattle.std.specs.Prelude.{◌≡◌, ◌≤◌, ◌<◌, ◌+◌, ◌*◌, ◌↔◌, ◌^◌, ℕ, ℤ, length, All, IfOk, IfSome, IfNone, IsTrue};
-ghost use Rattle.tmem_world.specs.State.{State as StateOf, apply, written};
+// States, and their bytes in an image copy.
+ghost use Rattle.std.specs.Prelude.{◌≡◌, ◌≤◌, ◌<◌, ◌+◌, ◌*◌, ◌↔◌, length, IfOk, IfSome, IfNone, IsTrue};
+ghost use Rattle.tmem_record.specs.State.{State as StateOf};
 ghost use Rattle.tmem_world.specs.Layout.{image_size};
 ghost use Rattle.tmem_world.specs.Spelling.{image_body, IsImage};
 ghost use Rattle.tmem_world.specs.Reading.{StandsAt, AreValues, values_bytes, IsFramed};
 
 use crate::bytes::{is_blank, is_number, number_at, value_at};
-use crate::record::Effect;
 use std::alloc::{AllocError, Global};
-use std::marker::Model;
+use tmem_record::{NameSet, State};
 
 // An image's header without its gate.
 const HEADER_ROOM: usize = 2047;
-
-/// How many transactions were accepted, and the value of each variable.
-#[derive(Drop)]
-pub struct State {
-    count: u64,
-    values: Vec<i64>,
-}
-
-impl Model for State {
-    ghost use Rattle.tmem_world.specs.State.{State as StateOf};
-
-    ghost Value = { StateOf };
-
-    ghost view = { λ s. record { count = s.count; values = s.values.items } };
-}
-
-impl State {
-    pub fn count(&self) -> u64
-        ensures { result ≡ self.now.count }
-    {
-        self.count
-    }
-
-    pub fn values(&self) -> &[i64]
-        ensures { result.now ≡ self.now.values }
-    {
-        &self.values
-    }
-
-    /// Accepts a transaction: its variables are set, and the count grows by 1.
-    pub fn accept(&mut self, effect: &Effect)
-        requires within { All (λ w. w.0 < length self.old.values) effect.now.writes }
-        requires room { self.old.count + 1 < 2 ^ 64 }
-        ensures { self.new ≡ apply self.old effect.now }
-    {
-        set_all(&mut self.values, effect.writes());
-        self.count += 1;
-    }
-}
-
-fn set_all(values: &mut Vec<i64>, writes: &[(u16, i64)])
-    requires { All (λ w. w.0 < length values.old.items) writes.now }
-    ensures { values.new.items ≡ written values.old.items writes.now }
-{
-    for write in writes {
-        values[write.0 as usize] = write.1;
-    }
-}
 
 // Whether an image of generation 1 stands there, but for its count and its values.
 fn is_framed(bytes: &[u8], vars: u16) -> bool
@@ -98,6 +49,7 @@ pub fn read_image(alloc: Global, bytes: &[u8], vars: u16) -> Result<Option<State
         return Ok(None);
     }
     let count = number_at(bytes, 8);
+    let names = NameSet::new(alloc)?;
     let values = values_at(alloc, bytes, HEADER_ROOM, vars)?;
-    Ok(Some(State { count, values }))
+    Ok(Some(State::of(count, names, values)))
 }

@@ -1,23 +1,23 @@
 // The state that a device stands for, and one record more.
-ghost use Rattle.std.specs.Prelude.{◌≡◌, ◌⊎◌, ◌<◌, ◌≤◌, ◌+◌, ◌*◌, ◌^◌, ℕ, length, IfOk, OnOk, IfErr, IsErrOf};
+ghost use Rattle.std.specs.Prelude.{[], ◌≡◌, ◌⊎◌, ◌<◌, ◌≤◌, ◌+◌, ◌*◌, ◌^◌, ℕ, length, IfOk, OnOk, IfErr, IsErrOf};
 ghost use Rattle.tmem_disk.specs.Disk.{LeavesOnly, Reads, IsSynced, AtEachMoment};
 ghost use Rattle.tmem_gate.specs.Gate.{IsClosed};
-ghost use Rattle.tmem_world.specs.State.{State as StateOf, first_state};
+ghost use Rattle.tmem_record.specs.State.{State as StateOf, first_state};
+ghost use Rattle.tmem_core.specs.Accepted.{IsAccepted};
 ghost use Rattle.tmem_world.specs.Layout.{slot_place, end_place};
-ghost use Rattle.tmem_world.specs.Spelling.{IsRecord};
 ghost use Rattle.tmem_world.specs.Stands.{StandsFor};
 ghost use Rattle.tmem_world.specs.Looks.{BeginsZero};
 ghost use Rattle.tmem_world.specs.Calls.{Uses, FitsOn, IsWhy, StandsForEither, Appended};
 
 use crate::block::spell_block;
 use crate::calls::{put_cell, sync, write};
-use crate::image::State;
 use crate::layout::Layout;
-use crate::record::{BATCH_ROOM, Effect, spell_batch};
+use crate::record::{BATCH_ROOM, spell_batch};
 use crate::recover::{found_block, found_image, found_log};
 use std::alloc::Global;
 use tmem_disk::{DeviceFault, Disk, Fault};
 use tmem_gate::{open_gate, put_body};
+use tmem_record::{Effect, State};
 
 const BLOCK: usize = 512;
 
@@ -36,7 +36,7 @@ pub fn format<D: Disk>(disk: &mut D, vars: u16, slots: u16) -> Result<(), Fault>
     if disk.size() < layout.end() {
         return Err(Fault::Geometry);
     }
-    erase(disk, layout.end() / 512)?;
+    erase(disk, layout.end() / BLOCK as u64)?;
     put_cell(disk, layout.image(0), &1u64.to_le_bytes())?;
     put_cell(disk, 0, &spell_block(vars, slots))
 }
@@ -50,7 +50,7 @@ fn erase<D: Disk>(disk: &mut D, blocks: u64) -> Result<(), Fault>
     ensures err { IfErr result (λ f. f ≡ Fault.Device) }
 {
     for block in 0..blocks {
-        write(disk, 512 * block, &[0; BLOCK])?;
+        write(disk, BLOCK as u64 * block, &[0; BLOCK])?;
     }
     sync(disk)
 }
@@ -96,7 +96,8 @@ pub(crate) fn append<D: Disk>(
 ) -> Result<(), Fault>
     requires room { end_place layout.vars layout.slots ≤ (D.view disk.old).capacity }
     requires closed { LeavesOnly (D.view disk.old) (IsClosed (slot_place layout.vars 0)) }
-    requires effect { IsRecord layout.vars effect.now }
+    requires effect { IsAccepted layout.vars effect.now }
+    requires names { effect.now.names ≡ [] }
     requires number { first + 1 < 2 ^ 64 }
     ensures uses { Uses (D.view disk.old) (D.view disk.new) result }
     ensures errors { IfErr result (λ f. (f ≡ Fault.Device) ⊎ (f ≡ Fault.Unknown)) }

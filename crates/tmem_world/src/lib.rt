@@ -2,36 +2,27 @@
 //!
 //! `World` is what callers see. Its replies are those of a run of the model (`WorldModel` in `specs/`), and every stop of
 //! its device leaves a content that stands for the serial order of accepted transactions, cut at a number that holds all
-//! that was acknowledged (`Represents`). The modules below it are cut where crates of their own will take over: `tx`,
-//! `limits` and `plan` are trees; `attempt` and `evaluate` evaluation; `record`, `image`, `block`, `bytes` and `layout`
-//! states and their bytes; `calls`, `recover` and `journal` what stands on the device; `core_state` and `session` the
-//! present state and what waits to be made durable.
+//! that was acknowledged (`Represents`). Transactions, their evaluation, effects and states and the core are crates of
+//! their own. The modules below `World` are cut where further crates will take over: `record`, `image`, `block`, `bytes`
+//! and `layout` are the bytes of effects and states; `calls`, `recover` and `journal` what stands on the device; `session`
+//! joins them to the core.
 #![tactic(auto)]
 
-mod attempt;
 mod block;
 mod bytes;
 mod calls;
-mod core_state;
-mod evaluate;
 mod event;
 mod image;
 mod journal;
 mod layout;
-mod limits;
-mod plan;
 mod record;
 mod recover;
 mod session;
 #[cfg(test)]
 mod tests;
-mod tx;
 mod world;
 
-pub use core_state::MAX_WAITING;
 pub use event::{ATTEMPTS, Event, Reply};
 pub use journal::format;
 pub use layout::Layout;
-pub use plan::{MAX_DEPTH, MAX_NODES, MAX_WRITES};
-pub use tx::Tx;
 pub use world::World;

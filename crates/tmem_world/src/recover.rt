@@ -1,21 +1,22 @@
 // The parts of a device as they are found.
-ghost use Rattle.std.specs.Prelude.{◌≡◌, ◌<◌, ◌≤◌, ◌+◌, ◌^◌, ℕ, Option, IfOk, OnOk, IfErr, IfSome, IfNone};
-ghost use Rattle.tmem_disk.specs.Disk.{LeavesOnly};
-ghost use Rattle.tmem_gate.specs.Gate.{IsClosed, IsOpenOver};
-ghost use Rattle.tmem_world.specs.State.{Effect as EffectOf, State as StateOf};
-ghost use Rattle.tmem_world.specs.Layout.{slot_place, end_place};
+ghost use Rattle.std.specs.Prelude.{◌<◌, ◌≤◌, ◌+◌, ◌^◌, Option, IfOk, OnOk, IfErr, IfSome};
+ghost use Rattle.tmem_gate.specs.Gate.{IsOpenOver};
+ghost use Rattle.tmem_record.specs.State.{State as StateOf};
+ghost use Rattle.tmem_record.specs.declared.effect.Effect.{Effect as EffectOf};
+ghost use Rattle.tmem_world.specs.Layout.{end_place};
 ghost use Rattle.tmem_world.specs.Spelling.{block_body, IsRecord, IsImage};
 ghost use Rattle.tmem_world.specs.Calls.{Uses, IsWhy};
 ghost use Rattle.tmem_world.specs.Looks.{LooksOnly};
 ghost use Rattle.tmem_world.specs.Parts.{HoldsImage, ClosedBehind, HoldsSlots};
 
-use crate::block::read_block;
+use crate::block::{BLOCK_ROOM, read_block};
 use crate::calls::{is_open, read};
-use crate::image::{State, read_image};
+use crate::image::read_image;
 use crate::layout::Layout;
-use crate::record::{BATCH_ROOM, Effect, read_batch};
+use crate::record::{BATCH_ROOM, read_batch};
 use std::alloc::Global;
 use tmem_disk::{Disk, Fault};
+use tmem_record::{Effect, State};
 
 // Whether block 0 is that of this layout.
 pub(crate) fn found_block<D: Disk>(disk: &mut D, layout: Layout) -> Result<(), Fault>
@@ -28,7 +29,7 @@ pub(crate) fn found_block<D: Disk>(disk: &mut D, layout: Layout) -> Result<(), F
     if !is_open(disk, 0)? {
         return Err(Fault::NotFormatted);
     }
-    let mut block = [0; 511];
+    let mut block = [0; BLOCK_ROOM];
     read(disk, 1, &mut block)?;
     read_block(&block, layout)
 }

@@ -1,22 +1,23 @@
 // A session over a device: the core, and how much of the log is used.
-ghost use Rattle.std.specs.Prelude.{◌≡◌, ◌+◌, ◌<◌, ◌≤◌, ◌^◌, false, [], length, IfOk, IfErr, OnOk, ℕ};
+ghost use Rattle.std.specs.Prelude.{◌≡◌, ◌+◌, ◌<◌, ◌≤◌, ◌^◌, false, [], length, Ok, IfOk, IfErr, OnOk, ℕ};
 ghost use Rattle.tmem_disk.specs.Disk.{LeavesOnly, Reads, IsSynced};
 ghost use Rattle.tmem_gate.specs.Gate.{IsClosed};
-ghost use Rattle.tmem_world.specs.State.{State};
+ghost use Rattle.tmem_record.specs.State.{State};
+ghost use Rattle.tmem_core.specs.Held.{state_of, waiting_of, durable_of, is_shut_of};
 ghost use Rattle.tmem_world.specs.Layout.{end_place, slot_place};
 ghost use Rattle.tmem_world.specs.Stands.{StandsFor};
 ghost use Rattle.tmem_world.specs.Calls.{Uses, IsWhy};
-ghost use Rattle.tmem_world.specs.Settle.{FitsSlot, Settles};
+ghost use Rattle.tmem_world.specs.Settle.{FitsCore, Settles, reply_of};
 
-use crate::attempt::Attempt;
-use crate::core_state::Core;
 use crate::event::Reply;
 use crate::journal::{append, recover};
 use crate::layout::Layout;
-use crate::plan::Plan;
 use std::alloc::Global;
-use std::mem;
+use tmem_core::{Core, Settled};
 use tmem_disk::{Disk, Fault};
+use tmem_record::Batch;
+use tmem_tentative::{Attempt, Reads};
+use tmem_tree::Plan;
 
 /// How many slots of the log are used so far, at the most.
 pub(crate) const LOG_SLOTS: u16 = 1;
@@ -25,26 +26,27 @@ pub(crate) const LOG_SLOTS: u16 = 1;
 #[derive(Drop)]
 pub(crate) enum Slot {
     Empty,
-    Begun(Plan),
+    /// The plan, and the values that it has read so far.
+    Begun { plan: Plan, reads: Reads },
     Ended(Attempt),
 }
 
-/// What stands between an opening and a stop.
+/// What stands between an opening and a stop. The core is shut once the device has failed.
 #[derive(Drop)]
 pub(crate) struct Session {
     pub(crate) core: Core,
+    pub(crate) batch: Batch,
     pub(crate) used: u16,
-    pub(crate) is_closed: bool,
 }
 
 /// Opens the device. Nothing is written.
 pub(crate) fn find<D: Disk>(alloc: Global, disk: &mut D, layout: Layout) -> Result<Session, Fault>
     requires { end_place layout.vars layout.slots ≤ (D.view disk.old).capacity }
     ensures uses { Uses (D.view disk.old) (D.view disk.new) result }
-    ensures found { (D.view disk.new).keeps_model → IfOk result (λ s. StandsFor layout.vars layout.slots s.used s.core.state (D.view disk.old).seen) }
+    ensures found { (D.view disk.new).keeps_model → IfOk result (λ s. StandsFor layout.vars layout.slots s.used (state_of s.core) (D.view disk.old).seen) }
     ensures refused { IfErr result (IsWhy ((D.view disk.new).keeps_model → (used : ℕ) (s : State) → StandsFor layout.vars layout.slots used s (D.view disk.old).seen → ⊥)) }
-    ensures fresh { IfOk result (λ s. (s.core.waiting.items ≡ []) × (s.is_closed ≡ false)) }
-    ensures sized { IfOk result (λ s. (length s.core.state.values ≡ layout.vars) × (s.used ≤ 1)) }
+    ensures fresh { IfOk result (λ s. (waiting_of s.core ≡ []) × (durable_of s.core ≡ (state_of s.core).count) × (is_shut_of s.core ≡ false)) }
+    ensures sized { IfOk result (λ s. (length (state_of s.core).values ≡ layout.vars) × (s.used ≤ 1)) }
     ensures seen { Reads (D.view disk.new) (D.view disk.old).seen }
     ensures stop { LeavesOnly (D.view disk.new) (D.view disk.old).may_leave }
     ensures synced { OnOk result (IsSynced (D.view disk.new)) }
@@ -52,9 +54,9 @@ pub(crate) fn find<D: Disk>(alloc: Global, disk: &mut D, layout: Layout) -> Resu
 {
     let found = recover(alloc, disk, layout)?;
     Ok(Session {
-        core: Core::new(alloc, found.state)?,
+        core: Core::new(alloc, &found.state)?,
+        batch: Batch::new(alloc)?,
         used: found.used,
-        is_closed: false,
     })
 }
 
@@ -63,71 +65,67 @@ impl Session {
 
     /// Settles what a slot holds.
     pub(crate) fn settle(&mut self, slot: &mut Slot) -> Reply
-        requires { FitsSlot (length self.old.core.state.values) slot.old }
+        requires { FitsCore (length (state_of self.old.core).values) slot.old }
         ensures { Settles self.old slot.old result self.new slot.new }
     {
         let Slot::Ended(attempt) = slot else {
             return Reply::Idle;
         };
-        if self.is_closed {
-            return Reply::Fault(Fault::Closed);
+        match self.core.settle(attempt) {
+            Ok(settled) => {
+                *slot = Slot::Empty;
+                told(settled)
+            }
+            Err(fault) => Reply::Fault(fault),
         }
-        let registers = attempt.registers;
-        let number = self.core.state.count();
-        if attempt.effect.writes().is_empty() {
-            *slot = Slot::Empty;
-            return Reply::Seen {
-                at: number,
-                registers,
-            };
-        }
-        if self.core.is_full() {
-            return Reply::Fault(Fault::Full);
-        }
-        if number == u64::MAX {
-            return Reply::Fault(Fault::Spent);
-        }
-        if let Slot::Ended(attempt) = mem::replace(slot, Slot::Empty) {
-            self.core.accept(attempt.effect);
-        }
-        Reply::Committed { number, registers }
     }
 
     /// Makes the oldest transaction that waits durable, and answers how many are durable then.
-    pub(crate) fn flush<D: Disk>(
-        &mut self,
-        disk: &mut D,
-        layout: Layout,
-        durable: u64,
-    ) -> Result<u64, Fault>
+    pub(crate) fn flush<D: Disk>(&mut self, disk: &mut D, layout: Layout) -> Result<u64, Fault>
         requires room { end_place layout.vars layout.slots ≤ (D.view disk.old).capacity }
-        requires counted { IsCounted layout.vars durable self.old }
+        requires counted { IsCounted layout.vars self.old }
         requires free { IsFree layout.vars self.old (D.view disk.old) }
         ensures uses { Uses (D.view disk.old) (D.view disk.new) result }
-        ensures counted { IsCounted layout.vars (durable_after result durable) self.new }
+        ensures counted { IsCounted layout.vars self.new }
+        ensures durable { durable_of self.new.core ≡ durable_after result (durable_of self.old.core) }
         ensures free { IsFree layout.vars self.new (D.view disk.new) }
-        ensures state { self.new.core.state ≡ self.old.core.state }
-        ensures flushed { Flushes layout.vars layout.slots durable self.old (D.view disk.old) result self.new (D.view disk.new) (disk.new ≡ disk.old) }
+        ensures state { state_of self.new.core ≡ state_of self.old.core }
+        ensures number { IfErr result (λ f. f ≡ Fault.Unknown → durable_of self.old.core + 1 < 2 ^ 64) }
+        ensures flushed { Flushes layout.vars layout.slots self.old (D.view disk.old) result self.new (D.view disk.new) (disk.new ≡ disk.old) }
     {
-        if self.is_closed {
+        if self.core.is_shut() {
             return Err(Fault::Closed);
         }
-        let Some(effect) = self.core.oldest() else {
+        let durable = self.core.durable();
+        if durable == self.core.count() {
             return Ok(durable);
-        };
+        }
         if self.used == LOG_SLOTS {
             return Err(Fault::LogFull);
         }
-        match append(disk, layout, durable, effect) {
+        self.core.take(durable, &mut self.batch);
+        match append(disk, layout, durable, &self.batch.effects()[0]) {
             Ok(()) => {
-                self.core.drop_oldest();
+                self.core.note_durable(durable + 1);
                 self.used = LOG_SLOTS;
                 Ok(durable + 1)
             }
             Err(fault) => {
-                self.is_closed = true;
+                self.core.shut();
                 Err(fault)
             }
         }
+    }
+}
+
+// An answer that is no refusal, as a reply.
+fn told(settled: Settled) -> Reply
+    ensures { result ≡ reply_of (Ok settled) }
+{
+    match settled {
+        Settled::Committed { number, registers } => Reply::Committed { number, registers },
+        Settled::Seen { at, registers } => Reply::Seen { at, registers },
+        Settled::Retry => Reply::Retry,
+        Settled::Aborted(code) => Reply::Aborted(code),
     }
 }

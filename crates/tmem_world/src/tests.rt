@@ -1,4 +1,5 @@
-ghost use Rattle.std.specs.Prelude.{◌≡◌, IfOk};
+ghost use Rattle.std.specs.Prelude.{◌≡◌, ◌<◌, IfOk, length};
+ghost use Rattle.tmem_tentative.specs.Examples.{at_least};
 ghost use Rattle.tmem_world.specs.Represents.{numbers_of, HoldsSession};
 
 use super::*;
@@ -6,6 +7,54 @@ use std::alloc::{AllocError, Global};
 use std::process::Abort;
 use std::test::Fail;
 use tmem_disk::{Disk, Fault, Fill, Name, SimDisk};
+use tmem_tree::{StepAnswer, StoredSteps, Tx};
+
+// Step 0 answers the first of two numbers, and retries where it is less than the second. Step 1 aborts.
+#[derive(Drop)]
+struct TwoSteps;
+
+impl StoredSteps for TwoSteps {
+    ghost use Rattle.std.specs.Prelude.{◌∷◌, [], ◌≡◌, ◌≤◌, ℕ, ℤ, List};
+    ghost use Rattle.std.proofs.Common.{rules, refl};
+    ghost use Rattle.tmem_tentative.specs.Examples.{example_meanings};
+
+    ghost arities = { λ _. 2 ∷ 0 ∷ [] };
+
+    ghost is_stated = { λ _ m. (index : ℕ) (args : List ℤ) → m index args ≡ example_meanings index args };
+
+    fn len(&self) -> usize {
+        2
+    }
+
+    fn arity(&self, index: usize) -> usize {
+        if index == 0 { 2 } else { 0 }
+    }
+
+    fn answer(&self, index: usize, args: &[i64]) -> StepAnswer {
+        if index == 0 {
+            at_least(args)
+        } else {
+            StepAnswer::Abort(9)
+        }
+    }
+
+    ghost few = { λ _. Prim.search rules };
+
+    ghost small = { λ _. Prim.search rules };
+
+    ghost has_meanings = { λ _. ∣ (example_meanings, λ index args. refl) ∣₁ };
+}
+
+fn at_least(args: &[i64]) -> StepAnswer
+    requires { length args.now ≡ 2 }
+    ensures { result ≡ at_least args.now }
+{
+    if args[0] < args[1] {
+        StepAnswer::Retry
+    } else {
+        StepAnswer::Value(args[0])
+    }
+}
 
 // What a test tells of a reply: registers are left out, but for those of a transaction that wrote nothing.
 #[derive(Clone, Copy, Debug, PartialEq, Eq)]
@@ -15,6 +64,9 @@ enum Told {
     Idle,
     Committed(u64),
     Seen(u64, i64),
+    Read(u16, i64),
+    Retry,
+    Aborted(u16),
     Durable(u64),
     Looked(u64),
     Opened(u64),
@@ -29,6 +81,9 @@ fn tell(reply: Reply) -> Told {
         Reply::Idle => Told::Idle,
         Reply::Committed { number, .. } => Told::Committed(number),
         Reply::Seen { at, registers } => Told::Seen(at, registers[0]),
+        Reply::Read { var, value } => Told::Read(var, value),
+        Reply::Retry => Told::Retry,
+        Reply::Aborted(code) => Told::Aborted(code),
         Reply::Durable(n) => Told::Durable(n),
         Reply::Looked(n) => Told::Looked(n),
         Reply::Opened(n) => Told::Opened(n),
@@ -41,6 +96,24 @@ fn write(alloc: Global, var: u16, number: i64) -> Result<Tx, AllocError> {
     Ok(Tx::Seq(vec![in alloc; Tx::Put { reg: 0, number }, Tx::Write { var, reg: 0 }]?))
 }
 
+// Reads a variable and goes on where it is 1 at least; else retries.
+fn need(alloc: Global, var: u16) -> Result<Tx, AllocError> {
+    let args = vec![in alloc; 0, 1]?;
+    Ok(Tx::Seq(vec![in alloc;
+        Tx::Read { var, reg: 0 },
+        Tx::Put { reg: 1, number: 1 },
+        Tx::Step {
+            index: 0,
+            args,
+            out: 2
+        },
+    ]?))
+}
+
+fn either(alloc: Global, first: Tx, second: Tx) -> Result<Tx, AllocError> {
+    Ok(Tx::OrElse(Box::new(alloc, first)?, Box::new(alloc, second)?))
+}
+
 fn fresh(alloc: Global, slots: u16) -> Result<SimDisk, Fail> {
     let layout = Layout::new(4, slots)?;
     let mut disk = SimDisk::new(alloc, layout.end())?;
@@ -48,23 +121,30 @@ fn fresh(alloc: Global, slots: u16) -> Result<SimDisk, Fail> {
     Ok(disk)
 }
 
-fn opened(alloc: Global, disk: SimDisk) -> Result<World<SimDisk>, Fail>
+fn opened(alloc: Global, disk: SimDisk) -> Result<World<SimDisk, TwoSteps>, Fail>
     ensures { IfOk result (λ world. ((numbers_of world).vars ≡ 4) × HoldsSession world) }
 {
-    let opened = World::open(alloc, disk, 4, 4);
+    let opened = World::open(alloc, disk, 4, 4, TwoSteps);
     match opened {
         Ok(world) => Ok(world),
         Err(refusal) => Err(Fail::from(refusal.0)),
     }
 }
 
-// Begins a transaction on slot 0, evaluates it and settles it.
-fn commit(world: &mut World<SimDisk>, tx: Tx) -> Reply
+// Begins a transaction that reads nothing on slot 0, evaluates it and settles it.
+fn commit(world: &mut World<SimDisk, TwoSteps>, tx: Tx) -> Reply
     ensures { numbers_of world.new ≡ numbers_of world.old }
 {
-    let _ = world.step(Event::Begin { slot: 0, tx });
-    let _ = world.step(Event::Turn { slot: 0 });
-    world.step(Event::Settle { slot: 0 })
+    commit_on(world, 0, tx)
+}
+
+fn commit_on(world: &mut World<SimDisk, TwoSteps>, slot: u8, tx: Tx) -> Reply
+    requires { slot < 16 }
+    ensures { numbers_of world.new ≡ numbers_of world.old }
+{
+    let _ = world.step(Event::Begin { slot, tx });
+    let _ = world.step(Event::Turn { slot });
+    world.step(Event::Settle { slot })
 }
 
 #[test]
@@ -100,7 +180,7 @@ fn a_played_list_is_answered_as_its_steps(rt: HostRuntime) -> Result<(), Fail> {
     assert!(rt; world.is_open());
     assert_eq!(rt; world.count(), 1);
     assert_eq!(rt; world.value(0), 5);
-    assert!(rt; !world.has(Name::new("nonneg")?));
+    assert!(rt; !world.has(&Name::new("nonneg")?));
     Ok(())
 }
 
@@ -163,7 +243,7 @@ fn after_a_device_failure_the_session_is_closed(rt: HostRuntime) -> Result<(), F
 
 // Opening a device is refused by this fault.
 fn refuses(rt: &impl Abort, alloc: Global, disk: SimDisk, vars: u16, want: Fault) {
-    let opened = World::open(alloc, disk, vars, 4);
+    let opened = World::open(alloc, disk, vars, 4, TwoSteps);
     match opened {
         Ok(_) => assert!(rt; false, "opened"),
         Err(refusal) => assert_eq!(rt; refusal.0, want),
@@ -218,5 +298,40 @@ fn the_bytes_of_a_fresh_device_and_of_a_first_record(rt: HostRuntime) -> Result<
         0, 0,
     ];
     assert_eq!(rt; slot, want);
+    Ok(())
+}
+
+#[test]
+fn a_choice_of_two_that_wait_reads_both_and_retries(rt: HostRuntime) -> Result<(), Fail> {
+    let alloc = rt.alloc();
+    let mut world = opened(alloc, fresh(alloc, 4)?)?;
+    let tx = either(alloc, need(alloc, 2)?, need(alloc, 3)?)?;
+    assert_eq!(rt; tell(world.step(Event::Begin { slot: 0, tx })), Told::Begun);
+    assert_eq!(rt; tell(world.step(Event::Turn { slot: 0 })), Told::Read(2, 0));
+    assert_eq!(rt; tell(world.step(Event::Turn { slot: 0 })), Told::Read(3, 0));
+    assert_eq!(rt; tell(world.step(Event::Turn { slot: 0 })), Told::Ended);
+    assert_eq!(rt; tell(world.step(Event::Settle { slot: 0 })), Told::Retry);
+    assert_eq!(rt; tell(world.step(Event::Settle { slot: 0 })), Told::Idle);
+    Ok(())
+}
+
+#[test]
+fn a_choice_whose_first_branch_could_go_on_by_now_conflicts(rt: HostRuntime) -> Result<(), Fail> {
+    let alloc = rt.alloc();
+    let mut world = opened(alloc, fresh(alloc, 4)?)?;
+    let tx = either(alloc, need(alloc, 3)?, write(alloc, 2, 1)?)?;
+    assert_eq!(rt; tell(world.step(Event::Begin { slot: 0, tx })), Told::Begun);
+    assert_eq!(rt; tell(world.step(Event::Turn { slot: 0 })), Told::Read(3, 0));
+    assert_eq!(rt; tell(world.step(Event::Turn { slot: 0 })), Told::Ended);
+    assert_eq!(rt;
+        tell(commit_on(&mut world, 1, write(alloc, 3, 1)?)),
+        Told::Committed(0)
+    );
+    assert_eq!(rt;
+        tell(world.step(Event::Settle { slot: 0 })),
+        Told::Fault(Fault::Conflict)
+    );
+    assert!(rt; world.is_open());
+    assert_eq!(rt; world.value(2), 0);
     Ok(())
 }

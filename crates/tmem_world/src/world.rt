@@ -3,53 +3,64 @@ ghost use Rattle.std.specs.Prelude.{◌≡◌, ◌<◌, ◌≤◌, ◌+◌, ◌^
 ghost use Rattle.std.specs.Option.{ForSome};
 ghost use Rattle.std.proofs.Props.{props};
 ghost use Rattle.tmem_disk.specs.Disk.{LeavesOnly, Reads, IsSynced};
-ghost use Rattle.tmem_world.specs.State.{State};
+ghost use Rattle.tmem_record.specs.State.{State};
+ghost use Rattle.tmem_record.specs.Names.{has_name};
+ghost use Rattle.tmem_tree.specs.Answers.{Meanings};
+ghost use Rattle.tmem_core.specs.Held.{state_of, waiting_of, durable_of};
 ghost use Rattle.tmem_world.specs.Layout.{end_place};
 ghost use Rattle.tmem_world.specs.Stands.{StandsFor};
 ghost use Rattle.tmem_world.specs.Calls.{Uses, FitsOn};
-ghost use Rattle.tmem_world.specs.Settle.{FitsSlot};
+ghost use Rattle.tmem_world.specs.Settle.{FitsSlot, Joins, Keeps};
 ghost use Rattle.tmem_world.specs.Facts.{FitsSlot-prop};
-ghost use Rattle.tmem_world.specs.Sessions.{IsCounted, IsFree, doubtful_number};
+ghost use Rattle.tmem_world.specs.Sessions.{IsCounted, IsKnown, IsFree, doubtful_number};
 ghost use Rattle.tmem_world.specs.Events.{NamesSlot};
 ghost use Rattle.tmem_world.specs.WorldModel.{WorldModel, opening, present, Run};
 
-use crate::evaluate::evaluate;
 use crate::event::{ATTEMPTS, Event, Reply};
 use crate::layout::Layout;
-use crate::plan::Plan;
 use crate::session::{Session, Slot, find};
-use crate::tx::Tx;
 use std::alloc::{AllocError, Global};
 use tmem_disk::{Disk, Fault, Name};
+use tmem_tentative::{Outcome, Reads, evaluate};
+use tmem_tree::{Plan, StoredSteps, Tx};
 
 /// Durable transactional memory for one thread: it plays events over the present state and a device.
 #[derive(Drop)]
-pub struct World<D: Disk> {
+pub struct World<D: Disk, S: StoredSteps> {
     alloc: Global,
     disk: D,
     layout: Layout,
+    steps: S,
     session: Option<Session>,
     durable: u64,
     doubtful: u64,
     slots: Vec<Slot>,
     ghost sized: { length slots.items ≡ 16 },
     ghost room: { end_place layout.vars layout.slots ≤ (D.view disk).capacity },
-    ghost fit: { All (FitsSlot layout.vars) slots.items } by { Prim.hlevel (props, FitsSlot-prop) },
-    ghost counted: { ForSome session (IsCounted layout.vars durable) },
+    ghost fit: { All (FitsSlot layout.vars (S.arities steps)) slots.items } by { Prim.hlevel (props, FitsSlot-prop) },
+    ghost counted: { ForSome session (IsCounted layout.vars) },
+    ghost known: { ForSome session (IsKnown durable) },
     ghost free: { ForSome session (λ s. IsFree layout.vars s (D.view disk)) },
 }
 
-impl<D: Disk> World<D> {
-    ghost use Rattle.tmem_world.specs.Represents.{Represents, Steps, Plays, HoldsSession, IsBack, numbers_of, device_of, durable_of};
+impl<D: Disk, S: StoredSteps + Drop> World<D, S> {
+    ghost use Rattle.tmem_world.specs.Represents.{Represents, Steps, Plays, HoldsSession, IsBack, numbers_of, device_of, steps_of, durable_number};
     ghost use Rattle.tmem_world.specs.Replies.{failures_by, failures_by_all, FlushedNothing, IsStill};
 
     /// Opens a device of these numbers: finds what its content stands for, and begins a session there.
     /// Refused by `Geometry` where the numbers are out of limits, the device is smaller than their layout, or it was
     /// formatted for others; by `NotFormatted` and `Damaged` where its content stands for no state; by `Memory`; by
     /// `Device` where a call of the device failed. The device is handed back with the refusal, and nothing was written.
-    pub fn open(alloc: Global, mut disk: D, vars: u16, slots: u16) -> Result<World<D>, (Fault, D)>
-        ensures found { IfOk result (λ w. (s : State) × (used : ℕ) × Represents w (opening s used (D.view disk).failures)
+    pub fn open(
+        alloc: Global,
+        mut disk: D,
+        vars: u16,
+        slots: u16,
+        steps: S,
+    ) -> Result<World<D, S>, (Fault, D)>
+        ensures found { IfOk result (λ w. (s : State) × (used : ℕ) × ((steps : Meanings) → Represents steps w (opening s used (D.view disk).failures))
             × ((D.view (device_of w)).keeps_model → StandsFor vars slots used s (D.view disk).seen)) }
+        ensures steps { IfOk result (λ w. steps_of w ≡ steps) }
         ensures fits { IfOk result (λ w. ((numbers_of w).vars ≡ vars) × ((numbers_of w).slots ≡ slots) × HoldsSession w × FitsOn vars slots (D.view disk).capacity) }
         ensures model { IfOk result (λ w. (D.view (device_of w)).keeps_model → (D.view disk).keeps_model) }
         ensures refused { IfErr result (λ e. IsBack (D.view disk) vars slots e.0 (D.view e.1)) }
@@ -67,11 +78,12 @@ impl<D: Disk> World<D> {
         };
         match find(alloc, &mut disk, layout) {
             Ok(session) => {
-                let durable = session.core.state.count();
+                let durable = session.core.durable();
                 Ok(World {
                     alloc,
                     disk,
                     layout,
+                    steps,
                     session: Some(session),
                     durable,
                     doubtful: durable,
@@ -87,8 +99,9 @@ impl<D: Disk> World<D> {
         requires { NamesSlot event }
         ensures step { Steps self.old event result self.new }
         ensures failures { (D.view (device_of self.new)).failures ≡ failures_by result (D.view (device_of self.old)).failures }
-        ensures still { IsStill (durable_of self.old) event result → device_of self.new ≡ device_of self.old }
+        ensures still { IsStill (durable_number self.old) event result → device_of self.new ≡ device_of self.old }
         ensures numbers { numbers_of self.new ≡ numbers_of self.old }
+        ensures steps { steps_of self.new ≡ steps_of self.old }
         ensures model { (D.view (device_of self.new)).keeps_model → (D.view (device_of self.old)).keeps_model }
     {
         match event {
@@ -107,6 +120,7 @@ impl<D: Disk> World<D> {
         ensures run { IfOk result (λ replies. Plays self.old events.items replies.items self.new) }
         ensures failures { IfOk result (λ replies. (D.view (device_of self.new)).failures ≡ failures_by_all replies.items (D.view (device_of self.old)).failures) }
         ensures numbers { numbers_of self.new ≡ numbers_of self.old }
+        ensures steps { steps_of self.new ≡ steps_of self.old }
         ensures model { (D.view (device_of self.new)).keeps_model → (D.view (device_of self.old)).keeps_model }
         ensures err { IfErr result (λ f. (f ≡ Fault.Memory) × (self.new ≡ self.old)) }
     {
@@ -128,10 +142,10 @@ impl<D: Disk> World<D> {
     /// How many transactions were accepted. A session stands.
     pub fn count(&self) -> u64
         requires { HoldsSession self.now }
-        ensures { (m : WorldModel) → Represents self.now m → result ≡ (present m).count }
+        ensures { (steps : Meanings) (m : WorldModel) → Represents steps self.now m → result ≡ (present steps m).count }
     {
         match &self.session {
-            Some(session) => session.core.state.count(),
+            Some(session) => session.core.count(),
             None => 0,
         }
     }
@@ -140,20 +154,23 @@ impl<D: Disk> World<D> {
     pub fn value(&self, var: u16) -> i64
         requires open { HoldsSession self.now }
         requires var { var < (numbers_of self.now).vars }
-        ensures { (m : WorldModel) → Represents self.now m → result ≡ slice_index_or (present m).values var (pos 0) }
+        ensures { (steps : Meanings) (m : WorldModel) → Represents steps self.now m → result ≡ slice_index_or (present steps m).values var (pos 0) }
     {
         match &self.session {
-            Some(session) => session.core.state.values()[var as usize],
+            Some(session) => session.core.peek(var),
             None => 0,
         }
     }
 
     /// Whether an invariant of this name is registered: none is yet. A session stands.
-    pub fn has(&self, _name: Name) -> bool
+    pub fn has(&self, name: &Name) -> bool
         requires { HoldsSession self.now }
-        ensures { result ≡ false }
+        ensures { (steps : Meanings) (m : WorldModel) → Represents steps self.now m → result ≡ has_name (present steps m).names name.now }
     {
-        false
+        match &self.session {
+            Some(session) => session.core.has(name),
+            None => false,
+        }
     }
 
     /// The device.
@@ -169,17 +186,18 @@ impl<D: Disk> World<D> {
         requires { slot < 16 }
         ensures step { Steps self.old (Event.Begin slot tx) result self.new }
         ensures failures { failures_by result (D.view self.old.disk).failures ≡ (D.view self.old.disk).failures }
-        ensures kept { (self.new.layout ≡ self.old.layout) × (self.new.disk ≡ self.old.disk) }
+        ensures kept { (self.new.layout ≡ self.old.layout) × (self.new.steps ≡ self.old.steps) × (self.new.disk ≡ self.old.disk) }
     {
         if self.session.is_none() {
             return Reply::Fault(Fault::Closed);
         }
-        match Plan::new(tx, self.layout.vars) {
+        match Plan::new(tx, &self.steps, self.layout.vars) {
             Ok(plan) => {
-                self.slots[slot as usize] = Slot::Begun(plan);
+                let reads = Reads::new(self.alloc);
+                self.slots[slot as usize] = Slot::Begun { plan, reads };
                 Reply::Begun
             }
-            Err(cause) => Reply::Fault(Fault::BadPlan(cause)),
+            Err(fault) => Reply::Fault(fault),
         }
     }
 
@@ -188,22 +206,29 @@ impl<D: Disk> World<D> {
         requires { slot < 16 }
         ensures step { Steps self.old (Event.Turn slot) result self.new }
         ensures failures { failures_by result (D.view self.old.disk).failures ≡ (D.view self.old.disk).failures }
-        ensures kept { (self.new.layout ≡ self.old.layout) × (self.new.disk ≡ self.old.disk) }
+        ensures kept { (self.new.layout ≡ self.old.layout) × (self.new.steps ≡ self.old.steps) × (self.new.disk ≡ self.old.disk) }
     {
         if self.session.is_none() {
             return Reply::Fault(Fault::Closed);
         }
-        let evaluated = match &self.slots[slot as usize] {
+        let outcome = match &self.slots[slot as usize] {
             Slot::Empty => return Reply::Idle,
             Slot::Ended(_) => return Reply::Ended,
-            Slot::Begun(plan) => evaluate(self.alloc, plan),
+            Slot::Begun { plan, reads } => evaluate(self.alloc, plan, &self.steps, reads),
         };
-        match evaluated {
-            Ok(attempt) => {
+        match outcome {
+            Ok(Outcome::Need(var)) => {
+                let value = self.value(var);
+                match join(&mut self.slots[slot as usize], var, value) {
+                    Ok(()) => Reply::Read { var, value },
+                    Err(fault) => Reply::Fault(fault),
+                }
+            }
+            Ok(Outcome::Ended(attempt)) => {
                 self.slots[slot as usize] = Slot::Ended(attempt);
                 Reply::Ended
             }
-            Err(_) => Reply::Fault(Fault::Memory),
+            Err(fault) => Reply::Fault(fault),
         }
     }
 
@@ -212,7 +237,7 @@ impl<D: Disk> World<D> {
         requires { slot < 16 }
         ensures step { Steps self.old (Event.Settle slot) result self.new }
         ensures failures { failures_by result (D.view self.old.disk).failures ≡ (D.view self.old.disk).failures }
-        ensures kept { (self.new.layout ≡ self.old.layout) × (self.new.disk ≡ self.old.disk) }
+        ensures kept { (self.new.layout ≡ self.old.layout) × (self.new.steps ≡ self.old.steps) × (self.new.disk ≡ self.old.disk) }
     {
         match &mut self.session {
             None => Reply::Fault(Fault::Closed),
@@ -226,12 +251,13 @@ impl<D: Disk> World<D> {
         ensures failures { (D.view self.new.disk).failures ≡ failures_by result (D.view self.old.disk).failures }
         ensures still { FlushedNothing self.old.durable result → self.new.disk ≡ self.old.disk }
         ensures layout { self.new.layout ≡ self.old.layout }
+        ensures steps { self.new.steps ≡ self.old.steps }
         ensures model { (D.view self.new.disk).keeps_model → (D.view self.old.disk).keeps_model }
     {
         let Some(session) = &mut self.session else {
             return Reply::Fault(Fault::Closed);
         };
-        match session.flush(&mut self.disk, self.layout, self.durable) {
+        match session.flush(&mut self.disk, self.layout) {
             Ok(durable) => {
                 self.durable = durable;
                 self.doubtful = durable;
@@ -260,13 +286,14 @@ impl<D: Disk> World<D> {
         ensures step { Steps self.old Event.Reopen result self.new }
         ensures failures { (D.view self.new.disk).failures ≡ failures_by result (D.view self.old.disk).failures }
         ensures layout { self.new.layout ≡ self.old.layout }
+        ensures steps { self.new.steps ≡ self.old.steps }
         ensures model { (D.view self.new.disk).keeps_model → (D.view self.old.disk).keeps_model }
     {
         self.session = None;
         clear(&mut self.slots);
         match find(self.alloc, &mut self.disk, self.layout) {
             Ok(session) => {
-                self.durable = session.core.state.count();
+                self.durable = session.core.durable();
                 self.doubtful = self.durable;
                 self.session = Some(session);
                 Reply::Opened(self.durable)
@@ -274,6 +301,17 @@ impl<D: Disk> World<D> {
             Err(fault) => Reply::Fault(fault),
         }
     }
+}
+
+// One value more joins those that the slot's plan has read. Its only fault is want of memory.
+fn join(slot: &mut Slot, var: u16, value: i64) -> Result<(), Fault>
+    ensures joins { OnOk result (Joins slot.old var value slot.new) }
+    ensures keeps { IfErr result (λ fault. (fault ≡ Fault.Memory) × Keeps slot.old slot.new) }
+{
+    if let Slot::Begun { reads, .. } = slot {
+        reads.insert(var, value)?;
+    }
+    Ok(())
 }
 
 // Slots that hold nothing.

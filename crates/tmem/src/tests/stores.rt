@@ -3,6 +3,7 @@ use super::expect_lines;
 use std::alloc::{AllocError, Global};
 use std::test::Fail;
 use tmem_disk::{Disk, Fault, SimDisk};
+use tmem_tree::{Steps, StoredSteps};
 use tmem_world::{World, format};
 
 const WRITE: &str =
@@ -100,10 +101,16 @@ fn refusal_after(alloc: Global, pokes: &[(u64, u8)]) -> Result<Option<Fault>, Fa
     for (at, byte) in pokes {
         poke(&mut disk, *at, *byte)?;
     }
-    let opened = World::open(alloc, disk, 4, 4);
+    let steps = Steps::of(Vec::new(alloc))?;
+    Ok(refusal_of(alloc, disk, steps))
+}
+
+/// What opening a device is refused by.
+fn refusal_of<S: StoredSteps + Drop>(alloc: Global, disk: SimDisk, steps: S) -> Option<Fault> {
+    let opened = World::open(alloc, disk, 4, 4, steps);
     match opened {
-        Ok(_) => Ok(None),
-        Err(refusal) => Ok(Some(refusal.0)),
+        Ok(_) => None,
+        Err(refusal) => Some(refusal.0),
     }
 }
 

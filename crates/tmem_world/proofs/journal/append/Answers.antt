@@ -1,5 +1,6 @@
 use Rattle.std.proofs.Common.{rules, ℕ, ◌≤◌, [], ◌∷◌, List, length, take, sym, ◌∙◌, ap, arith, length-take}
 use Rattle.tmem_world.specs.Spelling.{batch_bytes}
+use Rattle.tmem_world.proofs.Batches.{accepted_record}
 use Rattle.tmem_world.proofs.Appending.{while_put, while_opened, once_opened, once_open, at_the_end, or_after, or_after_now}
 use Rattle.tmem_world.proofs.journal.append.Goals as goal
 
@@ -34,7 +35,7 @@ returns-in-Ok-open_gate-clause-stands g c =
     λ s is stands.
     let put = while_put _ _ _ _ s _ short stands c.put_body.ensures.call.model (rw c.slot-at.ensures at c.put_body.ensures.elsewhere) in
     let spelled = c.spell_batch-len.ensures.bytes ∙ ap (λ (n : ℕ). batch_bytes 1 n (c.args.effect.now ∷ [])) (sym is) in
-    once_open _ _ _ _ _ s c.args.effect.now bytes spelled c.requires.effect (omega (arith, is)) put (g.met.D.Disk.is_device c.put_body.new.disk) (rw c.slot-at.ensures at c.put_body.ensures.time) (rw c.slot-at.ensures at c.in-Ok.ensures.stands) c.open_gate.ensures.call.model (rw c.slot-at.ensures at c.open_gate.ensures.time) (g.met.D.Disk.is_device c.open_gate.new.disk) (rw c.slot-at.ensures at c.open_gate.ensures.elsewhere)
+    once_open _ _ _ _ _ s c.args.effect.now bytes spelled (accepted_record c.args.layout.vars c.args.effect.now c.requires.effect c.requires.names c.spell_batch-len.ensures.values) (omega (arith, is)) put (g.met.D.Disk.is_device c.put_body.new.disk) (rw c.slot-at.ensures at c.put_body.ensures.time) (rw c.slot-at.ensures at c.in-Ok.ensures.stands) c.open_gate.ensures.call.model (rw c.slot-at.ensures at c.open_gate.ensures.time) (g.met.D.Disk.is_device c.open_gate.new.disk) (rw c.slot-at.ensures at c.open_gate.ensures.elsewhere)
     (rw c.slot-at.ensures at (c.in-Ok-open_gate.ensures.stands bytes (record { each = λ k d left. (c.in-Ok.ensures.stands.each k d left).body })))
 
 pub returns-in-Ok-open_gate-clause-any_moment : goal.returns-in-Ok-open_gate-clause-any_moment
@@ -44,7 +45,7 @@ returns-in-Ok-open_gate-clause-any_moment g c =
     λ s is stands.
     let put = while_put _ _ _ _ s _ short stands c.put_body.ensures.call.model (rw c.slot-at.ensures at c.put_body.ensures.elsewhere) in
     let spelled = c.spell_batch-len.ensures.bytes ∙ ap (λ (n : ℕ). batch_bytes 1 n (c.args.effect.now ∷ [])) (sym is) in
-    while_opened _ _ _ _ _ s c.args.effect.now bytes spelled c.requires.effect (omega (arith, is)) put (g.met.D.Disk.is_device c.put_body.new.disk) (rw c.slot-at.ensures at c.put_body.ensures.time) (rw c.slot-at.ensures at c.in-Ok.ensures.stands) c.open_gate.ensures.call.model (rw c.slot-at.ensures at c.open_gate.ensures.time)
+    while_opened _ _ _ _ _ s c.args.effect.now bytes spelled (accepted_record c.args.layout.vars c.args.effect.now c.requires.effect c.requires.names c.spell_batch-len.ensures.values) (omega (arith, is)) put (g.met.D.Disk.is_device c.put_body.new.disk) (rw c.slot-at.ensures at c.put_body.ensures.time) (rw c.slot-at.ensures at c.in-Ok.ensures.stands) c.open_gate.ensures.call.model (rw c.slot-at.ensures at c.open_gate.ensures.time)
 
 pub returns-in-Err-open_gate-clause-stands : goal.returns-in-Err-open_gate-clause-stands
 returns-in-Err-open_gate-clause-stands g c =
@@ -53,7 +54,7 @@ returns-in-Err-open_gate-clause-stands g c =
     λ s is stands.
     let put = while_put _ _ _ _ s _ short stands c.put_body.ensures.call.model (rw c.slot-at.ensures at c.put_body.ensures.elsewhere) in
     let spelled = c.spell_batch-len.ensures.bytes ∙ ap (λ (n : ℕ). batch_bytes 1 n (c.args.effect.now ∷ [])) (sym is) in
-    once_opened _ _ _ _ _ s c.args.effect.now bytes spelled c.requires.effect (omega (arith, is)) put (g.met.D.Disk.is_device c.put_body.new.disk) (rw c.slot-at.ensures at c.put_body.ensures.time) (rw c.slot-at.ensures at c.in-Ok.ensures.stands) c.open_gate.ensures.call.model (rw c.slot-at.ensures at c.open_gate.ensures.time) (g.met.D.Disk.is_device c.open_gate.new.disk) (rw c.slot-at.ensures at c.open_gate.ensures.elsewhere)
+    once_opened _ _ _ _ _ s c.args.effect.now bytes spelled (accepted_record c.args.layout.vars c.args.effect.now c.requires.effect c.requires.names c.spell_batch-len.ensures.values) (omega (arith, is)) put (g.met.D.Disk.is_device c.put_body.new.disk) (rw c.slot-at.ensures at c.put_body.ensures.time) (rw c.slot-at.ensures at c.in-Ok.ensures.stands) c.open_gate.ensures.call.model (rw c.slot-at.ensures at c.open_gate.ensures.time) (g.met.D.Disk.is_device c.open_gate.new.disk) (rw c.slot-at.ensures at c.open_gate.ensures.elsewhere)
 
 pub returns-in-Err-open_gate-clause-any_moment : goal.returns-in-Err-open_gate-clause-any_moment
 returns-in-Err-open_gate-clause-any_moment g c =
@@ -62,4 +63,4 @@ returns-in-Err-open_gate-clause-any_moment g c =
     λ s is stands.
     let put = while_put _ _ _ _ s _ short stands c.put_body.ensures.call.model (rw c.slot-at.ensures at c.put_body.ensures.elsewhere) in
     let spelled = c.spell_batch-len.ensures.bytes ∙ ap (λ (n : ℕ). batch_bytes 1 n (c.args.effect.now ∷ [])) (sym is) in
-    while_opened _ _ _ _ _ s c.args.effect.now bytes spelled c.requires.effect (omega (arith, is)) put (g.met.D.Disk.is_device c.put_body.new.disk) (rw c.slot-at.ensures at c.put_body.ensures.time) (rw c.slot-at.ensures at c.in-Ok.ensures.stands) c.open_gate.ensures.call.model (rw c.slot-at.ensures at c.open_gate.ensures.time)
+    while_opened _ _ _ _ _ s c.args.effect.now bytes spelled (accepted_record c.args.layout.vars c.args.effect.now c.requires.effect c.requires.names c.spell_batch-len.ensures.values) (omega (arith, is)) put (g.met.D.Disk.is_device c.put_body.new.disk) (rw c.slot-at.ensures at c.put_body.ensures.time) (rw c.slot-at.ensures at c.in-Ok.ensures.stands) c.open_gate.ensures.call.model (rw c.slot-at.ensures at c.open_gate.ensures.time)

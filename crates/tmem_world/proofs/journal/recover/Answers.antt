@@ -1,10 +1,10 @@
 use Rattle.std.proofs.Common.{ℕ, List, [], None, Some, refl, sym, ◌∙◌, subst, rules, arith}
 use Rattle.std.proofs.lemmas.Result.{err_from_is_err_and}
 use Rattle.tmem_gate.specs.Gate.{IsClosed}
+use Rattle.tmem_record.proofs.Folding.{length-written}
 use Rattle.tmem_world.specs.Layout.{slot_place}
 use Rattle.tmem_world.proofs.Appending.{stands_unused}
 use Rattle.tmem_world.proofs.Recovering.{nothing_found, all_found, stands_with, leaves_seen, why_too}
-use Rattle.tmem_world.proofs.States.{length-written}
 use Rattle.tmem_world.proofs.journal.recover.Goals as goal
 
 pub returns-in_err-found_log-clause-refused : goal.returns-in_err-found_log-clause-refused
@@ -26,7 +26,7 @@ returns-in-None-clause-found g c = λ k.
 pub returns-in-None-clause-closed : goal.returns-in-None-clause-closed
 returns-in-None-clause-closed g c = λ none. leaves_seen (search rules) (λ k.
     let found = rw c.in-None.is at (c.in_ok-found_log.ensures.found k) in
-    subst (λ (seen : List ℕ). IsClosed (slot_place c.args.layout.vars 0) seen) (sym (c.found_log.ensures.looks.seen k)) (found.slot_0 (record { count = c.count.result; values = [] }) refl))
+    subst (λ (seen : List ℕ). IsClosed (slot_place c.args.layout.vars 0) seen) (sym (c.found_log.ensures.looks.seen k)) (found.slot_0 (record { count = c.count.result; names = []; values = [] }) refl))
 
 pub returns-in-Some-clause-found : goal.returns-in-Some-clause-found
 returns-in-Some-clause-found g c = λ k.

@@ -1,4 +1,5 @@
-use Rattle.std.proofs.Common.{refl}
+use Rattle.std.proofs.Common.{refl, ◌∙◌}
+use Rattle.tmem_core.specs.Held.{state_of}
 use Rattle.tmem_world.proofs.Opened.{opens, why_also}
 use Rattle.tmem_world.proofs.world.World.open.Goals as goal
 
@@ -6,9 +7,9 @@ pub returns-in-Ok-find-clause-found : goal.returns-in-Ok-find-clause-found
 returns-in-Ok-find-clause-found g c =
     let s = c.in-Ok-find.session in
     let so = c.in-Ok-find.ensures in (
-      s.core.state,
+      state_of s.core,
       s.used,
-      opens _ s (g.D.Disk.view c.args.disk).failures (g.D.Disk.view c.args.disk).seen refl c.count-durable.ensures c.count-durable.ensures so.fresh.0 so.fresh.1 c.in-Ok-empty_slots.ensures.len c.in-Ok-empty_slots.ensures.emptied so.uses.failures so.found so.seen so.synced,
+      λ steps. opens steps _ s (g.D.Disk.view c.args.disk).failures (g.D.Disk.view c.args.disk).seen refl (c.durable-durable.ensures ∙ so.fresh.1) (c.durable-durable.ensures ∙ so.fresh.1) so.fresh.0 so.fresh.1 so.fresh.2 c.in-Ok-empty_slots.ensures.len c.in-Ok-empty_slots.ensures.emptied so.uses.failures so.found so.seen so.synced,
       λ k. rw (← c.in-Ok.ensures.vars, ← c.in-Ok.ensures.slots) (so.found k),
     )
 

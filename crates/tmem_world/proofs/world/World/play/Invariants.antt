@@ -1,17 +1,19 @@
 use Rattle.std.proofs.Common.{◌≡◌, ℕ, ◌<◌, ◌≤◌, ◌++◌, length}
 use Rattle.std.specs.Vec.{vec_capacity, vec_len}
+use Rattle.tmem_tree.specs.Answers.{Meanings}
 use Rattle.tmem_world.specs.WorldModel.{WorldModel, Run}
 use Rattle.tmem_world.specs.Replies.{failures_by_all, IsAcknowledged}
-use Rattle.tmem_world.specs.Represents.{Represents}
+use Rattle.tmem_world.specs.Represents.{Represents, setting_of}
 use Rattle.tmem_world.proofs.world.World.play.Given as goal
 
 abbrev pub invariant-loop-event : goal.invariant-loop-event
 invariant-loop-event g l = record {
   layout : l.self.layout ≡ l.fn.self.layout;
+  steps : l.self.steps ≡ l.fn.self.steps;
   model : (g.D.Disk.view l.self.disk).keeps_model → (g.D.Disk.view l.fn.self.disk).keeps_model;
   failures : (g.D.Disk.view l.self.disk).failures ≡ failures_by_all l.replies.items (g.D.Disk.view l.fn.self.disk).failures;
   parts : l.yielded ++ l.event-iterator.rest.items ≡ l.fn.events.items;
   long : vec_len l.replies ≡ length l.yielded;
   room : length l.fn.events.items ≤ vec_capacity l.replies;
-  run : (m : WorldModel) → Represents l.fn.self m → (g.D.Disk.view l.self.disk).keeps_model → (m' : WorldModel) × Run l.fn.self.layout.vars m l.yielded l.replies.items m' × Represents l.self m' × (m.durable ≤ m'.durable) × ((number : ℕ) → IsAcknowledged l.replies.items number → number < m'.durable);
+  run : (steps : Meanings) → g.S.StoredSteps.is_stated l.fn.self.steps steps → (m : WorldModel) → Represents steps l.fn.self m → (g.D.Disk.view l.self.disk).keeps_model → (m' : WorldModel) × Run (setting_of l.fn.self steps) m l.yielded l.replies.items m' × Represents steps l.self m' × (m.durable ≤ m'.durable) × ((number : ℕ) → IsAcknowledged l.replies.items number → number < m'.durable);
 }

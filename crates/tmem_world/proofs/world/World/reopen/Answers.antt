@@ -3,11 +3,11 @@ use Rattle.tmem_world.proofs.Reopened.{refused, found}
 use Rattle.tmem_world.proofs.world.World.reopen.Goals as goal
 
 pub returns-in-Ok-clause-step : goal.returns-in-Ok-clause-step
-returns-in-Ok-clause-step g c = λ m r keeps.
+returns-in-Ok-clause-step g c = λ steps stated m r keeps.
     let w = c.args.self.now in
-    found _ _ m r (g.met.D.Disk.is_device w.disk) keeps refl c.clear.ensures.emptied (c.clear.ensures.len ∙ w.sized) c.find.ensures.seen c.find.ensures.stop c.in-Ok.session refl c.count-self.ensures c.count-self.ensures (c.in-Ok.ensures.found keeps) c.in-Ok.ensures.fresh.0 c.in-Ok.ensures.fresh.1 c.in-Ok.ensures.uses.failures c.in-Ok.ensures.synced c.in-Ok.ensures.uses.model c.count-self.result c.count-self.ensures
+    found steps _ _ m r (g.met.D.Disk.is_device w.disk) keeps refl c.clear.ensures.emptied (c.clear.ensures.len ∙ w.sized) c.find.ensures.seen c.find.ensures.stop c.in-Ok.session refl (c.durable-self.ensures ∙ c.in-Ok.ensures.fresh.1) (c.durable-self.ensures ∙ c.in-Ok.ensures.fresh.1) (c.in-Ok.ensures.found keeps) c.in-Ok.ensures.fresh.0 c.in-Ok.ensures.fresh.1 c.in-Ok.ensures.fresh.2 c.in-Ok.ensures.uses.failures c.in-Ok.ensures.synced c.in-Ok.ensures.uses.model c.durable-self.result (c.durable-self.ensures ∙ c.in-Ok.ensures.fresh.1)
 
 pub returns-in-Err-clause-step : goal.returns-in-Err-clause-step
-returns-in-Err-clause-step g c = λ m r keeps.
+returns-in-Err-clause-step g c = λ steps stated m r keeps.
     let w = c.args.self.now in
-    refused _ _ m r (g.met.D.Disk.is_device w.disk) keeps refl c.clear.ensures.emptied (c.clear.ensures.len ∙ w.sized) c.find.ensures.seen c.find.ensures.stop c.in-Err.fault c.in-Err.ensures.uses c.in-Err.ensures.refused refl refl refl
+    refused steps _ _ m r (g.met.D.Disk.is_device w.disk) keeps refl c.clear.ensures.emptied (c.clear.ensures.len ∙ w.sized) c.find.ensures.seen c.find.ensures.stop c.in-Err.fault c.in-Err.ensures.uses c.in-Err.ensures.refused refl refl refl

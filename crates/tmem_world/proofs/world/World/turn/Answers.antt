@@ -1,31 +1,97 @@
-use Rattle.std.proofs.Common.{◌<◌, length, rules, refl, arith}
-use Rattle.tmem_world.specs.WorldModel.{with_attempt, Ended}
-use Rattle.tmem_world.proofs.Points.{in_session, with_slot, slot_holds, turns_idle, turns_ended, turns_over}
+use Rattle.std.proofs.Common.{◌≡◌, ◌<◌, ◌∷◌, ◌++◌, [], length, rules, refl, sym, ◌∙◌, subst, arith, w64, FitsSigned, to_z, of_z}
+use Rattle.std.proofs.lemmas.Int.{to_z-of_z}
+use Rattle.std.proofs.lemmas.List.Elements.{All-set}
+use Rattle.tmem_world.specs.declared.session.Slot.{Slot}
+use Rattle.tmem_world.specs.declared.session.Slot.TheVariants as slot
+use Rattle.tmem_world.specs.Settle.{FitsSlot, Joins, Keeps}
+use Rattle.tmem_world.specs.WorldModel.{with_attempt, attempt_at, Begun, Ended}
+use Rattle.tmem_world.proofs.Points.{in_session, with_slot, slot_holds, at_place, turns_idle, turns_ended, turns_read, turns_end, turns_short, joined, kept, same_attempt, is_begun}
 use Rattle.tmem_world.proofs.world.World.turn.Goals as goal
 
 pub returns-in-Empty-clause-step : goal.returns-in-Empty-clause-step
-returns-in-Empty-clause-step g c = λ m r keeps.
+returns-in-Empty-clause-step g c = λ steps stated m r keeps.
     let below : c.args.slot < length c.args.self.now.slots.items = omega (arith, c.args.self.now.sized) in
-    let holds = slot_holds _ m c.args.slot c.index.result.now r below c.index.ensures in
-    (m, in_session c.args.self.now.session m _ _ _ r.session (search rules) (turns_idle _ _ m c.args.slot holds c.in-Empty.is), r)
+    let holds = slot_holds steps _ m c.args.slot c.index.result.now r below c.index.ensures in (
+      m,
+      in_session steps c.args.self.now.session m _ _ _ r.session (search rules) (turns_idle steps _ _ m c.args.slot holds c.in-Empty.is),
+      record { numbers = r.numbers; slots = r.slots; session = r.session; durable = r.durable; doubtful = r.doubtful; failures = r.failures; device = r.device },
+    )
 
 pub returns-in-Ended-clause-step : goal.returns-in-Ended-clause-step
-returns-in-Ended-clause-step g c = λ m r keeps.
+returns-in-Ended-clause-step g c = λ steps stated m r keeps.
     let below : c.args.slot < length c.args.self.now.slots.items = omega (arith, c.args.self.now.sized) in
-    let holds = slot_holds _ m c.args.slot c.index.result.now r below c.index.ensures in
-    (m, in_session c.args.self.now.session m _ _ _ r.session (search rules) (turns_ended _ _ m c.args.slot _ holds c.in-Ended.is), r)
+    let holds = slot_holds steps _ m c.args.slot c.index.result.now r below c.index.ensures in (
+      m,
+      in_session steps c.args.self.now.session m _ _ _ r.session (search rules) (turns_ended steps _ _ m c.args.slot _ holds c.in-Ended.is),
+      record { numbers = r.numbers; slots = r.slots; session = r.session; durable = r.durable; doubtful = r.doubtful; failures = r.failures; device = r.device },
+    )
+
+pub value-value-requires-clause-var : goal.value-value-requires-clause-var
+value-value-requires-clause-var g c =
+    let w = c.args.self.now in
+    let fits : FitsSlot w.layout.vars (g.S.StoredSteps.arities w.steps) (slot.Begun c.in-Begun.plan c.in-Begun.reads) =
+    subst (FitsSlot w.layout.vars (g.S.StoredSteps.arities w.steps)) (sym c.index.ensures ∙ c.in-Begun.is) (w.fit c.args.slot c.index.result.now (omega (arith, w.sized))) in
+    rw (c.in-Ok-Need.is, c.in-Ok-Need.field-0-is) at (c.evaluate-outcome.ensures.within w.layout.vars fits.0)
+
+pub invariant_of-self-in-Ok-Ended-clause-fit : goal.invariant_of-self-in-Ok-Ended-clause-fit
+invariant_of-self-in-Ok-Ended-clause-fit g c =
+    let w = c.args.self.now in
+    let arities = g.S.StoredSteps.arities w.steps in
+    let fits : FitsSlot w.layout.vars arities (slot.Begun c.in-Begun.plan c.in-Begun.reads) =
+    subst (FitsSlot w.layout.vars arities) (sym c.index.ensures ∙ c.in-Begun.is) (w.fit c.args.slot c.index.result.now (omega (arith, w.sized))) in
+    let within = rw (c.in-Ok-Ended.is, c.in-Ok-Ended.field-0-is) at (c.evaluate-outcome.ensures.within w.layout.vars fits.0) in
+    let effect = rw (c.in-Ok-Ended.is, c.in-Ok-Ended.field-0-is) at c.evaluate-outcome.ensures.fits in
+    All-set (FitsSlot w.layout.vars arities) w.slots.items c.args.slot (slot.Ended c.in-Ok-Ended.attempt) (within, effect.0.no_names) w.fit
 
 pub returns-in-Ok-clause-step : goal.returns-in-Ok-clause-step
-returns-in-Ok-clause-step g c = λ m r keeps.
-    let below : c.args.slot < length c.args.self.now.slots.items = omega (arith, c.args.self.now.sized) in
-    let holds = slot_holds _ m c.args.slot c.index.result.now r below c.index.ensures in (
-      with_attempt m c.args.slot (Ended c.in-Begun.plan.tx),
-      in_session c.args.self.now.session m _ _ _ r.session (search rules) (turns_over _ _ m c.args.slot _ holds c.in-Begun.is).0,
-      with_slot _ _ m c.args.slot _ _ r c.in-Ok.ensures.right refl refl refl refl refl refl,
+returns-in-Ok-clause-step g c = λ steps stated m r keeps.
+    let w = c.args.self.now in
+    let n = to_z w64 (of_z w64 c.value-value.result) in
+    let fits : FitsSigned w64 c.value-value.result = search rules in
+    let below : c.args.slot < length w.slots.items = omega (arith, w.sized) in
+    let holds = slot_holds steps _ m c.args.slot c.index.result.now r below c.index.ensures in
+    let value = to_z-of_z w64 c.value-value.result fits ∙ c.value-value.ensures steps m (record { numbers = r.numbers; slots = r.slots; session = r.session; durable = r.durable; doubtful = r.doubtful; failures = r.failures; device = r.device }) in
+    let right = rw (c.in-Ok-Need.is, c.in-Ok-Need.field-0-is) at (c.evaluate-outcome.ensures.right steps stated) in
+    let lacks = rw (c.in-Ok-Need.is, c.in-Ok-Need.field-0-is) at c.evaluate-outcome.ensures.fits in
+    let same : c.index_mut.result.now ≡ slot.Begun c.in-Begun.plan c.in-Begun.reads =
+    c.index_mut.ensures.value ∙ at_place w.slots.items c.args.slot c.index_mut.result.now c.index.result.now below ∙ sym c.index.ensures ∙ c.in-Begun.is in
+    let joins : Joins (slot.Begun c.in-Begun.plan c.in-Begun.reads) c.in-Ok-Need.var n c.join.new.slot = subst (λ (x : Slot). Joins x c.in-Ok-Need.var n c.join.new.slot) same c.in-Ok.ensures.joins in (
+      with_attempt m c.args.slot (Begun c.in-Begun.plan (c.in-Begun.reads.entries ++ (c.in-Ok-Need.var, n) ∷ [])),
+      in_session steps w.session m _ _ _ r.session (search rules) (turns_read steps m c.args.slot c.index.result.now c.in-Begun.plan c.in-Begun.reads c.in-Ok-Need.var n holds c.in-Begun.is right value),
+      with_slot steps w _ m c.args.slot c.join.new.slot _ r (joined steps c.in-Begun.plan c.in-Begun.reads c.in-Ok-Need.var n c.join.new.slot lacks joins) refl refl refl refl refl refl,
+    )
+
+pub returns-in-Err-join-clause-step : goal.returns-in-Err-join-clause-step
+returns-in-Err-join-clause-step g c = λ steps stated m r keeps.
+    let w = c.args.self.now in
+    let below : c.args.slot < length w.slots.items = omega (arith, w.sized) in
+    let holds = slot_holds steps _ m c.args.slot c.index.result.now r below c.index.ensures in
+    let same : c.index.result.now ≡ c.index_mut.result.now =
+    c.index.ensures ∙ at_place w.slots.items c.args.slot c.index.result.now c.index_mut.result.now below ∙ sym c.index_mut.ensures.value in
+    let keeps : Keeps c.index.result.now c.join.new.slot = subst (λ (x : Slot). Keeps x c.join.new.slot) (sym same) c.in-Err-join.ensures.keeps.1 in (
+      with_attempt m c.args.slot (attempt_at m c.args.slot),
+      rw (same_attempt m c.args.slot) (rw c.in-Err-join.ensures.keeps.0 (in_session steps w.session m _ _ _ r.session (search rules) (turns_short steps m c.args.slot (attempt_at m c.args.slot) c.in-Begun.plan c.in-Begun.reads.entries (is_begun steps c.index.result.now _ c.in-Begun.plan c.in-Begun.reads holds c.in-Begun.is)))),
+      with_slot steps w _ m c.args.slot c.join.new.slot _ r (kept steps c.index.result.now c.join.new.slot (attempt_at m c.args.slot) holds keeps) refl refl refl refl refl refl,
+    )
+
+pub returns-in-Ok-Ended-clause-step : goal.returns-in-Ok-Ended-clause-step
+returns-in-Ok-Ended-clause-step g c = λ steps stated m r keeps.
+    let w = c.args.self.now in
+    let below : c.args.slot < length w.slots.items = omega (arith, w.sized) in
+    let holds = slot_holds steps _ m c.args.slot c.index.result.now r below c.index.ensures in
+    let right = rw (c.in-Ok-Ended.is, c.in-Ok-Ended.field-0-is) at (c.evaluate-outcome.ensures.right steps stated) in
+    let ends = turns_end steps m c.args.slot c.index.result.now c.in-Begun.plan c.in-Begun.reads c.in-Ok-Ended.attempt holds c.in-Begun.is right in (
+      with_attempt m c.args.slot (Ended c.in-Begun.plan c.in-Ok-Ended.attempt.reads.entries),
+      in_session steps w.session m _ _ _ r.session (search rules) ends.0,
+      with_slot steps w _ m c.args.slot (slot.Ended c.in-Ok-Ended.attempt) _ r (ends.1, refl) refl refl refl refl refl refl,
     )
 
 pub returns-in-Err-clause-step : goal.returns-in-Err-clause-step
-returns-in-Err-clause-step g c = λ m r keeps.
-    let below : c.args.slot < length c.args.self.now.slots.items = omega (arith, c.args.self.now.sized) in
-    let holds = slot_holds _ m c.args.slot c.index.result.now r below c.index.ensures in
-    (m, in_session c.args.self.now.session m _ _ _ r.session (search rules) (turns_over _ _ m c.args.slot _ holds c.in-Begun.is).1, r)
+returns-in-Err-clause-step g c = λ steps stated m r keeps.
+    let w = c.args.self.now in
+    let below : c.args.slot < length w.slots.items = omega (arith, w.sized) in
+    let holds = slot_holds steps _ m c.args.slot c.index.result.now r below c.index.ensures in (
+      m,
+      rw c.in-Err.ensures.fault (in_session steps w.session m _ _ _ r.session (search rules) (turns_short steps m c.args.slot (attempt_at m c.args.slot) c.in-Begun.plan c.in-Begun.reads.entries (is_begun steps c.index.result.now _ c.in-Begun.plan c.in-Begun.reads holds c.in-Begun.is))),
+      record { numbers = r.numbers; slots = r.slots; session = r.session; durable = r.durable; doubtful = r.doubtful; failures = r.failures; device = r.device },
+    )

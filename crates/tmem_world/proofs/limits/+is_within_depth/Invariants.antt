@@ -1,8 +1,0 @@
-use Rattle.std.proofs.Common.{◌+◌, ◌≤◌, drop}
-use Rattle.std.specs.Prelude.{◌↔◌}
-use Rattle.tmem_world.specs.Limits.{depth}
-use Rattle.tmem_world.proofs.Rows.{depth_in}
-use Rattle.tmem_world.proofs.limits.+is_within_depth.Given as goal
-
-abbrev pub invariant-loop-t : goal.invariant-loop-t
-invariant-loop-t l = (depth l.tx ≤ l.most) ↔ (depth_in (drop l.t-index l.t-items) + 1 ≤ l.most)
