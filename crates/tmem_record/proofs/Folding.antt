@@ -1,10 +1,12 @@
 -- Laws of what effects make of a state.
-use Rattle.std.proofs.Common.{◌≡◌, ◌≢◌, ℕ, ◌+◌, ◌<◌, ◌≤◌, ◌==◌, ℤ, Bool, true, false, cond, List, [], ◌∷◌, ◌++◌, length, take, drop, get_or, slice_set, Some, IsNone, ◌||◌, bytes_eq, refl, ap, sym, ◌∙◌, arith, length-set}
+use Rattle.std.proofs.Common.{◌≡◌, ◌≢◌, ℕ, ◌+◌, ◌<◌, ◌≤◌, ◌==◌, ℤ, Bool, true, false, cond, List, [], ◌∷◌, ◌++◌, length, take, drop, get_or, slice_set, Some, IsNone, ◌||◌, not, count_by, All, bytes_eq, refl, ap, sym, ◌∙◌, arith, length-set}
 use Rattle.std.proofs.lemmas.Bool.Decides.{nat_tests}
+use Rattle.std.proofs.lemmas.List.Sums.{sum_by-cons}
+use Rattle.std.proofs.lemmas.Slice.Eq.{bytes_eq-Decides}
 use Rattle.std.proofs.lemmas.List.{take_more, take-append-drop, get_or-set_other, get_or-set_same, set_comm, set-set}
 use Rattle.tmem_record.specs.State.{State, Effect, IsEmptyEffect, no_effect, apply, fold, written, variables, look, with_write, AreDistinct, has_name, insert_name, with_names, at_its_place, AreAscending}
 use Rattle.tmem_record.proofs.Writing.{look-absent}
-use Rattle.tmem_record.proofs.Naming.{AllPairs-head, AllPairs-tail, has_name-at_its_place, has_name-there, length-at_its_place, AreAscending-at_its_place}
+use Rattle.tmem_record.proofs.Naming.{All-head, All-tail, AllPairs-head, AllPairs-tail, has_name-at_its_place, has_name-there, length-at_its_place, AreAscending-at_its_place}
 
 -- effects after effects
 pub fold-append : (s : State) (es fs : List Effect) → fold s (es ++ fs) ≡ fold (fold s es) fs
@@ -120,6 +122,11 @@ pub length-with_names-le : (ns ms : List (List ℕ)) → length ns ≤ length (w
 length-with_names-le ns [] = omega arith
 length-with_names-le ns (m ∷ ms) = omega (arith, length-insert_name-le ns m, length-with_names-le (insert_name ns m) ms)
 
+-- so an effect takes no name away, nor do many
+pub length-names-fold-le : (s : State) (es : List Effect) → length s.names ≤ length (fold s es).names
+length-names-fold-le s [] = omega arith
+length-names-fold-le s (e ∷ es) = omega (arith, length-with_names-le s.names e.names, length-names-fold-le (apply s e) es)
+
 -- where all names have room, so has the next one
 pub room_for_next : (ns ms : List (List ℕ)) (k : ℕ) (d : List ℕ) → k < length ms → length (with_names ns ms) ≤ 64 →
     has_name (with_names ns (take k ms)) (get_or ms k d) ≡ false → length (with_names ns (take k ms)) < 64
@@ -158,6 +165,59 @@ has_name-with_names ns (m ∷ ms) name =
     swapped true false c = refl
     swapped false true c = refl
     swapped false false c = refl
+
+-- how many of these are not among those
+abbrev new_of : List (List ℕ) → List (List ℕ) → ℕ
+new_of ns ms = count_by (λ (m : List ℕ). not (has_name ns m)) ms
+
+one_new : List (List ℕ) → List ℕ → ℕ
+one_new ns m = cond (not (has_name ns m)) 1 0
+
+one_new-there : (ns : List (List ℕ)) (m : List ℕ) → has_name ns m ≡ true → one_new ns m ≡ 0
+unfolding one_new
+one_new-there ns m is = ap (λ (b : Bool). cond (not b) 1 0) is
+
+one_new-absent : (ns : List (List ℕ)) (m : List ℕ) → has_name ns m ≡ false → one_new ns m ≡ 1
+unfolding one_new
+one_new-absent ns m is = ap (λ (b : Bool). cond (not b) 1 0) is
+
+one_new-same : (ns os : List (List ℕ)) (m : List ℕ) → has_name ns m ≡ has_name os m → one_new ns m ≡ one_new os m
+unfolding one_new
+one_new-same ns os m same = ap (λ (b : Bool). cond (not b) 1 0) same
+
+new_of-cons : (ns : List (List ℕ)) (m : List ℕ) (ms : List (List ℕ)) → new_of ns (m ∷ ms) ≡ one_new ns m + new_of ns ms
+unfolding one_new
+new_of-cons ns m ms = sum_by-cons (λ (x : List ℕ). cond (not (has_name ns x)) 1 0) m ms
+
+-- a name more makes no difference to another
+has_name-other : (ns : List (List ℕ)) (m x : List ℕ) → m ≢ x → has_name (insert_name ns m) x ≡ has_name ns x
+has_name-other ns m x apart = has_name-insert_name ns m x ∙ other (bytes_eq m x) refl
+  where
+    other : (b : Bool) → bytes_eq m x ≡ b → (b || has_name ns x) ≡ has_name ns x
+    other true is = absurd (apart ((bytes_eq-Decides m x).0 is))
+    other false is = refl
+
+new_of-insert_name : (ns : List (List ℕ)) (m : List ℕ) (ms : List (List ℕ)) → All (λ (x : List ℕ). m ≢ x) ms → new_of (insert_name ns m) ms ≡ new_of ns ms
+new_of-insert_name ns m [] apart = refl
+new_of-insert_name ns m (x ∷ ms) apart =
+    let here = one_new-same (insert_name ns m) ns x (has_name-other ns m x (All-head (λ (y : List ℕ). m ≢ y) x ms apart)) in
+    let rest = new_of-insert_name ns m ms (All-tail (λ (y : List ℕ). m ≢ y) x ms apart) in
+    omega (arith, new_of-cons (insert_name ns m) x ms, new_of-cons ns x ms, here, rest)
+
+grown : (ns : List (List ℕ)) (m : List ℕ) → length (insert_name ns m) ≡ length ns + one_new ns m
+grown ns m = by (has_name ns m) refl
+  where
+    by : (b : Bool) → has_name ns m ≡ b → length (cond b ns (at_its_place ns m)) ≡ length ns + one_new ns m
+    by true is = omega (arith, one_new-there ns m is)
+    by false is = omega (arith, one_new-absent ns m is, length-at_its_place ns m)
+
+-- of distinct names each that is new is added
+pub length-with_names : (ns ms : List (List ℕ)) → AreDistinct ms → length (with_names ns ms) ≡ length ns + count_by (λ (m : List ℕ). not (has_name ns m)) ms
+length-with_names ns [] distinct = omega arith
+length-with_names ns (m ∷ ms) distinct =
+    let apart = AllPairs-head (λ (x y : List ℕ). x ≢ y) m ms distinct in
+    let rest = length-with_names (insert_name ns m) ms (AllPairs-tail (λ (x y : List ℕ). x ≢ y) m ms distinct) in
+    omega (arith, rest, new_of-insert_name ns m ms apart, new_of-cons ns m ms, grown ns m)
 
 -- ascending names stay ascending
 pub AreAscending-insert_name : (ns : List (List ℕ)) (name : List ℕ) → AreAscending ns → AreAscending (insert_name ns name)

@@ -1,5 +1,9 @@
 pub mod Batching
 pub mod Beginnings
+pub mod Delimiting
 pub mod Folding
 pub mod Naming
+pub mod Numbers
+pub mod Putting
+pub mod Reading
 pub mod Writing

@@ -52,6 +52,15 @@ AreChecks-push ns name absent room is_name are =
       distinct = all_pairs_push (λ m n. m ≢ n) ns name are.distinct (names-apart ns name absent);
     }
 
+-- registered names with one more behind them, which is above each
+pub AreRegistered-push : (ns : List (List ℕ)) (name : List ℕ) → All (λ (n : List ℕ). is_before n name ≡ true) ns → length ns < 64 → IsName name → AreRegistered ns → AreRegistered (ns ++ name ∷ [])
+AreRegistered-push ns name below room is_name are =
+    record {
+      few = omega (arith, length-append ns (name ∷ []));
+      names = All-push IsName ns name are.names is_name;
+      ascending = all_pairs_push (λ m n. is_before m n ≡ true) ns name are.ascending below;
+    }
+
 -- a name is put behind those at the front that are below it
 pub at_its_place-insert : (ns : List (List ℕ)) (name : List ℕ) → at_its_place ns name ≡ insert ns (prefix_len (λ n. is_before n name) ns) name
 at_its_place-insert [] name = refl

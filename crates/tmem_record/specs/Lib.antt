@@ -2,5 +2,6 @@ pub mod Batch
 pub mod Begins
 pub mod Distinct
 pub mod Names
+pub mod Spelling
 pub mod State
 pub mod Writes

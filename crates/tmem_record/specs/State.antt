@@ -25,6 +25,10 @@ abbrev pub written : List ℤ → List (ℕ × ℤ) → List ℤ
 written values [] = values
 written values (w ∷ ws) = written (slice_set values w.0 w.1) ws
 
+-- the state with these variables set, and nothing else changed
+abbrev pub overwrite : State → List (ℕ × ℤ) → State
+overwrite s ws = record { count = s.count; names = s.names; values = written s.values ws }
+
 -- the state after an effect: its variables are set, its names are added, and the count grows by 1
 abbrev pub apply : State → Effect → State
 apply s e = record { count = s.count + 1; names = with_names s.names e.names; values = written s.values e.writes }

@@ -1,17 +1,20 @@
-//! What core and journal exchange, with no bytes yet: an effect is what one transaction changes, a state is what all
-//! accepted transactions made, and a batch is a list of effects that fits one slot of the log. Each takes memory when
-//! it is made, and none after that.
+//! What core and journal exchange: an effect is what one transaction changes, a state is what all accepted transactions
+//! made, and a batch is a list of effects that fits one slot of the log. Each takes memory when it is made, and none
+//! after that. A batch has one spelling in bytes, which is written and read here.
 #![tactic(auto)]
 
 mod batch;
+mod codec;
 mod effect;
 mod names;
 mod state;
-#[cfg(test)]
-mod tests;
 mod writes;
 
 pub use batch::{BATCH_BYTES, Batch, MAX_RECORD_BYTES, MAX_RECORDS};
+pub use codec::{
+    BATCH_ROOM, Decoded, HEAD_BYTES, NAME_ROOM, decode_batch, encode_batch, one_spelling,
+    read_head, read_name, write_name,
+};
 pub use effect::Effect;
 pub use names::{MAX_CHECKS, MAX_NAMES, NameSet, Names};
 pub use state::State;

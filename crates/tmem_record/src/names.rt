@@ -1,5 +1,6 @@
 // The names that a transaction checks, and those that are registered.
-ghost use Rattle.std.specs.Prelude.{◌≡◌, ◌≤◌, ◌<◌, ◌==◌, [], length, false, IfOk};
+ghost use Rattle.std.specs.Prelude.{◌≡◌, ◌≤◌, ◌<◌, ◌==◌, ◌↔◌, [], ◌∷◌, ◌++◌, length, true, false, not, count_by, All, IsTrue, IfOk};
+ghost use Rattle.std.specs.Bool.{OnTrue, OnFalse};
 ghost use Rattle.std.specs.List.{prefix_len};
 ghost use Rattle.tmem_disk.specs.Name.{IsName};
 ghost use Rattle.tmem_record.specs.Names.{has_name, with_name, insert_name, is_before, AreChecks, AreRegistered};
@@ -173,6 +174,23 @@ impl NameSet {
         }
     }
 
+    /// Registers a name behind all others. Where 64 are registered already, or one of them is not below it, nothing
+    /// changes and the answer is false.
+    pub fn push(&mut self, name: &Name) -> bool
+        ensures fits { IsTrue result
+            ↔ ((length self.old < MAX_NAMES) × All (λ n. is_before n name.now ≡ true) self.old) }
+        ensures pushed { OnTrue result (self.new ≡ self.old ++ name.now ∷ []) }
+        ensures kept { OnFalse result (self.new ≡ self.old) }
+    {
+        // its letters are a name's, as those of every name
+        let _ = name.as_bytes();
+        if self.items.len() == MAX_NAMES || !are_below(&self.items, name) {
+            return false;
+        }
+        self.items.push(*name).unwrap();
+        true
+    }
+
     /// The same names in memory of their own.
     pub fn copy(&self, alloc: Global) -> Result<NameSet, AllocError>
         ensures { IfOk result (λ names. names ≡ self.now) }
@@ -188,4 +206,24 @@ fn count_below(names: &[Name], name: &Name) -> usize
     ensures { result ≡ prefix_len (λ n. is_before n name.now) names.now }
 {
     names.iter().take_while(|n| *n < name).count()
+}
+
+// Whether each of the names is below this one.
+fn are_below(names: &[Name], name: &Name) -> bool
+    ensures { IsTrue result ↔ All (λ n. is_before n name.now ≡ true) names.now }
+{
+    names.iter().all(|n| n < name)
+}
+
+// How many of the names are not among those that are held.
+pub(crate) fn count_new(held: &[Name], names: &[Name]) -> usize
+    ensures { result ≡ count_by (λ name. not (has_name held.now name)) names.now }
+{
+    let mut count = 0;
+    for name in names {
+        if !holds(held, name) {
+            count += 1;
+        }
+    }
+    count
 }

@@ -1,10 +1,11 @@
 // What all accepted transactions made.
-ghost use Rattle.std.specs.Prelude.{◌≡◌, ◌≤◌, ◌<◌, ◌+◌, ◌^◌, length, All, IfOk, Some, slice_get};
+ghost use Rattle.std.specs.Prelude.{◌≡◌, ◌≤◌, ◌<◌, ◌+◌, ◌^◌, ◌↔◌, length, All, IsTrue, IfOk, Some, slice_get};
+ghost use Rattle.tmem_record.specs.Distinct.{AreDistinct};
 ghost use Rattle.tmem_record.specs.Names.{has_name, with_names, AreRegistered};
-ghost use Rattle.tmem_record.specs.State.{apply, first_state, written};
+ghost use Rattle.tmem_record.specs.State.{apply, first_state, overwrite, written};
 
 use crate::effect::Effect;
-use crate::names::{MAX_NAMES, NameSet};
+use crate::names::{MAX_NAMES, NameSet, count_new};
 use std::alloc::{AllocError, Global};
 use std::marker::Model;
 use tmem_disk::Name;
@@ -89,6 +90,14 @@ impl State {
         self.names.has(name)
     }
 
+    /// Whether these names, none of them twice, can be registered beside those that are.
+    pub fn has_room_for(&self, names: &[Name]) -> bool
+        requires { AreDistinct names.now }
+        ensures { IsTrue result ↔ length (with_names self.now.names names.now) ≤ MAX_NAMES }
+    {
+        count_new(self.names(), names) <= MAX_NAMES - self.names.len()
+    }
+
     /// The same state in memory of its own.
     pub fn copy(&self, alloc: Global) -> Result<State, AllocError>
         ensures { IfOk result (λ s. s ≡ self.now) }
@@ -100,6 +109,14 @@ impl State {
             names,
             values,
         })
+    }
+
+    /// Sets variables, one after another. The count and the names stay.
+    pub fn overwrite(&mut self, writes: &[(u16, i64)])
+        requires { All (λ w. w.0 < length self.old.values) writes.now }
+        ensures { self.new ≡ overwrite self.old writes.now }
+    {
+        set_all(&mut self.values, writes);
     }
 
     /// Accepts a transaction: its variables are set, its names are added, and the count grows by 1.

@@ -1,0 +1,5 @@
+use Rattle.tmem_record.proofs.Reading.{ReadRecords}
+use Rattle.tmem_record.proofs.codec.records_of.Given as goal
+
+abbrev pub invariant-loop : goal.invariant-loop
+invariant-loop l = ReadRecords l.vars l.counter l.batch l.bytes l.rest

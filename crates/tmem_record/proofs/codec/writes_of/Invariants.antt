@@ -1,0 +1,5 @@
+use Rattle.tmem_record.proofs.Reading.{ReadWrites}
+use Rattle.tmem_record.proofs.codec.writes_of.Given as goal
+
+abbrev pub invariant-loop : goal.invariant-loop
+invariant-loop l = ReadWrites l.vars l.counter l.writes l.initial.rest l.rest

@@ -1,0 +1,13 @@
+use Rattle.std.proofs.Common.{◌≡◌, ◌+◌, ℕ, length, ap, sym, ◌∙◌, arith, not, count_by, List}
+use Rattle.std.proofs.lemmas.Bool.{leb-true, le-leb}
+use Rattle.tmem_record.specs.Names.{has_name, with_names}
+use Rattle.tmem_record.proofs.Folding.{length-with_names}
+use Rattle.tmem_record.proofs.state.State.has_room_for.Goals as goal
+
+pub returns : goal.returns
+returns c =
+    let held = c.args.self.now.names in
+    let fresh : c.count_new.result ≡ count_by (λ (m : List ℕ). not (has_name held m)) c.args.names.now = rw c.names.ensures.names at c.count_new.ensures in
+    let count : c.len.result ≡ length held = c.len.ensures.len ∙ ap (λ s. length s.names) c.self.view_is in
+    let all : length (with_names held c.args.names.now) ≡ length held + c.count_new.result = length-with_names held c.args.names.now c.requires ∙ ap (λ (n : ℕ). length held + n) (sym fresh) in
+    (λ yes. let room = leb-true _ _ yes in omega (arith, room, all, count, c.len.ensures.few), λ fits. le-leb _ _ (omega (arith, fits, all, count)))

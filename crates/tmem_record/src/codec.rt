@@ -1,0 +1,379 @@
+// A batch as bytes, and back.
+ghost use Rattle.std.specs.Prelude.{◌≡◌, ◌≤◌, ◌<◌, ◌+◌, ◌*◌, ◌^◌, [], ◌∷◌, ◌++◌, ℕ, ℤ, length, take, drop, flat_map, sum_by, All, IfOk, IfErr, IfSome, IfNone, IsSome, List, FitsSigned};
+ghost use Rattle.std.specs.Int.{w64};
+ghost use Rattle.tmem_disk.specs.Name.{IsName};
+ghost use Rattle.tmem_record.specs.declared.effect.Effect.{Effect as EffectOf};
+ghost use Rattle.tmem_record.specs.State.{AreChecks};
+ghost use Rattle.tmem_record.specs.Begins.{Begins};
+ghost use Rattle.tmem_record.specs.Batch.{record_length, records_length};
+ghost use Rattle.tmem_record.specs.Spelling.{number_bytes, value_bytes, write_bytes, name_bytes, writes_bytes, names_bytes, record_bytes, batch_bytes, HasValues, IsWriteOver, AreWritesOver, IsRecordOver, FitTogether, IsBatchOver, SpellsBatch, OneSpelling};
+
+use crate::batch::{Batch, MAX_RECORDS};
+use crate::effect::Effect;
+use crate::names::{MAX_CHECKS, Names};
+use crate::writes::{MAX_WRITES, Writes};
+use byteorder::{ByteOrder, LittleEndian};
+use std::alloc::Global;
+use tmem_disk::{Fault, Name};
+
+/// How many bytes a batch may have: those of a slot of the log behind its gate.
+pub const BATCH_ROOM: usize = 4095;
+
+/// How many bytes the longest name has, behind its length.
+pub const NAME_ROOM: usize = 17;
+
+/// How many bytes stand between the gate of a slot and its records.
+pub const HEAD_BYTES: usize = 18;
+
+// How many bytes a write has.
+const WRITE_BYTES: usize = 10;
+
+/// A batch that was read.
+#[derive(Drop)]
+pub struct Decoded {
+    /// The generation of the image that it changes.
+    pub generation: u64,
+    /// The number of its first record.
+    pub first: u64,
+    /// Its records in order.
+    pub effects: Batch,
+    /// How many bytes spell it.
+    pub length: usize,
+}
+
+// Writes these over the bytes from a place on, and answers the place behind them.
+fn put(into: &mut [u8], at: usize, bytes: &[u8]) -> usize
+    requires { at + length bytes.now ≤ length into.old }
+    ensures next { result ≡ at + length bytes.now }
+    ensures front { take result into.new ≡ take at into.old ++ bytes.now }
+    ensures rest { drop result into.new ≡ drop result into.old }
+{
+    let next = at + bytes.len();
+    into[at..next].copy_from_slice(bytes);
+    next
+}
+
+// Writes each of the writes from a place on, and answers the place behind them.
+fn put_writes(into: &mut [u8], start: usize, writes: &[(u16, i64)]) -> usize
+    requires { start + 10 * length writes.now ≤ length into.old }
+    ensures next { result ≡ start + 10 * length writes.now }
+    ensures front { take result into.new ≡ take start into.old ++ flat_map write_bytes writes.now }
+    ensures values { HasValues writes.now }
+{
+    let mut at = start;
+    for write in writes {
+        at = put(into, at, &write.0.to_le_bytes());
+        at = put(into, at, &write.1.to_le_bytes());
+    }
+    at
+}
+
+// The same of names, each behind its length.
+fn put_names(into: &mut [u8], start: usize, names: &[Name]) -> usize
+    requires { start + sum_by (λ n. 1 + length n) names.now ≤ length into.old }
+    ensures next { result ≡ start + sum_by (λ n. 1 + length n) names.now }
+    ensures front { take result into.new ≡ take start into.old ++ flat_map name_bytes names.now }
+{
+    let mut at = start;
+    for name in names {
+        let letters = name.as_bytes();
+        at = put(into, at, &[letters.len() as u8]);
+        at = put(into, at, letters);
+    }
+    at
+}
+
+/// Spells a name at the front of a buffer, and answers how many bytes it has. What stands behind them stays.
+pub fn write_name(name: &Name, into: &mut [u8]) -> usize
+    requires { NAME_ROOM ≤ length into.old }
+    ensures next { result ≡ 1 + length name.now }
+    ensures bytes { take result into.new ≡ name_bytes name.now }
+    ensures rest { drop result into.new ≡ drop result into.old }
+{
+    let letters = name.as_bytes();
+    let at = put(into, 0, &[letters.len() as u8]);
+    put(into, at, letters)
+}
+
+// The same of one record.
+fn put_record(into: &mut [u8], start: usize, effect: &Effect) -> usize
+    requires { start + record_length effect.now ≤ length into.old }
+    ensures next { result ≡ start + record_length effect.now }
+    ensures front { take result into.new ≡ take start into.old ++ record_bytes effect.now }
+    ensures values { HasValues effect.now.writes }
+{
+    let writes = effect.writes.as_slice();
+    let names = effect.names.as_slice();
+    let mut at = put(into, start, &[writes.len() as u8]);
+    at = put_writes(into, at, writes);
+    at = put(into, at, &[names.len() as u8]);
+    put_names(into, at, names)
+}
+
+// The same of records.
+fn put_records(into: &mut [u8], start: usize, effects: &[Effect]) -> usize
+    requires { start + records_length effects.now ≤ length into.old }
+    ensures next { result ≡ start + records_length effects.now }
+    ensures front { take result into.new ≡ take start into.old ++ flat_map record_bytes effects.now }
+    ensures values { All (λ e. HasValues e.writes) effects.now }
+{
+    let mut at = start;
+    for effect in effects {
+        at = put_record(into, at, effect);
+    }
+    at
+}
+
+/// Spells a batch at the front of a buffer, and answers how many bytes it has.
+pub fn encode_batch(batch: &Batch, generation: u64, first: u64, into: &mut [u8]) -> usize
+    requires some { 1 ≤ length batch.now }
+    requires room { BATCH_ROOM ≤ length into.old }
+    ensures room { result ≤ BATCH_ROOM }
+    ensures bytes { take result into.new ≡ batch_bytes generation first batch.now }
+    ensures values { All (λ e. HasValues e.writes) batch.now }
+    ensures spells { (vars : ℕ) → All (λ e. All (λ w. w.0 < vars) e.writes) batch.now → SpellsBatch vars generation first batch.now (take result into.new) }
+{
+    let effects = batch.effects();
+    let mut at = put(into, 0, &generation.to_le_bytes());
+    at = put(into, at, &first.to_le_bytes());
+    at = put(into, at, &(effects.len() as u16).to_le_bytes());
+    put_records(into, at, effects)
+}
+
+// The first byte, and what follows it.
+fn byte_of(bytes: &[u8]) -> Option<(u8, &[u8])>
+    ensures found { IfSome result (λ found. bytes.now ≡ found.0 ∷ found.1.now) }
+    ensures none { IfNone result (bytes.now ≡ []) }
+{
+    match bytes {
+        [] => None,
+        [byte, rest @ ..] => Some((*byte, rest)),
+    }
+}
+
+// The number of 2 bytes at the front, and what follows it.
+fn short_of(bytes: &[u8]) -> (u16, &[u8])
+    requires { 2 ≤ length bytes.now }
+    ensures parts { bytes.now ≡ number_bytes 2 result.0 ++ result.1.now }
+    ensures rest { length result.1.now + 2 ≡ length bytes.now }
+{
+    (LittleEndian::read_u16(bytes), &bytes[2..])
+}
+
+// The number of 8 bytes at the front, and what follows it.
+fn number_of(bytes: &[u8]) -> (u64, &[u8])
+    requires { 8 ≤ length bytes.now }
+    ensures parts { bytes.now ≡ number_bytes 8 result.0 ++ result.1.now }
+    ensures rest { length result.1.now + 8 ≡ length bytes.now }
+{
+    (LittleEndian::read_u64(bytes), &bytes[8..])
+}
+
+// The value at the front, and what follows it.
+fn value_of(bytes: &[u8]) -> (i64, &[u8])
+    requires { 8 ≤ length bytes.now }
+    ensures parts { bytes.now ≡ value_bytes result.0 ++ result.1.now }
+    ensures fits { FitsSigned w64 result.0 }
+    ensures rest { length result.1.now + 8 ≡ length bytes.now }
+{
+    (LittleEndian::read_i64(bytes), &bytes[8..])
+}
+
+// The write at the front, of a variable that exists, and what follows it.
+fn write_of(bytes: &[u8], vars: u16) -> Option<((u16, i64), &[u8])>
+    ensures is_write { IfSome result (λ found. IsWriteOver vars found.0) }
+    ensures found { IfSome result (λ found. bytes.now ≡ write_bytes found.0 ++ found.1.now) }
+    ensures none { IfNone result ((w : ℕ × ℤ) (rest : List ℕ) → IsWriteOver vars w → bytes.now ≡ write_bytes w ++ rest → ⊥) }
+{
+    if bytes.len() < WRITE_BYTES {
+        return None;
+    }
+    let (var, rest) = short_of(bytes);
+    let (value, rest) = value_of(rest);
+    if var >= vars {
+        return None;
+    }
+    Some(((var, value), rest))
+}
+
+// The writes of a record, behind how many there are, and what follows them.
+fn writes_of<'a>(bytes: &'a [u8], vars: u16, writes: &mut Writes) -> Option<&'a [u8]>
+    requires { writes.old ≡ [] }
+    ensures are_writes { IfSome result (λ rest. AreWritesOver vars writes.new) }
+    ensures found { IfSome result (λ rest. bytes.now ≡ writes_bytes writes.new ++ rest.now) }
+    ensures none { IfNone result ((ws : List (ℕ × ℤ)) (rest : List ℕ) → AreWritesOver vars ws → bytes.now ≡ writes_bytes ws ++ rest → ⊥) }
+{
+    let (count, behind) = byte_of(bytes)?;
+    if count as usize > MAX_WRITES {
+        return None;
+    }
+    let mut rest = behind;
+    for _ in 0..count {
+        let (write, next) = write_of(rest, vars)?;
+        if writes.has(write.0) {
+            return None;
+        }
+        writes.put(write.0, write.1);
+        rest = next;
+    }
+    Some(rest)
+}
+
+// The name at the front, and what follows it.
+fn name_of(bytes: &[u8]) -> Option<(Name, &[u8])>
+    ensures is_name { IfSome result (λ found. IsName found.0) }
+    ensures found { IfSome result (λ found. bytes.now ≡ name_bytes found.0 ++ found.1.now) }
+    ensures none { IfNone result ((name rest : List ℕ) → IsName name → bytes.now ≡ name_bytes name ++ rest → ⊥) }
+{
+    let (len, behind) = byte_of(bytes)?;
+    if behind.len() < len as usize {
+        return None;
+    }
+    let (letters, rest) = behind.split_at(len as usize);
+    let Ok(text) = std::str::from_utf8(letters) else {
+        return None;
+    };
+    let Ok(name) = Name::new(text) else {
+        return None;
+    };
+    Some((name, rest))
+}
+
+/// The name that a beginning of the bytes spells, or nothing where no beginning spells one.
+pub fn read_name(bytes: &[u8]) -> Option<Name>
+    ensures found { IfSome result (λ name. Begins (name_bytes name) bytes.now) }
+    ensures none { IfNone result ((name : List ℕ) → IsName name → Begins (name_bytes name) bytes.now → ⊥) }
+{
+    match name_of(bytes) {
+        Some((name, _)) => Some(name),
+        None => None,
+    }
+}
+
+// The names of a record, behind how many there are, and what follows them.
+fn names_of<'a>(bytes: &'a [u8], names: &mut Names) -> Option<&'a [u8]>
+    requires { names.old ≡ [] }
+    ensures are_checks { IfSome result (λ rest. AreChecks names.new) }
+    ensures found { IfSome result (λ rest. bytes.now ≡ names_bytes names.new ++ rest.now) }
+    ensures none { IfNone result ((ns : List (List ℕ)) (rest : List ℕ) → AreChecks ns → bytes.now ≡ names_bytes ns ++ rest → ⊥) }
+{
+    let (count, behind) = byte_of(bytes)?;
+    if count as usize > MAX_CHECKS {
+        return None;
+    }
+    let mut rest = behind;
+    for _ in 0..count {
+        let Some((name, next)) = name_of(rest) else {
+            return None;
+        };
+        if names.has(&name) {
+            return None;
+        }
+        names.put(&name);
+        rest = next;
+    }
+    Some(rest)
+}
+
+// The record at the front, and what follows it.
+fn record_of<'a>(bytes: &'a [u8], vars: u16, effect: &mut Effect) -> Option<&'a [u8]>
+    ensures is_record { IfSome result (λ rest. IsRecordOver vars effect.new) }
+    ensures found { IfSome result (λ rest. bytes.now ≡ record_bytes effect.new ++ rest.now) }
+    ensures none { IfNone result ((e : EffectOf) (rest : List ℕ) → IsRecordOver vars e → bytes.now ≡ record_bytes e ++ rest → ⊥) }
+{
+    effect.clear();
+    let behind = writes_of(bytes, vars, &mut effect.writes)?;
+    let rest = names_of(behind, &mut effect.names)?;
+    if effect.is_empty() {
+        return None;
+    }
+    Some(rest)
+}
+
+// So many records from the front on that fit a batch, and what follows them.
+fn records_of<'a>(
+    bytes: &'a [u8],
+    count: u16,
+    vars: u16,
+    effect: &mut Effect,
+    batch: &mut Batch,
+) -> Option<&'a [u8]>
+    requires none_yet { batch.old ≡ [] }
+    requires few { count ≤ MAX_RECORDS }
+    ensures counted { IfSome result (λ rest. length batch.new ≡ count) }
+    ensures together { IfSome result (λ rest. FitTogether vars batch.new) }
+    ensures found { IfSome result (λ rest. bytes.now ≡ flat_map record_bytes batch.new ++ rest.now) }
+    ensures none { IfNone result ((es : List EffectOf) (rest : List ℕ) → length es ≡ count → FitTogether vars es → bytes.now ≡ flat_map record_bytes es ++ rest → ⊥) }
+{
+    let mut rest = bytes;
+    for _ in 0..count {
+        let next = record_of(rest, vars, effect)?;
+        if !batch.push(effect) {
+            return None;
+        }
+        rest = next;
+    }
+    Some(rest)
+}
+
+// The batch at the front: its generation, the number of its first record, and what follows it.
+fn batch_of<'a>(
+    bytes: &'a [u8],
+    vars: u16,
+    effect: &mut Effect,
+    batch: &mut Batch,
+) -> Option<(u64, u64, &'a [u8])>
+    requires { batch.old ≡ [] }
+    ensures is_batch { IfSome result (λ found. IsBatchOver vars batch.new) }
+    ensures found { IfSome result (λ found. bytes.now ≡ batch_bytes found.0 found.1 batch.new ++ found.2.now) }
+    ensures none { IfNone result ((generation first : ℕ) (es : List EffectOf) (rest : List ℕ) → generation < 2 ^ 64 → first < 2 ^ 64 → IsBatchOver vars es → bytes.now ≡ batch_bytes generation first es ++ rest → ⊥) }
+{
+    if bytes.len() < HEAD_BYTES {
+        return None;
+    }
+    let (generation, behind) = number_of(bytes);
+    let (first, behind) = number_of(behind);
+    let (count, behind) = short_of(behind);
+    if count == 0 || count as usize > MAX_RECORDS {
+        return None;
+    }
+    let rest = records_of(behind, count, vars, effect, batch)?;
+    Some((generation, first, rest))
+}
+
+/// The generation, the number of the first record and the number of records, from the bytes that stand between the gate
+/// of a slot and its records.
+pub fn read_head(bytes: &[u8; HEAD_BYTES]) -> (u64, u64, u16)
+    ensures { bytes.now ≡ number_bytes 8 result.0 ++ (number_bytes 8 result.1 ++ number_bytes 2 result.2) }
+{
+    let (generation, behind) = number_of(bytes);
+    let (first, behind) = number_of(behind);
+    let (count, _) = short_of(behind);
+    (generation, first, count)
+}
+
+/// The batch that a beginning of the bytes spells, over so many variables, or nothing where no beginning spells one.
+/// Refused for want of memory alone.
+pub fn decode_batch(alloc: Global, bytes: &[u8], vars: u16) -> Result<Option<Decoded>, Fault>
+    ensures found { IfOk result (λ found. IfSome found (λ d. SpellsBatch vars d.generation d.first d.effects (take d.length bytes.now))) }
+    ensures within { IfOk result (λ found. IfSome found (λ d. d.length ≤ length bytes.now)) }
+    ensures none { IfOk result (λ found. IfNone found ((generation first n : ℕ) (es : List EffectOf) → SpellsBatch vars generation first es (take n bytes.now) → ⊥)) }
+    ensures refused { IfErr result (λ fault. fault ≡ Fault.Memory) }
+{
+    let mut effect = Effect::new(alloc)?;
+    let mut effects = Batch::new(alloc)?;
+    let Some((generation, first, rest)) = batch_of(bytes, vars, &mut effect, &mut effects) else {
+        return Ok(None);
+    };
+    Ok(Some(Decoded {
+        generation,
+        first,
+        effects,
+        length: bytes.len() - rest.len(),
+    }))
+}
+
+/// A batch has one spelling, and no spelling begins that of another batch.
+pub fn one_spelling()
+    ensures { OneSpelling }
+{}
