@@ -4,12 +4,13 @@
 run:
 	cd crates/tmem && rt run -- run < ../../examples/first.json
 
-# Proves and tests everything, and plays each example against its output.
+# Proves and tests everything, and plays each example and each script of the program's tests against its output.
 test: examples
 	rt ci
 
-# Plays each example against its output, without proving anything.
+# Plays each example and each script of the program's tests against its output, without proving anything.
 examples:
 	cd crates/tmem && rt try --cases ../../examples -- run
+	cd crates/tmem && rt try --cases scripts -- run
 
 .PHONY: run test examples

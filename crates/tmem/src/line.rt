@@ -20,6 +20,7 @@ impl fmt::Display for ReplyLine {
             }
             Reply::Retry => write!(f, "retry"),
             Reply::Aborted(code) => write!(f, "aborted {code}"),
+            Reply::Refused(name) => write!(f, "refused {name}"),
             Reply::Durable(durable) => write!(f, "durable {durable}"),
             Reply::Looked(durable) => write!(f, "look {durable}"),
             Reply::Opened(count) => write!(f, "opened {count}"),

@@ -1,8 +1,11 @@
 //! The program as its user sees it: words and input go in, and a status and two texts come out.
 
+mod bytes;
+mod limits;
 mod scripts;
 mod stores;
 mod streams;
+mod tables;
 mod trees;
 mod words;
 
@@ -70,6 +73,11 @@ fn with_name(alloc: Global, words: &[&str]) -> Result<Vec<String>, AllocError> {
         all.push(String::from_str(alloc, word)?)?;
     }
     Ok(all)
+}
+
+/// A script that begins a transaction on four variables and four slots.
+fn with_tx(alloc: Global, tx: &str) -> Result<String, AllocError> {
+    format!(in alloc; r#"{{"vars":4,"slots":4,"events":[{{"begin":[0,{tx}]}}]}}"#)
 }
 
 /// Plays a script from the input.

@@ -4,6 +4,7 @@ use crate::script::ScriptError;
 use crate::steps::index_of;
 use serde_json::Value;
 use std::alloc::Global;
+use tmem_disk::Name;
 use tmem_tree::Tx;
 
 /// Reads a transaction: the word `"skip"` or `"retry"`, or an object with one member such as
@@ -100,6 +101,10 @@ fn leaf_of(alloc: Global, key: &str, body: &Value) -> Result<Tx, ScriptError> {
             let code = short_of(body)?;
             Ok(Tx::Abort { code })
         }
+        "check" => {
+            let name = name_of(body)?;
+            Ok(Tx::Check { name })
+        }
         _ => Err(ScriptError::NoScript),
     }
 }
@@ -107,6 +112,12 @@ fn leaf_of(alloc: Global, key: &str, body: &Value) -> Result<Tx, ScriptError> {
 fn variable_and_register_of(value: &Value) -> Result<(u16, u8), ScriptError> {
     let (var, reg) = pair_of(value)?;
     Ok((short_of(var)?, byte_of(reg)?))
+}
+
+/// The name of an invariant, whether or not there is one of that name.
+fn name_of(value: &Value) -> Result<Name, ScriptError> {
+    let text = value.as_str().ok_or(ScriptError::NoScript)?;
+    Name::new(text).map_err(|_| ScriptError::NoScript)
 }
 
 /// A call of a stored step, by its name.

@@ -1,4 +1,6 @@
 pub mod Folded
+pub mod Known
+pub mod Opens
 pub mod Places
 pub mod Present
 pub mod Registered
@@ -6,3 +8,4 @@ pub mod Rotating
 pub mod Serials
 pub mod Settling
 pub mod Told
+pub mod Trials

@@ -1,4 +1,6 @@
 pub mod Accepted
 pub mod Held
+pub mod Opening
+pub mod Program
 pub mod Settle
 pub mod Verdict

@@ -1,13 +1,14 @@
 -- What a plan is answered on a state, and the serial order of the plans that are accepted.
-use Rattle.std.specs.Prelude.{ℕ, ℤ, pos, Bool, ◌&&◌, ◌==◌, List, [], ◌∷◌, ◌++◌, length, slice_index_or, if◌then◌else◌}
-use Rattle.tmem_record.specs.State.{State, no_effect, fold}
+use Rattle.std.specs.Prelude.{ℕ, ℤ, pos, Bool, ◌&&◌, ◌==◌, List, [], ◌∷◌, ◌++◌, length, Option, Some, None, slice_index_or, if◌then◌else◌}
+use Rattle.tmem_record.specs.State.{State, no_effect, apply, fold}
 use Rattle.tmem_record.specs.declared.effect.Effect.{Effect}
 use Rattle.tmem_tree.specs.declared.tx.Tx.{Tx}
-use Rattle.tmem_tree.specs.Answers.{Meanings}
 use Rattle.tmem_tree.specs.Run as run
 use Rattle.tmem_tree.specs.Run.{run, start}
+use Rattle.tmem_invariants.specs.Meanings.{first_false}
 use Rattle.tmem_core.specs.declared.settled.Settled.{Settled}
-use Rattle.tmem_core.specs.declared.settled.Settled.TheVariants.{Committed, Seen, Retry, Aborted}
+use Rattle.tmem_core.specs.declared.settled.Settled.TheVariants.{Committed, Seen, Retry, Aborted, Refused}
+use Rattle.tmem_core.specs.Program.{Program}
 
 -- the map that a plan is run on: the value of each variable of a state
 abbrev pub map_of : State → ℕ → ℤ
@@ -17,19 +18,32 @@ map_of s var = slice_index_or s.values var (pos 0)
 abbrev pub is_nothing : Effect → Bool
 is_nothing e = (length e.writes == 0) && (length e.names == 0)
 
--- the answer to a run that ended normally: what it changes is accepted under the count of those before it
-abbrev pub verdict_normal : ℕ → Effect → List ℤ → Settled
-verdict_normal count e registers = if is_nothing e then Seen count registers else Committed count registers
+-- the first name, in the table's order, that is registered or that the effect proposes, and is false of the map that the
+-- effect makes
+abbrev pub first_broken : Program → State → Effect → Option (List ℕ)
+first_broken p s e = first_false p.tests p.names s.names e.names (apply s e).values
 
--- the answer to a run that ended so, on a state of this count
-abbrev pub verdict_on : run.Ending → ℕ → Settled
-verdict_on (run.Normal view) count = verdict_normal count view.effect view.registers
-verdict_on run.Retried count = Retry
-verdict_on (run.Aborted code) count = Aborted code
+-- refused with a broken name, if there is one
+abbrev pub unless_broken : Option (List ℕ) → Settled → Settled
+unless_broken (Some name) v = Refused name
+unless_broken None v = v
 
--- what a plan is answered on a state (Harris et al. 2005, section 3: one atomic step)
-abbrev pub verdict : Meanings → Tx → State → Settled
-verdict steps tx s = verdict_on (run steps tx (start (map_of s))) s.count
+-- the answer to a run that ended normally: what it changes is accepted under the count of those before it, where every
+-- invariant is true of the new map
+abbrev pub verdict_normal : Program → State → Effect → List ℤ → Settled
+verdict_normal p s e registers =
+    unless_broken (first_broken p s e) (if is_nothing e then Seen s.count registers else Committed s.count registers)
+
+-- the answer to a run on a state, that ended so
+abbrev pub verdict_on : Program → State → run.Ending → Settled
+verdict_on p s (run.Normal view) = verdict_normal p s view.effect view.registers
+verdict_on p s run.Retried = Retry
+verdict_on p s (run.Aborted code) = Aborted code
+
+-- what a plan is answered on a state (Harris et al. 2005, section 3: one atomic step; Harris and Peyton Jones 2006: every
+-- invariant is tested at its end)
+abbrev pub verdict : Program → Tx → State → Settled
+verdict p tx s = verdict_on p s (run p.steps tx (start (map_of s)))
 
 -- what a run would change
 abbrev pub effect_on : run.Ending → Effect
@@ -37,8 +51,8 @@ effect_on (run.Normal view) = view.effect
 effect_on _ = no_effect
 
 -- the effect of a plan on a state
-abbrev pub effect_of : Meanings → Tx → State → Effect
-effect_of steps tx s = effect_on (run steps tx (start (map_of s)))
+abbrev pub effect_of : Program → Tx → State → Effect
+effect_of p tx s = effect_on (run p.steps tx (start (map_of s)))
 
 -- what an answer accepts: only Committed accepts the effect
 abbrev pub accepted : Settled → Effect → List Effect
@@ -46,17 +60,17 @@ accepted (Committed number registers) e = e ∷ []
 accepted _ e = []
 
 -- what a plan adds to the accepted effects
-abbrev pub accepted_of : Meanings → Tx → State → List Effect
-accepted_of steps tx s = accepted (verdict steps tx s) (effect_of steps tx s)
+abbrev pub accepted_of : Program → Tx → State → List Effect
+accepted_of p tx s = accepted (verdict p tx s) (effect_of p tx s)
 
 -- the state after a plan
-abbrev pub state_after : Meanings → State → Tx → State
-state_after steps s tx = fold s (accepted_of steps tx s)
+abbrev pub state_after : Program → State → Tx → State
+state_after p s tx = fold s (accepted_of p tx s)
 
 -- the verdicts and the states of these plans, one after another
-abbrev pub serial : Meanings → State → List Tx → List (Settled × State)
-serial steps s [] = []
-serial steps s (tx ∷ txs) = (verdict steps tx s, state_after steps s tx) ∷ serial steps (state_after steps s tx) txs
+abbrev pub serial : Program → State → List Tx → List (Settled × State)
+serial p s [] = []
+serial p s (tx ∷ txs) = (verdict p tx s, state_after p s tx) ∷ serial p (state_after p s tx) txs
 
 -- the state after the last of them
 abbrev pub last_state : State → List (Settled × State) → State
@@ -64,13 +78,13 @@ last_state s [] = s
 last_state s (step ∷ steps) = last_state step.1 steps
 
 -- the state after these plans
-abbrev pub serial_state : Meanings → State → List Tx → State
-serial_state steps s txs = last_state s (serial steps s txs)
+abbrev pub serial_state : Program → State → List Tx → State
+serial_state p s txs = last_state s (serial p s txs)
 
 -- the effects that these plans add, in order
-abbrev pub serial_effects : Meanings → State → List Tx → List Effect
-serial_effects steps s [] = []
-serial_effects steps s (tx ∷ txs) = accepted_of steps tx s ++ serial_effects steps (state_after steps s tx) txs
+abbrev pub serial_effects : Program → State → List Tx → List Effect
+serial_effects p s [] = []
+serial_effects p s (tx ∷ txs) = accepted_of p tx s ++ serial_effects p (state_after p s tx) txs
 
 -- it is accepted
 abbrev pub IsCommitted : Settled → Type 0
@@ -78,6 +92,6 @@ IsCommitted (Committed number registers) = Unit {0}
 IsCommitted _ = ⊥
 
 -- each of these plans is accepted, on the state after those before it
-abbrev pub AreCommitted : Meanings → State → List Tx → Type 0
-AreCommitted steps s [] = Unit {0}
-AreCommitted steps s (tx ∷ txs) = IsCommitted (verdict steps tx s) × AreCommitted steps (state_after steps s tx) txs
+abbrev pub AreCommitted : Program → State → List Tx → Type 0
+AreCommitted p s [] = Unit {0}
+AreCommitted p s (tx ∷ txs) = IsCommitted (verdict p tx s) × AreCommitted p (state_after p s tx) txs

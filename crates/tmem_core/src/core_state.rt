@@ -1,13 +1,14 @@
 // The core.
-ghost use Rattle.std.specs.Prelude.{◌≡◌, ◌≤◌, ◌<◌, ◌+◌, ◌-◌, true, false, not, [], ◌++◌, length, drop, take, slice_get, Some, All, IfOk, IfErr};
+ghost use Rattle.std.specs.Prelude.{◌≡◌, ◌≢◌, ◌≤◌, ◌<◌, ◌+◌, ◌-◌, true, false, not, [], ◌++◌, length, drop, take, slice_get, Some, All, IsTrue, IfOk, IfErr, IfSome};
 ghost use Rattle.std.specs.Map.{keys_of};
 ghost use Rattle.std.proofs.Props.{props};
 ghost use Rattle.tmem_record.specs.Names.{has_name, with_names, AreChecks, AreRegistered, AreRegistered-prop};
-ghost use Rattle.tmem_record.specs.State.{fold};
+ghost use Rattle.tmem_record.specs.State.{apply, fold};
 ghost use Rattle.tmem_record.specs.Writes.{AreWrites};
 ghost use Rattle.tmem_record.specs.declared.names.TheConstants.{MAX_NAMES};
 ghost use Rattle.tmem_tree.specs.declared.tx.Tx.{Tx};
-ghost use Rattle.tmem_tree.specs.Answers.{Meanings};
+ghost use Rattle.tmem_invariants.specs.Meanings.{Meanings, AllHold, IsSound, first_false};
+ghost use Rattle.tmem_invariants.specs.Names.{is_among};
 ghost use Rattle.tmem_tentative.specs.Fits.{IsForVariables};
 ghost use Rattle.tmem_tentative.specs.Right.{IsRight};
 ghost use Rattle.tmem_core.specs.Settle.{is_stale};
@@ -15,9 +16,11 @@ ghost use Rattle.tmem_core.specs.Verdict.{is_nothing};
 ghost use Rattle.tmem_core.specs.Accepted.{IsAccepted, IsAccepted-prop, IsFolded};
 
 use crate::settled::Settled;
+use crate::trial::first_false;
 use crate::waiting::{MAX_WAITING, Waiting};
-use std::alloc::Global;
+use std::alloc::{AllocError, Global};
 use tmem_disk::{Fault, Name};
+use tmem_invariants::Tests;
 use tmem_record::{Batch, Effect, State};
 use tmem_tentative::{Attempt, Ending, Reads};
 use tmem_tree::REGISTERS;
@@ -28,11 +31,21 @@ pub const MAX_TAKEN: usize = 1;
 /// The present state, and the effects that are accepted and not known durable. Contracts speak of its parts by the words
 /// of `specs/Held`.
 #[derive(Drop)]
-pub struct Core {
+pub struct Core<T: Tests> {
+    table: T,
     state: State,
     waiting: Waiting,
     durable: u64,
     is_shut: bool,
+
+    /// The table is over the variables of the state.
+    pub ghost sized: { T.vars table ≡ length state.values },
+
+    /// Each registered name is in the table.
+    pub ghost known: { All (λ name. IsTrue (is_among (T.names table) name)) state.names },
+
+    /// Each is true of the present map.
+    pub ghost sound: { (m : Meanings) → T.is_stated table m → AllHold m state.names state.values },
 
     /// What is accepted is durable or waits.
     pub ghost counted: { state.count ≡ durable + length waiting },
@@ -50,31 +63,65 @@ pub struct Core {
     pub ghost each: { All (IsAccepted (length state.values)) waiting } by { Prim.hlevel (props, IsAccepted-prop) },
 }
 
-impl Core {
-    ghost use Rattle.tmem_core.specs.Held.{state_of, waiting_of, durable_of, is_shut_of};
+impl<T: Tests + Drop> Core<T> {
+    ghost use Rattle.tmem_core.specs.Held.{state_of, waiting_of, durable_of, is_shut_of, table_of};
+    ghost use Rattle.tmem_core.specs.Opening.{opening_fault, IsOpeningRefusal};
+    ghost use Rattle.tmem_core.specs.Program.{Program};
     ghost use Rattle.tmem_core.specs.Verdict.{verdict};
-    ghost use Rattle.tmem_core.specs.Settle.{settle_answer, normal_answer, accepted_by, judged, IsAdded};
+    ghost use Rattle.tmem_core.specs.Settle.{settle_answer, normal_answer, sound_answer, accepted_by, judged, IsRefusal, IsAdded};
 
-    /// A core of this state, all of it durable, with room for all that may wait: no other call takes memory. Its only fault
-    /// is want of memory.
-    pub fn new(alloc: Global, state: &State) -> Result<Core, Fault>
+    /// A core of this state, all of it durable, with room for all that may wait: no other call takes memory. Refused with
+    /// `Missing` and the first registered name, by bytes, that the table lacks; else with `Broken` and the first one in
+    /// the table's order that is registered and false; and for want of memory. The table is handed back then.
+    pub fn new(alloc: Global, state: &State, table: T) -> Result<Core<T>, (Fault, T)>
+        requires vars { T.vars table ≡ length state.now.values }
         ensures state { IfOk result (λ core. state_of core ≡ state.now) }
         ensures waiting { IfOk result (λ core. waiting_of core ≡ []) }
         ensures durable { IfOk result (λ core. durable_of core ≡ state.now.count) }
         ensures shut { IfOk result (λ core. is_shut_of core ≡ false) }
-        ensures fault { IfErr result (λ fault. fault ≡ Fault.Memory) }
+        ensures table { IfOk result (λ core. table_of core ≡ table) }
+        ensures back { IfErr result (λ refused. refused.1 ≡ table) }
+        ensures refused { IfErr result (λ refused. IsOpeningRefusal refused.0) }
+        ensures sound { (m : Meanings) → T.is_stated table m → IfOk result (λ core. IsSound m (T.names table) state.now.names state.now.values) }
+        ensures unsound { (m : Meanings) → T.is_stated table m → IfErr result (λ refused. refused.0 ≢ Fault.Memory → ¬ IsSound m (T.names table) state.now.names state.now.values) }
+        ensures fault { (p : Program) → p.names ≡ T.names table → T.is_stated table p.tests
+            → IfErr result (λ refused. refused.0 ≢ Fault.Memory → opening_fault p state.now ≡ Some refused.0) }
     {
-        // these are registered names, as those of every core
-        let _ = state.names();
-        let state = state.copy(alloc)?;
-        let waiting = Waiting::new(alloc)?;
-        let durable = state.count();
-        Ok(Core {
-            state,
-            waiting,
-            durable,
-            is_shut: false,
-        })
+        if let Some(name) = table.missing(state.names()) {
+            return Err((Fault::Missing(name), table));
+        }
+        if let Some(place) = table.test_all(state.values(), state.names(), &[]) {
+            let name = table.name(place);
+            return Err((Fault::Broken(name), table));
+        }
+        match copies(alloc, state) {
+            Ok((state, waiting)) => {
+                let durable = state.count();
+                Ok(Core {
+                    table,
+                    state,
+                    waiting,
+                    durable,
+                    is_shut: false,
+                })
+            }
+            Err(_) => Err((Fault::Memory, table)),
+        }
+    }
+
+    /// The table that it was made with.
+    pub fn table(&self) -> &T
+        ensures { result.now ≡ table_of self.now }
+    {
+        &self.table
+    }
+
+    /// The same, once the core is not needed any more.
+    pub fn into_table(self) -> T
+        ensures { result ≡ table_of self }
+    {
+        let Core { table, .. } = self;
+        table
     }
 
     /// How many variables there are.
@@ -134,25 +181,30 @@ impl Core {
         ensures state { state_of self.new ≡ state_of self.old }
         ensures waiting { waiting_of self.new ≡ waiting_of self.old }
         ensures durable { durable_of self.new ≡ durable_of self.old }
+        ensures table { table_of self.new ≡ table_of self.old }
     {
         self.is_shut = true;
     }
 
     /// Settles an attempt by the present state, and accepts its effect where it commits. Refused with `Closed` where the
     /// core is shut; with `Conflict` where a value that was read is not the present one; with `Full` where as many as may
-    /// wait do; with `Spent` where no greater count is left. Nothing changes then.
+    /// wait do; with `Spent` where no greater count is left. Nothing changes then, nor where the answer is no `Committed`.
     pub fn settle(&mut self, attempt: &Attempt) -> Result<Settled, Fault>
         requires variables { IsForVariables (length (state_of self.old).values) attempt.now }
-        requires room { length (with_names (state_of self.old).names attempt.now.effect.names) ≤ MAX_NAMES }
-        ensures answer { result ≡ settle_answer (is_shut_of self.old) (state_of self.old) (durable_of self.old) attempt.now }
+        requires names { All (λ name. IsTrue (is_among (T.names (table_of self.old)) name)) attempt.now.effect.names }
+        ensures answer { (p : Program) → p.names ≡ T.names (table_of self.old) → T.is_stated (table_of self.old) p.tests
+            → result ≡ settle_answer p (is_shut_of self.old) (state_of self.old) (durable_of self.old) attempt.now }
+        ensures refused { IfErr result IsRefusal }
         ensures state { state_of self.new ≡ fold (state_of self.old) (accepted_by result attempt.now.effect) }
         ensures waiting { waiting_of self.new ≡ waiting_of self.old ++ accepted_by result attempt.now.effect }
         ensures durable { durable_of self.new ≡ durable_of self.old }
         ensures shut { is_shut_of self.new ≡ is_shut_of self.old }
+        ensures table { table_of self.new ≡ table_of self.old }
         ensures vars { length (state_of self.new).values ≡ length (state_of self.old).values }
-        ensures verdict { (steps : Meanings) (tx : Tx) → IsRight steps tx attempt.now
-            → result ≡ judged (is_shut_of self.old) (state_of self.old) (durable_of self.old) attempt.now.reads.entries (verdict steps tx (state_of self.old)) }
-        ensures added { (steps : Meanings) (tx : Tx) → IsRight steps tx attempt.now → IsAdded steps tx (state_of self.old) attempt.now result }
+        ensures verdict { (p : Program) (tx : Tx) → p.names ≡ T.names (table_of self.old) → T.is_stated (table_of self.old) p.tests → IsRight p.steps tx attempt.now
+            → result ≡ judged (is_shut_of self.old) (state_of self.old) (durable_of self.old) attempt.now.reads.entries (verdict p tx (state_of self.old)) }
+        ensures added { (p : Program) (tx : Tx) → p.names ≡ T.names (table_of self.old) → T.is_stated (table_of self.old) p.tests → IsRight p.steps tx attempt.now
+            → IsAdded p tx (state_of self.old) attempt.now result }
     {
         if self.is_shut {
             return Err(Fault::Closed);
@@ -161,21 +213,67 @@ impl Core {
             return Err(Fault::Conflict);
         }
         match attempt.ending {
-            Ending::Normal => self.accept(&attempt.effect, attempt.registers),
+            Ending::Normal => self.settle_normal(&attempt.effect, attempt.registers),
             Ending::Retry => Ok(Settled::Retry),
             Ending::Abort(code) => Ok(Settled::Aborted(code)),
         }
     }
 
     // Settles an attempt that ended normally on the present values.
-    fn accept(&mut self, effect: &Effect, registers: [i64; REGISTERS]) -> Result<Settled, Fault>
+    fn settle_normal(
+        &mut self,
+        effect: &Effect,
+        registers: [i64; REGISTERS],
+    ) -> Result<Settled, Fault>
         requires variables { All (λ var. var < length (state_of self.old).values) (keys_of effect.now.writes) }
-        requires room { length (with_names (state_of self.old).names effect.now.names) ≤ MAX_NAMES }
-        ensures answer { result ≡ normal_answer (state_of self.old) (durable_of self.old) effect.now registers }
+        requires names { All (λ name. IsTrue (is_among (T.names (table_of self.old)) name)) effect.now.names }
+        ensures answer { (p : Program) → p.names ≡ T.names (table_of self.old) → T.is_stated (table_of self.old) p.tests
+            → result ≡ normal_answer p (state_of self.old) (durable_of self.old) effect.now registers }
+        ensures refused { IfErr result IsRefusal }
         ensures state { state_of self.new ≡ fold (state_of self.old) (accepted_by result effect.now) }
         ensures waiting { waiting_of self.new ≡ waiting_of self.old ++ accepted_by result effect.now }
         ensures durable { durable_of self.new ≡ durable_of self.old }
         ensures shut { is_shut_of self.new ≡ is_shut_of self.old }
+        ensures table { table_of self.new ≡ table_of self.old }
+        ensures vars { length (state_of self.new).values ≡ length (state_of self.old).values }
+    {
+        match self.first_broken(effect) {
+            Some(name) => Ok(Settled::Refused(name)),
+            None => self.accept(effect, registers),
+        }
+    }
+
+    // The first name, in the table's order, that is false of the map that an effect would make. It is written into the
+    // present values for the test alone.
+    fn first_broken(&mut self, effect: &Effect) -> Option<Name>
+        requires { All (λ var. var < length (state_of self.old).values) (keys_of effect.now.writes) }
+        ensures first { (m : Meanings) → T.is_stated (table_of self.old) m
+            → result ≡ first_false m (T.names (table_of self.old)) (state_of self.old).names effect.now.names (apply (state_of self.old) effect.now).values }
+        ensures state { state_of self.new ≡ state_of self.old }
+        ensures waiting { waiting_of self.new ≡ waiting_of self.old }
+        ensures durable { durable_of self.new ≡ durable_of self.old }
+        ensures shut { is_shut_of self.new ≡ is_shut_of self.old }
+        ensures table { table_of self.new ≡ table_of self.old }
+    {
+        match first_false(&self.table, &mut self.state, effect) {
+            Some(place) => Some(self.table.name(place)),
+            None => None,
+        }
+    }
+
+    // Settles an effect of which every invariant stays true.
+    fn accept(&mut self, effect: &Effect, registers: [i64; REGISTERS]) -> Result<Settled, Fault>
+        requires variables { All (λ var. var < length (state_of self.old).values) (keys_of effect.now.writes) }
+        requires room { length (with_names (state_of self.old).names effect.now.names) ≤ MAX_NAMES }
+        requires known { All (λ name. IsTrue (is_among (T.names (table_of self.old)) name)) (apply (state_of self.old) effect.now).names }
+        requires sound { (m : Meanings) → T.is_stated (table_of self.old) m → AllHold m (apply (state_of self.old) effect.now).names (apply (state_of self.old) effect.now).values }
+        ensures answer { result ≡ sound_answer (state_of self.old) (durable_of self.old) effect.now registers }
+        ensures refused { IfErr result IsRefusal }
+        ensures state { state_of self.new ≡ fold (state_of self.old) (accepted_by result effect.now) }
+        ensures waiting { waiting_of self.new ≡ waiting_of self.old ++ accepted_by result effect.now }
+        ensures durable { durable_of self.new ≡ durable_of self.old }
+        ensures shut { is_shut_of self.new ≡ is_shut_of self.old }
+        ensures table { table_of self.new ≡ table_of self.old }
         ensures vars { length (state_of self.new).values ≡ length (state_of self.old).values }
     {
         let number = self.state.count();
@@ -217,10 +315,21 @@ impl Core {
         ensures waiting { waiting_of self.new ≡ drop (number - durable_of self.old) (waiting_of self.old) }
         ensures state { state_of self.new ≡ state_of self.old }
         ensures shut { is_shut_of self.new ≡ is_shut_of self.old }
+        ensures table { table_of self.new ≡ table_of self.old }
     {
         self.waiting.drop_oldest((number - self.durable) as usize);
         self.durable = number;
     }
+}
+
+// The state in memory of its own, and room for all that may wait.
+fn copies(alloc: Global, state: &State) -> Result<(State, Waiting), AllocError>
+    ensures state { IfOk result (λ made. made.0 ≡ state.now) }
+    ensures waiting { IfOk result (λ made. made.1 ≡ []) }
+{
+    let state = state.copy(alloc)?;
+    let waiting = Waiting::new(alloc)?;
+    Ok((state, waiting))
 }
 
 // Whether some value that was read is not the present one.

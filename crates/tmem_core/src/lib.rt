@@ -1,16 +1,15 @@
-//! The present state, and what was accepted and is not known durable.
+//! The present state, of which every registered invariant is true, and what was accepted and is not known durable.
 //!
-//! `Core::settle` answers an attempt by the present state: it compares the values that the attempt read, and accepts its
-//! effect or none. The core is memory only: it knows no device and no thread, and only its making takes memory.
+//! `Core::settle` answers an attempt by the present state: it compares the values that the attempt read, tests the
+//! invariants on the map that the effect would make, and accepts the effect or nothing. The core is memory only: it knows
+//! no device and no thread, and only its making takes memory. It asks for `Tests`, and names no closure.
 #![tactic(auto)]
 
 mod core_state;
 mod settled;
+mod trial;
 mod waiting;
 
 pub use core_state::{Core, MAX_TAKEN};
 pub use settled::Settled;
 pub use waiting::MAX_WAITING;
-
-#[cfg(test)]
-mod tests;

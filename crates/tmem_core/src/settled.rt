@@ -1,5 +1,6 @@
 // What settling answers.
 
+use tmem_disk::Name;
 use tmem_tree::REGISTERS;
 
 /// What settling an attempt answers, where it is not refused.
@@ -19,4 +20,6 @@ pub enum Settled {
     Retry,
     /// It gave up, with this code.
     Aborted(u16),
+    /// This invariant is false of the map that it would make: the first in the table's order.
+    Refused(Name),
 }

@@ -1,5 +1,4 @@
 pub mod Answers
 pub mod Chosen
-pub mod Examples
 pub mod Meanings
 pub mod Names

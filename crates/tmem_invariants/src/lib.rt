@@ -14,6 +14,3 @@ mod touched;
 pub use invariant::{Invariant, MAX_FOOTPRINT, Test};
 pub use named::{MAX_INVARIANTS, Tests};
 pub use table::Table;
-
-#[cfg(test)]
-mod cases;

@@ -1,4 +1,4 @@
--- How far the effect and the reads of an evaluation may go.
+-- How far the writes and the reads of an evaluation may go.
 use Rattle.std.proofs.Common.{◌≡◌, ℕ, zero, suc, ℤ, ◌+◌, ◌<◌, ◌≤◌, Bool, true, false, List, [], ◌∷◌, map, length, Option, Some, None, nat_eq, nat_le, cond, All, refl, sym, ◌∙◌, subst, arith}
 use Rattle.std.proofs.lemmas.Bool.{eqb-true, eq-eqb}
 use Rattle.std.proofs.lemmas.Bool.Decides.{nat_tests}
@@ -6,7 +6,7 @@ use Rattle.std.specs.List.{IsDistinct, AllByRecursion}
 use Rattle.std.specs.Map.{keys_of}
 use Rattle.indexmap.specs.IndexMap.{insert_entry}
 use Rattle.tmem_tree.specs.declared.tx.Tx.{Tx, Row_of-Tx, end_of-Tx, more_of-Tx}
-use Rattle.tmem_tree.specs.declared.tx.Tx.TheVariants.{Skip, Seq', Put, Read, Write, Step, When', OrElse', Retry, Abort}
+use Rattle.tmem_tree.specs.declared.tx.Tx.TheVariants.{Skip, Seq', Put, Read, Write, Step, When', OrElse', Retry, Abort, Check}
 use Rattle.tmem_tree.specs.declared.step.StepAnswer.{StepAnswer}
 use Rattle.tmem_tree.specs.declared.step.StepAnswer.TheVariants as answer
 use Rattle.tmem_tree.specs.Answers.{Meanings}
@@ -85,13 +85,12 @@ module _ (Q : Type 0) (vars : ℕ) where
     pub writes : Q → Below vars s.effect.writes
     pub once : IsDistinct nat_eq (keys_of s.effect.writes)
     pub few : length s.effect.writes ≤ n
-    pub no_names : s.effect.names ≡ []
 
   more_room : (n m : ℕ) (s : State) → n ≤ m → IsGood n s → IsGood m s
-  more_room n m s h g = record { seen = g.seen; writes = g.writes; once = g.once; few = omega (arith, g.few); no_names = g.no_names }
+  more_room n m s h g = record { seen = g.seen; writes = g.writes; once = g.once; few = omega (arith, g.few) }
 
   with_seen : (n : ℕ) (s : State) (seen : List (ℕ × ℤ)) → (Q → Below vars seen) → IsGood n s → IsGood n (record s { seen = seen })
-  with_seen n s seen b g = record { seen = b; writes = g.writes; once = g.once; few = g.few; no_names = g.no_names }
+  with_seen n s seen b g = record { seen = b; writes = g.writes; once = g.once; few = g.few }
 
   module _ (steps : Meanings) (reads : List (ℕ × ℤ)) where
     abbrev pub IsGoodFlow : ℕ → Flow → Type 0
@@ -119,12 +118,12 @@ module _ (Q : Type 0) (vars : ℕ) where
     else_good n m (Aborts code seen) on h g k = g
 
     read_good : (n : ℕ) (s : State) (var reg : ℕ) (o p : Option ℤ) → look reads var ≡ p → (Q → var < vars) → IsGood n s → IsGoodFlow n (read o p s var reg)
-    read_good n s var reg (Some x) p e h g = record { seen = g.seen; writes = g.writes; once = g.once; few = g.few; no_names = g.no_names }
-    read_good n s var reg None (Some x) e h g = record { seen = λ q. below_insert vars s.seen var x (h q) (g.seen q); writes = g.writes; once = g.once; few = g.few; no_names = g.no_names }
+    read_good n s var reg (Some x) p e h g = record { seen = g.seen; writes = g.writes; once = g.once; few = g.few }
+    read_good n s var reg None (Some x) e h g = record { seen = λ q. below_insert vars s.seen var x (h q) (g.seen q); writes = g.writes; once = g.once; few = g.few }
     read_good n s var reg None None e h g = (h, e)
 
     answered_good : (n : ℕ) (a : StepAnswer) (s : State) (out : ℕ) → IsGood n s → IsGoodFlow n (answered a s out)
-    answered_good n (answer.Value x) s out g = record { seen = g.seen; writes = g.writes; once = g.once; few = g.few; no_names = g.no_names }
+    answered_good n (answer.Value x) s out g = record { seen = g.seen; writes = g.writes; once = g.once; few = g.few }
     answered_good n answer.Retry s out g = g.seen
     answered_good n (answer.Abort code) s out g = g.seen
 
@@ -136,14 +135,13 @@ module _ (Q : Type 0) (vars : ℕ) where
       pub good : (tx : Tx) (n : ℕ) (s : State) → (Q → count (has_bad_variable vars) tx ≡ 0) → IsGood n s → IsGoodFlow (n + count is_write tx) (eval steps reads tx s)
       good Skip n s h g = more_room n _ s (omega arith) g
       good (Seq' shape txs) n s h g = more (n + count_all is_write txs) _ (eval_all steps reads txs s) (omega arith) (good_all txs n s (λ q. let e = h q in omega arith) g)
-      good (Put reg x) n s h g = more_room n _ _ (omega arith) (record { seen = g.seen; writes = g.writes; once = g.once; few = g.few; no_names = g.no_names })
+      good (Put reg x) n s h g = more_room n _ _ (omega arith) (record { seen = g.seen; writes = g.writes; once = g.once; few = g.few })
       good (Read var reg) n s h g = more n _ _ (omega arith) (read_good n s var reg (look s.effect.writes var) (look reads var) refl (λ q. within vars var (h q)) g)
       good (Write var reg) n s h g = record {
         seen = g.seen;
         writes = λ q. below_write vars s.effect.writes var (register s.registers reg) (within vars var (h q)) (g.writes q);
         once = once_write s.effect.writes var (register s.registers reg) g.once;
         few = omega (arith, g.few, length-write s.effect.writes var (register s.registers reg));
-        no_names = g.no_names;
       }
       good (Step index args out) n s h g = more n _ _ (omega arith) (answered_good n (steps index (map (register s.registers) args.items)) s out g)
       good (When' reg p a q b) n s h g =
@@ -155,6 +153,7 @@ module _ (Q : Type 0) (vars : ℕ) where
           more (n + count is_write b) _ (eval steps reads b (record s { seen = seen })) (omega arith) (good b n (record s { seen = seen }) (λ q. let e = h q in omega arith) (with_seen n s seen l g)))
       good Retry n s h g = g.seen
       good (Abort code) n s h g = g.seen
+      good (Check name) n s h g = more_room n _ _ (omega arith) (record { seen = g.seen; writes = g.writes; once = g.once; few = g.few })
 
       pub good_all : {m : _} (txs : Row_of-Tx m) (n : ℕ) (s : State) → (Q → count_all (has_bad_variable vars) txs ≡ 0) → IsGood n s → IsGoodFlow (n + count_all is_write txs) (eval_all steps reads txs s)
       good_all end_of-Tx n s h g = more_room n _ s (omega arith) g

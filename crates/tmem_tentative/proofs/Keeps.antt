@@ -3,7 +3,7 @@ use Rattle.std.proofs.Common.{◌≡◌, ℕ, ℤ, Bool, true, false, List, map,
 use Rattle.std.proofs.lemmas.Bool.{eqb-true, eq-eqb}
 use Rattle.indexmap.specs.IndexMap.{insert_entry}
 use Rattle.tmem_tree.specs.declared.tx.Tx.{Tx, Row_of-Tx, end_of-Tx, more_of-Tx}
-use Rattle.tmem_tree.specs.declared.tx.Tx.TheVariants.{Skip, Seq', Put, Read, Write, Step, When', OrElse', Retry, Abort}
+use Rattle.tmem_tree.specs.declared.tx.Tx.TheVariants.{Skip, Seq', Put, Read, Write, Step, When', OrElse', Retry, Abort, Check}
 use Rattle.tmem_tree.specs.declared.step.StepAnswer.{StepAnswer}
 use Rattle.tmem_tree.specs.declared.step.StepAnswer.TheVariants as answer
 use Rattle.tmem_tree.specs.Answers.{Meanings}
@@ -103,6 +103,7 @@ module _ (reads reads' : List (ℕ × ℤ)) where
       keeps (OrElse' p a q b) s c = else_keeps s.seen _ _ (λ seen. eval steps reads b (record s { seen = seen })) (λ seen. eval steps reads' b (record s { seen = seen })) (keeps a s c) (λ seen d. keeps b (record s { seen = seen }) d)
       keeps Retry s c = (covers_refl s.seen, c, λ a. refl)
       keeps (Abort code) s c = (covers_refl s.seen, c, λ a. refl)
+      keeps (Check name) s c = (covers_refl s.seen, c, λ a. refl)
 
       pub keeps_all : {m : _} (txs : Row_of-Tx m) (s : State) → Covers reads s.seen → Keeps s.seen (eval_all steps reads txs s) (eval_all steps reads' txs s)
       keeps_all end_of-Tx s c = (covers_refl s.seen, c, λ a. refl)

@@ -4,5 +4,6 @@ mod Ends
 mod Entries
 mod Keeps
 mod Limited
+mod Named
 mod Rows
 mod Tells

@@ -1,6 +1,5 @@
 -- What holds of an evaluation whatever the steps mean, since they mean something.
 use Rattle.std.proofs.Common.{◌≡◌, ℕ, ℤ, ◌+◌, ◌<◌, ◌≤◌, List, [], Option, Some, None, is_none, true, nat_eq, All, refl, sym, ap, subst, arith}
-use Rattle.std.proofs.Props.{props}
 use Rattle.std.proofs.Math.Bridge.{le_prop}
 use mathlib.Core.Logic.{∥∥₁_elim}
 use mathlib.Core.Bool.{Bool-set}
@@ -9,38 +8,47 @@ use Rattle.std.specs.Map.{keys_of}
 use Rattle.tmem_tree.specs.declared.tx.Tx.{Tx}
 use Rattle.tmem_tree.specs.Answers.{Meanings}
 use Rattle.tmem_record.specs.State.{no_effect}
+use Rattle.tmem_record.specs.Names.{has_name}
 use Rattle.tmem_record.specs.Writes.{look}
-use Rattle.tmem_tree.specs.Limits.{count, is_write}
-use Rattle.tmem_tree.specs.Plans.{FitsVariables}
+use Rattle.tmem_tree.specs.Limits.{count, is_write, is_check}
+use Rattle.tmem_tree.specs.Plans.{FitsVariables, FitsNames}
 use Rattle.tmem_tentative.specs.Eval.{State, Flow, Goes, Needs, Retries, Aborts, eval}
-use Rattle.tmem_tentative.specs.Fits.{IsPlansEffect, IsWithin}
+use Rattle.tmem_tentative.specs.Fits.{IsPlansEffect, IsWithin, IsNamed}
 use Rattle.tmem_tentative.specs.declared.attempt.Attempt.{Attempt}
 use Rattle.tmem_tentative.specs.declared.attempt.Outcome.TheVariants.{Ended}
 use Rattle.tmem_tentative.proofs.Bounds.{IsGood, IsGoodFlow, good, below_all, once_nil}
+use Rattle.tmem_tentative.proofs.Named.{HasNames, HasNamesFlow, named}
 use Rattle.tmem_tentative.proofs.Ends.{start_state}
-
-names-prop : (names : List (List ℕ)) → IsProp (names ≡ [])
-names-prop names = hlevel props
 
 -- the evaluation of a transaction over these reads, under some meanings of the steps
 abbrev pub IsSomeEval : List (ℕ × ℤ) → Tx → Flow → Type 0
 IsSomeEval reads tx f = ∥ ((m : Meanings) × (f ≡ eval m reads tx start_state)) ∥₁
 
 good_start : (Q : Type 0) (vars : ℕ) → IsGood Q vars 0 start_state
-good_start Q vars = record { seen = λ q. tt; writes = λ q. tt; once = once_nil; few = omega arith; no_names = refl }
+good_start Q vars = record { seen = λ q. tt; writes = λ q. tt; once = once_nil; few = omega arith }
+
+named_start : (Q : Type 0) (names : List (List ℕ)) → HasNames Q names 0 start_state
+named_start Q names = record { few = omega arith; known = λ q k d h. absurd (omega arith) }
 
 module _ (reads : List (ℕ × ℤ)) (tx : Tx) where
   good_flow : (vars : ℕ) (f : Flow) (m : Meanings) → f ≡ eval m reads tx start_state → IsGoodFlow (FitsVariables vars tx) vars m reads (0 + count is_write tx) f
   good_flow vars f m e =
       subst (IsGoodFlow (FitsVariables vars tx) vars m reads (0 + count is_write tx)) (sym e) (good (FitsVariables vars tx) vars m reads tx 0 start_state (λ q. q) (good_start _ vars))
 
-  pub effect_fits : (s : State) → IsSomeEval reads tx (Goes s) → count is_write tx ≤ 64 → IsPlansEffect s.effect
-  effect_fits s is few = record {
+  named_flow : (names : List (List ℕ)) (f : Flow) (m : Meanings) → f ≡ eval m reads tx start_state → HasNamesFlow (FitsNames names tx) names m reads (0 + count is_check tx) f
+  named_flow names f m e =
+      subst (HasNamesFlow (FitsNames names tx) names m reads (0 + count is_check tx)) (sym e) (named (FitsNames names tx) names m reads tx 0 start_state (λ q. q) (named_start _ names))
+
+  pub effect_fits : (s : State) → IsSomeEval reads tx (Goes s) → count is_write tx ≤ 64 → count is_check tx ≤ 8 → IsPlansEffect s.effect
+  effect_fits s is few few_names = record {
     once = ∥∥₁_elim is (IsDistinct-prop nat_eq _) (λ p. (good_flow 0 (Goes s) p.0 p.1).once);
     few = ∥∥₁_elim is le_prop (λ p. omega (arith, few, (good_flow 0 (Goes s) p.0 p.1).few));
-    no_names = ∥∥₁_elim is (names-prop s.effect.names) (λ p. (good_flow 0 (Goes s) p.0 p.1).no_names);
-    few_names = ∥∥₁_elim is le_prop (λ p. rw ((good_flow 0 (Goes s) p.0 p.1).no_names) (omega arith));
+    few_names = ∥∥₁_elim is le_prop (λ p. omega (arith, few_names, (named_flow [] (Goes s) p.0 p.1).few));
   }
+
+  pub names_known : (s : State) → IsSomeEval reads tx (Goes s) → (names : List (List ℕ)) → FitsNames names tx → All (λ name. has_name names name ≡ true) s.effect.names
+  names_known s is names fits k d h =
+      ∥∥₁_elim is (Bool-set _ _) (λ p. (named_flow names (Goes s) p.0 p.1).known fits k d h)
 
   pub need_lacks : (var : ℕ) → IsSomeEval reads tx (Needs var) → look reads var ≡ None
   need_lacks var is = on (look reads var) (∥∥₁_elim is (Bool-set _ _) (λ p. ap is_none (good_flow 0 (Needs var) p.0 p.1).1)) where
@@ -72,3 +80,7 @@ blank_within vars a seen is none below = (
   subst (λ es. All (λ var. var < vars) (keys_of es)) (sym is) below,
   subst (λ effect. All (λ var. var < vars) (keys_of effect.writes)) (sym none) (λ k d h. absurd (omega arith)),
 )
+
+pub blank_named : (names : List (List ℕ)) (a : Attempt) → a.effect ≡ no_effect → IsNamed names (Ended a)
+blank_named names a none =
+    subst (λ effect. All (λ name. has_name names name ≡ true) effect.names) (sym none) (λ k d h. absurd (omega arith))

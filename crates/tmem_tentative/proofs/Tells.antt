@@ -4,7 +4,7 @@ use Rattle.std.proofs.lemmas.Bool.{eqb-true, eq-eqb}
 use mathlib.Core.Path.{fun_ext}
 use Rattle.indexmap.specs.IndexMap.{insert_entry}
 use Rattle.tmem_tree.specs.declared.tx.Tx.{Tx, Row_of-Tx, end_of-Tx, more_of-Tx}
-use Rattle.tmem_tree.specs.declared.tx.Tx.TheVariants.{Skip, Seq', Put, Read, Write, Step, When', OrElse', Retry, Abort}
+use Rattle.tmem_tree.specs.declared.tx.Tx.TheVariants.{Skip, Seq', Put, Read, Write, Step, When', OrElse', Retry, Abort, Check}
 use Rattle.tmem_tree.specs.declared.step.StepAnswer.{StepAnswer}
 use Rattle.tmem_tree.specs.declared.step.StepAnswer.TheVariants as answer
 use Rattle.tmem_tree.specs.Answers.{Meanings}
@@ -147,6 +147,7 @@ module _ (reads : List (ℕ × ℤ)) (values : ℕ → ℤ) where
       tells (OrElse' p a q b) s = else_tells s.seen _ _ _ _ _ (λ seen. eval steps reads b (record s { seen = seen })) (tells a s) (λ seen. tells b (record s { seen = seen }))
       tells Retry s = (refl, refl, refl)
       tells (Abort code) s = (refl, refl, refl)
+      tells (Check name) s = (refl, refl, refl)
 
       pub tells_all : {m : _} (txs : Row_of-Tx m) (s : State) → Tells s.seen (run_all steps txs (view_of values s)) (visits_all steps txs (view_of values s)) (eval_all steps reads txs s)
       tells_all end_of-Tx s = (refl, refl, refl)

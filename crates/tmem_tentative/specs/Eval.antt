@@ -2,10 +2,11 @@
 use Rattle.std.specs.Prelude.{ℕ, ℤ, List, map, Option, Some, None, nat_eq, slice_set, if◌then◌else◌}
 use Rattle.indexmap.specs.IndexMap.{insert_entry}
 use Rattle.tmem_tree.specs.declared.tx.Tx.{Tx, Row_of-Tx, end_of-Tx, more_of-Tx}
-use Rattle.tmem_tree.specs.declared.tx.Tx.TheVariants.{Skip, Seq', Put, Read, Write, Step, When', OrElse', Retry, Abort}
+use Rattle.tmem_tree.specs.declared.tx.Tx.TheVariants.{Skip, Seq', Put, Read, Write, Step, When', OrElse', Retry, Abort, Check}
 use Rattle.tmem_tree.specs.declared.step.StepAnswer.{StepAnswer}
 use Rattle.tmem_tree.specs.declared.step.StepAnswer.TheVariants as answer
 use Rattle.tmem_tree.specs.Answers.{Meanings}
+use Rattle.tmem_record.specs.Names.{with_name}
 use Rattle.tmem_record.specs.Writes.{look, with_write}
 use Rattle.tmem_record.specs.declared.effect.Effect.{Effect}
 use Rattle.tmem_tree.specs.Run.{is_zero, register}
@@ -28,6 +29,9 @@ put s reg n = record s { registers = slice_set s.registers reg n }
 
 abbrev pub write : State → ℕ → ℤ → State
 write s var n = record s { effect = record { writes = with_write s.effect.writes var n; names = s.effect.names } }
+
+abbrev pub check : State → List ℕ → State
+check s name = record s { effect = record { writes = s.effect.writes; names = with_name s.effect.names name } }
 
 abbrev pub saw : State → ℕ → ℤ → State
 saw s var n = record s { seen = insert_entry nat_eq s.seen var n }
@@ -69,6 +73,7 @@ module _ (steps : Meanings) (reads : List (ℕ × ℤ)) where
     eval (OrElse' p a q b) s = else_eval (eval a s) (λ seen. eval b (record s { seen = seen }))
     eval Retry s = Retries s.seen
     eval (Abort code) s = Aborts code s.seen
+    eval (Check name) s = Goes (check s name)
 
     pub eval_all : {m : _} → Row_of-Tx m → State → Flow
     eval_all end_of-Tx s = Goes s

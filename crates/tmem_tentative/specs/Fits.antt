@@ -1,7 +1,8 @@
 -- What whoever settles an attempt may rely on, whatever the steps mean.
-use Rattle.std.specs.Prelude.{◌≡◌, ℕ, ℤ, ◌<◌, ◌≤◌, List, [], length, None, nat_eq, All}
+use Rattle.std.specs.Prelude.{◌≡◌, ⊤, ℕ, ℤ, ◌<◌, ◌≤◌, true, List, length, None, nat_eq, All}
 use Rattle.std.specs.List.{IsDistinct}
 use Rattle.std.specs.Map.{keys_of}
+use Rattle.tmem_record.specs.Names.{has_name}
 use Rattle.tmem_record.specs.Writes.{look}
 use Rattle.tmem_record.specs.declared.effect.Effect.{Effect}
 use Rattle.tmem_tentative.specs.declared.attempt.Outcome.{Outcome}
@@ -11,12 +12,11 @@ use Rattle.tmem_tentative.specs.declared.attempt.Ending.{Ending}
 use Rattle.tmem_tentative.specs.declared.attempt.Ending.TheVariants.{Normal, Retry, Abort}
 use Rattle.tmem_tentative.specs.Right.{IsBlank}
 
--- each variable is written once, and no more variables and names than a plan may have: no plan has names yet
+-- each variable is written once, and no more variables and names than a plan may have
 pub record IsPlansEffect (effect : Effect) : Type 0 where
   pub once : IsDistinct nat_eq (keys_of effect.writes)
   pub few : length effect.writes ≤ 64
   pub few_names : length effect.names ≤ 8
-  pub no_names : effect.names ≡ []
 
 abbrev pub IsBlankUnlessNormal : Ending → Attempt → Type 0
 IsBlankUnlessNormal Normal a = Unit {0}
@@ -37,3 +37,12 @@ IsForVariables vars a =
 abbrev pub IsWithin : ℕ → Outcome → Type 0
 IsWithin vars (Need var) = var < vars
 IsWithin vars (Ended a) = IsForVariables vars a
+
+-- each name that it proposes is one of these
+abbrev pub IsForNames : List (List ℕ) → Attempt → Type 0
+IsForNames names a = All (λ name. has_name names name ≡ true) a.effect.names
+
+-- each name is one of these
+abbrev pub IsNamed : List (List ℕ) → Outcome → Type 0
+IsNamed names (Need var) = ⊤
+IsNamed names (Ended a) = IsForNames names a

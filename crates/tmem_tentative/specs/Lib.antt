@@ -1,5 +1,4 @@
 pub mod Eval
-pub mod Examples
 pub mod Fits
 pub mod Laws
 pub mod Logs

@@ -1,10 +1,10 @@
 // One evaluation, from the start.
 
-ghost use Rattle.std.specs.Prelude.{◌≡◌, ℕ, IfOk, IfErr};
+ghost use Rattle.std.specs.Prelude.{◌≡◌, ℕ, List, IfOk, IfErr};
 ghost use Rattle.tmem_tree.specs.Answers.{Meanings};
-ghost use Rattle.tmem_tree.specs.Plans.{FitsSteps, FitsVariables};
+ghost use Rattle.tmem_tree.specs.Plans.{FitsSteps, FitsVariables, FitsNames};
 ghost use Rattle.tmem_tentative.specs.Right.{IsOutcome, IsBlank};
-ghost use Rattle.tmem_tentative.specs.Fits.{IsFit, IsWithin};
+ghost use Rattle.tmem_tentative.specs.Fits.{IsFit, IsWithin, IsNamed};
 
 use crate::attempt::{Attempt, Ending, Outcome, Reads};
 use crate::log::{Flow, Log};
@@ -28,6 +28,7 @@ pub fn evaluate<S: StoredSteps>(
     // What an attempt is settled under, whatever the steps mean.
     ensures fits { IfOk result (IsFit reads.now.entries) }
     ensures within { (vars : ℕ) → FitsVariables vars plan.now → IfOk result (IsWithin vars) }
+    ensures named { (names : List (List ℕ)) → FitsNames names plan.now → IfOk result (IsNamed names) }
     ensures fault { IfErr result (λ fault. fault ≡ Fault.Memory) }
 {
     let mut log = Log {

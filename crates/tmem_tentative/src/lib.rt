@@ -13,6 +13,3 @@ mod walk;
 pub use attempt::{Attempt, Ending, Outcome, Reads};
 pub use evaluation::evaluate;
 pub use laws::or_else_laws;
-
-#[cfg(test)]
-mod tests;

@@ -4,7 +4,7 @@ ghost use Rattle.std.specs.Prelude.{◌≡◌, ℕ, ◌+◌, ◌<◌, ◌≤◌,
 ghost use Rattle.std.specs.List.{list_any};
 ghost use Rattle.tmem_tree.specs.Answers.{Meanings};
 ghost use Rattle.tmem_record.specs.Writes.{look};
-ghost use Rattle.tmem_tree.specs.Limits.{count, is_write, has_bad_register, is_no_register};
+ghost use Rattle.tmem_tree.specs.Limits.{count, is_write, is_check, has_bad_register, is_no_register};
 ghost use Rattle.tmem_tree.specs.Plans.{FitsSteps};
 ghost use Rattle.tmem_tree.specs.Run.{register};
 ghost use Rattle.tmem_tentative.specs.Eval.{eval, read, answered};
@@ -27,7 +27,9 @@ pub(crate) fn walk<S: StoredSteps>(
     requires registers { count has_bad_register tx.now ≡ 0 }
     requires steps { FitsSteps (S.arities steps.now) tx.now }
     requires room { length log.old.effect.writes + count is_write tx.now ≤ 64 }
+    requires names { length log.old.effect.names + count is_check tx.now ≤ 8 }
     ensures room { length log.new.effect.writes ≤ length log.old.effect.writes + count is_write tx.now }
+    ensures names { length log.new.effect.names ≤ length log.old.effect.names + count is_check tx.now }
     ensures flow { (m : Meanings) → S.is_stated steps.now m → IfOk result (λ flow. flow_of flow (state_of log.new) ≡ eval m reads.now.entries tx.now (state_of log.old)) }
     ensures fault { IfErr result (λ fault. fault ≡ Fault.Memory) }
 {
@@ -73,6 +75,10 @@ pub(crate) fn walk<S: StoredSteps>(
         }
         Tx::Retry => Ok(Flow::Retry),
         Tx::Abort { code } => Ok(Flow::Abort(*code)),
+        Tx::Check { name } => {
+            log.effect.names.put(name);
+            Ok(Flow::Normal)
+        }
     }
 }
 

@@ -1,8 +1,9 @@
 -- How deep a transaction is, and how many of its nodes pass a test.
 use Rattle.std.specs.Prelude.{ℕ, ◌+◌, max, Bool, true, false, not, ◌||◌, ◌==◌, nat_le, List, [], ◌∷◌, length, slice_index_or, if◌then◌else◌}
 use Rattle.std.specs.List.{list_any}
+use Rattle.tmem_record.specs.Names.{has_name}
 use Rattle.tmem_tree.specs.declared.tx.Tx.{Tx, Row_of-Tx, end_of-Tx, more_of-Tx}
-use Rattle.tmem_tree.specs.declared.tx.Tx.TheVariants.{Seq', Put, Read, Write, Step, When', OrElse'}
+use Rattle.tmem_tree.specs.declared.tx.Tx.TheVariants.{Seq', Put, Read, Write, Step, When', OrElse', Check}
 
 abbrev mutual
   -- a leaf or an empty Seq has depth 1
@@ -40,6 +41,10 @@ abbrev pub is_write : Tx → Bool
 is_write (Write var reg) = true
 is_write _ = false
 
+abbrev pub is_check : Tx → Bool
+is_check (Check name) = true
+is_check _ = false
+
 abbrev pub is_no_register : ℕ → Bool
 is_no_register reg = nat_le 16 reg
 
@@ -68,6 +73,11 @@ abbrev pub has_bad_arguments : List ℕ → Tx → Bool
 has_bad_arguments arities (Step index args out) =
     not (length args.items == slice_index_or arities index (length args.items))
 has_bad_arguments arities _ = false
+
+-- it checks a name that is none of these
+abbrev pub has_unknown_name : List (List ℕ) → Tx → Bool
+has_unknown_name names (Check name) = not (has_name names name)
+has_unknown_name names _ = false
 
 -- the same over a list of trees
 abbrev pub depth_in : List Tx → ℕ

@@ -1,13 +1,15 @@
 -- What a transaction does, without any log: `run`. It is the meaning that Harris et al. 2005 (Composable Memory
 -- Transactions, section 3) give to sequences, to `retry`, to `orElse` and, with an abort for an exception that nobody
--- catches, to exceptions, on a map and 16 registers in place of a heap and bound variables.
+-- catches, to exceptions, on a map and 16 registers in place of a heap and bound variables. A check proposes an invariant
+-- by its name and goes on, as in Harris and Peyton Jones 2006 (Transactional Memory with Data Invariants).
 use Rattle.std.specs.Prelude.{ℕ, zero, ℤ, pos, Bool, true, false, List, map, nat_eq, slice_index_or, slice_set, replicate, if◌then◌else◌}
 use Rattle.tmem_tree.specs.declared.tx.Tx.{Tx, Row_of-Tx, end_of-Tx, more_of-Tx}
-use Rattle.tmem_tree.specs.declared.tx.Tx.TheVariants.{Skip, Seq', Put, Read, Write, Step, When', OrElse', Retry, Abort}
+use Rattle.tmem_tree.specs.declared.tx.Tx.TheVariants.{Skip, Seq', Put, Read, Write, Step, When', OrElse', Retry, Abort, Check}
 use Rattle.tmem_tree.specs.declared.step.StepAnswer.{StepAnswer}
 use Rattle.tmem_tree.specs.declared.step.StepAnswer.TheVariants as answer
 use Rattle.tmem_tree.specs.Answers.{Meanings}
 use Rattle.tmem_record.specs.State.{no_effect}
+use Rattle.tmem_record.specs.Names.{with_name}
 use Rattle.tmem_record.specs.Writes.{with_write}
 use Rattle.tmem_record.specs.declared.effect.Effect.{Effect}
 
@@ -49,6 +51,10 @@ write view var n = record {
   effect = record { writes = with_write view.effect.writes var n; names = view.effect.names };
 }
 
+-- the effect takes the name
+abbrev pub check : View → List ℕ → View
+check view name = record view { effect = record { writes = view.effect.writes; names = with_name view.effect.names name } }
+
 abbrev pub is_zero : ℤ → Bool
 is_zero (pos zero) = true
 is_zero _ = false
@@ -85,6 +91,7 @@ module _ (steps : Meanings) where
     run (OrElse' p a q b) view = or_else (run a view) (run b view)
     run Retry view = Retried
     run (Abort code) view = Aborted code
+    run (Check name) view = Normal (check view name)
 
     -- one after another, up to the first that does not end normally
     pub run_all : {m : _} → Row_of-Tx m → View → Ending

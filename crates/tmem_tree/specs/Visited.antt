@@ -2,7 +2,7 @@
 -- was taken because of them (Harris et al. 2005, section 3, on when a blocked choice is to run again).
 use Rattle.std.specs.Prelude.{ℕ, ℤ, Bool, true, false, List, [], ◌∷◌, ◌++◌, Option, Some, None, nat_eq, if◌then◌else◌}
 use Rattle.tmem_tree.specs.declared.tx.Tx.{Tx, Row_of-Tx, end_of-Tx, more_of-Tx}
-use Rattle.tmem_tree.specs.declared.tx.Tx.TheVariants.{Skip, Seq', Put, Read, Write, Step, When', OrElse', Retry, Abort}
+use Rattle.tmem_tree.specs.declared.tx.Tx.TheVariants.{Skip, Seq', Put, Read, Write, Step, When', OrElse', Retry, Abort, Check}
 use Rattle.tmem_tree.specs.Answers.{Meanings}
 use Rattle.tmem_record.specs.Writes.{look}
 use Rattle.tmem_tree.specs.Run.{View, Ending, Normal, Retried, Aborted, run, start, is_zero, register}
@@ -38,6 +38,7 @@ module _ (steps : Meanings) where
     visits (OrElse' p a q b) view = visits a view ++ else_visit (run steps a view) (visits b view)
     visits Retry view = []
     visits (Abort code) view = []
+    visits (Check name) view = []
 
     pub visits_all : {m : _} → Row_of-Tx m → View → List ℕ
     visits_all end_of-Tx view = []

@@ -15,7 +15,5 @@ pub use limits::{MAX_DEPTH, MAX_NODES, MAX_WRITES, REGISTERS};
 pub use plan::Plan;
 pub use step::{MAX_ARGUMENTS, Step, StepAnswer, StepEntry};
 pub use steps::{MAX_STEPS, Steps, StoredSteps};
+pub use tmem_record::MAX_CHECKS;
 pub use tx::Tx;
-
-#[cfg(test)]
-mod tests;

@@ -2,12 +2,12 @@
 
 ghost use Rattle.std.specs.Prelude.{◌≡◌, ℕ, ◌+◌, ◌-◌, ◌≤◌, ◌<◌, ◌^◌, IfSome, IsNone, IsTrue, ◌↔◌};
 ghost use Rattle.std.specs.List.{list_any};
-ghost use Rattle.tmem_tree.specs.Limits.{depth, count, is_no_register, has_bad_register, has_bad_variable, has_bad_step, has_bad_arguments};
+ghost use Rattle.tmem_tree.specs.Limits.{depth, count, is_no_register, has_bad_register, has_bad_variable, has_bad_step, has_bad_arguments, has_unknown_name};
 ghost use Rattle.tmem_tree.specs.Plans.{is_counted};
 
 use crate::steps::StoredSteps;
 use crate::tx::Tx;
-use tmem_disk::Cause;
+use tmem_disk::{Cause, Name};
 
 /// How many registers a transaction has.
 pub const REGISTERS: usize = 16;
@@ -53,46 +53,49 @@ pub(crate) fn spend<S: StoredSteps>(
     cause: Cause,
     steps: &S,
     vars: u16,
+    names: &[Name],
     budget: u32,
 ) -> Option<u32>
-    ensures enough { IfSome result (λ left. left + count (is_counted cause (S.arities steps.now) vars) tx.now ≡ budget) }
-    ensures lacking { IsNone result → budget < count (is_counted cause (S.arities steps.now) vars) tx.now }
+    ensures enough { IfSome result (λ left. left + count (is_counted cause (S.arities steps.now) vars names.now) tx.now ≡ budget) }
+    ensures lacking { IsNone result → budget < count (is_counted cause (S.arities steps.now) vars names.now) tx.now }
 {
     let mut left = budget;
-    if is_counted(tx, cause, steps, vars) {
+    if is_counted(tx, cause, steps, vars, names) {
         left = left.checked_sub(1)?;
     }
     match tx {
         Tx::Seq(txs) => {
             for t in txs {
-                left = spend(t, cause, steps, vars, left)?;
+                left = spend(t, cause, steps, vars, names, left)?;
             }
             Some(left)
         }
         Tx::When { then, other, .. } => {
-            let left = spend(then, cause, steps, vars, left)?;
-            spend(other, cause, steps, vars, left)
+            let left = spend(then, cause, steps, vars, names, left)?;
+            spend(other, cause, steps, vars, names, left)
         }
         Tx::OrElse(first, second) => {
-            let left = spend(first, cause, steps, vars, left)?;
-            spend(second, cause, steps, vars, left)
+            let left = spend(first, cause, steps, vars, names, left)?;
+            spend(second, cause, steps, vars, names, left)
         }
         _ => Some(left),
     }
 }
 
 // Whether a limit counts this node.
-fn is_counted<S: StoredSteps>(tx: &Tx, cause: Cause, steps: &S, vars: u16) -> bool
-    ensures { result ≡ is_counted cause (S.arities steps.now) vars tx.now }
+fn is_counted<S: StoredSteps>(tx: &Tx, cause: Cause, steps: &S, vars: u16, names: &[Name]) -> bool
+    ensures { result ≡ is_counted cause (S.arities steps.now) vars names.now tx.now }
 {
     match cause {
+        Cause::TooDeep => false,
         Cause::TooManyNodes => true,
         Cause::TooManyWrites => matches!(tx, Tx::Write { .. }),
+        Cause::TooManyChecks => matches!(tx, Tx::Check { .. }),
         Cause::BadRegister => has_bad_register(tx),
         Cause::BadVariable => has_bad_variable(tx, vars),
         Cause::BadStep => has_bad_step(tx, steps),
         Cause::BadArguments => has_bad_arguments(tx, steps),
-        _ => false,
+        Cause::UnknownName => has_unknown_name(tx, names),
     }
 }
 
@@ -140,6 +143,15 @@ fn has_bad_arguments<S: StoredSteps>(tx: &Tx, steps: &S) -> bool
             let index = *index as usize;
             index < steps.len() && args.len() != steps.arity(index)
         }
+        _ => false,
+    }
+}
+
+fn has_unknown_name(tx: &Tx, names: &[Name]) -> bool
+    ensures { result ≡ has_unknown_name names.now tx.now }
+{
+    match tx {
+        Tx::Check { name } => !names.contains(name),
         _ => false,
     }
 }

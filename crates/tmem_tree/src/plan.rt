@@ -1,13 +1,14 @@
 // A transaction within the limits.
 
 ghost use Rattle.std.specs.Prelude.{◌≡◌, IfOk, IfErr, IfSome, IsNone};
-ghost use Rattle.tmem_tree.specs.Plans.{BreaksNone, IsLeastBroken, IsWithinLimits, FitsSteps, FitsVariables};
+ghost use Rattle.tmem_tree.specs.Plans.{BreaksNone, IsLeastBroken, IsWithinLimits, FitsSteps, FitsVariables, FitsNames};
 
 use crate::limits::{MAX_DEPTH, MAX_NODES, MAX_WRITES, is_within_depth, spend};
 use crate::steps::StoredSteps;
 use crate::tx::Tx;
 use std::marker::Model;
-use tmem_disk::{Cause, Fault};
+use tmem_disk::{Cause, Fault, Name};
+use tmem_record::MAX_CHECKS;
 
 /// A transaction that breaks no limit. Contracts see it as its tree.
 #[derive(Drop)]
@@ -32,16 +33,18 @@ impl Model for Plan {
 }
 
 impl Plan {
-    /// The plan, for these steps and so many variables. Refused with the least cause by number whose limit is broken.
-    #[tactic(auto, using(crate::proofs::Unbroken::fits_steps, crate::proofs::Unbroken::fits_variables))]
-    pub fn new<S: StoredSteps>(tx: Tx, steps: &S, vars: u16) -> Result<Plan, Fault>
+    /// The plan, for these steps, so many variables and the invariants of these names. Refused with the least cause by
+    /// number whose limit is broken.
+    #[tactic(auto, using(crate::proofs::Unbroken::fits_steps, crate::proofs::Unbroken::fits_variables, crate::proofs::Unbroken::fits_names))]
+    pub fn new<S: StoredSteps>(tx: Tx, steps: &S, vars: u16, names: &[Name]) -> Result<Plan, Fault>
         ensures plan { IfOk result (λ plan. plan ≡ tx) }
-        ensures fine { IfOk result (λ _. BreaksNone (S.arities steps.now) vars tx) }
+        ensures fine { IfOk result (λ _. BreaksNone (S.arities steps.now) vars names.now tx) }
         ensures steps { IfOk result (λ _. FitsSteps (S.arities steps.now) tx) }
         ensures variables { IfOk result (λ _. FitsVariables vars tx) }
-        ensures least { IfErr result (λ fault. (cause : Cause) × (fault ≡ Fault.BadPlan cause) × IsLeastBroken (S.arities steps.now) vars tx cause) }
+        ensures names { IfOk result (λ _. FitsNames names.now tx) }
+        ensures least { IfErr result (λ fault. (cause : Cause) × (fault ≡ Fault.BadPlan cause) × IsLeastBroken (S.arities steps.now) vars names.now tx cause) }
     {
-        match least_broken(&tx, steps, vars) {
+        match least_broken(&tx, steps, vars, names) {
             Some(cause) => Err(Fault::BadPlan(cause)),
             None => Ok(Plan { tx }),
         }
@@ -57,30 +60,37 @@ impl Plan {
 }
 
 // The least limit that is broken, if one is.
-fn least_broken<S: StoredSteps>(tx: &Tx, steps: &S, vars: u16) -> Option<Cause>
-    ensures some { IfSome result (λ cause. IsLeastBroken (S.arities steps.now) vars tx.now cause) }
-    ensures none { IsNone result → BreaksNone (S.arities steps.now) vars tx.now }
+fn least_broken<S: StoredSteps>(tx: &Tx, steps: &S, vars: u16, names: &[Name]) -> Option<Cause>
+    ensures some { IfSome result (λ cause. IsLeastBroken (S.arities steps.now) vars names.now tx.now cause) }
+    ensures none { IsNone result → BreaksNone (S.arities steps.now) vars names.now tx.now }
 {
+    let checks = MAX_CHECKS as u32;
     if !is_within_depth(tx, MAX_DEPTH) {
         return Some(Cause::TooDeep);
     }
-    if spend(tx, Cause::TooManyNodes, steps, vars, MAX_NODES).is_none() {
+    if spend(tx, Cause::TooManyNodes, steps, vars, names, MAX_NODES).is_none() {
         return Some(Cause::TooManyNodes);
     }
-    if spend(tx, Cause::TooManyWrites, steps, vars, MAX_WRITES).is_none() {
+    if spend(tx, Cause::TooManyWrites, steps, vars, names, MAX_WRITES).is_none() {
         return Some(Cause::TooManyWrites);
     }
-    if spend(tx, Cause::BadRegister, steps, vars, 0).is_none() {
+    if spend(tx, Cause::TooManyChecks, steps, vars, names, checks).is_none() {
+        return Some(Cause::TooManyChecks);
+    }
+    if spend(tx, Cause::BadRegister, steps, vars, names, 0).is_none() {
         return Some(Cause::BadRegister);
     }
-    if spend(tx, Cause::BadVariable, steps, vars, 0).is_none() {
+    if spend(tx, Cause::BadVariable, steps, vars, names, 0).is_none() {
         return Some(Cause::BadVariable);
     }
-    if spend(tx, Cause::BadStep, steps, vars, 0).is_none() {
+    if spend(tx, Cause::BadStep, steps, vars, names, 0).is_none() {
         return Some(Cause::BadStep);
     }
-    if spend(tx, Cause::BadArguments, steps, vars, 0).is_none() {
+    if spend(tx, Cause::BadArguments, steps, vars, names, 0).is_none() {
         return Some(Cause::BadArguments);
+    }
+    if spend(tx, Cause::UnknownName, steps, vars, names, 0).is_none() {
+        return Some(Cause::UnknownName);
     }
     None
 }

@@ -1,5 +1,7 @@
 // A transaction.
 
+use tmem_disk::Name;
+
 /// A transaction: a tree of reads, writes and stored steps over 16 registers (Harris et al. 2005, section 3, with
 /// registers in place of bound variables).
 #[derive(Debug, Drop)]
@@ -42,5 +44,9 @@ pub enum Tx {
     /// Gives up for good.
     Abort {
         code: u16,
+    },
+    /// Proposes an invariant: it must hold at the end of this transaction, and of every later one.
+    Check {
+        name: Name,
     },
 }

@@ -4,11 +4,11 @@ use Rattle.std.specs.Prelude.{◌⊎◌, ℤ, Option, Some, None, Result, Ok, Er
 use Rattle.tmem_disk.specs.declared.fault.Fault.{Fault}
 use Rattle.tmem_disk.specs.declared.fault.Fault.TheVariants as fault
 use Rattle.tmem_tree.specs.declared.tx.Tx.{Tx}
-use Rattle.tmem_tree.specs.Answers.{Meanings}
+use Rattle.tmem_core.specs.Program.{Program}
 use Rattle.tmem_tree.specs.Visited.{visited}
 use Rattle.tmem_tentative.specs.Right.{first_lacking}
 use Rattle.tmem_core.specs.declared.settled.Settled.{Settled}
-use Rattle.tmem_core.specs.declared.settled.Settled.TheVariants.{Committed, Seen, Retry, Aborted}
+use Rattle.tmem_core.specs.declared.settled.Settled.TheVariants.{Committed, Seen, Retry, Aborted, Refused}
 use Rattle.tmem_core.specs.Verdict.{map_of, verdict}
 use Rattle.tmem_core.specs.Settle.{judged}
 use Rattle.tmem_world.specs.declared.event.Event.{Event}
@@ -44,33 +44,34 @@ begins set m slot tx reply.Begun m' is = keeps_none m reply.Begun m' refl (ap (�
 begins set m slot tx (reply.Fault f) m' is = keeps_none m (reply.Fault f) m' refl (ap (λ (x : WorldModel). x.durable) is.1)
 begins set m slot tx _ m' is = absurd is
 
-goes_on-keeps : (need : Option ℕ) (steps : Meanings) (m : WorldModel) (slot : ℕ) (plan : Tx) (reads : List (ℕ × ℤ)) → Keeps m (goes_on need steps m slot plan reads).0 (goes_on need steps m slot plan reads).1
-goes_on-keeps (Some var) steps m slot plan reads = record { acknowledged = omega arith; durable = omega arith }
-goes_on-keeps None steps m slot plan reads = record { acknowledged = omega arith; durable = omega arith }
+goes_on-keeps : (need : Option ℕ) (program : Program) (m : WorldModel) (slot : ℕ) (plan : Tx) (reads : List (ℕ × ℤ)) → Keeps m (goes_on need program m slot plan reads).0 (goes_on need program m slot plan reads).1
+goes_on-keeps (Some var) program m slot plan reads = record { acknowledged = omega arith; durable = omega arith }
+goes_on-keeps None program m slot plan reads = record { acknowledged = omega arith; durable = omega arith }
 
 -- both parts of a pair
 as_pair : (m : WorldModel) (r : Reply) (m' : WorldModel) (x : Reply × WorldModel) → (r, m') ≡ x → Keeps m x.0 x.1 → Keeps m r m'
 as_pair m r m' x is keeps = subst (λ (y : Reply × WorldModel). Keeps m y.0 y.1) (sym is) keeps
 
-turns : (steps : Meanings) (a : Attempt) (m : WorldModel) (slot : ℕ) (r : Reply) (m' : WorldModel) → TurnsFrom steps a m slot r m' → Keeps m r m'
-turns steps NoAttempt m slot r m' is = keeps_same m r reply.Idle m' (omega arith) is
-turns steps (Ended plan reads) m slot r m' is = keeps_same m r reply.Ended m' (omega arith) is
-turns steps (Begun plan reads) m slot r m' is =
-    let need = first_lacking reads (visited steps plan (overridden reads (map_of (present steps m)))) in
-    ⊎_elim (λ now. as_pair m r m' (goes_on need steps m slot plan reads) now (goes_on-keeps need steps m slot plan reads)) (λ none. keeps_same m r (reply.Fault fault.Memory) m' (omega arith) none) is
+turns : (program : Program) (a : Attempt) (m : WorldModel) (slot : ℕ) (r : Reply) (m' : WorldModel) → TurnsFrom program a m slot r m' → Keeps m r m'
+turns program NoAttempt m slot r m' is = keeps_same m r reply.Idle m' (omega arith) is
+turns program (Ended plan reads) m slot r m' is = keeps_same m r reply.Ended m' (omega arith) is
+turns program (Begun plan reads) m slot r m' is =
+    let need = first_lacking reads (visited program.steps plan (overridden reads (map_of (present program m)))) in
+    ⊎_elim (λ now. as_pair m r m' (goes_on need program m slot plan reads) now (goes_on-keeps need program m slot plan reads)) (λ none. keeps_same m r (reply.Fault fault.Memory) m' (omega arith) none) is
 
 settles_as : (x : Result Settled Fault) (m : WorldModel) (slot : ℕ) (plan : Tx) → Keeps m (settled_as x m slot plan).0 (settled_as x m slot plan).1
 settles_as (Ok (Committed number registers)) m slot plan = record { acknowledged = omega arith; durable = omega arith }
 settles_as (Ok (Seen at registers)) m slot plan = record { acknowledged = omega arith; durable = omega arith }
 settles_as (Ok Retry) m slot plan = record { acknowledged = omega arith; durable = omega arith }
 settles_as (Ok (Aborted code)) m slot plan = record { acknowledged = omega arith; durable = omega arith }
+settles_as (Ok (Refused name)) m slot plan = record { acknowledged = omega arith; durable = omega arith }
 settles_as (Err f) m slot plan = record { acknowledged = omega arith; durable = omega arith }
 
-settles : (steps : Meanings) (a : Attempt) (m : WorldModel) (slot : ℕ) → Keeps m (settled steps a m slot).0 (settled steps a m slot).1
-settles steps NoAttempt m slot = record { acknowledged = omega arith; durable = omega arith }
-settles steps (Begun plan reads) m slot = record { acknowledged = omega arith; durable = omega arith }
-settles steps (Ended plan reads) m slot =
-    settles_as (judged (is_closed m.session) (present steps m) m.durable reads (verdict steps plan (present steps m))) m slot plan
+settles : (program : Program) (a : Attempt) (m : WorldModel) (slot : ℕ) → Keeps m (settled program a m slot).0 (settled program a m slot).1
+settles program NoAttempt m slot = record { acknowledged = omega arith; durable = omega arith }
+settles program (Begun plan reads) m slot = record { acknowledged = omega arith; durable = omega arith }
+settles program (Ended plan reads) m slot =
+    settles_as (judged (is_closed m.session) (present program m) m.durable reads (verdict program plan (present program m))) m slot plan
 
 flushes_one : (m : WorldModel) (r : Reply) (m' : WorldModel) → FlushesOne m r m' → Keeps m r m'
 flushes_one m (reply.Durable n) m' is =
@@ -89,12 +90,12 @@ either_of : (b : Bool) (P Q R : Type 0) → (P → R) → (Q → R) → MatchBoo
 either_of true P Q R one other is = one is
 either_of false P Q R one other is = other is
 
-flushes_in : (steps : Meanings) (s : Session) (m : WorldModel) (r : Reply) (m' : WorldModel) → FlushesIn steps s m r m' → Keeps m r m'
-flushes_in steps Open m r m' is =
-    either_of (nat_eq m.durable (present steps m).count) _ _ (Keeps m r m') (λ so. keeps_same m r (reply.Durable m.durable) m' (omega arith) so)
+flushes_in : (program : Program) (s : Session) (m : WorldModel) (r : Reply) (m' : WorldModel) → FlushesIn program s m r m' → Keeps m r m'
+flushes_in program Open m r m' is =
+    either_of (nat_eq m.durable (present program m).count) _ _ (Keeps m r m') (λ so. keeps_same m r (reply.Durable m.durable) m' (omega arith) so)
     (λ so. either_of (nat_eq m.used 1) _ _ (Keeps m r m') (λ full. keeps_same m r (reply.Fault fault.LogFull) m' (omega arith) full) (λ one. flushes_one m r m' one) so) is
-flushes_in steps Closed m r m' is = keeps_same m r (reply.Fault fault.Closed) m' (omega arith) is
-flushes_in steps Gone m r m' is = keeps_same m r (reply.Fault fault.Closed) m' (omega arith) is
+flushes_in program Closed m r m' is = keeps_same m r (reply.Fault fault.Closed) m' (omega arith) is
+flushes_in program Gone m r m' is = keeps_same m r (reply.Fault fault.Closed) m' (omega arith) is
 
 reopens : (m : WorldModel) (r : Reply) (m' : WorldModel) → m.durable ≤ m.doubtful → Reopens m r m' → Keeps m r m'
 reopens m (reply.Opened n) m' below is =
@@ -112,10 +113,10 @@ reopens m _ m' below is = absurd is
 -- so it is of each event
 pub keeps : (set : Setting) (m : WorldModel) (e : Event) (r : Reply) (m' : WorldModel) → m.durable ≤ m.doubtful → Allows set m e r m' → Keeps m r m'
 keeps set m (event.Begin slot tx) r m' below is = in_session m.session m r m' _ (begins set m slot tx r m') is
-keeps set m (event.Turn slot) r m' below is = in_session m.session m r m' _ (turns set.steps (attempt_at m slot) m slot r m') is
+keeps set m (event.Turn slot) r m' below is = in_session m.session m r m' _ (turns set.program (attempt_at m slot) m slot r m') is
 keeps set m (event.Settle slot) r m' below is =
-    in_session m.session m r m' _ (λ (so : (r, m') ≡ settled set.steps (attempt_at m slot) m slot). as_pair m r m' _ so (settles set.steps (attempt_at m slot) m slot)) is
-keeps set m event.Flush r m' below is = in_session m.session m r m' _ (flushes_in set.steps m.session m r m') is
+    in_session m.session m r m' _ (λ (so : (r, m') ≡ settled set.program (attempt_at m slot) m slot). as_pair m r m' _ so (settles set.program (attempt_at m slot) m slot)) is
+keeps set m event.Flush r m' below is = in_session m.session m r m' _ (flushes_in set.program m.session m r m') is
 keeps set m event.Look r m' below is = in_session m.session m r m' _ (keeps_same m r (reply.Looked m.durable) m' (omega arith)) is
 keeps set m event.Reopen r m' below is = reopens m r m' below is
 

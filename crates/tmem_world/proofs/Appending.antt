@@ -1,5 +1,5 @@
 -- What a content stands for while a record goes into slot 0.
-use Rattle.std.proofs.Common.{◌≡◌, ◌⊎◌, inl, inr, ⊎_elim, ℕ, ◌+◌, ◌<◌, ◌≤◌, ◌^◌, List, [], ◌∷◌, length, Option, Some, None, refl, sym, ◌∙◌, ap, subst, arith}
+use Rattle.std.proofs.Common.{◌≡◌, ◌⊎◌, inl, inr, ⊎_elim, ℕ, ◌+◌, ◌≤◌, List, [], ◌∷◌, length, Option, Some, None, refl, sym, ◌∙◌, ap, subst, arith}
 use Rattle.std.specs.Prelude.{slice_get}
 use Rattle.std.proofs.lemmas.Bool.{cases_eq}
 use Rattle.tmem_disk.specs.Disk.{DeviceView, IsDevice, LeavesOnly, AtEachMoment, Elapses, SameOutside, Rewritten}
@@ -7,8 +7,9 @@ use Rattle.tmem_gate.specs.Gate.{IsOpenAt, IsClosed, HasBody, IsClosedOver, IsOp
 use Rattle.tmem_record.specs.State.{State, apply}
 use Rattle.tmem_record.specs.declared.effect.Effect.{Effect}
 use Rattle.tmem_world.specs.Layout.{image_place, slot_place}
-use Rattle.tmem_world.specs.Spelling.{block_body, image_body, batch_bytes, IsRecord}
-use Rattle.tmem_world.specs.Stands.{Holds, HoldsLog, StandsFor, used_of, replayed}
+use Rattle.tmem_record.specs.Spelling.{batch_bytes}
+use Rattle.tmem_world.specs.Spelling.{block_body, image_body}
+use Rattle.tmem_world.specs.Stands.{FollowsOn, Holds, HoldsLog, StandsFor, used_of, replayed}
 use Rattle.tmem_world.specs.Calls.{StandsForEither}
 use Rattle.tmem_world.proofs.Ranges.{get_before, get_after, range_before, range_after}
 use Rattle.tmem_world.proofs.Lengths.{length-block_body, length-image_body}
@@ -29,7 +30,7 @@ pub holds_elsewhere : (vars slots : ℕ) (image : State) (was log : Option Effec
     → HoldsLog vars image log c → Holds vars slots image log c
 holds_elsewhere vars slots image was log at n b c holds same from to now = record {
   block = open_before same 0 (block_body vars slots) (omega (arith, length-block_body vars slots)) holds.block;
-  copy_0 = open_before same (image_place vars 0) (image_body vars 1 image) (omega (arith, length-image_body vars 1 image holds.fits.values)) holds.copy_0;
+  copy_0 = open_before same (image_place vars 0) (image_body vars 1 image) (omega (arith, length-image_body vars 1 image holds.fits.names holds.fits.values)) holds.copy_0;
   fits = holds.fits;
   copy_1 = closed_along (get_before same (image_place vars 1) (omega arith)) holds.copy_1;
   slot_0 = now;
@@ -71,10 +72,10 @@ gate_cases at c = from (slice_get c at) refl
     from (Some x) is = ⊎_elim (λ same. inl (is ∙ ap (λ (k : ℕ). Some k) same)) (λ other. inr (record { not_open = λ open_now. other (one x (sym is ∙ open_now)) })) (cases_eq x 0xA5)
 
 -- the gate of slot 0 counts alone, over the batch that stands behind it
-pub opened : (vars slots : ℕ) (s : State) (e : Effect) (b c : List ℕ) → IsRecord vars e → s.count + 1 < 2 ^ 64 → StandsFor vars slots 0 s b → HasBody (slot_place vars 0) (batch_bytes 1 s.count (e ∷ [])) c → SameOutside (slot_place vars 0) 1 b c
+pub opened : (vars slots : ℕ) (s : State) (e : Effect) (b c : List ℕ) → FollowsOn vars s e → StandsFor vars slots 0 s b → HasBody (slot_place vars 0) (batch_bytes 1 s.count (e ∷ [])) c → SameOutside (slot_place vars 0) 1 b c
     → StandsForEither vars slots s e c
-opened vars slots s e b c fits room stands body same = ⊎_elim
-    (λ open_now. inr (record { image = s; log = Some e; holds = holds_elsewhere vars slots s None (Some e) (slot_place vars 0) 1 b c (unused stands) same (omega arith) (omega arith) (fits, room, record { gate = open_now; body = body }); is_used = refl; is_state = refl }))
+opened vars slots s e b c follows stands body same = ⊎_elim
+    (λ open_now. inr (record { image = s; log = Some e; holds = holds_elsewhere vars slots s None (Some e) (slot_place vars 0) 1 b c (unused stands) same (omega arith) (omega arith) (record { follows = follows; cell = record { gate = open_now; body = body } }); is_used = refl; is_state = refl }))
     (λ closed. inl (stands_unused (holds_elsewhere vars slots s None None (slot_place vars 0) 1 b c (unused stands) same (omega arith) (omega arith) closed)))
     (gate_cases (slot_place vars 0) c)
 
@@ -94,14 +95,14 @@ module _ (old mid : DeviceView) (vars slots : ℕ) (s : State) (n : ℕ) (fits :
   while_put = record { each = λ k c left. let from = during.each k c left in behind_closed vars slots s n from.0 c fits (stands.each (model k) from.0 from.1) from.2 }
 
 -- and the call that opens the gate then
-module _ (old mid new : DeviceView) (vars slots : ℕ) (s : State) (e : Effect) (bytes : List ℕ) (spelled : bytes ≡ batch_bytes 1 s.count (e ∷ [])) (fits : IsRecord vars e) (room : s.count + 1 < 2 ^ 64)
+module _ (old mid new : DeviceView) (vars slots : ℕ) (s : State) (e : Effect) (bytes : List ℕ) (spelled : bytes ≡ batch_bytes 1 s.count (e ∷ [])) (follows : FollowsOn vars s e)
     (put : AtEachMoment old mid (StandsFor vars slots 0 s)) (device : IsDevice mid) (later : Elapses old mid (Rewritten (slot_place vars 0 + 1) (length bytes) old)) (body : LeavesOnly mid (IsClosedOver (slot_place vars 0) bytes))
     (model : new.keeps_model → mid.keeps_model) (time : Elapses mid new (Rewritten (slot_place vars 0) 1 mid)) where
   either : new.keeps_model → (c : List ℕ) → Rewritten (slot_place vars 0) 1 mid c → StandsForEither vars slots s e c
   either k c from =
       let before = (body.each (model k) from.0 from.1).body in
       let now : HasBody (slot_place vars 0) bytes c = range_after from.2 (slot_place vars 0 + 1) (length bytes) (omega arith) ∙ before in
-      opened vars slots s e from.0 c fits room ((at_the_end device later put).each (model k) from.0 from.1) (subst (λ (l : List ℕ). HasBody (slot_place vars 0) l c) spelled now) from.2
+      opened vars slots s e from.0 c follows ((at_the_end device later put).each (model k) from.0 from.1) (subst (λ (l : List ℕ). HasBody (slot_place vars 0) l c) spelled now) from.2
 
   pub while_opened : AtEachMoment old new (StandsForEither vars slots s e)
   while_opened = record { each = λ k c left. ⊎_elim (λ before. inl (put.each (model k) c before)) (λ from. either k c from) (time.nothing_else k old.moment c (later.later (model k)) left) }

@@ -1,5 +1,5 @@
 -- What a content stands for once it was made.
-use Rattle.std.proofs.Common.{◌≡◌, ◌<◌, ◌≤◌, ◌+◌, ◌*◌, ◌-◌, ℕ, zero, suc, pos, Option, Some, List, ◌++◌, length, take, replicate, flat_map, refl, sym, ◌∙◌, ap, subst, arith, rules}
+use Rattle.std.proofs.Common.{◌≡◌, ◌<◌, ◌≤◌, ◌+◌, ◌*◌, ◌-◌, ℕ, zero, suc, pos, Option, Some, List, [], ◌++◌, length, take, replicate, flat_map, refl, sym, ◌∙◌, ap, subst, arith, rules}
 use Rattle.std.specs.Prelude.{slice_get, slice_range, Result, Ok, Err, OnOk}
 use Rattle.std.specs.Prelude.{FitsSigned}
 use Rattle.std.specs.Int.{w64}
@@ -9,33 +9,43 @@ use Rattle.byteorder.specs.Endian.{little_bytes}
 use Rattle.tmem_disk.specs.Disk.{DeviceView, IsDevice, IsSynced, LeavesOnly, SameOutside, SameSeenOutside}
 use Rattle.tmem_gate.specs.Gate.{IsClosed, IsOpenOver}
 use Rattle.tmem_record.specs.State.{first_state}
+use Rattle.tmem_record.specs.Spelling.{number_bytes, value_bytes, names_bytes}
 use Rattle.tmem_world.specs.Layout.{pages_of, image_place, slot_place, end_place}
-use Rattle.tmem_world.specs.Spelling.{block_body, value_bytes, pages_body, image_body}
+use Rattle.tmem_world.specs.Spelling.{block_body, names_body, pages_body, image_body}
 use Rattle.tmem_world.specs.Stands.{StandsFor}
 use Rattle.tmem_world.specs.Looks.{BeginsZero}
 use Rattle.tmem_world.proofs.Ranges.{get_after, range_after}
 use Rattle.tmem_world.proofs.Lengths.{joined, length-little_bytes, length-block_body, zeros as zeros_long}
 use Rattle.tmem_world.proofs.Zeros.{zero_get, zero_range, range_split}
 use Rattle.tmem_world.proofs.Appending.{stands_unused}
+use Rattle.tmem_world.proofs.Registered.{no_names}
 
 zero_fits : FitsSigned w64 (pos 0)
 zero_fits = search rules
 
 zero_values : (n : ℕ) → flat_map value_bytes (replicate n (pos 0)) ≡ replicate (8 * n) 0
-unfolding value_bytes
+unfolding value_bytes number_bytes
 zero_values zero = refl
 zero_values (suc n) =
     let e : 8 * suc n ≡ 8 + 8 * n = omega arith in
     ap (λ (l : List ℕ). replicate 8 0 ++ l) (zero_values n) ∙ replicate-append-replicate 8 (8 * n) 0 ∙ ap (λ (k : ℕ). replicate k 0) (sym e)
 
+-- no names are zeros
+zero_names : names_body [] ≡ replicate 2031 0
+unfolding names_body names_bytes
+zero_names = replicate-append-replicate 1 2030 0
+
+zero_header : (n : ℕ) → names_body [] ++ replicate n 0 ≡ replicate (2031 + n) 0
+zero_header n = ap (λ (l : List ℕ). l ++ replicate n 0) zero_names ∙ replicate-append-replicate 2031 n 0
+
 -- the first image is its generation, and zeros
 pub first_image : (vars : ℕ) → image_body vars 1 (first_state vars) ≡ little_bytes 8 1 ++ replicate (2039 + 512 * pages_of vars) 0
-unfolding image_body pages_body
+unfolding image_body pages_body number_bytes
 first_image vars =
     let room : 8 * vars ≤ 512 * pages_of vars = omega arith in
     let whole : 8 * vars + (512 * pages_of vars - 8 * vars) ≡ 512 * pages_of vars = omega arith in
     let pages = ap (λ (l : List ℕ). l ++ replicate (512 * pages_of vars - 8 * vars) 0) (zero_values vars) ∙ replicate-append-replicate (8 * vars) (512 * pages_of vars - 8 * vars) 0 ∙ ap (λ (k : ℕ). replicate k 0) whole in
-    let header = ap (λ (l : List ℕ). replicate 2031 0 ++ l) pages ∙ replicate-append-replicate 2031 (512 * pages_of vars) 0 in
+    let header = ap (λ (l : List ℕ). names_body [] ++ l) pages ∙ zero_header (512 * pages_of vars) in
     let total : 8 + (2031 + 512 * pages_of vars) ≡ 2039 + 512 * pages_of vars = omega arith in
     ap (λ (l : List ℕ). little_bytes 8 1 ++ l) (ap (λ (l : List ℕ). replicate 8 0 ++ l) header ∙ replicate-append-replicate 8 (2031 + 512 * pages_of vars) 0 ∙ ap (λ (k : ℕ). replicate k 0) total)
 
@@ -88,7 +98,7 @@ module _ (vars slots : ℕ) (some : 1 ≤ slots) (zeroed with_image whole : List
   formatted gen numbers = stands_unused (record {
     block = numbers;
     copy_0 = subst (λ (at : ℕ). IsOpenOver at (image_body vars 1 (first_state vars)) whole) first_place (spelled_image gen);
-    fits = record { count = omega arith; no_names = refl; values = length-replicate vars (pos 0); numbers = All-replicate (FitsSigned w64) vars (pos 0) zero_fits };
+    fits = record { count = omega arith; names = no_names; values = length-replicate vars (pos 0); numbers = All-replicate (FitsSigned w64) vars (pos 0) zero_fits };
     copy_1 = closed_at_zero (image_place vars 1) whole (later_get (image_place vars 1) (omega arith) (omega arith));
     slot_0 = closed_at_zero (slot_place vars 0) whole (later_get (slot_place vars 0) (omega arith) (omega arith));
     behind = λ k one below. closed_at_zero (slot_place vars k) whole (later_get (slot_place vars k) (omega arith) (omega arith));

@@ -1,17 +1,17 @@
 pub mod Acknowledged
 pub mod Appending
 pub mod Batches
+pub mod Finding
 pub mod Flushed
-pub mod Flushing
 pub mod Formatting
 pub mod Found
 pub mod Imaging
 pub mod Lengths
-pub mod Numbers
 pub mod Opened
 pub mod Points
 pub mod Ranges
 pub mod Recovering
+pub mod Registered
 pub mod Reopened
 pub mod Runs
 pub mod Serial
@@ -20,5 +20,6 @@ pub mod Settling
 pub mod Spelled
 pub mod Standing
 pub mod Still
+pub mod Tables
 pub mod Unique
 pub mod Zeros

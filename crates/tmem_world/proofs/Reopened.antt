@@ -12,98 +12,127 @@ use Rattle.tmem_world.specs.declared.session.Slot.TheVariants as slot
 use Rattle.tmem_world.specs.declared.session.Session as core
 use Rattle.tmem_world.specs.declared.world.World.{World}
 use Rattle.tmem_record.specs.State.{State}
-use Rattle.tmem_tree.specs.Answers.{Meanings}
+use Rattle.tmem_invariants.specs.Meanings.{IsSound}
+use Rattle.tmem_core.specs.Program.{Program}
 use Rattle.tmem_core.specs.Held.{state_of, waiting_of, durable_of, is_shut_of}
 use Rattle.tmem_core.specs.Verdict.{serial_state}
 use Rattle.tmem_core.proofs.Serials.{count-committed}
 use Rattle.tmem_world.specs.Stands.{StandsFor}
-use Rattle.tmem_world.specs.Calls.{Uses, IsWhy, failures_after}
+use Rattle.tmem_world.specs.Calls.{Uses, IsWhyNot, failures_after}
 use Rattle.tmem_world.specs.WorldModel.{WorldModel, NoAttempt, no_attempts, Open, cut, dropped, Reopens}
 use Rattle.tmem_world.specs.Represents.{SlotIs, HasSession, Represents, StandsCut, session_of}
-use Rattle.tmem_world.proofs.Serial.{committed-take, length-take, take-again, none_waits}
+use Rattle.tmem_world.proofs.Serial.{committed-take, length-take, take-again, take-shorter, none_waits}
 use Rattle.tmem_world.proofs.Unique.{stands_for_one}
 
 -- empty slots hold no attempts
-empty_slots : (steps : Meanings) (xs : List Slot) (n : ℕ) → length xs ≡ n → All (λ (s : Slot). s ≡ slot.Empty) xs → AllZip (SlotIs steps) xs (replicate n NoAttempt)
-empty_slots steps [] zero same each = tt
-empty_slots steps [] (suc n) same each = absurd (omega arith)
-empty_slots steps (x ∷ xs) zero same each = absurd (omega arith)
-empty_slots steps (x ∷ xs) (suc n) same each =
+empty_slots : (program : Program) (xs : List Slot) (n : ℕ) → length xs ≡ n → All (λ (s : Slot). s ≡ slot.Empty) xs → AllZip (SlotIs program) xs (replicate n NoAttempt)
+empty_slots program [] zero same each = tt
+empty_slots program [] (suc n) same each = absurd (omega arith)
+empty_slots program (x ∷ xs) zero same each = absurd (omega arith)
+empty_slots program (x ∷ xs) (suc n) same each =
     let here : x ≡ slot.Empty = each 0 x (omega arith) in
-    (subst (λ (s : Slot). SlotIs steps s NoAttempt) (sym here) tt, empty_slots steps xs n (omega arith) (λ k d below. each (suc k) d (omega arith)))
+    (subst (λ (s : Slot). SlotIs program s NoAttempt) (sym here) tt, empty_slots program xs n (omega arith) (λ k d below. each (suc k) d (omega arith)))
 
-pub no_slots_held : (steps : Meanings) (xs : List Slot) → length xs ≡ 16 → All (λ (s : Slot). s ≡ slot.Empty) xs → AllZip (SlotIs steps) xs no_attempts
+pub no_slots_held : (program : Program) (xs : List Slot) → length xs ≡ 16 → All (λ (s : Slot). s ≡ slot.Empty) xs → AllZip (SlotIs program) xs no_attempts
 unfolding no_attempts
-no_slots_held steps xs same each = empty_slots steps xs 16 same each
+no_slots_held program xs same each = empty_slots program xs 16 same each
 
 -- the point of the run where n transactions were found
 abbrev found_at : WorldModel → ℕ → WorldModel
 found_at m n = record m { accepted = take (n - m.opened.count) m.accepted; durable = n; doubtful = n; used = m.used + (n - m.durable); attempts = no_attempts; session = Open }
 
-module _ {D S : Type 0} {d t : _} (steps : Meanings) (w w' : World D S d t) (m : WorldModel) (r : Represents steps w m) (device : IsDevice (d.view w.disk)) (keeps : (d.view w'.disk).keeps_model) (layout : w'.layout ≡ w.layout)
+module _ {D T S : Type 0} {d t z : _} (program : Program) (w w' : World D T S d t z) (m : WorldModel) (r : Represents program w m) (device : IsDevice (d.view w.disk)) (keeps : (d.view w'.disk).keeps_model) (layout : w'.layout ≡ w.layout)
     (emptied : All (λ (s : Slot). s ≡ slot.Empty) w'.slots.items) (sized : length w'.slots.items ≡ 16) (seen : Reads (d.view w'.disk) (d.view w.disk).seen) (stop : LeavesOnly (d.view w'.disk) (d.view w.disk).may_leave) where
-  slots_held : AllZip (SlotIs steps) w'.slots.items no_attempts
-  slots_held = no_slots_held steps w'.slots.items sized emptied
+  slots_held : AllZip (SlotIs program) w'.slots.items no_attempts
+  slots_held = no_slots_held program w'.slots.items sized emptied
 
   -- without a session
-  gone : (f : Fault) → (d.view w'.disk).keeps_model → ((d.view w'.disk).keeps_model → (d.view w.disk).keeps_model) → w'.session ≡ None → w'.durable ≡ w.durable → w'.doubtful ≡ w.doubtful → (n : ℕ) → (d.view w'.disk).failures ≡ n → Represents steps w' (record (dropped m) { failures = n })
+  gone : (f : Fault) → (d.view w'.disk).keeps_model → ((d.view w'.disk).keeps_model → (d.view w.disk).keeps_model) → w'.session ≡ None → w'.durable ≡ w.durable → w'.doubtful ≡ w.doubtful → (n : ℕ) → (d.view w'.disk).failures ≡ n → Represents program w' (record (dropped m) { failures = n })
   gone f k model none durable doubtful n failures = record {
-    numbers = record { opened = r.numbers.opened; durable = r.numbers.durable; doubtful = r.numbers.doubtful; each = r.numbers.each };
+    numbers = record { opened = r.numbers.opened; durable = r.numbers.durable; doubtful = r.numbers.doubtful; each = r.numbers.each; sound = r.numbers.sound };
     slots = slots_held;
-    session = subst (λ (o : Option core.Session). HasSession steps o (record (dropped m) { failures = n })) (sym none) refl;
+    session = subst (λ (o : Option (core.Session T t)). HasSession program o (record (dropped m) { failures = n })) (sym none) refl;
     durable = durable ∙ r.durable;
     doubtful = doubtful ∙ r.doubtful;
     failures = failures;
-    device = subst (λ (l : Layout). LeavesOnly (d.view w'.disk) (StandsCut steps l.vars l.slots m)) (sym layout) (record { each = λ k' c left. r.device.each (model k') c (stop.each k' c left) });
+    device = subst (λ (l : Layout). LeavesOnly (d.view w'.disk) (StandsCut program l.vars l.slots m)) (sym layout) (record { each = λ k' c left. r.device.each (model k') c (stop.each k' c left) });
   }
 
   few_vars : w.layout.vars < 2 ^ 16
   few_vars = let fits : w.layout.vars ≤ 1024 = w.layout.fits.vars_fit in omega arith
 
   -- what is read stands for the order cut at the durable number or at the doubtful one
-  reads_at : (d.view w.disk).keeps_model → StandsCut steps w.layout.vars w.layout.slots m (d.view w.disk).seen
+  reads_at : (d.view w.disk).keeps_model → StandsCut program w.layout.vars w.layout.slots m (d.view w.disk).seen
   reads_at k = r.device.each k (d.view w.disk).seen (device.seen_may_stay k)
 
-  not_refused : (f : Fault) → ((d.view w'.disk).keeps_model → (d.view w.disk).keeps_model) → IsWhy ((d.view w'.disk).keeps_model → (used : ℕ) (s : State) → StandsFor w.layout.vars w.layout.slots used s (d.view w.disk).seen → ⊥) f → (f ≡ fault.Memory) ⊎ (f ≡ fault.Device)
+  abbrev StandsForNone : Type 0
+  StandsForNone = (d.view w'.disk).keeps_model → (used : ℕ) (s : State) → StandsFor w.layout.vars w.layout.slots used s (d.view w.disk).seen → ⊥
+
+  abbrev StandsForUnsound : Fault → Type 0
+  StandsForUnsound f = (used : ℕ) × (s : State) × ((d.view w'.disk).keeps_model → StandsFor w.layout.vars w.layout.slots used s (d.view w.disk).seen) × (¬ IsSound program.tests program.names s.names s.values)
+
+  -- it stands for some state
+  some_state : (d.view w.disk).keeps_model → StandsForNone → ⊥
+  some_state k none = ⊎_elim (λ (it : StandsFor w.layout.vars w.layout.slots m.used (cut program m m.durable) (d.view w.disk).seen). none keeps _ _ it) (λ it. none keeps _ _ it) (reads_at k)
+
+  -- and that is sound
+  sound_state : (f : Fault) → (d.view w.disk).keeps_model → StandsForUnsound f → ⊥
+  sound_state f k un = ⊎_elim at_durable at_doubtful (reads_at k)
+    where
+      sound_at : (n : ℕ) → m.opened.count ≤ n → n ≤ m.opened.count + length m.accepted → un.1 ≡ cut program m n → ⊥
+      sound_at n low high same = un.3 (subst (λ (x : State). IsSound program.tests program.names x.names x.values) (sym same) (r.numbers.sound n low high))
+
+      at_durable : StandsFor w.layout.vars w.layout.slots m.used (cut program m m.durable) (d.view w.disk).seen → ⊥
+      at_durable it = sound_at m.durable r.numbers.opened (omega (arith, r.numbers.durable, r.numbers.doubtful)) (stands_for_one w.layout.vars w.layout.slots few_vars (d.view w.disk).seen un.0 m.used un.1 (cut program m m.durable) (un.2 keeps) it).1
+
+      at_doubtful : StandsFor w.layout.vars w.layout.slots (m.used + (m.doubtful - m.durable)) (cut program m m.doubtful) (d.view w.disk).seen → ⊥
+      at_doubtful it = sound_at m.doubtful (omega (arith, r.numbers.opened, r.numbers.durable)) r.numbers.doubtful (stands_for_one w.layout.vars w.layout.slots few_vars (d.view w.disk).seen un.0 (m.used + (m.doubtful - m.durable)) un.1 (cut program m m.doubtful) (un.2 keeps) it).1
+
+  not_refused : (f : Fault) → ((d.view w'.disk).keeps_model → (d.view w.disk).keeps_model) → IsWhyNot StandsForNone (StandsForUnsound f) f → (f ≡ fault.Memory) ⊎ (f ≡ fault.Device)
   not_refused fault.Memory model why = inl refl
   not_refused fault.Device model why = inr refl
-  not_refused fault.NotFormatted model why = absurd (⊎_elim (λ (it : StandsFor w.layout.vars w.layout.slots m.used (cut steps m m.durable) (d.view w.disk).seen). why keeps _ _ it) (λ it. why keeps _ _ it) (reads_at (model keeps)))
-  not_refused fault.Damaged model why = absurd (⊎_elim (λ (it : StandsFor w.layout.vars w.layout.slots m.used (cut steps m m.durable) (d.view w.disk).seen). why keeps _ _ it) (λ it. why keeps _ _ it) (reads_at (model keeps)))
-  not_refused fault.Geometry model why = absurd (⊎_elim (λ (it : StandsFor w.layout.vars w.layout.slots m.used (cut steps m m.durable) (d.view w.disk).seen). why keeps _ _ it) (λ it. why keeps _ _ it) (reads_at (model keeps)))
+  not_refused fault.NotFormatted model why = absurd (some_state (model keeps) why)
+  not_refused fault.Damaged model why = absurd (some_state (model keeps) why)
+  not_refused fault.Geometry model why = absurd (some_state (model keeps) why)
+  not_refused (fault.Missing name) model why = absurd (sound_state (fault.Missing name) (model keeps) why)
+  not_refused (fault.Broken name) model why = absurd (sound_state (fault.Broken name) (model keeps) why)
   not_refused _ model why = absurd why
 
   -- opening refused
-  pub refused : (f : Fault) → Uses {T = core.Session} (d.view w.disk) (d.view w'.disk) (Err f) → IsWhy ((d.view w'.disk).keeps_model → (used : ℕ) (s : State) → StandsFor w.layout.vars w.layout.slots used s (d.view w.disk).seen → ⊥) f
-      → w'.session ≡ None → w'.durable ≡ w.durable → w'.doubtful ≡ w.doubtful → (m' : WorldModel) × Reopens m (reply.Fault f) m' × Represents steps w' m'
+  pub refused : (f : Fault) → Uses {T = Unit {0}} (d.view w.disk) (d.view w'.disk) (Err f) → IsWhyNot StandsForNone (StandsForUnsound f) f
+      → w'.session ≡ None → w'.durable ≡ w.durable → w'.doubtful ≡ w.doubtful → (m' : WorldModel) × Reopens m (reply.Fault f) m' × Represents program w' m'
   refused f uses why none durable doubtful = ⊎_elim by_memory by_device (not_refused f uses.model why)
     where
-      by_memory : f ≡ fault.Memory → (m' : WorldModel) × Reopens m (reply.Fault f) m' × Represents steps w' m'
+      by_memory : f ≡ fault.Memory → (m' : WorldModel) × Reopens m (reply.Fault f) m' × Represents program w' m'
       by_memory is =
           let failures : (d.view w'.disk).failures ≡ failures_after fault.Memory (d.view w.disk).failures = subst (λ (x : Fault). (d.view w'.disk).failures ≡ failures_after x (d.view w.disk).failures) is uses.failures in
-          subst (λ (x : Fault). (m' : WorldModel) × Reopens m (reply.Fault x) m' × Represents steps w' m') (sym is) (dropped m, refl, gone f keeps uses.model none durable doubtful m.failures (failures ∙ r.failures))
+          subst (λ (x : Fault). (m' : WorldModel) × Reopens m (reply.Fault x) m' × Represents program w' m') (sym is) (dropped m, refl, gone f keeps uses.model none durable doubtful m.failures (failures ∙ r.failures))
 
-      by_device : f ≡ fault.Device → (m' : WorldModel) × Reopens m (reply.Fault f) m' × Represents steps w' m'
+      by_device : f ≡ fault.Device → (m' : WorldModel) × Reopens m (reply.Fault f) m' × Represents program w' m'
       by_device is =
           let failures : (d.view w'.disk).failures ≡ failures_after fault.Device (d.view w.disk).failures = subst (λ (x : Fault). (d.view w'.disk).failures ≡ failures_after x (d.view w.disk).failures) is uses.failures in
-          subst (λ (x : Fault). (m' : WorldModel) × Reopens m (reply.Fault x) m' × Represents steps w' m') (sym is) (record (dropped m) { failures = after_fault m.failures }, refl, gone f keeps uses.model none durable doubtful (after_fault m.failures) (failures ∙ ap after_fault r.failures))
+          subst (λ (x : Fault). (m' : WorldModel) × Reopens m (reply.Fault x) m' × Represents program w' m') (sym is) (record (dropped m) { failures = after_fault m.failures }, refl, gone f keeps uses.model none durable doubtful (after_fault m.failures) (failures ∙ ap after_fault r.failures))
 
-  module _ (s : core.Session) (some : w'.session ≡ Some s) (durable : w'.durable ≡ (state_of s.core).count) (doubtful : w'.doubtful ≡ (state_of s.core).count) (stands : StandsFor w.layout.vars w.layout.slots s.used (state_of s.core) (d.view w.disk).seen)
+  module _ (s : core.Session T t) (some : w'.session ≡ Some s) (durable : w'.durable ≡ (state_of s.core).count) (doubtful : w'.doubtful ≡ (state_of s.core).count) (stands : StandsFor w.layout.vars w.layout.slots s.used (state_of s.core) (d.view w.disk).seen)
       (fresh : waiting_of s.core ≡ []) (all : durable_of s.core ≡ (state_of s.core).count) (running : is_shut_of s.core ≡ false) (failures : (d.view w'.disk).failures ≡ (d.view w.disk).failures) (synced : IsSynced (d.view w'.disk)) where
-    found_as : (n : ℕ) → (n ≡ m.durable) ⊎ (n ≡ m.doubtful) → m.opened.count ≤ n → n ≤ m.opened.count + length m.accepted → s.used ≡ m.used + (n - m.durable) → (state_of s.core) ≡ cut steps m n → (m' : WorldModel) × Reopens m (reply.Opened (state_of s.core).count) m' × Represents steps w' m'
+    found_as : (n : ℕ) → (n ≡ m.durable) ⊎ (n ≡ m.doubtful) → m.opened.count ≤ n → n ≤ m.opened.count + length m.accepted → s.used ≡ m.used + (n - m.durable) → (state_of s.core) ≡ cut program m n → (m' : WorldModel) × Reopens m (reply.Opened (state_of s.core).count) m' × Represents program w' m'
     found_as n which low high used state =
         let k = n - m.opened.count in
         let le : k ≤ length m.accepted = omega arith in
-        let counted : (state_of s.core).count ≡ n = omega (arith, ap (λ (x : State). x.count) state, count-committed steps m.opened (take k m.accepted) (committed-take steps k m.opened m.accepted r.numbers.each), length-take k m.accepted le) in
-        let again : cut steps m n ≡ cut steps (found_at m n) n = ap (serial_state steps m.opened) (sym (take-again k m.accepted)) in
-        let here : StandsFor w.layout.vars w.layout.slots (m.used + (n - m.durable)) (cut steps (found_at m n) n) (d.view w.disk).seen =
-        subst (λ (u : ℕ). StandsFor w.layout.vars w.layout.slots u (cut steps (found_at m n) n) (d.view w.disk).seen) used (subst (λ (t : State). StandsFor w.layout.vars w.layout.slots s.used t (d.view w.disk).seen) (state ∙ again) stands) in
-        let point : Represents steps w' (found_at m n) = record {
-          numbers = record { opened = low; durable = omega arith; doubtful = omega (arith, length-take k m.accepted le); each = committed-take steps k m.opened m.accepted r.numbers.each };
+        let counted : (state_of s.core).count ≡ n = omega (arith, ap (λ (x : State). x.count) state, count-committed program m.opened (take k m.accepted) (committed-take program k m.opened m.accepted r.numbers.each), length-take k m.accepted le) in
+        let again : cut program m n ≡ cut program (found_at m n) n = ap (serial_state program m.opened) (sym (take-again k m.accepted)) in
+        let here : StandsFor w.layout.vars w.layout.slots (m.used + (n - m.durable)) (cut program (found_at m n) n) (d.view w.disk).seen =
+        subst (λ (u : ℕ). StandsFor w.layout.vars w.layout.slots u (cut program (found_at m n) n) (d.view w.disk).seen) used (subst (λ (t : State). StandsFor w.layout.vars w.layout.slots s.used t (d.view w.disk).seen) (state ∙ again) stands) in
+        let sound_cut : (j : ℕ) → m.opened.count ≤ j → j ≤ m.opened.count + length (take k m.accepted) → IsSound program.tests program.names (cut program (found_at m n) j).names (cut program (found_at m n) j).values =
+        λ j from to. subst (λ (x : State). IsSound program.tests program.names x.names x.values) (ap (serial_state program m.opened) (sym (take-shorter (j - m.opened.count) k m.accepted (omega (arith, to, length-take k m.accepted le)))))
+        (r.numbers.sound j from (omega (arith, to, le, length-take k m.accepted le))) in
+        let point : Represents program w' (found_at m n) = record {
+          numbers = record { opened = low; durable = omega arith; doubtful = omega (arith, length-take k m.accepted le); each = committed-take program k m.opened m.accepted r.numbers.each; sound = sound_cut };
           slots = slots_held;
-          session = subst (λ (o : Option core.Session). HasSession steps o (found_at m n)) (sym some) (record {
+          session = subst (λ (o : Option (core.Session T t)). HasSession program o (found_at m n)) (sym some) (record {
             state = state;
             durable = all ∙ counted;
-            waiting = fresh ∙ sym (none_waits steps k m.opened m.accepted r.numbers.each);
+            waiting = fresh ∙ sym (none_waits program k m.opened m.accepted r.numbers.each);
             used = used;
             session = ap session_of (sym running);
             certain = λ yes. refl;
@@ -112,23 +141,23 @@ module _ {D S : Type 0} {d t : _} (steps : Meanings) (w w' : World D S d t) (m :
           doubtful = doubtful ∙ counted;
           failures = failures ∙ r.failures;
           device = record {
-            each = λ k' c left. inl (subst (λ (l : Layout). StandsFor l.vars l.slots (m.used + (n - m.durable)) (cut steps (found_at m n) n) c) (sym layout)
-                (subst (λ (b : List ℕ). StandsFor w.layout.vars w.layout.slots (m.used + (n - m.durable)) (cut steps (found_at m n) n) b) (sym (synced k' c left ∙ seen k')) here));
+            each = λ k' c left. inl (subst (λ (l : Layout). StandsFor l.vars l.slots (m.used + (n - m.durable)) (cut program (found_at m n) n) c) (sym layout)
+                (subst (λ (b : List ℕ). StandsFor w.layout.vars w.layout.slots (m.used + (n - m.durable)) (cut program (found_at m n) n) b) (sym (synced k' c left ∙ seen k')) here));
           };
         } in
-        subst (λ (x : ℕ). (m' : WorldModel) × Reopens m (reply.Opened x) m' × Represents steps w' m') (sym counted) (found_at m n, (which, refl), point)
+        subst (λ (x : ℕ). (m' : WorldModel) × Reopens m (reply.Opened x) m' × Represents program w' m') (sym counted) (found_at m n, (which, refl), point)
 
     -- opening found a state of the run
-    pub found : ((d.view w'.disk).keeps_model → (d.view w.disk).keeps_model) → (n : ℕ) → n ≡ (state_of s.core).count → (m' : WorldModel) × Reopens m (reply.Opened n) m' × Represents steps w' m'
+    pub found : ((d.view w'.disk).keeps_model → (d.view w.disk).keeps_model) → (n : ℕ) → n ≡ (state_of s.core).count → (m' : WorldModel) × Reopens m (reply.Opened n) m' × Represents program w' m'
     found model n is =
-        subst (λ (x : ℕ). (m' : WorldModel) × Reopens m (reply.Opened x) m' × Represents steps w' m') (sym is) (⊎_elim at_durable at_doubtful (reads_at (model keeps)))
+        subst (λ (x : ℕ). (m' : WorldModel) × Reopens m (reply.Opened x) m' × Represents program w' m') (sym is) (⊎_elim at_durable at_doubtful (reads_at (model keeps)))
       where
-        at_durable : StandsFor w.layout.vars w.layout.slots m.used (cut steps m m.durable) (d.view w.disk).seen → (m' : WorldModel) × Reopens m (reply.Opened (state_of s.core).count) m' × Represents steps w' m'
+        at_durable : StandsFor w.layout.vars w.layout.slots m.used (cut program m m.durable) (d.view w.disk).seen → (m' : WorldModel) × Reopens m (reply.Opened (state_of s.core).count) m' × Represents program w' m'
         at_durable it =
-            let one = stands_for_one w.layout.vars w.layout.slots few_vars (d.view w.disk).seen s.used m.used (state_of s.core) (cut steps m m.durable) stands it in
+            let one = stands_for_one w.layout.vars w.layout.slots few_vars (d.view w.disk).seen s.used m.used (state_of s.core) (cut program m m.durable) stands it in
             found_as m.durable (inl refl) r.numbers.opened (omega (arith, r.numbers.durable, r.numbers.doubtful)) (omega (arith, one.0)) one.1
 
-        at_doubtful : StandsFor w.layout.vars w.layout.slots (m.used + (m.doubtful - m.durable)) (cut steps m m.doubtful) (d.view w.disk).seen → (m' : WorldModel) × Reopens m (reply.Opened (state_of s.core).count) m' × Represents steps w' m'
+        at_doubtful : StandsFor w.layout.vars w.layout.slots (m.used + (m.doubtful - m.durable)) (cut program m m.doubtful) (d.view w.disk).seen → (m' : WorldModel) × Reopens m (reply.Opened (state_of s.core).count) m' × Represents program w' m'
         at_doubtful it =
-            let one = stands_for_one w.layout.vars w.layout.slots few_vars (d.view w.disk).seen s.used (m.used + (m.doubtful - m.durable)) (state_of s.core) (cut steps m m.doubtful) stands it in
+            let one = stands_for_one w.layout.vars w.layout.slots few_vars (d.view w.disk).seen s.used (m.used + (m.doubtful - m.durable)) (state_of s.core) (cut program m m.doubtful) stands it in
             found_as m.doubtful (inr refl) (omega (arith, r.numbers.opened, r.numbers.durable)) r.numbers.doubtful one.0 one.1

@@ -1,11 +1,13 @@
 -- The serial order of accepted transactions, cut at a number.
-use Rattle.std.proofs.Common.{◌≡◌, ℕ, zero, suc, ◌+◌, ◌<◌, ◌≤◌, List, [], ◌∷◌, ◌++◌, length, take, drop, refl, sym, ◌∙◌, ap, arith}
-use Rattle.tmem_record.specs.State.{State, apply}
+use Rattle.std.proofs.Common.{◌≡◌, ◌⊎◌, inl, inr, ⊎_elim, ℕ, zero, suc, ◌+◌, ◌<◌, ◌≤◌, List, [], ◌∷◌, ◌++◌, length, take, drop, refl, sym, ◌∙◌, ap, subst, arith}
+use Rattle.std.proofs.lemmas.List.{take-append-drop}
+use Rattle.tmem_record.specs.State.{State, apply, fold}
 use Rattle.tmem_record.specs.declared.effect.Effect.{Effect}
 use Rattle.tmem_tree.specs.declared.tx.Tx.{Tx}
-use Rattle.tmem_tree.specs.Answers.{Meanings}
+use Rattle.tmem_core.specs.Program.{Program}
 use Rattle.tmem_core.specs.Verdict.{effect_of, accepted_of, state_after, serial_state, serial_effects, IsCommitted, AreCommitted, verdict}
-use Rattle.tmem_core.proofs.Serials.{accepted_of-committed, state_after-committed, serial_effects-push, length-serial_effects}
+use Rattle.tmem_record.proofs.Folding.{length-names-fold-le}
+use Rattle.tmem_core.proofs.Serials.{accepted_of-committed, state_after-committed, serial_effects-push, serial_state-append, serial_state-fold, length-serial_effects}
 
 drop-append : (k : ℕ) (es fs : List Effect) → k ≤ length es → drop k (es ++ fs) ≡ drop k es ++ fs
 drop-append zero es fs le = refl
@@ -27,59 +29,86 @@ take-again zero txs = refl
 take-again (suc k) [] = refl
 take-again (suc k) (t ∷ txs) = ap (λ (l : List Tx). t ∷ l) (take-again k txs)
 
+-- a shorter beginning of a beginning
+pub take-shorter : (j k : ℕ) (txs : List Tx) → j ≤ k → take j (take k txs) ≡ take j txs
+take-shorter zero k txs le = refl
+take-shorter (suc j) zero txs le = absurd (omega (arith, le))
+take-shorter (suc j) (suc k) [] le = refl
+take-shorter (suc j) (suc k) (t ∷ txs) le = ap (λ (l : List Tx). t ∷ l) (take-shorter j k txs (omega (arith, le)))
+
+pub take-all : (k : ℕ) (txs : List Tx) → k ≡ length txs → take k txs ≡ txs
+take-all zero [] is = refl
+take-all zero (t ∷ txs) is = absurd (omega (arith, is))
+take-all (suc k) [] is = absurd (omega (arith, is))
+take-all (suc k) (t ∷ txs) is = ap (λ (l : List Tx). t ∷ l) (take-all k txs (omega (arith, is)))
+
+-- a number up to the next one is up to this one, or the next
+pub up_to_next : (n k : ℕ) → n ≤ suc k → (n ≤ k) ⊎ (n ≡ suc k)
+up_to_next zero k le = inl (omega arith)
+up_to_next (suc n) zero le = inr (omega (arith, le))
+up_to_next (suc n) (suc k) le = ⊎_elim (λ (below : n ≤ k). inl (omega (arith, below))) (λ (same : n ≡ suc k). inr (omega (arith, same))) (up_to_next n k (omega (arith, le)))
+
 pub length-take : (k : ℕ) (txs : List Tx) → k ≤ length txs → length (take k txs) ≡ k
 length-take zero txs le = refl
 length-take (suc k) [] le = absurd (omega arith)
 length-take (suc k) (t ∷ txs) le = omega (arith, length-take k txs (omega arith))
 
-module _ (steps : Meanings) where
-  pub committed-take : (k : ℕ) (s : State) (txs : List Tx) → AreCommitted steps s txs → AreCommitted steps s (take k txs)
+module _ (program : Program) where
+  pub committed-take : (k : ℕ) (s : State) (txs : List Tx) → AreCommitted program s txs → AreCommitted program s (take k txs)
   committed-take zero s txs are = tt
   committed-take (suc k) s [] are = tt
-  committed-take (suc k) s (t ∷ txs) are = (are.0, committed-take k (state_after steps s t) txs are.1)
+  committed-take (suc k) s (t ∷ txs) are = (are.0, committed-take k (state_after program s t) txs are.1)
 
-  effects-cons : (s : State) (t : Tx) (txs : List Tx) → IsCommitted (verdict steps t s) → serial_effects steps s (t ∷ txs) ≡ effect_of steps t s ∷ serial_effects steps (state_after steps s t) txs
-  effects-cons s t txs is = ap (λ (es : List Effect). es ++ serial_effects steps (state_after steps s t) txs) (accepted_of-committed steps s t is)
+  effects-cons : (s : State) (t : Tx) (txs : List Tx) → IsCommitted (verdict program t s) → serial_effects program s (t ∷ txs) ≡ effect_of program t s ∷ serial_effects program (state_after program s t) txs
+  effects-cons s t txs is = ap (λ (es : List Effect). es ++ serial_effects program (state_after program s t) txs) (accepted_of-committed program s t is)
 
-  pub length-drop_effects : (k : ℕ) (s : State) (txs : List Tx) → AreCommitted steps s txs → k ≤ length txs → length (drop k (serial_effects steps s txs)) + k ≡ length txs
+  pub length-drop_effects : (k : ℕ) (s : State) (txs : List Tx) → AreCommitted program s txs → k ≤ length txs → length (drop k (serial_effects program s txs)) + k ≡ length txs
   length-drop_effects k s txs are le =
-      let all = length-serial_effects steps s txs are in
-      omega (arith, all, length-drop k (serial_effects steps s txs) (omega (arith, all, le)))
+      let all = length-serial_effects program s txs are in
+      omega (arith, all, length-drop k (serial_effects program s txs) (omega (arith, all, le)))
+
+  -- no name is lost behind a cut
+  pub length-names-take-le : (k : ℕ) (s : State) (txs : List Tx) → length (serial_state program s (take k txs)).names ≤ length (serial_state program s txs).names
+  length-names-take-le k s txs =
+      let t = serial_state program s (take k txs) in
+      let rest = serial_effects program t (drop k txs) in
+      let whole : serial_state program s txs ≡ fold t rest = ap (serial_state program s) (sym (take-append-drop k txs)) ∙ serial_state-append program s (take k txs) (drop k txs) ∙ serial_state-fold program t (drop k txs) in
+      subst (λ (x : State). length t.names ≤ length x.names) (sym whole) (length-names-fold-le t rest)
 
   -- what waits, once one more was accepted
-  pub waiting-append : (k : ℕ) (s : State) (txs : List Tx) (tx : Tx) → AreCommitted steps s txs → k ≤ length txs
-      → drop k (serial_effects steps s (txs ++ tx ∷ [])) ≡ drop k (serial_effects steps s txs) ++ accepted_of steps tx (serial_state steps s txs)
+  pub waiting-append : (k : ℕ) (s : State) (txs : List Tx) (tx : Tx) → AreCommitted program s txs → k ≤ length txs
+      → drop k (serial_effects program s (txs ++ tx ∷ [])) ≡ drop k (serial_effects program s txs) ++ accepted_of program tx (serial_state program s txs)
   waiting-append k s txs tx are le =
-      let all = length-serial_effects steps s txs are in
-      ap (drop k) (serial_effects-push steps s txs tx) ∙ drop-append k (serial_effects steps s txs) (accepted_of steps tx (serial_state steps s txs)) (omega (arith, all, le))
+      let all = length-serial_effects program s txs are in
+      ap (drop k) (serial_effects-push program s txs tx) ∙ drop-append k (serial_effects program s txs) (accepted_of program tx (serial_state program s txs)) (omega (arith, all, le))
 
   -- nothing waits behind the last
-  pub none_waits : (k : ℕ) (s : State) (txs : List Tx) → AreCommitted steps s txs → drop k (serial_effects steps s (take k txs)) ≡ []
+  pub none_waits : (k : ℕ) (s : State) (txs : List Tx) → AreCommitted program s txs → drop k (serial_effects program s (take k txs)) ≡ []
   none_waits zero s txs are = refl
   none_waits (suc k) s [] are = refl
   none_waits (suc k) s (t ∷ txs) are =
-      ap (drop (suc k)) (effects-cons s t (take k txs) are.0) ∙ none_waits k (state_after steps s t) txs are.1
+      ap (drop (suc k)) (effects-cons s t (take k txs) are.0) ∙ none_waits k (state_after program s t) txs are.1
 
   -- What waits first is the effect of the next transaction: behind it the rest waits, and the order cut there is one longer.
   pub record IsNext (s : State) (txs : List Tx) (k : ℕ) (e : Effect) (rest : List Effect) : Type 0 where
     pub below : k < length txs
-    pub state : serial_state steps s (take (suc k) txs) ≡ apply (serial_state steps s (take k txs)) e
-    pub waits : drop (suc k) (serial_effects steps s txs) ≡ rest
+    pub state : serial_state program s (take (suc k) txs) ≡ apply (serial_state program s (take k txs)) e
+    pub waits : drop (suc k) (serial_effects program s txs) ≡ rest
 
-  pub next_waits : (s : State) (txs : List Tx) (k : ℕ) (e : Effect) (rest : List Effect) → AreCommitted steps s txs → drop k (serial_effects steps s txs) ≡ e ∷ rest → IsNext s txs k e rest
+  pub next_waits : (s : State) (txs : List Tx) (k : ℕ) (e : Effect) (rest : List Effect) → AreCommitted program s txs → drop k (serial_effects program s txs) ≡ e ∷ rest → IsNext s txs k e rest
   next_waits s [] zero e rest are is = cc
   next_waits s [] (suc k) e rest are is = cc
   next_waits s (t ∷ txs) zero e rest are is =
-      let whole : effect_of steps t s ∷ serial_effects steps (state_after steps s t) txs ≡ e ∷ rest = sym (effects-cons s t txs are.0) ∙ is in
-      let same : effect_of steps t s ≡ e = cc in
-      let others : serial_effects steps (state_after steps s t) txs ≡ rest = cc in
+      let whole : effect_of program t s ∷ serial_effects program (state_after program s t) txs ≡ e ∷ rest = sym (effects-cons s t txs are.0) ∙ is in
+      let same : effect_of program t s ≡ e = cc in
+      let others : serial_effects program (state_after program s t) txs ≡ rest = cc in
       record {
         below = omega arith;
-        state = state_after-committed steps s t are.0 ∙ ap (apply s) same;
+        state = state_after-committed program s t are.0 ∙ ap (apply s) same;
         waits = ap (drop 1) (effects-cons s t txs are.0) ∙ others;
       }
   next_waits s (t ∷ txs) (suc k) e rest are is =
-      let next = next_waits (state_after steps s t) txs k e rest are.1 (sym (ap (drop (suc k)) (effects-cons s t txs are.0)) ∙ is) in
+      let next = next_waits (state_after program s t) txs k e rest are.1 (sym (ap (drop (suc k)) (effects-cons s t txs are.0)) ∙ is) in
       record {
         below = omega (arith, next.below);
         state = next.state;

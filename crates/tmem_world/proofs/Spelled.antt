@@ -1,46 +1,8 @@
 -- A spelling, as it is put into a buffer part by part.
-use Rattle.std.proofs.Common.{◌≡◌, ◌<◌, ◌≤◌, ◌+◌, ◌-◌, ℕ, ℤ, pos, List, [], ◌∷◌, ◌++◌, length, take, drop, get_or, replicate, codes, flat_map, sym, ◌∙◌, ap, subst, arith, append_assoc}
-use Rattle.std.proofs.lemmas.List.{take_more, flat_map_more, append-nil, take-append-drop, drop-replicate, drop-drop}
-use Rattle.std.proofs.lemmas.List.Elements.{All-push}
-use Rattle.std.specs.Prelude.{FitsSigned}
-use Rattle.std.specs.Int.{w64, cast_unsigned}
+use Rattle.std.proofs.Common.{◌≡◌, ◌≤◌, ◌+◌, ◌-◌, ℕ, List, [], ◌∷◌, ◌++◌, take, drop, replicate, codes, sym, ◌∙◌, ap, arith, append_assoc}
+use Rattle.std.proofs.lemmas.List.{take-append-drop, drop-replicate, drop-drop}
 use Rattle.byteorder.specs.Endian.{little_bytes}
-use Rattle.tmem_record.specs.declared.effect.Effect.{Effect}
-use Rattle.tmem_world.specs.Spelling.{block_body, value_bytes, write_bytes, record_bytes, batch_bytes, HasValues}
-
--- a write more
-pub write_more : (ws : List (ℕ × ℤ)) (i : ℕ) → i < length ws → (front b0 b1 b2 var value : List ℕ) → b0 ≡ front ++ flat_map write_bytes (take i ws) → b1 ≡ b0 ++ var → b2 ≡ b1 ++ value
-    → var ≡ little_bytes 2 (get_or ws i (0, pos 0)).0 → value ≡ little_bytes 8 (cast_unsigned w64 (get_or ws i (0, pos 0)).1) → b2 ≡ front ++ flat_map write_bytes (take (i + 1) ws)
-unfolding write_bytes value_bytes
-write_more ws i below front b0 b1 b2 var value before first second var_is value_is =
-    second ∙ ap (λ (l : List ℕ). l ++ value) first ∙ append_assoc b0 var value ∙ ap (λ (l : List ℕ). l ++ (var ++ value)) before
-    ∙ ap (λ (l : List ℕ). (front ++ flat_map write_bytes (take i ws)) ++ (l ++ value)) var_is
-    ∙ ap (λ (l : List ℕ). (front ++ flat_map write_bytes (take i ws)) ++ (little_bytes 2 (get_or ws i (0, pos 0)).0 ++ l)) value_is
-    ∙ flat_map_more write_bytes front (take i ws) (get_or ws i (0, pos 0))
-    ∙ ap (λ (l : List (ℕ × ℤ)). front ++ flat_map write_bytes l) (sym (take_more ws i (0, pos 0) below))
-
--- and one value more of 64 bits
-pub values_more : (ws : List (ℕ × ℤ)) (i : ℕ) → i < length ws → HasValues (take i ws) → FitsSigned w64 (get_or ws i (0, pos 0)).1 → HasValues (take (i + 1) ws)
-values_more ws i below values fits = subst HasValues (sym (take_more ws i (0, pos 0) below)) (All-push (λ (w : ℕ × ℤ). FitsSigned w64 w.1) (take i ws) (get_or ws i (0, pos 0)) values fits)
-
--- a batch of one record, from its parts
-pub batch_is : (first : ℕ) (e : Effect) (b0 b1 b2 b3 b4 b5 generation number records count : List ℕ) → b0 ≡ generation → b1 ≡ b0 ++ number → b2 ≡ b1 ++ records → b3 ≡ b2 ++ count → b4 ≡ b3 ++ flat_map write_bytes e.writes → b5 ≡ b4 ++ 0 ∷ []
-    → generation ≡ little_bytes 8 1 → number ≡ little_bytes 8 first → records ≡ little_bytes 2 1 → count ≡ length e.writes ∷ [] → b5 ≡ batch_bytes 1 first (e ∷ [])
-unfolding batch_bytes record_bytes
-batch_is first e b0 b1 b2 b3 b4 b5 generation number records count e0 e1 e2 e3 e4 e5 g n r k =
-    e5 ∙ ap (λ (l : List ℕ). l ++ 0 ∷ []) (e4 ∙ ap (λ (l : List ℕ). l ++ writes) (e3 ∙ ap (λ (l : List ℕ). l ++ count) (e2 ∙ ap (λ (l : List ℕ). l ++ records) (e1 ∙ ap (λ (l : List ℕ). l ++ number) e0))))
-    ∙ grouped generation number records count writes (0 ∷ [])
-    ∙ ap (λ (l : List ℕ). l ++ (number ++ (records ++ (count ++ (writes ++ 0 ∷ []))))) g
-    ∙ ap (λ (l : List ℕ). little_bytes 8 1 ++ (l ++ (records ++ (count ++ (writes ++ 0 ∷ []))))) n
-    ∙ ap (λ (l : List ℕ). little_bytes 8 1 ++ (little_bytes 8 first ++ (l ++ (count ++ (writes ++ 0 ∷ []))))) r
-    ∙ ap (λ (l : List ℕ). little_bytes 8 1 ++ (little_bytes 8 first ++ (little_bytes 2 1 ++ (l ++ (writes ++ 0 ∷ []))))) k
-    ∙ ap (λ (l : List ℕ). little_bytes 8 1 ++ (little_bytes 8 first ++ (little_bytes 2 1 ++ l))) (sym (append-nil (length e.writes ∷ (writes ++ 0 ∷ []))))
-  where
-    writes : List ℕ
-    writes = flat_map write_bytes e.writes
-
-    grouped : (a b c d f g : List ℕ) → ((((a ++ b) ++ c) ++ d) ++ f) ++ g ≡ a ++ (b ++ (c ++ (d ++ (f ++ g))))
-    grouped a b c d f g = simp append_assoc
+use Rattle.tmem_world.specs.Spelling.{block_body}
 
 -- block 0 from its parts, in front of zeros
 pub block_is : (vars slots : ℕ) (whole : List ℕ) (at : ℕ) (b0 b1 b2 v s : List ℕ) → b0 ≡ codes "TMEM" → b1 ≡ b0 ++ 1 ∷ [] → b2 ≡ b1 ++ v → take at whole ≡ b2 ++ s → drop at whole ≡ replicate 502 0

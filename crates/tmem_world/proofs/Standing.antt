@@ -1,7 +1,7 @@
 -- Bytes that stand from a place on: in parts, and read as numbers.
 use Rattle.std.proofs.Common.{◌≡◌, ◌<◌, ◌≤◌, ◌+◌, ◌*◌, ◌-◌, ◌^◌, ℕ, ℤ, List, [], ◌∷◌, ◌++◌, length, take, drop, get_or, replicate, refl, sym, ◌∙◌, ap, subst, eqb, arith, length-append}
 use Rattle.std.specs.Prelude.{slice_range}
-use Rattle.std.proofs.lemmas.List.{take-append-drop, take-take, drop-take, drop-drop, take_all, take_at, drop_at, length-take-le, length-drop, append-nil, length-replicate, get_or-drop, get_or-take, take_rest, drop_more, length-take}
+use Rattle.std.proofs.lemmas.List.{take-append-drop, take-take, drop-take, drop-drop, take_all, take_at, drop_at, length-take-le, length-drop, append-nil, length-replicate, get_or-drop, take_rest, drop_more}
 use Rattle.std.specs.Int.{w64, cast_unsigned, cast_signed}
 use Rattle.std.specs.Prelude.{IsTrue}
 use Rattle.std.proofs.lemmas.Bool.{eqb-true, eq-eqb}
@@ -9,14 +9,11 @@ use Rattle.std.proofs.lemmas.List.Concat.{flat_map-append}
 use Rattle.std.proofs.lemmas.Int.{of_z-to_z}
 use Rattle.byteorder.specs.Endian.{little_bytes, little_number}
 use Rattle.byteorder.specs.Numbers.{little_from-lt}
-use Rattle.tmem_world.specs.Spelling.{value_bytes}
-use Rattle.tmem_world.specs.Reading.{StandsAt, number_bytes, zero_bytes, values_bytes}
-use Rattle.tmem_world.proofs.Lengths.{length-little_bytes, length-value_bytes, length-flat}
-use Rattle.tmem_world.proofs.Numbers.{IsBytes, take-spelled, number-spelled}
-
-pub length-number_bytes : (n x : ℕ) → length (number_bytes n x) ≡ n
-unfolding number_bytes
-length-number_bytes n x = length-little_bytes n x
+use Rattle.tmem_record.specs.Spelling.{number_bytes, value_bytes}
+use Rattle.tmem_record.proofs.Numbers.{IsBytes, take-spelled, number-spelled}
+use Rattle.tmem_record.proofs.Delimiting.{length-number_bytes, length-value_bytes}
+use Rattle.tmem_world.specs.Reading.{StandsAt, zero_bytes, values_bytes}
+use Rattle.tmem_world.proofs.Lengths.{length-little_bytes, length-flat}
 
 pub length-zero_bytes : (n : ℕ) → length (zero_bytes n) ≡ n
 unfolding zero_bytes
@@ -89,7 +86,7 @@ number_read n at x bytes each room is = record {
 }
 
 pub value_read : (at : ℕ) (z : ℤ) (bytes : List ℕ) → IsBytes bytes → at + 8 ≤ length bytes → z ≡ cast_signed w64 (little_number 8 (behind at bytes)) → StandsAt at (value_bytes z) bytes
-unfolding value_bytes
+unfolding value_bytes number_bytes
 value_read at z bytes each room is = record {
   is =
       let fits = little_from-lt 0 8 (drop at bytes) (bytes_behind at bytes each) in
@@ -142,15 +139,8 @@ cut i j a rest bytes next stands = (first_part i a rest bytes stands, moved (i +
 pub glue : (i j : ℕ) (a rest bytes : List ℕ) → i + length a ≡ j → StandsAt i a bytes → StandsAt j rest bytes → StandsAt i (a ++ rest) bytes
 glue i j a rest bytes next first second = both_parts i a rest bytes first (moved j (i + length a) rest bytes (sym next) second)
 
--- a byte stands at its place
-pub one_byte : (at : ℕ) (bytes : List ℕ) → at < length bytes → StandsAt at (get_or bytes at 0 ∷ []) bytes
-one_byte at bytes below = record { is = ap (take 1) (drop_more bytes at 0 below) }
-
-pub same_byte : (at x : ℕ) (bytes : List ℕ) → StandsAt at (x ∷ []) bytes → get_or bytes at 0 ≡ x
-same_byte at x bytes stands =
-    let place : at + 0 ≡ at = omega arith in
-    ap (λ (k : ℕ). get_or bytes k 0) (sym place) ∙ sym (get_or-drop at bytes 0 0) ∙ sym (get_or-take 1 (drop at bytes) 0 0 (omega arith)) ∙ ap (λ (l : List ℕ). get_or l 0 0) stands.is
-
--- a part that stands in the bytes is no longer than they are
-pub part_fits : (at : ℕ) (part bytes : List ℕ) → StandsAt at part bytes → 0 < length part → at + length part ≤ length bytes
-part_fits at part bytes stands some = omega (arith, length-take (length part) (drop at bytes), length-drop at bytes, ap length stands.is)
+-- the first byte, and what follows it
+pub first_and_rest : (bytes : List ℕ) → 1 ≤ length bytes → bytes ≡ get_or bytes 0 0 ∷ take (length bytes - 1) (drop 1 bytes)
+first_and_rest bytes some =
+    let below : 0 < length bytes = omega (arith, some) in
+    drop_more bytes 0 0 below ∙ ap (λ (l : List ℕ). get_or bytes 0 0 ∷ l) (sym (take_rest bytes 1))

@@ -2,7 +2,7 @@
 use Rattle.std.specs.Prelude.{◌≡◌, ◌≤◌, ℕ, List, ◌⊎◌, Result, Ok, Err, MatchResult}
 use Rattle.tmem_disk.specs.Disk.{DeviceView, LeavesOnly, after_fault}
 use Rattle.tmem_disk.specs.declared.fault.Fault.{Fault}
-use Rattle.tmem_disk.specs.declared.fault.Fault.TheVariants.{Memory, Device, Unknown, NotFormatted, Damaged, Geometry}
+use Rattle.tmem_disk.specs.declared.fault.Fault.TheVariants.{Memory, Device, Unknown, NotFormatted, Damaged, Missing, Broken, Geometry}
 use Rattle.tmem_record.specs.State.{State, apply}
 use Rattle.tmem_record.specs.declared.effect.Effect.{Effect}
 use Rattle.tmem_world.specs.Layout.{IsLayout, end_place}
@@ -33,6 +33,17 @@ IsWhy stands_for_none NotFormatted = stands_for_none
 IsWhy stands_for_none Damaged = stands_for_none
 IsWhy stands_for_none Geometry = stands_for_none
 IsWhy stands_for_none _ = ⊥
+
+-- Why no session was begun: as a content is not opened, or else an invariant of the state that it stands for is missing or false.
+abbrev pub IsWhyNot : Type 0 → Type 0 → Fault → Type 0
+IsWhyNot stands_for_none unsound (Missing name) = unsound
+IsWhyNot stands_for_none unsound (Broken name) = unsound
+IsWhyNot stands_for_none unsound f = IsWhy stands_for_none f
+
+-- what a refusal with more says
+abbrev pub fault_alone : {A B : Type 0} → Result A (Fault × B) → Result (Unit {0}) Fault
+fault_alone (Ok it) = Ok tt
+fault_alone (Err e) = Err e.0
 
 -- what a content can be refused for
 abbrev pub IsRefusal : Fault → Type 0

@@ -5,7 +5,7 @@ use Rattle.tmem_world.specs.declared.session.Slot.{Slot}
 use Rattle.tmem_world.specs.declared.session.Slot.TheVariants.{Empty, Begun, Ended}
 use Rattle.tmem_world.specs.Settle.{FitsSlot}
 
-pub FitsSlot-prop : (vars : ℕ) (arities : List ℕ) (slot : Slot) → IsProp (FitsSlot vars arities slot)
-FitsSlot-prop vars arities Empty = hlevel
-FitsSlot-prop vars arities (Begun plan reads) = hlevel props
-FitsSlot-prop vars arities (Ended a) = hlevel props
+pub FitsSlot-prop : (vars : ℕ) (arities : List ℕ) (names : List (List ℕ)) (slot : Slot) → IsProp (FitsSlot vars arities names slot)
+FitsSlot-prop vars arities names Empty = hlevel
+FitsSlot-prop vars arities names (Begun plan reads) = hlevel props
+FitsSlot-prop vars arities names (Ended a) = hlevel props

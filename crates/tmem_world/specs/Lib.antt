@@ -1,5 +1,6 @@
 pub mod Calls
 pub mod Events
+pub mod Examples
 pub mod Facts
 pub mod Layout
 pub mod Looks
@@ -11,4 +12,5 @@ pub mod Sessions
 pub mod Settle
 pub mod Spelling
 pub mod Stands
+pub mod Tables
 pub mod WorldModel

@@ -1,15 +1,11 @@
 -- The parts of a content, as they are found one after another.
-use Rattle.std.specs.Prelude.{◌≡◌, ◌<◌, ◌≤◌, ℕ, List, Option, length, take}
+use Rattle.std.specs.Prelude.{◌<◌, ◌≤◌, ℕ, List, Option}
 use Rattle.tmem_gate.specs.Gate.{IsClosed, IsOpenOver}
 use Rattle.tmem_record.specs.State.{State}
 use Rattle.tmem_record.specs.declared.effect.Effect.{Effect}
 use Rattle.tmem_world.specs.Layout.{image_place, slot_place}
 use Rattle.tmem_world.specs.Spelling.{image_body, IsImage}
 use Rattle.tmem_world.specs.Stands.{HoldsLog}
-
--- the bytes begin with these
-pub record BeginsWith (bytes front : List ℕ) : Type 0 where
-  pub begins : take (length front) bytes ≡ front
 
 -- image copy 0 spells this state in generation 1, and copy 1 is closed
 pub record HoldsImage (vars : ℕ) (s : State) (c : List ℕ) : Type 0 where
@@ -21,7 +17,7 @@ pub record HoldsImage (vars : ℕ) (s : State) (c : List ℕ) : Type 0 where
 pub record ClosedBehind (vars slots : ℕ) (c : List ℕ) : Type 0 where
   pub behind : (k : ℕ) → 1 ≤ k → k < slots → IsClosed (slot_place vars k) c
 
--- slot 0 has this log over an image of that count, and no other slot is open
-pub record HoldsSlots (vars slots count : ℕ) (log : Option Effect) (c : List ℕ) : Type 0 where
-  pub slot_0 : (image : State) → image.count ≡ count → HoldsLog vars image log c
+-- slot 0 has this log over that image, and no other slot is open
+pub record HoldsSlots (vars slots : ℕ) (image : State) (log : Option Effect) (c : List ℕ) : Type 0 where
+  pub slot_0 : HoldsLog vars image log c
   pub closed : ClosedBehind vars slots c

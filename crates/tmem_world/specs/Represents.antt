@@ -1,13 +1,16 @@
 -- When a world is at a point of a run.
 use Rattle.std.specs.Prelude.{Err, IsSome, ◌≡◌, ◌<◌, ◌≤◌, ◌⊎◌, ⊤, ◌+◌, ◌-◌, ℕ, Bool, true, false, List, length, drop, Option, Some, None}
 use Rattle.std.specs.List.{AllZip}
+use Rattle.std.specs.Option.{ForSome}
+use Rattle.tmem_invariants.specs.Meanings.{IsSound}
 use Rattle.tmem_disk.specs.Disk.{DeviceView, LeavesOnly, Reads}
 use Rattle.tmem_disk.specs.declared.fault.Fault.{Fault}
-use Rattle.tmem_world.specs.Calls.{Uses, FitsOn, IsWhy}
+use Rattle.tmem_world.specs.Calls.{Uses, FitsOn, IsWhyNot}
+use Rattle.tmem_world.specs.Tables.{table_in}
 use Rattle.tmem_record.specs.State as states
-use Rattle.tmem_tree.specs.Answers.{Meanings}
+use Rattle.tmem_core.specs.Program.{Program}
 use Rattle.tmem_tentative.specs.Right.{IsRight}
-use Rattle.tmem_core.specs.Held.{state_of, waiting_of, durable_of, is_shut_of}
+use Rattle.tmem_core.specs.Held.{state_of, waiting_of, durable_of, is_shut_of, table_of}
 use Rattle.tmem_core.specs.Verdict.{serial_effects, AreCommitted}
 use Rattle.tmem_world.specs.declared.event.Event.{Event}
 use Rattle.tmem_world.specs.declared.event.Event.TheVariants as event
@@ -22,96 +25,108 @@ use Rattle.tmem_world.specs.Replies.{IsAcknowledged}
 use Rattle.tmem_world.specs.WorldModel.{Setting, WorldModel, Attempt, NoAttempt, Begun, Ended, Session, Open, Closed, Gone, present, cut, Allows, Run}
 
 -- its numbers of variables and log slots
-abbrev pub numbers_of : {D S : Type 0} {d s : _} → World D S d s → Layout
+abbrev pub numbers_of : {D T S : Type 0} {d t s : _} → World D T S d t s → Layout
 numbers_of w = w.layout
 
-abbrev pub device_of : {D S : Type 0} {d s : _} → World D S d s → D
+abbrev pub device_of : {D T S : Type 0} {d t s : _} → World D T S d t s → D
 device_of w = w.disk
 
 -- how many transactions it knows to be durable
-abbrev pub durable_number : {D S : Type 0} {d s : _} → World D S d s → ℕ
+abbrev pub durable_number : {D T S : Type 0} {d t s : _} → World D T S d t s → ℕ
 durable_number w = w.durable
 
 -- its stored steps
-abbrev pub steps_of : {D S : Type 0} {d s : _} → World D S d s → S
+abbrev pub steps_of : {D T S : Type 0} {d t s : _} → World D T S d t s → S
 steps_of w = w.steps
 
--- what it was opened with, where its steps mean this
-abbrev pub setting_of : {D S : Type 0} {d s : _} → World D S d s → Meanings → Setting
-setting_of {s = s} w steps = record { vars = w.layout.vars; arities = s.arities w.steps; steps = steps }
+-- the table of its invariants: the session's, or the one that lies beside where no session stands
+abbrev pub held_table : {D T S : Type 0} {d t s : _} → World D T S d t s → Option T
+held_table w = table_in w.session w.table
+
+-- what it was opened with, where its closures mean this
+abbrev pub setting_of : {D T S : Type 0} {d t s : _} → World D T S d t s → Program → Setting
+setting_of {s = s} w program = record { vars = w.layout.vars; arities = s.arities w.steps; program = program }
+
+-- The program says what its stored steps and its invariants mean.
+pub record Means {D T S : Type 0} {d t s : _} (w : World D T S d t s) (program : Program) : Type 0 where
+  pub steps : s.is_stated w.steps program.steps
+  pub names : ForSome (held_table w) (λ table. program.names ≡ t.names table)
+  pub tests : ForSome (held_table w) (λ table. t.is_stated table program.tests)
 
 -- the slot holds this attempt
-abbrev pub SlotIs : Meanings → Slot → Attempt → Type 0
-SlotIs steps slot.Empty NoAttempt = ⊤
-SlotIs steps (slot.Begun plan reads) (Begun tx values) = (plan ≡ tx) × (reads.entries ≡ values)
-SlotIs steps (slot.Ended a) (Ended tx values) = IsRight steps tx a × (a.reads.entries ≡ values)
-SlotIs steps _ _ = ⊥
+abbrev pub SlotIs : Program → Slot → Attempt → Type 0
+SlotIs program slot.Empty NoAttempt = ⊤
+SlotIs program (slot.Begun plan reads) (Begun tx values) = (plan ≡ tx) × (reads.entries ≡ values)
+SlotIs program (slot.Ended a) (Ended tx values) = IsRight program.steps tx a × (a.reads.entries ≡ values)
+SlotIs program _ _ = ⊥
 
 abbrev pub session_of : Bool → Session
 session_of true = Closed
 session_of false = Open
 
 -- the core has the present state and the effects from the durable number on
-pub record SessionIs (steps : Meanings) (s : session.Session) (m : WorldModel) : Type 0 where
-  pub state : state_of s.core ≡ present steps m
+pub record SessionIs {T : Type 0} {t : _} (program : Program) (s : session.Session T t) (m : WorldModel) : Type 0 where
+  pub state : state_of s.core ≡ present program m
   pub durable : durable_of s.core ≡ m.durable
-  pub waiting : waiting_of s.core ≡ drop (m.durable - m.opened.count) (serial_effects steps m.opened m.accepted)
+  pub waiting : waiting_of s.core ≡ drop (m.durable - m.opened.count) (serial_effects program m.opened m.accepted)
   pub used : s.used ≡ m.used
   pub session : m.session ≡ session_of (is_shut_of s.core)
   pub certain : is_shut_of s.core ≡ false → m.doubtful ≡ m.durable
 
-abbrev pub HasSession : Meanings → Option session.Session → WorldModel → Type 0
-HasSession steps None m = m.session ≡ Gone
-HasSession steps (Some s) m = SessionIs steps s m
+abbrev pub HasSession : {T : Type 0} {t : _} → Program → Option (session.Session T t) → WorldModel → Type 0
+HasSession program None m = m.session ≡ Gone
+HasSession program (Some s) m = SessionIs program s m
 
--- the durable number and the doubtful one are numbers of the run
-pub record IsNumbered (steps : Meanings) (m : WorldModel) : Type 0 where
+-- The durable number and the doubtful one are numbers of the run, and wherever its serial order is cut each registered
+-- invariant is in the table and true.
+pub record IsNumbered (program : Program) (m : WorldModel) : Type 0 where
   pub opened : m.opened.count ≤ m.durable
   pub durable : m.durable ≤ m.doubtful
   pub doubtful : m.doubtful ≤ m.opened.count + length m.accepted
-  pub each : AreCommitted steps m.opened m.accepted
+  pub each : AreCommitted program m.opened m.accepted
+  pub sound : (n : ℕ) → m.opened.count ≤ n → n ≤ m.opened.count + length m.accepted → IsSound program.tests program.names (cut program m n).names (cut program m n).values
 
 -- the content stands for the serial order cut at the durable number, or at the doubtful one
-abbrev pub StandsCut : Meanings → ℕ → ℕ → WorldModel → List ℕ → Type 0
-StandsCut steps vars slots m c =
-    StandsFor vars slots m.used (cut steps m m.durable) c ⊎ StandsFor vars slots (m.used + (m.doubtful - m.durable)) (cut steps m m.doubtful) c
+abbrev pub StandsCut : Program → ℕ → ℕ → WorldModel → List ℕ → Type 0
+StandsCut program vars slots m c =
+    StandsFor vars slots m.used (cut program m m.durable) c ⊎ StandsFor vars slots (m.used + (m.doubtful - m.durable)) (cut program m m.doubtful) c
 
 -- The world is at this point of a run, and every stop of its device leaves the serial order cut at the durable number or at the doubtful one.
-pub record Represents {D S : Type 0} {d s : _} (steps : Meanings) (w : World D S d s) (m : WorldModel) : Type 0 where
-  pub numbers : IsNumbered steps m
-  pub slots : AllZip (SlotIs steps) w.slots.items m.attempts
-  pub session : HasSession steps w.session m
+pub record Represents {D T S : Type 0} {d t s : _} (program : Program) (w : World D T S d t s) (m : WorldModel) : Type 0 where
+  pub numbers : IsNumbered program m
+  pub slots : AllZip (SlotIs program) w.slots.items m.attempts
+  pub session : HasSession program w.session m
   pub durable : w.durable ≡ m.durable
   pub doubtful : w.doubtful ≡ m.doubtful
   pub failures : (d.view w.disk).failures ≡ m.failures
-  pub device : LeavesOnly (d.view w.disk) (StandsCut steps w.layout.vars w.layout.slots m)
+  pub device : LeavesOnly (d.view w.disk) (StandsCut program w.layout.vars w.layout.slots m)
 
 -- What opening finds rests on the device's premise, and no other answer does.
 abbrev pub RestsOn : Type 0 → Event → Type 0
 RestsOn premise event.Reopen = premise
 RestsOn premise _ = ⊤
 
--- Whatever the steps mean, by their statement: from each point of a run that the old world is at, the event may be answered so, and the new world is at the next point.
-abbrev pub Steps : {D S : Type 0} {d s : _} → World D S d s → Event → Reply → World D S d s → Type 0
-Steps {d = d} {s = s} old e r new =
-    (steps : Meanings) → s.is_stated old.steps steps
-    → (m : WorldModel) → Represents steps old m → RestsOn ((d.view new.disk).keeps_model) e
-    → (m' : WorldModel) × Allows (setting_of old steps) m e r m' × Represents steps new m'
+-- Whatever the closures mean, by their statement: from each point of a run that the old world is at, the event may be answered so, and the new world is at the next point.
+abbrev pub Steps : {D T S : Type 0} {d t s : _} → World D T S d t s → Event → Reply → World D T S d t s → Type 0
+Steps {d = d} old e r new =
+    (program : Program) → Means old program
+    → (m : WorldModel) → Represents program old m → RestsOn ((d.view new.disk).keeps_model) e
+    → (m' : WorldModel) × Allows (setting_of old program) m e r m' × Represents program new m'
 
 -- The same for a list of events, one after another. What was durable stays so, and what the replies acknowledge is durable.
-abbrev pub Plays : {D S : Type 0} {d s : _} → World D S d s → List Event → List Reply → World D S d s → Type 0
-Plays {d = d} {s = s} old es rs new =
-    (steps : Meanings) → s.is_stated old.steps steps
-    → (m : WorldModel) → Represents steps old m → (d.view new.disk).keeps_model
-    → (m' : WorldModel) × Run (setting_of old steps) m es rs m' × Represents steps new m' × (m.durable ≤ m'.durable) × ((number : ℕ) → IsAcknowledged rs number → number < m'.durable)
+abbrev pub Plays : {D T S : Type 0} {d t s : _} → World D T S d t s → List Event → List Reply → World D T S d t s → Type 0
+Plays {d = d} old es rs new =
+    (program : Program) → Means old program
+    → (m : WorldModel) → Represents program old m → (d.view new.disk).keeps_model
+    → (m' : WorldModel) × Run (setting_of old program) m es rs m' × Represents program new m' × (m.durable ≤ m'.durable) × ((number : ℕ) → IsAcknowledged rs number → number < m'.durable)
 
 -- a session stands, also a closed one
-abbrev pub HoldsSession : {D S : Type 0} {d s : _} → World D S d s → Type 0
+abbrev pub HoldsSession : {D T S : Type 0} {d t s : _} → World D T S d t s → Type 0
 HoldsSession w = IsSome w.session
 
--- Why opening was refused, and what it left of the device: memory or the device, or else the numbers do not fit it or its content stands for no state.
-pub record IsBack (old : DeviceView) (vars slots : ℕ) (f : Fault) (new : DeviceView) : Type 0 where
+-- Why opening was refused, and what it left of the device: memory or the device; or else the numbers do not fit it or its content stands for no state; or else an invariant of that state is missing or false.
+pub record IsBack (old : DeviceView) (vars slots : ℕ) (unsound : Type 0) (f : Fault) (new : DeviceView) : Type 0 where
   pub uses : Uses {T = Unit {0}} old new (Err f)
-  pub why : IsWhy (new.keeps_model → FitsOn vars slots old.capacity → (used : ℕ) (s : states.State) → StandsFor vars slots used s old.seen → ⊥) f
+  pub why : IsWhyNot (new.keeps_model → FitsOn vars slots old.capacity → (used : ℕ) (s : states.State) → StandsFor vars slots used s old.seen → ⊥) unsound f
   pub seen : Reads new old.seen
   pub stop : LeavesOnly new old.may_leave

@@ -1,56 +1,35 @@
--- The bytes that stand behind the gates of block 0, of an image and of a log slot.
-use Rattle.std.specs.Prelude.{◌≡◌, ◌<◌, ◌≤◌, ℕ, ◌*◌, ◌-◌, ◌^◌, ℤ, List, [], ◌∷◌, ◌++◌, length, flat_map, codes, replicate, All, FitsSigned}
-use Rattle.std.specs.Int.{w64, cast_unsigned}
+-- The bytes that stand behind the gates of block 0 and of an image.
+use Rattle.std.specs.Prelude.{◌≡◌, ◌<◌, ℕ, ◌*◌, ◌-◌, ◌^◌, ℤ, List, ◌∷◌, ◌++◌, length, flat_map, codes, replicate, All, FitsSigned}
+use Rattle.std.specs.Int.{w64}
 use Rattle.byteorder.specs.Endian.{little_bytes}
-use Rattle.tmem_record.specs.State.{State, IsEffect}
-use Rattle.tmem_record.specs.declared.effect.Effect.{Effect}
+use Rattle.tmem_record.specs.Names.{AreRegistered}
+use Rattle.tmem_record.specs.Spelling.{number_bytes, value_bytes, names_bytes}
+use Rattle.tmem_record.specs.State.{State}
 use Rattle.tmem_world.specs.Layout.{pages_of}
 
 -- the letters, the version, the two numbers, and 0 up to byte 512
 unfoldable pub block_body : ℕ → ℕ → List ℕ
 block_body vars slots = codes "TMEM" ++ 1 ∷ (little_bytes 2 vars ++ (little_bytes 2 slots ++ replicate 502 0))
 
--- a value, in two's complement
-unfoldable pub value_bytes : ℤ → List ℕ
-value_bytes n = little_bytes 8 (cast_unsigned w64 n)
+-- how many names, each of them, and 0 up to the pages
+unfoldable pub names_body : List (List ℕ) → List ℕ
+names_body names = names_bytes names ++ replicate (2031 - length (names_bytes names)) 0
 
 -- the values of all pages, and 0 for variables that do not exist
 unfoldable pub pages_body : ℕ → List ℤ → List ℕ
 pages_body vars values = flat_map value_bytes values ++ replicate (512 * pages_of vars - 8 * vars) 0
 
--- the generation, the count, no names, and 0 up to the pages
+-- the generation, the count, the names, and the pages
 unfoldable pub image_body : ℕ → ℕ → State → List ℕ
-image_body vars generation s = little_bytes 8 generation ++ (little_bytes 8 s.count ++ (replicate 2031 0 ++ pages_body vars s.values))
-
-unfoldable pub write_bytes : ℕ × ℤ → List ℕ
-write_bytes w = little_bytes 2 w.0 ++ value_bytes w.1
-
--- how many writes, each of them, and no names
-unfoldable pub record_bytes : Effect → List ℕ
-record_bytes e = length e.writes ∷ (flat_map write_bytes e.writes ++ 0 ∷ [])
-
--- the generation, the number of the first record, how many records, and each of them
-unfoldable pub batch_bytes : ℕ → ℕ → List Effect → List ℕ
-batch_bytes generation first effects = little_bytes 8 generation ++ (little_bytes 8 first ++ (little_bytes 2 (length effects) ++ flat_map record_bytes effects))
+image_body vars generation s = number_bytes 8 generation ++ (number_bytes 8 s.count ++ (names_body s.names ++ pages_body vars s.values))
 
 -- values of 64 bits
 abbrev pub AreValues : List ℤ → Type 0
 AreValues zs = All (FitsSigned w64) zs
 
--- the values of an effect are of 64 bits
-abbrev pub HasValues : List (ℕ × ℤ) → Type 0
-HasValues ws = All (λ (w : ℕ × ℤ). FitsSigned w64 w.1) ws
-
--- an effect that a record can hold
-pub record IsRecord (vars : ℕ) (e : Effect) : Type 0 where
-  pub effect : IsEffect vars e
-  pub some : 1 ≤ length e.writes
-  pub no_names : e.names ≡ []
-  pub numbers : HasValues e.writes
-
 -- a state that an image can hold
 pub record IsImage (vars : ℕ) (s : State) : Type 0 where
   pub count : s.count < 2 ^ 64
-  pub no_names : s.names ≡ []
+  pub names : AreRegistered s.names
   pub values : length s.values ≡ vars
   pub numbers : AreValues s.values

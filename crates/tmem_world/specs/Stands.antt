@@ -1,16 +1,27 @@
 -- Which state the content of a device stands for.
-use Rattle.std.specs.Prelude.{◌≡◌, ◌<◌, ◌≤◌, ℕ, ◌+◌, ◌^◌, List, [], ◌∷◌, Option, Some, None}
+use Rattle.std.specs.Prelude.{◌≡◌, ◌<◌, ◌≤◌, ℕ, ◌+◌, ◌^◌, List, [], ◌∷◌, length, Option, Some, None}
 use Rattle.tmem_gate.specs.Gate.{IsClosed, IsOpenOver}
-use Rattle.tmem_record.specs.State.{State, apply}
+use Rattle.tmem_record.specs.State.{State, apply, with_names}
+use Rattle.tmem_record.specs.Spelling.{batch_bytes, IsRecordOver}
 use Rattle.tmem_record.specs.declared.effect.Effect.{Effect}
 use Rattle.tmem_world.specs.Layout.{image_place, slot_place}
-use Rattle.tmem_world.specs.Spelling.{block_body, image_body, batch_bytes, IsRecord, IsImage}
+use Rattle.tmem_world.specs.Spelling.{block_body, image_body, IsImage}
 
--- Slot 0 is closed, or it is open and begins with a batch of one record that follows on from the image's count.
+-- a record that may follow on an image: a greater count is left, and there is room for its names beside the image's
+pub record FollowsOn (vars : ℕ) (image : State) (e : Effect) : Type 0 where
+  pub is_record : IsRecordOver vars e
+  pub countable : image.count + 1 < 2 ^ 64
+  pub room : length (with_names image.names e.names) ≤ 64
+
+-- slot 0 is open, and begins with the batch of generation 1 that has this one record, numbered by the image's count
+pub record HoldsRecord (vars : ℕ) (image : State) (e : Effect) (c : List ℕ) : Type 0 where
+  pub follows : FollowsOn vars image e
+  pub cell : IsOpenOver (slot_place vars 0) (batch_bytes 1 image.count (e ∷ [])) c
+
+-- slot 0 is closed, or holds one record that follows on the image
 abbrev pub HoldsLog : ℕ → State → Option Effect → List ℕ → Type 0
 HoldsLog vars image None c = IsClosed (slot_place vars 0) c
-HoldsLog vars image (Some e) c =
-    IsRecord vars e × (image.count + 1 < 2 ^ 64) × IsOpenOver (slot_place vars 0) (batch_bytes 1 image.count (e ∷ [])) c
+HoldsLog vars image (Some e) c = HoldsRecord vars image e c
 
 -- Block 0 spells these numbers, image copy 0 spells this image and is of generation 1, image copy 1 is closed, slot 0 has this log and no other slot is open.
 pub record Holds (vars slots : ℕ) (image : State) (log : Option Effect) (c : List ℕ) : Type 0 where

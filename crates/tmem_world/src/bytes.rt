@@ -1,8 +1,8 @@
 // Runs of bytes in a buffer.
-ghost use Rattle.std.specs.Prelude.{◌≡◌, ◌≤◌, ◌+◌, ◌↔◌, ◌++◌, length, take, drop, replicate, IsTrue, FitsSigned};
+ghost use Rattle.std.specs.Prelude.{◌≡◌, ◌≤◌, ◌+◌, ◌↔◌, ◌∷◌, ◌++◌, length, take, drop, replicate, IsTrue, FitsSigned};
 ghost use Rattle.std.specs.Int.{w64};
-ghost use Rattle.tmem_world.specs.Spelling.{value_bytes};
-ghost use Rattle.tmem_world.specs.Reading.{StandsAt, number_bytes, zero_bytes};
+ghost use Rattle.tmem_record.specs.Spelling.{number_bytes, value_bytes};
+ghost use Rattle.tmem_world.specs.Reading.{StandsAt, zero_bytes};
 
 use byteorder::{ByteOrder, LittleEndian};
 
@@ -16,6 +16,14 @@ pub fn put(into: &mut [u8], at: usize, bytes: &[u8]) -> usize
     let next = at + bytes.len();
     into[at..next].copy_from_slice(bytes);
     next
+}
+
+/// The first byte, and what follows it.
+pub fn first_byte(bytes: &[u8]) -> (u8, &[u8])
+    requires { 1 ≤ length bytes.now }
+    ensures { bytes.now ≡ result.0 ∷ result.1.now }
+{
+    (bytes[0], &bytes[1..])
 }
 
 /// Whether all of the bytes are 0.
@@ -47,22 +55,6 @@ pub fn is_number(bytes: &[u8], at: usize, number: u64) -> bool
     ensures { IsTrue result ↔ StandsAt at (number_bytes 8 number) bytes.now }
 {
     number_at(bytes, at) == number
-}
-
-/// The number of 2 bytes from a place on.
-pub fn short_at(bytes: &[u8], at: usize) -> u16
-    requires { at + 2 ≤ length bytes.now }
-    ensures { StandsAt at (number_bytes 2 result) bytes.now }
-{
-    LittleEndian::read_u16(&bytes[at..])
-}
-
-/// Whether this number of 2 bytes stands from a place on.
-pub fn is_short(bytes: &[u8], at: usize, number: u16) -> bool
-    requires { at + 2 ≤ length bytes.now }
-    ensures { IsTrue result ↔ StandsAt at (number_bytes 2 number) bytes.now }
-{
-    short_at(bytes, at) == number
 }
 
 /// The value from a place on.

@@ -1,12 +1,12 @@
 // What a world is asked, and what it answers.
-use tmem_disk::Fault;
+use tmem_disk::{Fault, Name};
 use tmem_tree::{REGISTERS, Tx};
 
 /// How many attempts a world holds, numbered from 0.
 pub const ATTEMPTS: usize = 16;
 
 /// One atomic action of a caller.
-#[derive(Drop)]
+#[derive(Debug, Drop)]
 pub enum Event {
     /// Makes a plan of a transaction. The slot, below 16, holds it, whatever it held before.
     /// Refused with `Closed`, `BadPlan`.
@@ -54,6 +54,8 @@ pub enum Reply {
     Retry,
     /// The transaction gave up, with this code.
     Aborted(u16),
+    /// This invariant would be false: the first in the table's order of those that are registered or checked.
+    Refused(Name),
     /// So many accepted transactions are durable.
     Durable(u64),
     /// So many accepted transactions are known durable.

@@ -1,8 +1,9 @@
 // The state that a device stands for, and one record more.
-ghost use Rattle.std.specs.Prelude.{[], ◌≡◌, ◌⊎◌, ◌<◌, ◌≤◌, ◌+◌, ◌*◌, ◌^◌, ℕ, length, IfOk, OnOk, IfErr, IsErrOf};
+ghost use Rattle.std.specs.Prelude.{[], ◌≡◌, ◌⊎◌, ◌<◌, ◌≤◌, ◌+◌, ◌*◌, ◌^◌, ◌∷◌, ℕ, length, All, IfOk, OnOk, IfErr, IsErrOf};
 ghost use Rattle.tmem_disk.specs.Disk.{LeavesOnly, Reads, IsSynced, AtEachMoment};
 ghost use Rattle.tmem_gate.specs.Gate.{IsClosed};
-ghost use Rattle.tmem_record.specs.State.{State as StateOf, first_state};
+ghost use Rattle.tmem_record.specs.State.{State as StateOf, first_state, with_names};
+ghost use Rattle.tmem_record.specs.declared.effect.Effect.{Effect as EffectOf};
 ghost use Rattle.tmem_core.specs.Accepted.{IsAccepted};
 ghost use Rattle.tmem_world.specs.Layout.{slot_place, end_place};
 ghost use Rattle.tmem_world.specs.Stands.{StandsFor};
@@ -12,12 +13,11 @@ ghost use Rattle.tmem_world.specs.Calls.{Uses, FitsOn, IsWhy, StandsForEither, A
 use crate::block::spell_block;
 use crate::calls::{put_cell, sync, write};
 use crate::layout::Layout;
-use crate::record::{BATCH_ROOM, spell_batch};
 use crate::recover::{found_block, found_image, found_log};
 use std::alloc::Global;
 use tmem_disk::{DeviceFault, Disk, Fault};
 use tmem_gate::{open_gate, put_body};
-use tmem_record::{Effect, State};
+use tmem_record::{BATCH_ROOM, Batch, State, encode_batch};
 
 const BLOCK: usize = 512;
 
@@ -77,7 +77,7 @@ pub(crate) fn recover<D: Disk>(alloc: Global, disk: &mut D, layout: Layout) -> R
     sync(disk)?;
     found_block(disk, layout)?;
     let mut state = found_image(alloc, disk, layout)?;
-    match found_log(alloc, disk, layout, state.count())? {
+    match found_log(alloc, disk, layout, &state)? {
         None => Ok(Found { state, used: 0 }),
         Some(effect) => {
             state.accept(&effect);
@@ -86,28 +86,30 @@ pub(crate) fn recover<D: Disk>(alloc: Global, disk: &mut D, layout: Layout) -> R
     }
 }
 
-/// Puts one record into slot 0. `Device` where its bytes could not be written: no stop leaves it accepted. `Unknown`
-/// where a later call fails: a stop leaves it accepted or not.
+/// Puts a batch of one record into slot 0. `Device` where its bytes could not be written: no stop leaves it accepted.
+/// `Unknown` where a later call fails: a stop leaves it accepted or not.
 pub(crate) fn append<D: Disk>(
     disk: &mut D,
     layout: Layout,
     first: u64,
-    effect: &Effect,
+    batch: &Batch,
 ) -> Result<(), Fault>
     requires room { end_place layout.vars layout.slots ≤ (D.view disk.old).capacity }
     requires closed { LeavesOnly (D.view disk.old) (IsClosed (slot_place layout.vars 0)) }
-    requires effect { IsAccepted layout.vars effect.now }
-    requires names { effect.now.names ≡ [] }
+    requires one { length batch.now ≡ 1 }
+    requires accepted { All (IsAccepted layout.vars) batch.now }
     requires number { first + 1 < 2 ^ 64 }
     ensures uses { Uses (D.view disk.old) (D.view disk.new) result }
     ensures errors { IfErr result (λ f. (f ≡ Fault.Device) ⊎ (f ≡ Fault.Unknown)) }
-    ensures stands { (s : StateOf) → s.count ≡ first → LeavesOnly (D.view disk.old) (StandsFor layout.vars layout.slots 0 s) → Appended layout.vars layout.slots s effect.now (D.view disk.new) result }
-    ensures any_moment { (s : StateOf) → s.count ≡ first → LeavesOnly (D.view disk.old) (StandsFor layout.vars layout.slots 0 s) → AtEachMoment (D.view disk.old) (D.view disk.new) (StandsForEither layout.vars layout.slots s effect.now) }
+    ensures stands { (s : StateOf) (e : EffectOf) → batch.now ≡ e ∷ [] → s.count ≡ first → length (with_names s.names e.names) ≤ 64 → LeavesOnly (D.view disk.old) (StandsFor layout.vars layout.slots 0 s)
+        → Appended layout.vars layout.slots s e (D.view disk.new) result }
+    ensures any_moment { (s : StateOf) (e : EffectOf) → batch.now ≡ e ∷ [] → s.count ≡ first → length (with_names s.names e.names) ≤ 64 → LeavesOnly (D.view disk.old) (StandsFor layout.vars layout.slots 0 s)
+        → AtEachMoment (D.view disk.old) (D.view disk.new) (StandsForEither layout.vars layout.slots s e) }
 {
-    let mut batch = [0; BATCH_ROOM];
-    let len = spell_batch(first, effect, &mut batch);
+    let mut body = [0; BATCH_ROOM];
+    let len = encode_batch(batch, 1, first, &mut body);
     let at = layout.slot(0);
-    match put_body(disk, at, &batch[..len]) {
+    match put_body(disk, at, &body[..len]) {
         Ok(()) => {}
         Err(DeviceFault::Write) => return Err(Fault::Device),
         Err(_) => return Err(Fault::Unknown),

@@ -1,10 +1,11 @@
 // The parts of a device as they are found.
-ghost use Rattle.std.specs.Prelude.{◌<◌, ◌≤◌, ◌+◌, ◌^◌, Option, IfOk, OnOk, IfErr, IfSome};
+ghost use Rattle.std.specs.Prelude.{◌≤◌, Option, IfOk, OnOk, IfErr, IfSome};
 ghost use Rattle.tmem_gate.specs.Gate.{IsOpenOver};
 ghost use Rattle.tmem_record.specs.State.{State as StateOf};
 ghost use Rattle.tmem_record.specs.declared.effect.Effect.{Effect as EffectOf};
 ghost use Rattle.tmem_world.specs.Layout.{end_place};
-ghost use Rattle.tmem_world.specs.Spelling.{block_body, IsRecord, IsImage};
+ghost use Rattle.tmem_world.specs.Spelling.{block_body, IsImage};
+ghost use Rattle.tmem_world.specs.Stands.{FollowsOn};
 ghost use Rattle.tmem_world.specs.Calls.{Uses, IsWhy};
 ghost use Rattle.tmem_world.specs.Looks.{LooksOnly};
 ghost use Rattle.tmem_world.specs.Parts.{HoldsImage, ClosedBehind, HoldsSlots};
@@ -13,10 +14,10 @@ use crate::block::{BLOCK_ROOM, read_block};
 use crate::calls::{is_open, read};
 use crate::image::read_image;
 use crate::layout::Layout;
-use crate::record::{BATCH_ROOM, read_batch};
+use crate::record::read_record;
 use std::alloc::Global;
 use tmem_disk::{Disk, Fault};
-use tmem_record::{Effect, State};
+use tmem_record::{BATCH_ROOM, Effect, State};
 
 // Whether block 0 is that of this layout.
 pub(crate) fn found_block<D: Disk>(disk: &mut D, layout: Layout) -> Result<(), Fault>
@@ -71,31 +72,27 @@ fn closed_behind<D: Disk>(disk: &mut D, layout: Layout) -> Result<(), Fault>
     Ok(())
 }
 
-// The record in slot 0, if that is open, with this number. The slots behind it are closed.
+// The record in slot 0, if that is open, which follows on the image. The slots behind it are closed.
 pub(crate) fn found_log<D: Disk>(
     alloc: Global,
     disk: &mut D,
     layout: Layout,
-    count: u64,
+    image: &State,
 ) -> Result<Option<Effect>, Fault>
     requires { end_place layout.vars layout.slots ≤ (D.view disk.old).capacity }
     ensures uses { Uses (D.view disk.old) (D.view disk.new) result }
     ensures looks { LooksOnly (D.view disk.old) (D.view disk.new) }
-    ensures fits { IfOk result (λ log. IfSome log (IsRecord layout.vars)) }
-    ensures room { IfOk result (λ log. IfSome log (λ e. count + 1 < 2 ^ 64)) }
-    ensures found { (D.view disk.new).keeps_model → IfOk result (λ log. HoldsSlots layout.vars layout.slots count log (D.view disk.old).seen) }
-    ensures refused { IfErr result (IsWhy ((D.view disk.new).keeps_model → (log : Option EffectOf) → HoldsSlots layout.vars layout.slots count log (D.view disk.old).seen → ⊥)) }
+    ensures follows { IfOk result (λ log. IfSome log (FollowsOn layout.vars image.now)) }
+    ensures found { (D.view disk.new).keeps_model → IfOk result (λ log. HoldsSlots layout.vars layout.slots image.now log (D.view disk.old).seen) }
+    ensures refused { IfErr result (IsWhy ((D.view disk.new).keeps_model → (log : Option EffectOf) → HoldsSlots layout.vars layout.slots image.now log (D.view disk.old).seen → ⊥)) }
 {
     closed_behind(disk, layout)?;
     if !is_open(disk, layout.slot(0))? {
         return Ok(None);
     }
-    if count == u64::MAX {
-        return Err(Fault::Damaged);
-    }
     let mut body = [0; BATCH_ROOM];
     read(disk, layout.slot(0) + 1, &mut body)?;
-    match read_batch(alloc, &body, layout.vars, count)? {
+    match read_record(alloc, &body, layout.vars, image)? {
         Some(effect) => Ok(Some(effect)),
         None => Err(Fault::Damaged),
     }

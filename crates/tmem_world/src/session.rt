@@ -1,12 +1,15 @@
 // A session over a device: the core, and how much of the log is used.
-ghost use Rattle.std.specs.Prelude.{◌≡◌, ◌+◌, ◌<◌, ◌≤◌, ◌^◌, false, [], length, Ok, IfOk, IfErr, OnOk, ℕ};
+ghost use Rattle.std.specs.Prelude.{◌≡◌, ◌+◌, ◌<◌, ◌≤◌, ◌^◌, false, [], length, Ok, Some, IfOk, IfErr, OnOk, ℕ};
 ghost use Rattle.tmem_disk.specs.Disk.{LeavesOnly, Reads, IsSynced};
 ghost use Rattle.tmem_gate.specs.Gate.{IsClosed};
 ghost use Rattle.tmem_record.specs.State.{State};
-ghost use Rattle.tmem_core.specs.Held.{state_of, waiting_of, durable_of, is_shut_of};
+ghost use Rattle.tmem_invariants.specs.Meanings.{Meanings, IsSound};
+ghost use Rattle.tmem_core.specs.Held.{state_of, waiting_of, durable_of, is_shut_of, table_of};
+ghost use Rattle.tmem_core.specs.Opening.{opening_fault};
+ghost use Rattle.tmem_core.specs.Program.{Program};
 ghost use Rattle.tmem_world.specs.Layout.{end_place, slot_place};
 ghost use Rattle.tmem_world.specs.Stands.{StandsFor};
-ghost use Rattle.tmem_world.specs.Calls.{Uses, IsWhy};
+ghost use Rattle.tmem_world.specs.Calls.{Uses, IsWhyNot, fault_alone};
 ghost use Rattle.tmem_world.specs.Settle.{FitsCore, Settles, reply_of};
 
 use crate::event::Reply;
@@ -15,6 +18,7 @@ use crate::layout::Layout;
 use std::alloc::Global;
 use tmem_core::{Core, Settled};
 use tmem_disk::{Disk, Fault};
+use tmem_invariants::Tests;
 use tmem_record::Batch;
 use tmem_tentative::{Attempt, Reads};
 use tmem_tree::Plan;
@@ -33,39 +37,63 @@ pub(crate) enum Slot {
 
 /// What stands between an opening and a stop. The core is shut once the device has failed.
 #[derive(Drop)]
-pub(crate) struct Session {
-    pub(crate) core: Core,
+pub(crate) struct Session<T: Tests> {
+    pub(crate) core: Core<T>,
     pub(crate) batch: Batch,
     pub(crate) used: u16,
 }
 
-/// Opens the device. Nothing is written.
-pub(crate) fn find<D: Disk>(alloc: Global, disk: &mut D, layout: Layout) -> Result<Session, Fault>
-    requires { end_place layout.vars layout.slots ≤ (D.view disk.old).capacity }
-    ensures uses { Uses (D.view disk.old) (D.view disk.new) result }
+/// Opens the device, and begins a session with this table, which is handed back with a refusal. Nothing is written.
+pub(crate) fn find<D: Disk, T: Tests + Drop>(
+    alloc: Global,
+    disk: &mut D,
+    layout: Layout,
+    table: T,
+) -> Result<Session<T>, (Fault, T)>
+    requires vars { T.vars table ≡ layout.vars }
+    requires room { end_place layout.vars layout.slots ≤ (D.view disk.old).capacity }
+    ensures uses { Uses (D.view disk.old) (D.view disk.new) (fault_alone result) }
     ensures found { (D.view disk.new).keeps_model → IfOk result (λ s. StandsFor layout.vars layout.slots s.used (state_of s.core) (D.view disk.old).seen) }
-    ensures refused { IfErr result (IsWhy ((D.view disk.new).keeps_model → (used : ℕ) (s : State) → StandsFor layout.vars layout.slots used s (D.view disk.old).seen → ⊥)) }
+    ensures refused { IfErr result (λ e. IsWhyNot
+        ((D.view disk.new).keeps_model → (used : ℕ) (s : State) → StandsFor layout.vars layout.slots used s (D.view disk.old).seen → ⊥)
+        ((used : ℕ) × (s : State)
+        × ((D.view disk.new).keeps_model → StandsFor layout.vars layout.slots used s (D.view disk.old).seen)
+        × ((p : Program) → p.names ≡ T.names table → T.is_stated table p.tests → (opening_fault p s ≡ Some e.0) × (¬ IsSound p.tests p.names s.names s.values)))
+        e.0) }
     ensures fresh { IfOk result (λ s. (waiting_of s.core ≡ []) × (durable_of s.core ≡ (state_of s.core).count) × (is_shut_of s.core ≡ false)) }
     ensures sized { IfOk result (λ s. (length (state_of s.core).values ≡ layout.vars) × (s.used ≤ 1)) }
+    ensures table { IfOk result (λ s. table_of s.core ≡ table) }
+    ensures back { IfErr result (λ e. e.1 ≡ table) }
+    ensures sound { (m : Meanings) → T.is_stated table m → IfOk result (λ s. IsSound m (T.names table) (state_of s.core).names (state_of s.core).values) }
     ensures seen { Reads (D.view disk.new) (D.view disk.old).seen }
     ensures stop { LeavesOnly (D.view disk.new) (D.view disk.old).may_leave }
     ensures synced { OnOk result (IsSynced (D.view disk.new)) }
     ensures closed { IfOk result (λ s. s.used ≡ 0 → LeavesOnly (D.view disk.new) (IsClosed (slot_place layout.vars 0))) }
 {
-    let found = recover(alloc, disk, layout)?;
-    Ok(Session {
-        core: Core::new(alloc, &found.state)?,
-        batch: Batch::new(alloc)?,
-        used: found.used,
-    })
+    let found = match recover(alloc, disk, layout) {
+        Ok(found) => found,
+        Err(fault) => return Err((fault, table)),
+    };
+    let batch = match Batch::new(alloc) {
+        Ok(batch) => batch,
+        Err(_) => return Err((Fault::Memory, table)),
+    };
+    match Core::new(alloc, &found.state, table) {
+        Ok(core) => Ok(Session {
+            core,
+            batch,
+            used: found.used,
+        }),
+        Err(refused) => Err(refused),
+    }
 }
 
-impl Session {
+impl<T: Tests + Drop> Session<T> {
     ghost use Rattle.tmem_world.specs.Sessions.{IsCounted, IsFree, Flushes, durable_after};
 
     /// Settles what a slot holds.
     pub(crate) fn settle(&mut self, slot: &mut Slot) -> Reply
-        requires { FitsCore (length (state_of self.old.core).values) slot.old }
+        requires { FitsCore (length (state_of self.old.core).values) (T.names (table_of self.old.core)) slot.old }
         ensures { Settles self.old slot.old result self.new slot.new }
     {
         let Slot::Ended(attempt) = slot else {
@@ -90,6 +118,7 @@ impl Session {
         ensures durable { durable_of self.new.core ≡ durable_after result (durable_of self.old.core) }
         ensures free { IsFree layout.vars self.new (D.view disk.new) }
         ensures state { state_of self.new.core ≡ state_of self.old.core }
+        ensures table { table_of self.new.core ≡ table_of self.old.core }
         ensures number { IfErr result (λ f. f ≡ Fault.Unknown → durable_of self.old.core + 1 < 2 ^ 64) }
         ensures flushed { Flushes layout.vars layout.slots self.old (D.view disk.old) result self.new (D.view disk.new) (disk.new ≡ disk.old) }
     {
@@ -104,7 +133,7 @@ impl Session {
             return Err(Fault::LogFull);
         }
         self.core.take(durable, &mut self.batch);
-        match append(disk, layout, durable, &self.batch.effects()[0]) {
+        match append(disk, layout, durable, &self.batch) {
             Ok(()) => {
                 self.core.note_durable(durable + 1);
                 self.used = LOG_SLOTS;
@@ -127,5 +156,6 @@ fn told(settled: Settled) -> Reply
         Settled::Seen { at, registers } => Reply::Seen { at, registers },
         Settled::Retry => Reply::Retry,
         Settled::Aborted(code) => Reply::Aborted(code),
+        Settled::Refused(name) => Reply::Refused(name),
     }
 }

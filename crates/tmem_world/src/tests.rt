@@ -1,5 +1,4 @@
-ghost use Rattle.std.specs.Prelude.{◌≡◌, ◌<◌, IfOk, length};
-ghost use Rattle.tmem_tentative.specs.Examples.{at_least};
+ghost use Rattle.std.specs.Prelude.{◌≡◌, ◌<◌, ◌≤◌, IfOk};
 ghost use Rattle.tmem_world.specs.Represents.{numbers_of, HoldsSession};
 
 use super::*;
@@ -7,53 +6,100 @@ use std::alloc::{AllocError, Global};
 use std::process::Abort;
 use std::test::Fail;
 use tmem_disk::{Disk, Fault, Fill, Name, SimDisk};
+use tmem_invariants::Tests;
 use tmem_tree::{StepAnswer, StoredSteps, Tx};
 
-// Step 0 answers the first of two numbers, and retries where it is less than the second. Step 1 aborts.
+// No stored step.
 #[derive(Drop)]
-struct TwoSteps;
+struct NoSteps;
 
-impl StoredSteps for TwoSteps {
-    ghost use Rattle.std.specs.Prelude.{◌∷◌, [], ◌≡◌, ◌≤◌, ℕ, ℤ, List};
-    ghost use Rattle.std.proofs.Common.{rules, refl};
-    ghost use Rattle.tmem_tentative.specs.Examples.{example_meanings};
+impl StoredSteps for NoSteps {
+    ghost use Rattle.std.specs.Prelude.{[], ◌≡◌, ◌≤◌};
+    ghost use Rattle.std.proofs.Common.{rules};
+    ghost use Rattle.tmem_world.specs.Examples.{no_steps};
 
-    ghost arities = { λ _. 2 ∷ 0 ∷ [] };
+    ghost arities = { λ _. [] };
 
-    ghost is_stated = { λ _ m. (index : ℕ) (args : List ℤ) → m index args ≡ example_meanings index args };
+    ghost is_stated = { λ _ m. Unit {0} };
 
     fn len(&self) -> usize {
-        2
+        0
     }
 
-    fn arity(&self, index: usize) -> usize {
-        if index == 0 { 2 } else { 0 }
+    fn arity(&self, _index: usize) -> usize {
+        unreachable!()
     }
 
-    fn answer(&self, index: usize, args: &[i64]) -> StepAnswer {
-        if index == 0 {
-            at_least(args)
-        } else {
-            StepAnswer::Abort(9)
-        }
+    fn answer(&self, _index: usize, _args: &[i64]) -> StepAnswer {
+        unreachable!()
     }
 
     ghost few = { λ _. Prim.search rules };
 
     ghost small = { λ _. Prim.search rules };
 
-    ghost has_meanings = { λ _. ∣ (example_meanings, λ index args. refl) ∣₁ };
+    ghost has_meanings = { λ _. ∣ (no_steps, tt) ∣₁ };
 }
 
-fn at_least(args: &[i64]) -> StepAnswer
-    requires { length args.now ≡ 2 }
-    ensures { result ≡ at_least args.now }
-{
-    if args[0] < args[1] {
-        StepAnswer::Retry
-    } else {
-        StepAnswer::Value(args[0])
+// A table of no invariant, over so many variables.
+#[derive(Drop)]
+struct NoTests {
+    vars: u16,
+}
+
+impl Tests for NoTests {
+    ghost use Rattle.std.specs.Prelude.{◌≤◌, []};
+    ghost use Rattle.std.proofs.Common.{rules, arith};
+    ghost use Rattle.tmem_world.specs.Examples.{no_meanings, none_distinct};
+
+    ghost names = { λ _. [] };
+
+    ghost vars = { λ table. table.vars };
+
+    ghost is_stated = { λ _ m. Unit {0} };
+
+    fn len(&self) -> usize {
+        0
     }
+
+    fn vars(&self) -> u16 {
+        self.vars
+    }
+
+    fn name(&self, _place: usize) -> Name {
+        unreachable!()
+    }
+
+    fn place(&self, _name: &Name) -> Option<usize> {
+        None
+    }
+
+    fn missing(&self, registered: &[Name]) -> Option<Name> {
+        match registered {
+            [] => None,
+            [first, ..] => Some(*first),
+        }
+    }
+
+    fn test_all(&self, _values: &[i64], _registered: &[Name], _proposed: &[Name]) -> Option<usize> {
+        None
+    }
+
+    fn test_touched(
+        &self,
+        _values: &[i64],
+        _registered: &[Name],
+        _proposed: &[Name],
+        _written: &[(u16, i64)],
+    ) -> Option<usize> {
+        None
+    }
+
+    ghost few = { λ _. Prim.search rules };
+
+    ghost distinct = { λ _. none_distinct };
+
+    ghost has_meanings = { λ _. ∣ (no_meanings, tt) ∣₁ };
 }
 
 // What a test tells of a reply: registers are left out, but for those of a transaction that wrote nothing.
@@ -67,6 +113,7 @@ enum Told {
     Read(u16, i64),
     Retry,
     Aborted(u16),
+    Refused(Name),
     Durable(u64),
     Looked(u64),
     Opened(u64),
@@ -84,6 +131,7 @@ fn tell(reply: Reply) -> Told {
         Reply::Read { var, value } => Told::Read(var, value),
         Reply::Retry => Told::Retry,
         Reply::Aborted(code) => Told::Aborted(code),
+        Reply::Refused(name) => Told::Refused(name),
         Reply::Durable(n) => Told::Durable(n),
         Reply::Looked(n) => Told::Looked(n),
         Reply::Opened(n) => Told::Opened(n),
@@ -96,24 +144,6 @@ fn write(alloc: Global, var: u16, number: i64) -> Result<Tx, AllocError> {
     Ok(Tx::Seq(vec![in alloc; Tx::Put { reg: 0, number }, Tx::Write { var, reg: 0 }]?))
 }
 
-// Reads a variable and goes on where it is 1 at least; else retries.
-fn need(alloc: Global, var: u16) -> Result<Tx, AllocError> {
-    let args = vec![in alloc; 0, 1]?;
-    Ok(Tx::Seq(vec![in alloc;
-        Tx::Read { var, reg: 0 },
-        Tx::Put { reg: 1, number: 1 },
-        Tx::Step {
-            index: 0,
-            args,
-            out: 2
-        },
-    ]?))
-}
-
-fn either(alloc: Global, first: Tx, second: Tx) -> Result<Tx, AllocError> {
-    Ok(Tx::OrElse(Box::new(alloc, first)?, Box::new(alloc, second)?))
-}
-
 fn fresh(alloc: Global, slots: u16) -> Result<SimDisk, Fail> {
     let layout = Layout::new(4, slots)?;
     let mut disk = SimDisk::new(alloc, layout.end())?;
@@ -121,10 +151,10 @@ fn fresh(alloc: Global, slots: u16) -> Result<SimDisk, Fail> {
     Ok(disk)
 }
 
-fn opened(alloc: Global, disk: SimDisk) -> Result<World<SimDisk, TwoSteps>, Fail>
+fn opened(alloc: Global, disk: SimDisk) -> Result<World<SimDisk, NoTests, NoSteps>, Fail>
     ensures { IfOk result (λ world. ((numbers_of world).vars ≡ 4) × HoldsSession world) }
 {
-    let opened = World::open(alloc, disk, 4, 4, TwoSteps);
+    let opened = World::open(alloc, disk, 4, 4, NoTests { vars: 4 }, NoSteps);
     match opened {
         Ok(world) => Ok(world),
         Err(refusal) => Err(Fail::from(refusal.0)),
@@ -132,13 +162,13 @@ fn opened(alloc: Global, disk: SimDisk) -> Result<World<SimDisk, TwoSteps>, Fail
 }
 
 // Begins a transaction that reads nothing on slot 0, evaluates it and settles it.
-fn commit(world: &mut World<SimDisk, TwoSteps>, tx: Tx) -> Reply
+fn commit(world: &mut World<SimDisk, NoTests, NoSteps>, tx: Tx) -> Reply
     ensures { numbers_of world.new ≡ numbers_of world.old }
 {
     commit_on(world, 0, tx)
 }
 
-fn commit_on(world: &mut World<SimDisk, TwoSteps>, slot: u8, tx: Tx) -> Reply
+fn commit_on(world: &mut World<SimDisk, NoTests, NoSteps>, slot: u8, tx: Tx) -> Reply
     requires { slot < 16 }
     ensures { numbers_of world.new ≡ numbers_of world.old }
 {
@@ -243,7 +273,7 @@ fn after_a_device_failure_the_session_is_closed(rt: HostRuntime) -> Result<(), F
 
 // Opening a device is refused by this fault.
 fn refuses(rt: &impl Abort, alloc: Global, disk: SimDisk, vars: u16, want: Fault) {
-    let opened = World::open(alloc, disk, vars, 4, TwoSteps);
+    let opened = World::open(alloc, disk, vars, 4, NoTests { vars }, NoSteps);
     match opened {
         Ok(_) => assert!(rt; false, "opened"),
         Err(refusal) => assert_eq!(rt; refusal.0, want),
@@ -301,37 +331,82 @@ fn the_bytes_of_a_fresh_device_and_of_a_first_record(rt: HostRuntime) -> Result<
     Ok(())
 }
 
+// Writes over the bytes from a place on.
+fn put(rt: &impl Abort, disk: &mut SimDisk, at: u64, bytes: &[u8]) {
+    let size = disk.size();
+    assert!(rt; at <= size && bytes.len() as u64 <= size - at);
+    assert!(rt; disk.write_at(at, bytes).is_ok());
+}
+
+// A fresh device with these bytes from a place on.
+fn with_bytes(rt: &impl Abort, alloc: Global, at: u64, bytes: &[u8]) -> Result<SimDisk, Fail> {
+    let mut disk = fresh(alloc, 4)?;
+    put(rt, &mut disk, at, bytes);
+    Ok(disk)
+}
+
+// So many names of two letters, ascending, behind their number.
+fn many_names(count: u8) -> [u8; 196]
+    requires { count ≤ 65 }
+{
+    let mut bytes = [0; 196];
+    bytes[0] = count;
+    for k in 0..count {
+        let at = 1 + 3 * k as usize;
+        bytes[at] = 2;
+        bytes[at + 1] = b'a' + k / 26;
+        bytes[at + 2] = b'a' + k % 26;
+    }
+    bytes
+}
+
+// A record that checks a name alone, in an open slot.
+const CHECKED: [u8; 28] = [
+    0xa5, 1, 0, 0, 0, 0, 0, 0, 0, 0, 0, 0, 0, 0, 0, 0, 0, 1, 0, 0, 1, 6, b'n', b'o', b'n', b'n',
+    b'e', b'g',
+];
+
 #[test]
-fn a_choice_of_two_that_wait_reads_both_and_retries(rt: HostRuntime) -> Result<(), Fail> {
+fn the_names_of_an_image_are_found(rt: HostRuntime) -> Result<(), Fail> {
     let alloc = rt.alloc();
-    let mut world = opened(alloc, fresh(alloc, 4)?)?;
-    let tx = either(alloc, need(alloc, 2)?, need(alloc, 3)?)?;
-    assert_eq!(rt; tell(world.step(Event::Begin { slot: 0, tx })), Told::Begun);
-    assert_eq!(rt; tell(world.step(Event::Turn { slot: 0 })), Told::Read(2, 0));
-    assert_eq!(rt; tell(world.step(Event::Turn { slot: 0 })), Told::Read(3, 0));
-    assert_eq!(rt; tell(world.step(Event::Turn { slot: 0 })), Told::Ended);
-    assert_eq!(rt; tell(world.step(Event::Settle { slot: 0 })), Told::Retry);
-    assert_eq!(rt; tell(world.step(Event::Settle { slot: 0 })), Told::Idle);
+    let two = with_bytes(&rt, alloc, 529, &[2, 2, b'a', b'b', 1, b'b'])?;
+    refuses(&rt, alloc, two, 4, Fault::Missing(Name::new("ab")?));
+    let most = with_bytes(&rt, alloc, 529, &many_names(64))?;
+    refuses(&rt, alloc, most, 4, Fault::Missing(Name::new("aa")?));
     Ok(())
 }
 
 #[test]
-fn a_choice_whose_first_branch_could_go_on_by_now_conflicts(rt: HostRuntime) -> Result<(), Fail> {
+fn an_image_of_no_registered_names_is_damage(rt: HostRuntime) -> Result<(), Fail> {
     let alloc = rt.alloc();
-    let mut world = opened(alloc, fresh(alloc, 4)?)?;
-    let tx = either(alloc, need(alloc, 3)?, write(alloc, 2, 1)?)?;
-    assert_eq!(rt; tell(world.step(Event::Begin { slot: 0, tx })), Told::Begun);
-    assert_eq!(rt; tell(world.step(Event::Turn { slot: 0 })), Told::Read(3, 0));
-    assert_eq!(rt; tell(world.step(Event::Turn { slot: 0 })), Told::Ended);
-    assert_eq!(rt;
-        tell(commit_on(&mut world, 1, write(alloc, 3, 1)?)),
-        Told::Committed(0)
-    );
-    assert_eq!(rt;
-        tell(world.step(Event::Settle { slot: 0 })),
-        Told::Fault(Fault::Conflict)
-    );
-    assert!(rt; world.is_open());
-    assert_eq!(rt; world.value(2), 0);
+    // out of order, twice, a capital letter, and no zero behind the names or at the end of the header
+    let rows = [
+        (529, [2, 1, b'b', 2, b'a', b'b']),
+        (529, [2, 1, b'b', 1, b'b', 0]),
+        (529, [1, 1, b'B', 0, 0, 0]),
+        (529, [1, 1, b'b', 0, 0, 7]),
+        (2554, [0, 0, 0, 0, 0, 1]),
+    ];
+    for (at, bytes) in rows {
+        let disk = with_bytes(&rt, alloc, at, &bytes)?;
+        refuses(&rt, alloc, disk, 4, Fault::Damaged);
+    }
+    let too_many = with_bytes(&rt, alloc, 529, &many_names(65))?;
+    refuses(&rt, alloc, too_many, 4, Fault::Damaged);
+    Ok(())
+}
+
+#[test]
+fn the_name_of_a_record_is_found_or_damage(rt: HostRuntime) -> Result<(), Fail> {
+    let alloc = rt.alloc();
+    let checked = with_bytes(&rt, alloc, 5632, &CHECKED)?;
+    refuses(&rt, alloc, checked, 4, Fault::Missing(Name::new("nonneg")?));
+    let mut full = with_bytes(&rt, alloc, 529, &many_names(64))?;
+    put(&rt, &mut full, 5632, &CHECKED);
+    refuses(&rt, alloc, full, 4, Fault::Damaged);
+    let mut later = CHECKED;
+    later[1] = 2;
+    let later = with_bytes(&rt, alloc, 5632, &later)?;
+    refuses(&rt, alloc, later, 4, Fault::Damaged);
     Ok(())
 }

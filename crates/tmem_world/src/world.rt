@@ -1,15 +1,17 @@
 // One thread plays a list of events over a core and a device.
-ghost use Rattle.std.specs.Prelude.{◌≡◌, ◌<◌, ◌≤◌, ◌+◌, ◌^◌, ◌⊎◌, ◌↔◌, ℕ, true, false, [], length, All, IsTrue, IsSome, IfOk, IfErr, OnOk, IfSome, replicate, slice_index_or, pos};
+ghost use Rattle.std.specs.Prelude.{◌≡◌, ◌<◌, ◌≤◌, ◌+◌, ◌^◌, ◌⊎◌, ◌↔◌, ℕ, true, false, Some, None, [], length, All, IsTrue, IsSome, IfOk, IfErr, OnOk, IfSome, replicate, slice_index_or, pos};
 ghost use Rattle.std.specs.Option.{ForSome};
 ghost use Rattle.std.proofs.Props.{props};
 ghost use Rattle.tmem_disk.specs.Disk.{LeavesOnly, Reads, IsSynced};
 ghost use Rattle.tmem_record.specs.State.{State};
 ghost use Rattle.tmem_record.specs.Names.{has_name};
-ghost use Rattle.tmem_tree.specs.Answers.{Meanings};
-ghost use Rattle.tmem_core.specs.Held.{state_of, waiting_of, durable_of};
+ghost use Rattle.tmem_core.specs.Held.{state_of, waiting_of, durable_of, table_of};
+ghost use Rattle.tmem_core.specs.Opening.{opening_fault};
+ghost use Rattle.tmem_core.specs.Program.{Program};
 ghost use Rattle.tmem_world.specs.Layout.{end_place};
 ghost use Rattle.tmem_world.specs.Stands.{StandsFor};
-ghost use Rattle.tmem_world.specs.Calls.{Uses, FitsOn};
+ghost use Rattle.tmem_world.specs.Calls.{Uses, FitsOn, IsWhyNot};
+ghost use Rattle.tmem_world.specs.Tables.{table_in};
 ghost use Rattle.tmem_world.specs.Settle.{FitsSlot, Joins, Keeps};
 ghost use Rattle.tmem_world.specs.Facts.{FitsSlot-prop};
 ghost use Rattle.tmem_world.specs.Sessions.{IsCounted, IsKnown, IsFree, doubtful_number};
@@ -21,49 +23,65 @@ use crate::layout::Layout;
 use crate::session::{Session, Slot, find};
 use std::alloc::{AllocError, Global};
 use tmem_disk::{Disk, Fault, Name};
+use tmem_invariants::Tests;
 use tmem_tentative::{Outcome, Reads, evaluate};
 use tmem_tree::{Plan, StoredSteps, Tx};
 
 /// Durable transactional memory for one thread: it plays events over the present state and a device.
 #[derive(Drop)]
-pub struct World<D: Disk, S: StoredSteps> {
+pub struct World<D: Disk, T: Tests, S: StoredSteps> {
     alloc: Global,
     disk: D,
     layout: Layout,
     steps: S,
-    session: Option<Session>,
+    // the names of the table, in its order
+    names: Vec<Name>,
+    session: Option<Session<T>>,
+    // the table, where no session has it
+    table: Option<T>,
     durable: u64,
     doubtful: u64,
     slots: Vec<Slot>,
     ghost sized: { length slots.items ≡ 16 },
     ghost room: { end_place layout.vars layout.slots ≤ (D.view disk).capacity },
-    ghost fit: { All (FitsSlot layout.vars (S.arities steps)) slots.items } by { Prim.hlevel (props, FitsSlot-prop) },
+    ghost tabled: { IsSome (table_in session table) },
+    ghost named: { ForSome (table_in session table) (λ t. T.names t ≡ names.items) },
+    ghost over: { ForSome (table_in session table) (λ t. T.vars t ≡ layout.vars) },
+    ghost fit: { All (FitsSlot layout.vars (S.arities steps) names.items) slots.items } by { Prim.hlevel (props, FitsSlot-prop) },
     ghost counted: { ForSome session (IsCounted layout.vars) },
     ghost known: { ForSome session (IsKnown durable) },
     ghost free: { ForSome session (λ s. IsFree layout.vars s (D.view disk)) },
 }
 
-impl<D: Disk, S: StoredSteps + Drop> World<D, S> {
-    ghost use Rattle.tmem_world.specs.Represents.{Represents, Steps, Plays, HoldsSession, IsBack, numbers_of, device_of, steps_of, durable_number};
+impl<D: Disk, T: Tests + Drop, S: StoredSteps + Drop> World<D, T, S> {
+    ghost use Rattle.tmem_world.specs.Represents.{Represents, Means, Steps, Plays, HoldsSession, IsBack, numbers_of, device_of, steps_of, held_table, durable_number};
     ghost use Rattle.tmem_world.specs.Replies.{failures_by, failures_by_all, FlushedNothing, IsStill};
 
-    /// Opens a device of these numbers: finds what its content stands for, and begins a session there.
-    /// Refused by `Geometry` where the numbers are out of limits, the device is smaller than their layout, or it was
-    /// formatted for others; by `NotFormatted` and `Damaged` where its content stands for no state; by `Memory`; by
-    /// `Device` where a call of the device failed. The device is handed back with the refusal, and nothing was written.
+    /// Opens a device of these numbers: finds what its content stands for, and begins a session there, with these
+    /// invariants and stored steps. Refused by `Geometry` where the numbers are out of limits, the device is smaller than
+    /// their layout, or it was formatted for others; by `NotFormatted` and `Damaged` where its content stands for no
+    /// state; by `Missing` with the first registered name, by bytes, that the table lacks; by `Broken` with the first
+    /// registered invariant, in the table's order, that is false; by `Memory`; by `Device` where a call of the device
+    /// failed. The device is handed back with the refusal, and nothing was written.
     pub fn open(
         alloc: Global,
         mut disk: D,
         vars: u16,
         slots: u16,
+        table: T,
         steps: S,
-    ) -> Result<World<D, S>, (Fault, D)>
-        ensures found { IfOk result (λ w. (s : State) × (used : ℕ) × ((steps : Meanings) → Represents steps w (opening s used (D.view disk).failures))
+    ) -> Result<World<D, T, S>, (Fault, D)>
+        requires { T.vars table ≡ vars }
+        ensures found { IfOk result (λ w. (s : State) × (used : ℕ) × ((program : Program) → Means w program → Represents program w (opening s used (D.view disk).failures))
             × ((D.view (device_of w)).keeps_model → StandsFor vars slots used s (D.view disk).seen)) }
         ensures steps { IfOk result (λ w. steps_of w ≡ steps) }
+        ensures table { IfOk result (λ w. held_table w ≡ Some table) }
         ensures fits { IfOk result (λ w. ((numbers_of w).vars ≡ vars) × ((numbers_of w).slots ≡ slots) × HoldsSession w × FitsOn vars slots (D.view disk).capacity) }
         ensures model { IfOk result (λ w. (D.view (device_of w)).keeps_model → (D.view disk).keeps_model) }
-        ensures refused { IfErr result (λ e. IsBack (D.view disk) vars slots e.0 (D.view e.1)) }
+        ensures refused { IfErr result (λ e. IsBack (D.view disk) vars slots
+            ((used : ℕ) × (s : State) × ((D.view e.1).keeps_model → StandsFor vars slots used s (D.view disk).seen)
+            × ((p : Program) → p.names ≡ T.names table → T.is_stated table p.tests → opening_fault p s ≡ Some e.0))
+            e.0 (D.view e.1)) }
     {
         let layout = match Layout::new(vars, slots) {
             Ok(layout) => layout,
@@ -76,7 +94,11 @@ impl<D: Disk, S: StoredSteps + Drop> World<D, S> {
             Ok(held) => held,
             Err(_) => return Err((Fault::Memory, disk)),
         };
-        match find(alloc, &mut disk, layout) {
+        let names = match names_of(alloc, &table) {
+            Ok(names) => names,
+            Err(_) => return Err((Fault::Memory, disk)),
+        };
+        match find(alloc, &mut disk, layout, table) {
             Ok(session) => {
                 let durable = session.core.durable();
                 Ok(World {
@@ -84,13 +106,15 @@ impl<D: Disk, S: StoredSteps + Drop> World<D, S> {
                     disk,
                     layout,
                     steps,
+                    names,
                     session: Some(session),
+                    table: None,
                     durable,
                     doubtful: durable,
                     slots: held,
                 })
             }
-            Err(fault) => Err((fault, disk)),
+            Err(refused) => Err((refused.0, disk)),
         }
     }
 
@@ -102,6 +126,7 @@ impl<D: Disk, S: StoredSteps + Drop> World<D, S> {
         ensures still { IsStill (durable_number self.old) event result → device_of self.new ≡ device_of self.old }
         ensures numbers { numbers_of self.new ≡ numbers_of self.old }
         ensures steps { steps_of self.new ≡ steps_of self.old }
+        ensures table { held_table self.new ≡ held_table self.old }
         ensures model { (D.view (device_of self.new)).keeps_model → (D.view (device_of self.old)).keeps_model }
     {
         match event {
@@ -121,6 +146,7 @@ impl<D: Disk, S: StoredSteps + Drop> World<D, S> {
         ensures failures { IfOk result (λ replies. (D.view (device_of self.new)).failures ≡ failures_by_all replies.items (D.view (device_of self.old)).failures) }
         ensures numbers { numbers_of self.new ≡ numbers_of self.old }
         ensures steps { steps_of self.new ≡ steps_of self.old }
+        ensures table { held_table self.new ≡ held_table self.old }
         ensures model { (D.view (device_of self.new)).keeps_model → (D.view (device_of self.old)).keeps_model }
         ensures err { IfErr result (λ f. (f ≡ Fault.Memory) × (self.new ≡ self.old)) }
     {
@@ -142,7 +168,7 @@ impl<D: Disk, S: StoredSteps + Drop> World<D, S> {
     /// How many transactions were accepted. A session stands.
     pub fn count(&self) -> u64
         requires { HoldsSession self.now }
-        ensures { (steps : Meanings) (m : WorldModel) → Represents steps self.now m → result ≡ (present steps m).count }
+        ensures { (program : Program) (m : WorldModel) → Represents program self.now m → result ≡ (present program m).count }
     {
         match &self.session {
             Some(session) => session.core.count(),
@@ -154,7 +180,7 @@ impl<D: Disk, S: StoredSteps + Drop> World<D, S> {
     pub fn value(&self, var: u16) -> i64
         requires open { HoldsSession self.now }
         requires var { var < (numbers_of self.now).vars }
-        ensures { (steps : Meanings) (m : WorldModel) → Represents steps self.now m → result ≡ slice_index_or (present steps m).values var (pos 0) }
+        ensures { (program : Program) (m : WorldModel) → Represents program self.now m → result ≡ slice_index_or (present program m).values var (pos 0) }
     {
         match &self.session {
             Some(session) => session.core.peek(var),
@@ -162,10 +188,10 @@ impl<D: Disk, S: StoredSteps + Drop> World<D, S> {
         }
     }
 
-    /// Whether an invariant of this name is registered: none is yet. A session stands.
+    /// Whether an invariant of this name is registered. A session stands.
     pub fn has(&self, name: &Name) -> bool
         requires { HoldsSession self.now }
-        ensures { (steps : Meanings) (m : WorldModel) → Represents steps self.now m → result ≡ has_name (present steps m).names name.now }
+        ensures { (program : Program) (m : WorldModel) → Represents program self.now m → result ≡ has_name (present program m).names name.now }
     {
         match &self.session {
             Some(session) => session.core.has(name),
@@ -187,11 +213,12 @@ impl<D: Disk, S: StoredSteps + Drop> World<D, S> {
         ensures step { Steps self.old (Event.Begin slot tx) result self.new }
         ensures failures { failures_by result (D.view self.old.disk).failures ≡ (D.view self.old.disk).failures }
         ensures kept { (self.new.layout ≡ self.old.layout) × (self.new.steps ≡ self.old.steps) × (self.new.disk ≡ self.old.disk) }
+        ensures table { held_table self.new ≡ held_table self.old }
     {
         if self.session.is_none() {
             return Reply::Fault(Fault::Closed);
         }
-        match Plan::new(tx, &self.steps, self.layout.vars) {
+        match Plan::new(tx, &self.steps, self.layout.vars, &self.names) {
             Ok(plan) => {
                 let reads = Reads::new(self.alloc);
                 self.slots[slot as usize] = Slot::Begun { plan, reads };
@@ -207,6 +234,7 @@ impl<D: Disk, S: StoredSteps + Drop> World<D, S> {
         ensures step { Steps self.old (Event.Turn slot) result self.new }
         ensures failures { failures_by result (D.view self.old.disk).failures ≡ (D.view self.old.disk).failures }
         ensures kept { (self.new.layout ≡ self.old.layout) × (self.new.steps ≡ self.old.steps) × (self.new.disk ≡ self.old.disk) }
+        ensures table { held_table self.new ≡ held_table self.old }
     {
         if self.session.is_none() {
             return Reply::Fault(Fault::Closed);
@@ -238,6 +266,7 @@ impl<D: Disk, S: StoredSteps + Drop> World<D, S> {
         ensures step { Steps self.old (Event.Settle slot) result self.new }
         ensures failures { failures_by result (D.view self.old.disk).failures ≡ (D.view self.old.disk).failures }
         ensures kept { (self.new.layout ≡ self.old.layout) × (self.new.steps ≡ self.old.steps) × (self.new.disk ≡ self.old.disk) }
+        ensures table { held_table self.new ≡ held_table self.old }
     {
         match &mut self.session {
             None => Reply::Fault(Fault::Closed),
@@ -252,6 +281,7 @@ impl<D: Disk, S: StoredSteps + Drop> World<D, S> {
         ensures still { FlushedNothing self.old.durable result → self.new.disk ≡ self.old.disk }
         ensures layout { self.new.layout ≡ self.old.layout }
         ensures steps { self.new.steps ≡ self.old.steps }
+        ensures table { held_table self.new ≡ held_table self.old }
         ensures model { (D.view self.new.disk).keeps_model → (D.view self.old.disk).keeps_model }
     {
         let Some(session) = &mut self.session else {
@@ -287,19 +317,39 @@ impl<D: Disk, S: StoredSteps + Drop> World<D, S> {
         ensures failures { (D.view self.new.disk).failures ≡ failures_by result (D.view self.old.disk).failures }
         ensures layout { self.new.layout ≡ self.old.layout }
         ensures steps { self.new.steps ≡ self.old.steps }
+        ensures table { held_table self.new ≡ held_table self.old }
         ensures model { (D.view self.new.disk).keeps_model → (D.view self.old.disk).keeps_model }
     {
-        self.session = None;
         clear(&mut self.slots);
-        match find(self.alloc, &mut self.disk, self.layout) {
+        let table = take_table(&mut self.session, &mut self.table);
+        match find(self.alloc, &mut self.disk, self.layout, table) {
             Ok(session) => {
                 self.durable = session.core.durable();
                 self.doubtful = self.durable;
                 self.session = Some(session);
                 Reply::Opened(self.durable)
             }
-            Err(fault) => Reply::Fault(fault),
+            Err((fault, table)) => {
+                self.table = Some(table);
+                Reply::Fault(fault)
+            }
         }
+    }
+}
+
+// Ends the session, if one stands, and hands its table out, or the one that lies beside.
+fn take_table<T: Tests + Drop>(session: &mut Option<Session<T>>, beside: &mut Option<T>) -> T
+    requires { IsSome (table_in session.old beside.old) }
+    ensures table { table_in session.old beside.old ≡ Some result }
+    ensures ended { session.new ≡ None }
+    ensures beside { beside.new ≡ None }
+{
+    match session.take() {
+        Some(session) => {
+            *beside = None;
+            session.core.into_table()
+        }
+        None => beside.take().unwrap(),
     }
 }
 
@@ -312,6 +362,17 @@ fn join(slot: &mut Slot, var: u16, value: i64) -> Result<(), Fault>
         reads.insert(var, value)?;
     }
     Ok(())
+}
+
+// The names of a table, in its order.
+fn names_of<T: Tests>(alloc: Global, table: &T) -> Result<Vec<Name>, AllocError>
+    ensures { IfOk result (λ names. names.items ≡ T.names table.now) }
+{
+    let mut names = Vec::with_capacity(alloc, table.len())?;
+    for place in 0..table.len() {
+        names.push(table.name(place))?;
+    }
+    Ok(names)
 }
 
 // Slots that hold nothing.

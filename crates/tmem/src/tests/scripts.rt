@@ -1,15 +1,11 @@
 //! What is a script, and what its lines print.
-use super::{BAD_SCRIPT, FIRST, FIRST_OUT, expect_lines, play, run};
+use super::{BAD_SCRIPT, FIRST, FIRST_OUT, expect_lines, play, run, with_tx};
 use std::alloc::{AllocError, Global};
 use std::test::Fail;
 
 /// A script of one event on four variables and four slots.
 fn with_event(alloc: Global, event: &str) -> Result<String, AllocError> {
     format!(in alloc; r#"{{"vars":4,"slots":4,"events":[{event}]}}"#)
-}
-
-fn with_tx(alloc: Global, tx: &str) -> Result<String, AllocError> {
-    format!(in alloc; r#"{{"vars":4,"slots":4,"events":[{{"begin":[0,{tx}]}}]}}"#)
 }
 
 /// The empty sequence within that many others, the innermost counted.
@@ -134,7 +130,6 @@ fn bad_transactions(rt: HostRuntime) -> Result<(), Fail> {
         "{}",
         r#""Skip""#,
         r#"{"skip":null}"#,
-        r#"{"check":"nonneg"}"#,
         r#"{"seq":"skip"}"#,
         r#"{"seq":{}}"#,
         r#"{"seq":[0]}"#,
@@ -155,6 +150,20 @@ fn bad_transactions(rt: HostRuntime) -> Result<(), Fail> {
         r#"{"write":[0,256]}"#,
         r#"{"write":[0]}"#,
         r#"{"write":{"var":0,"reg":0}}"#,
+        r#""check""#,
+        r#"{"check":null}"#,
+        r#"{"check":0}"#,
+        r#"{"check":["nonneg"]}"#,
+        r#"{"check":{"name":"nonneg"}}"#,
+        r#"{"check":""}"#,
+        r#"{"check":"abcdefghijklmnopq"}"#,
+        r#"{"check":"Nonneg"}"#,
+        r#"{"check":"nonneg2"}"#,
+        r#"{"check":" nonneg"}"#,
+        r#"{"check":"nonneg\u0000"}"#,
+        r#"{"check":"non-neg"}"#,
+        r#"{"check":"\u00e9"}"#,
+        r#"{"Check":"nonneg"}"#,
     ];
     for tx in table {
         let script = with_tx(rt.alloc(), tx)?;
@@ -200,23 +209,6 @@ fn nested_sequences(rt: HostRuntime) -> Result<(), Fail> {
 }
 
 #[test]
-fn numbers_in_their_ranges(rt: HostRuntime) -> Result<(), Fail> {
-    let extremes =
-        r#"{"vars":2,"slots":4,"events":[{"begin":[15,{"seq":[{"put":[15,-9223372036854775808]},{"write":[1,15]},{"put":[0,9223372036854775807]},{"write":[0,0]}]}]},{"turn":15},{"settle":15},"show"]}"#;
-    let lines = "opened 0
-begun
-ended
-committed 0
-state count=1 names= values=9223372036854775807,-9223372036854775808
-";
-    expect_lines(&rt, extremes, lines)?;
-    let register = with_tx(rt.alloc(), r#"{"put":[255,0]}"#)?;
-    expect_lines(&rt, register.as_str(), "opened 0\nfault 12 badplan 5\n")?;
-    let variable = with_tx(rt.alloc(), r#"{"write":[65535,0]}"#)?;
-    expect_lines(&rt, variable.as_str(), "opened 0\nfault 12 badplan 6\n")
-}
-
-#[test]
 fn variables_and_slots_out_of_limits(rt: HostRuntime) -> Result<(), Fail> {
     for (vars, slots) in [(0, 4), (1025, 4), (4, 0), (4, 1), (4, 65), (65535, 65535)] {
         let script = format!(in rt.alloc();
@@ -230,18 +222,4 @@ fn variables_and_slots_out_of_limits(rt: HostRuntime) -> Result<(), Fail> {
         expect_lines(&rt, script.as_str(), "opened 0\n")?;
     }
     Ok(())
-}
-
-#[test]
-fn empty_attempt_slots_are_idle(rt: HostRuntime) -> Result<(), Fail> {
-    let script = r#"{"vars":4,"slots":4,"events":[{"turn":3},{"settle":3},"look","flush"]}"#;
-    expect_lines(&rt, script, "opened 0\nidle\nidle\nlook 0\ndurable 0\n")
-}
-
-#[test]
-fn a_transaction_with_no_effect_is_seen(rt: HostRuntime) -> Result<(), Fail> {
-    let script =
-        r#"{"vars":4,"slots":4,"events":[{"begin":[0,{"seq":["skip",{"put":[3,-7]}]}]},{"turn":0},{"settle":0},{"settle":0}]}"#;
-    let lines = "opened 0\nbegun\nended\nseen 0 0,0,0,-7,0,0,0,0,0,0,0,0,0,0,0,0\nidle\n";
-    expect_lines(&rt, script, lines)
 }

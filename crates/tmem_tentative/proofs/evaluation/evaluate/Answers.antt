@@ -5,7 +5,7 @@ use Rattle.tmem_tentative.specs.Eval.{Goes, Needs, Retries, Aborts}
 use Rattle.tmem_tentative.specs.Logs.{state_of}
 use Rattle.tmem_tentative.specs.declared.attempt.Ending.TheVariants.{Normal}
 use Rattle.tmem_tentative.proofs.Ends.{right_need, right_normal, right_retry, right_abort}
-use Rattle.tmem_tentative.proofs.Limited.{IsSomeEval, effect_fits, need_lacks, need_within, writes_within, reads_within, retry_within, abort_within, blank_within}
+use Rattle.tmem_tentative.proofs.Limited.{IsSomeEval, effect_fits, need_lacks, need_within, writes_within, reads_within, retry_within, abort_within, blank_within, names_known, blank_named}
 use Rattle.tmem_tentative.proofs.evaluation.evaluate.Goals as goal
 
 pub returns-in-Normal-clause-right : goal.returns-in-Normal-clause-right
@@ -34,7 +34,7 @@ returns-in-Abort-clause-right g c = λ m stated.
 pub returns-in-Normal-clause-fits : goal.returns-in-Normal-clause-fits
 returns-in-Normal-clause-fits g c =
     let some : IsSomeEval c.args.reads.now.entries c.args.plan.now (Goes (state_of c.walk.new.log)) = ∥∥₁_map (g.met.S.StoredSteps.has_meanings c.args.steps.now) (λ p. (p.0, simp (c.in-Normal.is, is_no_effect _ c.in_ok-new.ensures, c.new-2.ensures.empty, c.tree.ensures.tree) at (c.in_ok-flow.ensures.flow p.0 p.1))) in
-    (effect_fits c.args.reads.now.entries c.args.plan.now (state_of c.walk.new.log) some c.tree.ensures.limits.writes, tt)
+    (effect_fits c.args.reads.now.entries c.args.plan.now (state_of c.walk.new.log) some c.tree.ensures.limits.writes c.tree.ensures.limits.checks, tt)
 
 pub returns-in-Normal-clause-within : goal.returns-in-Normal-clause-within
 returns-in-Normal-clause-within g c = λ vars fits.
@@ -62,3 +62,15 @@ returns-in-Abort-clause-within g c = λ vars fits.
     let some : IsSomeEval c.args.reads.now.entries c.args.plan.now (Aborts c.in-Abort.code c.walk.new.log.reads.entries) = ∥∥₁_map (g.met.S.StoredSteps.has_meanings c.args.steps.now) (λ p. (p.0, simp (c.in-Abort.is, is_no_effect _ c.in_ok-new.ensures, c.new-2.ensures.empty, c.tree.ensures.tree) at (c.in_ok-flow.ensures.flow p.0 p.1))) in
     let d = c.without_effect-in-Abort.ensures in
     blank_within vars c.without_effect-in-Abort.result _ (ap (λ r. r.entries) d.reads) d.blank.effect (abort_within c.args.reads.now.entries c.args.plan.now c.in-Abort.code _ some vars fits)
+
+pub returns-in-Normal-clause-named : goal.returns-in-Normal-clause-named
+returns-in-Normal-clause-named g c = λ names fits.
+    let some : IsSomeEval c.args.reads.now.entries c.args.plan.now (Goes (state_of c.walk.new.log)) = ∥∥₁_map (g.met.S.StoredSteps.has_meanings c.args.steps.now) (λ p. (p.0, simp (c.in-Normal.is, is_no_effect _ c.in_ok-new.ensures, c.new-2.ensures.empty, c.tree.ensures.tree) at (c.in_ok-flow.ensures.flow p.0 p.1))) in
+    names_known c.args.reads.now.entries c.args.plan.now (state_of c.walk.new.log) some names fits
+
+pub returns-in-Retry-clause-named : goal.returns-in-Retry-clause-named
+returns-in-Retry-clause-named g c = λ names fits. blank_named names c.without_effect.result c.without_effect.ensures.blank.effect
+
+pub returns-in-Abort-clause-named : goal.returns-in-Abort-clause-named
+returns-in-Abort-clause-named g c = λ names fits.
+    blank_named names c.without_effect-in-Abort.result c.without_effect-in-Abort.ensures.blank.effect

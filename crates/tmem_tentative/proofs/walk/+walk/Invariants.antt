@@ -1,6 +1,6 @@
 use Rattle.std.proofs.Common.{◌≡◌, ◌+◌, ◌≤◌, drop, length}
 use Rattle.tmem_tree.specs.Answers.{Meanings}
-use Rattle.tmem_tree.specs.Limits.{count, count_in, is_write, has_bad_register, has_bad_step, has_bad_arguments}
+use Rattle.tmem_tree.specs.Limits.{count, count_in, is_write, is_check, has_bad_register, has_bad_step, has_bad_arguments}
 use Rattle.tmem_tentative.specs.Eval.{eval}
 use Rattle.tmem_tentative.specs.Logs.{state_of}
 use Rattle.tmem_tentative.proofs.Rows.{eval_in}
@@ -15,3 +15,4 @@ invariant-loop-t g l =
     × (count_in (has_bad_arguments arities) rest ≡ 0)
     × ((m : Meanings) → g.S.StoredSteps.is_stated l.steps m → eval m l.reads.entries l.tx (state_of l.initial.log) ≡ eval_in m l.reads.entries rest (state_of l.log))
     × (length l.log.effect.writes + count_in is_write rest ≤ length l.initial.log.effect.writes + count is_write l.tx)
+    × (length l.log.effect.names + count_in is_check rest ≤ length l.initial.log.effect.names + count is_check l.tx)

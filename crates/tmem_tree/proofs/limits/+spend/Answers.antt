@@ -4,4 +4,4 @@ use Rattle.tmem_tree.proofs.Rows.{count-Seq}
 use Rattle.tmem_tree.proofs.limits.+spend.Goals as goal
 
 pub loop-t-init : goal.loop-t-init
-loop-t-init g t c = grind (arith, count-Seq (is_counted c.args.cause (g.S.StoredSteps.arities c.args.steps.now) c.args.vars) c.in-Seq.txs)
+loop-t-init g t c = grind (arith, count-Seq (is_counted c.args.cause (g.S.StoredSteps.arities c.args.steps.now) c.args.vars c.args.names.now) c.in-Seq.txs)

@@ -5,5 +5,5 @@ use Rattle.tmem_tree.proofs.limits.+spend.Given as goal
 
 abbrev pub invariant-loop-t : goal.invariant-loop-t
 invariant-loop-t g l =
-    let test = is_counted l.cause (g.S.StoredSteps.arities l.steps) l.vars in
+    let test = is_counted l.cause (g.S.StoredSteps.arities l.steps) l.vars l.names in
     l.left + count test l.tx ≡ l.budget + count_in test (drop l.t-index l.t-items)

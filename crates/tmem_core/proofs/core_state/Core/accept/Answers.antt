@@ -1,17 +1,20 @@
-use Rattle.std.proofs.Common.{length}
+use Rattle.std.proofs.Common.{length, sym, subst, ◌∙◌}
 use Rattle.std.proofs.lemmas.List.Elements.{All-push}
+use Rattle.tmem_record.specs.State.{State}
 use Rattle.tmem_record.proofs.Folding.{length-values-apply}
+use Rattle.tmem_invariants.specs.Meanings.{AllHold}
 use Rattle.tmem_core.specs.Accepted.{IsAccepted}
+use Rattle.tmem_core.proofs.Known.{AreAmong}
 use Rattle.tmem_core.proofs.Folded.{folded-push}
 use Rattle.tmem_core.proofs.Registered.{AreRegistered-with_names}
 use Rattle.tmem_core.proofs.Places.{writes_within, not_empty}
 use Rattle.tmem_core.proofs.core_state.Core.accept.Goals as goal
 
 pub accept-requires-clause-within : goal.accept-requires-clause-within
-accept-requires-clause-within c = writes_within (length c.args.self.now.state.values) c.args.effect.now.writes c.requires.variables
+accept-requires-clause-within g c = writes_within (length c.args.self.now.state.values) c.args.effect.now.writes c.requires.variables
 
 pub invariant_of-self-clause-each : goal.invariant_of-self-clause-each
-invariant_of-self-clause-each c =
+invariant_of-self-clause-each g c =
     let core = c.args.self.now in
     let e = c.args.effect.now in
     let vars = length core.state.values in
@@ -22,13 +25,24 @@ invariant_of-self-clause-each c =
     rw (c.accept.ensures, c.push.ensures, length-values-apply core.state e) (All-push (IsAccepted vars) core.waiting e core.each is)
 
 pub invariant_of-self-clause-registered : goal.invariant_of-self-clause-registered
-invariant_of-self-clause-registered c =
+invariant_of-self-clause-registered g c =
     rw c.accept.ensures (AreRegistered-with_names c.args.self.now.state.names c.args.effect.now.names c.changes.ensures.names.names c.requires.room c.args.self.now.registered)
 
 pub returns-clause-vars : goal.returns-clause-vars
-returns-clause-vars c = rw c.accept.ensures (length-values-apply c.args.self.now.state c.args.effect.now)
+returns-clause-vars g c = rw c.accept.ensures (length-values-apply c.args.self.now.state c.args.effect.now)
 
 pub invariant_of-self-clause-folded : goal.invariant_of-self-clause-folded
-invariant_of-self-clause-folded c =
+invariant_of-self-clause-folded g c =
     let core = c.args.self.now in
     rw (c.accept.ensures, c.push.ensures) (folded-push core.durable core.waiting c.args.effect.now core.state core.folded)
+
+pub invariant_of-self-clause-sized : goal.invariant_of-self-clause-sized
+invariant_of-self-clause-sized g c =
+    let core = c.args.self.now in
+    rw c.accept.ensures (core.sized ∙ sym (length-values-apply core.state c.args.effect.now))
+
+pub invariant_of-self-clause-known : goal.invariant_of-self-clause-known
+invariant_of-self-clause-known g c = subst (λ (s : State). AreAmong (g.T.Tests.names c.args.self.now.table) s.names) (sym c.accept.ensures) c.requires.known
+
+pub invariant_of-self-clause-sound : goal.invariant_of-self-clause-sound
+invariant_of-self-clause-sound g c = λ m stated. subst (λ (s : State). AllHold m s.names s.values) (sym c.accept.ensures) (c.requires.sound m stated)

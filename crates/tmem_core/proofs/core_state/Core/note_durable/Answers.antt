@@ -5,7 +5,7 @@ use Rattle.tmem_core.proofs.Folded.{folded-drop}
 use Rattle.tmem_core.proofs.core_state.Core.note_durable.Goals as goal
 
 pub invariant_of-self-clause-folded : goal.invariant_of-self-clause-folded
-invariant_of-self-clause-folded c =
+invariant_of-self-clause-folded g c =
     let core = c.args.self.now in
     let k = c.args.number - core.durable in
     let same : core.durable + k ≡ c.args.number = omega (arith, c.requires.known) in
@@ -13,6 +13,6 @@ invariant_of-self-clause-folded c =
     (folded-drop core.durable k core.waiting core.state (omega (arith, core.counted, c.requires.accepted)) core.folded))
 
 pub invariant_of-self-clause-each : goal.invariant_of-self-clause-each
-invariant_of-self-clause-each c =
+invariant_of-self-clause-each g c =
     let core = c.args.self.now in
     rw c.drop_oldest.ensures (All-drop (IsAccepted (length core.state.values)) (c.args.number - core.durable) core.waiting core.each)

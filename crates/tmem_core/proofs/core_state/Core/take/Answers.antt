@@ -4,7 +4,7 @@ use Rattle.tmem_core.proofs.Places.{take_one, All-there, record_fits}
 use Rattle.tmem_core.proofs.core_state.Core.take.Goals as goal
 
 pub returns-then-from-count : goal.returns-then-from-count
-returns-then-from-count c =
+returns-then-from-count g c =
     let core = c.args.self.now in
     let e = c.get-effect.result.now in
     let is = All-there (IsAccepted _) core.waiting (c.args.from - core.durable) e core.each c.get-effect.ensures in

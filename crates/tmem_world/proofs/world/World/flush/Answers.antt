@@ -13,14 +13,14 @@ doubtful_after-self-requires g c = λ unknown.
     omega (arith, known.is, c.in-Err.ensures.number unknown)
 
 pub returns-in-Ok-clause-step : goal.returns-in-Ok-clause-step
-returns-in-Ok-clause-step g c = λ steps stated m r keeps.
-    let done = flushes steps _ _ m c.in-Some.session c.flush.new.self r c.in-Some.is refl refl refl c.flush.ensures.state (Ok c.in-Ok.durable) c.in-Ok.ensures.uses c.in-Ok.ensures.durable refl refl c.in-Ok.ensures.flushed in
-    (done.0, in_session steps c.args.self.now.session m _ _ _ r.session (ap is_none c.in-Some.is) done.1, done.2)
+returns-in-Ok-clause-step g c = λ program stated m r keeps.
+    let done = flushes program _ _ m c.in-Some.session c.flush.new.self r c.in-Some.is refl refl refl c.flush.ensures.state (Ok c.in-Ok.durable) c.in-Ok.ensures.uses c.in-Ok.ensures.durable refl refl c.in-Ok.ensures.flushed in
+    (done.0, in_session program c.args.self.now.session m _ _ _ r.session (ap is_none c.in-Some.is) done.1, done.2)
 
 pub returns-in-Err-clause-step : goal.returns-in-Err-clause-step
-returns-in-Err-clause-step g c = λ steps stated m r keeps.
-    let done = flushes steps _ _ m c.in-Some.session c.flush.new.self r c.in-Some.is refl refl refl c.flush.ensures.state (Err c.in-Err.fault) c.in-Err.ensures.uses c.in-Err.ensures.durable refl c.doubtful_after-self.ensures c.in-Err.ensures.flushed in
-    (done.0, in_session steps c.args.self.now.session m _ _ _ r.session (ap is_none c.in-Some.is) done.1, done.2)
+returns-in-Err-clause-step g c = λ program stated m r keeps.
+    let done = flushes program _ _ m c.in-Some.session c.flush.new.self r c.in-Some.is refl refl refl c.flush.ensures.state (Err c.in-Err.fault) c.in-Err.ensures.uses c.in-Err.ensures.durable refl c.doubtful_after-self.ensures c.in-Err.ensures.flushed in
+    (done.0, in_session program c.args.self.now.session m _ _ _ r.session (ap is_none c.in-Some.is) done.1, done.2)
 
 pub returns-in-Ok-clause-still : goal.returns-in-Ok-clause-still
 returns-in-Ok-clause-still g c = λ none.

@@ -1,6 +1,8 @@
-use Rattle.std.proofs.Common.{refl, ◌∙◌}
-use Rattle.tmem_core.specs.Held.{state_of}
+use Rattle.std.proofs.Common.{refl, sym, ◌∙◌, ap, subst, Some}
+use Rattle.tmem_invariants.specs.Meanings.{IsSound}
+use Rattle.tmem_core.specs.Held.{state_of, table_of}
 use Rattle.tmem_world.proofs.Opened.{opens, why_also}
+use Rattle.tmem_world.proofs.Tables.{core_means}
 use Rattle.tmem_world.proofs.world.World.open.Goals as goal
 
 pub returns-in-Ok-find-clause-found : goal.returns-in-Ok-find-clause-found
@@ -9,7 +11,12 @@ returns-in-Ok-find-clause-found g c =
     let so = c.in-Ok-find.ensures in (
       state_of s.core,
       s.used,
-      λ steps. opens steps _ s (g.D.Disk.view c.args.disk).failures (g.D.Disk.view c.args.disk).seen refl (c.durable-durable.ensures ∙ so.fresh.1) (c.durable-durable.ensures ∙ so.fresh.1) so.fresh.0 so.fresh.1 so.fresh.2 c.in-Ok-empty_slots.ensures.len c.in-Ok-empty_slots.ensures.emptied so.uses.failures so.found so.seen so.synced,
+      λ program means.
+          let here = core_means program _ s refl means in
+          let tests = subst (λ x. g.T.Tests.is_stated x program.tests) so.table here.stated in
+          let names = here.names ∙ ap g.T.Tests.names so.table in
+          opens program _ s (g.D.Disk.view c.args.disk).failures (g.D.Disk.view c.args.disk).seen refl (c.durable-durable.ensures ∙ so.fresh.1) (c.durable-durable.ensures ∙ so.fresh.1) so.fresh.0 so.fresh.1 so.fresh.2 c.in-Ok-empty_slots.ensures.len c.in-Ok-empty_slots.ensures.emptied so.uses.failures so.found so.seen so.synced
+          (subst (λ ns. IsSound program.tests ns (state_of s.core).names (state_of s.core).values) (sym names) (so.sound program.tests tests)),
       λ k. rw (← c.in-Ok.ensures.vars, ← c.in-Ok.ensures.slots) (so.found k),
     )
 
@@ -18,7 +25,8 @@ returns-in-Err-find-clause-refused g c =
     let so = c.in-Err-find.ensures in
     record {
       uses = record { capacity = so.uses.capacity; model = so.uses.model; failures = so.uses.failures };
-      why = why_also _ _ c.in-Err-find.fault (λ none k fits used s stands. none k used s (rw (c.in-Ok.ensures.vars, c.in-Ok.ensures.slots) stands)) so.refused;
+      why = why_also _ _ _ _ c.in-Err-find.refused.0 (λ none k fits used s stands. none k used s (rw (c.in-Ok.ensures.vars, c.in-Ok.ensures.slots) stands))
+          (λ un. (un.0, un.1, (λ k. rw (← c.in-Ok.ensures.vars, ← c.in-Ok.ensures.slots) (un.2 k)), λ p names stated. (un.3 p names stated).0)) so.refused;
       seen = c.find.ensures.seen;
       stop = c.find.ensures.stop;
     }

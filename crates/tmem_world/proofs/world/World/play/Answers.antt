@@ -11,6 +11,7 @@ use Rattle.tmem_world.specs.declared.event.Event.TheVariants as event
 use Rattle.tmem_world.proofs.Acknowledged.{keeps, acknowledged-append}
 use Rattle.tmem_world.proofs.Runs.{run-append}
 use Rattle.tmem_world.proofs.Still.{failures-append}
+use Rattle.tmem_world.proofs.Tables.{means_stay}
 use Rattle.tmem_world.proofs.world.World.play.Goals as goal
 
 -- under the premise each event rests on it
@@ -35,21 +36,22 @@ loop-event-preserved g c =
     record {
       layout = c.step-reply.ensures.numbers ∙ so.layout;
       steps = c.step-reply.ensures.steps ∙ so.steps;
+      table = c.step-reply.ensures.table ∙ so.table;
       model = λ k. so.model (c.step-reply.ensures.model k);
       failures = c.step-reply.ensures.failures ∙ ap (failures_by c.step-reply.result) so.failures ∙ sym (failures-append c.loop-event.replies.items c.step-reply.result (g.D.Disk.view c.args.self.now.disk).failures) ∙ ap (λ (rs : List Reply). failures_by_all rs (g.D.Disk.view c.args.self.now.disk).failures) (sym pushed);
       parts = parts;
       long = grind (arith, common_steps, one);
       room = omega (arith, so.room, c.push.ensures.capacity);
-      run = λ steps stated m r k.
-          let before = so.run steps stated m r (c.step-reply.ensures.model k) in
-          let now = c.step-reply.ensures.step steps (subst (λ x. g.S.StoredSteps.is_stated x steps) (sym so.steps) stated) before.0 before.2 (rests _ c.in-Some.event k) in
-          let kept = keeps (setting_of c.loop-event.self steps) before.0 c.in-Some.event c.step-reply.result now.0 before.2.numbers.durable now.1 in
-          let same : setting_of c.loop-event.self steps ≡ setting_of c.args.self.now steps =
-          ap (λ (l : Layout). record { vars = l.vars; arities = g.S.StoredSteps.arities c.loop-event.self.steps; steps = steps }) so.layout ∙ ap (λ x. record { vars = c.args.self.now.layout.vars; arities = g.S.StoredSteps.arities x; steps = steps }) so.steps in
+      run = λ program stated m r k.
+          let before = so.run program stated m r (c.step-reply.ensures.model k) in
+          let now = c.step-reply.ensures.step program (means_stay program c.args.self.now c.loop-event.self so.steps so.table stated) before.0 before.2 (rests _ c.in-Some.event k) in
+          let kept = keeps (setting_of c.loop-event.self program) before.0 c.in-Some.event c.step-reply.result now.0 before.2.numbers.durable now.1 in
+          let same : setting_of c.loop-event.self program ≡ setting_of c.args.self.now program =
+          ap (λ (l : Layout). record { vars = l.vars; arities = g.S.StoredSteps.arities c.loop-event.self.steps; program = program }) so.layout ∙ ap (λ x. record { vars = c.args.self.now.layout.vars; arities = g.S.StoredSteps.arities x; program = program }) so.steps in
           let allowed = subst (λ (t : Setting). Allows t before.0 c.in-Some.event c.step-reply.result now.0) same now.1 in (
             now.0,
-            subst (λ (rs : List Reply). Run (setting_of c.args.self.now steps) m (c.loop-event.yielded ++ c.in-Some.event ∷ []) rs now.0) (sym pushed)
-                (run-append (setting_of c.args.self.now steps) c.loop-event.yielded c.loop-event.replies.items c.in-Some.event c.step-reply.result m before.0 now.0 before.1 allowed),
+            subst (λ (rs : List Reply). Run (setting_of c.args.self.now program) m (c.loop-event.yielded ++ c.in-Some.event ∷ []) rs now.0) (sym pushed)
+                (run-append (setting_of c.args.self.now program) c.loop-event.yielded c.loop-event.replies.items c.in-Some.event c.step-reply.result m before.0 now.0 before.1 allowed),
             now.2,
             omega (arith, before.3, kept.durable),
             λ number is. ⊎_elim (λ among. let below = before.4 number among in omega (arith, below, kept.durable)) (λ last. omega (arith, last, kept.acknowledged))

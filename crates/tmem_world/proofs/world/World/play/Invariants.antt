@@ -1,19 +1,20 @@
 use Rattle.std.proofs.Common.{◌≡◌, ℕ, ◌<◌, ◌≤◌, ◌++◌, length}
 use Rattle.std.specs.Vec.{vec_capacity, vec_len}
-use Rattle.tmem_tree.specs.Answers.{Meanings}
+use Rattle.tmem_core.specs.Program.{Program}
 use Rattle.tmem_world.specs.WorldModel.{WorldModel, Run}
 use Rattle.tmem_world.specs.Replies.{failures_by_all, IsAcknowledged}
-use Rattle.tmem_world.specs.Represents.{Represents, setting_of}
+use Rattle.tmem_world.specs.Represents.{Represents, Means, setting_of, held_table}
 use Rattle.tmem_world.proofs.world.World.play.Given as goal
 
 abbrev pub invariant-loop-event : goal.invariant-loop-event
 invariant-loop-event g l = record {
   layout : l.self.layout ≡ l.fn.self.layout;
   steps : l.self.steps ≡ l.fn.self.steps;
+  table : held_table l.self ≡ held_table l.fn.self;
   model : (g.D.Disk.view l.self.disk).keeps_model → (g.D.Disk.view l.fn.self.disk).keeps_model;
   failures : (g.D.Disk.view l.self.disk).failures ≡ failures_by_all l.replies.items (g.D.Disk.view l.fn.self.disk).failures;
   parts : l.yielded ++ l.event-iterator.rest.items ≡ l.fn.events.items;
   long : vec_len l.replies ≡ length l.yielded;
   room : length l.fn.events.items ≤ vec_capacity l.replies;
-  run : (steps : Meanings) → g.S.StoredSteps.is_stated l.fn.self.steps steps → (m : WorldModel) → Represents steps l.fn.self m → (g.D.Disk.view l.self.disk).keeps_model → (m' : WorldModel) × Run (setting_of l.fn.self steps) m l.yielded l.replies.items m' × Represents steps l.self m' × (m.durable ≤ m'.durable) × ((number : ℕ) → IsAcknowledged l.replies.items number → number < m'.durable);
+  run : (program : Program) → Means l.fn.self program → (m : WorldModel) → Represents program l.fn.self m → (g.D.Disk.view l.self.disk).keeps_model → (m' : WorldModel) × Run (setting_of l.fn.self program) m l.yielded l.replies.items m' × Represents program l.self m' × (m.durable ≤ m'.durable) × ((number : ℕ) → IsAcknowledged l.replies.items number → number < m'.durable);
 }

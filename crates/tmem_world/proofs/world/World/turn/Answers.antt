@@ -9,89 +9,89 @@ use Rattle.tmem_world.proofs.Points.{in_session, with_slot, slot_holds, at_place
 use Rattle.tmem_world.proofs.world.World.turn.Goals as goal
 
 pub returns-in-Empty-clause-step : goal.returns-in-Empty-clause-step
-returns-in-Empty-clause-step g c = λ steps stated m r keeps.
+returns-in-Empty-clause-step g c = λ program stated m r keeps.
     let below : c.args.slot < length c.args.self.now.slots.items = omega (arith, c.args.self.now.sized) in
-    let holds = slot_holds steps _ m c.args.slot c.index.result.now r below c.index.ensures in (
+    let holds = slot_holds program _ m c.args.slot c.index.result.now r below c.index.ensures in (
       m,
-      in_session steps c.args.self.now.session m _ _ _ r.session (search rules) (turns_idle steps _ _ m c.args.slot holds c.in-Empty.is),
+      in_session program c.args.self.now.session m _ _ _ r.session (search rules) (turns_idle program _ _ m c.args.slot holds c.in-Empty.is),
       record { numbers = r.numbers; slots = r.slots; session = r.session; durable = r.durable; doubtful = r.doubtful; failures = r.failures; device = r.device },
     )
 
 pub returns-in-Ended-clause-step : goal.returns-in-Ended-clause-step
-returns-in-Ended-clause-step g c = λ steps stated m r keeps.
+returns-in-Ended-clause-step g c = λ program stated m r keeps.
     let below : c.args.slot < length c.args.self.now.slots.items = omega (arith, c.args.self.now.sized) in
-    let holds = slot_holds steps _ m c.args.slot c.index.result.now r below c.index.ensures in (
+    let holds = slot_holds program _ m c.args.slot c.index.result.now r below c.index.ensures in (
       m,
-      in_session steps c.args.self.now.session m _ _ _ r.session (search rules) (turns_ended steps _ _ m c.args.slot _ holds c.in-Ended.is),
+      in_session program c.args.self.now.session m _ _ _ r.session (search rules) (turns_ended program _ _ m c.args.slot _ holds c.in-Ended.is),
       record { numbers = r.numbers; slots = r.slots; session = r.session; durable = r.durable; doubtful = r.doubtful; failures = r.failures; device = r.device },
     )
 
 pub value-value-requires-clause-var : goal.value-value-requires-clause-var
 value-value-requires-clause-var g c =
     let w = c.args.self.now in
-    let fits : FitsSlot w.layout.vars (g.S.StoredSteps.arities w.steps) (slot.Begun c.in-Begun.plan c.in-Begun.reads) =
-    subst (FitsSlot w.layout.vars (g.S.StoredSteps.arities w.steps)) (sym c.index.ensures ∙ c.in-Begun.is) (w.fit c.args.slot c.index.result.now (omega (arith, w.sized))) in
+    let fits : FitsSlot w.layout.vars (g.S.StoredSteps.arities w.steps) w.names.items (slot.Begun c.in-Begun.plan c.in-Begun.reads) =
+    subst (FitsSlot w.layout.vars (g.S.StoredSteps.arities w.steps) w.names.items) (sym c.index.ensures ∙ c.in-Begun.is) (w.fit c.args.slot c.index.result.now (omega (arith, w.sized))) in
     rw (c.in-Ok-Need.is, c.in-Ok-Need.field-0-is) at (c.evaluate-outcome.ensures.within w.layout.vars fits.0)
 
 pub invariant_of-self-in-Ok-Ended-clause-fit : goal.invariant_of-self-in-Ok-Ended-clause-fit
 invariant_of-self-in-Ok-Ended-clause-fit g c =
     let w = c.args.self.now in
     let arities = g.S.StoredSteps.arities w.steps in
-    let fits : FitsSlot w.layout.vars arities (slot.Begun c.in-Begun.plan c.in-Begun.reads) =
-    subst (FitsSlot w.layout.vars arities) (sym c.index.ensures ∙ c.in-Begun.is) (w.fit c.args.slot c.index.result.now (omega (arith, w.sized))) in
+    let fits : FitsSlot w.layout.vars arities w.names.items (slot.Begun c.in-Begun.plan c.in-Begun.reads) =
+    subst (FitsSlot w.layout.vars arities w.names.items) (sym c.index.ensures ∙ c.in-Begun.is) (w.fit c.args.slot c.index.result.now (omega (arith, w.sized))) in
     let within = rw (c.in-Ok-Ended.is, c.in-Ok-Ended.field-0-is) at (c.evaluate-outcome.ensures.within w.layout.vars fits.0) in
-    let effect = rw (c.in-Ok-Ended.is, c.in-Ok-Ended.field-0-is) at c.evaluate-outcome.ensures.fits in
-    All-set (FitsSlot w.layout.vars arities) w.slots.items c.args.slot (slot.Ended c.in-Ok-Ended.attempt) (within, effect.0.no_names) w.fit
+    let named = rw (c.in-Ok-Ended.is, c.in-Ok-Ended.field-0-is) at (c.evaluate-outcome.ensures.named w.names.items fits.2) in
+    All-set (FitsSlot w.layout.vars arities w.names.items) w.slots.items c.args.slot (slot.Ended c.in-Ok-Ended.attempt) (within, named) w.fit
 
 pub returns-in-Ok-clause-step : goal.returns-in-Ok-clause-step
-returns-in-Ok-clause-step g c = λ steps stated m r keeps.
+returns-in-Ok-clause-step g c = λ program stated m r keeps.
     let w = c.args.self.now in
     let n = to_z w64 (of_z w64 c.value-value.result) in
     let fits : FitsSigned w64 c.value-value.result = search rules in
     let below : c.args.slot < length w.slots.items = omega (arith, w.sized) in
-    let holds = slot_holds steps _ m c.args.slot c.index.result.now r below c.index.ensures in
-    let value = to_z-of_z w64 c.value-value.result fits ∙ c.value-value.ensures steps m (record { numbers = r.numbers; slots = r.slots; session = r.session; durable = r.durable; doubtful = r.doubtful; failures = r.failures; device = r.device }) in
-    let right = rw (c.in-Ok-Need.is, c.in-Ok-Need.field-0-is) at (c.evaluate-outcome.ensures.right steps stated) in
+    let holds = slot_holds program _ m c.args.slot c.index.result.now r below c.index.ensures in
+    let value = to_z-of_z w64 c.value-value.result fits ∙ c.value-value.ensures program m (record { numbers = r.numbers; slots = r.slots; session = r.session; durable = r.durable; doubtful = r.doubtful; failures = r.failures; device = r.device }) in
+    let right = rw (c.in-Ok-Need.is, c.in-Ok-Need.field-0-is) at (c.evaluate-outcome.ensures.right program.steps stated.steps) in
     let lacks = rw (c.in-Ok-Need.is, c.in-Ok-Need.field-0-is) at c.evaluate-outcome.ensures.fits in
     let same : c.index_mut.result.now ≡ slot.Begun c.in-Begun.plan c.in-Begun.reads =
     c.index_mut.ensures.value ∙ at_place w.slots.items c.args.slot c.index_mut.result.now c.index.result.now below ∙ sym c.index.ensures ∙ c.in-Begun.is in
     let joins : Joins (slot.Begun c.in-Begun.plan c.in-Begun.reads) c.in-Ok-Need.var n c.join.new.slot = subst (λ (x : Slot). Joins x c.in-Ok-Need.var n c.join.new.slot) same c.in-Ok.ensures.joins in (
       with_attempt m c.args.slot (Begun c.in-Begun.plan (c.in-Begun.reads.entries ++ (c.in-Ok-Need.var, n) ∷ [])),
-      in_session steps w.session m _ _ _ r.session (search rules) (turns_read steps m c.args.slot c.index.result.now c.in-Begun.plan c.in-Begun.reads c.in-Ok-Need.var n holds c.in-Begun.is right value),
-      with_slot steps w _ m c.args.slot c.join.new.slot _ r (joined steps c.in-Begun.plan c.in-Begun.reads c.in-Ok-Need.var n c.join.new.slot lacks joins) refl refl refl refl refl refl,
+      in_session program w.session m _ _ _ r.session (search rules) (turns_read program m c.args.slot c.index.result.now c.in-Begun.plan c.in-Begun.reads c.in-Ok-Need.var n holds c.in-Begun.is right value),
+      with_slot program w _ m c.args.slot c.join.new.slot _ r (joined program c.in-Begun.plan c.in-Begun.reads c.in-Ok-Need.var n c.join.new.slot lacks joins) refl refl refl refl refl refl,
     )
 
 pub returns-in-Err-join-clause-step : goal.returns-in-Err-join-clause-step
-returns-in-Err-join-clause-step g c = λ steps stated m r keeps.
+returns-in-Err-join-clause-step g c = λ program stated m r keeps.
     let w = c.args.self.now in
     let below : c.args.slot < length w.slots.items = omega (arith, w.sized) in
-    let holds = slot_holds steps _ m c.args.slot c.index.result.now r below c.index.ensures in
+    let holds = slot_holds program _ m c.args.slot c.index.result.now r below c.index.ensures in
     let same : c.index.result.now ≡ c.index_mut.result.now =
     c.index.ensures ∙ at_place w.slots.items c.args.slot c.index.result.now c.index_mut.result.now below ∙ sym c.index_mut.ensures.value in
     let keeps : Keeps c.index.result.now c.join.new.slot = subst (λ (x : Slot). Keeps x c.join.new.slot) (sym same) c.in-Err-join.ensures.keeps.1 in (
       with_attempt m c.args.slot (attempt_at m c.args.slot),
-      rw (same_attempt m c.args.slot) (rw c.in-Err-join.ensures.keeps.0 (in_session steps w.session m _ _ _ r.session (search rules) (turns_short steps m c.args.slot (attempt_at m c.args.slot) c.in-Begun.plan c.in-Begun.reads.entries (is_begun steps c.index.result.now _ c.in-Begun.plan c.in-Begun.reads holds c.in-Begun.is)))),
-      with_slot steps w _ m c.args.slot c.join.new.slot _ r (kept steps c.index.result.now c.join.new.slot (attempt_at m c.args.slot) holds keeps) refl refl refl refl refl refl,
+      rw (same_attempt m c.args.slot) (rw c.in-Err-join.ensures.keeps.0 (in_session program w.session m _ _ _ r.session (search rules) (turns_short program m c.args.slot (attempt_at m c.args.slot) c.in-Begun.plan c.in-Begun.reads.entries (is_begun program c.index.result.now _ c.in-Begun.plan c.in-Begun.reads holds c.in-Begun.is)))),
+      with_slot program w _ m c.args.slot c.join.new.slot _ r (kept program c.index.result.now c.join.new.slot (attempt_at m c.args.slot) holds keeps) refl refl refl refl refl refl,
     )
 
 pub returns-in-Ok-Ended-clause-step : goal.returns-in-Ok-Ended-clause-step
-returns-in-Ok-Ended-clause-step g c = λ steps stated m r keeps.
+returns-in-Ok-Ended-clause-step g c = λ program stated m r keeps.
     let w = c.args.self.now in
     let below : c.args.slot < length w.slots.items = omega (arith, w.sized) in
-    let holds = slot_holds steps _ m c.args.slot c.index.result.now r below c.index.ensures in
-    let right = rw (c.in-Ok-Ended.is, c.in-Ok-Ended.field-0-is) at (c.evaluate-outcome.ensures.right steps stated) in
-    let ends = turns_end steps m c.args.slot c.index.result.now c.in-Begun.plan c.in-Begun.reads c.in-Ok-Ended.attempt holds c.in-Begun.is right in (
+    let holds = slot_holds program _ m c.args.slot c.index.result.now r below c.index.ensures in
+    let right = rw (c.in-Ok-Ended.is, c.in-Ok-Ended.field-0-is) at (c.evaluate-outcome.ensures.right program.steps stated.steps) in
+    let ends = turns_end program m c.args.slot c.index.result.now c.in-Begun.plan c.in-Begun.reads c.in-Ok-Ended.attempt holds c.in-Begun.is right in (
       with_attempt m c.args.slot (Ended c.in-Begun.plan c.in-Ok-Ended.attempt.reads.entries),
-      in_session steps w.session m _ _ _ r.session (search rules) ends.0,
-      with_slot steps w _ m c.args.slot (slot.Ended c.in-Ok-Ended.attempt) _ r (ends.1, refl) refl refl refl refl refl refl,
+      in_session program w.session m _ _ _ r.session (search rules) ends.0,
+      with_slot program w _ m c.args.slot (slot.Ended c.in-Ok-Ended.attempt) _ r (ends.1, refl) refl refl refl refl refl refl,
     )
 
 pub returns-in-Err-clause-step : goal.returns-in-Err-clause-step
-returns-in-Err-clause-step g c = λ steps stated m r keeps.
+returns-in-Err-clause-step g c = λ program stated m r keeps.
     let w = c.args.self.now in
     let below : c.args.slot < length w.slots.items = omega (arith, w.sized) in
-    let holds = slot_holds steps _ m c.args.slot c.index.result.now r below c.index.ensures in (
+    let holds = slot_holds program _ m c.args.slot c.index.result.now r below c.index.ensures in (
       m,
-      rw c.in-Err.ensures.fault (in_session steps w.session m _ _ _ r.session (search rules) (turns_short steps m c.args.slot (attempt_at m c.args.slot) c.in-Begun.plan c.in-Begun.reads.entries (is_begun steps c.index.result.now _ c.in-Begun.plan c.in-Begun.reads holds c.in-Begun.is))),
+      rw c.in-Err.ensures.fault (in_session program w.session m _ _ _ r.session (search rules) (turns_short program m c.args.slot (attempt_at m c.args.slot) c.in-Begun.plan c.in-Begun.reads.entries (is_begun program c.index.result.now _ c.in-Begun.plan c.in-Begun.reads holds c.in-Begun.is))),
       record { numbers = r.numbers; slots = r.slots; session = r.session; durable = r.durable; doubtful = r.doubtful; failures = r.failures; device = r.device },
     )

@@ -1,0 +1,108 @@
+//! The bytes of records, and what spells no batch.
+use std::alloc::Global;
+use std::process::Abort;
+use std::test::Fail;
+use tmem_disk::Name;
+use tmem_record::{BATCH_ROOM, Batch, Effect, MAX_CHECKS, MAX_WRITES, decode_batch, encode_batch};
+
+// An effect of these writes and names.
+fn effect_of(alloc: Global, writes: &[(u16, i64)], names: &[&str]) -> Result<Effect, Fail> {
+    let mut effect = Effect::new(alloc)?;
+    for write in writes {
+        if effect.writes.has(write.0) || effect.writes.len() < MAX_WRITES {
+            effect.writes.put(write.0, write.1);
+        }
+    }
+    for text in names {
+        let name = Name::new(text)?;
+        if effect.names.has(&name) || effect.names.len() < MAX_CHECKS {
+            effect.names.put(&name);
+        }
+    }
+    Ok(effect)
+}
+
+// The head of a batch of generation 1, with number 0 and one record, and these bytes behind it.
+fn behind_head(alloc: Global, record: &[u8]) -> Result<Vec<u8>, Fail> {
+    let mut bytes = vec![in alloc; 1, 0, 0, 0, 0, 0, 0, 0, 0, 0, 0, 0, 0, 0, 0, 0, 1, 0]?;
+    bytes.extend_from_slice(record)?;
+    Ok(bytes)
+}
+
+// Spells a batch of one record, compares its bytes, and reads it again.
+fn has_bytes(rt: &impl Abort, alloc: Global, effect: &Effect, record: &[u8]) -> Result<(), Fail> {
+    let mut batch = Batch::new(alloc)?;
+    if effect.is_empty() || !batch.push(effect) || batch.is_empty() {
+        return Err(Fail::from("an empty record"));
+    }
+    let mut buffer = [0xee; BATCH_ROOM];
+    let length = encode_batch(&batch, 1, 0, &mut buffer);
+    let wanted = behind_head(alloc, record)?;
+    assert_eq!(rt; &buffer[..length], wanted.as_slice());
+    let decoded = decode_batch(alloc, &buffer, 4)?.ok_or("a batch")?;
+    assert_eq!(rt; decoded.length, length);
+    Ok(())
+}
+
+#[test]
+fn a_record_has_these_bytes(rt: HostRuntime) -> Result<(), Fail> {
+    let write = effect_of(rt.alloc(), &[(0, 5)], &[])?;
+    has_bytes(
+        &rt,
+        rt.alloc(),
+        &write,
+        &[1, 0, 0, 5, 0, 0, 0, 0, 0, 0, 0, 0],
+    )?;
+    let check = effect_of(rt.alloc(), &[], &["nonneg"])?;
+    has_bytes(
+        &rt,
+        rt.alloc(),
+        &check,
+        &[0, 1, 6, 0x6e, 0x6f, 0x6e, 0x6e, 0x65, 0x67],
+    )?;
+    let other = effect_of(rt.alloc(), &[(0, 3)], &[])?;
+    has_bytes(
+        &rt,
+        rt.alloc(),
+        &other,
+        &[1, 0, 0, 3, 0, 0, 0, 0, 0, 0, 0, 0],
+    )?;
+    let negative = effect_of(rt.alloc(), &[(3, -1)], &[])?;
+    has_bytes(
+        &rt,
+        rt.alloc(),
+        &negative,
+        &[1, 3, 0, 0xff, 0xff, 0xff, 0xff, 0xff, 0xff, 0xff, 0xff, 0],
+    )
+}
+
+#[test]
+fn what_spells_no_batch_is_read_as_none(rt: HostRuntime) -> Result<(), Fail> {
+    let records: [&[u8]; 6] = [
+        // one byte is missing
+        &[1, 0, 0, 5, 0, 0, 0, 0, 0, 0, 0],
+        // nothing is written and nothing is checked
+        &[0, 0],
+        // a variable stands twice
+        &[
+            2, 0, 0, 5, 0, 0, 0, 0, 0, 0, 0, 0, 0, 5, 0, 0, 0, 0, 0, 0, 0, 0,
+        ],
+        // a variable that is not there
+        &[1, 4, 0, 5, 0, 0, 0, 0, 0, 0, 0, 0],
+        // a name without a letter
+        &[0, 1, 0],
+        // a capital letter
+        &[0, 1, 1, 0x41],
+    ];
+    for record in &records {
+        let bytes = behind_head(rt.alloc(), record)?;
+        assert!(rt; decode_batch(rt.alloc(), &bytes, 4)?.is_none());
+    }
+    let mut bytes = behind_head(rt.alloc(), &[1, 0, 0, 5, 0, 0, 0, 0, 0, 0, 0, 0])?;
+    assert!(rt; decode_batch(rt.alloc(), &bytes, 4)?.is_some());
+    if bytes.len() > 16 {
+        bytes[16] = 0;
+    }
+    assert!(rt; decode_batch(rt.alloc(), &bytes, 4)?.is_none());
+    Ok(())
+}

@@ -1,0 +1,80 @@
+-- Names that are all in a table.
+use Rattle.std.proofs.Common.{◌≡◌, ℕ, ◌≤◌, ◌<◌, ◌||◌, ℤ, Bool, true, false, bytes_eq, List, length, get_or, All, IsTrue, None, refl, sym, ap, ◌∙◌, subst, arith}
+use Rattle.std.specs.Cmp.{IsEquivalence}
+use Rattle.std.specs.Set.{is_member}
+use Rattle.std.proofs.lemmas.Bool.{false_from_ne_true}
+use Rattle.std.proofs.lemmas.List.Folds.{Any-from_list_any, list_any_at}
+use Rattle.std.proofs.lemmas.Map.Keys.{IsDistinct-from_apart}
+use Rattle.std.proofs.lemmas.Map.Made.{length-le_from_is_member}
+use Rattle.std.proofs.lemmas.Slice.Eq.{bytes_eq-Decides}
+use Rattle.tmem_record.specs.Names.{AreAscending, has_name, with_names}
+use Rattle.tmem_record.proofs.Folding.{AreAscending-with_names, has_name-with_names}
+use Rattle.tmem_record.proofs.Naming.{AreDistinct-ascending}
+use Rattle.tmem_invariants.specs.Meanings.{Meanings, AllHold, first_false}
+use Rattle.tmem_invariants.specs.Names.{is_among}
+use Rattle.tmem_invariants.proofs.Sound.{All-at_name, Contains-from_is_among, IsSound-from_none}
+
+-- each of these names is among others
+abbrev pub AreAmong : List (List ℕ) → List (List ℕ) → Type 0
+AreAmong names ns = All (λ name. IsTrue (is_among names name)) ns
+
+bool_same : (a b : Bool) → (a ≡ true → b ≡ true) → (b ≡ true → a ≡ true) → a ≡ b
+bool_same true b there back = sym (there refl)
+bool_same false true there back = back refl
+bool_same false false there back = refl
+
+bytes_eq_laws : IsEquivalence bytes_eq
+bytes_eq_laws = record {
+  refl = λ x. (bytes_eq-Decides x x).1 refl;
+  symm = λ x y. bool_same (bytes_eq x y) (bytes_eq y x) (λ is. (bytes_eq-Decides y x).1 (sym ((bytes_eq-Decides x y).0 is))) (λ is. (bytes_eq-Decides x y).1 (sym ((bytes_eq-Decides y x).0 is)));
+  congr = λ x y z is. ap (λ w. bytes_eq w z) ((bytes_eq-Decides x y).0 is);
+}
+
+-- ascending names that are all among others are no more than those
+pub few-AreAmong : (names ns : List (List ℕ)) → AreAscending ns → AreAmong names ns → length ns ≤ length names
+few-AreAmong names ns up among =
+    length-le_from_is_member bytes_eq_laws ns names (IsDistinct-from_apart bytes_eq ns apart) member
+  where
+    apart : (i j : ℕ) (d : List ℕ) → i < j → j < length ns → bytes_eq (get_or ns i d) (get_or ns j d) ≡ false
+    apart i j d order below =
+        false_from_ne_true _ (λ is. AreDistinct-ascending ns up i j d order below ((bytes_eq-Decides (get_or ns i d) (get_or ns j d)).0 is))
+
+    member : (name : List ℕ) → is_member bytes_eq ns name ≡ true → is_member bytes_eq names name ≡ true
+    member name is =
+        let found = Any-from_list_any (bytes_eq name) ns is in
+        let same : get_or ns found.0 found.1 ≡ name = found.3 ∙ sym ((bytes_eq-Decides name found.1).0 found.4) in
+        let there = Contains-from_is_among names name (subst (λ n. is_among names n ≡ true) same (among found.0 found.1 found.2)) in
+        list_any_at (bytes_eq name) names there.0 name there.1 (ap (bytes_eq name) there.2 ∙ (bytes_eq-Decides name name).1 refl)
+
+-- each of the names with more added is one of them, or was added
+asked : (ns ms : List (List ℕ)) → All (λ name. IsTrue (has_name ns name || has_name ms name)) (with_names ns ms)
+asked ns ms k d below =
+    let name = get_or (with_names ns ms) k d in
+    let there : has_name (with_names ns ms) name ≡ true = list_any_at (λ n. bytes_eq n name) (with_names ns ms) k d below ((bytes_eq-Decides name name).1 refl) in
+    swapped (has_name ms name) (has_name ns name) (sym (has_name-with_names ns ms name) ∙ there)
+  where
+    swapped : (a b : Bool) → (a || b) ≡ true → (b || a) ≡ true
+    swapped true true is = refl
+    swapped true false is = refl
+    swapped false true is = refl
+    swapped false false is = is
+
+-- so they are all in the table, where both are
+pub AreAmong-with_names : (names ns ms : List (List ℕ)) → AreAmong names ns → AreAmong names ms → AreAmong names (with_names ns ms)
+AreAmong-with_names names ns ms first second k d below =
+    let name = get_or (with_names ns ms) k d in
+    by name (has_name ns name) refl (asked ns ms k d below)
+  where
+    by : (name : List ℕ) (b : Bool) → has_name ns name ≡ b → (b || has_name ms name) ≡ true → is_among names name ≡ true
+    by name true is or = All-at_name (λ n. IsTrue (is_among names n)) ns name first is
+    by name false is or = All-at_name (λ n. IsTrue (is_among names n)) ms name second or
+
+-- and as few as the table's
+pub few-with_names : (names ns ms : List (List ℕ)) → AreAscending ns → AreAmong names ns → AreAmong names ms → length names ≤ 64 → length (with_names ns ms) ≤ 64
+few-with_names names ns ms up first second few =
+    omega (arith, few, few-AreAmong names (with_names ns ms) (AreAscending-with_names ns ms up) (AreAmong-with_names names ns ms first second))
+
+-- and all true, where none that is registered or proposed was found false
+pub AllHold-with_names : (m : Meanings) (names ns ms : List (List ℕ)) (values : List ℤ) → AreAmong names ns → AreAmong names ms → first_false m names ns ms values ≡ None → AllHold m (with_names ns ms) values
+AllHold-with_names m names ns ms values first second none =
+    (IsSound-from_none m names ns ms (with_names ns ms) values (AreAmong-with_names names ns ms first second) (asked ns ms) none).hold

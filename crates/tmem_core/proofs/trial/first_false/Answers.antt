@@ -1,0 +1,23 @@
+use Rattle.std.proofs.Common.{sym, ◌∙◌}
+use Rattle.tmem_record.proofs.Folding.{length-written}
+use Rattle.tmem_core.proofs.Trials.{differ, olds_within, state_back}
+use Rattle.tmem_core.proofs.trial.first_false.Goals as goal
+
+pub test_touched-place-requires : goal.test_touched-place-requires
+test_touched-place-requires g c =
+    let s = c.args.state.now in
+    rw (c.values-2.ensures, c.overwrite.ensures, c.as_slice-writes.ensures.writes) (length-written s.values c.args.effect.now.writes ∙ sym c.requires.vars)
+
+pub overwrite-requires-2 : goal.overwrite-requires-2
+overwrite-requires-2 g c =
+    rw (c.overwrite.ensures, c.save.ensures, c.values.ensures, c.as_slice-writes.ensures.writes) (olds_within c.args.state.now.values c.args.effect.now.writes c.requires.variables)
+
+pub returns-clause-state : goal.returns-clause-state
+returns-clause-state g c =
+    rw (c.overwrite-2.ensures, c.overwrite.ensures, c.save.ensures, c.values.ensures, c.as_slice-writes.ensures.writes) (state_back c.args.state.now c.args.effect.now.writes c.requires.variables)
+
+pub returns-clause-first : goal.returns-clause-first
+returns-clause-first g c = λ m stated held.
+    let s = c.args.state.now in
+    let all = rw (c.values-2.ensures, c.names.ensures.names, c.as_slice.ensures.names, c.overwrite.ensures, c.as_slice-writes.ensures.writes) at (c.test_touched-place.ensures.all m s.values stated) in
+    all (differ s.values c.args.effect.now.writes) held

@@ -1,0 +1,43 @@
+// What an effect would break, found on the present values themselves.
+ghost use Rattle.std.specs.Prelude.{◌≡◌, ◌≤◌, ◌<◌, pos, List, ℤ, length, take, map, slice_index_or, All, IfSome};
+ghost use Rattle.tmem_record.specs.State.{written};
+ghost use Rattle.tmem_invariants.specs.Meanings.{Meanings, AllHold, first_false, value_of};
+ghost use Rattle.tmem_invariants.specs.Names.{name_at};
+
+use tmem_invariants::Tests;
+use tmem_record::{Effect, MAX_WRITES, State};
+
+/// The place, in the table's order, of the first name that is registered or that an effect proposes, and is false of the
+/// map that the effect would make. The effect is written into the state, and the old values are put back after the test.
+pub(crate) fn first_false<T: Tests>(table: &T, state: &mut State, effect: &Effect) -> Option<usize>
+    requires vars { T.vars table.now ≡ length state.old.values }
+    requires variables { All (λ w. w.0 < length state.old.values) effect.now.writes }
+    ensures within { IfSome result (λ place. place < length (T.names table.now)) }
+    ensures first { (m : Meanings) → T.is_stated table.now m → AllHold m state.old.names state.old.values
+        → name_at (T.names table.now) result ≡ first_false m (T.names table.now) state.old.names effect.now.names (written state.old.values effect.now.writes) }
+    ensures state { state.new ≡ state.old }
+{
+    let writes = effect.writes.as_slice();
+    let mut olds = [(0u16, 0i64); MAX_WRITES];
+    save(state.values(), writes, &mut olds);
+    state.overwrite(writes);
+    let place = table.test_touched(
+        state.values(),
+        state.names(),
+        effect.names.as_slice(),
+        writes,
+    );
+    state.overwrite(&olds[..writes.len()]);
+    place
+}
+
+// Puts each variable that is to be written at the front of a buffer, with its present value.
+fn save(values: &[i64], writes: &[(u16, i64)], into: &mut [(u16, i64)])
+    requires room { length writes.now ≤ length into.old }
+    requires variables { All (λ w. w.0 < length values.now) writes.now }
+    ensures { take (length writes.now) into.new ≡ map (λ w. (w.0, value_of values.now w.0)) writes.now }
+{
+    for (i, write) in writes.iter().enumerate() {
+        into[i] = (write.0, values[write.0 as usize]);
+    }
+}
