@@ -1,6 +1,5 @@
 pub mod Calls
 pub mod Events
-pub mod Examples
 pub mod Facts
 pub mod Layout
 pub mod Looks

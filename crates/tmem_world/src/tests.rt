@@ -6,101 +6,8 @@ use std::alloc::{AllocError, Global};
 use std::process::Abort;
 use std::test::Fail;
 use tmem_disk::{Disk, Fault, Fill, Name, SimDisk};
-use tmem_invariants::Tests;
-use tmem_tree::{StepAnswer, StoredSteps, Tx};
-
-// No stored step.
-#[derive(Drop)]
-struct NoSteps;
-
-impl StoredSteps for NoSteps {
-    ghost use Rattle.std.specs.Prelude.{[], ◌≡◌, ◌≤◌};
-    ghost use Rattle.std.proofs.Common.{rules};
-    ghost use Rattle.tmem_world.specs.Examples.{no_steps};
-
-    ghost arities = { λ _. [] };
-
-    ghost is_stated = { λ _ m. Unit {0} };
-
-    fn len(&self) -> usize {
-        0
-    }
-
-    fn arity(&self, _index: usize) -> usize {
-        unreachable!()
-    }
-
-    fn answer(&self, _index: usize, _args: &[i64]) -> StepAnswer {
-        unreachable!()
-    }
-
-    ghost few = { λ _. Prim.search rules };
-
-    ghost small = { λ _. Prim.search rules };
-
-    ghost has_meanings = { λ _. ∣ (no_steps, tt) ∣₁ };
-}
-
-// A table of no invariant, over so many variables.
-#[derive(Drop)]
-struct NoTests {
-    vars: u16,
-}
-
-impl Tests for NoTests {
-    ghost use Rattle.std.specs.Prelude.{◌≤◌, []};
-    ghost use Rattle.std.proofs.Common.{rules, arith};
-    ghost use Rattle.tmem_world.specs.Examples.{no_meanings, none_distinct};
-
-    ghost names = { λ _. [] };
-
-    ghost vars = { λ table. table.vars };
-
-    ghost is_stated = { λ _ m. Unit {0} };
-
-    fn len(&self) -> usize {
-        0
-    }
-
-    fn vars(&self) -> u16 {
-        self.vars
-    }
-
-    fn name(&self, _place: usize) -> Name {
-        unreachable!()
-    }
-
-    fn place(&self, _name: &Name) -> Option<usize> {
-        None
-    }
-
-    fn missing(&self, registered: &[Name]) -> Option<Name> {
-        match registered {
-            [] => None,
-            [first, ..] => Some(*first),
-        }
-    }
-
-    fn test_all(&self, _values: &[i64], _registered: &[Name], _proposed: &[Name]) -> Option<usize> {
-        None
-    }
-
-    fn test_touched(
-        &self,
-        _values: &[i64],
-        _registered: &[Name],
-        _proposed: &[Name],
-        _written: &[(u16, i64)],
-    ) -> Option<usize> {
-        None
-    }
-
-    ghost few = { λ _. Prim.search rules };
-
-    ghost distinct = { λ _. none_distinct };
-
-    ghost has_meanings = { λ _. ∣ (no_meanings, tt) ∣₁ };
-}
+use tmem_invariants::{Table, Tests};
+use tmem_tree::{Steps, StoredSteps, Tx};
 
 // What a test tells of a reply: registers are left out, but for those of a transaction that wrote nothing.
 #[derive(Clone, Copy, Debug, PartialEq, Eq)]
@@ -151,10 +58,16 @@ fn fresh(alloc: Global, slots: u16) -> Result<SimDisk, Fail> {
     Ok(disk)
 }
 
-fn opened(alloc: Global, disk: SimDisk) -> Result<World<SimDisk, NoTests, NoSteps>, Fail>
+fn opened<T: Tests + Drop, S: StoredSteps + Drop>(
+    alloc: Global,
+    disk: SimDisk,
+    table: T,
+    steps: S,
+) -> Result<World<SimDisk, T, S>, Fail>
+    requires { T.vars table ≡ 4 }
     ensures { IfOk result (λ world. ((numbers_of world).vars ≡ 4) × HoldsSession world) }
 {
-    let opened = World::open(alloc, disk, 4, 4, NoTests { vars: 4 }, NoSteps);
+    let opened = World::open(alloc, disk, 4, 4, table, steps);
     match opened {
         Ok(world) => Ok(world),
         Err(refusal) => Err(Fail::from(refusal.0)),
@@ -162,25 +75,24 @@ fn opened(alloc: Global, disk: SimDisk) -> Result<World<SimDisk, NoTests, NoStep
 }
 
 // Begins a transaction that reads nothing on slot 0, evaluates it and settles it.
-fn commit(world: &mut World<SimDisk, NoTests, NoSteps>, tx: Tx) -> Reply
+fn commit<T: Tests + Drop, S: StoredSteps + Drop>(world: &mut World<SimDisk, T, S>, tx: Tx) -> Reply
     ensures { numbers_of world.new ≡ numbers_of world.old }
 {
-    commit_on(world, 0, tx)
+    let _ = world.step(Event::Begin { slot: 0, tx });
+    let _ = world.step(Event::Turn { slot: 0 });
+    world.step(Event::Settle { slot: 0 })
 }
 
-fn commit_on(world: &mut World<SimDisk, NoTests, NoSteps>, slot: u8, tx: Tx) -> Reply
-    requires { slot < 16 }
-    ensures { numbers_of world.new ≡ numbers_of world.old }
+// Plays a list of events on a fresh device.
+fn plays<T: Tests + Drop, S: StoredSteps + Drop>(
+    rt: &impl Abort,
+    alloc: Global,
+    table: T,
+    steps: S,
+) -> Result<(), Fail>
+    requires { T.vars table ≡ 4 }
 {
-    let _ = world.step(Event::Begin { slot, tx });
-    let _ = world.step(Event::Turn { slot });
-    world.step(Event::Settle { slot })
-}
-
-#[test]
-fn a_played_list_is_answered_as_its_steps(rt: HostRuntime) -> Result<(), Fail> {
-    let alloc = rt.alloc();
-    let mut world = opened(alloc, fresh(alloc, 4)?)?;
+    let mut world = opened(alloc, fresh(alloc, 4)?, table, steps)?;
     let events = vec![in alloc;
         Event::Reopen,
         Event::Begin {
@@ -214,55 +126,100 @@ fn a_played_list_is_answered_as_its_steps(rt: HostRuntime) -> Result<(), Fail> {
     Ok(())
 }
 
-// Flushes the first write over a device that stops at a write of it, and opens what the stop left.
-fn stopped_at(rt: &impl Abort, alloc: Global, k: u64, fill: Fill) -> Result<(Told, u64), Fail> {
+#[test]
+fn a_played_list_is_answered_as_its_steps(rt: HostRuntime) -> Result<(), Fail> {
+    let alloc = rt.alloc();
+    plays(
+        &rt,
+        alloc,
+        Table::of(Vec::new(alloc), 4)?,
+        Steps::of(Vec::new(alloc))?,
+    )
+}
+
+// Flushes the first write over a device that stops at a write of it: the reply, and what the stop left.
+fn stopped_at<T: Tests + Drop, S: StoredSteps + Drop>(
+    alloc: Global,
+    k: u64,
+    fill: Fill,
+    table: T,
+    steps: S,
+) -> Result<(Told, SimDisk), Fail>
+    requires { T.vars table ≡ 4 }
+{
     let mut disk = fresh(alloc, 4)?;
     disk.stop_at_write(k, fill);
-    let mut world = opened(alloc, disk)?;
+    let mut world = opened(alloc, disk, table, steps)?;
     let _ = commit(&mut world, write(alloc, 0, 5)?);
     let flushed = tell(world.step(Event::Flush));
     let mut disk = world.into_disk();
-    assert!(rt; disk.is_stopped());
+    if !disk.is_stopped() {
+        return Err(Fail::new("it did not stop"));
+    }
     disk.restart();
-    let world = opened(alloc, disk)?;
-    assert!(rt; world.is_open());
-    Ok((flushed, world.count()))
+    Ok((flushed, disk))
+}
+
+// How many transactions a device is found to hold.
+fn count_on<T: Tests + Drop, S: StoredSteps + Drop>(
+    alloc: Global,
+    disk: SimDisk,
+    table: T,
+    steps: S,
+) -> Result<u64, Fail>
+    requires { T.vars table ≡ 4 }
+{
+    let world = opened(alloc, disk, table, steps)?;
+    Ok(world.count())
 }
 
 #[test]
-fn torn_body_behind_a_closed_gate_counts_nothing(rt: HostRuntime) -> Result<(), Fail> {
-    let found = stopped_at(&rt, rt.alloc(), 0, Fill::Byte(0xA5))?;
-    assert_eq!(rt; found, (Told::Fault(Fault::Device), 0));
-    Ok(())
-}
-
-#[test]
-fn torn_gate_leaves_old_or_new(rt: HostRuntime) -> Result<(), Fail> {
-    let found = stopped_at(&rt, rt.alloc(), 1, Fill::Byte(0xA5))?;
-    assert_eq!(rt; found, (Told::Fault(Fault::Unknown), 1));
-    let found = stopped_at(&rt, rt.alloc(), 1, Fill::Byte(0x37))?;
-    assert_eq!(rt; found, (Told::Fault(Fault::Unknown), 0));
-    Ok(())
-}
-
-#[test]
-fn after_a_device_failure_the_session_is_closed(rt: HostRuntime) -> Result<(), Fail> {
+fn a_torn_write_leaves_old_or_new(rt: HostRuntime) -> Result<(), Fail> {
     let alloc = rt.alloc();
+    // the body behind a closed gate, and the gate with both outcomes
+    let rows = [
+        (0, 0xA5, Fault::Device, 0),
+        (1, 0xA5, Fault::Unknown, 1),
+        (1, 0x37, Fault::Unknown, 0),
+    ];
+    for (write, byte, fault, count) in rows {
+        let table = Table::of(Vec::new(alloc), 4)?;
+        let (flushed, disk) = stopped_at(
+            alloc,
+            write,
+            Fill::Byte(byte),
+            table,
+            Steps::of(Vec::new(alloc))?,
+        )?;
+        assert_eq!(rt; flushed, Told::Fault(fault));
+        let found = count_on(
+            alloc,
+            disk,
+            Table::of(Vec::new(alloc), 4)?,
+            Steps::of(Vec::new(alloc))?,
+        )?;
+        assert_eq!(rt; found, count);
+    }
+    Ok(())
+}
+
+// What each event is answered after the device has failed.
+fn fails<T: Tests + Drop, S: StoredSteps + Drop>(
+    rt: &impl Abort,
+    alloc: Global,
+    table: T,
+    steps: S,
+) -> Result<(), Fail>
+    requires { T.vars table ≡ 4 }
+{
     let mut disk = fresh(alloc, 4)?;
     disk.stop_at_write(0, Fill::Old);
-    let mut world = opened(alloc, disk)?;
-    assert_eq!(rt;
-        tell(commit(&mut world, write(alloc, 0, 5)?)),
-        Told::Committed(0)
-    );
+    let mut world = opened(alloc, disk, table, steps)?;
+    let settled = commit(&mut world, write(alloc, 0, 5)?);
+    assert_eq!(rt; tell(settled), Told::Committed(0));
     assert_eq!(rt; tell(world.step(Event::Flush)), Told::Fault(Fault::Device));
-    let tx = write(alloc, 1, 1)?;
-    assert_eq!(rt; tell(world.step(Event::Begin { slot: 0, tx })), Told::Begun);
-    assert_eq!(rt; tell(world.step(Event::Turn { slot: 0 })), Told::Ended);
-    assert_eq!(rt;
-        tell(world.step(Event::Settle { slot: 0 })),
-        Told::Fault(Fault::Closed)
-    );
+    let settled = commit(&mut world, write(alloc, 1, 1)?);
+    assert_eq!(rt; tell(settled), Told::Fault(Fault::Closed));
     assert_eq!(rt; tell(world.step(Event::Flush)), Told::Fault(Fault::Closed));
     assert_eq!(rt; tell(world.step(Event::Look)), Told::Looked(0));
     assert_eq!(rt; tell(world.step(Event::Reopen)), Told::Fault(Fault::Device));
@@ -271,32 +228,81 @@ fn after_a_device_failure_the_session_is_closed(rt: HostRuntime) -> Result<(), F
     Ok(())
 }
 
-// Opening a device is refused by this fault.
-fn refuses(rt: &impl Abort, alloc: Global, disk: SimDisk, vars: u16, want: Fault) {
-    let opened = World::open(alloc, disk, vars, 4, NoTests { vars }, NoSteps);
+#[test]
+fn after_a_device_failure_the_session_is_closed(rt: HostRuntime) -> Result<(), Fail> {
+    let alloc = rt.alloc();
+    fails(
+        &rt,
+        alloc,
+        Table::of(Vec::new(alloc), 4)?,
+        Steps::of(Vec::new(alloc))?,
+    )
+}
+
+// What opening a device is refused by.
+fn refusal<T: Tests + Drop, S: StoredSteps + Drop>(
+    alloc: Global,
+    disk: SimDisk,
+    vars: u16,
+    table: T,
+    steps: S,
+) -> Option<Fault>
+    requires { T.vars table ≡ vars }
+{
+    let opened = World::open(alloc, disk, vars, 4, table, steps);
     match opened {
-        Ok(_) => assert!(rt; false, "opened"),
-        Err(refusal) => assert_eq!(rt; refusal.0, want),
+        Ok(_) => None,
+        Err(refusal) => Some(refusal.0),
     }
+}
+
+// Opening a device is refused by this fault.
+fn refuses(
+    rt: &impl Abort,
+    alloc: Global,
+    disk: SimDisk,
+    vars: u16,
+    want: Fault,
+) -> Result<(), Fail> {
+    let had = refusal(
+        alloc,
+        disk,
+        vars,
+        Table::of(Vec::new(alloc), vars)?,
+        Steps::of(Vec::new(alloc))?,
+    );
+    assert_eq!(rt; had, Some(want));
+    Ok(())
 }
 
 #[test]
 fn what_is_no_store_of_these_numbers_is_refused(rt: HostRuntime) -> Result<(), Fail> {
     let alloc = rt.alloc();
-    refuses(
-        &rt,
-        alloc,
-        SimDisk::new(alloc, 22016)?,
-        4,
-        Fault::NotFormatted,
-    );
-    refuses(&rt, alloc, fresh(alloc, 4)?, 5, Fault::Geometry);
-    refuses(&rt, alloc, fresh(alloc, 4)?, 1025, Fault::Geometry);
-    refuses(&rt, alloc, SimDisk::new(alloc, 22015)?, 4, Fault::Geometry);
+    let blank = SimDisk::new(alloc, 22016)?;
+    refuses(&rt, alloc, blank, 4, Fault::NotFormatted)?;
+    refuses(&rt, alloc, fresh(alloc, 4)?, 5, Fault::Geometry)?;
+    refuses(&rt, alloc, fresh(alloc, 4)?, 1025, Fault::Geometry)?;
     let mut small = SimDisk::new(alloc, 22015)?;
     assert_eq!(rt; format(&mut small, 4, 4), Err(Fault::Geometry));
     assert_eq!(rt; format(&mut small, 0, 4), Err(Fault::Geometry));
-    Ok(())
+    refuses(&rt, alloc, small, 4, Fault::Geometry)
+}
+
+// A device on which the first write was made durable.
+fn written<T: Tests + Drop, S: StoredSteps + Drop>(
+    alloc: Global,
+    disk: SimDisk,
+    table: T,
+    steps: S,
+) -> Result<SimDisk, Fail>
+    requires { T.vars table ≡ 4 }
+{
+    let mut world = opened(alloc, disk, table, steps)?;
+    let _ = commit(&mut world, write(alloc, 0, 5)?);
+    match world.step(Event::Flush) {
+        Reply::Durable(1) => Ok(world.into_disk()),
+        _ => Err(Fail::new("not durable")),
+    }
 }
 
 #[test]
@@ -313,13 +319,12 @@ fn the_bytes_of_a_fresh_device_and_of_a_first_record(rt: HostRuntime) -> Result<
         image,
         [0xa5, 1, 0, 0, 0, 0, 0, 0, 0, 0, 0, 0, 0, 0, 0, 0, 0, 0]
     );
-    let mut world = opened(alloc, disk)?;
-    assert_eq!(rt;
-        tell(commit(&mut world, write(alloc, 0, 5)?)),
-        Told::Committed(0)
-    );
-    assert_eq!(rt; tell(world.step(Event::Flush)), Told::Durable(1));
-    let mut disk = world.into_disk();
+    let mut disk = written(
+        alloc,
+        disk,
+        Table::of(Vec::new(alloc), 4)?,
+        Steps::of(Vec::new(alloc))?,
+    )?;
     assert_eq!(rt; disk.size(), 22016);
     let mut slot = [1; 31];
     assert!(rt; disk.read(5632, &mut slot).is_ok());
@@ -370,10 +375,9 @@ const CHECKED: [u8; 28] = [
 fn the_names_of_an_image_are_found(rt: HostRuntime) -> Result<(), Fail> {
     let alloc = rt.alloc();
     let two = with_bytes(&rt, alloc, 529, &[2, 2, b'a', b'b', 1, b'b'])?;
-    refuses(&rt, alloc, two, 4, Fault::Missing(Name::new("ab")?));
+    refuses(&rt, alloc, two, 4, Fault::Missing(Name::new("ab")?))?;
     let most = with_bytes(&rt, alloc, 529, &many_names(64))?;
-    refuses(&rt, alloc, most, 4, Fault::Missing(Name::new("aa")?));
-    Ok(())
+    refuses(&rt, alloc, most, 4, Fault::Missing(Name::new("aa")?))
 }
 
 #[test]
@@ -389,24 +393,22 @@ fn an_image_of_no_registered_names_is_damage(rt: HostRuntime) -> Result<(), Fail
     ];
     for (at, bytes) in rows {
         let disk = with_bytes(&rt, alloc, at, &bytes)?;
-        refuses(&rt, alloc, disk, 4, Fault::Damaged);
+        refuses(&rt, alloc, disk, 4, Fault::Damaged)?;
     }
     let too_many = with_bytes(&rt, alloc, 529, &many_names(65))?;
-    refuses(&rt, alloc, too_many, 4, Fault::Damaged);
-    Ok(())
+    refuses(&rt, alloc, too_many, 4, Fault::Damaged)
 }
 
 #[test]
 fn the_name_of_a_record_is_found_or_damage(rt: HostRuntime) -> Result<(), Fail> {
     let alloc = rt.alloc();
     let checked = with_bytes(&rt, alloc, 5632, &CHECKED)?;
-    refuses(&rt, alloc, checked, 4, Fault::Missing(Name::new("nonneg")?));
+    refuses(&rt, alloc, checked, 4, Fault::Missing(Name::new("nonneg")?))?;
     let mut full = with_bytes(&rt, alloc, 529, &many_names(64))?;
     put(&rt, &mut full, 5632, &CHECKED);
-    refuses(&rt, alloc, full, 4, Fault::Damaged);
+    refuses(&rt, alloc, full, 4, Fault::Damaged)?;
     let mut later = CHECKED;
     later[1] = 2;
     let later = with_bytes(&rt, alloc, 5632, &later)?;
-    refuses(&rt, alloc, later, 4, Fault::Damaged);
-    Ok(())
+    refuses(&rt, alloc, later, 4, Fault::Damaged)
 }
