@@ -1,9 +1,9 @@
 //! Why a run ends before its last line, and with which status.
 ghost use Rattle.std.specs.Prelude.{◌≤◌};
 
-use crate::script::ScriptError;
 use thiserror::Error;
 use tmem_disk::Fault;
+use tmem_script::ScriptError;
 
 /// Why the program did not do all that it was asked. Its text is what the user is told.
 #[derive(Debug, Drop, Error)]

@@ -1,19 +1,19 @@
 //! Plays a script on a device in memory.
 ghost use Rattle.std.specs.Prelude.{◌≡◌, ◌<◌, IfOk, length};
-ghost use Rattle.tmem.specs.Invariants.{is_not_negative, add_to_hundred, are_ordered};
-ghost use Rattle.tmem.specs.Steps.{sum_of, difference_of, at_least};
+ghost use Rattle.tmem_builtins.specs.Invariants.{is_not_negative, add_to_hundred, are_ordered};
+ghost use Rattle.tmem_builtins.specs.Steps.{sum_of, difference_of, at_least};
 ghost use Rattle.tmem_world.specs.Represents.{numbers_of, HoldsSession};
 
 use crate::failure::Failure;
-use crate::invariants::{nonneg, nonneg_name, ordered, ordered_name, sum, sum_name, table_of};
-use crate::line::ReplyLine;
-use crate::script::{Line, Script};
-use crate::steps::{add, need, steps_of, sub};
 use std::alloc::Global;
 use std::fmt::Display;
 use std::io::Write;
+use tmem_builtins::{
+    add, need, nonneg, nonneg_name, ordered, ordered_name, steps_of, sub, sum, sum_name, table_of,
+};
 use tmem_disk::{Disk, Fault, Name, SimDisk};
 use tmem_invariants::Tests;
+use tmem_script::{Line, ReplyLine, Script};
 use tmem_tree::{StepAnswer, StoredSteps};
 use tmem_world::{Layout, Reply, World, format};
 

@@ -1,12 +1,6 @@
 //! The program as its user sees it: words and input go in, and a status and two texts come out.
 
-mod bytes;
-mod limits;
-mod scripts;
-mod stores;
 mod streams;
-mod tables;
-mod trees;
 mod words;
 
 use crate::words::run_words;
@@ -75,17 +69,7 @@ fn with_name(alloc: Global, words: &[&str]) -> Result<Vec<String>, AllocError> {
     Ok(all)
 }
 
-/// A script that begins a transaction on four variables and four slots.
-fn with_tx(alloc: Global, tx: &str) -> Result<String, AllocError> {
-    format!(in alloc; r#"{{"vars":4,"slots":4,"events":[{{"begin":[0,{tx}]}}]}}"#)
-}
-
 /// Plays a script from the input.
 fn play(rt: &HostRuntime, script: &str) -> Result<Outcome, Fail> {
     run(rt, &["run"], script.as_bytes())
-}
-
-/// Fails where a script is not played to its end with these lines.
-fn expect_lines(rt: &HostRuntime, script: &str, lines: &str) -> Result<(), Fail> {
-    play(rt, script)?.expect(script, 0, lines, "")
 }

@@ -3,7 +3,6 @@ ghost use Rattle.std.specs.Prelude.{◌≤◌};
 
 use crate::failure::Failure;
 use crate::play::play;
-use crate::script::{Script, ScriptError};
 use clap::error::ErrorKind;
 use clap::{Arg, Command};
 use std::alloc::{AllocError, Global};
@@ -12,6 +11,7 @@ use std::io::{LineWriter, Read, Write};
 use std::rt::Files;
 use std::{env, fs, io};
 use tmem_disk::Fault;
+use tmem_script::{Script, ScriptError};
 
 /// The words of the command line, the program's name first.
 pub fn words_of(rt: &(impl Env + AllocGlobal)) -> Result<Vec<String>, Failure> {

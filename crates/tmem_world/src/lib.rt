@@ -18,8 +18,6 @@ mod layout;
 mod record;
 mod recover;
 mod session;
-#[cfg(test)]
-mod tests;
 mod world;
 
 pub use event::{ATTEMPTS, Event, Reply};

@@ -1,6 +1,6 @@
 use Rattle.std.proofs.Common.{refl}
 use borrow.Pointer.Called.{made_tells}
-use Rattle.tmem.specs.Invariants.{is_not_negative, add_to_hundred, are_ordered}
+use Rattle.tmem_builtins.specs.Invariants.{is_not_negative, add_to_hundred, are_ordered}
 use Rattle.tmem.proofs.play.play.OwnLists.{own-1, at-1-1, at-1-2, at-1-3}
 use Rattle.tmem.proofs.play.play.Goals as goal
 

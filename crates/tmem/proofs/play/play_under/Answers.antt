@@ -1,6 +1,6 @@
 use Rattle.std.proofs.Common.{refl}
 use borrow.Pointer.Called.{made_tells}
-use Rattle.tmem.specs.Steps.{sum_of, difference_of, at_least}
+use Rattle.tmem_builtins.specs.Steps.{sum_of, difference_of, at_least}
 use Rattle.tmem.proofs.play.play_under.OwnLists.{own-1, at-1-1, at-1-2, at-1-3}
 use Rattle.tmem.proofs.play.play_under.Goals as goal
 

@@ -1,6 +1,0 @@
-use Rattle.std.proofs.Common.{refl, lit≤}
-use Rattle.tmem.proofs.Named.{IsName-from_test}
-use Rattle.tmem.proofs.invariants.nonneg_name.Goals as goal
-
-pub unwrap-requires : goal.unwrap-requires
-unwrap-requires c = c.new.ensures.accepted.1 (IsName-from_test _ (lit≤ tt) (lit≤ tt) refl)

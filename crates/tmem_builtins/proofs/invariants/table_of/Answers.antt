@@ -1,0 +1,24 @@
+use Rattle.std.proofs.Common.{arith, ◌∙◌}
+use Rattle.tmem_builtins.proofs.Tables.{no_error, of_none, of_one, of_two, of_three}
+use Rattle.tmem_builtins.proofs.invariants.table_of.Goals as goal
+
+pub new-requires-clause-stated : goal.new-requires-clause-stated
+new-requires-clause-stated g c = rw c.in_ok-vec.ensures.items c.requires.nonneg_stated
+
+pub new-requires-2-clause-stated : goal.new-requires-2-clause-stated
+new-requires-2-clause-stated g c = rw c.in_ok-vec-2.ensures.items c.requires.sum_stated
+
+pub new-requires-3-clause-stated : goal.new-requires-3-clause-stated
+new-requires-3-clause-stated g c = rw c.in_ok-vec-3.ensures.items c.requires.ordered_stated
+
+pub returns-in-0-clause-refused : goal.returns-in-0-clause-refused
+returns-in-0-clause-refused g c = no_error c.of.result _ (c.of.ensures.ok.1 (of_none (λ e. e.name) (λ e. e.footprint.items) c.args.vars _ c.new-in-0.ensures.items))
+
+pub returns-in_ok-vec-in-1-clause-refused : goal.returns-in_ok-vec-in-1-clause-refused
+returns-in_ok-vec-in-1-clause-refused g c = no_error c.of-in-1.result _ (c.of-in-1.ensures.ok.1 (of_one (λ e. e.name) (λ e. e.footprint.items) c.args.vars _ c.in_ok-floor.floor c.in_ok-vec-in-1.ensures.items (rw c.in_ok-floor.ensures.footprint c.in_ok-vec.ensures.items) (omega arith)))
+
+pub returns-in_ok-vec-in-2-clause-refused : goal.returns-in_ok-vec-in-2-clause-refused
+returns-in_ok-vec-in-2-clause-refused g c = no_error c.of-in-2.result _ (c.of-in-2.ensures.ok.1 (of_two (λ e. e.name) (λ e. e.footprint.items) c.args.vars _ c.in_ok-floor.floor c.in_ok-pair.pair c.in_ok-vec-in-2.ensures.items (c.in_ok-floor.ensures.name ∙ c.nonneg_name.ensures) (c.in_ok-pair.ensures.name ∙ c.sum_name.ensures) (rw c.in_ok-floor.ensures.footprint c.in_ok-vec.ensures.items) (rw c.in_ok-pair.ensures.footprint c.in_ok-vec-2.ensures.items) (omega arith)))
+
+pub returns-in_ok-vec-in_default-clause-refused : goal.returns-in_ok-vec-in_default-clause-refused
+returns-in_ok-vec-in_default-clause-refused g c = no_error c.of-in_default.result _ (c.of-in_default.ensures.ok.1 (of_three (λ e. e.name) (λ e. e.footprint.items) c.args.vars _ c.in_ok-floor.floor c.in_ok-pair.pair c.in_ok-order.order c.in_ok-vec-in_default.ensures.items (c.in_ok-floor.ensures.name ∙ c.nonneg_name.ensures) (c.in_ok-pair.ensures.name ∙ c.sum_name.ensures) (c.in_ok-order.ensures.name ∙ c.ordered_name.ensures) (rw c.in_ok-floor.ensures.footprint c.in_ok-vec.ensures.items) (rw c.in_ok-pair.ensures.footprint c.in_ok-vec-2.ensures.items) (rw c.in_ok-order.ensures.footprint c.in_ok-vec-3.ensures.items) (omega arith)))

@@ -1,0 +1,84 @@
+//! The invariants that scripts can check: `nonneg`, `sum` and `ordered`.
+ghost use Rattle.std.specs.Prelude.{◌≡◌, ◌∷◌, [], codes, length, map, IfErr, IfOk};
+ghost use Rattle.tmem_invariants.specs.Answers.{MayCall, HasMeaning};
+ghost use Rattle.tmem_builtins.specs.Invariants.{is_not_negative, add_to_hundred, are_ordered, fitting};
+
+use std::alloc::Global;
+use tmem_disk::{Fault, Name};
+use tmem_invariants::{Invariant, Table, Test};
+
+/// The name of `nonneg`.
+pub fn nonneg_name() -> Name
+    ensures { result ≡ codes "nonneg" }
+{
+    Name::new("nonneg").unwrap()
+}
+
+/// The name of `sum`.
+pub fn sum_name() -> Name
+    ensures { result ≡ codes "sum" }
+{
+    Name::new("sum").unwrap()
+}
+
+/// The name of `ordered`.
+pub fn ordered_name() -> Name
+    ensures { result ≡ codes "ordered" }
+{
+    Name::new("ordered").unwrap()
+}
+
+/// The invariant `nonneg`: its variable is at least 0.
+pub fn nonneg(values: &[i64]) -> bool
+    requires { length values.now ≡ 1 }
+    ensures { result ≡ is_not_negative values.now }
+{
+    values[0] >= 0
+}
+
+/// The invariant `sum`: its two variables add up to 100, as whole numbers.
+pub fn sum(values: &[i64]) -> bool
+    requires { length values.now ≡ 2 }
+    ensures { result ≡ add_to_hundred values.now }
+{
+    values[0] as i128 + values[1] as i128 == 100
+}
+
+/// The invariant `ordered`: the first of its two variables is at most the second.
+pub fn ordered(values: &[i64]) -> bool
+    requires { length values.now ≡ 2 }
+    ensures { result ≡ are_ordered values.now }
+{
+    values[0] <= values[1]
+}
+
+/// The table of those of the three whose variables are below `vars`, in this order: `nonneg` over variable 0, `sum` over
+/// 0 and 1, `ordered` over 2 and 3. Refused by `Memory`.
+pub fn table_of(
+    alloc: Global,
+    vars: u16,
+    nonneg: Test,
+    sum: Test,
+    ordered: Test,
+) -> Result<Table, Fault>
+    requires nonneg_callable { MayCall (Test.pre nonneg) 1 }
+    requires nonneg_stated { HasMeaning (Test.post nonneg) 1 }
+    requires sum_callable { MayCall (Test.pre sum) 2 }
+    requires sum_stated { HasMeaning (Test.post sum) 2 }
+    requires ordered_callable { MayCall (Test.pre ordered) 2 }
+    requires ordered_stated { HasMeaning (Test.post ordered) 2 }
+    ensures vars { IfOk result (λ table. table.vars ≡ vars) }
+    ensures entries { IfOk result (λ table. map (λ entry. (entry.name, entry.footprint.items, entry.test)) table.entries.items
+        ≡ fitting vars ((codes "nonneg", 0 ∷ [], nonneg) ∷ (codes "sum", 0 ∷ 1 ∷ [], sum) ∷ (codes "ordered", 2 ∷ 3 ∷ [], ordered) ∷ [])) }
+    ensures refused { IfErr result (λ fault. fault ≡ Fault.Memory) }
+{
+    let floor = Invariant::new(nonneg_name(), vec![in alloc; 0]?, nonneg)?;
+    let pair = Invariant::new(sum_name(), vec![in alloc; 0, 1]?, sum)?;
+    let order = Invariant::new(ordered_name(), vec![in alloc; 2, 3]?, ordered)?;
+    match vars {
+        0 => Table::of(Vec::new(alloc), vars),
+        1 => Table::of(vec![in alloc; floor]?, vars),
+        2 | 3 => Table::of(vec![in alloc; floor, pair]?, vars),
+        _ => Table::of(vec![in alloc; floor, pair, order]?, vars),
+    }
+}

@@ -1,0 +1,157 @@
+//! Lists of events, and devices that stop.
+ghost use Rattle.std.specs.Prelude.{◌≡◌};
+
+use super::{Told, commit, fresh, opened, tell, write};
+use std::alloc::Global;
+use std::process::Abort;
+use std::test::Fail;
+use tmem_disk::{Fault, Fill, Name, SimDisk};
+use tmem_invariants::{Table, Tests};
+use tmem_tree::{Steps, StoredSteps};
+use tmem_world::Event;
+
+/// Plays a list of events on a fresh device.
+fn plays<T: Tests + Drop, S: StoredSteps + Drop>(
+    rt: &impl Abort,
+    alloc: Global,
+    table: T,
+    steps: S,
+) -> Result<(), Fail>
+    requires { T.vars table ≡ 4 }
+{
+    let mut world = opened(alloc, fresh(alloc)?, table, steps)?;
+    let events = vec![in alloc;
+        Event::Reopen,
+        Event::Begin {
+            slot: 0,
+            tx: write(alloc, 0, 5)?
+        },
+        Event::Turn { slot: 0 },
+        Event::Settle { slot: 0 },
+        Event::Flush,
+        Event::Look,
+        Event::Reopen,
+    ]?;
+    let replies = world.play(events)?;
+    let want = [
+        Told::Opened(0),
+        Told::Begun,
+        Told::Ended,
+        Told::Committed(0),
+        Told::Durable(1),
+        Told::Looked(1),
+        Told::Opened(1),
+    ];
+    assert_eq!(rt; replies.len(), want.len());
+    for (reply, want) in replies.iter().zip(want.iter()) {
+        assert_eq!(rt; tell(*reply), *want);
+    }
+    assert!(rt; world.is_open());
+    assert_eq!(rt; world.count(), 1);
+    assert_eq!(rt; world.value(0), 5);
+    assert!(rt; !world.has(&Name::new("nonneg")?));
+    Ok(())
+}
+
+#[test]
+fn a_played_list_is_answered_as_its_steps(rt: HostRuntime) -> Result<(), Fail> {
+    let alloc = rt.alloc();
+    plays(
+        &rt,
+        alloc,
+        Table::of(Vec::new(alloc), 4)?,
+        Steps::of(Vec::new(alloc))?,
+    )
+}
+
+/// Flushes the first write over a device that stops at a write of it: the reply, and what the stop left.
+fn stopped_at<T: Tests + Drop, S: StoredSteps + Drop>(
+    alloc: Global,
+    k: u64,
+    fill: Fill,
+    table: T,
+    steps: S,
+) -> Result<(Told, SimDisk), Fail>
+    requires { T.vars table ≡ 4 }
+{
+    let mut disk = fresh(alloc)?;
+    disk.stop_at_write(k, fill);
+    let mut world = opened(alloc, disk, table, steps)?;
+    let _ = commit(&mut world, write(alloc, 0, 5)?);
+    let flushed = tell(world.step(Event::Flush));
+    let mut disk = world.into_disk();
+    if !disk.is_stopped() {
+        return Err(Fail::new("it did not stop"));
+    }
+    disk.restart();
+    Ok((flushed, disk))
+}
+
+/// How many transactions a device is found to hold.
+fn count_on<T: Tests + Drop, S: StoredSteps + Drop>(
+    alloc: Global,
+    disk: SimDisk,
+    table: T,
+    steps: S,
+) -> Result<u64, Fail>
+    requires { T.vars table ≡ 4 }
+{
+    let world = opened(alloc, disk, table, steps)?;
+    Ok(world.count())
+}
+
+#[test]
+fn a_torn_write_leaves_old_or_new(rt: HostRuntime) -> Result<(), Fail> {
+    let alloc = rt.alloc();
+    // the body behind a closed gate, and the gate with both outcomes
+    let rows = [
+        (0, 0xA5, Fault::Device, 0),
+        (1, 0xA5, Fault::Unknown, 1),
+        (1, 0x37, Fault::Unknown, 0),
+    ];
+    for (write, byte, fault, count) in rows {
+        let table = Table::of(Vec::new(alloc), 4)?;
+        let steps = Steps::of(Vec::new(alloc))?;
+        let (flushed, disk) = stopped_at(alloc, write, Fill::Byte(byte), table, steps)?;
+        assert_eq!(rt; flushed, Told::Fault(fault));
+        let table = Table::of(Vec::new(alloc), 4)?;
+        let steps = Steps::of(Vec::new(alloc))?;
+        assert_eq!(rt; count_on(alloc, disk, table, steps)?, count);
+    }
+    Ok(())
+}
+
+/// What each event is answered after the device has failed.
+fn fails<T: Tests + Drop, S: StoredSteps + Drop>(
+    rt: &impl Abort,
+    alloc: Global,
+    table: T,
+    steps: S,
+) -> Result<(), Fail>
+    requires { T.vars table ≡ 4 }
+{
+    let mut disk = fresh(alloc)?;
+    disk.stop_at_write(0, Fill::Old);
+    let mut world = opened(alloc, disk, table, steps)?;
+    assert_eq!(rt; commit(&mut world, write(alloc, 0, 5)?), Told::Committed(0));
+    assert_eq!(rt; tell(world.step(Event::Flush)), Told::Fault(Fault::Device));
+    let settled = commit(&mut world, write(alloc, 1, 1)?);
+    assert_eq!(rt; settled, Told::Fault(Fault::Closed));
+    assert_eq!(rt; tell(world.step(Event::Flush)), Told::Fault(Fault::Closed));
+    assert_eq!(rt; tell(world.step(Event::Look)), Told::Looked(0));
+    assert_eq!(rt; tell(world.step(Event::Reopen)), Told::Fault(Fault::Device));
+    assert_eq!(rt; tell(world.step(Event::Look)), Told::Fault(Fault::Closed));
+    assert!(rt; !world.is_open());
+    Ok(())
+}
+
+#[test]
+fn after_a_device_failure_the_session_is_closed(rt: HostRuntime) -> Result<(), Fail> {
+    let alloc = rt.alloc();
+    fails(
+        &rt,
+        alloc,
+        Table::of(Vec::new(alloc), 4)?,
+        Steps::of(Vec::new(alloc))?,
+    )
+}
