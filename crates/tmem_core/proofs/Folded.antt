@@ -5,7 +5,7 @@ use mathlib.Core.Logic.{∥∥₁_map}
 use Rattle.tmem_record.specs.State.{State, apply, fold}
 use Rattle.tmem_record.specs.declared.effect.Effect.{Effect}
 use Rattle.tmem_record.proofs.Folding.{fold-append, fold-push, count-fold}
-use Rattle.tmem_core.specs.Accepted.{IsFolded}
+use Rattle.tmem_core.specs.Folded.{IsFolded}
 
 -- nothing waits
 pub folded-none : (s : State) → ∥ IsFolded s.count [] s ∥₁

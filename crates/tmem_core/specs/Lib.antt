@@ -1,4 +1,4 @@
-pub mod Accepted
+pub mod Folded
 pub mod Held
 pub mod Opening
 pub mod Program

@@ -13,7 +13,8 @@ ghost use Rattle.tmem_tentative.specs.Fits.{IsForVariables};
 ghost use Rattle.tmem_tentative.specs.Right.{IsRight};
 ghost use Rattle.tmem_core.specs.Settle.{is_stale};
 ghost use Rattle.tmem_core.specs.Verdict.{is_nothing};
-ghost use Rattle.tmem_core.specs.Accepted.{IsAccepted, IsAccepted-prop, IsFolded};
+ghost use Rattle.tmem_record.specs.Accepted.{IsAccepted, IsAccepted-prop};
+ghost use Rattle.tmem_core.specs.Folded.{IsFolded};
 
 use crate::settled::Settled;
 use crate::trial::first_false;

@@ -1,3 +1,4 @@
+pub mod Accepted
 pub mod Batch
 pub mod Begins
 pub mod Distinct

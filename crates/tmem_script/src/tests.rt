@@ -37,8 +37,8 @@ fn with_tx(alloc: Global, tx: &str) -> Result<String, AllocError> {
 
 #[test]
 fn a_script_that_is_cut_is_none(rt: HostRuntime) -> Result<(), Fail> {
-    for (end, _) in FIRST.char_indices() {
-        expect_bad(rt.alloc(), &FIRST[..end])?;
+    for end in 0..FIRST.len() {
+        expect_bad(rt.alloc(), FIRST.get(..end).ok_or("no such cut")?)?;
     }
     Ok(())
 }
@@ -61,168 +61,168 @@ fn what_may_stand_around_a_script(rt: HostRuntime) -> Result<(), Fail> {
     }
 }
 
+/// Texts that are no script, one to a line.
+const NO_SCRIPTS: &str = r#"null
+[4,4,[]]
+{}
+{"vars":4,"slots":4}
+{"vars":4,"events":[]}
+{"slots":4,"events":[]}
+{"vars":4,"slots":4,"events":[],"more":0}
+{"vars":4,"slots":4,"Events":[]}
+{"vars":4,"slots":4,"events":{}}
+{"vars":4,"slots":4,"events":"show"}
+{"vars":4,"slots":4,"events":null}
+{"vars":65536,"slots":4,"events":[]}
+{"vars":4,"slots":65536,"events":[]}
+{"vars":-1,"slots":4,"events":[]}
+{"vars":4.0,"slots":4,"events":[]}
+{"vars":4,"slots":4e0,"events":[]}
+{"vars":-0,"slots":4,"events":[]}
+{"vars":04,"slots":4,"events":[]}
+{"vars":"4","slots":4,"events":[]}
+{"vars":[4],"slots":4,"events":[]}
+{"vars":4,"slots":null,"events":[]}
+{"vars":4,"slots":4,"events":[],}
+{'vars':4,'slots':4,'events':[]}"#;
+
 #[test]
 fn what_is_no_script(rt: HostRuntime) -> Result<(), Fail> {
-    let table = [
-        "null",
-        "[4,4,[]]",
-        "{}",
-        r#"{"vars":4,"slots":4}"#,
-        r#"{"vars":4,"events":[]}"#,
-        r#"{"slots":4,"events":[]}"#,
-        r#"{"vars":4,"slots":4,"events":[],"more":0}"#,
-        r#"{"vars":4,"slots":4,"Events":[]}"#,
-        r#"{"vars":4,"slots":4,"events":{}}"#,
-        r#"{"vars":4,"slots":4,"events":"show"}"#,
-        r#"{"vars":4,"slots":4,"events":null}"#,
-        r#"{"vars":65536,"slots":4,"events":[]}"#,
-        r#"{"vars":4,"slots":65536,"events":[]}"#,
-        r#"{"vars":-1,"slots":4,"events":[]}"#,
-        r#"{"vars":4.0,"slots":4,"events":[]}"#,
-        r#"{"vars":4,"slots":4e0,"events":[]}"#,
-        r#"{"vars":-0,"slots":4,"events":[]}"#,
-        r#"{"vars":04,"slots":4,"events":[]}"#,
-        r#"{"vars":"4","slots":4,"events":[]}"#,
-        r#"{"vars":[4],"slots":4,"events":[]}"#,
-        r#"{"vars":4,"slots":null,"events":[]}"#,
-        r#"{"vars":4,"slots":4,"events":[],}"#,
-        "{'vars':4,'slots':4,'events':[]}",
-    ];
-    for text in table {
+    for text in NO_SCRIPTS.lines() {
         expect_bad(rt.alloc(), text)?;
     }
     Ok(())
 }
 
+/// What is no event, one to a line.
+const NO_EVENTS: &str = r#"null
+0
+[]
+{}
+""
+"Flush"
+"checkpoint"
+"begin"
+{"flush":null}
+{"show":0}
+{"turn":16}
+{"turn":-1}
+{"turn":1.0}
+{"turn":"0"}
+{"turn":[0]}
+{"settle":16}
+{"settle":null}
+{"turn":0,"settle":0}
+{"begin":"skip"}
+{"begin":[]}
+{"begin":[0]}
+{"begin":[0,"skip",0]}
+{"begin":["skip",0]}
+{"begin":[16,"skip"]}
+{"begin":{"slot":0,"tx":"skip"}}"#;
+
 #[test]
 fn what_is_no_event(rt: HostRuntime) -> Result<(), Fail> {
-    let table = [
-        "null",
-        "0",
-        "[]",
-        "{}",
-        r#""""#,
-        r#""Flush""#,
-        r#""checkpoint""#,
-        r#""begin""#,
-        r#"{"flush":null}"#,
-        r#"{"show":0}"#,
-        r#"{"turn":16}"#,
-        r#"{"turn":-1}"#,
-        r#"{"turn":1.0}"#,
-        r#"{"turn":"0"}"#,
-        r#"{"turn":[0]}"#,
-        r#"{"settle":16}"#,
-        r#"{"settle":null}"#,
-        r#"{"turn":0,"settle":0}"#,
-        r#"{"begin":"skip"}"#,
-        r#"{"begin":[]}"#,
-        r#"{"begin":[0]}"#,
-        r#"{"begin":[0,"skip",0]}"#,
-        r#"{"begin":["skip",0]}"#,
-        r#"{"begin":[16,"skip"]}"#,
-        r#"{"begin":{"slot":0,"tx":"skip"}}"#,
-    ];
-    for event in table {
+    for event in NO_EVENTS.lines() {
         expect_bad(rt.alloc(), with_event(rt.alloc(), event)?.as_str())?;
     }
     Ok(())
 }
 
+/// What is no transaction, one to a line.
+const NO_TRANSACTIONS: &str = r#"null
+[]
+{}
+"Skip"
+{"skip":null}
+{"seq":"skip"}
+{"seq":{}}
+{"seq":[0]}
+{"seq":["skip",{"seq":[{}]}]}
+{"seq":[],"put":[0,0]}
+{"put":5}
+{"put":[0]}
+{"put":[0,1,2]}
+{"put":[256,0]}
+{"put":[-1,0]}
+{"put":[0,9223372036854775808]}
+{"put":[0,-9223372036854775809]}
+{"put":[0,1.0]}
+{"put":[0,1e2]}
+{"put":[0,-0]}
+{"put":[0,"1"]}
+{"write":[65536,0]}
+{"write":[0,256]}
+{"write":[0]}
+{"write":{"var":0,"reg":0}}
+"check"
+{"check":null}
+{"check":0}
+{"check":["nonneg"]}
+{"check":{"name":"nonneg"}}
+{"check":""}
+{"check":"abcdefghijklmnopq"}
+{"check":"Nonneg"}
+{"check":"nonneg2"}
+{"check":" nonneg"}
+{"check":"nonneg\u0000"}
+{"check":"non-neg"}
+{"check":"\u00e9"}
+{"Check":"nonneg"}
+"read"
+{"read":0}
+{"read":[0]}
+{"read":[0,0,0]}
+{"read":[65536,0]}
+{"read":[0,256]}
+{"read":[-1,0]}
+{"read":[0,"0"]}
+{"read":{"var":0,"reg":0}}
+{"step":"add"}
+{"step":["add"]}
+{"step":["add",[0,1]]}
+{"step":["add",[0,1],0,0]}
+{"step":["mul",[0,1],0]}
+{"step":["Add",[0,1],0]}
+{"step":["",[0,1],0]}
+{"step":[0,[0,1],0]}
+{"step":["add",0,1]}
+{"step":["add",{"0":1},0]}
+{"step":["add",[0,256],0]}
+{"step":["add",[0,-1],0]}
+{"step":["add",["0",1],0]}
+{"step":["add",[0,1],256]}
+{"step":["add",[0,1],null]}
+{"add":[[0,1],0]}
+{"when":"skip"}
+{"when":[0,"skip"]}
+{"when":[0,"skip","skip","skip"]}
+{"when":[256,"skip","skip"]}
+{"when":["0","skip","skip"]}
+{"when":["skip",0,"skip"]}
+{"when":[0,"skip",0]}
+{"when":{"reg":0,"then":"skip","other":"skip"}}
+{"orelse":"skip"}
+{"orelse":[]}
+{"orelse":["skip"]}
+{"orelse":["skip","skip","skip"]}
+{"orelse":["skip",null]}
+{"orelse":[{"orelse":["skip"]},"skip"]}
+{"orElse":["skip","skip"]}
+"Retry"
+{"retry":null}
+{"retry":[]}
+"abort"
+{"abort":null}
+{"abort":-1}
+{"abort":65536}
+{"abort":1.0}
+{"abort":"7"}
+{"abort":[7]}"#;
+
 #[test]
 fn what_is_no_transaction(rt: HostRuntime) -> Result<(), Fail> {
-    let table = [
-        "null",
-        "[]",
-        "{}",
-        r#""Skip""#,
-        r#"{"skip":null}"#,
-        r#"{"seq":"skip"}"#,
-        r#"{"seq":{}}"#,
-        r#"{"seq":[0]}"#,
-        r#"{"seq":["skip",{"seq":[{}]}]}"#,
-        r#"{"seq":[],"put":[0,0]}"#,
-        r#"{"put":5}"#,
-        r#"{"put":[0]}"#,
-        r#"{"put":[0,1,2]}"#,
-        r#"{"put":[256,0]}"#,
-        r#"{"put":[-1,0]}"#,
-        r#"{"put":[0,9223372036854775808]}"#,
-        r#"{"put":[0,-9223372036854775809]}"#,
-        r#"{"put":[0,1.0]}"#,
-        r#"{"put":[0,1e2]}"#,
-        r#"{"put":[0,-0]}"#,
-        r#"{"put":[0,"1"]}"#,
-        r#"{"write":[65536,0]}"#,
-        r#"{"write":[0,256]}"#,
-        r#"{"write":[0]}"#,
-        r#"{"write":{"var":0,"reg":0}}"#,
-        r#""check""#,
-        r#"{"check":null}"#,
-        r#"{"check":0}"#,
-        r#"{"check":["nonneg"]}"#,
-        r#"{"check":{"name":"nonneg"}}"#,
-        r#"{"check":""}"#,
-        r#"{"check":"abcdefghijklmnopq"}"#,
-        r#"{"check":"Nonneg"}"#,
-        r#"{"check":"nonneg2"}"#,
-        r#"{"check":" nonneg"}"#,
-        r#"{"check":"nonneg\u0000"}"#,
-        r#"{"check":"non-neg"}"#,
-        r#"{"check":"\u00e9"}"#,
-        r#"{"Check":"nonneg"}"#,
-        r#""read""#,
-        r#"{"read":0}"#,
-        r#"{"read":[0]}"#,
-        r#"{"read":[0,0,0]}"#,
-        r#"{"read":[65536,0]}"#,
-        r#"{"read":[0,256]}"#,
-        r#"{"read":[-1,0]}"#,
-        r#"{"read":[0,"0"]}"#,
-        r#"{"read":{"var":0,"reg":0}}"#,
-        r#"{"step":"add"}"#,
-        r#"{"step":["add"]}"#,
-        r#"{"step":["add",[0,1]]}"#,
-        r#"{"step":["add",[0,1],0,0]}"#,
-        r#"{"step":["mul",[0,1],0]}"#,
-        r#"{"step":["Add",[0,1],0]}"#,
-        r#"{"step":["",[0,1],0]}"#,
-        r#"{"step":[0,[0,1],0]}"#,
-        r#"{"step":["add",0,1]}"#,
-        r#"{"step":["add",{"0":1},0]}"#,
-        r#"{"step":["add",[0,256],0]}"#,
-        r#"{"step":["add",[0,-1],0]}"#,
-        r#"{"step":["add",["0",1],0]}"#,
-        r#"{"step":["add",[0,1],256]}"#,
-        r#"{"step":["add",[0,1],null]}"#,
-        r#"{"add":[[0,1],0]}"#,
-        r#"{"when":"skip"}"#,
-        r#"{"when":[0,"skip"]}"#,
-        r#"{"when":[0,"skip","skip","skip"]}"#,
-        r#"{"when":[256,"skip","skip"]}"#,
-        r#"{"when":["0","skip","skip"]}"#,
-        r#"{"when":["skip",0,"skip"]}"#,
-        r#"{"when":[0,"skip",0]}"#,
-        r#"{"when":{"reg":0,"then":"skip","other":"skip"}}"#,
-        r#"{"orelse":"skip"}"#,
-        r#"{"orelse":[]}"#,
-        r#"{"orelse":["skip"]}"#,
-        r#"{"orelse":["skip","skip","skip"]}"#,
-        r#"{"orelse":["skip",null]}"#,
-        r#"{"orelse":[{"orelse":["skip"]},"skip"]}"#,
-        r#"{"orElse":["skip","skip"]}"#,
-        r#""Retry""#,
-        r#"{"retry":null}"#,
-        r#"{"retry":[]}"#,
-        r#""abort""#,
-        r#"{"abort":null}"#,
-        r#"{"abort":-1}"#,
-        r#"{"abort":65536}"#,
-        r#"{"abort":1.0}"#,
-        r#"{"abort":"7"}"#,
-        r#"{"abort":[7]}"#,
-    ];
-    for tx in table {
+    for tx in NO_TRANSACTIONS.lines() {
         expect_bad(rt.alloc(), with_tx(rt.alloc(), tx)?.as_str())?;
     }
     Ok(())

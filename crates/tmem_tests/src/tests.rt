@@ -1,5 +1,6 @@
 //! What the tests of worlds share: devices, worlds over them, and what is told of a reply.
 ghost use Rattle.std.specs.Prelude.{◌≡◌, IfOk};
+ghost use Rattle.tmem_world.specs.Events.{NamesSlot};
 ghost use Rattle.tmem_world.specs.Represents.{numbers_of, HoldsSession};
 
 mod batches;
@@ -9,7 +10,6 @@ mod plays;
 mod tables;
 
 use std::alloc::{AllocError, Global};
-use std::test::Fail;
 use tmem_disk::{Fault, Name, SimDisk};
 use tmem_invariants::Tests;
 use tmem_tree::{StoredSteps, Tx};
@@ -98,11 +98,22 @@ fn refusal<T: Tests + Drop, S: StoredSteps + Drop>(
     }
 }
 
+/// What an event is answered.
+fn answer<T: Tests + Drop, S: StoredSteps + Drop>(
+    world: &mut World<SimDisk, T, S>,
+    event: Event,
+) -> Told
+    requires { NamesSlot event }
+    ensures { numbers_of world.new ≡ numbers_of world.old }
+{
+    tell(world.step(event))
+}
+
 /// Begins a transaction that reads nothing on slot 0, evaluates it and settles it.
 fn commit<T: Tests + Drop, S: StoredSteps + Drop>(world: &mut World<SimDisk, T, S>, tx: Tx) -> Told
     ensures { numbers_of world.new ≡ numbers_of world.old }
 {
-    let _ = world.step(Event::Begin { slot: 0, tx });
-    let _ = world.step(Event::Turn { slot: 0 });
-    tell(world.step(Event::Settle { slot: 0 }))
+    let _ = answer(world, Event::Begin { slot: 0, tx });
+    let _ = answer(world, Event::Turn { slot: 0 });
+    answer(world, Event::Settle { slot: 0 })
 }

@@ -4,7 +4,8 @@ use Rattle.std.specs.Prelude.{◌≢◌}
 use Rattle.tmem_disk.specs.declared.fault.Fault.{Fault}
 use Rattle.tmem_disk.specs.declared.fault.Fault.TheVariants as fault
 use Rattle.tmem_core.specs.Opening.{IsOpeningRefusal}
-use Rattle.tmem_world.specs.Calls.{IsWhyNot, failures_after}
+use Rattle.tmem_journal.specs.Calls.{failures_after}
+use Rattle.tmem_world.specs.Refusals.{IsWhyNot}
 
 -- what a core is refused for is no failed call
 pub refusal-counts : (f : Fault) (n : ℕ) → IsOpeningRefusal f → n ≡ failures_after f n

@@ -8,7 +8,7 @@ use Rattle.tmem_disk.specs.declared.fault.Fault.{Fault}
 use Rattle.tmem_disk.specs.declared.fault.Fault.TheVariants as fault
 use Rattle.tmem_world.specs.declared.event.Reply.{Reply}
 use Rattle.tmem_world.specs.declared.event.Reply.TheVariants as reply
-use Rattle.tmem_world.specs.declared.layout.Layout.{Layout}
+use Rattle.tmem_journal.specs.declared.layout.Layout.{Layout}
 use Rattle.tmem_world.specs.declared.session.Slot.{Slot}
 use Rattle.tmem_world.specs.declared.session.Session as core
 use Rattle.tmem_world.specs.declared.world.World.{World}
@@ -18,8 +18,8 @@ use Rattle.tmem_core.specs.Program.{Program}
 use Rattle.tmem_core.specs.Held.{state_of, waiting_of, durable_of, is_shut_of}
 use Rattle.tmem_core.specs.Verdict.{serial_state, serial_effects}
 use Rattle.tmem_core.proofs.Serials.{count-committed}
-use Rattle.tmem_world.specs.Stands.{StandsFor}
-use Rattle.tmem_world.specs.Calls.{Uses, Appended}
+use Rattle.tmem_journal.specs.Stands.{StandsFor}
+use Rattle.tmem_journal.specs.Calls.{Uses, Appended}
 use Rattle.tmem_world.specs.Sessions.{Flushes, ClosesBy, durable_after, doubtful_number, LeftByFlush}
 use Rattle.tmem_world.specs.WorldModel.{WorldModel, Session, Open, Closed, present, cut, FlushesIn, FlushesOne}
 use Rattle.tmem_world.specs.Represents.{SlotIs, SessionIs, HasSession, IsNumbered, Represents, StandsCut, session_of}

@@ -15,8 +15,8 @@ use Rattle.tmem_invariants.specs.Meanings.{IsSound}
 use Rattle.tmem_core.specs.Program.{Program}
 use Rattle.tmem_core.specs.Held.{state_of, waiting_of, durable_of, is_shut_of}
 use Rattle.tmem_core.specs.Verdict.{serial_state}
-use Rattle.tmem_world.specs.Stands.{StandsFor}
-use Rattle.tmem_world.specs.Calls.{IsWhyNot}
+use Rattle.tmem_journal.specs.Stands.{StandsFor}
+use Rattle.tmem_world.specs.Refusals.{IsWhyNot}
 use Rattle.tmem_world.specs.WorldModel.{opening, cut}
 use Rattle.tmem_world.specs.Represents.{HasSession, Represents, session_of}
 use Rattle.tmem_world.proofs.Reopened.{no_slots_held}

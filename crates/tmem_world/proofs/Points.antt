@@ -21,7 +21,7 @@ use Rattle.tmem_tentative.specs.declared.attempt.Attempt as attempt
 use Rattle.tmem_world.specs.declared.session.Slot.{Slot}
 use Rattle.tmem_world.specs.declared.session.Slot.TheVariants as slot
 use Rattle.tmem_world.specs.declared.session.Session as core
-use Rattle.tmem_world.specs.declared.layout.Layout.{Layout}
+use Rattle.tmem_journal.specs.declared.layout.Layout.{Layout}
 use Rattle.tmem_world.specs.declared.world.World.{World}
 use Rattle.tmem_world.specs.WorldModel.{WorldModel, Attempt, NoAttempt, Begun, Ended, Session, InSession, TurnsFrom, value_or, overridden, goes_on, present, with_attempt, attempt_at}
 use Rattle.tmem_world.specs.Settle.{Joins, Keeps}

@@ -6,7 +6,7 @@ use Rattle.tmem_disk.specs.Disk.{IsDevice, LeavesOnly, Reads, IsSynced, after_fa
 use Rattle.tmem_disk.specs.declared.fault.Fault.{Fault}
 use Rattle.tmem_disk.specs.declared.fault.Fault.TheVariants as fault
 use Rattle.tmem_world.specs.declared.event.Reply.TheVariants as reply
-use Rattle.tmem_world.specs.declared.layout.Layout.{Layout}
+use Rattle.tmem_journal.specs.declared.layout.Layout.{Layout}
 use Rattle.tmem_world.specs.declared.session.Slot.{Slot}
 use Rattle.tmem_world.specs.declared.session.Slot.TheVariants as slot
 use Rattle.tmem_world.specs.declared.session.Session as core
@@ -17,12 +17,13 @@ use Rattle.tmem_core.specs.Program.{Program}
 use Rattle.tmem_core.specs.Held.{state_of, waiting_of, durable_of, is_shut_of}
 use Rattle.tmem_core.specs.Verdict.{serial_state}
 use Rattle.tmem_core.proofs.Serials.{count-committed}
-use Rattle.tmem_world.specs.Stands.{StandsFor}
-use Rattle.tmem_world.specs.Calls.{Uses, IsWhyNot, failures_after}
+use Rattle.tmem_journal.specs.Stands.{StandsFor}
+use Rattle.tmem_journal.specs.Calls.{Uses, failures_after}
+use Rattle.tmem_world.specs.Refusals.{IsWhyNot}
 use Rattle.tmem_world.specs.WorldModel.{WorldModel, NoAttempt, no_attempts, Open, cut, dropped, Reopens}
 use Rattle.tmem_world.specs.Represents.{SlotIs, HasSession, Represents, StandsCut, session_of}
 use Rattle.tmem_world.proofs.Serial.{committed-take, length-take, take-again, take-shorter, none_waits}
-use Rattle.tmem_world.proofs.Unique.{stands_for_one}
+use Rattle.tmem_journal.proofs.Unique.{stands_for_one}
 
 -- empty slots hold no attempts
 empty_slots : (program : Program) (xs : List Slot) (n : ℕ) → length xs ≡ n → All (λ (s : Slot). s ≡ slot.Empty) xs → AllZip (SlotIs program) xs (replicate n NoAttempt)

@@ -22,13 +22,13 @@ use Rattle.tmem_core.specs.Verdict.{verdict, accepted_of, state_after, serial_st
 use Rattle.tmem_core.proofs.Serials.{serial_state-push, AreCommitted-push}
 use Rattle.tmem_world.specs.declared.event.Reply.{Reply}
 use Rattle.tmem_world.specs.declared.event.Reply.TheVariants as reply
-use Rattle.tmem_world.specs.declared.layout.Layout.{Layout}
+use Rattle.tmem_journal.specs.declared.layout.Layout.{Layout}
 use Rattle.tmem_world.specs.declared.session.Slot.{Slot}
 use Rattle.tmem_world.specs.declared.session.Slot.TheVariants as slot
 use Rattle.tmem_world.specs.declared.session.Session as core
 use Rattle.tmem_world.specs.declared.world.World.{World}
 use Rattle.tmem_world.specs.Settle.{CoreMeans, Settles, SettlesEnded, reply_of}
-use Rattle.tmem_world.specs.Stands.{StandsFor}
+use Rattle.tmem_journal.specs.Stands.{StandsFor}
 use Rattle.tmem_world.specs.WorldModel.{WorldModel, Attempt, NoAttempt, Begun, Ended, is_closed, settled, settled_as, present, cut, with_attempt}
 use Rattle.tmem_world.specs.Represents.{SlotIs, SessionIs, HasSession, IsNumbered, Represents, StandsCut, session_of}
 use Rattle.tmem_world.proofs.Serial.{waiting-append, take-append, take-all, up_to_next}

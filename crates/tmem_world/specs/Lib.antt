@@ -1,15 +1,9 @@
-pub mod Calls
 pub mod Events
 pub mod Facts
-pub mod Layout
-pub mod Looks
-pub mod Parts
-pub mod Reading
+pub mod Refusals
 pub mod Replies
 pub mod Represents
 pub mod Sessions
 pub mod Settle
-pub mod Spelling
-pub mod Stands
 pub mod Tables
 pub mod WorldModel

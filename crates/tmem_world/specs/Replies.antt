@@ -5,7 +5,7 @@ use Rattle.tmem_world.specs.declared.event.Event.{Event}
 use Rattle.tmem_world.specs.declared.event.Event.TheVariants as event
 use Rattle.tmem_world.specs.declared.event.Reply.{Reply}
 use Rattle.tmem_world.specs.declared.event.Reply.TheVariants as reply
-use Rattle.tmem_world.specs.Calls.{failures_after}
+use Rattle.tmem_journal.specs.Calls.{failures_after}
 
 -- how many calls of the device have failed, once an event was answered so
 abbrev pub failures_by : Reply → ℕ → ℕ

@@ -5,7 +5,8 @@ use Rattle.std.specs.Option.{ForSome}
 use Rattle.tmem_invariants.specs.Meanings.{IsSound}
 use Rattle.tmem_disk.specs.Disk.{DeviceView, LeavesOnly, Reads}
 use Rattle.tmem_disk.specs.declared.fault.Fault.{Fault}
-use Rattle.tmem_world.specs.Calls.{Uses, FitsOn, IsWhyNot}
+use Rattle.tmem_journal.specs.Calls.{Uses, FitsOn}
+use Rattle.tmem_world.specs.Refusals.{IsWhyNot}
 use Rattle.tmem_world.specs.Tables.{table_in}
 use Rattle.tmem_record.specs.State as states
 use Rattle.tmem_core.specs.Program.{Program}
@@ -15,12 +16,12 @@ use Rattle.tmem_core.specs.Verdict.{serial_effects, AreCommitted}
 use Rattle.tmem_world.specs.declared.event.Event.{Event}
 use Rattle.tmem_world.specs.declared.event.Event.TheVariants as event
 use Rattle.tmem_world.specs.declared.event.Reply.{Reply}
-use Rattle.tmem_world.specs.declared.layout.Layout.{Layout}
+use Rattle.tmem_journal.specs.declared.layout.Layout.{Layout}
 use Rattle.tmem_world.specs.declared.session.Slot.{Slot}
 use Rattle.tmem_world.specs.declared.session.Slot.TheVariants as slot
 use Rattle.tmem_world.specs.declared.session.Session as session
 use Rattle.tmem_world.specs.declared.world.World.{World}
-use Rattle.tmem_world.specs.Stands.{StandsFor}
+use Rattle.tmem_journal.specs.Stands.{StandsFor}
 use Rattle.tmem_world.specs.Replies.{IsAcknowledged}
 use Rattle.tmem_world.specs.WorldModel.{Setting, WorldModel, Attempt, NoAttempt, Begun, Ended, Session, Open, Closed, Gone, present, cut, Allows, Run}
 

@@ -8,9 +8,9 @@ use Rattle.tmem_world.specs.declared.session.Session.{Session}
 use Rattle.tmem_record.specs.State.{State, with_names}
 use Rattle.tmem_record.specs.declared.effect.Effect.{Effect}
 use Rattle.tmem_core.specs.Held.{state_of, waiting_of, durable_of, is_shut_of}
-use Rattle.tmem_world.specs.Layout.{slot_place}
-use Rattle.tmem_world.specs.Stands.{StandsFor}
-use Rattle.tmem_world.specs.Calls.{Appended}
+use Rattle.tmem_journal.specs.Layout.{slot_place}
+use Rattle.tmem_journal.specs.Stands.{StandsFor}
+use Rattle.tmem_journal.specs.Calls.{Appended}
 
 -- There is a value for each variable, and at most one slot of the log is used.
 pub record IsCounted {T : Type 0} {t : _} (vars : ℕ) (s : Session T t) : Type 0 where

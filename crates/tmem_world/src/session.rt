@@ -7,24 +7,21 @@ ghost use Rattle.tmem_invariants.specs.Meanings.{Meanings, IsSound};
 ghost use Rattle.tmem_core.specs.Held.{state_of, waiting_of, durable_of, is_shut_of, table_of};
 ghost use Rattle.tmem_core.specs.Opening.{opening_fault};
 ghost use Rattle.tmem_core.specs.Program.{Program};
-ghost use Rattle.tmem_world.specs.Layout.{end_place, slot_place};
-ghost use Rattle.tmem_world.specs.Stands.{StandsFor};
-ghost use Rattle.tmem_world.specs.Calls.{Uses, IsWhyNot, fault_alone};
+ghost use Rattle.tmem_journal.specs.Layout.{end_place, slot_place};
+ghost use Rattle.tmem_journal.specs.Stands.{StandsFor};
+ghost use Rattle.tmem_journal.specs.Calls.{Uses};
+ghost use Rattle.tmem_world.specs.Refusals.{IsWhyNot, fault_alone};
 ghost use Rattle.tmem_world.specs.Settle.{FitsCore, Settles, reply_of};
 
 use crate::event::Reply;
-use crate::journal::{append, recover};
-use crate::layout::Layout;
 use std::alloc::Global;
 use tmem_core::{Core, Settled};
 use tmem_disk::{Disk, Fault};
 use tmem_invariants::Tests;
+use tmem_journal::{LOG_SLOTS, Layout, append, recover};
 use tmem_record::Batch;
 use tmem_tentative::{Attempt, Reads};
 use tmem_tree::Plan;
-
-/// How many slots of the log are used so far, at the most.
-pub(crate) const LOG_SLOTS: u16 = 1;
 
 /// One caller's attempt.
 #[derive(Drop)]

@@ -8,9 +8,10 @@ ghost use Rattle.tmem_record.specs.Names.{has_name};
 ghost use Rattle.tmem_core.specs.Held.{state_of, waiting_of, durable_of, table_of};
 ghost use Rattle.tmem_core.specs.Opening.{opening_fault};
 ghost use Rattle.tmem_core.specs.Program.{Program};
-ghost use Rattle.tmem_world.specs.Layout.{end_place};
-ghost use Rattle.tmem_world.specs.Stands.{StandsFor};
-ghost use Rattle.tmem_world.specs.Calls.{Uses, FitsOn, IsWhyNot};
+ghost use Rattle.tmem_journal.specs.Layout.{end_place};
+ghost use Rattle.tmem_journal.specs.Stands.{StandsFor};
+ghost use Rattle.tmem_journal.specs.Calls.{Uses, FitsOn};
+ghost use Rattle.tmem_world.specs.Refusals.{IsWhyNot};
 ghost use Rattle.tmem_world.specs.Tables.{table_in};
 ghost use Rattle.tmem_world.specs.Settle.{FitsSlot, Joins, Keeps};
 ghost use Rattle.tmem_world.specs.Facts.{FitsSlot-prop};
@@ -19,11 +20,11 @@ ghost use Rattle.tmem_world.specs.Events.{NamesSlot};
 ghost use Rattle.tmem_world.specs.WorldModel.{WorldModel, opening, present, Run};
 
 use crate::event::{ATTEMPTS, Event, Reply};
-use crate::layout::Layout;
 use crate::session::{Session, Slot, find};
 use std::alloc::{AllocError, Global};
 use tmem_disk::{Disk, Fault, Name};
 use tmem_invariants::Tests;
+use tmem_journal::Layout;
 use tmem_tentative::{Outcome, Reads, evaluate};
 use tmem_tree::{Plan, StoredSteps, Tx};
 

@@ -1,24 +1,21 @@
 //! The bytes of records, and what spells no batch.
-use std::alloc::Global;
+use std::alloc::{AllocError, Global};
 use std::process::Abort;
 use std::test::Fail;
 use tmem_disk::Name;
-use tmem_record::{BATCH_ROOM, Batch, Effect, MAX_CHECKS, MAX_WRITES, decode_batch, encode_batch};
+use tmem_record::{BATCH_ROOM, Batch, Effect, decode_batch, encode_batch};
 
-// An effect of these writes and names.
-fn effect_of(alloc: Global, writes: &[(u16, i64)], names: &[&str]) -> Result<Effect, Fail> {
+// An effect of one write.
+fn write_of(alloc: Global, var: u16, value: i64) -> Result<Effect, AllocError> {
     let mut effect = Effect::new(alloc)?;
-    for write in writes {
-        if effect.writes.has(write.0) || effect.writes.len() < MAX_WRITES {
-            effect.writes.put(write.0, write.1);
-        }
-    }
-    for text in names {
-        let name = Name::new(text)?;
-        if effect.names.has(&name) || effect.names.len() < MAX_CHECKS {
-            effect.names.put(&name);
-        }
-    }
+    effect.writes.put(var, value);
+    Ok(effect)
+}
+
+// An effect of one name.
+fn check_of(alloc: Global, name: &Name) -> Result<Effect, AllocError> {
+    let mut effect = Effect::new(alloc)?;
+    effect.names.put(name);
     Ok(effect)
 }
 
@@ -46,34 +43,13 @@ fn has_bytes(rt: &impl Abort, alloc: Global, effect: &Effect, record: &[u8]) -> 
 
 #[test]
 fn a_record_has_these_bytes(rt: HostRuntime) -> Result<(), Fail> {
-    let write = effect_of(rt.alloc(), &[(0, 5)], &[])?;
-    has_bytes(
-        &rt,
-        rt.alloc(),
-        &write,
-        &[1, 0, 0, 5, 0, 0, 0, 0, 0, 0, 0, 0],
-    )?;
-    let check = effect_of(rt.alloc(), &[], &["nonneg"])?;
-    has_bytes(
-        &rt,
-        rt.alloc(),
-        &check,
-        &[0, 1, 6, 0x6e, 0x6f, 0x6e, 0x6e, 0x65, 0x67],
-    )?;
-    let other = effect_of(rt.alloc(), &[(0, 3)], &[])?;
-    has_bytes(
-        &rt,
-        rt.alloc(),
-        &other,
-        &[1, 0, 0, 3, 0, 0, 0, 0, 0, 0, 0, 0],
-    )?;
-    let negative = effect_of(rt.alloc(), &[(3, -1)], &[])?;
-    has_bytes(
-        &rt,
-        rt.alloc(),
-        &negative,
-        &[1, 3, 0, 0xff, 0xff, 0xff, 0xff, 0xff, 0xff, 0xff, 0xff, 0],
-    )
+    let alloc = rt.alloc();
+    let number = [1, 0, 0, 5, 0, 0, 0, 0, 0, 0, 0, 0];
+    has_bytes(&rt, alloc, &write_of(alloc, 0, 5)?, &number)?;
+    let negative = [1, 3, 0, 0xff, 0xff, 0xff, 0xff, 0xff, 0xff, 0xff, 0xff, 0];
+    has_bytes(&rt, alloc, &write_of(alloc, 3, -1)?, &negative)?;
+    let name = [0, 1, 6, b'n', b'o', b'n', b'n', b'e', b'g'];
+    has_bytes(&rt, alloc, &check_of(alloc, &Name::new("nonneg")?)?, &name)
 }
 
 #[test]

@@ -1,13 +1,13 @@
 //! The bytes on a device.
 ghost use Rattle.std.specs.Prelude.{◌≡◌};
 
-use super::{commit, fresh, opened, write};
+use super::{Told, answer, commit, fresh, opened, write};
 use std::alloc::Global;
 use std::test::Fail;
 use tmem_disk::{Disk, SimDisk};
 use tmem_invariants::{Table, Tests};
 use tmem_tree::{Steps, StoredSteps};
-use tmem_world::{Event, Reply};
+use tmem_world::Event;
 
 /// A device on which the first write was made durable.
 fn written<T: Tests + Drop, S: StoredSteps + Drop>(
@@ -20,8 +20,8 @@ fn written<T: Tests + Drop, S: StoredSteps + Drop>(
 {
     let mut world = opened(alloc, disk, table, steps)?;
     let _ = commit(&mut world, write(alloc, 0, 5)?);
-    match world.step(Event::Flush) {
-        Reply::Durable(1) => Ok(world.into_disk()),
+    match answer(&mut world, Event::Flush) {
+        Told::Durable(1) => Ok(world.into_disk()),
         _ => Err(Fail::new("not durable")),
     }
 }

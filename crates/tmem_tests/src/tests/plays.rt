@@ -1,14 +1,48 @@
 //! Lists of events, and devices that stop.
-ghost use Rattle.std.specs.Prelude.{◌≡◌};
+ghost use Rattle.std.specs.Prelude.{◌≡◌, All, IfOk};
+ghost use Rattle.tmem_world.specs.Events.{NamesSlot};
+ghost use Rattle.tmem_world.specs.Represents.{numbers_of};
 
-use super::{Told, commit, fresh, opened, tell, write};
-use std::alloc::Global;
+use super::{Told, answer, commit, fresh, opened, tell, write};
+use std::alloc::{AllocError, Global};
 use std::process::Abort;
 use std::test::Fail;
-use tmem_disk::{Fault, Fill, Name, SimDisk};
+use tmem_disk::{Fault, Fill, SimDisk};
 use tmem_invariants::{Table, Tests};
 use tmem_tree::{Steps, StoredSteps};
-use tmem_world::Event;
+use tmem_world::{Event, World};
+
+/// What a list of events is answered, and whether a world stands open then.
+fn replies_of<T: Tests + Drop, S: StoredSteps + Drop>(
+    alloc: Global,
+    world: &mut World<SimDisk, T, S>,
+    events: Vec<Event>,
+) -> Result<Vec<Told>, Fail>
+    requires { All NamesSlot events.items }
+    ensures { numbers_of world.new ≡ numbers_of world.old }
+{
+    let mut told = Vec::new(alloc);
+    for reply in world.play(events)? {
+        told.push(tell(reply))?;
+    }
+    Ok(told)
+}
+
+/// Writes 5 to variable 0, makes it durable, and opens the device again.
+fn first_write(alloc: Global) -> Result<Vec<Event>, AllocError>
+    ensures { IfOk result (λ events. All NamesSlot events.items) }
+{
+    let tx = write(alloc, 0, 5)?;
+    let events = vec![in alloc;
+        Event::Begin { slot: 0, tx },
+        Event::Turn { slot: 0 },
+        Event::Settle { slot: 0 },
+        Event::Flush,
+        Event::Look,
+        Event::Reopen,
+    ]?;
+    Ok(events)
+}
 
 /// Plays a list of events on a fresh device.
 fn plays<T: Tests + Drop, S: StoredSteps + Drop>(
@@ -19,22 +53,10 @@ fn plays<T: Tests + Drop, S: StoredSteps + Drop>(
 ) -> Result<(), Fail>
     requires { T.vars table ≡ 4 }
 {
+    let events = first_write(alloc)?;
     let mut world = opened(alloc, fresh(alloc)?, table, steps)?;
-    let events = vec![in alloc;
-        Event::Reopen,
-        Event::Begin {
-            slot: 0,
-            tx: write(alloc, 0, 5)?
-        },
-        Event::Turn { slot: 0 },
-        Event::Settle { slot: 0 },
-        Event::Flush,
-        Event::Look,
-        Event::Reopen,
-    ]?;
-    let replies = world.play(events)?;
+    let told = replies_of(alloc, &mut world, events)?;
     let want = [
-        Told::Opened(0),
         Told::Begun,
         Told::Ended,
         Told::Committed(0),
@@ -42,14 +64,9 @@ fn plays<T: Tests + Drop, S: StoredSteps + Drop>(
         Told::Looked(1),
         Told::Opened(1),
     ];
-    assert_eq!(rt; replies.len(), want.len());
-    for (reply, want) in replies.iter().zip(want.iter()) {
-        assert_eq!(rt; tell(*reply), *want);
-    }
+    assert!(rt; told.as_slice() == want.as_slice());
     assert!(rt; world.is_open());
-    assert_eq!(rt; world.count(), 1);
-    assert_eq!(rt; world.value(0), 5);
-    assert!(rt; !world.has(&Name::new("nonneg")?));
+    assert_eq!(rt; (world.count(), world.value(0)), (1, 5));
     Ok(())
 }
 
@@ -78,7 +95,7 @@ fn stopped_at<T: Tests + Drop, S: StoredSteps + Drop>(
     disk.stop_at_write(k, fill);
     let mut world = opened(alloc, disk, table, steps)?;
     let _ = commit(&mut world, write(alloc, 0, 5)?);
-    let flushed = tell(world.step(Event::Flush));
+    let flushed = answer(&mut world, Event::Flush);
     let mut disk = world.into_disk();
     if !disk.is_stopped() {
         return Err(Fail::new("it did not stop"));
@@ -130,17 +147,29 @@ fn fails<T: Tests + Drop, S: StoredSteps + Drop>(
 ) -> Result<(), Fail>
     requires { T.vars table ≡ 4 }
 {
+    let (first, second) = (write(alloc, 0, 5)?, write(alloc, 1, 1)?);
     let mut disk = fresh(alloc)?;
     disk.stop_at_write(0, Fill::Old);
     let mut world = opened(alloc, disk, table, steps)?;
-    assert_eq!(rt; commit(&mut world, write(alloc, 0, 5)?), Told::Committed(0));
-    assert_eq!(rt; tell(world.step(Event::Flush)), Told::Fault(Fault::Device));
-    let settled = commit(&mut world, write(alloc, 1, 1)?);
-    assert_eq!(rt; settled, Told::Fault(Fault::Closed));
-    assert_eq!(rt; tell(world.step(Event::Flush)), Told::Fault(Fault::Closed));
-    assert_eq!(rt; tell(world.step(Event::Look)), Told::Looked(0));
-    assert_eq!(rt; tell(world.step(Event::Reopen)), Told::Fault(Fault::Device));
-    assert_eq!(rt; tell(world.step(Event::Look)), Told::Fault(Fault::Closed));
+    let told = [
+        commit(&mut world, first),
+        answer(&mut world, Event::Flush),
+        commit(&mut world, second),
+        answer(&mut world, Event::Flush),
+        answer(&mut world, Event::Look),
+        answer(&mut world, Event::Reopen),
+        answer(&mut world, Event::Look),
+    ];
+    let want = [
+        Told::Committed(0),
+        Told::Fault(Fault::Device),
+        Told::Fault(Fault::Closed),
+        Told::Fault(Fault::Closed),
+        Told::Looked(0),
+        Told::Fault(Fault::Device),
+        Told::Fault(Fault::Closed),
+    ];
+    assert!(rt; told == want);
     assert!(rt; !world.is_open());
     Ok(())
 }

@@ -3,7 +3,7 @@ ghost use Rattle.std.specs.Prelude.{◌≡◌, false, length, IfOk};
 ghost use Rattle.tmem_invariants.specs.Answers.{MayCall, HasMeaning};
 ghost use Rattle.tmem_builtins.specs.Invariants.{is_not_negative};
 
-use super::{Told, commit, fresh, opened, refusal, write};
+use super::{Told, answer, commit, fresh, opened, refusal, write};
 use std::alloc::Global;
 use std::process::Abort;
 use std::sync::Arc;
@@ -13,7 +13,7 @@ use tmem_builtins::nonneg;
 use tmem_disk::{Fault, Name, SimDisk};
 use tmem_invariants::{Invariant, Table, Test, Tests};
 use tmem_tree::{Steps, StoredSteps, Tx};
-use tmem_world::{Event, Reply};
+use tmem_world::Event;
 
 /// The table of `nonneg` alone, over variable 0 of four.
 fn one(alloc: Global, test: Test) -> Result<Table, Fault>
@@ -42,7 +42,7 @@ fn registered<T: Tests + Drop, S: StoredSteps + Drop>(
 {
     let mut world = opened(alloc, fresh(alloc)?, table, steps)?;
     assert_eq!(rt; commit(&mut world, check_nonneg()?), Told::Committed(0));
-    assert_eq!(rt; world.step(Event::Flush), Reply::Durable(1));
+    assert_eq!(rt; answer(&mut world, Event::Flush), Told::Durable(1));
     Ok(world.into_disk())
 }
 

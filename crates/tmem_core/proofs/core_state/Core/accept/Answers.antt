@@ -3,7 +3,7 @@ use Rattle.std.proofs.lemmas.List.Elements.{All-push}
 use Rattle.tmem_record.specs.State.{State}
 use Rattle.tmem_record.proofs.Folding.{length-values-apply}
 use Rattle.tmem_invariants.specs.Meanings.{AllHold}
-use Rattle.tmem_core.specs.Accepted.{IsAccepted}
+use Rattle.tmem_record.specs.Accepted.{IsAccepted}
 use Rattle.tmem_core.proofs.Known.{AreAmong}
 use Rattle.tmem_core.proofs.Folded.{folded-push}
 use Rattle.tmem_core.proofs.Registered.{AreRegistered-with_names}

@@ -1,6 +1,7 @@
 use Rattle.std.proofs.Common.{◌≡◌, ℕ, ◌+◌, ◌-◌, length, drop, arith, subst}
 use Rattle.std.proofs.lemmas.List.Elements.{All-drop}
-use Rattle.tmem_core.specs.Accepted.{IsAccepted, IsFolded}
+use Rattle.tmem_record.specs.Accepted.{IsAccepted}
+use Rattle.tmem_core.specs.Folded.{IsFolded}
 use Rattle.tmem_core.proofs.Folded.{folded-drop}
 use Rattle.tmem_core.proofs.core_state.Core.note_durable.Goals as goal
 

@@ -1,5 +1,5 @@
 use Rattle.std.proofs.Common.{◌≡◌, ◌-◌, true, [], ◌∷◌, ◌++◌, arith, sym, ap, ◌∙◌}
-use Rattle.tmem_core.specs.Accepted.{IsAccepted}
+use Rattle.tmem_record.specs.Accepted.{IsAccepted}
 use Rattle.tmem_core.proofs.Places.{take_one, All-there, record_fits}
 use Rattle.tmem_core.proofs.core_state.Core.take.Goals as goal
 

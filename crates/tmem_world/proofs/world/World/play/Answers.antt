@@ -3,7 +3,7 @@ use Rattle.std.specs.Vec.{vec_capacity, vec_len}
 use Rattle.std.proofs.lemmas.Grind.{common_steps}
 use Rattle.tmem_world.specs.declared.event.Event.{Event}
 use Rattle.tmem_world.specs.declared.event.Reply.{Reply}
-use Rattle.tmem_world.specs.declared.layout.Layout.{Layout}
+use Rattle.tmem_journal.specs.declared.layout.Layout.{Layout}
 use Rattle.tmem_world.specs.WorldModel.{Setting, Run, Allows}
 use Rattle.tmem_world.specs.Replies.{failures_by, failures_by_all, IsAcknowledged}
 use Rattle.tmem_world.specs.Represents.{RestsOn, setting_of}

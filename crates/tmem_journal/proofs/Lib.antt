@@ -1,0 +1,13 @@
+pub mod Appending
+pub mod Batches
+pub mod Finding
+pub mod Formatting
+pub mod Imaging
+pub mod Lengths
+pub mod Ranges
+pub mod Recovering
+pub mod Registered
+pub mod Spelled
+pub mod Standing
+pub mod Unique
+pub mod Zeros
