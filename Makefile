@@ -13,4 +13,9 @@ examples:
 	cd crates/tmem && rt try --cases ../../examples -- run
 	cd crates/tmem && rt try --cases scripts -- run
 
-.PHONY: run test examples
+# Tries the wrong bodies of wrong-bodies/, on a copy of what is committed: the prover has to refuse each.
+wrong-bodies:
+	copy=$$(mktemp -d) && trap 'rm -rf "$$copy"' EXIT && git clone -q . "$$copy" && cd "$$copy" && rm -rf crates/*/must-fail && \
+	for name in $$(ls wrong-bodies); do mv wrong-bodies/$$name crates/$$name/must-fail; done && rt must-fail
+
+.PHONY: run test examples wrong-bodies

@@ -6,8 +6,6 @@
 
 mod invariants;
 mod steps;
-#[cfg(test)]
-mod tests;
 
 pub use invariants::{nonneg, nonneg_name, ordered, ordered_name, sum, sum_name, table_of};
 pub use steps::{add, index_of, need, steps_of, sub};

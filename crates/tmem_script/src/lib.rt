@@ -8,8 +8,6 @@ mod event;
 mod json;
 mod line;
 mod script;
-#[cfg(test)]
-mod tests;
 mod tx;
 
 pub use line::ReplyLine;

@@ -6,6 +6,8 @@ ghost use Rattle.tmem_world.specs.Represents.{numbers_of, HoldsSession};
 mod batches;
 mod contents;
 mod devices;
+mod disks;
+mod limits;
 mod plays;
 mod tables;
 

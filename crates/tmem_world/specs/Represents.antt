@@ -11,7 +11,7 @@ use Rattle.tmem_world.specs.Tables.{table_in}
 use Rattle.tmem_record.specs.State as states
 use Rattle.tmem_core.specs.Program.{Program}
 use Rattle.tmem_tentative.specs.Right.{IsRight}
-use Rattle.tmem_core.specs.Held.{state_of, waiting_of, durable_of, is_shut_of, table_of}
+use Rattle.tmem_core.specs.Held.{state_of, waiting_of, durable_of, is_shut_of}
 use Rattle.tmem_core.specs.Verdict.{serial_effects, AreCommitted}
 use Rattle.tmem_world.specs.declared.event.Event.{Event}
 use Rattle.tmem_world.specs.declared.event.Event.TheVariants as event

@@ -1,4 +1,4 @@
-use Rattle.std.proofs.Common.{◌≡◌, List, sym, ◌∙◌, subst}
+use Rattle.std.proofs.Common.{◌∙◌, subst}
 use Rattle.tmem_invariants.specs.Meanings.{IsSound}
 use Rattle.tmem_world.proofs.Finding.{refusal-counts, why_no_core}
 use Rattle.tmem_world.proofs.session.find.Goals as goal

@@ -1,6 +1,6 @@
-use Rattle.std.proofs.Common.{refl, sym, ◌∙◌, ap, subst, Some}
+use Rattle.std.proofs.Common.{refl, sym, ◌∙◌, ap, subst}
 use Rattle.tmem_invariants.specs.Meanings.{IsSound}
-use Rattle.tmem_core.specs.Held.{state_of, table_of}
+use Rattle.tmem_core.specs.Held.{state_of}
 use Rattle.tmem_world.proofs.Opened.{opens, why_also}
 use Rattle.tmem_world.proofs.Tables.{core_means}
 use Rattle.tmem_world.proofs.world.World.open.Goals as goal

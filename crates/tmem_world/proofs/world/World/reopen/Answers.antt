@@ -1,4 +1,4 @@
-use Rattle.std.proofs.Common.{◌≡◌, refl, sym, ◌∙◌, Some}
+use Rattle.std.proofs.Common.{◌≡◌, refl, ◌∙◌, Some}
 use Rattle.tmem_world.specs.Represents.{held_table}
 use Rattle.tmem_world.proofs.Opened.{why_also}
 use Rattle.tmem_world.proofs.Reopened.{refused, found}

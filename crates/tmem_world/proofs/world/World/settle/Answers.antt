@@ -1,9 +1,8 @@
-use Rattle.std.proofs.Common.{◌≡◌, ◌<◌, ℕ, List, length, refl, sym, ◌∙◌, ap, subst, arith, Option, Some}
+use Rattle.std.proofs.Common.{◌≡◌, ◌<◌, ℕ, List, length, refl, sym, ◌∙◌, ap, subst, arith, Some}
 use Rattle.std.specs.Prelude.{is_none}
 use Rattle.std.proofs.lemmas.List.Elements.{All-set}
 use Rattle.tmem_core.specs.Held.{state_of, table_of}
 use Rattle.tmem_world.specs.WorldModel.{attempt_at}
-use Rattle.tmem_world.specs.declared.session.Session.{Session}
 use Rattle.tmem_world.specs.Sessions.{IsCounted, IsFree}
 use Rattle.tmem_world.specs.Settle.{FitsCore, FitsSlot}
 use Rattle.tmem_world.specs.Tables.{table_in}

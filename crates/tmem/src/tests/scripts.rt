@@ -1,11 +1,8 @@
 //! What is a script, and what is none.
-use crate::{Script, ScriptError};
+use super::FIRST;
 use std::alloc::{AllocError, Global};
 use std::test::Fail;
-
-/// One write, made durable and found again.
-const FIRST: &str =
-    r#"{"vars":4,"slots":4,"events":[{"begin":[0,{"seq":[{"put":[0,5]},{"write":[0,0]}]}]},{"turn":0},{"settle":0},"flush","reopen","show"]}"#;
+use tmem_script::{Script, ScriptError};
 
 /// Fails where a text is read as a script, or is refused for another reason than that it is none.
 fn expect_bad(alloc: Global, text: &str) -> Result<(), Fail> {

@@ -1,6 +1,6 @@
 //! Steps, footprints and tables out of their limits.
 ghost use Rattle.std.specs.Prelude.{◌≡◌, true, length};
-ghost use Rattle.tmem_builtins.specs.Examples.{first_of};
+ghost use Rattle.tmem_tests.specs.Examples.{first_of};
 
 use std::test::Fail;
 use tmem_disk::{Cause, Fault, Name};
