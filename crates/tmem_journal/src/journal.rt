@@ -21,7 +21,7 @@ use tmem_record::{BATCH_ROOM, Batch, State, encode_batch};
 
 const BLOCK: usize = 512;
 
-/// How many slots of the log are used so far, at the most.
+/// How many log slots are used at the most: the log holds one record.
 pub const LOG_SLOTS: u16 = 1;
 
 /// Makes a device of these numbers: nothing accepted, every variable 0. `Geometry` where a number is out of its
