@@ -1,5 +1,5 @@
 -- What the stored steps of scripts answer.
-use Rattle.std.specs.Prelude.{ℤ, pos, neg_ℤ, ◌+ℤ◌, ◌-ℤ◌, ◌^◌, ◌&&◌, Bool, List, slice_index_or, int_le, int_lt, if◌then◌else◌}
+use Rattle.std.specs.Prelude.{ℕ, ℤ, pos, neg_ℤ, ◌+ℤ◌, ◌-ℤ◌, ◌^◌, ◌&&◌, Bool, List, [], ◌∷◌, codes, slice_index_or, int_le, int_lt, if◌then◌else◌}
 use Rattle.tmem_tree.specs.declared.step.StepAnswer.{StepAnswer}
 use Rattle.tmem_tree.specs.declared.step.StepAnswer.TheVariants.{Value, Retry, Abort}
 
@@ -29,3 +29,7 @@ difference_of args = value_or_abort (first args -ℤ second args)
 -- the first number, once it is at least the second
 abbrev pub at_least : List ℤ → StepAnswer
 at_least args = if int_lt (first args) (second args) then Retry else Value (first args)
+
+-- their names, each in the place of its number
+abbrev pub step_names : List (List ℕ)
+step_names = codes "add" ∷ codes "sub" ∷ codes "need" ∷ []

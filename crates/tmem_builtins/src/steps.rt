@@ -1,7 +1,7 @@
 //! The stored steps that scripts can call, by name: `add`, `sub` and `need`.
-ghost use Rattle.std.specs.Prelude.{◌≡◌, ◌<◌, ◌∷◌, [], length, map, IfOk, IfSome};
+ghost use Rattle.std.specs.Prelude.{◌≡◌, ◌<◌, ◌∷◌, [], Some, codes, length, map, slice_index_or, IfErr, IfOk, IfSome};
 ghost use Rattle.tmem_tree.specs.Answers.{MayCall, HasMeaning};
-ghost use Rattle.tmem_builtins.specs.Steps.{sum_of, difference_of, at_least};
+ghost use Rattle.tmem_builtins.specs.Steps.{step_names, sum_of, difference_of, at_least};
 
 use std::alloc::Global;
 use tmem_disk::Fault;
@@ -12,7 +12,11 @@ const NO_NUMBER: u16 = 65535;
 
 /// Where the step of this name stands among `steps_of`, or none where there is no such step.
 pub fn index_of(name: &str) -> Option<u16>
-    ensures { IfSome result (λ index. index < 3) }
+    ensures below { IfSome result (λ index. index < 3) }
+    ensures add { name.now ≡ codes "add" → result ≡ Some 0 }
+    ensures sub { name.now ≡ codes "sub" → result ≡ Some 1 }
+    ensures need { name.now ≡ codes "need" → result ≡ Some 2 }
+    ensures named { IfSome result (λ index. slice_index_or step_names index [] ≡ name.now) }
 {
     match name {
         "add" => Some(0),
@@ -65,7 +69,8 @@ pub fn steps_of(alloc: Global, add: Step, sub: Step, need: Step) -> Result<Steps
     requires sub_stated { HasMeaning (Step.post sub) 2 }
     requires need_callable { MayCall (Step.pre need) 2 }
     requires need_stated { HasMeaning (Step.post need) 2 }
-    ensures { IfOk result (λ steps. map (λ entry. entry.step) steps.entries.items ≡ add ∷ sub ∷ need ∷ []) }
+    ensures steps { IfOk result (λ steps. map (λ entry. entry.step) steps.entries.items ≡ add ∷ sub ∷ need ∷ []) }
+    ensures refused { IfErr result (λ fault. fault ≡ Fault.Memory) }
 {
     let mut entries = Vec::new(alloc);
     entries.push(StepEntry::new(2, add)?)?;
