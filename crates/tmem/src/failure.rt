@@ -1,5 +1,5 @@
 //! Why a run ends before its last line, and with which status.
-ghost use Rattle.std.specs.Prelude.{◌≤◌};
+ghost use Rattle.std.specs.Prelude.{◌≡◌, ◌≤◌};
 
 use thiserror::Error;
 use tmem_disk::Fault;
@@ -21,10 +21,13 @@ pub enum Failure {
 }
 
 impl Failure {
+    ghost use Rattle.tmem.specs.Statuses.{status_of};
+
     /// The status that the program ends with: 3 where there was no script to play, 2 where there were
     /// no words, and else 1.
     pub fn status(&self) -> u8
-        ensures { result ≤ 3 }
+        ensures status { result ≡ status_of self.now }
+        ensures most { result ≤ 3 }
     {
         match self {
             Failure::Script(ScriptError::Unreadable | ScriptError::NoScript) => 3,

@@ -1,5 +1,6 @@
 //! The command line: which script is to be played, and what the program answers.
-ghost use Rattle.std.specs.Prelude.{◌≤◌};
+ghost use Rattle.std.specs.Prelude.{◌≡◌, ◌≤◌};
+ghost use Rattle.tmem.specs.Statuses.{status_of};
 
 use crate::failure::Failure;
 use crate::play::play;
@@ -55,7 +56,8 @@ pub fn run_words<R: Read, W: Write, E: Write>(
 
 /// Prints a failure, and answers its status.
 pub fn tell<E: Write>(failure: &Failure, err: &mut E) -> u8
-    ensures { result ≤ 3 }
+    ensures status { result ≡ status_of failure.now }
+    ensures most { result ≤ 3 }
 {
     // Where this fails too, nobody is left to tell.
     let _ = writeln!(err, "tmem: {failure}");
