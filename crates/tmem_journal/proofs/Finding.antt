@@ -1,42 +1,26 @@
 -- Why a part of a content was refused.
 use Rattle.std.proofs.Common.{◌≡◌, ◌≤◌, ◌+◌, ◌-◌, ℕ, List, [], ◌∷◌, Option, Some, None, length, take, drop, sym, ◌∙◌, ap, subst, arith}
-use Rattle.std.specs.Prelude.{slice_range, Result, Ok, Err, IfErr, OnErr, IfNone}
+use Rattle.std.specs.Prelude.{slice_range, Result, IfErr, IfNone}
 use Rattle.std.specs.Option.{ok_or}
 use Rattle.std.proofs.lemmas.List.{take-take}
 use Rattle.tmem_disk.specs.declared.fault.Fault.{Fault}
-use Rattle.tmem_disk.specs.declared.fault.Fault.TheVariants.{NotFormatted, Damaged, Geometry}
-use Rattle.tmem_gate.specs.Gate.{IsOpenAt, IsOpenOver}
-use Rattle.tmem_journal.specs.Calls.{IsWhy, IsRefusal}
+use Rattle.tmem_disk.specs.declared.fault.Fault.TheVariants.{Damaged}
+use Rattle.tmem_gate.specs.Gate.{IsOpenAt}
 use Rattle.tmem_record.specs.State.{State}
 use Rattle.tmem_record.specs.declared.effect.Effect.{Effect}
 use Rattle.tmem_record.specs.Begins.{Begins}
 use Rattle.tmem_record.specs.Spelling.{batch_bytes}
 use Rattle.tmem_journal.specs.Layout.{image_place, slot_place, image_size}
-use Rattle.tmem_journal.specs.Spelling.{block_body, image_body}
+use Rattle.tmem_journal.specs.Spelling.{image_body}
 use Rattle.tmem_journal.specs.Stands.{FollowsOn}
-use Rattle.tmem_journal.specs.Parts.{HoldsImage, ClosedBehind, HoldsSlots}
-use Rattle.tmem_journal.proofs.Lengths.{length-block_body, length-image_body, length-batch_bytes-le}
-
-why : (P : Type 0) (f : Fault) → IsRefusal f → P → IsWhy P f
-why P NotFormatted is p = p
-why P Damaged is p = p
-why P Geometry is p = p
-why P _ is p = absurd is
-
--- a refusal is for want of a state
-pub refused_for : {T Q : Type 0} (P : Type 0) → (r : Result T Fault) → IfErr r IsRefusal → OnErr r Q → (Q → P) → IfErr r (IsWhy P)
-refused_for P (Ok x) is q from = tt
-refused_for P (Err f) is q from = why P f is (from q)
-
--- block 0 is open over what was read of it
-pub block_read : (vars slots : ℕ) (seen block : List ℕ) → block ≡ slice_range seen 1 (1 + 511) → IsOpenOver 0 (block_body vars slots) seen → block ≡ block_body vars slots
-block_read vars slots seen block read cell = read ∙ ap (λ (n : ℕ). slice_range seen 1 (1 + n)) (sym (length-block_body vars slots)) ∙ cell.body
+use Rattle.tmem_journal.specs.Parts.{IsWhyPart, HoldsImage, ClosedBehind, HoldsSlots}
+use Rattle.tmem_journal.proofs.Lengths.{length-image_body, length-batch_bytes-le}
 
 -- nothing read is a refusal too
-pub none_for : {X Q : Type 0} (P : Type 0) → (o : Option X) (r : Result X Fault) → r ≡ ok_or o Damaged → IfNone o Q → (Q → P) → IfErr r (IsWhy P)
-none_for {X = X} {Q = Q} P o r is q from = subst (λ (s : Result X Fault). IfErr s (IsWhy P)) (sym is) (cases o q)
+pub none_for : {X Q : Type 0} (P : Type 0) → (o : Option X) (r : Result X Fault) → r ≡ ok_or o Damaged → IfNone o Q → (Q → P) → IfErr r (IsWhyPart P)
+none_for {X = X} {Q = Q} P o r is q from = subst (λ (s : Result X Fault). IfErr s (IsWhyPart P)) (sym is) (cases o q)
   where
-    cases : (o : Option X) → IfNone o Q → IfErr (ok_or o Damaged) (IsWhy P)
+    cases : (o : Option X) → IfNone o Q → IfErr (ok_or o Damaged) (IsWhyPart P)
     cases None q = from q
     cases (Some x) q = tt
 
@@ -47,7 +31,7 @@ image_read vars at n s seen body place size read holds =
     read ∙ ap (λ (k : ℕ). slice_range seen k (k + n)) place ∙ ap (λ (k : ℕ). slice_range seen (image_place vars 0 + 1) (image_place vars 0 + 1 + k)) (sym long) ∙ holds.copy_0.body
 
 -- the front of what was read behind a gate, as the content has it
-front_of : (c : List ℕ) (cell at n : ℕ) (front body : List ℕ) → at ≡ cell → body ≡ slice_range c (at + 1) (at + 1 + n) → length front ≤ n → take (length front) body ≡ slice_range c (cell + 1) (cell + 1 + length front)
+pub front_of : (c : List ℕ) (cell at n : ℕ) (front body : List ℕ) → at ≡ cell → body ≡ slice_range c (at + 1) (at + 1 + n) → length front ≤ n → take (length front) body ≡ slice_range c (cell + 1) (cell + 1 + length front)
 front_of c cell at n front body place read short =
     let all : at + 1 + n - (at + 1) ≡ n = omega arith in
     let part : cell + 1 + length front - (cell + 1) ≡ length front = omega arith in

@@ -6,6 +6,7 @@ pub mod Imaging
 pub mod Lengths
 pub mod Ranges
 pub mod Recovering
+pub mod Refused
 pub mod Registered
 pub mod Spelled
 pub mod Standing

@@ -1,8 +1,6 @@
 -- The parts of a content that were found, put together.
 use Rattle.std.proofs.Common.{◌≡◌, ◌+◌, ℕ, List, Option, Some, length, refl, sym, ◌∙◌, ap, subst}
-use Rattle.std.specs.Prelude.{slice_range, Result, Ok, Err, IfErr}
-use Rattle.tmem_disk.specs.declared.fault.Fault.{Fault}
-use Rattle.tmem_disk.specs.declared.fault.Fault.TheVariants.{Memory, Device, NotFormatted, Damaged, Geometry}
+use Rattle.std.specs.Prelude.{slice_range}
 use Rattle.tmem_disk.specs.Disk.{DeviceView, LeavesOnly, IsSynced}
 use Rattle.tmem_gate.specs.Gate.{IsOpenOver}
 use Rattle.tmem_record.specs.State.{State, apply}
@@ -10,7 +8,6 @@ use Rattle.tmem_record.specs.declared.effect.Effect.{Effect}
 use Rattle.tmem_journal.specs.Layout.{image_place}
 use Rattle.tmem_journal.specs.Spelling.{block_body, image_body}
 use Rattle.tmem_journal.specs.Stands.{Holds, StandsFor}
-use Rattle.tmem_journal.specs.Calls.{IsWhy}
 use Rattle.tmem_journal.specs.Parts.{HoldsImage, HoldsSlots}
 use Rattle.tmem_journal.proofs.Lengths.{length-image_body}
 use Rattle.tmem_journal.proofs.Imaging.{one_state}
@@ -39,19 +36,6 @@ all_parts vars slots s log c block image found = record { block = block; copy_0 
 
 pub stands_with : (vars slots : ℕ) (s : State) (e : Effect) (c : List ℕ) → Holds vars slots s (Some e) c → StandsFor vars slots 1 (apply s e) c
 stands_with vars slots s e c holds = record { image = s; log = Some e; holds = holds; is_used = refl; is_state = refl }
-
--- a reason for one thing is one for another that it rules out
-pub why_too : {P Q : Type 0} (f : Fault) → (P → Q) → IsWhy P f → IsWhy Q f
-why_too Memory from is = tt
-why_too Device from is = tt
-why_too NotFormatted from is = from is
-why_too Damaged from is = from is
-why_too Geometry from is = from is
-why_too _ from is = is
-
-pub refused_too : {T P Q : Type 0} (r : Result T Fault) → (P → Q) → IfErr r (IsWhy P) → IfErr r (IsWhy Q)
-refused_too (Ok x) from is = tt
-refused_too (Err f) from is = why_too f from is
 
 -- with no log a content stands for nothing
 pub no_state : (vars slots : ℕ) (found : State) (seen : List ℕ) → HoldsImage vars found seen → ((log : Option Effect) → HoldsSlots vars slots found log seen → ⊥) → (used : ℕ) (s : State) → StandsFor vars slots used s seen → ⊥

@@ -2,7 +2,7 @@
 use Rattle.std.specs.Prelude.{◌≡◌, ◌≤◌, ℕ, List, ◌⊎◌, Result, Ok, Err, MatchResult}
 use Rattle.tmem_disk.specs.Disk.{DeviceView, LeavesOnly, after_fault}
 use Rattle.tmem_disk.specs.declared.fault.Fault.{Fault}
-use Rattle.tmem_disk.specs.declared.fault.Fault.TheVariants.{Memory, Device, Unknown, NotFormatted, Damaged, Geometry}
+use Rattle.tmem_disk.specs.declared.fault.Fault.TheVariants.{Device, Unknown}
 use Rattle.tmem_record.specs.State.{State, apply}
 use Rattle.tmem_record.specs.declared.effect.Effect.{Effect}
 use Rattle.tmem_journal.specs.Layout.{IsLayout, end_place}
@@ -24,22 +24,6 @@ pub record Uses {T : Type 0} (old new : DeviceView) (result : Result T Fault) : 
 pub record FitsOn (vars slots capacity : ℕ) : Type 0 where
   pub layout : IsLayout vars slots
   pub room : end_place vars slots ≤ capacity
-
--- Why a content was not opened: memory or the device, or else the content stands for no state.
-abbrev pub IsWhy : Type 0 → Fault → Type 0
-IsWhy stands_for_none Memory = Unit {0}
-IsWhy stands_for_none Device = Unit {0}
-IsWhy stands_for_none NotFormatted = stands_for_none
-IsWhy stands_for_none Damaged = stands_for_none
-IsWhy stands_for_none Geometry = stands_for_none
-IsWhy stands_for_none _ = ⊥
-
--- what a content can be refused for
-abbrev pub IsRefusal : Fault → Type 0
-IsRefusal NotFormatted = Unit {0}
-IsRefusal Damaged = Unit {0}
-IsRefusal Geometry = Unit {0}
-IsRefusal _ = ⊥
 
 -- the state before, or the state after
 abbrev pub StandsForEither : ℕ → ℕ → State → Effect → List ℕ → Type 0

@@ -3,5 +3,6 @@ pub mod Layout
 pub mod Looks
 pub mod Parts
 pub mod Reading
+pub mod Refusals
 pub mod Spelling
 pub mod Stands

@@ -1,12 +1,11 @@
 // Block 0: what a device is, and its numbers.
-ghost use Rattle.std.specs.Prelude.{◌≡◌, OnOk, OnErr, IfErr, IsErrOf, IsTrue, nat_eq, codes};
-ghost use Rattle.std.specs.List.{starts_with};
+ghost use Rattle.std.specs.Prelude.{◌≡◌, ℕ, OnOk, IfErr, IfSome, IfNone};
+ghost use Rattle.tmem_journal.specs.Layout.{IsLayout};
 ghost use Rattle.tmem_journal.specs.Spelling.{block_body};
-ghost use Rattle.tmem_journal.specs.Calls.{IsRefusal};
+ghost use Rattle.tmem_journal.specs.Parts.{IsBlockFault};
 
-use crate::bytes::{is_zero, put};
+use crate::bytes::{put, short_at};
 use crate::layout::Layout;
-use byteorder::{ByteOrder, LittleEndian};
 use tmem_disk::Fault;
 
 const VERSION: u8 = 1;
@@ -26,27 +25,33 @@ pub fn spell_block(vars: u16, slots: u16) -> [u8; BLOCK_ROOM]
     bytes
 }
 
+/// The layout whose block 0 these bytes are, without its gate.
+fn layout_in(bytes: &[u8; BLOCK_ROOM]) -> Option<Layout>
+    ensures found { IfSome result (λ layout. bytes.now ≡ block_body layout.vars layout.slots) }
+    ensures none { IfNone result ((vars slots : ℕ) → IsLayout vars slots → bytes.now ≡ block_body vars slots → ⊥) }
+{
+    let (vars, slots) = (short_at(bytes, 5), short_at(bytes, 7));
+    match Layout::new(vars, slots) {
+        Ok(layout) if *bytes == spell_block(vars, slots) => Some(layout),
+        _ => None,
+    }
+}
+
 /// Whether the bytes behind the gate of block 0 are those of this layout. `NotFormatted` where the letters are not
 /// there; else `Damaged` where the version is another, a number is out of its limits or a byte behind them is not 0;
 /// and `Geometry` where the numbers are others.
 pub fn read_block(bytes: &[u8; BLOCK_ROOM], layout: Layout) -> Result<(), Fault>
     ensures found { OnOk result (bytes.now ≡ block_body layout.vars layout.slots) }
-    ensures refused { OnErr result (bytes.now ≡ block_body layout.vars layout.slots → ⊥) }
-    ensures err { IfErr result IsRefusal }
-    ensures letters { IsErrOf result Fault.NotFormatted → ¬ IsTrue (starts_with nat_eq bytes.now (codes "TMEM")) }
+    ensures refused { IfErr result (IsBlockFault layout.vars layout.slots bytes.now) }
 {
-    if *bytes == spell_block(layout.vars, layout.slots) {
-        return Ok(());
-    }
     if !bytes.starts_with(b"TMEM") {
         return Err(Fault::NotFormatted);
     }
-    let numbers = Layout::new(
-        LittleEndian::read_u16(&bytes[5..]),
-        LittleEndian::read_u16(&bytes[7..]),
-    );
-    if numbers.is_ok() && bytes[4] == VERSION && is_zero(&bytes[9..]) {
+    let Some(found) = layout_in(bytes) else {
+        return Err(Fault::Damaged);
+    };
+    if found.vars != layout.vars || found.slots != layout.slots {
         return Err(Fault::Geometry);
     }
-    Err(Fault::Damaged)
+    Ok(())
 }

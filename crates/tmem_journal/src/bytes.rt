@@ -41,6 +41,14 @@ pub fn is_blank(bytes: &[u8], from: usize, count: usize) -> bool
     is_zero(&bytes[from..from + count])
 }
 
+/// The number of 2 bytes from a place on.
+pub fn short_at(bytes: &[u8], at: usize) -> u16
+    requires { at + 2 ≤ length bytes.now }
+    ensures { StandsAt at (number_bytes 2 result) bytes.now }
+{
+    LittleEndian::read_u16(&bytes[at..])
+}
+
 /// The number of 8 bytes from a place on.
 pub fn number_at(bytes: &[u8], at: usize) -> u64
     requires { at + 8 ≤ length bytes.now }

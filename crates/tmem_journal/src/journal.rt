@@ -8,7 +8,8 @@ ghost use Rattle.tmem_record.specs.Accepted.{IsAccepted};
 ghost use Rattle.tmem_journal.specs.Layout.{slot_place, end_place};
 ghost use Rattle.tmem_journal.specs.Stands.{StandsFor};
 ghost use Rattle.tmem_journal.specs.Looks.{BeginsZero};
-ghost use Rattle.tmem_journal.specs.Calls.{Uses, FitsOn, IsWhy, StandsForEither, Appended};
+ghost use Rattle.tmem_journal.specs.Calls.{Uses, FitsOn, StandsForEither, Appended};
+ghost use Rattle.tmem_journal.specs.Refusals.{IsWhy, IsRefusedBy};
 
 use crate::block::spell_block;
 use crate::calls::{put_cell, sync, write};
@@ -65,12 +66,14 @@ pub struct Found {
     pub used: u16,
 }
 
-/// Finds the state that a device stands for. Nothing is written.
+/// Finds the state that a device stands for. `NotFormatted` where it lacks the open block 0 with its letters; `Geometry`
+/// where it was formatted for other numbers; else `Damaged` where it stands for no state; `Memory`; and `Device` where a
+/// call of the device fails. Nothing is written.
 pub fn recover<D: Disk>(alloc: Global, disk: &mut D, layout: Layout) -> Result<Found, Fault>
     requires { end_place layout.vars layout.slots ≤ (D.view disk.old).capacity }
     ensures uses { Uses (D.view disk.old) (D.view disk.new) result }
     ensures found { (D.view disk.new).keeps_model → IfOk result (λ f. StandsFor layout.vars layout.slots f.used f.state (D.view disk.old).seen) }
-    ensures refused { IfErr result (IsWhy ((D.view disk.new).keeps_model → (used : ℕ) (s : StateOf) → StandsFor layout.vars layout.slots used s (D.view disk.old).seen → ⊥)) }
+    ensures refused { IfErr result (IsWhy (λ f. (D.view disk.new).keeps_model → IsRefusedBy layout.vars layout.slots (D.view disk.old).seen f)) }
     ensures seen { Reads (D.view disk.new) (D.view disk.old).seen }
     ensures stop { LeavesOnly (D.view disk.new) (D.view disk.old).may_leave }
     ensures synced { OnOk result (IsSynced (D.view disk.new)) }

@@ -6,9 +6,10 @@ ghost use Rattle.tmem_record.specs.declared.effect.Effect.{Effect as EffectOf};
 ghost use Rattle.tmem_journal.specs.Layout.{end_place};
 ghost use Rattle.tmem_journal.specs.Spelling.{block_body, IsImage};
 ghost use Rattle.tmem_journal.specs.Stands.{FollowsOn};
-ghost use Rattle.tmem_journal.specs.Calls.{Uses, IsWhy};
+ghost use Rattle.tmem_journal.specs.Calls.{Uses};
+ghost use Rattle.tmem_journal.specs.Refusals.{IsWhy};
 ghost use Rattle.tmem_journal.specs.Looks.{LooksOnly};
-ghost use Rattle.tmem_journal.specs.Parts.{HoldsImage, ClosedBehind, HoldsSlots};
+ghost use Rattle.tmem_journal.specs.Parts.{IsBlockBy, IsWhyPart, HoldsImage, ClosedBehind, HoldsSlots};
 
 use crate::block::{BLOCK_ROOM, read_block};
 use crate::calls::{is_open, read};
@@ -25,7 +26,7 @@ pub(crate) fn found_block<D: Disk>(disk: &mut D, layout: Layout) -> Result<(), F
     ensures uses { Uses (D.view disk.old) (D.view disk.new) result }
     ensures looks { LooksOnly (D.view disk.old) (D.view disk.new) }
     ensures found { (D.view disk.new).keeps_model → OnOk result (IsOpenOver 0 (block_body layout.vars layout.slots) (D.view disk.old).seen) }
-    ensures refused { IfErr result (IsWhy ((D.view disk.new).keeps_model → IsOpenOver 0 (block_body layout.vars layout.slots) (D.view disk.old).seen → ⊥)) }
+    ensures refused { IfErr result (IsWhy (λ f. (D.view disk.new).keeps_model → IsBlockBy layout.vars layout.slots (D.view disk.old).seen f)) }
 {
     if !is_open(disk, 0)? {
         return Err(Fault::NotFormatted);
@@ -46,7 +47,7 @@ pub(crate) fn found_image<D: Disk>(
     ensures looks { LooksOnly (D.view disk.old) (D.view disk.new) }
     ensures fits { IfOk result (IsImage layout.vars) }
     ensures found { (D.view disk.new).keeps_model → IfOk result (λ s. HoldsImage layout.vars s (D.view disk.old).seen) }
-    ensures refused { IfErr result (IsWhy ((D.view disk.new).keeps_model → (s : StateOf) → HoldsImage layout.vars s (D.view disk.old).seen → ⊥)) }
+    ensures refused { IfErr result (IsWhyPart ((D.view disk.new).keeps_model → (s : StateOf) → HoldsImage layout.vars s (D.view disk.old).seen → ⊥)) }
 {
     if is_open(disk, layout.image(1))? || !is_open(disk, layout.image(0))? {
         return Err(Fault::Damaged);
@@ -62,7 +63,7 @@ fn closed_behind<D: Disk>(disk: &mut D, layout: Layout) -> Result<(), Fault>
     ensures uses { Uses (D.view disk.old) (D.view disk.new) result }
     ensures looks { LooksOnly (D.view disk.old) (D.view disk.new) }
     ensures found { (D.view disk.new).keeps_model → OnOk result (ClosedBehind layout.vars layout.slots (D.view disk.old).seen) }
-    ensures refused { IfErr result (IsWhy ((D.view disk.new).keeps_model → ClosedBehind layout.vars layout.slots (D.view disk.old).seen → ⊥)) }
+    ensures refused { IfErr result (IsWhyPart ((D.view disk.new).keeps_model → ClosedBehind layout.vars layout.slots (D.view disk.old).seen → ⊥)) }
 {
     for k in 1..layout.slots {
         if is_open(disk, layout.slot(k))? {
@@ -84,7 +85,7 @@ pub(crate) fn found_log<D: Disk>(
     ensures looks { LooksOnly (D.view disk.old) (D.view disk.new) }
     ensures follows { IfOk result (λ log. IfSome log (FollowsOn layout.vars image.now)) }
     ensures found { (D.view disk.new).keeps_model → IfOk result (λ log. HoldsSlots layout.vars layout.slots image.now log (D.view disk.old).seen) }
-    ensures refused { IfErr result (IsWhy ((D.view disk.new).keeps_model → (log : Option EffectOf) → HoldsSlots layout.vars layout.slots image.now log (D.view disk.old).seen → ⊥)) }
+    ensures refused { IfErr result (IsWhyPart ((D.view disk.new).keeps_model → (log : Option EffectOf) → HoldsSlots layout.vars layout.slots image.now log (D.view disk.old).seen → ⊥)) }
 {
     closed_behind(disk, layout)?;
     if !is_open(disk, layout.slot(0))? {

@@ -15,7 +15,7 @@ refusal-counts (fault.Broken name) n is = refl
 refusal-counts _ n is = absurd is
 
 -- it is want of memory, or what is wrong with the state
-pub why_no_core : (P U : Type 0) (f : Fault) → IsOpeningRefusal f → (f ≢ fault.Memory → U) → IsWhyNot P U f
+pub why_no_core : (P : Fault → Type 0) (U : Type 0) (f : Fault) → IsOpeningRefusal f → (f ≢ fault.Memory → U) → IsWhyNot P U f
 why_no_core P U fault.Memory is wrong = tt
 why_no_core P U (fault.Missing name) is wrong = wrong (λ same. cc)
 why_no_core P U (fault.Broken name) is wrong = wrong (λ same. cc)

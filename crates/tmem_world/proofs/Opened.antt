@@ -25,7 +25,7 @@ abbrev none_of : (A : Type 0) → List A
 none_of A = []
 
 -- weaker reasons for a refusal
-pub why_also : (P Q U V : Type 0) (f : Fault) → (P → Q) → (U → V) → IsWhyNot P U f → IsWhyNot Q V f
+pub why_also : (P Q : Fault → Type 0) (U V : Type 0) (f : Fault) → (P f → Q f) → (U → V) → IsWhyNot P U f → IsWhyNot Q V f
 why_also P Q U V fault.Memory so too why = tt
 why_also P Q U V fault.Device so too why = tt
 why_also P Q U V fault.NotFormatted so too why = so why

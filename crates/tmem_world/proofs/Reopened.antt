@@ -19,11 +19,13 @@ use Rattle.tmem_core.specs.Verdict.{serial_state}
 use Rattle.tmem_core.proofs.Serials.{count-committed}
 use Rattle.tmem_journal.specs.Stands.{StandsFor}
 use Rattle.tmem_journal.specs.Calls.{Uses, failures_after}
+use Rattle.tmem_journal.specs.Refusals.{IsRefusedBy}
 use Rattle.tmem_world.specs.Refusals.{IsWhyNot}
 use Rattle.tmem_world.specs.WorldModel.{WorldModel, NoAttempt, no_attempts, Open, cut, dropped, Reopens}
 use Rattle.tmem_world.specs.Represents.{SlotIs, HasSession, Represents, StandsCut, session_of}
 use Rattle.tmem_world.proofs.Serial.{committed-take, length-take, take-again, take-shorter, none_waits}
 use Rattle.tmem_journal.proofs.Unique.{stands_for_one}
+use Rattle.tmem_journal.proofs.Refused.{refused_stands_for_none}
 
 -- empty slots hold no attempts
 empty_slots : (program : Program) (xs : List Slot) (n : ℕ) → length xs ≡ n → All (λ (s : Slot). s ≡ slot.Empty) xs → AllZip (SlotIs program) xs (replicate n NoAttempt)
@@ -66,15 +68,17 @@ module _ {D T S : Type 0} {d t z : _} (program : Program) (w w' : World D T S d 
   reads_at : (d.view w.disk).keeps_model → StandsCut program w.layout.vars w.layout.slots m (d.view w.disk).seen
   reads_at k = r.device.each k (d.view w.disk).seen (device.seen_may_stay k)
 
-  abbrev StandsForNone : Type 0
-  StandsForNone = (d.view w'.disk).keeps_model → (used : ℕ) (s : State) → StandsFor w.layout.vars w.layout.slots used s (d.view w.disk).seen → ⊥
+  abbrev RefusedBy : Fault → Type 0
+  RefusedBy f = (d.view w'.disk).keeps_model → IsRefusedBy w.layout.vars w.layout.slots (d.view w.disk).seen f
 
   abbrev StandsForUnsound : Fault → Type 0
   StandsForUnsound f = (used : ℕ) × (s : State) × ((d.view w'.disk).keeps_model → StandsFor w.layout.vars w.layout.slots used s (d.view w.disk).seen) × (¬ IsSound program.tests program.names s.names s.values)
 
   -- it stands for some state
-  some_state : (d.view w.disk).keeps_model → StandsForNone → ⊥
-  some_state k none = ⊎_elim (λ (it : StandsFor w.layout.vars w.layout.slots m.used (cut program m m.durable) (d.view w.disk).seen). none keeps _ _ it) (λ it. none keeps _ _ it) (reads_at k)
+  some_state : (f : Fault) → (d.view w.disk).keeps_model → RefusedBy f → ⊥
+  some_state f k by =
+      let none = refused_stands_for_none w.layout.vars w.layout.slots w.layout.fits (d.view w.disk).seen f (by keeps) in
+      ⊎_elim (λ (it : StandsFor w.layout.vars w.layout.slots m.used (cut program m m.durable) (d.view w.disk).seen). none _ _ it) (λ it. none _ _ it) (reads_at k)
 
   -- and that is sound
   sound_state : (f : Fault) → (d.view w.disk).keeps_model → StandsForUnsound f → ⊥
@@ -89,18 +93,18 @@ module _ {D T S : Type 0} {d t z : _} (program : Program) (w w' : World D T S d 
       at_doubtful : StandsFor w.layout.vars w.layout.slots (m.used + (m.doubtful - m.durable)) (cut program m m.doubtful) (d.view w.disk).seen → ⊥
       at_doubtful it = sound_at m.doubtful (omega (arith, r.numbers.opened, r.numbers.durable)) r.numbers.doubtful (stands_for_one w.layout.vars w.layout.slots few_vars (d.view w.disk).seen un.0 (m.used + (m.doubtful - m.durable)) un.1 (cut program m m.doubtful) (un.2 keeps) it).1
 
-  not_refused : (f : Fault) → ((d.view w'.disk).keeps_model → (d.view w.disk).keeps_model) → IsWhyNot StandsForNone (StandsForUnsound f) f → (f ≡ fault.Memory) ⊎ (f ≡ fault.Device)
+  not_refused : (f : Fault) → ((d.view w'.disk).keeps_model → (d.view w.disk).keeps_model) → IsWhyNot RefusedBy (StandsForUnsound f) f → (f ≡ fault.Memory) ⊎ (f ≡ fault.Device)
   not_refused fault.Memory model why = inl refl
   not_refused fault.Device model why = inr refl
-  not_refused fault.NotFormatted model why = absurd (some_state (model keeps) why)
-  not_refused fault.Damaged model why = absurd (some_state (model keeps) why)
-  not_refused fault.Geometry model why = absurd (some_state (model keeps) why)
+  not_refused fault.NotFormatted model why = absurd (some_state fault.NotFormatted (model keeps) why)
+  not_refused fault.Damaged model why = absurd (some_state fault.Damaged (model keeps) why)
+  not_refused fault.Geometry model why = absurd (some_state fault.Geometry (model keeps) why)
   not_refused (fault.Missing name) model why = absurd (sound_state (fault.Missing name) (model keeps) why)
   not_refused (fault.Broken name) model why = absurd (sound_state (fault.Broken name) (model keeps) why)
   not_refused _ model why = absurd why
 
   -- opening refused
-  pub refused : (f : Fault) → Uses {T = Unit {0}} (d.view w.disk) (d.view w'.disk) (Err f) → IsWhyNot StandsForNone (StandsForUnsound f) f
+  pub refused : (f : Fault) → Uses {T = Unit {0}} (d.view w.disk) (d.view w'.disk) (Err f) → IsWhyNot RefusedBy (StandsForUnsound f) f
       → w'.session ≡ None → w'.durable ≡ w.durable → w'.doubtful ≡ w.doubtful → (m' : WorldModel) × Reopens m (reply.Fault f) m' × Represents program w' m'
   refused f uses why none durable doubtful = ⊎_elim by_memory by_device (not_refused f uses.model why)
     where

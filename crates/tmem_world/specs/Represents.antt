@@ -5,10 +5,11 @@ use Rattle.std.specs.Option.{ForSome}
 use Rattle.tmem_invariants.specs.Meanings.{IsSound}
 use Rattle.tmem_disk.specs.Disk.{DeviceView, LeavesOnly, Reads}
 use Rattle.tmem_disk.specs.declared.fault.Fault.{Fault}
+use Rattle.tmem_disk.specs.declared.fault.Fault.TheVariants.{Geometry}
 use Rattle.tmem_journal.specs.Calls.{Uses, FitsOn}
+use Rattle.tmem_journal.specs.Refusals.{IsRefusedBy}
 use Rattle.tmem_world.specs.Refusals.{IsWhyNot}
 use Rattle.tmem_world.specs.Tables.{table_in}
-use Rattle.tmem_record.specs.State as states
 use Rattle.tmem_core.specs.Program.{Program}
 use Rattle.tmem_tentative.specs.Right.{IsRight}
 use Rattle.tmem_core.specs.Held.{state_of, waiting_of, durable_of, is_shut_of}
@@ -125,9 +126,10 @@ Plays {d = d} old es rs new =
 abbrev pub HoldsSession : {D T S : Type 0} {d t s : _} → World D T S d t s → Type 0
 HoldsSession w = IsSome w.session
 
--- Why opening was refused, and what it left of the device: memory or the device; or else the numbers do not fit it or its content stands for no state; or else an invariant of that state is missing or false.
+-- Why opening was refused, and what it left of the device: by Geometry where the numbers do not fit it; else memory or the device, or what its content is refused by; or else an invariant of the state that it stands for is missing or false.
 pub record IsBack (old : DeviceView) (vars slots : ℕ) (unsound : Type 0) (f : Fault) (new : DeviceView) : Type 0 where
   pub uses : Uses {T = Unit {0}} old new (Err f)
-  pub why : IsWhyNot (new.keeps_model → FitsOn vars slots old.capacity → (used : ℕ) (s : states.State) → StandsFor vars slots used s old.seen → ⊥) unsound f
+  pub numbers : ¬ FitsOn vars slots old.capacity → f ≡ Geometry
+  pub why : IsWhyNot (λ g. new.keeps_model → FitsOn vars slots old.capacity → IsRefusedBy vars slots old.seen g) unsound f
   pub seen : Reads new old.seen
   pub stop : LeavesOnly new old.may_leave

@@ -10,6 +10,7 @@ ghost use Rattle.tmem_core.specs.Program.{Program};
 ghost use Rattle.tmem_journal.specs.Layout.{end_place, slot_place};
 ghost use Rattle.tmem_journal.specs.Stands.{StandsFor};
 ghost use Rattle.tmem_journal.specs.Calls.{Uses};
+ghost use Rattle.tmem_journal.specs.Refusals.{IsRefusedBy};
 ghost use Rattle.tmem_world.specs.Refusals.{IsWhyNot, fault_alone};
 ghost use Rattle.tmem_world.specs.Settle.{FitsCore, Settles, reply_of};
 
@@ -52,7 +53,7 @@ pub(crate) fn find<D: Disk, T: Tests + Drop>(
     ensures uses { Uses (D.view disk.old) (D.view disk.new) (fault_alone result) }
     ensures found { (D.view disk.new).keeps_model → IfOk result (λ s. StandsFor layout.vars layout.slots s.used (state_of s.core) (D.view disk.old).seen) }
     ensures refused { IfErr result (λ e. IsWhyNot
-        ((D.view disk.new).keeps_model → (used : ℕ) (s : State) → StandsFor layout.vars layout.slots used s (D.view disk.old).seen → ⊥)
+        (λ f. (D.view disk.new).keeps_model → IsRefusedBy layout.vars layout.slots (D.view disk.old).seen f)
         ((used : ℕ) × (s : State)
         × ((D.view disk.new).keeps_model → StandsFor layout.vars layout.slots used s (D.view disk.old).seen)
         × ((p : Program) → p.names ≡ T.names table → T.is_stated table p.tests → (opening_fault p s ≡ Some e.0) × (¬ IsSound p.tests p.names s.names s.values)))

@@ -60,10 +60,11 @@ impl<D: Disk, T: Tests + Drop, S: StoredSteps + Drop> World<D, T, S> {
 
     /// Opens a device of these numbers: finds what its content stands for, and begins a session there, with these
     /// invariants and stored steps. Refused by `Geometry` where the numbers are out of limits, the device is smaller than
-    /// their layout, or it was formatted for others; by `NotFormatted` and `Damaged` where its content stands for no
-    /// state; by `Missing` with the first registered name, by bytes, that the table lacks; by `Broken` with the first
-    /// registered invariant, in the table's order, that is false; by `Memory`; by `Device` where a call of the device
-    /// failed. The device is handed back with the refusal, and nothing was written.
+    /// their layout, or it was formatted for others; by `NotFormatted` where it lacks the open block 0 with its letters;
+    /// else by `Damaged` where its content stands for no state; by `Missing` with the first registered name, by bytes,
+    /// that the table lacks; by `Broken` with the first registered invariant, in the table's order, that is false; by
+    /// `Memory`; by `Device` where a call of the device failed. The device is handed back with the refusal, and nothing
+    /// was written.
     pub fn open(
         alloc: Global,
         mut disk: D,

@@ -1,9 +1,9 @@
-//! The bytes of records, and what spells no batch.
+//! The bytes of records, what spells no batch, and the first state.
 use std::alloc::{AllocError, Global};
 use std::process::Abort;
 use std::test::Fail;
 use tmem_disk::Name;
-use tmem_record::{BATCH_ROOM, Batch, Effect, decode_batch, encode_batch};
+use tmem_record::{BATCH_ROOM, Batch, Effect, State, decode_batch, encode_batch};
 
 // An effect of one write.
 fn write_of(alloc: Global, var: u16, value: i64) -> Result<Effect, AllocError> {
@@ -80,5 +80,13 @@ fn what_spells_no_batch_is_read_as_none(rt: HostRuntime) -> Result<(), Fail> {
         bytes[16] = 0;
     }
     assert!(rt; decode_batch(rt.alloc(), &bytes, 4)?.is_none());
+    Ok(())
+}
+
+#[test]
+fn the_first_state_holds_nothing(rt: HostRuntime) -> Result<(), Fail> {
+    let state = State::first(rt.alloc(), 3)?;
+    assert!(rt; state.count() == 0 && state.names().is_empty());
+    assert_eq!(rt; state.values(), [0, 0, 0].as_slice());
     Ok(())
 }

@@ -4,13 +4,36 @@ use Rattle.tmem_gate.specs.Gate.{IsClosed}
 use Rattle.tmem_record.proofs.Folding.{length-written}
 use Rattle.tmem_journal.specs.Layout.{slot_place}
 use Rattle.tmem_journal.proofs.Appending.{stands_unused}
-use Rattle.tmem_journal.proofs.Recovering.{nothing_found, all_found, stands_with, leaves_seen, why_too}
+use Rattle.tmem_journal.proofs.Recovering.{nothing_found, all_found, stands_with, leaves_seen}
+use Rattle.tmem_journal.proofs.Refused.{why_block, why_part, block_then, no_image}
 use Rattle.tmem_journal.proofs.journal.recover.Goals as goal
+
+pub returns-in_err-found_block-clause-refused : goal.returns-in_err-found_block-clause-refused
+returns-in_err-found_block-clause-refused g c =
+    let returned = err_from_is_err_and c.from_residual-in_err-found_block.result c.from_residual-in_err-found_block.ensures.1 in
+    let before = c.sync.ensures.looks.seen in
+    rw (returned.1, returned.2) (why_block c.args.layout.vars c.args.layout.slots c.args.layout.fits _ _ _ (λ k. before (c.found_block.ensures.uses.model k)) c.in_err-found_block.field-0.0 c.in_err-found_block.ensures.refused)
+
+pub returns-in_err-state-clause-refused : goal.returns-in_err-state-clause-refused
+returns-in_err-state-clause-refused g c =
+    let returned = err_from_is_err_and c.from_residual-in_err-state.result c.from_residual-in_err-state.ensures.1 in
+    rw (returned.1, returned.2) (why_part c.args.layout.vars c.args.layout.slots c.args.layout.fits _ _ _ c.in_err-state.field-0.0
+    (λ k.
+    let m2 = c.found_image.ensures.uses.model k in
+    block_then c.args.layout.vars c.args.layout.slots _ _ (c.sync.ensures.looks.seen (c.found_block.ensures.uses.model m2)) (c.in_ok-found_block.ensures.found m2))
+    (λ refused k.
+    let m2 = c.found_image.ensures.uses.model k in
+    let m1 = c.found_block.ensures.uses.model m2 in
+    no_image c.args.layout.vars c.args.layout.slots _ _ (c.found_block.ensures.looks.seen m2 ∙ c.sync.ensures.looks.seen m1) (refused k)) c.in_err-state.ensures.refused)
 
 pub returns-in_err-found_log-clause-refused : goal.returns-in_err-found_log-clause-refused
 returns-in_err-found_log-clause-refused g c =
     let returned = err_from_is_err_and c.from_residual-in_err-found_log.result c.from_residual-in_err-found_log.ensures.1 in
-    rw (returned.1, returned.2) (why_too c.in_err-found_log.field-0.0 (λ refused k.
+    rw (returned.1, returned.2) (why_part c.args.layout.vars c.args.layout.slots c.args.layout.fits _ _ _ c.in_err-found_log.field-0.0
+    (λ k.
+    let m2 = c.found_image.ensures.uses.model (c.found_log.ensures.uses.model k) in
+    block_then c.args.layout.vars c.args.layout.slots _ _ (c.sync.ensures.looks.seen (c.found_block.ensures.uses.model m2)) (c.in_ok-found_block.ensures.found m2))
+    (λ refused k.
     let m3 = c.found_log.ensures.uses.model k in
     let m2 = c.found_image.ensures.uses.model m3 in
     let m1 = c.found_block.ensures.uses.model m2 in

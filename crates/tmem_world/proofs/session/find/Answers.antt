@@ -1,5 +1,6 @@
 use Rattle.std.proofs.Common.{◌∙◌, subst}
 use Rattle.tmem_invariants.specs.Meanings.{IsSound}
+use Rattle.tmem_journal.specs.Refusals.{IsRefusedBy}
 use Rattle.tmem_world.proofs.Finding.{refusal-counts, why_no_core}
 use Rattle.tmem_world.proofs.session.find.Goals as goal
 
@@ -13,7 +14,7 @@ pub returns-clause-refused : goal.returns-clause-refused
 returns-clause-refused g c =
     let so = c.in-Err-new-2.ensures in
     let s = c.in-Ok.found.state in
-    why_no_core _ _ c.in-Err-new-2.refused.0 so.refused (λ other. (
+    why_no_core (λ f. (g.D.Disk.view c.recover.new.disk).keeps_model → IsRefusedBy c.args.layout.vars c.args.layout.slots (g.D.Disk.view c.args.disk.now).seen f) _ c.in-Err-new-2.refused.0 so.refused (λ other. (
       c.in-Ok.found.used,
       s,
       c.in-Ok.ensures.found,

@@ -1,5 +1,8 @@
-use Rattle.std.proofs.Common.{refl, sym, ◌∙◌, ap, subst}
+use Rattle.std.proofs.Common.{refl, sym, ◌∙◌, ap, subst, arith}
+use Rattle.tmem_disk.specs.declared.fault.Fault.{Fault}
 use Rattle.tmem_invariants.specs.Meanings.{IsSound}
+use Rattle.tmem_journal.specs.Calls.{FitsOn}
+use Rattle.tmem_journal.specs.Refusals.{IsRefusedBy}
 use Rattle.tmem_core.specs.Held.{state_of}
 use Rattle.tmem_world.proofs.Opened.{opens, why_also}
 use Rattle.tmem_world.proofs.Tables.{core_means}
@@ -23,9 +26,12 @@ returns-in-Ok-find-clause-found g c =
 pub returns-in-Err-find-clause-refused : goal.returns-in-Err-find-clause-refused
 returns-in-Err-find-clause-refused g c =
     let so = c.in-Err-find.ensures in
+    let refused_found : Fault → Type 0 = λ f. (g.D.Disk.view c.find.new.disk).keeps_model → IsRefusedBy c.in-Ok.layout.vars c.in-Ok.layout.slots (g.D.Disk.view c.args.disk).seen f in
+    let refused_opened : Fault → Type 0 = λ f. (g.D.Disk.view c.find.new.disk).keeps_model → FitsOn c.args.vars c.args.slots (g.D.Disk.view c.args.disk).capacity → IsRefusedBy c.args.vars c.args.slots (g.D.Disk.view c.args.disk).seen f in
     record {
+      numbers = λ unfit. absurd (unfit (record { layout = rw (← c.in-Ok.ensures.vars, ← c.in-Ok.ensures.slots) c.in-Ok.layout.fits; room = rw (← c.in-Ok.ensures.vars, ← c.in-Ok.ensures.slots) (omega arith) }));
       uses = record { capacity = so.uses.capacity; model = so.uses.model; failures = so.uses.failures };
-      why = why_also _ _ _ _ c.in-Err-find.refused.0 (λ none k fits used s stands. none k used s (rw (c.in-Ok.ensures.vars, c.in-Ok.ensures.slots) stands))
+      why = why_also refused_found refused_opened _ _ c.in-Err-find.refused.0 (λ by k fits. rw (← c.in-Ok.ensures.vars, ← c.in-Ok.ensures.slots) (by k))
           (λ un. (un.0, un.1, (λ k. rw (← c.in-Ok.ensures.vars, ← c.in-Ok.ensures.slots) (un.2 k)), λ p names stated. (un.3 p names stated).0)) so.refused;
       seen = c.find.ensures.seen;
       stop = c.find.ensures.stop;

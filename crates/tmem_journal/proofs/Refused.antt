@@ -1,0 +1,145 @@
+-- Which refusal a content has.
+use Rattle.std.proofs.Common.{◌≡◌, ◌<◌, ◌≤◌, ◌+◌, ◌^◌, ℕ, List, ◌++◌, length, take, drop, replicate, codes, refl, sym, ◌∙◌, ap, subst, arith}
+use Rattle.std.specs.Prelude.{slice_range, Result, Ok, Err, IfErr}
+use Rattle.std.proofs.lemmas.List.{take-append-drop}
+use Rattle.byteorder.specs.Endian.{little_bytes, little_number}
+use Rattle.tmem_disk.specs.declared.fault.Fault.{Fault}
+use Rattle.tmem_disk.specs.declared.fault.Fault.TheVariants.{Memory, Device, NotFormatted, Damaged, Geometry}
+use Rattle.tmem_gate.specs.Gate.{IsOpenAt, IsOpenOver}
+use Rattle.tmem_record.specs.State.{State}
+use Rattle.tmem_record.specs.Begins.{Begins}
+use Rattle.tmem_record.specs.Spelling.{number_bytes}
+use Rattle.tmem_record.proofs.Numbers.{number-spelled}
+use Rattle.tmem_journal.specs.Layout.{IsLayout}
+use Rattle.tmem_journal.specs.Spelling.{block_body}
+use Rattle.tmem_journal.specs.Stands.{StandsFor}
+use Rattle.tmem_journal.specs.Reading.{StandsAt}
+use Rattle.tmem_journal.specs.Refusals.{HasLetters, IsOfOthers, IsRefusedBy, IsWhy}
+use Rattle.tmem_journal.specs.Parts.{IsBlockFault, IsBlockBy, IsWhyPart, HoldsImage}
+use Rattle.tmem_journal.proofs.Lengths.{length-block_body}
+use Rattle.tmem_journal.proofs.Recovering.{one_body, image_of}
+use Rattle.tmem_journal.proofs.Finding.{front_of}
+
+-- the numbers that stand in a block 0
+pub block_vars : (vars slots : ℕ) → vars < 2 ^ 16 → little_number 2 (drop 5 (block_body vars slots)) ≡ vars
+unfolding block_body
+block_vars vars slots few = number-spelled 2 vars (little_bytes 2 slots ++ replicate 502 0) (omega (arith, few))
+
+pub block_slots : (vars slots : ℕ) → slots < 2 ^ 16 → little_number 2 (drop 7 (block_body vars slots)) ≡ slots
+unfolding block_body
+block_slots vars slots few = number-spelled 2 slots (replicate 502 0) (omega (arith, few))
+
+numbers_in : (vars slots : ℕ) → IsLayout vars slots → (bytes : List ℕ) → bytes ≡ block_body vars slots → (little_number 2 (drop 5 bytes) ≡ vars) × (little_number 2 (drop 7 bytes) ≡ slots)
+numbers_in vars slots layout bytes is = (
+  ap (λ (b : List ℕ). little_number 2 (drop 5 b)) is ∙ block_vars vars slots (omega (arith, layout.vars_fit)),
+  ap (λ (b : List ℕ). little_number 2 (drop 7 b)) is ∙ block_slots vars slots (omega (arith, layout.slots_fit)),
+)
+
+-- a number of two bytes that stands there is what is read there
+short_read : (at v : ℕ) (bytes : List ℕ) → v < 2 ^ 16 → StandsAt at (number_bytes 2 v) bytes → little_number 2 (drop at bytes) ≡ v
+unfolding number_bytes
+short_read at v bytes few stands =
+    ap (little_number 2) (sym (take-append-drop 2 (drop at bytes)) ∙ ap (λ (l : List ℕ). l ++ drop 2 (drop at bytes)) stands.is) ∙ number-spelled 2 v (drop 2 (drop at bytes)) (omega (arith, few))
+
+-- the numbers that were read are those of the layout whose block 0 it is
+pub same_numbers : (vars slots : ℕ) → IsLayout vars slots → (bytes : List ℕ) → bytes ≡ block_body vars slots → (v s : ℕ) → v < 2 ^ 16 → s < 2 ^ 16 → StandsAt 5 (number_bytes 2 v) bytes → StandsAt 7 (number_bytes 2 s) bytes → (v ≡ vars) × (s ≡ slots)
+same_numbers vars slots layout bytes is v s few_v few_s v_at s_at =
+    let there = numbers_in vars slots layout bytes is in
+    (sym (short_read 5 v bytes few_v v_at) ∙ there.0, sym (short_read 7 s bytes few_s s_at) ∙ there.1)
+
+-- the letters stand in front of them
+block_letters : (vars slots : ℕ) → take 4 (block_body vars slots) ≡ codes "TMEM"
+unfolding block_body
+block_letters vars slots = refl
+
+-- what is read behind the gate of block 0
+module _ (c bytes : List ℕ) (gate : IsOpenAt 0 c) (read : bytes ≡ slice_range c 1 (1 + 511)) where
+  begins : (front : List ℕ) → length front ≤ 511 → Begins front bytes → IsOpenOver 0 front c
+  begins front short begin = record { gate = gate; body = sym (front_of c 0 0 511 front bytes refl read short) ∙ begin }
+
+  begun : (front : List ℕ) → length front ≤ 511 → IsOpenOver 0 front c → Begins front bytes
+  begun front short cell = front_of c 0 0 511 front bytes refl read short ∙ cell.body
+
+  whole : (vars slots : ℕ) → bytes ≡ block_body vars slots → IsOpenOver 0 (block_body vars slots) c
+  whole vars slots is = record { gate = gate; body = ap (λ (n : ℕ). slice_range c 1 (1 + n)) (length-block_body vars slots) ∙ sym read ∙ is }
+
+  pub block_read : (vars slots : ℕ) → IsOpenOver 0 (block_body vars slots) c → bytes ≡ block_body vars slots
+  block_read vars slots cell = read ∙ ap (λ (n : ℕ). slice_range c 1 (1 + n)) (sym (length-block_body vars slots)) ∙ cell.body
+
+  -- it is refused as the bytes are
+  pub block_refused : (vars slots : ℕ) (f : Fault) → IsBlockFault vars slots bytes f → IsBlockBy vars slots c f
+  block_refused vars slots NotFormatted none = λ cell. none (begun (codes "TMEM") (omega arith) cell)
+  block_refused vars slots Geometry other = record { their_vars = other.their_vars; their_slots = other.their_slots; layout = other.layout; block = whole other.their_vars other.their_slots other.block; others = other.others }
+  block_refused vars slots Damaged is = (begins (codes "TMEM") (omega arith) is.0, λ v s layout cell. is.1 v s layout (block_read v s cell))
+  block_refused vars slots _ is = absurd is
+
+module _ (K : Type 0) (vars slots : ℕ) (c bytes : List ℕ) (gate : K → IsOpenAt 0 c) (read : K → bytes ≡ slice_range c 1 (1 + 511)) where
+  why_fault : (f : Fault) → IsBlockFault vars slots bytes f → IsWhy (λ g. K → IsBlockBy vars slots c g) f
+  why_fault NotFormatted is = λ k. block_refused c bytes (gate k) (read k) vars slots NotFormatted is
+  why_fault Damaged is = λ k. block_refused c bytes (gate k) (read k) vars slots Damaged is
+  why_fault Geometry is = λ k. block_refused c bytes (gate k) (read k) vars slots Geometry is
+  why_fault _ is = absurd is
+
+  pub why_read : {T : Type 0} (r : Result T Fault) → IfErr r (IsBlockFault vars slots bytes) → IfErr r (IsWhy (λ g. K → IsBlockBy vars slots c g))
+  why_read (Ok x) is = tt
+  why_read (Err f) is = why_fault f is
+
+-- a gate that is closed has no letters behind it
+pub no_letters : (c : List ℕ) → ¬ IsOpenAt 0 c → ¬ HasLetters c
+no_letters c closed cell = closed cell.gate
+
+-- an open block 0 has the letters
+pub letters_of : (vars slots : ℕ) (c : List ℕ) → IsOpenOver 0 (block_body vars slots) c → HasLetters c
+letters_of vars slots c cell =
+    let read : block_body vars slots ≡ slice_range c 1 (1 + 511) = sym cell.body ∙ ap (λ (n : ℕ). slice_range c 1 (1 + n)) (length-block_body vars slots) in
+    begins c (block_body vars slots) cell.gate read (codes "TMEM") (omega arith) (block_letters vars slots)
+
+-- and is of no other numbers
+pub of_no_others : (vars slots : ℕ) → IsLayout vars slots → (c : List ℕ) → IsOpenOver 0 (block_body vars slots) c → ¬ IsOfOthers vars slots c
+of_no_others vars slots layout c cell other =
+    let one : block_body other.their_vars other.their_slots ≡ block_body vars slots = one_body 0 _ _ c (length-block_body other.their_vars other.their_slots ∙ sym (length-block_body vars slots)) other.block cell in
+    let mine = numbers_in vars slots layout (block_body other.their_vars other.their_slots) one in
+    let theirs = numbers_in other.their_vars other.their_slots other.layout (block_body other.their_vars other.their_slots) refl in
+    other.others (sym theirs.0 ∙ mine.0, sym theirs.1 ∙ mine.1)
+
+module _ (vars slots : ℕ) (layout : IsLayout vars slots) (c : List ℕ) where
+  -- a content that is refused stands for no state
+  pub refused_stands_for_none : (f : Fault) → IsRefusedBy vars slots c f → (used : ℕ) (s : State) → StandsFor vars slots used s c → ⊥
+  refused_stands_for_none NotFormatted is used s stands = is (letters_of vars slots c stands.holds.block)
+  refused_stands_for_none Geometry is used s stands = of_no_others vars slots layout c stands.holds.block is
+  refused_stands_for_none Damaged is used s stands = is.2 used s stands
+  refused_stands_for_none _ is used s stands = absurd is
+
+  by_block : (f : Fault) → IsBlockBy vars slots c f → IsRefusedBy vars slots c f
+  by_block NotFormatted is = is
+  by_block Geometry is = is
+  by_block Damaged is = (is.0, (λ other. is.1 other.their_vars other.their_slots other.layout other.block), λ used s stands. is.1 vars slots layout stands.holds.block)
+  by_block _ is = absurd is
+
+  -- what block 0 is refused by, as it is read later, the content is
+  module _ (J : Type 0) (then : List ℕ) (same : J → then ≡ c) where
+    block_by : (f : Fault) → (J → IsBlockBy vars slots then f) → J → IsRefusedBy vars slots c f
+    block_by f is j = by_block f (subst (λ (x : List ℕ). IsBlockBy vars slots x f) (same j) (is j))
+
+    pub why_block : (f : Fault) → IsWhy (λ g. J → IsBlockBy vars slots then g) f → IsWhy (λ g. J → IsRefusedBy vars slots c g) f
+    why_block Memory why = tt
+    why_block Device why = tt
+    why_block NotFormatted why = block_by NotFormatted why
+    why_block Damaged why = block_by Damaged why
+    why_block Geometry why = block_by Geometry why
+    why_block _ why = absurd why
+
+  -- where block 0 is that of these numbers, all else is damage
+  pub why_part : (J none : Type 0) (f : Fault) → (J → IsOpenOver 0 (block_body vars slots) c) → (none → J → (used : ℕ) (s : State) → StandsFor vars slots used s c → ⊥) → IsWhyPart none f → IsWhy (λ g. J → IsRefusedBy vars slots c g) f
+  why_part J none Memory block from why = tt
+  why_part J none Device block from why = tt
+  why_part J none Damaged block from why = λ j. (letters_of vars slots c (block j), of_no_others vars slots layout c (block j), from why j)
+  why_part J none _ block from why = absurd why
+
+-- block 0 as it is read later
+pub block_then : (vars slots : ℕ) (c then : List ℕ) → then ≡ c → IsOpenOver 0 (block_body vars slots) then → IsOpenOver 0 (block_body vars slots) c
+block_then vars slots c then same cell = subst (λ (x : List ℕ). IsOpenOver 0 (block_body vars slots) x) same cell
+
+-- without an image, as it is read later, a content stands for nothing
+pub no_image : (vars slots : ℕ) (c then : List ℕ) → then ≡ c → ((s : State) → HoldsImage vars s then → ⊥) → (used : ℕ) (s : State) → StandsFor vars slots used s c → ⊥
+no_image vars slots c then same none used s stands = none stands.image (subst (λ (x : List ℕ). HoldsImage vars stands.image x) (sym same) (image_of stands.holds))

@@ -1,0 +1,37 @@
+-- What a content is refused by, where it stands for no state.
+use Rattle.std.specs.Prelude.{◌≡◌, ℕ, List, codes}
+use Rattle.tmem_disk.specs.declared.fault.Fault.{Fault}
+use Rattle.tmem_disk.specs.declared.fault.Fault.TheVariants.{Memory, Device, NotFormatted, Damaged, Geometry}
+use Rattle.tmem_gate.specs.Gate.{IsOpenOver}
+use Rattle.tmem_record.specs.State.{State}
+use Rattle.tmem_journal.specs.Layout.{IsLayout}
+use Rattle.tmem_journal.specs.Spelling.{block_body}
+use Rattle.tmem_journal.specs.Stands.{StandsFor}
+
+-- block 0 is open, and begins with the letters
+abbrev pub HasLetters : List ℕ → Type 0
+HasLetters c = IsOpenOver 0 (codes "TMEM") c
+
+-- block 0 is open over other numbers than these, which are within the limits too
+pub record IsOfOthers (vars slots : ℕ) (c : List ℕ) : Type 0 where
+  pub their_vars : ℕ
+  pub their_slots : ℕ
+  pub layout : IsLayout their_vars their_slots
+  pub block : IsOpenOver 0 (block_body their_vars their_slots) c
+  pub others : ¬ ((their_vars ≡ vars) × (their_slots ≡ slots))
+
+-- Which refusal a content that stands for no state has: it lacks the letters, or it is of other numbers, or else it is damaged.
+abbrev pub IsRefusedBy : ℕ → ℕ → List ℕ → Fault → Type 0
+IsRefusedBy vars slots c NotFormatted = ¬ HasLetters c
+IsRefusedBy vars slots c Geometry = IsOfOthers vars slots c
+IsRefusedBy vars slots c Damaged = HasLetters c × (¬ IsOfOthers vars slots c) × ((used : ℕ) (s : State) → StandsFor vars slots used s c → ⊥)
+IsRefusedBy vars slots c _ = ⊥
+
+-- Why a content was not opened: want of memory, a failed call of the device, or one of these three.
+abbrev pub IsWhy : (Fault → Type 0) → Fault → Type 0
+IsWhy refused_by Memory = Unit {0}
+IsWhy refused_by Device = Unit {0}
+IsWhy refused_by NotFormatted = refused_by NotFormatted
+IsWhy refused_by Damaged = refused_by Damaged
+IsWhy refused_by Geometry = refused_by Geometry
+IsWhy refused_by _ = ⊥
