@@ -1,7 +1,6 @@
 //! The program as its user sees it: words and input go in, and a status and two texts come out.
 
 mod scripts;
-mod stores;
 mod streams;
 mod words;
 
@@ -74,9 +73,4 @@ fn with_name(alloc: Global, words: &[&str]) -> Result<Vec<String>, AllocError> {
 /// Plays a script from the input.
 fn play(rt: &HostRuntime, script: &str) -> Result<Outcome, Fail> {
     run(rt, &["run"], script.as_bytes())
-}
-
-/// Fails where a script is not played to its end with these lines.
-fn expect_lines(rt: &HostRuntime, script: &str, lines: &str) -> Result<(), Fail> {
-    play(rt, script)?.expect(script, 0, lines, "")
 }

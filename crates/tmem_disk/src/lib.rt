@@ -9,8 +9,6 @@ mod history;
 mod name;
 mod power;
 mod sim;
-#[cfg(test)]
-mod tests;
 
 pub use disk::{DeviceFault, Disk};
 pub use fault::{Cause, Fault};

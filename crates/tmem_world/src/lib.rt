@@ -23,8 +23,6 @@ mod plan;
 mod record;
 mod recover;
 mod session;
-#[cfg(test)]
-mod tests;
 mod tx;
 mod world;
 

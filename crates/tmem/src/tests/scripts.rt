@@ -1,253 +1,193 @@
-//! What is a script, and what its lines print.
-use super::{BAD_SCRIPT, FIRST, FIRST_OUT, expect_lines, play, run};
+//! What is a script, and what is none.
+use super::FIRST;
+use crate::script::{Script, ScriptError};
 use std::alloc::{AllocError, Global};
 use std::test::Fail;
+
+/// Fails where a text is read as a script, or is refused for another reason than that it is none.
+fn expect_bad(alloc: Global, text: &str) -> Result<(), Fail> {
+    match Script::from_slice(alloc, text.as_bytes()) {
+        Err(ScriptError::NoScript) => Ok(()),
+        Err(error) => Err(Fail::from(error)),
+        Ok(_) => Err(Fail::new(format_args!("a script: {text}"))),
+    }
+}
+
+/// Fails where a text is no script of so many events.
+fn expect_good(alloc: Global, text: &str, events: usize) -> Result<(), Fail> {
+    let script = Script::from_slice(alloc, text.as_bytes())?;
+    if script.lines.len() != events {
+        return Err(Fail::new(format_args!("not {events} events: {text}")));
+    }
+    Ok(())
+}
 
 /// A script of one event on four variables and four slots.
 fn with_event(alloc: Global, event: &str) -> Result<String, AllocError> {
     format!(in alloc; r#"{{"vars":4,"slots":4,"events":[{event}]}}"#)
 }
 
+/// A script that begins a transaction.
 fn with_tx(alloc: Global, tx: &str) -> Result<String, AllocError> {
     format!(in alloc; r#"{{"vars":4,"slots":4,"events":[{{"begin":[0,{tx}]}}]}}"#)
 }
 
-/// The empty sequence within that many others, the innermost counted.
-fn nested(alloc: Global, depth: usize) -> Result<String, AllocError> {
+#[test]
+fn a_script_that_is_cut_is_none(rt: HostRuntime) -> Result<(), Fail> {
+    for end in 0..FIRST.len() {
+        expect_bad(rt.alloc(), FIRST.get(..end).ok_or("no such cut")?)?;
+    }
+    Ok(())
+}
+
+#[test]
+fn what_may_stand_around_a_script(rt: HostRuntime) -> Result<(), Fail> {
+    for behind in ["1", "{}", "\"show\"", "]", "}", ",", "\u{0}", FIRST] {
+        let text = format!(in rt.alloc(); "{FIRST}{behind}")?;
+        expect_bad(rt.alloc(), text.as_str())?;
+    }
+    for blank in ["\n", " \t\r\n"] {
+        let text = format!(in rt.alloc(); "{blank}{FIRST}{blank}")?;
+        expect_good(rt.alloc(), text.as_str(), 6)?;
+    }
+    let mut bytes = Vec::from_slice(rt.alloc(), FIRST.as_bytes())?;
+    bytes.push(0xff)?;
+    match Script::from_slice(rt.alloc(), bytes.as_slice()) {
+        Err(ScriptError::NoScript) => Ok(()),
+        _ => Err(Fail::new("bytes that are no text")),
+    }
+}
+
+/// Texts that are no script, one to a line.
+const NO_SCRIPTS: &str = r#"null
+[4,4,[]]
+{}
+{"vars":4,"slots":4}
+{"vars":4,"events":[]}
+{"slots":4,"events":[]}
+{"vars":4,"slots":4,"events":[],"more":0}
+{"vars":4,"slots":4,"Events":[]}
+{"vars":4,"slots":4,"events":{}}
+{"vars":4,"slots":4,"events":"show"}
+{"vars":4,"slots":4,"events":null}
+{"vars":65536,"slots":4,"events":[]}
+{"vars":4,"slots":65536,"events":[]}
+{"vars":-1,"slots":4,"events":[]}
+{"vars":4.0,"slots":4,"events":[]}
+{"vars":4,"slots":4e0,"events":[]}
+{"vars":-0,"slots":4,"events":[]}
+{"vars":04,"slots":4,"events":[]}
+{"vars":"4","slots":4,"events":[]}
+{"vars":[4],"slots":4,"events":[]}
+{"vars":4,"slots":null,"events":[]}
+{"vars":4,"slots":4,"events":[],}
+{'vars':4,'slots':4,'events':[]}"#;
+
+#[test]
+fn what_is_no_script(rt: HostRuntime) -> Result<(), Fail> {
+    for text in NO_SCRIPTS.lines() {
+        expect_bad(rt.alloc(), text)?;
+    }
+    Ok(())
+}
+
+/// What is no event, one to a line.
+const NO_EVENTS: &str = r#"null
+0
+[]
+{}
+""
+"Flush"
+"checkpoint"
+"begin"
+{"flush":null}
+{"show":0}
+{"turn":16}
+{"turn":-1}
+{"turn":1.0}
+{"turn":"0"}
+{"turn":[0]}
+{"settle":16}
+{"settle":null}
+{"turn":0,"settle":0}
+{"begin":"skip"}
+{"begin":[]}
+{"begin":[0]}
+{"begin":[0,"skip",0]}
+{"begin":["skip",0]}
+{"begin":[16,"skip"]}
+{"begin":{"slot":0,"tx":"skip"}}"#;
+
+#[test]
+fn what_is_no_event(rt: HostRuntime) -> Result<(), Fail> {
+    for event in NO_EVENTS.lines() {
+        expect_bad(rt.alloc(), with_event(rt.alloc(), event)?.as_str())?;
+    }
+    Ok(())
+}
+
+/// What is no transaction, one to a line.
+const NO_TRANSACTIONS: &str = r#"null
+[]
+{}
+"Skip"
+"retry"
+{"skip":null}
+{"read":[0,0]}
+{"step":["add",[0,1],0]}
+{"when":[0,"skip","skip"]}
+{"orelse":["skip","skip"]}
+{"abort":0}
+{"check":"nonneg"}
+{"seq":"skip"}
+{"seq":{}}
+{"seq":[0]}
+{"seq":["skip",{"seq":[{}]}]}
+{"seq":[],"put":[0,0]}
+{"put":5}
+{"put":[0]}
+{"put":[0,1,2]}
+{"put":[256,0]}
+{"put":[-1,0]}
+{"put":[0,9223372036854775808]}
+{"put":[0,-9223372036854775809]}
+{"put":[0,1.0]}
+{"put":[0,1e2]}
+{"put":[0,-0]}
+{"put":[0,"1"]}
+{"write":[65536,0]}
+{"write":[0,256]}
+{"write":[0]}
+{"write":{"var":0,"reg":0}}"#;
+
+#[test]
+fn what_is_no_transaction(rt: HostRuntime) -> Result<(), Fail> {
+    for tx in NO_TRANSACTIONS.lines() {
+        expect_bad(rt.alloc(), with_tx(rt.alloc(), tx)?.as_str())?;
+    }
+    Ok(())
+}
+
+/// So many sequences, one within another, each of which ends so.
+fn nested(alloc: Global, depth: usize, end: &str) -> Result<String, AllocError> {
     let mut tx = String::new(alloc);
     for _ in 0..depth {
         tx.push_str(r#"{"seq":["#)?;
     }
     for _ in 0..depth {
-        tx.push_str("]}")?;
+        tx.push_str(end)?;
     }
-    Ok(tx)
-}
-
-fn expect_bad(rt: &HostRuntime, script: &str) -> Result<(), Fail> {
-    play(rt, script)?.expect(script, 3, "", BAD_SCRIPT)
+    with_tx(alloc, tx.as_str())
 }
 
 #[test]
-fn each_cut_of_a_script_is_bad(rt: HostRuntime) -> Result<(), Fail> {
-    for end in 0..FIRST.len() {
-        let cut = FIRST.as_bytes().get(..end).ok_or("no such cut")?;
-        run(&rt, &["run"], cut)?.expect(format_args!("cut at {end}"), 3, "", BAD_SCRIPT)?;
-    }
-    Ok(())
-}
-
-#[test]
-fn what_stands_behind_a_script(rt: HostRuntime) -> Result<(), Fail> {
-    for behind in ["1", "{}", "\"show\"", "]", "}", ",", "\u{0}", FIRST] {
-        let script = format!(in rt.alloc(); "{FIRST}{behind}")?;
-        expect_bad(&rt, script.as_str())?;
-    }
-    for blank in ["\n", " \t\r\n"] {
-        let script = format!(in rt.alloc(); "{blank}{FIRST}{blank}")?;
-        expect_lines(&rt, script.as_str(), FIRST_OUT)?;
-    }
-    Ok(())
-}
-
-#[test]
-fn bytes_that_are_no_text(rt: HostRuntime) -> Result<(), Fail> {
-    let mut script = Vec::from_slice(rt.alloc(), FIRST.as_bytes())?;
-    script.push(0xff)?;
-    run(&rt, &["run"], script.as_slice())?.expect("0xff", 3, "", BAD_SCRIPT)
-}
-
-#[test]
-fn bad_outlines(rt: HostRuntime) -> Result<(), Fail> {
-    let table = [
-        "null",
-        "[4,4,[]]",
-        "{}",
-        r#"{"vars":4,"slots":4}"#,
-        r#"{"vars":4,"events":[]}"#,
-        r#"{"slots":4,"events":[]}"#,
-        r#"{"vars":4,"slots":4,"events":[],"more":0}"#,
-        r#"{"vars":4,"slots":4,"Events":[]}"#,
-        r#"{"vars":4,"slots":4,"events":{}}"#,
-        r#"{"vars":4,"slots":4,"events":"show"}"#,
-        r#"{"vars":4,"slots":4,"events":null}"#,
-        r#"{"vars":65536,"slots":4,"events":[]}"#,
-        r#"{"vars":4,"slots":65536,"events":[]}"#,
-        r#"{"vars":-1,"slots":4,"events":[]}"#,
-        r#"{"vars":4.0,"slots":4,"events":[]}"#,
-        r#"{"vars":4,"slots":4e0,"events":[]}"#,
-        r#"{"vars":-0,"slots":4,"events":[]}"#,
-        r#"{"vars":04,"slots":4,"events":[]}"#,
-        r#"{"vars":"4","slots":4,"events":[]}"#,
-        r#"{"vars":[4],"slots":4,"events":[]}"#,
-        r#"{"vars":4,"slots":null,"events":[]}"#,
-        r#"{"vars":4,"slots":4,"events":[],}"#,
-        "{'vars':4,'slots':4,'events':[]}",
-    ];
-    for script in table {
-        expect_bad(&rt, script)?;
-    }
-    Ok(())
-}
-
-#[test]
-fn bad_events(rt: HostRuntime) -> Result<(), Fail> {
-    let table = [
-        "null",
-        "0",
-        "[]",
-        "{}",
-        r#""""#,
-        r#""Flush""#,
-        r#""checkpoint""#,
-        r#""begin""#,
-        r#"{"flush":null}"#,
-        r#"{"show":0}"#,
-        r#"{"turn":16}"#,
-        r#"{"turn":-1}"#,
-        r#"{"turn":1.0}"#,
-        r#"{"turn":"0"}"#,
-        r#"{"turn":[0]}"#,
-        r#"{"settle":16}"#,
-        r#"{"settle":null}"#,
-        r#"{"turn":0,"settle":0}"#,
-        r#"{"begin":"skip"}"#,
-        r#"{"begin":[]}"#,
-        r#"{"begin":[0]}"#,
-        r#"{"begin":[0,"skip",0]}"#,
-        r#"{"begin":["skip",0]}"#,
-        r#"{"begin":[16,"skip"]}"#,
-        r#"{"begin":{"slot":0,"tx":"skip"}}"#,
-    ];
-    for event in table {
-        let script = with_event(rt.alloc(), event)?;
-        expect_bad(&rt, script.as_str())?;
-    }
-    Ok(())
-}
-
-#[test]
-fn bad_transactions(rt: HostRuntime) -> Result<(), Fail> {
-    let table = [
-        "null",
-        "[]",
-        "{}",
-        r#""Skip""#,
-        r#""retry""#,
-        r#"{"skip":null}"#,
-        r#"{"read":[0,0]}"#,
-        r#"{"step":["add",[0,1],0]}"#,
-        r#"{"when":[0,"skip","skip"]}"#,
-        r#"{"orelse":["skip","skip"]}"#,
-        r#"{"abort":0}"#,
-        r#"{"check":"nonneg"}"#,
-        r#"{"seq":"skip"}"#,
-        r#"{"seq":{}}"#,
-        r#"{"seq":[0]}"#,
-        r#"{"seq":["skip",{"seq":[{}]}]}"#,
-        r#"{"seq":[],"put":[0,0]}"#,
-        r#"{"put":5}"#,
-        r#"{"put":[0]}"#,
-        r#"{"put":[0,1,2]}"#,
-        r#"{"put":[256,0]}"#,
-        r#"{"put":[-1,0]}"#,
-        r#"{"put":[0,9223372036854775808]}"#,
-        r#"{"put":[0,-9223372036854775809]}"#,
-        r#"{"put":[0,1.0]}"#,
-        r#"{"put":[0,1e2]}"#,
-        r#"{"put":[0,-0]}"#,
-        r#"{"put":[0,"1"]}"#,
-        r#"{"write":[65536,0]}"#,
-        r#"{"write":[0,256]}"#,
-        r#"{"write":[0]}"#,
-        r#"{"write":{"var":0,"reg":0}}"#,
-    ];
-    for tx in table {
-        let script = with_tx(rt.alloc(), tx)?;
-        expect_bad(&rt, script.as_str())?;
-    }
-    Ok(())
-}
-
-#[test]
-fn a_key_that_stands_twice_counts_once(rt: HostRuntime) -> Result<(), Fail> {
-    let script = r#"{"vars":"x","events":7,"slots":4,"events":["show"],"vars":1}"#;
-    expect_lines(&rt, script, "opened 0\nstate count=0 names= values=0\n")?;
-    let tx = r#"{"seq":0,"seq":[]}"#;
-    expect_lines(&rt, with_tx(rt.alloc(), tx)?.as_str(), "opened 0\nbegun\n")?;
-    let event = r#""\u006Cook""#;
-    expect_lines(
-        &rt,
-        with_event(rt.alloc(), event)?.as_str(),
-        "opened 0\nlook 0\n",
-    )
-}
-
-#[test]
-fn nested_sequences(rt: HostRuntime) -> Result<(), Fail> {
-    let too_deep = "opened 0\nfault 12 badplan 1\n";
-    for (depth, lines) in [
-        (1, "opened 0\nbegun\n"),
-        (32, "opened 0\nbegun\n"),
-        (33, too_deep),
-        (61, too_deep),
-    ] {
-        let tx = nested(rt.alloc(), depth)?;
-        let script = with_tx(rt.alloc(), tx.as_str())?;
-        expect_lines(&rt, script.as_str(), lines)?;
-    }
+fn how_deep_a_script_may_be(rt: HostRuntime) -> Result<(), Fail> {
+    let deepest = nested(rt.alloc(), 61, "]}")?;
+    expect_good(rt.alloc(), deepest.as_str(), 1)?;
     for depth in [62, 70, 100_000] {
-        let tx = nested(rt.alloc(), depth)?;
-        let script = with_tx(rt.alloc(), tx.as_str())?;
-        play(&rt, script.as_str())?.expect(depth, 3, "", BAD_SCRIPT)?;
+        let text = nested(rt.alloc(), depth, "]}")?;
+        expect_bad(rt.alloc(), text.as_str())?;
     }
-    let open = nested(rt.alloc(), 100_000)?;
-    expect_bad(&rt, open.as_str())
-}
-
-#[test]
-fn numbers_in_their_ranges(rt: HostRuntime) -> Result<(), Fail> {
-    let extremes =
-        r#"{"vars":2,"slots":4,"events":[{"begin":[15,{"seq":[{"put":[15,-9223372036854775808]},{"write":[1,15]},{"put":[0,9223372036854775807]},{"write":[0,0]}]}]},{"turn":15},{"settle":15},"show"]}"#;
-    let lines = "opened 0
-begun
-ended
-committed 0
-state count=1 names= values=9223372036854775807,-9223372036854775808
-";
-    expect_lines(&rt, extremes, lines)?;
-    let register = with_tx(rt.alloc(), r#"{"put":[255,0]}"#)?;
-    expect_lines(&rt, register.as_str(), "opened 0\nfault 12 badplan 5\n")?;
-    let variable = with_tx(rt.alloc(), r#"{"write":[65535,0]}"#)?;
-    expect_lines(&rt, variable.as_str(), "opened 0\nfault 12 badplan 6\n")
-}
-
-#[test]
-fn variables_and_slots_out_of_limits(rt: HostRuntime) -> Result<(), Fail> {
-    for (vars, slots) in [(0, 4), (1025, 4), (4, 0), (4, 1), (4, 65), (65535, 65535)] {
-        let script = format!(in rt.alloc();
-            r#"{{"vars":{vars},"slots":{slots},"events":["show"]}}"#
-        )?;
-        let refusal = "tmem: fault 17 geometry\n";
-        play(&rt, script.as_str())?.expect(script.as_str(), 1, "", refusal)?;
-    }
-    for (vars, slots) in [(1, 2), (1024, 64)] {
-        let script = format!(in rt.alloc(); r#"{{"vars":{vars},"slots":{slots},"events":[]}}"#)?;
-        expect_lines(&rt, script.as_str(), "opened 0\n")?;
-    }
-    Ok(())
-}
-
-#[test]
-fn empty_attempt_slots_are_idle(rt: HostRuntime) -> Result<(), Fail> {
-    let script = r#"{"vars":4,"slots":4,"events":[{"turn":3},{"settle":3},"look","flush"]}"#;
-    expect_lines(&rt, script, "opened 0\nidle\nidle\nlook 0\ndurable 0\n")
-}
-
-#[test]
-fn a_transaction_with_no_effect_is_seen(rt: HostRuntime) -> Result<(), Fail> {
-    let script =
-        r#"{"vars":4,"slots":4,"events":[{"begin":[0,{"seq":["skip",{"put":[3,-7]}]}]},{"turn":0},{"settle":0},{"settle":0}]}"#;
-    let lines = "opened 0\nbegun\nended\nseen 0 0,0,0,-7,0,0,0,0,0,0,0,0,0,0,0,0\nidle\n";
-    expect_lines(&rt, script, lines)
+    let open = nested(rt.alloc(), 100_000, "")?;
+    expect_bad(rt.alloc(), open.as_str())
 }

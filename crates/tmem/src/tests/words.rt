@@ -65,6 +65,22 @@ fn plays_the_first_script(rt: HostRuntime) -> Result<(), Fail> {
 }
 
 #[test]
+fn variables_and_slots_out_of_limits(rt: HostRuntime) -> Result<(), Fail> {
+    for (vars, slots) in [(0, 4), (1025, 4), (4, 0), (4, 1), (4, 65), (65535, 65535)] {
+        let script = format!(in rt.alloc();
+            r#"{{"vars":{vars},"slots":{slots},"events":["show"]}}"#
+        )?;
+        let refusal = "tmem: fault 17 geometry\n";
+        play(&rt, script.as_str())?.expect(script.as_str(), 1, "", refusal)?;
+    }
+    for (vars, slots) in [(1, 2), (1024, 64)] {
+        let script = format!(in rt.alloc(); r#"{{"vars":{vars},"slots":{slots},"events":[]}}"#)?;
+        play(&rt, script.as_str())?.expect(script.as_str(), 0, "opened 0\n", "")?;
+    }
+    Ok(())
+}
+
+#[test]
 fn help_goes_to_standard_output(rt: HostRuntime) -> Result<(), Fail> {
     let general: &[&[&str]] = &[&["--help"], &["-h"], &["help"]];
     for words in general {

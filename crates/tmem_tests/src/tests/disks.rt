@@ -1,8 +1,8 @@
-// The second device, the texts, and each public call once.
+//! Devices that stop, a second device, names and the texts of refusals.
 ghost use Rattle.std.specs.Prelude.{◌≤◌};
 
-use super::*;
 use std::test::Fail;
+use tmem_disk::{Cause, DeviceFault, Disk, Fault, Fill, Name, SimDisk};
 
 // A device round another, which counts the writes that it passes on.
 #[derive(Drop)]
@@ -43,20 +43,27 @@ fn a_stop_takes_the_fill(rt: HostRuntime) -> Result<(), Fail> {
     ] {
         let mut disk = SimDisk::new(rt.alloc(), 8)?;
         let mut seen = [0; 8];
-        assert_eq!(rt; disk.write_at(0, &[1, 2, 3]), Ok(()));
-        assert_eq!(rt; disk.sync(), Ok(()));
+        let calls = [disk.write_at(0, &[1, 2, 3]), disk.sync()];
+        assert!(rt; calls == [Ok(()), Ok(())]);
         disk.stop_at_write(1, fill);
-        assert_eq!(rt; disk.write_at(1, &[7]), Ok(()));
-        assert_eq!(rt; disk.write_at(4, &[5, 6]), Err(DeviceFault::Write));
-        assert_eq!(rt; disk.write_at(0, &[8; 8]), Err(DeviceFault::Write));
-        assert_eq!(rt; disk.read(0, &mut seen), Err(DeviceFault::Read));
-        assert_eq!(rt; disk.sync(), Err(DeviceFault::Sync));
+        let calls = [
+            disk.write_at(1, &[7]),
+            disk.write_at(4, &[5, 6]),
+            disk.write_at(0, &[8; 8]),
+            disk.read(0, &mut seen),
+            disk.sync(),
+        ];
+        let want = [
+            Ok(()),
+            Err(DeviceFault::Write),
+            Err(DeviceFault::Write),
+            Err(DeviceFault::Read),
+            Err(DeviceFault::Sync),
+        ];
+        assert!(rt; calls == want);
         assert!(rt; disk.is_stopped());
-        if disk.is_stopped() {
-            disk.restart();
-        }
-        assert_eq!(rt; disk.read(0, &mut seen), Ok(()));
-        assert_eq!(rt; seen, left);
+        disk.restart();
+        assert!(rt; disk.read(0, &mut seen).is_ok() && seen == left);
     }
     Ok(())
 }
@@ -67,17 +74,14 @@ fn a_stop_outlives_a_restart(rt: HostRuntime) -> Result<(), Fail> {
     let mut seen = [0; 2];
     disk.stop_at_write(5, Fill::Old);
     disk.stop_at_write(0, Fill::New);
-    assert_eq!(rt; disk.write_at(0, &[4]), Err(DeviceFault::Write));
+    assert!(rt; disk.write_at(0, &[4]) == Err(DeviceFault::Write));
     disk.stop_at_write(0, Fill::Old);
-    if disk.is_stopped() {
-        disk.restart();
-    }
-    assert_eq!(rt; disk.write_at(0, &[5, 5]), Err(DeviceFault::Write));
-    if disk.is_stopped() {
-        disk.restart();
-    }
-    assert_eq!(rt; disk.write_at(1, &[6]), Ok(()));
-    assert_eq!(rt; disk.read(0, &mut seen), Ok(()));
+    assert!(rt; disk.is_stopped());
+    disk.restart();
+    assert!(rt; disk.write_at(0, &[5, 5]) == Err(DeviceFault::Write));
+    assert!(rt; disk.is_stopped());
+    disk.restart();
+    assert!(rt; disk.write_at(1, &[6]).is_ok() && disk.read(0, &mut seen).is_ok());
     assert_eq!(rt; seen, [4, 6]);
     Ok(())
 }

@@ -1,0 +1,130 @@
+//! Lists of events, and devices that stop.
+ghost use Rattle.std.specs.Prelude.{◌≡◌, All, IfOk};
+ghost use Rattle.tmem_world.specs.Events.{NamesSlot};
+ghost use Rattle.tmem_world.specs.Represents.{numbers_of};
+
+use super::{Told, answer, commit, fresh, opened, tell, write};
+use std::alloc::{AllocError, Global};
+use std::test::Fail;
+use tmem_disk::{Fault, Fill, SimDisk};
+use tmem_world::{Event, World};
+
+/// What a list of events is answered.
+fn replies_of(
+    alloc: Global,
+    world: &mut World<SimDisk>,
+    events: Vec<Event>,
+) -> Result<Vec<Told>, Fail>
+    requires { All NamesSlot events.items }
+    ensures { numbers_of world.new ≡ numbers_of world.old }
+{
+    let mut told = Vec::new(alloc);
+    for reply in world.play(events)? {
+        told.push(tell(reply))?;
+    }
+    Ok(told)
+}
+
+/// Writes 5 to variable 0, makes it durable, and opens the device again.
+fn first_write(alloc: Global) -> Result<Vec<Event>, AllocError>
+    ensures { IfOk result (λ events. All NamesSlot events.items) }
+{
+    let tx = write(alloc, 0, 5)?;
+    let events = vec![in alloc;
+        Event::Begin { slot: 0, tx },
+        Event::Turn { slot: 0 },
+        Event::Settle { slot: 0 },
+        Event::Flush,
+        Event::Look,
+        Event::Reopen,
+    ]?;
+    Ok(events)
+}
+
+#[test]
+fn a_played_list_is_answered_as_its_steps(rt: HostRuntime) -> Result<(), Fail> {
+    let alloc = rt.alloc();
+    let events = first_write(alloc)?;
+    let mut world = opened(alloc, fresh(alloc)?)?;
+    let told = replies_of(alloc, &mut world, events)?;
+    let want = [
+        Told::Begun,
+        Told::Ended,
+        Told::Committed(0),
+        Told::Durable(1),
+        Told::Looked(1),
+        Told::Opened(1),
+    ];
+    assert!(rt; told.as_slice() == want.as_slice());
+    assert!(rt; world.is_open());
+    assert_eq!(rt; (world.count(), world.value(0)), (1, 5));
+    Ok(())
+}
+
+/// Flushes the first write over a device that stops at a write of it: the reply, and what the stop left.
+fn stopped_at(alloc: Global, k: u64, fill: Fill) -> Result<(Told, SimDisk), Fail> {
+    let mut disk = fresh(alloc)?;
+    disk.stop_at_write(k, fill);
+    let mut world = opened(alloc, disk)?;
+    let _ = commit(&mut world, write(alloc, 0, 5)?);
+    let flushed = answer(&mut world, Event::Flush);
+    let mut disk = world.into_disk();
+    if !disk.is_stopped() {
+        return Err(Fail::new("it did not stop"));
+    }
+    disk.restart();
+    Ok((flushed, disk))
+}
+
+/// How many transactions a device is found to hold.
+fn count_on(alloc: Global, disk: SimDisk) -> Result<u64, Fail> {
+    let world = opened(alloc, disk)?;
+    Ok(world.count())
+}
+
+#[test]
+fn a_torn_write_leaves_old_or_new(rt: HostRuntime) -> Result<(), Fail> {
+    let alloc = rt.alloc();
+    // the body behind a closed gate, and the gate with both outcomes
+    let rows = [
+        (0, 0xA5, Fault::Device, 0),
+        (1, 0xA5, Fault::Unknown, 1),
+        (1, 0x37, Fault::Unknown, 0),
+    ];
+    for (write, byte, fault, count) in rows {
+        let (flushed, disk) = stopped_at(alloc, write, Fill::Byte(byte))?;
+        assert_eq!(rt; flushed, Told::Fault(fault));
+        assert_eq!(rt; count_on(alloc, disk)?, count);
+    }
+    Ok(())
+}
+
+#[test]
+fn after_a_device_failure_the_session_is_closed(rt: HostRuntime) -> Result<(), Fail> {
+    let alloc = rt.alloc();
+    let (first, second) = (write(alloc, 0, 5)?, write(alloc, 1, 1)?);
+    let mut disk = fresh(alloc)?;
+    disk.stop_at_write(0, Fill::Old);
+    let mut world = opened(alloc, disk)?;
+    let told = [
+        commit(&mut world, first),
+        answer(&mut world, Event::Flush),
+        commit(&mut world, second),
+        answer(&mut world, Event::Flush),
+        answer(&mut world, Event::Look),
+        answer(&mut world, Event::Reopen),
+        answer(&mut world, Event::Look),
+    ];
+    let want = [
+        Told::Committed(0),
+        Told::Fault(Fault::Device),
+        Told::Fault(Fault::Closed),
+        Told::Fault(Fault::Closed),
+        Told::Looked(0),
+        Told::Fault(Fault::Device),
+        Told::Fault(Fault::Closed),
+    ];
+    assert!(rt; told == want);
+    assert!(rt; !world.is_open());
+    Ok(())
+}
