@@ -5,7 +5,7 @@ ghost use Rattle.std.proofs.Props.{props};
 ghost use Rattle.tmem_record.specs.Names.{has_name, with_names, AreChecks, AreRegistered, AreRegistered-prop};
 ghost use Rattle.tmem_record.specs.State.{apply, fold};
 ghost use Rattle.tmem_record.specs.Writes.{AreWrites};
-ghost use Rattle.tmem_record.specs.declared.names.TheConstants.{MAX_NAMES};
+ghost use Rattle.tmem_record.specs.declared.name_set.TheConstants.{MAX_NAMES};
 ghost use Rattle.tmem_tree.specs.declared.tx.Tx.{Tx};
 ghost use Rattle.tmem_invariants.specs.Meanings.{Meanings, AllHold, IsSound, first_false};
 ghost use Rattle.tmem_invariants.specs.Names.{is_among};
@@ -110,26 +110,12 @@ impl<T: Tests + Drop> Core<T> {
         }
     }
 
-    /// The table that it was made with.
-    pub fn table(&self) -> &T
-        ensures { result.now ≡ table_of self.now }
-    {
-        &self.table
-    }
-
-    /// The same, once the core is not needed any more.
+    /// The table that it was made with, once the core is not needed any more.
     pub fn into_table(self) -> T
         ensures { result ≡ table_of self }
     {
         let Core { table, .. } = self;
         table
-    }
-
-    /// How many variables there are.
-    pub fn vars(&self) -> usize
-        ensures { result ≡ length (state_of self.now).values }
-    {
-        self.state.values().len()
     }
 
     /// The present value of a variable, also of a core that is shut.
@@ -166,14 +152,6 @@ impl<T: Tests + Drop> Core<T> {
         ensures { result ≡ has_name (state_of self.now).names name.now }
     {
         self.state.has(name)
-    }
-
-    /// The registered names, in ascending order of their bytes.
-    pub fn names(&self) -> &[Name]
-        ensures names { result.now ≡ (state_of self.now).names }
-        ensures are_registered { AreRegistered (state_of self.now).names }
-    {
-        self.state.names()
     }
 
     /// Every later attempt is refused as `Closed`.

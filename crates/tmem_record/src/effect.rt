@@ -29,7 +29,7 @@ impl Effect {
     pub fn is_empty(&self) -> bool
         ensures { IsTrue result ↔ IsEmptyEffect self.now }
     {
-        self.writes.is_empty() && self.names.is_empty()
+        self.writes.as_slice().is_empty() && self.names.as_slice().is_empty()
     }
 
     /// Takes over the writes and the names of another.

@@ -6,6 +6,7 @@
 mod batch;
 mod codec;
 mod effect;
+mod name_set;
 mod names;
 mod state;
 mod writes;
@@ -16,6 +17,7 @@ pub use codec::{
     read_head, read_name, write_name,
 };
 pub use effect::Effect;
-pub use names::{MAX_CHECKS, MAX_NAMES, NameSet, Names};
+pub use name_set::{MAX_NAMES, NameSet};
+pub use names::{MAX_CHECKS, Names};
 pub use state::State;
 pub use writes::{MAX_WRITES, Writes};

@@ -5,7 +5,8 @@ ghost use Rattle.tmem_record.specs.Names.{has_name, with_names, AreRegistered};
 ghost use Rattle.tmem_record.specs.State.{apply, first_state, overwrite, written};
 
 use crate::effect::Effect;
-use crate::names::{MAX_NAMES, NameSet, count_new};
+use crate::name_set::{MAX_NAMES, NameSet};
+use crate::names::count_new;
 use std::alloc::{AllocError, Global};
 use std::marker::Model;
 use tmem_disk::Name;
@@ -95,7 +96,8 @@ impl State {
         requires { AreDistinct names.now }
         ensures { IsTrue result ↔ length (with_names self.now.names names.now) ≤ MAX_NAMES }
     {
-        count_new(self.names(), names) <= MAX_NAMES - self.names.len()
+        let held = self.names();
+        count_new(held, names) <= MAX_NAMES - held.len()
     }
 
     /// The same state in memory of its own.

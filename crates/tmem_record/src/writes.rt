@@ -28,27 +28,12 @@ impl Model for Writes {
 }
 
 impl Writes {
-    /// No writes, with room for 64.
-    pub fn new(alloc: Global) -> Result<Writes, AllocError>
+    // No writes, with room for 64.
+    pub(crate) fn new(alloc: Global) -> Result<Writes, AllocError>
         ensures { IfOk result (λ writes. writes ≡ []) }
     {
         let items = Vec::with_capacity(alloc, MAX_WRITES)?;
         Ok(Writes { items })
-    }
-
-    /// How many variables are written.
-    pub fn len(&self) -> usize
-        ensures len { result ≡ length self.now }
-        ensures few { result ≤ MAX_WRITES }
-    {
-        self.items.len()
-    }
-
-    /// Whether no variable is written.
-    pub fn is_empty(&self) -> bool
-        ensures { result ≡ (length self.now == 0) }
-    {
-        self.items.is_empty()
     }
 
     /// The writes in order.
@@ -84,16 +69,16 @@ impl Writes {
         }
     }
 
-    /// Takes over the writes of another.
-    pub fn copy_from(&mut self, other: &Writes)
+    // Takes over the writes of another.
+    pub(crate) fn copy_from(&mut self, other: &Writes)
         ensures { self.new ≡ other.now }
     {
-        self.items.clear();
+        self.clear();
         self.items.extend_from_slice(&other.items).unwrap();
     }
 
-    /// Forgets all writes.
-    pub fn clear(&mut self)
+    // Forgets all writes.
+    pub(crate) fn clear(&mut self)
         ensures { self.new ≡ [] }
     {
         self.items.clear();

@@ -1,5 +1,9 @@
 //! Scripts: the numbers of a device, and what is to be done on it.
+ghost use Rattle.std.specs.Prelude.{◌≡◌, Some, codes, IfOk};
+ghost use Rattle.serde_json.specs.Data.{Data};
+ghost use Rattle.serde_json.specs.Read.{read};
 ghost use Rattle.tmem_world.specs.Events.{NamesSlot};
+ghost use Rattle.tmem_script.specs.Numbers.{number_at};
 
 use crate::event::event_of;
 use crate::json::{member_of, short_of};
@@ -45,6 +49,15 @@ pub enum ScriptError {
 }
 
 impl From<io::Error> for ScriptError {
+    ghost use Rattle.std.specs.Prelude.{◌≡◌};
+    ghost use Rattle.std.specs.IoError.{error_kind};
+    ghost use Rattle.std.specs.declared.io.ErrorKind.TheVariants.{OutOfMemory};
+    ghost use Rattle.tmem_script.specs.declared.script.ScriptError.TheVariants.{Unreadable};
+    ghost use Rattle.tmem_script.specs.Errors.{IsWanting};
+
+    ghost from_gives = { λ error e. (error_kind error ≡ OutOfMemory → IsWanting e)
+        × (¬ (error_kind error ≡ OutOfMemory) → e ≡ Unreadable) };
+
     fn from(error: io::Error) -> ScriptError {
         if error.kind() == io::ErrorKind::OutOfMemory {
             ScriptError::Memory(AllocError)
@@ -55,6 +68,13 @@ impl From<io::Error> for ScriptError {
 }
 
 impl From<serde_json::Error> for ScriptError {
+    ghost use Rattle.std.specs.Prelude.{◌≡◌};
+    ghost use Rattle.serde_json.specs.Errors.{IsMemory};
+    ghost use Rattle.tmem_script.specs.declared.script.ScriptError.TheVariants.{NoScript};
+    ghost use Rattle.tmem_script.specs.Errors.{IsWanting};
+
+    ghost from_gives = { λ error e. (IsMemory error → IsWanting e) × (¬ IsMemory error → e ≡ NoScript) };
+
     fn from(error: serde_json::Error) -> ScriptError {
         if error.is_memory() {
             ScriptError::Memory(AllocError)
@@ -67,15 +87,18 @@ impl From<serde_json::Error> for ScriptError {
 impl Script {
     /// Reads a script from its text: an object with the keys `vars`, `slots` and `events`, and no
     /// other. Of a key that stands twice the last value counts.
-    pub fn from_slice(alloc: Global, text: &[u8]) -> Result<Script, ScriptError> {
+    pub fn from_slice(alloc: Global, text: &[u8]) -> Result<Script, ScriptError>
+        ensures numbers { IfOk result (λ script. (d : Data) × (read text.now ≡ Some d)
+            × (number_at (codes "vars") d ≡ Some script.vars) × (number_at (codes "slots") d ≡ Some script.slots)) }
+    {
         let value = Value::from_slice(alloc, text)?;
         let members = value.as_object().ok_or(ScriptError::NoScript)?;
         if members.len() != 3 {
             return Err(ScriptError::NoScript);
         }
-        let vars = short_of(member_of(members, "vars")?)?;
-        let slots = short_of(member_of(members, "slots")?)?;
-        let lines = lines_of(alloc, member_of(members, "events")?)?;
+        let vars = short_of(member_of(&value, "vars")?)?;
+        let slots = short_of(member_of(&value, "slots")?)?;
+        let lines = lines_of(alloc, member_of(&value, "events")?)?;
         Ok(Script { vars, slots, lines })
     }
 }

@@ -18,7 +18,7 @@ use tmem_tree::{StoredSteps, Tx};
 use tmem_world::{Event, Layout, Reply, World, format};
 
 /// What a test tells of a reply: registers are left out, but for register 0 of a transaction that wrote nothing.
-#[derive(Clone, Copy, Debug, PartialEq, Eq)]
+#[derive(Clone, Copy, PartialEq, Eq)]
 enum Told {
     Begun,
     Ended,

@@ -44,18 +44,17 @@ fn first_write(alloc: Global) -> Result<Vec<Event>, AllocError>
     Ok(events)
 }
 
-/// Plays a list of events on a fresh device.
+/// Fails where the events of `first_write` are answered otherwise.
 fn plays<T: Tests + Drop, S: StoredSteps + Drop>(
     rt: &impl Abort,
     alloc: Global,
-    table: T,
-    steps: S,
+    world: &mut World<SimDisk, T, S>,
+    events: Vec<Event>,
 ) -> Result<(), Fail>
-    requires { T.vars table ≡ 4 }
+    requires slots { All NamesSlot events.items }
+    requires vars { (numbers_of world.old).vars ≡ 4 }
 {
-    let events = first_write(alloc)?;
-    let mut world = opened(alloc, fresh(alloc)?, table, steps)?;
-    let told = replies_of(alloc, &mut world, events)?;
+    let told = replies_of(alloc, world, events)?;
     let want = [
         Told::Begun,
         Told::Ended,
@@ -70,10 +69,24 @@ fn plays<T: Tests + Drop, S: StoredSteps + Drop>(
     Ok(())
 }
 
+/// Plays `first_write` on a fresh device.
+fn plays_on_fresh<T: Tests + Drop, S: StoredSteps + Drop>(
+    rt: &impl Abort,
+    alloc: Global,
+    table: T,
+    steps: S,
+) -> Result<(), Fail>
+    requires { T.vars table ≡ 4 }
+{
+    let events = first_write(alloc)?;
+    let mut world = opened(alloc, fresh(alloc)?, table, steps)?;
+    plays(rt, alloc, &mut world, events)
+}
+
 #[test]
 fn a_played_list_is_answered_as_its_steps(rt: HostRuntime) -> Result<(), Fail> {
     let alloc = rt.alloc();
-    plays(
+    plays_on_fresh(
         &rt,
         alloc,
         Table::of(Vec::new(alloc), 4)?,
@@ -130,7 +143,7 @@ fn a_torn_write_leaves_old_or_new(rt: HostRuntime) -> Result<(), Fail> {
         let table = Table::of(Vec::new(alloc), 4)?;
         let steps = Steps::of(Vec::new(alloc))?;
         let (flushed, disk) = stopped_at(alloc, write, Fill::Byte(byte), table, steps)?;
-        assert_eq!(rt; flushed, Told::Fault(fault));
+        assert!(rt; flushed == Told::Fault(fault));
         let table = Table::of(Vec::new(alloc), 4)?;
         let steps = Steps::of(Vec::new(alloc))?;
         assert_eq!(rt; count_on(alloc, disk, table, steps)?, count);
