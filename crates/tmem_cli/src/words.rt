@@ -6,12 +6,12 @@ ghost use Rattle.tmem_cli.specs.Statuses.{status_of};
 use crate::failure::Failure;
 use crate::play::play;
 use clap::error::ErrorKind;
-use clap::{Arg, Command};
-use std::alloc::{AllocError, Global};
+use std::alloc::Global;
 use std::env::Env;
 use std::io::{LineWriter, Read, Write};
 use std::rt::Files;
 use std::{env, fs, io};
+use tmem_args::script_path;
 use tmem_disk::Fault;
 use tmem_script::{Script, ScriptError};
 
@@ -74,33 +74,6 @@ pub fn tell<E: Write>(failure: &Failure, err: &mut E) -> u8
     // Where this fails too, nobody is left to tell.
     let _ = writeln!(err, "tmem: {failure}");
     failure.status()
-}
-
-/// The path of the script to run, or none for standard input.
-fn script_path<'a>(alloc: Global, words: &'a [String]) -> Result<Option<&'a str>, clap::Error> {
-    let matches = command(alloc)?.try_get_matches_from(words)?;
-    let Some(run) = matches.subcommand_matches("run") else {
-        return Ok(None);
-    };
-    Ok(run.get_str("script"))
-}
-
-fn command<'a>(alloc: Global) -> Result<Command<'a>, AllocError> {
-    Command::new(alloc, "tmem")
-        .bin_name("tmem")?
-        .about("Durable transactions, played from scripts")
-        .subcommand_required(true)
-        .subcommand(run_command(alloc)?)
-}
-
-fn run_command<'a>(alloc: Global) -> Result<Command<'a>, AllocError> {
-    Command::new(alloc, "run")
-        .about("Plays a script on a device in memory")
-        .arg(
-            Arg::new(alloc, "script")
-                .value_name("SCRIPT")
-                .help("The file with the script [default: standard input]"),
-        )
 }
 
 fn run<R: Read, W: Write>(

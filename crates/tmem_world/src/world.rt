@@ -16,13 +16,13 @@ ghost use Rattle.tmem_world.specs.Tables.{table_in};
 ghost use Rattle.tmem_world.specs.Settle.{FitsSlot, Joins, Keeps};
 ghost use Rattle.tmem_world.specs.Facts.{FitsSlot-prop};
 ghost use Rattle.tmem_world.specs.Sessions.{IsCounted, IsKnown, IsFree, doubtful_number};
-ghost use Rattle.tmem_world.specs.Events.{NamesSlot};
+ghost use Rattle.tmem_event.specs.Events.{NamesSlot};
 ghost use Rattle.tmem_world.specs.WorldModel.{WorldModel, opening, present, Run};
 
-use crate::event::{ATTEMPTS, Event, Reply};
 use crate::session::{Session, Slot, find};
 use std::alloc::{AllocError, Global};
 use tmem_disk::{Disk, Fault, Name};
+use tmem_event::{ATTEMPTS, Event, Reply};
 use tmem_invariants::Tests;
 use tmem_journal::Layout;
 use tmem_tentative::{Outcome, Reads, evaluate};
