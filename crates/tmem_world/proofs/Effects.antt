@@ -4,15 +4,15 @@ use Rattle.std.specs.Prelude.{All}
 use Rattle.std.proofs.Math.ListN.{set}
 use Rattle.std.proofs.lemmas.List.Elements.{All-nil, All-cons, All-head, All-tail}
 use Rattle.std.proofs.lemmas.Bool.Decides.{nat_tests}
-use Rattle.tmem_world.specs.declared.tx.Tx.{Tx, Row_of-Tx, end_of-Tx, more_of-Tx}
-use Rattle.tmem_world.specs.declared.tx.Tx.TheVariants.{Skip, Seq', Put, Write}
+use Rattle.tmem_event.specs.declared.tx.Tx.{Tx, Row_of-Tx, end_of-Tx, more_of-Tx}
+use Rattle.tmem_event.specs.declared.tx.Tx.TheVariants.{Skip, Seq', Put, Write}
 use Rattle.tmem_world.specs.Limits.{writes, registers_fit, writes_of_all, vars_fit, all_vars_fit}
 use Rattle.tmem_disk.specs.declared.fault.Cause.TheVariants.{TooManyWrites, BadRegister, BadVariable}
 use Rattle.tmem_world.specs.Run.{View, with_write, run, run_all, start, outcome}
 use Rattle.tmem_world.specs.Plans.{BreaksNone}
 use Rattle.tmem_world.specs.Attempts.{IsWithin}
-use Rattle.tmem_world.specs.Spelling.{AreDistinct, HasValues}
-use Rattle.tmem_world.specs.State.{Effect}
+use Rattle.tmem_journal.specs.Spelling.{AreDistinct, HasValues}
+use Rattle.tmem_journal.specs.State.{Effect}
 
 pub at_write : (ws : List (ℕ × ℤ)) (i var : ℕ) (n : ℤ) (d : ℕ × ℤ) → i < length ws → nat_eq (get_or ws i d).0 var ≡ true → take i ws ++ with_write (drop i ws) var n ≡ set ws i (var, n)
 at_write [] i var n d h e = absurd (omega arith)

@@ -6,16 +6,16 @@ use Rattle.std.proofs.lemmas.Bool.Decides.{nat_tests}
 use Rattle.tmem_disk.specs.Disk.{DeviceView, LeavesOnly, after_fault}
 use Rattle.tmem_disk.specs.declared.fault.Fault.{Fault}
 use Rattle.tmem_disk.specs.declared.fault.Fault.TheVariants as fault
-use Rattle.tmem_world.specs.declared.event.Reply.{Reply}
-use Rattle.tmem_world.specs.declared.event.Reply.TheVariants as reply
-use Rattle.tmem_world.specs.declared.layout.Layout.{Layout}
+use Rattle.tmem_event.specs.declared.event.Reply.{Reply}
+use Rattle.tmem_event.specs.declared.event.Reply.TheVariants as reply
+use Rattle.tmem_journal.specs.declared.layout.Layout.{Layout}
 use Rattle.tmem_world.specs.declared.session.Slot.{Slot}
 use Rattle.tmem_world.specs.declared.session.Session as core
 use Rattle.tmem_world.specs.declared.world.World.{World}
-use Rattle.tmem_world.specs.State.{Effect, State, apply}
+use Rattle.tmem_journal.specs.State.{Effect, State, apply}
 use Rattle.tmem_world.specs.Verdict.{serial_state}
-use Rattle.tmem_world.specs.Stands.{StandsFor}
-use Rattle.tmem_world.specs.Calls.{Uses, Appended}
+use Rattle.tmem_journal.specs.Stands.{StandsFor}
+use Rattle.tmem_journal.specs.Calls.{Uses, Appended}
 use Rattle.tmem_world.specs.Sessions.{Flushes, ClosesBy, durable_after, doubtful_number, LeftByFlush}
 use Rattle.tmem_world.specs.WorldModel.{WorldModel, Session, Open, Closed, present, cut, FlushesIn, FlushesOne}
 use Rattle.tmem_world.specs.Represents.{SlotIs, SessionIs, HasSession, IsNumbered, Represents, StandsAt, session_of, effects}

@@ -5,7 +5,7 @@ use Rattle.tmem_disk.specs.Disk.{DeviceView}
 use Rattle.tmem_disk.specs.declared.fault.Fault.{Fault}
 use Rattle.tmem_disk.specs.declared.fault.Fault.TheVariants as fault
 use Rattle.tmem_world.specs.declared.session.Session.{Session}
-use Rattle.tmem_world.specs.State.{Effect}
+use Rattle.tmem_journal.specs.State.{Effect}
 use Rattle.tmem_world.specs.Sessions.{Flushes, Writes, ClosesBy}
 
 -- what is first in a list

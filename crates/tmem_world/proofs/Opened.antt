@@ -8,11 +8,11 @@ use Rattle.tmem_world.specs.declared.session.Slot.{Slot}
 use Rattle.tmem_world.specs.declared.session.Slot.TheVariants as slot
 use Rattle.tmem_world.specs.declared.session.Session as core
 use Rattle.tmem_world.specs.declared.world.World.{World}
-use Rattle.tmem_world.specs.State.{Effect, State}
-use Rattle.tmem_world.specs.declared.tx.Tx.{Tx}
+use Rattle.tmem_journal.specs.State.{Effect, State}
+use Rattle.tmem_event.specs.declared.tx.Tx.{Tx}
 use Rattle.tmem_world.specs.Verdict.{serial_state}
-use Rattle.tmem_world.specs.Stands.{StandsFor}
-use Rattle.tmem_world.specs.Calls.{IsWhy}
+use Rattle.tmem_journal.specs.Stands.{StandsFor}
+use Rattle.tmem_journal.specs.Calls.{IsWhy}
 use Rattle.tmem_world.specs.WorldModel.{opening, cut}
 use Rattle.tmem_world.specs.Represents.{HasSession, Represents, session_of, effects}
 use Rattle.tmem_world.proofs.Reopened.{no_slots_held}

@@ -5,20 +5,20 @@ use Rattle.std.specs.List.{AllZip}
 use Rattle.tmem_disk.specs.Disk.{IsDevice, LeavesOnly, Reads, IsSynced, after_fault}
 use Rattle.tmem_disk.specs.declared.fault.Fault.{Fault}
 use Rattle.tmem_disk.specs.declared.fault.Fault.TheVariants as fault
-use Rattle.tmem_world.specs.declared.event.Reply.TheVariants as reply
-use Rattle.tmem_world.specs.declared.layout.Layout.{Layout}
+use Rattle.tmem_event.specs.declared.event.Reply.TheVariants as reply
+use Rattle.tmem_journal.specs.declared.layout.Layout.{Layout}
 use Rattle.tmem_world.specs.declared.session.Slot.{Slot}
 use Rattle.tmem_world.specs.declared.session.Slot.TheVariants as slot
 use Rattle.tmem_world.specs.declared.session.Session as core
 use Rattle.tmem_world.specs.declared.world.World.{World}
-use Rattle.tmem_world.specs.State.{State}
+use Rattle.tmem_journal.specs.State.{State}
 use Rattle.tmem_world.specs.Verdict.{serial_state}
-use Rattle.tmem_world.specs.Stands.{StandsFor}
-use Rattle.tmem_world.specs.Calls.{Uses, IsWhy, failures_after}
+use Rattle.tmem_journal.specs.Stands.{StandsFor}
+use Rattle.tmem_journal.specs.Calls.{Uses, IsWhy, failures_after}
 use Rattle.tmem_world.specs.WorldModel.{WorldModel, NoAttempt, no_attempts, Open, cut, dropped, Reopens}
 use Rattle.tmem_world.specs.Represents.{SlotIs, HasSession, Represents, StandsAt, session_of}
 use Rattle.tmem_world.proofs.Serial.{count-serial, each-take, length-take, take-again, none_waits}
-use Rattle.tmem_world.proofs.Unique.{stands_for_one}
+use Rattle.tmem_journal.proofs.Unique.{stands_for_one}
 
 -- empty slots hold no attempts
 empty_slots : (xs : List Slot) (n : ℕ) → length xs ≡ n → All (λ (s : Slot). s ≡ slot.Empty) xs → AllZip SlotIs xs (replicate n NoAttempt)

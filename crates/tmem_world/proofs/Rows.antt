@@ -2,10 +2,10 @@
 use Rattle.std.proofs.Common.{◌≡◌, ◌+◌, ℕ, max, Bool, true, List, [], ◌∷◌, refl, ap, ◌&&◌, rules}
 use Rattle.std.specs.declared.vec.Vec.{Vec}
 use Rattle.std.specs.declared.alloc.Global.{Global}
-use Rattle.tmem_world.specs.declared.tx.Tx.{Tx, Row_of-Tx, end_of-Tx, more_of-Tx}
-use Rattle.tmem_world.specs.declared.tx.Tx.TheVariants.{Seq}
-use Rattle.tmem_world.specs.declared.tx.Tx.TheBlock.{items-the_row-Tx}
-use Rattle.tmem_world.specs.declared.tx.Tx.TheViews.{the_lemmas}
+use Rattle.tmem_event.specs.declared.tx.Tx.{Tx, Row_of-Tx, end_of-Tx, more_of-Tx}
+use Rattle.tmem_event.specs.declared.tx.Tx.TheVariants.{Seq}
+use Rattle.tmem_event.specs.declared.tx.Tx.TheBlock.{items-the_row-Tx}
+use Rattle.tmem_event.specs.declared.tx.Tx.TheViews.{the_lemmas}
 use Rattle.tmem_world.specs.Limits.{depth, depth_of_all, nodes, nodes_of_all, writes, writes_of_all, registers_fit, all_registers_fit, vars_fit, all_vars_fit}
 use Rattle.tmem_world.specs.Run.{View, run, run_all}
 

@@ -1,8 +1,8 @@
 -- The serial order of accepted transactions.
 use Rattle.std.proofs.Common.{◌≡◌, ℕ, zero, suc, ◌+◌, ◌<◌, ◌≤◌, ℤ, List, [], ◌∷◌, ◌++◌, length, take, drop, refl, ◌∙◌, ap, arith}
 use Rattle.std.specs.List.{AllByRecursion}
-use Rattle.tmem_world.specs.declared.tx.Tx.{Tx}
-use Rattle.tmem_world.specs.State.{Effect, State, apply}
+use Rattle.tmem_event.specs.declared.tx.Tx.{Tx}
+use Rattle.tmem_journal.specs.State.{Effect, State, apply}
 use Rattle.tmem_world.specs.Run.{outcome}
 use Rattle.tmem_world.specs.Verdict.{verdict_on, after_verdict, state_after, serial_state}
 use Rattle.tmem_world.specs.Represents.{IsAccepted, effects}

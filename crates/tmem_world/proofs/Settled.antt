@@ -5,21 +5,21 @@ use Rattle.std.specs.List.{AllZip}
 use Rattle.std.proofs.lemmas.List.{set-get_or, append-nil}
 use Rattle.tmem_disk.specs.Disk.{LeavesOnly}
 use Rattle.tmem_disk.specs.declared.fault.Fault.TheVariants as fault
-use Rattle.tmem_world.specs.declared.tx.Tx.{Tx}
-use Rattle.tmem_world.specs.declared.event.Reply.{Reply}
-use Rattle.tmem_world.specs.declared.event.Reply.TheVariants as reply
+use Rattle.tmem_event.specs.declared.tx.Tx.{Tx}
+use Rattle.tmem_event.specs.declared.event.Reply.{Reply}
+use Rattle.tmem_event.specs.declared.event.Reply.TheVariants as reply
 use Rattle.tmem_world.specs.declared.attempt.Attempt as ended
-use Rattle.tmem_world.specs.declared.layout.Layout.{Layout}
+use Rattle.tmem_journal.specs.declared.layout.Layout.{Layout}
 use Rattle.tmem_world.specs.declared.session.Slot.{Slot}
 use Rattle.tmem_world.specs.declared.session.Slot.TheVariants as slot
 use Rattle.tmem_world.specs.declared.session.Session as core
 use Rattle.tmem_world.specs.declared.world.World.{World}
-use Rattle.tmem_world.specs.State.{Effect, State, apply}
+use Rattle.tmem_journal.specs.State.{Effect, State, apply}
 use Rattle.tmem_world.specs.Run.{outcome}
 use Rattle.tmem_world.specs.Attempts.{IsRight}
 use Rattle.tmem_world.specs.Verdict.{verdict_on, serial_state}
 use Rattle.tmem_world.specs.Settle.{Settles, SettlesEnded, answer, answer_on}
-use Rattle.tmem_world.specs.Stands.{StandsFor}
+use Rattle.tmem_journal.specs.Stands.{StandsFor}
 use Rattle.tmem_world.specs.WorldModel.{WorldModel, Attempt, NoAttempt, Begun, Ended, Session, settled, settled_in, settled_by, present, cut, with_attempt}
 use Rattle.tmem_world.specs.Represents.{SlotIs, SessionIs, HasSession, IsNumbered, IsAccepted, Represents, StandsAt, session_of, effects}
 use Rattle.tmem_world.proofs.Serial.{state_after-accepted, serial_state-append, count-serial, each-append, length-drop_effects, waiting-append, take-append}

@@ -4,16 +4,16 @@ use Rattle.std.specs.Prelude.{if◌then◌else◌}
 use Rattle.std.proofs.lemmas.Bool.Decides.{nat_tests}
 use Rattle.tmem_disk.specs.Disk.{DeviceView}
 use Rattle.tmem_disk.specs.declared.fault.Fault.TheVariants as fault
-use Rattle.tmem_world.specs.declared.event.Reply.{Reply}
-use Rattle.tmem_world.specs.declared.event.Reply.TheVariants as reply
+use Rattle.tmem_event.specs.declared.event.Reply.{Reply}
+use Rattle.tmem_event.specs.declared.event.Reply.TheVariants as reply
 use Rattle.tmem_world.specs.declared.attempt.Attempt as ended
 use Rattle.tmem_world.specs.declared.session.Slot.{Slot}
 use Rattle.tmem_world.specs.declared.session.Slot.TheVariants as slot
 use Rattle.tmem_world.specs.declared.session.Session as core
-use Rattle.tmem_world.specs.State.{State, fold}
+use Rattle.tmem_journal.specs.State.{State, fold}
 use Rattle.tmem_world.specs.Settle.{FitsSlot, Settles, answer, answer_on, accepted_by, slot_after}
 use Rattle.tmem_world.specs.Sessions.{IsCounted, IsFree}
-use Rattle.tmem_world.proofs.States.{length-apply}
+use Rattle.tmem_journal.proofs.States.{length-apply}
 
 -- when a transaction is accepted
 pub record IsCommitted (closed : Bool) (a : ended.Attempt) (count waiting : ℕ) : Type 0 where

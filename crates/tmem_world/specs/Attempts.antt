@@ -1,11 +1,11 @@
 -- When what an evaluation answers is right.
 use Rattle.std.specs.Prelude.{◌≡◌, ℕ, ◌<◌, ◌≤◌, ℤ, length, All}
-use Rattle.tmem_world.specs.declared.tx.Tx.{Tx}
+use Rattle.tmem_event.specs.declared.tx.Tx.{Tx}
 use Rattle.tmem_world.specs.declared.attempt.Log.{Log}
 use Rattle.tmem_world.specs.declared.attempt.Attempt.{Attempt}
 use Rattle.tmem_world.specs.Run.{View, outcome}
-use Rattle.tmem_world.specs.Spelling.{AreDistinct, HasValues}
-use Rattle.tmem_world.specs.State.{Effect}
+use Rattle.tmem_journal.specs.Spelling.{AreDistinct, HasValues}
+use Rattle.tmem_journal.specs.State.{Effect}
 
 -- the log as a view
 abbrev pub view_of : Log → View

@@ -1,6 +1,6 @@
 -- That no variable stands twice is a fact: it has one proof at most.
 use Rattle.std.specs.Prelude.{ℕ, ℤ, List, [], ◌∷◌}
-use Rattle.tmem_world.specs.Spelling.{AreDistinct}
+use Rattle.tmem_journal.specs.Spelling.{AreDistinct}
 
 pub AreDistinct-prop : (ws : List (ℕ × ℤ)) → IsProp (AreDistinct ws)
 AreDistinct-prop [] = hlevel

@@ -1,7 +1,7 @@
 -- The size of a transaction, and what it names.
 use Rattle.std.specs.Prelude.{ℕ, ◌+◌, max, Bool, true, ◌&&◌, nat_lt}
-use Rattle.tmem_world.specs.declared.tx.Tx.{Tx, Row_of-Tx, end_of-Tx, more_of-Tx}
-use Rattle.tmem_world.specs.declared.tx.Tx.TheVariants.{Skip, Seq', Put, Write}
+use Rattle.tmem_event.specs.declared.tx.Tx.{Tx, Row_of-Tx, end_of-Tx, more_of-Tx}
+use Rattle.tmem_event.specs.declared.tx.Tx.TheVariants.{Skip, Seq', Put, Write}
 
 abbrev mutual
   -- a leaf or an empty Seq has depth 1

@@ -2,7 +2,7 @@
 use Rattle.std.specs.Prelude.{◌≡◌, ℕ, ◌<◌, false}
 use Rattle.tmem_disk.specs.declared.fault.Cause.{Cause}
 use Rattle.tmem_disk.specs.declared.fault.Cause.TheVariants.{TooDeep, TooManyNodes, TooManyWrites, TooManyChecks, BadRegister, BadVariable, BadStep, BadArguments, UnknownName}
-use Rattle.tmem_world.specs.declared.tx.Tx.{Tx}
+use Rattle.tmem_event.specs.declared.tx.Tx.{Tx}
 use Rattle.tmem_world.specs.Limits.{depth, nodes, writes, registers_fit, vars_fit}
 
 -- the number of a cause

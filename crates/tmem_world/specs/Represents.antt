@@ -3,21 +3,21 @@ use Rattle.std.specs.Prelude.{Err, IsSome, ◌≡◌, ◌<◌, ◌≤◌, ◌⊎
 use Rattle.std.specs.List.{AllZip, AllByRecursion}
 use Rattle.tmem_disk.specs.Disk.{DeviceView, LeavesOnly, Reads}
 use Rattle.tmem_disk.specs.declared.fault.Fault.{Fault}
-use Rattle.tmem_world.specs.Calls.{Uses, FitsOn, IsWhy}
-use Rattle.tmem_world.specs.State as states
-use Rattle.tmem_world.specs.declared.tx.Tx.{Tx}
-use Rattle.tmem_world.specs.declared.event.Event.{Event}
-use Rattle.tmem_world.specs.declared.event.Event.TheVariants as event
-use Rattle.tmem_world.specs.declared.event.Reply.{Reply}
-use Rattle.tmem_world.specs.declared.layout.Layout.{Layout}
+use Rattle.tmem_journal.specs.Calls.{Uses, FitsOn, IsWhy}
+use Rattle.tmem_journal.specs.State as states
+use Rattle.tmem_event.specs.declared.tx.Tx.{Tx}
+use Rattle.tmem_event.specs.declared.event.Event.{Event}
+use Rattle.tmem_event.specs.declared.event.Event.TheVariants as event
+use Rattle.tmem_event.specs.declared.event.Reply.{Reply}
+use Rattle.tmem_journal.specs.declared.layout.Layout.{Layout}
 use Rattle.tmem_world.specs.declared.session.Slot.{Slot}
 use Rattle.tmem_world.specs.declared.session.Slot.TheVariants as slot
 use Rattle.tmem_world.specs.declared.session.Session as session
 use Rattle.tmem_world.specs.declared.world.World.{World}
-use Rattle.tmem_world.specs.State.{Effect}
+use Rattle.tmem_journal.specs.State.{Effect}
 use Rattle.tmem_world.specs.Run.{outcome}
 use Rattle.tmem_world.specs.Attempts.{IsRight}
-use Rattle.tmem_world.specs.Stands.{StandsFor}
+use Rattle.tmem_journal.specs.Stands.{StandsFor}
 use Rattle.tmem_world.specs.Replies.{IsAcknowledged}
 use Rattle.tmem_world.specs.WorldModel.{WorldModel, Attempt, NoAttempt, Begun, Ended, Session, Open, Closed, Gone, present, cut, Allows, Run}
 

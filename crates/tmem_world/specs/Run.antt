@@ -1,8 +1,8 @@
 -- What a transaction does (Harris et al. 2005, sections 3 and 6, for trees that do not read yet).
 use Rattle.std.specs.Prelude.{ℕ, ℤ, pos, List, [], ◌∷◌, nat_eq, cond, slice_index_or, slice_set, replicate}
-use Rattle.tmem_world.specs.declared.tx.Tx.{Tx, Row_of-Tx, end_of-Tx, more_of-Tx}
-use Rattle.tmem_world.specs.declared.tx.Tx.TheVariants.{Skip, Seq', Put, Write}
-use Rattle.tmem_world.specs.State.{Effect}
+use Rattle.tmem_event.specs.declared.tx.Tx.{Tx, Row_of-Tx, end_of-Tx, more_of-Tx}
+use Rattle.tmem_event.specs.declared.tx.Tx.TheVariants.{Skip, Seq', Put, Write}
+use Rattle.tmem_journal.specs.State.{Effect}
 
 -- the registers, and the effect so far
 pub record View : Type 0 where

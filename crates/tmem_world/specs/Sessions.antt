@@ -5,10 +5,10 @@ use Rattle.tmem_disk.specs.declared.fault.Fault.{Fault}
 use Rattle.tmem_disk.specs.declared.fault.Fault.TheVariants as fault
 use Rattle.tmem_gate.specs.Gate.{IsClosed}
 use Rattle.tmem_world.specs.declared.session.Session.{Session}
-use Rattle.tmem_world.specs.State.{Effect, State}
-use Rattle.tmem_world.specs.Layout.{slot_place}
-use Rattle.tmem_world.specs.Stands.{StandsFor}
-use Rattle.tmem_world.specs.Calls.{Appended}
+use Rattle.tmem_journal.specs.State.{Effect, State}
+use Rattle.tmem_journal.specs.Layout.{slot_place}
+use Rattle.tmem_journal.specs.Stands.{StandsFor}
+use Rattle.tmem_journal.specs.Calls.{Appended}
 
 -- The count is what is durable and what waits, there is a value for each variable, and at most one slot of the log is used.
 pub record IsCounted (vars durable : ℕ) (s : Session) : Type 0 where

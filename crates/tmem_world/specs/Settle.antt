@@ -1,13 +1,13 @@
 -- What settling a slot does to a session.
 use Rattle.std.specs.Prelude.{◌≡◌, ⊤, ℕ, ◌-◌, ◌^◌, ℤ, Bool, true, false, List, [], ◌∷◌, ◌++◌, length, nat_eq, if◌then◌else◌}
 use Rattle.tmem_disk.specs.declared.fault.Fault.TheVariants as fault
-use Rattle.tmem_world.specs.declared.event.Reply.{Reply}
-use Rattle.tmem_world.specs.declared.event.Reply.TheVariants as reply
+use Rattle.tmem_event.specs.declared.event.Reply.{Reply}
+use Rattle.tmem_event.specs.declared.event.Reply.TheVariants as reply
 use Rattle.tmem_world.specs.declared.attempt.Attempt.{Attempt}
 use Rattle.tmem_world.specs.declared.session.Slot.{Slot}
 use Rattle.tmem_world.specs.declared.session.Slot.TheVariants.{Empty, Begun, Ended}
 use Rattle.tmem_world.specs.declared.session.Session.{Session}
-use Rattle.tmem_world.specs.State.{Effect, fold}
+use Rattle.tmem_journal.specs.State.{Effect, fold}
 use Rattle.tmem_world.specs.Attempts.{IsWithin}
 
 -- what a slot holds is for so many variables

@@ -1,8 +1,8 @@
 -- What a transaction is answered, and the serial order of those that are accepted.
 use Rattle.std.specs.Prelude.{ℕ, ℤ, List, [], ◌∷◌}
-use Rattle.tmem_world.specs.declared.tx.Tx.{Tx}
+use Rattle.tmem_event.specs.declared.tx.Tx.{Tx}
 use Rattle.tmem_world.specs.Run.{outcome}
-use Rattle.tmem_world.specs.State.{Effect, State, apply}
+use Rattle.tmem_journal.specs.State.{Effect, State, apply}
 
 -- Seen, where nothing was written: at so many accepted transactions. Committed: under the number of those before it.
 pub data Verdict : Type 0 where

@@ -3,13 +3,13 @@ use Rattle.std.specs.Prelude.{◌≡◌, ◌⊎◌, ⊤, ℕ, ◌+◌, ◌-◌, 
 use Rattle.tmem_disk.specs.Disk.{after_fault}
 use Rattle.tmem_disk.specs.declared.fault.Fault.{Fault}
 use Rattle.tmem_disk.specs.declared.fault.Fault.TheVariants as fault
-use Rattle.tmem_world.specs.declared.tx.Tx.{Tx}
-use Rattle.tmem_world.specs.declared.event.Event.{Event}
-use Rattle.tmem_world.specs.declared.event.Event.TheVariants as event
-use Rattle.tmem_world.specs.declared.event.Reply.{Reply}
-use Rattle.tmem_world.specs.declared.event.Reply.TheVariants as reply
+use Rattle.tmem_event.specs.declared.tx.Tx.{Tx}
+use Rattle.tmem_event.specs.declared.event.Event.{Event}
+use Rattle.tmem_event.specs.declared.event.Event.TheVariants as event
+use Rattle.tmem_event.specs.declared.event.Reply.{Reply}
+use Rattle.tmem_event.specs.declared.event.Reply.TheVariants as reply
 use Rattle.tmem_world.specs.Plans.{BreaksNone, IsLeastBroken}
-use Rattle.tmem_world.specs.State.{State}
+use Rattle.tmem_journal.specs.State.{State}
 use Rattle.tmem_world.specs.Verdict.{Verdict, Seen, Committed, verdict, serial_state}
 
 -- one caller's attempt

@@ -1,10 +1,10 @@
 // What a run has done.
 ghost use Rattle.std.specs.Prelude.{◌≡◌, OnOk};
 ghost use Rattle.tmem_world.specs.Run.{with_write};
-ghost use Rattle.tmem_world.specs.Spelling.{HasValues};
+ghost use Rattle.tmem_journal.specs.Spelling.{HasValues};
 
-use crate::record::Effect;
 use std::alloc::AllocError;
+use tmem_journal::Effect;
 
 /// What a run has done so far.
 #[derive(Drop)]

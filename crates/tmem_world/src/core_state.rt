@@ -1,15 +1,14 @@
 // The accepted transactions: the state after them, and the effects that are not known durable.
 ghost use Rattle.std.specs.Prelude.{◌≡◌, ◌+◌, ◌<◌, ◌≤◌, ◌^◌, ℕ, ℤ, [], ◌∷◌, ◌++◌, length, drop, All, IsTrue, ◌↔◌, IfOk, IsOk, Contains, option_copied, slice_get};
 ghost use Rattle.std.specs.VecDeque.{deque_len, deque_capacity};
-ghost use Rattle.tmem_world.specs.State.{apply};
-ghost use Rattle.tmem_world.specs.Spelling.{IsRecord};
+ghost use Rattle.tmem_journal.specs.State.{apply};
+ghost use Rattle.tmem_journal.specs.Spelling.{IsRecord};
 ghost use Rattle.std.proofs.Props.{props};
 ghost use Rattle.tmem_world.specs.Distinct.{AreDistinct-prop};
 
-use crate::image::State;
-use crate::record::Effect;
 use std::alloc::{AllocError, Global};
 use std::collections::VecDeque;
+use tmem_journal::{Effect, State};
 
 /// How many accepted transactions may wait to be made durable.
 pub const MAX_WAITING: usize = 256;

@@ -3,13 +3,13 @@ ghost use Rattle.std.specs.Prelude.{◌≡◌, IfOk, OnOk, true};
 ghost use Rattle.tmem_world.specs.Limits.{registers_fit};
 ghost use Rattle.tmem_world.specs.Run.{run};
 ghost use Rattle.tmem_world.specs.Attempts.{IsRight, IsWithin, view_of};
-ghost use Rattle.tmem_world.specs.Spelling.{HasValues};
+ghost use Rattle.tmem_journal.specs.Spelling.{HasValues};
 
 use crate::attempt::{Attempt, Log, put_write};
 use crate::plan::Plan;
-use crate::record::Effect;
-use crate::tx::Tx;
 use std::alloc::{AllocError, Global};
+use tmem_event::Tx;
+use tmem_journal::Effect;
 
 /// Runs a plan from the start.
 pub(crate) fn evaluate(alloc: Global, plan: &Plan) -> Result<Attempt, AllocError>

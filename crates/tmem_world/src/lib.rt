@@ -9,27 +9,15 @@
 #![tactic(auto)]
 
 mod attempt;
-mod block;
-mod bytes;
-mod calls;
 mod core_state;
 mod evaluate;
-mod event;
-mod image;
-mod journal;
-mod layout;
 mod limits;
 mod plan;
-mod record;
-mod recover;
 mod session;
-mod tx;
 mod world;
 
 pub use core_state::MAX_WAITING;
-pub use event::{ATTEMPTS, Event, Reply};
-pub use journal::format;
-pub use layout::Layout;
 pub use plan::{MAX_DEPTH, MAX_NODES, MAX_WRITES};
-pub use tx::Tx;
+pub use tmem_event::{ATTEMPTS, Event, Reply, Tx};
+pub use tmem_journal::{Layout, format};
 pub use world::World;

@@ -2,7 +2,7 @@
 ghost use Rattle.std.specs.Prelude.{◌≡◌, ◌+◌, ◌≤◌, ◌<◌, IfSome, IsNone, IsTrue, ◌↔◌};
 ghost use Rattle.tmem_world.specs.Limits.{depth, nodes, writes, registers_fit, vars_fit};
 
-use crate::tx::Tx;
+use tmem_event::Tx;
 
 /// Whether a tree is no deeper than `most`.
 pub(crate) fn is_within_depth(tx: &Tx, most: u32) -> bool

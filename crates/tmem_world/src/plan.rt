@@ -5,8 +5,8 @@ ghost use Rattle.tmem_world.specs.Plans.{BreaksNone, IsLeastBroken};
 use crate::limits::{
     has_good_registers, has_good_vars, is_within_depth, spend_nodes, spend_writes,
 };
-use crate::tx::Tx;
 use tmem_disk::Cause;
+use tmem_event::Tx;
 
 /// How deep a tree may be.
 pub const MAX_DEPTH: u32 = 32;

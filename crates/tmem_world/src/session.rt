@@ -2,21 +2,20 @@
 ghost use Rattle.std.specs.Prelude.{◌≡◌, ◌+◌, ◌<◌, ◌≤◌, ◌^◌, false, [], length, IfOk, IfErr, OnOk, ℕ};
 ghost use Rattle.tmem_disk.specs.Disk.{LeavesOnly, Reads, IsSynced};
 ghost use Rattle.tmem_gate.specs.Gate.{IsClosed};
-ghost use Rattle.tmem_world.specs.State.{State};
-ghost use Rattle.tmem_world.specs.Layout.{end_place, slot_place};
-ghost use Rattle.tmem_world.specs.Stands.{StandsFor};
-ghost use Rattle.tmem_world.specs.Calls.{Uses, IsWhy};
+ghost use Rattle.tmem_journal.specs.State.{State};
+ghost use Rattle.tmem_journal.specs.Layout.{end_place, slot_place};
+ghost use Rattle.tmem_journal.specs.Stands.{StandsFor};
+ghost use Rattle.tmem_journal.specs.Calls.{Uses, IsWhy};
 ghost use Rattle.tmem_world.specs.Settle.{FitsSlot, Settles};
 
 use crate::attempt::Attempt;
 use crate::core_state::Core;
-use crate::event::Reply;
-use crate::journal::{append, recover};
-use crate::layout::Layout;
 use crate::plan::Plan;
 use std::alloc::Global;
 use std::mem;
 use tmem_disk::{Disk, Fault};
+use tmem_event::Reply;
+use tmem_journal::{Layout, append, recover};
 
 /// How many slots of the log are used so far, at the most.
 pub(crate) const LOG_SLOTS: u16 = 1;

@@ -3,24 +3,23 @@ ghost use Rattle.std.specs.Prelude.{◌≡◌, ◌<◌, ◌≤◌, ◌+◌, ◌^
 ghost use Rattle.std.specs.Option.{ForSome};
 ghost use Rattle.std.proofs.Props.{props};
 ghost use Rattle.tmem_disk.specs.Disk.{LeavesOnly, Reads, IsSynced};
-ghost use Rattle.tmem_world.specs.State.{State};
-ghost use Rattle.tmem_world.specs.Layout.{end_place};
-ghost use Rattle.tmem_world.specs.Stands.{StandsFor};
-ghost use Rattle.tmem_world.specs.Calls.{Uses, FitsOn};
+ghost use Rattle.tmem_journal.specs.State.{State};
+ghost use Rattle.tmem_journal.specs.Layout.{end_place};
+ghost use Rattle.tmem_journal.specs.Stands.{StandsFor};
+ghost use Rattle.tmem_journal.specs.Calls.{Uses, FitsOn};
 ghost use Rattle.tmem_world.specs.Settle.{FitsSlot};
 ghost use Rattle.tmem_world.specs.Facts.{FitsSlot-prop};
 ghost use Rattle.tmem_world.specs.Sessions.{IsCounted, IsFree, doubtful_number};
-ghost use Rattle.tmem_world.specs.Events.{NamesSlot};
+ghost use Rattle.tmem_event.specs.Events.{NamesSlot};
 ghost use Rattle.tmem_world.specs.WorldModel.{WorldModel, opening, present, Run};
 
 use crate::evaluate::evaluate;
-use crate::event::{ATTEMPTS, Event, Reply};
-use crate::layout::Layout;
 use crate::plan::Plan;
 use crate::session::{Session, Slot, find};
-use crate::tx::Tx;
 use std::alloc::{AllocError, Global};
 use tmem_disk::{Disk, Fault, Name};
+use tmem_event::{ATTEMPTS, Event, Reply, Tx};
+use tmem_journal::Layout;
 
 /// Durable transactional memory for one thread: it plays events over the present state and a device.
 #[derive(Drop)]

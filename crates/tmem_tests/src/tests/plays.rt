@@ -1,6 +1,6 @@
 //! Lists of events, and devices that stop.
 ghost use Rattle.std.specs.Prelude.{◌≡◌, All, IfOk};
-ghost use Rattle.tmem_world.specs.Events.{NamesSlot};
+ghost use Rattle.tmem_event.specs.Events.{NamesSlot};
 ghost use Rattle.tmem_world.specs.Represents.{numbers_of};
 
 use super::{Told, answer, commit, fresh, opened, tell, write};

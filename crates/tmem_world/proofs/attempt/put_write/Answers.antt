@@ -6,7 +6,7 @@ use Rattle.std.proofs.lemmas.Grind.{common_steps}
 use Rattle.std.proofs.lemmas.Int.{to_z-of_z}
 use Rattle.tmem_world.proofs.Effects.{at_write, All-with_write}
 use Rattle.tmem_world.specs.Run.{with_write}
-use Rattle.tmem_world.specs.Spelling.{HasValues}
+use Rattle.tmem_journal.specs.Spelling.{HasValues}
 use Rattle.tmem_world.proofs.attempt.put_write.Goals as goal
 
 pub returns-then-index-var-clause-writes : goal.returns-then-index-var-clause-writes

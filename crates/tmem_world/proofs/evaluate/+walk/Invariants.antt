@@ -1,7 +1,7 @@
 use Rattle.std.proofs.Common.{◌≡◌, true, drop}
 use Rattle.tmem_world.specs.Attempts.{view_of}
 use Rattle.tmem_world.specs.Run.{run}
-use Rattle.tmem_world.specs.Spelling.{HasValues}
+use Rattle.tmem_journal.specs.Spelling.{HasValues}
 use Rattle.tmem_world.proofs.Rows.{registers_fit_in, run_in}
 use Rattle.tmem_world.proofs.evaluate.+walk.Given as goal
 

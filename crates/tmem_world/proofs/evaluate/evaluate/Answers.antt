@@ -2,7 +2,7 @@ use Rattle.std.proofs.Common.{List, ℤ, ℕ, sym, ◌∙◌, ap, subst}
 use Rattle.std.specs.Prelude.{FitsSigned}
 use Rattle.std.specs.Int.{w64}
 use Rattle.std.proofs.lemmas.List.Elements.{All-nil}
-use Rattle.tmem_world.specs.Spelling.{HasValues}
+use Rattle.tmem_journal.specs.Spelling.{HasValues}
 use Rattle.std.specs.Prelude.{pos, replicate}
 use Rattle.tmem_world.specs.Run.{View, run, outcome}
 use Rattle.tmem_world.proofs.Effects.{registers_of_plan, outcome_within, within_same}

@@ -2,9 +2,9 @@ use Rattle.std.proofs.Common.{◌≡◌, ℕ, length, List, [], ◌∷◌, ◌++
 use Rattle.std.specs.Prelude.{All}
 use Rattle.std.proofs.lemmas.Grind.{common_steps}
 use Rattle.std.proofs.lemmas.List.Elements.{All-push}
-use Rattle.tmem_world.specs.State.{Effect, State}
-use Rattle.tmem_world.specs.Spelling.{IsRecord}
-use Rattle.tmem_world.proofs.States.{length-apply}
+use Rattle.tmem_journal.specs.State.{Effect, State}
+use Rattle.tmem_journal.specs.Spelling.{IsRecord}
+use Rattle.tmem_journal.proofs.States.{length-apply}
 use Rattle.tmem_world.proofs.core_state.Core.accept.Goals as goal
 
 pub invariant_of-self-clause-fit : goal.invariant_of-self-clause-fit

@@ -1,0 +1,38 @@
+//! Why a run ends before its last line, and with which status.
+ghost use Rattle.std.specs.Prelude.{◌≡◌, ◌≤◌};
+
+use thiserror::Error;
+use tmem_disk::Fault;
+use tmem_script::ScriptError;
+
+/// Why the program did not do all that it was asked. Its text is what the user is told.
+#[derive(Debug, Drop, Error)]
+pub enum Failure {
+    #[error(transparent)]
+    Script(#[from] ScriptError),
+    /// The device, its format or its opening was refused, or memory for the way there.
+    #[error(transparent)]
+    Refused(#[from] Fault),
+    #[error("output failed")]
+    Output,
+    /// The command line is no text, so its words could not even be read.
+    #[error("the command line is not UTF-8")]
+    Words,
+}
+
+impl Failure {
+    ghost use Rattle.tmem_cli.specs.Statuses.{status_of};
+
+    /// The status that the program ends with: 3 where there was no script to play, 2 where there were
+    /// no words, and else 1.
+    pub fn status(&self) -> u8
+        ensures status { result ≡ status_of self.now }
+        ensures most { result ≤ 3 }
+    {
+        match self {
+            Failure::Script(ScriptError::Unreadable | ScriptError::NoScript) => 3,
+            Failure::Words => 2,
+            Failure::Script(ScriptError::Memory(_)) | Failure::Refused(_) | Failure::Output => 1,
+        }
+    }
+}

@@ -1,0 +1,99 @@
+//! The command line: which script is to be played, and what the program answers.
+ghost use Rattle.std.specs.Prelude.{◌≡◌, ◌≤◌, ◌⊎◌, IfErr};
+ghost use Rattle.tmem_cli.specs.declared.failure.Failure.TheVariants.{Refused, Words};
+ghost use Rattle.tmem_cli.specs.Statuses.{status_of};
+
+use crate::failure::Failure;
+use crate::play::play;
+use clap::error::ErrorKind;
+use std::alloc::Global;
+use std::env::Env;
+use std::io::{LineWriter, Read, Write};
+use std::rt::Files;
+use std::{env, fs, io};
+use tmem_args::script_path;
+use tmem_disk::Fault;
+use tmem_script::{Script, ScriptError};
+
+/// The words of the command line, the program's name first.
+pub fn words_of(rt: &(impl Env + AllocGlobal)) -> Result<Vec<String>, Failure>
+    ensures { IfErr result (λ failure. (failure ≡ Refused Fault.Memory) ⊎ (failure ≡ Words)) }
+{
+    match env::args(rt) {
+        Ok(words) => words
+            .collect(rt.alloc())
+            .map_err(|_| Failure::Refused(Fault::Memory)),
+        Err(error) if error.kind() == io::ErrorKind::OutOfMemory => {
+            Err(Failure::Refused(Fault::Memory))
+        }
+        Err(_) => Err(Failure::Words),
+    }
+}
+
+/// Does what the words of a command line say, the program's name first, and answers the status: 0
+/// where all was done, 1 where it was refused on the way, 2 where the words were refused, 3 where
+/// there was no script to play.
+pub fn run_words<R: Read, W: Write, E: Write>(
+    rt: &(impl Files + AllocGlobal),
+    words: Vec<String>,
+    input: &mut R,
+    out: &mut W,
+    err: &mut E,
+) -> u8
+    ensures { result ≤ 3 }
+{
+    let outcome = match script_path(rt.alloc(), words.as_slice()) {
+        Ok(path) => run(rt, path, input, out),
+        Err(refusal) if refusal.kind() == ErrorKind::OutOfMemory => {
+            Err(Failure::Refused(Fault::Memory))
+        }
+        Err(refusal) if refusal.use_stderr() => {
+            let _ = write!(err, "{refusal}");
+            return 2;
+        }
+        Err(help) => write!(out, "{help}").map_err(|_| Failure::Output),
+    };
+    conclude(outcome, err)
+}
+
+/// Prints the failure of a run, if it failed, and answers the run's status.
+fn conclude<E: Write>(outcome: Result<(), Failure>, err: &mut E) -> u8
+    ensures { result ≤ 3 }
+{
+    match outcome {
+        Ok(()) => 0,
+        Err(failure) => tell(&failure, err),
+    }
+}
+
+/// Prints a failure, and answers its status.
+pub fn tell<E: Write>(failure: &Failure, err: &mut E) -> u8
+    ensures status { result ≡ status_of failure.now }
+    ensures most { result ≤ 3 }
+{
+    // Where this fails too, nobody is left to tell.
+    let _ = writeln!(err, "tmem: {failure}");
+    failure.status()
+}
+
+fn run<R: Read, W: Write>(
+    rt: &(impl Files + AllocGlobal),
+    path: Option<&str>,
+    input: &mut R,
+    out: &mut W,
+) -> Result<(), Failure> {
+    let text = match path {
+        Some(path) => fs::read(rt, path).map_err(ScriptError::from)?,
+        None => read_all(rt.alloc(), input)?,
+    };
+    let script = Script::from_slice(rt.alloc(), &text)?;
+    let mut out = LineWriter::new(rt.alloc(), out).map_err(|_| Fault::Memory)?;
+    play(rt.alloc(), script, &mut out)?;
+    out.flush().map_err(|_| Failure::Output)
+}
+
+fn read_all<R: Read>(alloc: Global, input: &mut R) -> Result<Vec<u8>, ScriptError> {
+    let mut text = Vec::new(alloc);
+    input.read_to_end(&mut text)?;
+    Ok(text)
+}

@@ -1,0 +1,166 @@
+//! The command line.
+use super::{FIRST, FIRST_OUT, play, run};
+use std::alloc::Global;
+use std::env::{Env, FillError};
+use std::test::Fail;
+use tmem_cli::{tell, words_of};
+
+const HELP: &str = "Durable transactions, played from scripts
+
+Usage: tmem <COMMAND>
+
+Commands:
+  run   Plays a script on a device in memory
+  help  Print this message or the help of the given subcommand(s)
+
+Options:
+  -h, --help  Print help
+";
+
+const RUN_HELP: &str = "Plays a script on a device in memory
+
+Usage: tmem run [SCRIPT]
+
+Arguments:
+  [SCRIPT]  The file with the script [default: standard input]
+
+Options:
+  -h, --help  Print help
+";
+
+const NO_COMMAND: &str = "error: 'tmem' requires a subcommand but one was not provided
+  [subcommands: run, help]
+
+Usage: tmem <COMMAND>
+
+For more information, try '--help'.
+";
+
+const UNKNOWN_COMMAND: &str = "error: unrecognized subcommand 'play'
+
+Usage: tmem <COMMAND>
+
+For more information, try '--help'.
+";
+
+const TWO_SCRIPTS: &str = "error: unexpected argument 'b' found
+
+Usage: tmem run [SCRIPT]
+
+For more information, try '--help'.
+";
+
+const UNKNOWN_OPTION: &str = "error: unexpected argument '--fast' found
+
+  tip: to pass '--fast' as a value, use '-- --fast'
+
+Usage: tmem run [SCRIPT]
+
+For more information, try '--help'.
+";
+
+#[test]
+fn plays_the_first_script(rt: HostRuntime) -> Result<(), Fail> {
+    play(&rt, FIRST)?.expect("first", 0, FIRST_OUT, "")
+}
+
+#[test]
+fn variables_and_slots_out_of_limits(rt: HostRuntime) -> Result<(), Fail> {
+    for (vars, slots) in [(0, 4), (1025, 4), (4, 0), (4, 1), (4, 65), (65535, 65535)] {
+        let script = format!(in rt.alloc();
+            r#"{{"vars":{vars},"slots":{slots},"events":["show"]}}"#
+        )?;
+        let refusal = "tmem: fault 17 geometry\n";
+        play(&rt, script.as_str())?.expect(script.as_str(), 1, "", refusal)?;
+    }
+    for (vars, slots) in [(1, 2), (1024, 64)] {
+        let script = format!(in rt.alloc(); r#"{{"vars":{vars},"slots":{slots},"events":[]}}"#)?;
+        play(&rt, script.as_str())?.expect(script.as_str(), 0, "opened 0\n", "")?;
+    }
+    Ok(())
+}
+
+#[test]
+fn help_goes_to_standard_output(rt: HostRuntime) -> Result<(), Fail> {
+    let general: &[&[&str]] = &[&["--help"], &["-h"], &["help"]];
+    for words in general {
+        run(&rt, words, b"")?.expect(format_args!("{words:?}"), 0, HELP, "")?;
+    }
+    let of_run: &[&[&str]] = &[&["run", "--help"], &["run", "-h"], &["help", "run"]];
+    for words in of_run {
+        run(&rt, words, b"")?.expect(format_args!("{words:?}"), 0, RUN_HELP, "")?;
+    }
+    Ok(())
+}
+
+#[test]
+fn refused_words_are_status_two(rt: HostRuntime) -> Result<(), Fail> {
+    let table: &[(&[&str], &str)] = &[
+        (&[], NO_COMMAND),
+        (&["play"], UNKNOWN_COMMAND),
+        (&["run", "a", "b"], TWO_SCRIPTS),
+        (&["run", "--fast"], UNKNOWN_OPTION),
+    ];
+    for (words, text) in table {
+        run(&rt, words, FIRST.as_bytes())?.expect(format_args!("{words:?}"), 2, "", text)?;
+    }
+    Ok(())
+}
+
+/// A command line of these words.
+#[derive(Drop)]
+struct Given<'a> {
+    alloc: Global,
+    words: &'a [&'a [u8]],
+}
+
+impl Alloc for Given<'_> {
+    type A = Global;
+
+    fn alloc(&self) -> Global {
+        self.alloc
+    }
+}
+
+impl Env for Given<'_> {
+    fn arg(&self, i: usize, buf: &mut [u8]) -> Result<usize, FillError> {
+        let word = self.words.get(i).ok_or(FillError::NotPresent)?;
+        match buf.get_mut(..word.len()) {
+            Some(start) => start.copy_from_slice(word),
+            None => return Err(FillError::TooLong),
+        }
+        Ok(word.len())
+    }
+
+    fn var(&self, _name: &str, _buf: &mut [u8]) -> Result<usize, FillError> {
+        Err(FillError::NotPresent)
+    }
+
+    fn var_at(&self, _i: usize, _buf: &mut [u8]) -> Result<usize, FillError> {
+        Err(FillError::NotPresent)
+    }
+}
+
+#[test]
+fn reads_the_words_of_the_command_line(rt: HostRuntime) -> Result<(), Fail> {
+    let alloc = rt.alloc();
+    let whole = words_of(&Given {
+        alloc,
+        words: &[b"tmem".as_slice(), b"run".as_slice()],
+    })?;
+    assert_eq!(rt; whole.len(), 2);
+    assert!(rt; whole[0].as_str() == "tmem" && whole[1].as_str() == "run");
+    let broken = words_of(&Given {
+        alloc,
+        words: &[b"tmem".as_slice(), b"\xff".as_slice()],
+    });
+    let mut err = Vec::new(alloc);
+    match broken {
+        Ok(_) => Err(Fail::new("words that are not UTF-8 were read")),
+        Err(failure) => {
+            assert_eq!(rt; tell(&failure, &mut err), 2);
+            assert!(rt; err.as_slice() == "tmem: the command line is not UTF-8\n".as_bytes());
+            Ok(())
+        }
+    }
+}

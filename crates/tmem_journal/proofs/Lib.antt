@@ -1,0 +1,15 @@
+pub mod Appending
+pub mod Batches
+pub mod Formatting
+pub mod Finding
+pub mod Imaging
+pub mod Lengths
+pub mod Numbers
+pub mod Ranges
+pub mod Recovering
+pub mod Spelled
+pub mod Standing
+pub mod States
+pub mod Unique
+pub mod Writing
+pub mod Zeros

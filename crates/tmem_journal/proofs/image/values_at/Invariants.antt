@@ -1,0 +1,10 @@
+use Rattle.std.proofs.Common.{◌≡◌, length}
+use Rattle.tmem_journal.specs.Reading.{StandsAt, AreValues, values_bytes}
+use Rattle.tmem_journal.proofs.image.values_at.Given as goal
+
+abbrev pub invariant-loop-k : goal.invariant-loop-k
+invariant-loop-k l = record {
+  count : length l.values.items ≡ l.k;
+  fits : AreValues l.values.items;
+  values : StandsAt l.from (values_bytes l.values.items) l.bytes;
+}

@@ -1,0 +1,39 @@
+use Rattle.std.proofs.Common.{ℕ, List, [], None, Some, refl, sym, ◌∙◌, subst, rules, arith}
+use Rattle.std.proofs.lemmas.Result.{err_from_is_err_and}
+use Rattle.tmem_gate.specs.Gate.{IsClosed}
+use Rattle.tmem_journal.specs.Layout.{slot_place}
+use Rattle.tmem_journal.proofs.Appending.{stands_unused}
+use Rattle.tmem_journal.proofs.Recovering.{nothing_found, all_found, stands_with, leaves_seen, why_too}
+use Rattle.tmem_journal.proofs.States.{length-written}
+use Rattle.tmem_journal.proofs.journal.recover.Goals as goal
+
+pub returns-in_err-found_log-clause-refused : goal.returns-in_err-found_log-clause-refused
+returns-in_err-found_log-clause-refused g c =
+    let returned = err_from_is_err_and c.from_residual-in_err-found_log.result c.from_residual-in_err-found_log.ensures.1 in
+    rw (returned.1, returned.2) (why_too c.in_err-found_log.field-0.0 (λ refused k.
+    let m3 = c.found_log.ensures.uses.model k in
+    let m2 = c.found_image.ensures.uses.model m3 in
+    let m1 = c.found_block.ensures.uses.model m2 in
+    nothing_found c.args.layout.vars c.args.layout.slots c.in_ok-state.state _ _ _ _ (c.sync.ensures.looks.seen m1) (c.found_block.ensures.looks.seen m2) (c.found_image.ensures.looks.seen m3) (c.in_ok-state.ensures.found m3) (rw c.count.ensures at (refused k))) c.in_err-found_log.ensures.refused)
+
+pub returns-in-None-clause-found : goal.returns-in-None-clause-found
+returns-in-None-clause-found g c = λ k.
+    let m3 = c.found_log.ensures.uses.model k in
+    let m2 = c.found_image.ensures.uses.model m3 in
+    let m1 = c.found_block.ensures.uses.model m2 in
+    stands_unused (all_found c.args.layout.vars c.args.layout.slots c.in_ok-state.state _ _ _ _ (c.sync.ensures.looks.seen m1) (c.found_block.ensures.looks.seen m2) (c.found_image.ensures.looks.seen m3) None (c.in_ok-found_block.ensures.found m2) (c.in_ok-state.ensures.found m3) (rw (c.in-None.is, c.count.ensures) at (c.in_ok-found_log.ensures.found k)))
+
+pub returns-in-None-clause-closed : goal.returns-in-None-clause-closed
+returns-in-None-clause-closed g c = λ none. leaves_seen (search rules) (λ k.
+    let found = rw c.in-None.is at (c.in_ok-found_log.ensures.found k) in
+    subst (λ (seen : List ℕ). IsClosed (slot_place c.args.layout.vars 0) seen) (sym (c.found_log.ensures.looks.seen k)) (found.slot_0 (record { count = c.count.result; values = [] }) refl))
+
+pub returns-in-Some-clause-found : goal.returns-in-Some-clause-found
+returns-in-Some-clause-found g c = λ k.
+    let m3 = c.found_log.ensures.uses.model k in
+    let m2 = c.found_image.ensures.uses.model m3 in
+    let m1 = c.found_block.ensures.uses.model m2 in
+    rw c.accept.ensures (stands_with c.args.layout.vars c.args.layout.slots c.in_ok-state.state c.in-Some.effect _ (all_found c.args.layout.vars c.args.layout.slots c.in_ok-state.state _ _ _ _ (c.sync.ensures.looks.seen m1) (c.found_block.ensures.looks.seen m2) (c.found_image.ensures.looks.seen m3) (Some c.in-Some.effect) (c.in_ok-found_block.ensures.found m2) (c.in_ok-state.ensures.found m3) (rw (c.in-Some.is, c.count.ensures) at (c.in_ok-found_log.ensures.found k))))
+
+pub returns-in-Some-clause-sized : goal.returns-in-Some-clause-sized
+returns-in-Some-clause-sized g c = rw c.accept.ensures (length-written c.in_ok-state.state.values c.in-Some.effect.writes ∙ c.in_ok-state.ensures.fits.values, omega arith)

@@ -1,0 +1,39 @@
+-- Which state the content of a device stands for.
+use Rattle.std.specs.Prelude.{◌≡◌, ◌<◌, ◌≤◌, ℕ, ◌+◌, ◌^◌, List, [], ◌∷◌, Option, Some, None}
+use Rattle.tmem_gate.specs.Gate.{IsClosed, IsOpenOver}
+use Rattle.tmem_journal.specs.State.{Effect, State, apply}
+use Rattle.tmem_journal.specs.Layout.{image_place, slot_place}
+use Rattle.tmem_journal.specs.Spelling.{block_body, image_body, batch_bytes, IsRecord, IsImage}
+
+-- Slot 0 is closed, or it is open and begins with a batch of one record that follows on from the image's count.
+abbrev pub HoldsLog : ℕ → State → Option Effect → List ℕ → Type 0
+HoldsLog vars image None c = IsClosed (slot_place vars 0) c
+HoldsLog vars image (Some e) c =
+    IsRecord vars e × (image.count + 1 < 2 ^ 64) × IsOpenOver (slot_place vars 0) (batch_bytes 1 image.count (e ∷ [])) c
+
+-- Block 0 spells these numbers, image copy 0 spells this image and is of generation 1, image copy 1 is closed, slot 0 has this log and no other slot is open.
+pub record Holds (vars slots : ℕ) (image : State) (log : Option Effect) (c : List ℕ) : Type 0 where
+  pub block : IsOpenOver 0 (block_body vars slots) c
+  pub copy_0 : IsOpenOver (image_place vars 0) (image_body vars 1 image) c
+  pub fits : IsImage vars image
+  pub copy_1 : IsClosed (image_place vars 1) c
+  pub slot_0 : HoldsLog vars image log c
+  pub behind : (k : ℕ) → 1 ≤ k → k < slots → IsClosed (slot_place vars k) c
+
+-- how many slots a log takes
+abbrev pub used_of : Option Effect → ℕ
+used_of None = 0
+used_of (Some e) = 1
+
+-- the image's state after the log
+abbrev pub replayed : State → Option Effect → State
+replayed image None = image
+replayed image (Some e) = apply image e
+
+-- The content stands for this state, with so many log slots used.
+pub record StandsFor (vars slots used : ℕ) (s : State) (c : List ℕ) : Type 0 where
+  pub image : State
+  pub log : Option Effect
+  pub holds : Holds vars slots image log c
+  pub is_used : used_of log ≡ used
+  pub is_state : replayed image log ≡ s

@@ -1,0 +1,75 @@
+// The parts of a device, and their places.
+ghost use Rattle.std.specs.Prelude.{◌≡◌, ◌↔◌, ◌≤◌, IsOk, IfOk, IfErr};
+ghost use Rattle.tmem_journal.specs.Layout.{IsLayout, pages_of, image_size, image_place, slot_place, end_place};
+
+use tmem_disk::Fault;
+
+/// The greatest number of variables.
+pub const MOST_VARS: u16 = 1024;
+
+/// The least number of log slots.
+pub const LEAST_SLOTS: u16 = 2;
+
+/// The greatest number of log slots.
+pub const MOST_SLOTS: u16 = 64;
+
+/// How many variables and log slots a device has, within the limits. Places and sizes are in bytes.
+#[derive(Clone, Copy, Debug, PartialEq, Eq)]
+pub struct Layout {
+    pub vars: u16,
+    pub slots: u16,
+    ghost fits: { IsLayout vars slots },
+}
+
+impl Layout {
+    /// The layout of these numbers, or `Geometry` where one is not within the limits.
+    pub fn new(vars: u16, slots: u16) -> Result<Layout, Fault>
+        ensures ok { IsOk result ↔ IsLayout vars slots }
+        ensures vars { IfOk result (λ layout. layout.vars ≡ vars) }
+        ensures slots { IfOk result (λ layout. layout.slots ≡ slots) }
+        ensures err { IfErr result (λ f. f ≡ Fault.Geometry) }
+    {
+        let vars_fit = 1 <= vars && vars <= MOST_VARS;
+        let slots_fit = LEAST_SLOTS <= slots && slots <= MOST_SLOTS;
+        if !(vars_fit && slots_fit) {
+            return Err(Fault::Geometry);
+        }
+        Ok(Layout { vars, slots })
+    }
+
+    /// How many pages an image has.
+    pub fn pages(self) -> u64
+        ensures { result ≡ pages_of self.vars }
+    {
+        (self.vars as u64 + 63) / 64
+    }
+
+    /// How long an image copy is, with its gate.
+    pub fn image_size(self) -> u64
+        ensures { result ≡ image_size self.vars }
+    {
+        2048 + 512 * self.pages()
+    }
+
+    /// Where an image copy begins.
+    pub fn image(self, copy: u16) -> u64
+        requires { copy ≤ 1 }
+        ensures { result ≡ image_place self.vars copy }
+    {
+        512 + copy as u64 * self.image_size()
+    }
+
+    /// Where a log slot begins.
+    pub fn slot(self, k: u16) -> u64
+        ensures { result ≡ slot_place self.vars k }
+    {
+        512 + 2 * self.image_size() + 4096 * k as u64
+    }
+
+    /// The first place behind the last slot.
+    pub fn end(self) -> u64
+        ensures { result ≡ end_place self.vars self.slots }
+    {
+        self.slot(self.slots)
+    }
+}

@@ -1,8 +1,0 @@
-use Rattle.tmem_world.specs.Reading.{HoldsWrites, HasValues}
-use Rattle.tmem_world.proofs.record.read_writes.Given as goal
-
-abbrev pub invariant-loop-i : goal.invariant-loop-i
-invariant-loop-i l = record {
-  holds : HoldsWrites l.vars l.from l.i l.writes.items l.bytes;
-  values : HasValues l.writes.items;
-}
