@@ -1,33 +1,10 @@
-//! The command line of `tmem`.
+//! The command line of `tmem`: its words, which script they name, and how a failure is told.
+//!
+//! `words` reads the command line, and `failure` says with which status and line a run ends that failed.
 #![tactic(auto)]
 
-use clap::{Arg, Command};
-use std::alloc::{AllocError, Global};
+mod failure;
+mod words;
 
-/// The path of the script to run, or none for standard input. Refused with what clap has to say of
-/// the words, the text of help among it.
-pub fn script_path<'a>(alloc: Global, words: &'a [String]) -> Result<Option<&'a str>, clap::Error> {
-    let matches = command(alloc)?.try_get_matches_from(words)?;
-    let Some(run) = matches.subcommand_matches("run") else {
-        return Ok(None);
-    };
-    Ok(run.get_str("script"))
-}
-
-fn command<'a>(alloc: Global) -> Result<Command<'a>, AllocError> {
-    Command::new(alloc, "tmem")
-        .bin_name("tmem")?
-        .about("Durable transactions, played from scripts")
-        .subcommand_required(true)
-        .subcommand(run_command(alloc)?)
-}
-
-fn run_command<'a>(alloc: Global) -> Result<Command<'a>, AllocError> {
-    Command::new(alloc, "run")
-        .about("Plays a script on a device in memory")
-        .arg(
-            Arg::new(alloc, "script")
-                .value_name("SCRIPT")
-                .help("The file with the script [default: standard input]"),
-        )
-}
+pub use failure::{Failure, tell};
+pub use words::{script_path, words_of};

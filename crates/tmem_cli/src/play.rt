@@ -2,10 +2,10 @@
 ghost use Rattle.std.specs.Prelude.{◌≡◌, IfOk};
 ghost use Rattle.tmem_world.specs.Represents.{numbers_of, HoldsSession};
 
-use crate::failure::Failure;
 use std::alloc::Global;
 use std::fmt::Display;
 use std::io::Write;
+use tmem_args::Failure;
 use tmem_disk::{Disk, Fault, SimDisk};
 use tmem_script::{Line, ReplyLine, Script};
 use tmem_world::{Layout, Reply, World, format};

@@ -2,10 +2,9 @@
 //!
 //! `World` is what callers see. Its replies are those of a run of the model (`WorldModel` in `specs/`), and every stop of
 //! its device leaves a content that stands for the serial order of accepted transactions, cut at a number that holds all
-//! that was acknowledged (`Represents`). The modules below it are cut where crates of their own will take over: `tx`,
-//! `limits` and `plan` are trees; `attempt` and `evaluate` evaluation; `record`, `image`, `block`, `bytes` and `layout`
-//! states and their bytes; `calls`, `recover` and `journal` what stands on the device; `core_state` and `session` the
-//! present state and what waits to be made durable.
+//! that was acknowledged (`Represents`). The modules below it are cut where crates of their own will take over: `limits`
+//! and `plan` are trees; `attempt` and `evaluate` evaluation; `core_state` and `session` the present state and what waits
+//! to be made durable.
 #![tactic(auto)]
 
 mod attempt;

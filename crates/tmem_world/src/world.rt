@@ -175,7 +175,7 @@ impl<D: Disk> World<D> {
         }
         match Plan::new(tx, self.layout.vars) {
             Ok(plan) => {
-                self.slots[slot as usize] = Slot::Begun(plan);
+                put(&mut self.slots[slot as usize], Slot::Begun(plan));
                 Reply::Begun
             }
             Err(cause) => Reply::Fault(Fault::BadPlan(cause)),
@@ -199,7 +199,7 @@ impl<D: Disk> World<D> {
         };
         match evaluated {
             Ok(attempt) => {
-                self.slots[slot as usize] = Slot::Ended(attempt);
+                put(&mut self.slots[slot as usize], Slot::Ended(attempt));
                 Reply::Ended
             }
             Err(_) => Reply::Fault(Fault::Memory),
@@ -296,6 +296,13 @@ fn doubtful_after(fault: &Fault, durable: u64, doubtful: u64) -> u64
         Fault::Unknown => durable + 1,
         _ => doubtful,
     }
+}
+
+// Puts another slot in the place of one.
+fn put(slot: &mut Slot, other: Slot)
+    ensures { slot.new ≡ other }
+{
+    *slot = other;
 }
 
 // Empties each slot.

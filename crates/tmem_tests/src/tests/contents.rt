@@ -25,11 +25,16 @@ fn what_is_no_store_of_these_numbers_is_refused(rt: HostRuntime) -> Result<(), F
     Ok(())
 }
 
-/// Writes over the bytes from a place on.
-fn put(rt: &impl Abort, disk: &mut SimDisk, at: u64, bytes: &[u8]) {
-    let size = disk.size();
-    assert!(rt; at <= size && bytes.len() as u64 <= size - at);
-    assert!(rt; disk.write_at(at, bytes).is_ok());
+/// A fresh device with other bytes at some places.
+fn poked(alloc: Global, pokes: &[(u64, u8)]) -> Result<SimDisk, Fail> {
+    let mut disk = fresh(alloc)?;
+    for (at, byte) in pokes {
+        if *at >= disk.size() {
+            return Err(Fail::new("no such place"));
+        }
+        disk.write_at(*at, &[*byte]).map_err(|_| "not written")?;
+    }
+    Ok(disk)
 }
 
 #[test]
@@ -55,10 +60,7 @@ fn what_a_content_is_refused_by(rt: HostRuntime) -> Result<(), Fail> {
         (&[(slot_1, 0xa5)], Some(Fault::Damaged)),
     ];
     for (pokes, want) in table {
-        let mut disk = fresh(rt.alloc())?;
-        for (at, byte) in pokes.iter() {
-            put(&rt, &mut disk, *at, &[*byte]);
-        }
+        let disk = poked(rt.alloc(), pokes)?;
         refuses(&rt, rt.alloc(), disk, 4, *want);
     }
     Ok(())
@@ -66,8 +68,9 @@ fn what_a_content_is_refused_by(rt: HostRuntime) -> Result<(), Fail> {
 
 /// The device after the first write to it was made durable.
 fn written(alloc: Global, disk: SimDisk) -> Result<SimDisk, Fail> {
+    let tx = write(alloc, 0, 5)?;
     let mut world = opened(alloc, disk)?;
-    let _ = commit(&mut world, write(alloc, 0, 5)?);
+    let _ = commit(&mut world, tx);
     match answer(&mut world, Event::Flush) {
         Told::Durable(1) => Ok(world.into_disk()),
         _ => Err(Fail::new("not durable")),

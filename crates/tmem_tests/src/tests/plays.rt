@@ -63,10 +63,11 @@ fn a_played_list_is_answered_as_its_steps(rt: HostRuntime) -> Result<(), Fail> {
 
 /// Flushes the first write over a device that stops at a write of it: the reply, and what the stop left.
 fn stopped_at(alloc: Global, k: u64, fill: Fill) -> Result<(Told, SimDisk), Fail> {
+    let tx = write(alloc, 0, 5)?;
     let mut disk = fresh(alloc)?;
     disk.stop_at_write(k, fill);
     let mut world = opened(alloc, disk)?;
-    let _ = commit(&mut world, write(alloc, 0, 5)?);
+    let _ = commit(&mut world, tx);
     let flushed = answer(&mut world, Event::Flush);
     let mut disk = world.into_disk();
     if !disk.is_stopped() {

@@ -21,7 +21,7 @@ returns-in-Ok-clause-step g c = λ m r keeps.
     let holds = slot_holds _ m c.args.slot c.index.result.now r below c.index.ensures in (
       with_attempt m c.args.slot (Ended c.in-Begun.plan.tx),
       in_session c.args.self.now.session m _ _ _ r.session (search rules) (turns_over _ _ m c.args.slot _ holds c.in-Begun.is).0,
-      with_slot _ _ m c.args.slot _ _ r c.in-Ok.ensures.right refl refl refl refl refl refl,
+      with_slot _ _ m c.args.slot c.put.new.slot _ r (rw c.put.ensures c.in-Ok.ensures.right) refl refl refl refl refl refl,
     )
 
 pub returns-in-Err-clause-step : goal.returns-in-Err-clause-step
