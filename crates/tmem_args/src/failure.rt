@@ -25,9 +25,9 @@ pub enum Failure {
 impl Failure {
     ghost use Rattle.tmem_args.specs.Statuses.{status_of};
 
-    /// The status that the program ends with: 3 where there was no script to play, 2 where there were
-    /// no words, and else 1.
-    pub fn status(&self) -> u8
+    // The status that the program ends with: 3 where there was no script to play, 2 where there were
+    // no words, and else 1.
+    fn status(&self) -> u8
         ensures status { result ≡ status_of self.now }
         ensures most { result ≤ 3 }
     {

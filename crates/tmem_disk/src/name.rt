@@ -1,18 +1,16 @@
 // The name of an invariant.
-ghost use Rattle.std.specs.Prelude.{◌≡◌, ◌↔◌, Some, refl, bytes_eq, IsTrue, IsOk, IfOk, IfErr, All};
-ghost use Rattle.std.specs.Ordering.{nat_cmp};
+ghost use Rattle.std.specs.Prelude.{◌≡◌, ◌↔◌, bytes_eq, IsTrue, IsOk, IfOk, IfErr, All};
 ghost use Rattle.std.specs.Cmp.{partial_equiv_from_equiv};
-ghost use Rattle.std.specs.Cmp.Lexicographic.{slice_cmp, nat_list_eq_equiv, nat_list_cmp_total, texts_ties, texts_po};
+ghost use Rattle.std.specs.Cmp.Lexicographic.{nat_list_eq_equiv};
 ghost use Rattle.tmem_disk.specs.Name.{IsLetter, IsName};
 
 use crate::Fault;
-use std::cmp::Ordering;
 use std::fmt;
 use std::marker::Model;
 
 const LONGEST: usize = 16;
 
-/// A name of one to sixteen letters from a to z, held in place. Names are ordered by their bytes.
+/// A name of one to sixteen letters from a to z, held in place.
 #[derive(Clone, Copy)]
 pub struct Name {
     // zeros behind the letters
@@ -56,8 +54,8 @@ impl Name {
         })
     }
 
-    /// Its letters.
-    pub fn as_bytes(&self) -> &[u8]
+    // Its letters.
+    fn as_bytes(&self) -> &[u8]
         ensures bytes { result.now ≡ self.now }
         ensures is_name { IsName self.now }
     {
@@ -103,28 +101,4 @@ impl PartialEq for Name {
 
 impl Eq for Name {
     ghost laws = { nat_list_eq_equiv };
-}
-
-impl PartialOrd for Name {
-    ghost partial_cmp = { λ a b. Some (slice_cmp nat_cmp a b) };
-
-    ghost laws = { texts_po };
-
-    fn partial_cmp(&self, other: &Name) -> Option<Ordering> {
-        Some(self.cmp(other))
-    }
-}
-
-impl Ord for Name {
-    ghost cmp = { λ a b. slice_cmp nat_cmp a b };
-
-    ghost total = { nat_list_cmp_total };
-
-    ghost matches_partial_cmp = { λ a b. refl };
-
-    ghost matches_eq = { λ a b. texts_ties a b };
-
-    fn cmp(&self, other: &Name) -> Ordering {
-        self.as_bytes().cmp(other.as_bytes())
-    }
 }
