@@ -5,9 +5,8 @@ ghost use Rattle.tmem_world.specs.Represents.{numbers_of, HoldsSession};
 use std::alloc::Global;
 use std::fmt::Display;
 use std::io::Write;
-use tmem_args::Failure;
 use tmem_disk::{Disk, Fault, SimDisk};
-use tmem_script::{Line, ReplyLine, Script};
+use tmem_script::{Failure, Line, ReplyLine, Script};
 use tmem_world::{Layout, Reply, World, format};
 
 /// Plays a script on a fresh device, and prints a line for the opening and one for each event. A

@@ -5,7 +5,6 @@ ghost use Rattle.tmem_world.specs.Represents.{numbers_of, HoldsSession};
 
 mod contents;
 mod disks;
-mod gates;
 mod plays;
 
 use std::alloc::{AllocError, Global};
@@ -13,7 +12,7 @@ use tmem_disk::{Fault, SimDisk};
 use tmem_world::{Event, Layout, Reply, Tx, World, format};
 
 /// What a test tells of a reply: registers are left out, but for register 0 of a transaction that wrote nothing.
-#[derive(Clone, Copy, Debug, PartialEq, Eq)]
+#[derive(Clone, Copy, PartialEq, Eq)]
 enum Told {
     Begun,
     Ended,

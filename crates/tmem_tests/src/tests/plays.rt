@@ -94,38 +94,8 @@ fn a_torn_write_leaves_old_or_new(rt: HostRuntime) -> Result<(), Fail> {
     ];
     for (write, byte, fault, count) in rows {
         let (flushed, disk) = stopped_at(alloc, write, Fill::Byte(byte))?;
-        assert_eq!(rt; flushed, Told::Fault(fault));
+        assert!(rt; flushed == Told::Fault(fault));
         assert_eq!(rt; count_on(alloc, disk)?, count);
     }
-    Ok(())
-}
-
-#[test]
-fn after_a_device_failure_the_session_is_closed(rt: HostRuntime) -> Result<(), Fail> {
-    let alloc = rt.alloc();
-    let (first, second) = (write(alloc, 0, 5)?, write(alloc, 1, 1)?);
-    let mut disk = fresh(alloc)?;
-    disk.stop_at_write(0, Fill::Old);
-    let mut world = opened(alloc, disk)?;
-    let told = [
-        commit(&mut world, first),
-        answer(&mut world, Event::Flush),
-        commit(&mut world, second),
-        answer(&mut world, Event::Flush),
-        answer(&mut world, Event::Look),
-        answer(&mut world, Event::Reopen),
-        answer(&mut world, Event::Look),
-    ];
-    let want = [
-        Told::Committed(0),
-        Told::Fault(Fault::Device),
-        Told::Fault(Fault::Closed),
-        Told::Fault(Fault::Closed),
-        Told::Looked(0),
-        Told::Fault(Fault::Device),
-        Told::Fault(Fault::Closed),
-    ];
-    assert!(rt; told == want);
-    assert!(rt; !world.is_open());
     Ok(())
 }
