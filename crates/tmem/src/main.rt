@@ -2,7 +2,8 @@
 #![tactic(auto)]
 
 use std::process::ExitCode;
-use tmem_cli::{run_words, tell, words_of};
+use tmem_args::{tell, words_of};
+use tmem_cli::run_words;
 
 fn main(rt: HostRuntime) -> ExitCode {
     let (mut input, mut out, mut err) = (rt.stdin(), rt.stdout(), rt.stderr());

@@ -4,10 +4,10 @@ ghost use Rattle.tmem_builtins.specs.Invariants.{is_not_negative, add_to_hundred
 ghost use Rattle.tmem_builtins.specs.Steps.{sum_of, difference_of, at_least};
 ghost use Rattle.tmem_world.specs.Represents.{numbers_of, HoldsSession};
 
-use crate::failure::Failure;
 use std::alloc::Global;
 use std::fmt::Display;
 use std::io::Write;
+use tmem_args::Failure;
 use tmem_builtins::{
     add, need, nonneg, nonneg_name, ordered, ordered_name, steps_of, sub, sum, sum_name, table_of,
 };

@@ -1,13 +1,12 @@
 //! What the tests of worlds share: devices, worlds over them, and what is told of a reply.
 ghost use Rattle.std.specs.Prelude.{◌≡◌, IfOk};
-ghost use Rattle.tmem_world.specs.Events.{NamesSlot};
+ghost use Rattle.tmem_event.specs.Events.{NamesSlot};
 ghost use Rattle.tmem_world.specs.Represents.{numbers_of, HoldsSession};
 
 mod batches;
 mod contents;
 mod devices;
 mod disks;
-mod limits;
 mod plays;
 mod tables;
 

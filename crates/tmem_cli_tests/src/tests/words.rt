@@ -3,7 +3,7 @@ use super::{FIRST, FIRST_OUT, play, run};
 use std::alloc::Global;
 use std::env::{Env, FillError};
 use std::test::Fail;
-use tmem_cli::{tell, words_of};
+use tmem_args::{tell, words_of};
 
 const HELP: &str = "Durable transactions, played from scripts
 

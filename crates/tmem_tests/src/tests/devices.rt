@@ -18,8 +18,9 @@ fn written<T: Tests + Drop, S: StoredSteps + Drop>(
 ) -> Result<SimDisk, Fail>
     requires { T.vars table ≡ 4 }
 {
+    let tx = write(alloc, 0, 5)?;
     let mut world = opened(alloc, disk, table, steps)?;
-    let _ = commit(&mut world, write(alloc, 0, 5)?);
+    let _ = commit(&mut world, tx);
     match answer(&mut world, Event::Flush) {
         Told::Durable(1) => Ok(world.into_disk()),
         _ => Err(Fail::new("not durable")),

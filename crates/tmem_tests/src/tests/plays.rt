@@ -1,6 +1,6 @@
 //! Lists of events, and devices that stop.
 ghost use Rattle.std.specs.Prelude.{◌≡◌, All, IfOk};
-ghost use Rattle.tmem_world.specs.Events.{NamesSlot};
+ghost use Rattle.tmem_event.specs.Events.{NamesSlot};
 ghost use Rattle.tmem_world.specs.Represents.{numbers_of};
 
 use super::{Told, answer, commit, fresh, opened, tell, write};
@@ -104,10 +104,11 @@ fn stopped_at<T: Tests + Drop, S: StoredSteps + Drop>(
 ) -> Result<(Told, SimDisk), Fail>
     requires { T.vars table ≡ 4 }
 {
+    let tx = write(alloc, 0, 5)?;
     let mut disk = fresh(alloc)?;
     disk.stop_at_write(k, fill);
     let mut world = opened(alloc, disk, table, steps)?;
-    let _ = commit(&mut world, write(alloc, 0, 5)?);
+    let _ = commit(&mut world, tx);
     let flushed = answer(&mut world, Event::Flush);
     let mut disk = world.into_disk();
     if !disk.is_stopped() {

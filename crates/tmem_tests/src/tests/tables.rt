@@ -40,8 +40,9 @@ fn registered<T: Tests + Drop, S: StoredSteps + Drop>(
 ) -> Result<SimDisk, Fail>
     requires { T.vars table ≡ 4 }
 {
+    let check = check_nonneg()?;
     let mut world = opened(alloc, fresh(alloc)?, table, steps)?;
-    assert!(rt; commit(&mut world, check_nonneg()?) == Told::Committed(0));
+    assert!(rt; commit(&mut world, check) == Told::Committed(0));
     assert!(rt; answer(&mut world, Event::Flush) == Told::Durable(1));
     Ok(world.into_disk())
 }
@@ -85,12 +86,14 @@ fn calls_where_touched<T: Tests + Drop, S: StoredSteps + Drop>(
 ) -> Result<(), Fail>
     requires { T.vars table ≡ 4 }
 {
+    let check = check_nonneg()?;
+    let (elsewhere, touching) = (write(alloc, 3, -5)?, write(alloc, 0, 5)?);
     let mut world = opened(alloc, fresh(alloc)?, table, steps)?;
-    assert!(rt; commit(&mut world, check_nonneg()?) == Told::Committed(0));
+    assert!(rt; commit(&mut world, check) == Told::Committed(0));
     let before = calls.load(Ordering::SeqCst);
-    assert!(rt; commit(&mut world, write(alloc, 3, -5)?) == Told::Committed(1));
+    assert!(rt; commit(&mut world, elsewhere) == Told::Committed(1));
     assert_eq!(rt; calls.load(Ordering::SeqCst), before);
-    assert!(rt; commit(&mut world, write(alloc, 0, 5)?) == Told::Committed(2));
+    assert!(rt; commit(&mut world, touching) == Told::Committed(2));
     assert_ne!(rt; calls.load(Ordering::SeqCst), before);
     Ok(())
 }
