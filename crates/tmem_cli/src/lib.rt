@@ -1,8 +1,10 @@
 //! What the program `tmem` does: it plays scripts of durable transactions, and prints a line for each event.
 //!
-//! `words` does what a command line says, and `play` plays a script on a device in memory.
+//! `args` says which words a command line may have, `words` does what they say, and `play` plays a script on a device in
+//! memory.
 #![tactic(auto)]
 
+mod args;
 mod play;
 mod words;
 

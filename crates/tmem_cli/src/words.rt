@@ -1,15 +1,15 @@
 //! What the program answers to the words of a command line.
 ghost use Rattle.std.specs.Prelude.{◌≤◌};
 
+use crate::args::script_path;
 use crate::play::play;
 use clap::error::ErrorKind;
 use std::alloc::Global;
 use std::fs;
 use std::io::{LineWriter, Read, Write};
 use std::rt::Files;
-use tmem_args::{Failure, script_path, tell};
 use tmem_disk::Fault;
-use tmem_script::{Script, ScriptError};
+use tmem_script::{Failure, Script, ScriptError, tell};
 
 /// Does what the words of a command line say, the program's name first, and answers the status: 0
 /// where all was done, 1 where it was refused on the way, 2 where the words were refused, 3 where
@@ -53,14 +53,23 @@ fn run<R: Read, W: Write>(
     input: &mut R,
     out: &mut W,
 ) -> Result<(), Failure> {
-    let text = match path {
-        Some(path) => fs::read(rt, path).map_err(ScriptError::from)?,
-        None => read_all(rt.alloc(), input)?,
-    };
-    let script = Script::from_slice(rt.alloc(), &text)?;
+    let script = script_of(rt, path, input)?;
     let mut out = LineWriter::new(rt.alloc(), out).map_err(|_| Fault::Memory)?;
     play(rt.alloc(), script, &mut out)?;
     out.flush().map_err(|_| Failure::Output)
+}
+
+/// Reads the script to play, from its file or else from the input.
+fn script_of<R: Read>(
+    rt: &(impl Files + AllocGlobal),
+    path: Option<&str>,
+    input: &mut R,
+) -> Result<Script, ScriptError> {
+    let text = match path {
+        Some(path) => fs::read(rt, path)?,
+        None => read_all(rt.alloc(), input)?,
+    };
+    Script::from_slice(rt.alloc(), &text)
 }
 
 fn read_all<R: Read>(alloc: Global, input: &mut R) -> Result<Vec<u8>, ScriptError> {

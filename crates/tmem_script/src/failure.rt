@@ -1,11 +1,11 @@
 //! Why a run ends before its last line, and with which status.
 ghost use Rattle.std.specs.Prelude.{◌≡◌, ◌≤◌};
-ghost use Rattle.tmem_args.specs.Statuses.{status_of};
+ghost use Rattle.tmem_script.specs.Statuses.{status_of};
 
+use crate::script::ScriptError;
 use std::io::Write;
 use thiserror::Error;
 use tmem_disk::Fault;
-use tmem_script::ScriptError;
 
 /// Why the program did not do all that it was asked. Its text is what the user is told.
 #[derive(Debug, Drop, Error)]
@@ -23,7 +23,7 @@ pub enum Failure {
 }
 
 impl Failure {
-    ghost use Rattle.tmem_args.specs.Statuses.{status_of};
+    ghost use Rattle.tmem_script.specs.Statuses.{status_of};
 
     // The status that the program ends with: 3 where there was no script to play, 2 where there were
     // no words, and else 1.
