@@ -7,22 +7,29 @@ use std::alloc::Global;
 use tmem_disk::{Fault, Name};
 use tmem_invariants::{Invariant, Table, Test};
 
-/// The name of `nonneg`.
-pub fn nonneg_name() -> Name
+/// The names of the three, ascending.
+pub fn names() -> [Name; 3]
+    ensures { result ≡ codes "nonneg" ∷ codes "ordered" ∷ codes "sum" ∷ [] }
+{
+    [nonneg_name(), ordered_name(), sum_name()]
+}
+
+// The name of `nonneg`.
+fn nonneg_name() -> Name
     ensures { result ≡ codes "nonneg" }
 {
     Name::new("nonneg").unwrap()
 }
 
-/// The name of `sum`.
-pub fn sum_name() -> Name
+// The name of `sum`.
+fn sum_name() -> Name
     ensures { result ≡ codes "sum" }
 {
     Name::new("sum").unwrap()
 }
 
-/// The name of `ordered`.
-pub fn ordered_name() -> Name
+// The name of `ordered`.
+fn ordered_name() -> Name
     ensures { result ≡ codes "ordered" }
 {
     Name::new("ordered").unwrap()

@@ -7,5 +7,5 @@
 mod invariants;
 mod steps;
 
-pub use invariants::{nonneg, nonneg_name, ordered, ordered_name, sum, sum_name, table_of};
+pub use invariants::{names, nonneg, ordered, sum, table_of};
 pub use steps::{add, index_of, need, steps_of, sub};

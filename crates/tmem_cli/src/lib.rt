@@ -1,12 +1,11 @@
 //! What the program `tmem` does: it plays scripts of durable transactions, and prints a line for each event.
 //!
-//! `words` reads the command line, `play` plays a script on a device in memory, and `failure` says with
-//! which status a run ends.
+//! `args` says which words a command line may have, `words` does what they say, and `play` plays a script on a device in
+//! memory.
 #![tactic(auto)]
 
-mod failure;
+mod args;
 mod play;
 mod words;
 
-pub use failure::Failure;
-pub use words::{run_words, tell, words_of};
+pub use words::run_words;

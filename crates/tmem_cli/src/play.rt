@@ -4,16 +4,13 @@ ghost use Rattle.tmem_builtins.specs.Invariants.{is_not_negative, add_to_hundred
 ghost use Rattle.tmem_builtins.specs.Steps.{sum_of, difference_of, at_least};
 ghost use Rattle.tmem_world.specs.Represents.{numbers_of, HoldsSession};
 
-use crate::failure::Failure;
 use std::alloc::Global;
 use std::fmt::Display;
 use std::io::Write;
-use tmem_builtins::{
-    add, need, nonneg, nonneg_name, ordered, ordered_name, steps_of, sub, sum, sum_name, table_of,
-};
+use tmem_builtins::{add, names, need, nonneg, ordered, steps_of, sub, sum, table_of};
 use tmem_disk::{Disk, Fault, Name, SimDisk};
 use tmem_invariants::Tests;
-use tmem_script::{Line, ReplyLine, Script};
+use tmem_script::{Failure, Line, ReplyLine, Script};
 use tmem_tree::{StepAnswer, StoredSteps};
 use tmem_world::{Layout, Reply, World, format};
 
@@ -97,20 +94,21 @@ fn play_with<T: Tests + Drop, S: StoredSteps + Drop, W: Write>(
 {
     let Script { vars, slots, lines } = script;
     let mut world = fresh_world(alloc, vars, slots, table, steps)?;
-    print(out, ReplyLine(Reply::Opened(world.count())))?;
     play_lines(&mut world, lines, vars, out)
 }
 
-/// Plays the entries of a script, one after another.
+/// Prints the line of the opening, and plays the entries of a script, one after another.
 fn play_lines<T: Tests + Drop, S: StoredSteps + Drop, W: Write>(
     world: &mut World<SimDisk, T, S>,
     lines: Vec<Line>,
     vars: u16,
     out: &mut W,
 ) -> Result<(), Failure>
-    requires { (numbers_of world.old).vars ≡ vars }
+    requires vars { (numbers_of world.old).vars ≡ vars }
+    requires open { HoldsSession world.old }
 {
-    let names = [nonneg_name(), ordered_name(), sum_name()];
+    print(out, ReplyLine(Reply::Opened(world.count())))?;
+    let names = names();
     for line in lines {
         play_line(world, line, &names, vars, out)?;
     }

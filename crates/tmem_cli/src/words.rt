@@ -1,34 +1,15 @@
-//! The command line: which script is to be played, and what the program answers.
-ghost use Rattle.std.specs.Prelude.{◌≡◌, ◌≤◌, ◌⊎◌, IfErr};
-ghost use Rattle.tmem_cli.specs.declared.failure.Failure.TheVariants.{Refused, Words};
-ghost use Rattle.tmem_cli.specs.Statuses.{status_of};
+//! What the program answers to the words of a command line.
+ghost use Rattle.std.specs.Prelude.{◌≤◌};
 
-use crate::failure::Failure;
+use crate::args::script_path;
 use crate::play::play;
 use clap::error::ErrorKind;
-use clap::{Arg, Command};
-use std::alloc::{AllocError, Global};
-use std::env::Env;
+use std::alloc::Global;
+use std::fs;
 use std::io::{LineWriter, Read, Write};
 use std::rt::Files;
-use std::{env, fs, io};
 use tmem_disk::Fault;
-use tmem_script::{Script, ScriptError};
-
-/// The words of the command line, the program's name first.
-pub fn words_of(rt: &(impl Env + AllocGlobal)) -> Result<Vec<String>, Failure>
-    ensures { IfErr result (λ failure. (failure ≡ Refused Fault.Memory) ⊎ (failure ≡ Words)) }
-{
-    match env::args(rt) {
-        Ok(words) => words
-            .collect(rt.alloc())
-            .map_err(|_| Failure::Refused(Fault::Memory)),
-        Err(error) if error.kind() == io::ErrorKind::OutOfMemory => {
-            Err(Failure::Refused(Fault::Memory))
-        }
-        Err(_) => Err(Failure::Words),
-    }
-}
+use tmem_script::{Failure, Script, ScriptError, tell};
 
 /// Does what the words of a command line say, the program's name first, and answers the status: 0
 /// where all was done, 1 where it was refused on the way, 2 where the words were refused, 3 where
@@ -66,57 +47,29 @@ fn conclude<E: Write>(outcome: Result<(), Failure>, err: &mut E) -> u8
     }
 }
 
-/// Prints a failure, and answers its status.
-pub fn tell<E: Write>(failure: &Failure, err: &mut E) -> u8
-    ensures status { result ≡ status_of failure.now }
-    ensures most { result ≤ 3 }
-{
-    // Where this fails too, nobody is left to tell.
-    let _ = writeln!(err, "tmem: {failure}");
-    failure.status()
-}
-
-/// The path of the script to run, or none for standard input.
-fn script_path<'a>(alloc: Global, words: &'a [String]) -> Result<Option<&'a str>, clap::Error> {
-    let matches = command(alloc)?.try_get_matches_from(words)?;
-    let Some(run) = matches.subcommand_matches("run") else {
-        return Ok(None);
-    };
-    Ok(run.get_str("script"))
-}
-
-fn command<'a>(alloc: Global) -> Result<Command<'a>, AllocError> {
-    Command::new(alloc, "tmem")
-        .bin_name("tmem")?
-        .about("Durable transactions, played from scripts")
-        .subcommand_required(true)
-        .subcommand(run_command(alloc)?)
-}
-
-fn run_command<'a>(alloc: Global) -> Result<Command<'a>, AllocError> {
-    Command::new(alloc, "run")
-        .about("Plays a script on a device in memory")
-        .arg(
-            Arg::new(alloc, "script")
-                .value_name("SCRIPT")
-                .help("The file with the script [default: standard input]"),
-        )
-}
-
 fn run<R: Read, W: Write>(
     rt: &(impl Files + AllocGlobal),
     path: Option<&str>,
     input: &mut R,
     out: &mut W,
 ) -> Result<(), Failure> {
-    let text = match path {
-        Some(path) => fs::read(rt, path).map_err(ScriptError::from)?,
-        None => read_all(rt.alloc(), input)?,
-    };
-    let script = Script::from_slice(rt.alloc(), &text)?;
+    let script = script_of(rt, path, input)?;
     let mut out = LineWriter::new(rt.alloc(), out).map_err(|_| Fault::Memory)?;
     play(rt.alloc(), script, &mut out)?;
     out.flush().map_err(|_| Failure::Output)
+}
+
+/// Reads the script to play, from its file or else from the input.
+fn script_of<R: Read>(
+    rt: &(impl Files + AllocGlobal),
+    path: Option<&str>,
+    input: &mut R,
+) -> Result<Script, ScriptError> {
+    let text = match path {
+        Some(path) => fs::read(rt, path)?,
+        None => read_all(rt.alloc(), input)?,
+    };
+    Script::from_slice(rt.alloc(), &text)
 }
 
 fn read_all<R: Read>(alloc: Global, input: &mut R) -> Result<Vec<u8>, ScriptError> {

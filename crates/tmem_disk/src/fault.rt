@@ -104,8 +104,8 @@ pub enum Cause {
 }
 
 impl Cause {
-    /// The number that is printed, 1 to 9 in the order of the variants.
-    pub fn number(self) -> u8
+    // The number that is printed, 1 to 9 in the order of the variants.
+    fn number(self) -> u8
         ensures { result ≡ number_of self }
     {
         match self {

@@ -38,21 +38,21 @@ impl Layout {
     }
 
     /// How many pages an image has.
-    pub fn pages(self) -> u64
+    pub(crate) fn pages(self) -> u64
         ensures { result ≡ pages_of self.vars }
     {
         (self.vars as u64 + 63) / 64
     }
 
     /// How long an image copy is, with its gate.
-    pub fn image_size(self) -> u64
+    pub(crate) fn image_size(self) -> u64
         ensures { result ≡ image_size self.vars }
     {
         2048 + 512 * self.pages()
     }
 
     /// Where an image copy begins.
-    pub fn image(self, copy: u16) -> u64
+    pub(crate) fn image(self, copy: u16) -> u64
         requires { copy ≤ 1 }
         ensures { result ≡ image_place self.vars copy }
     {
@@ -60,7 +60,7 @@ impl Layout {
     }
 
     /// Where a log slot begins.
-    pub fn slot(self, k: u16) -> u64
+    pub(crate) fn slot(self, k: u16) -> u64
         ensures { result ≡ slot_place self.vars k }
     {
         512 + 2 * self.image_size() + 4096 * k as u64

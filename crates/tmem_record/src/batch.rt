@@ -1,5 +1,5 @@
 // A list of effects that fits one slot of the log.
-ghost use Rattle.std.specs.Prelude.{◌≡◌, ◌≤◌, ◌<◌, ◌+◌, ◌*◌, ◌==◌, ◌↔◌, [], ◌∷◌, ◌++◌, length, sum_by, IsTrue, IfOk};
+ghost use Rattle.std.specs.Prelude.{◌≡◌, ◌≤◌, ◌<◌, ◌+◌, ◌*◌, ◌↔◌, [], ◌∷◌, ◌++◌, length, sum_by, IsTrue, IfOk};
 ghost use Rattle.std.specs.Bool.{OnTrue, OnFalse};
 ghost use Rattle.tmem_record.specs.State.{IsEmptyEffect, AreWrites, AreChecks};
 ghost use Rattle.tmem_record.specs.declared.names.TheConstants.{MAX_CHECKS};
@@ -60,13 +60,6 @@ impl Batch {
         ensures few { result ≤ MAX_RECORDS }
     {
         self.len
-    }
-
-    /// Whether it has no record.
-    pub fn is_empty(&self) -> bool
-        ensures { result ≡ (length self.now == 0) }
-    {
-        self.len == 0
     }
 
     /// How many bytes its records will have together.

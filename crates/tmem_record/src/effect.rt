@@ -26,7 +26,7 @@ impl Effect {
     }
 
     /// Whether it changes nothing.
-    pub fn is_empty(&self) -> bool
+    pub(crate) fn is_empty(&self) -> bool
         ensures { IsTrue result ↔ IsEmptyEffect self.now }
     {
         self.writes.as_slice().is_empty() && self.names.as_slice().is_empty()

@@ -47,14 +47,14 @@ impl NameSet {
     }
 
     /// Whether a name is registered.
-    pub fn has(&self, name: &Name) -> bool
+    pub(crate) fn has(&self, name: &Name) -> bool
         ensures { result ≡ has_name self.now name.now }
     {
         holds(&self.items, name)
     }
 
     /// Registers a name, unless it is.
-    pub fn insert(&mut self, name: &Name)
+    pub(crate) fn insert(&mut self, name: &Name)
         requires { has_name self.old name.now ≡ false → length self.old < MAX_NAMES }
         ensures { self.new ≡ insert_name self.old name.now }
     {
@@ -82,7 +82,7 @@ impl NameSet {
     }
 
     /// The same names in memory of their own.
-    pub fn copy(&self, alloc: Global) -> Result<NameSet, AllocError>
+    pub(crate) fn copy(&self, alloc: Global) -> Result<NameSet, AllocError>
         ensures { IfOk result (λ names. names ≡ self.now) }
     {
         let mut names = NameSet::new(alloc)?;

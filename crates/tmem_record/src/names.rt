@@ -46,7 +46,7 @@ impl Names {
     }
 
     /// Whether a name is checked.
-    pub fn has(&self, name: &Name) -> bool
+    pub(crate) fn has(&self, name: &Name) -> bool
         ensures { result ≡ has_name self.now name.now }
     {
         holds(&self.items, name)

@@ -2,7 +2,7 @@
 ghost use Rattle.std.specs.Prelude.{◌≡◌, ◌≤◌, ◌<◌, ◌+◌, ◌^◌, ◌↔◌, length, All, IsTrue, IfOk, Some, slice_get};
 ghost use Rattle.tmem_record.specs.Distinct.{AreDistinct};
 ghost use Rattle.tmem_record.specs.Names.{has_name, with_names, AreRegistered};
-ghost use Rattle.tmem_record.specs.State.{apply, first_state, overwrite, written};
+ghost use Rattle.tmem_record.specs.State.{apply, overwrite, written};
 
 use crate::effect::Effect;
 use crate::name_set::{MAX_NAMES, NameSet};
@@ -28,19 +28,6 @@ impl Model for State {
 }
 
 impl State {
-    /// Where a store of so many variables begins: nothing accepted, no name, and each variable 0.
-    pub fn first(alloc: Global, vars: u16) -> Result<State, AllocError>
-        ensures { IfOk result (λ s. s ≡ first_state vars) }
-    {
-        let names = NameSet::new(alloc)?;
-        let values = vec![in alloc; 0; vars as usize]?;
-        Ok(State {
-            count: 0,
-            names,
-            values,
-        })
-    }
-
     /// The state of these parts.
     pub fn of(count: u64, names: NameSet, values: Vec<i64>) -> State
         ensures count { result.count ≡ count }

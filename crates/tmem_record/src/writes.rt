@@ -52,7 +52,7 @@ impl Writes {
     }
 
     /// Whether a variable is written.
-    pub fn has(&self, var: u16) -> bool
+    pub(crate) fn has(&self, var: u16) -> bool
         ensures { result ≡ is_some (look self.now var) }
     {
         is_written(&self.items, var)

@@ -1,13 +1,13 @@
 //! One event of a script, from its JSON form.
 ghost use Rattle.std.specs.Prelude.{IfOk, ◌<◌};
-ghost use Rattle.tmem_world.specs.Events.{NamesSlot};
+ghost use Rattle.tmem_event.specs.Events.{NamesSlot};
 
 use crate::json::{byte_of, pair_of};
 use crate::script::ScriptError;
 use crate::tx::tx_of;
 use serde_json::Value;
 use std::alloc::Global;
-use tmem_world::{ATTEMPTS, Event};
+use tmem_event::{ATTEMPTS, Event};
 
 /// Reads an event: a word such as `"flush"`, or an object with one member such as `{"turn":0}`. Its
 /// attempt slot is one that a world has.

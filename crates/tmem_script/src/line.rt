@@ -1,6 +1,6 @@
 //! What is printed: one line for each reply, and one for the state.
 use std::fmt;
-use tmem_world::Reply;
+use tmem_event::Reply;
 
 /// The line of a reply, without its newline.
 #[derive(Drop)]

@@ -2,7 +2,7 @@
 ghost use Rattle.std.specs.Prelude.{◌≡◌, Some, codes, IfOk};
 ghost use Rattle.serde_json.specs.Data.{Data};
 ghost use Rattle.serde_json.specs.Read.{read};
-ghost use Rattle.tmem_world.specs.Events.{NamesSlot};
+ghost use Rattle.tmem_event.specs.Events.{NamesSlot};
 ghost use Rattle.tmem_script.specs.Numbers.{number_at};
 
 use crate::event::event_of;
@@ -12,7 +12,7 @@ use std::alloc::{AllocError, Global};
 use std::io;
 use thiserror::Error;
 use tmem_disk::Fault;
-use tmem_world::Event;
+use tmem_event::Event;
 
 /// A script that was read and checked whole.
 #[derive(Drop)]

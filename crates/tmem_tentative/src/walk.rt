@@ -14,7 +14,8 @@ use crate::attempt::Reads;
 use crate::log::{Flow, Log};
 use std::alloc::Global;
 use tmem_disk::Fault;
-use tmem_tree::{MAX_ARGUMENTS, StepAnswer, StoredSteps, Tx};
+use tmem_record::Effect;
+use tmem_tree::{MAX_ARGUMENTS, REGISTERS, StepAnswer, StoredSteps, Tx};
 
 /// Goes on with a run, as far as the reads allow.
 pub(crate) fn walk<S: StoredSteps>(
@@ -66,8 +67,7 @@ pub(crate) fn walk<S: StoredSteps>(
             let effect = log.effect.copy(alloc)?;
             match walk(alloc, first, steps, reads, log)? {
                 Flow::Retry => {
-                    log.registers = registers;
-                    log.effect = effect;
+                    forget(log, registers, effect);
                     walk(alloc, second, steps, reads, log)
                 }
                 flow => Ok(flow),
@@ -80,6 +80,16 @@ pub(crate) fn walk<S: StoredSteps>(
             Ok(Flow::Normal)
         }
     }
+}
+
+// Forgets what a branch did that retried, but for its reads: registers and effect are as before it.
+fn forget(log: &mut Log, registers: [i64; REGISTERS], effect: Effect)
+    ensures registers { log.new.registers ≡ registers }
+    ensures effect { log.new.effect ≡ effect }
+    ensures reads { log.new.reads ≡ log.old.reads }
+{
+    log.registers = registers;
+    log.effect = effect;
 }
 
 // A Read of one variable.

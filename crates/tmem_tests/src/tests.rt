@@ -1,56 +1,25 @@
-//! What the tests of worlds share: devices, worlds over them, and what is told of a reply.
+//! What the tests of worlds share: devices, and worlds over them.
 ghost use Rattle.std.specs.Prelude.{◌≡◌, IfOk};
-ghost use Rattle.tmem_world.specs.Events.{NamesSlot};
 ghost use Rattle.tmem_world.specs.Represents.{numbers_of, HoldsSession};
 
 mod batches;
 mod contents;
 mod devices;
 mod disks;
-mod limits;
 mod plays;
 mod tables;
 
 use std::alloc::{AllocError, Global};
-use tmem_disk::{Fault, Name, SimDisk};
-use tmem_invariants::Tests;
-use tmem_tree::{StoredSteps, Tx};
+use tmem_disk::{Fault, SimDisk};
+use tmem_invariants::{Table, Tests};
+use tmem_tree::{Steps, StoredSteps, Tx};
 use tmem_world::{Event, Layout, Reply, World, format};
 
-/// What a test tells of a reply: registers are left out, but for register 0 of a transaction that wrote nothing.
-#[derive(Clone, Copy, PartialEq, Eq)]
-enum Told {
-    Begun,
-    Ended,
-    Idle,
-    Committed(u64),
-    Seen(u64, i64),
-    Read(u16, i64),
-    Retry,
-    Aborted(u16),
-    Refused(Name),
-    Durable(u64),
-    Looked(u64),
-    Opened(u64),
-    Fault(Fault),
-}
-
-fn tell(reply: Reply) -> Told {
-    match reply {
-        Reply::Begun => Told::Begun,
-        Reply::Ended => Told::Ended,
-        Reply::Idle => Told::Idle,
-        Reply::Committed { number, .. } => Told::Committed(number),
-        Reply::Seen { at, registers } => Told::Seen(at, registers[0]),
-        Reply::Read { var, value } => Told::Read(var, value),
-        Reply::Retry => Told::Retry,
-        Reply::Aborted(code) => Told::Aborted(code),
-        Reply::Refused(name) => Told::Refused(name),
-        Reply::Durable(n) => Told::Durable(n),
-        Reply::Looked(n) => Told::Looked(n),
-        Reply::Opened(n) => Told::Opened(n),
-        Reply::Fault(fault) => Told::Fault(fault),
-    }
+/// What is answered to a transaction that was accepted, and left this number in register 0 alone.
+fn committed(number: u64, first: i64) -> Reply {
+    let mut registers = [0; 16];
+    registers[0] = first;
+    Reply::Committed { number, registers }
 }
 
 /// Puts a number in register 0, and writes it to a variable.
@@ -64,6 +33,15 @@ fn fresh(alloc: Global) -> Result<SimDisk, Fault> {
     let mut disk = SimDisk::new(alloc, layout.end())?;
     format(&mut disk, 4, 4)?;
     Ok(disk)
+}
+
+/// For four variables, no invariant and no stored step.
+fn no_closures(alloc: Global) -> Result<(Table, Steps), Fault>
+    ensures { IfOk result (λ made. made.0.vars ≡ 4) }
+{
+    let table = Table::of(Vec::new(alloc), 4)?;
+    let steps = Steps::of(Vec::new(alloc))?;
+    Ok((table, steps))
 }
 
 /// A world over a device of four variables and four slots.
@@ -100,22 +78,11 @@ fn refusal<T: Tests + Drop, S: StoredSteps + Drop>(
     }
 }
 
-/// What an event is answered.
-fn answer<T: Tests + Drop, S: StoredSteps + Drop>(
-    world: &mut World<SimDisk, T, S>,
-    event: Event,
-) -> Told
-    requires { NamesSlot event }
-    ensures { numbers_of world.new ≡ numbers_of world.old }
-{
-    tell(world.step(event))
-}
-
 /// Begins a transaction that reads nothing on slot 0, evaluates it and settles it.
-fn commit<T: Tests + Drop, S: StoredSteps + Drop>(world: &mut World<SimDisk, T, S>, tx: Tx) -> Told
+fn commit<T: Tests + Drop, S: StoredSteps + Drop>(world: &mut World<SimDisk, T, S>, tx: Tx) -> Reply
     ensures { numbers_of world.new ≡ numbers_of world.old }
 {
-    let _ = answer(world, Event::Begin { slot: 0, tx });
-    let _ = answer(world, Event::Turn { slot: 0 });
-    answer(world, Event::Settle { slot: 0 })
+    let _ = world.step(Event::Begin { slot: 0, tx });
+    let _ = world.step(Event::Turn { slot: 0 });
+    world.step(Event::Settle { slot: 0 })
 }

@@ -11,10 +11,10 @@ use Rattle.tmem_core.specs.declared.settled.Settled.{Settled}
 use Rattle.tmem_core.specs.declared.settled.Settled.TheVariants.{Committed, Seen, Retry, Aborted, Refused}
 use Rattle.tmem_core.specs.Verdict.{map_of, verdict}
 use Rattle.tmem_core.specs.Settle.{judged}
-use Rattle.tmem_world.specs.declared.event.Event.{Event}
-use Rattle.tmem_world.specs.declared.event.Event.TheVariants as event
-use Rattle.tmem_world.specs.declared.event.Reply.{Reply}
-use Rattle.tmem_world.specs.declared.event.Reply.TheVariants as reply
+use Rattle.tmem_event.specs.declared.event.Event.{Event}
+use Rattle.tmem_event.specs.declared.event.Event.TheVariants as event
+use Rattle.tmem_event.specs.declared.event.Reply.{Reply}
+use Rattle.tmem_event.specs.declared.event.Reply.TheVariants as reply
 use Rattle.tmem_world.specs.Replies.{acknowledged, IsAcknowledged}
 use Rattle.tmem_world.specs.WorldModel.{WorldModel, Attempt, NoAttempt, Begun, Ended, Session, Open, Closed, Gone, Setting, present, attempt_at, overridden, goes_on, Begins, TurnsFrom, is_closed, settled_as, settled, FlushesOne, FlushesIn, Reopens, InSession, Allows}
 

@@ -1,7 +1,7 @@
 -- Runs of the model.
 use Rattle.std.proofs.Common.{List, [], ◌∷◌, ◌++◌, refl, subst}
-use Rattle.tmem_world.specs.declared.event.Event.{Event}
-use Rattle.tmem_world.specs.declared.event.Reply.{Reply}
+use Rattle.tmem_event.specs.declared.event.Event.{Event}
+use Rattle.tmem_event.specs.declared.event.Reply.{Reply}
 use Rattle.tmem_world.specs.WorldModel.{Setting, WorldModel, Allows, Run}
 
 -- a run goes on by one event

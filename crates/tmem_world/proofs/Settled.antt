@@ -20,8 +20,8 @@ use Rattle.tmem_core.specs.Held.{state_of, waiting_of, durable_of, is_shut_of, t
 use Rattle.tmem_core.specs.Settle.{is_stale, allowed, judged}
 use Rattle.tmem_core.specs.Verdict.{verdict, accepted_of, state_after, serial_state, IsCommitted}
 use Rattle.tmem_core.proofs.Serials.{serial_state-push, AreCommitted-push}
-use Rattle.tmem_world.specs.declared.event.Reply.{Reply}
-use Rattle.tmem_world.specs.declared.event.Reply.TheVariants as reply
+use Rattle.tmem_event.specs.declared.event.Reply.{Reply}
+use Rattle.tmem_event.specs.declared.event.Reply.TheVariants as reply
 use Rattle.tmem_journal.specs.declared.layout.Layout.{Layout}
 use Rattle.tmem_world.specs.declared.session.Slot.{Slot}
 use Rattle.tmem_world.specs.declared.session.Slot.TheVariants as slot

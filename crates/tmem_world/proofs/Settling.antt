@@ -8,7 +8,7 @@ use Rattle.tmem_record.proofs.Folding.{length-values-fold}
 use Rattle.tmem_core.specs.declared.settled.Settled.{Settled}
 use Rattle.tmem_core.specs.Held.{state_of, table_of}
 use Rattle.tmem_core.specs.Settle.{accepted_by}
-use Rattle.tmem_world.specs.declared.event.Reply.{Reply}
+use Rattle.tmem_event.specs.declared.event.Reply.{Reply}
 use Rattle.tmem_world.specs.declared.session.Slot.{Slot}
 use Rattle.tmem_world.specs.declared.session.Slot.TheVariants as slot
 use Rattle.tmem_world.specs.declared.session.Session as core

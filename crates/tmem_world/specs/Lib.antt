@@ -1,4 +1,3 @@
-pub mod Events
 pub mod Facts
 pub mod Refusals
 pub mod Replies

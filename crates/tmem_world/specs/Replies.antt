@@ -1,10 +1,10 @@
 -- What a reply tells of the device, and what it acknowledges.
 use Rattle.std.specs.Prelude.{◌≡◌, ⊤, ◌⊎◌, ℕ, ◌<◌, List, [], ◌∷◌}
 use Rattle.tmem_disk.specs.declared.fault.Fault.TheVariants as fault
-use Rattle.tmem_world.specs.declared.event.Event.{Event}
-use Rattle.tmem_world.specs.declared.event.Event.TheVariants as event
-use Rattle.tmem_world.specs.declared.event.Reply.{Reply}
-use Rattle.tmem_world.specs.declared.event.Reply.TheVariants as reply
+use Rattle.tmem_event.specs.declared.event.Event.{Event}
+use Rattle.tmem_event.specs.declared.event.Event.TheVariants as event
+use Rattle.tmem_event.specs.declared.event.Reply.{Reply}
+use Rattle.tmem_event.specs.declared.event.Reply.TheVariants as reply
 use Rattle.tmem_journal.specs.Calls.{failures_after}
 
 -- how many calls of the device have failed, once an event was answered so

@@ -14,9 +14,9 @@ use Rattle.tmem_core.specs.Program.{Program}
 use Rattle.tmem_tentative.specs.Right.{IsRight}
 use Rattle.tmem_core.specs.Held.{state_of, waiting_of, durable_of, is_shut_of}
 use Rattle.tmem_core.specs.Verdict.{serial_effects, AreCommitted}
-use Rattle.tmem_world.specs.declared.event.Event.{Event}
-use Rattle.tmem_world.specs.declared.event.Event.TheVariants as event
-use Rattle.tmem_world.specs.declared.event.Reply.{Reply}
+use Rattle.tmem_event.specs.declared.event.Event.{Event}
+use Rattle.tmem_event.specs.declared.event.Event.TheVariants as event
+use Rattle.tmem_event.specs.declared.event.Reply.{Reply}
 use Rattle.tmem_journal.specs.declared.layout.Layout.{Layout}
 use Rattle.tmem_world.specs.declared.session.Slot.{Slot}
 use Rattle.tmem_world.specs.declared.session.Slot.TheVariants as slot

@@ -15,8 +15,8 @@ use Rattle.tmem_core.specs.declared.core_state.Core.{Core}
 use Rattle.tmem_core.specs.Held.{state_of, waiting_of, durable_of, is_shut_of, table_of}
 use Rattle.tmem_core.specs.Settle.{judged, IsRefusal, IsAdded, accepted_by}
 use Rattle.tmem_core.specs.Verdict.{verdict}
-use Rattle.tmem_world.specs.declared.event.Reply.{Reply}
-use Rattle.tmem_world.specs.declared.event.Reply.TheVariants as reply
+use Rattle.tmem_event.specs.declared.event.Reply.{Reply}
+use Rattle.tmem_event.specs.declared.event.Reply.TheVariants as reply
 use Rattle.tmem_world.specs.declared.session.Slot.{Slot}
 use Rattle.tmem_world.specs.declared.session.Slot.TheVariants.{Empty, Begun, Ended}
 use Rattle.tmem_world.specs.declared.session.Session.{Session}

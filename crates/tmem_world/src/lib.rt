@@ -6,10 +6,9 @@
 //! of their own; `session` joins the core to the device.
 #![tactic(auto)]
 
-mod event;
 mod session;
 mod world;
 
-pub use event::{ATTEMPTS, Event, Reply};
+pub use tmem_event::{ATTEMPTS, Event, Reply};
 pub use tmem_journal::{Layout, format};
 pub use world::World;

@@ -14,10 +14,10 @@ ghost use Rattle.tmem_journal.specs.Refusals.{IsRefusedBy};
 ghost use Rattle.tmem_world.specs.Refusals.{IsWhyNot, fault_alone};
 ghost use Rattle.tmem_world.specs.Settle.{FitsCore, Settles, reply_of};
 
-use crate::event::Reply;
 use std::alloc::Global;
 use tmem_core::{Core, Settled};
 use tmem_disk::{Disk, Fault};
+use tmem_event::Reply;
 use tmem_invariants::Tests;
 use tmem_journal::{LOG_SLOTS, Layout, append, recover};
 use tmem_record::Batch;

@@ -16,13 +16,13 @@ ghost use Rattle.tmem_world.specs.Tables.{table_in};
 ghost use Rattle.tmem_world.specs.Settle.{FitsSlot, Joins, Keeps};
 ghost use Rattle.tmem_world.specs.Facts.{FitsSlot-prop};
 ghost use Rattle.tmem_world.specs.Sessions.{IsCounted, IsKnown, IsFree, doubtful_number};
-ghost use Rattle.tmem_world.specs.Events.{NamesSlot};
+ghost use Rattle.tmem_event.specs.Events.{NamesSlot};
 ghost use Rattle.tmem_world.specs.WorldModel.{WorldModel, opening, present, Run};
 
-use crate::event::{ATTEMPTS, Event, Reply};
 use crate::session::{Session, Slot, find};
 use std::alloc::{AllocError, Global};
 use tmem_disk::{Disk, Fault, Name};
+use tmem_event::{ATTEMPTS, Event, Reply};
 use tmem_invariants::Tests;
 use tmem_journal::Layout;
 use tmem_tentative::{Outcome, Reads, evaluate};
@@ -223,7 +223,7 @@ impl<D: Disk, T: Tests + Drop, S: StoredSteps + Drop> World<D, T, S> {
         match Plan::new(tx, &self.steps, self.layout.vars, &self.names) {
             Ok(plan) => {
                 let reads = Reads::new(self.alloc);
-                self.slots[slot as usize] = Slot::Begun { plan, reads };
+                put(&mut self.slots[slot as usize], Slot::Begun { plan, reads });
                 Reply::Begun
             }
             Err(fault) => Reply::Fault(fault),
@@ -255,7 +255,7 @@ impl<D: Disk, T: Tests + Drop, S: StoredSteps + Drop> World<D, T, S> {
                 }
             }
             Ok(Outcome::Ended(attempt)) => {
-                self.slots[slot as usize] = Slot::Ended(attempt);
+                put(&mut self.slots[slot as usize], Slot::Ended(attempt));
                 Reply::Ended
             }
             Err(fault) => Reply::Fault(fault),
@@ -328,11 +328,11 @@ impl<D: Disk, T: Tests + Drop, S: StoredSteps + Drop> World<D, T, S> {
             Ok(session) => {
                 self.durable = session.core.durable();
                 self.doubtful = self.durable;
-                self.session = Some(session);
+                fill(&mut self.session, session);
                 Reply::Opened(self.durable)
             }
             Err((fault, table)) => {
-                self.table = Some(table);
+                fill(&mut self.table, table);
                 Reply::Fault(fault)
             }
         }
@@ -398,6 +398,20 @@ fn doubtful_after(fault: &Fault, durable: u64, doubtful: u64) -> u64
         Fault::Unknown => durable + 1,
         _ => doubtful,
     }
+}
+
+// Puts a value in a place.
+fn fill<V: Drop>(place: &mut Option<V>, value: V)
+    ensures { place.new ≡ Some value }
+{
+    *place = Some(value);
+}
+
+// Puts another slot in the place of one.
+fn put(slot: &mut Slot, other: Slot)
+    ensures { slot.new ≡ other }
+{
+    *slot = other;
 }
 
 // Empties each slot.

@@ -1,9 +1,9 @@
-//! The bytes of records, what spells no batch, and the first state.
+//! The bytes of records.
 use std::alloc::{AllocError, Global};
 use std::process::Abort;
 use std::test::Fail;
 use tmem_disk::Name;
-use tmem_record::{BATCH_ROOM, Batch, Effect, State, decode_batch, encode_batch};
+use tmem_record::{BATCH_ROOM, Batch, Effect, decode_batch, encode_batch};
 
 // An effect of one write.
 fn write_of(alloc: Global, var: u16, value: i64) -> Result<Effect, AllocError> {
@@ -29,7 +29,8 @@ fn behind_head(alloc: Global, record: &[u8]) -> Result<Vec<u8>, Fail> {
 // Spells a batch of one record, compares its bytes, and reads it again.
 fn has_bytes(rt: &impl Abort, alloc: Global, effect: &Effect, record: &[u8]) -> Result<(), Fail> {
     let mut batch = Batch::new(alloc)?;
-    if effect.is_empty() || !batch.push(effect) || batch.is_empty() {
+    let is_empty = effect.writes.as_slice().is_empty() && effect.names.as_slice().is_empty();
+    if is_empty || !batch.push(effect) || batch.effects().is_empty() {
         return Err(Fail::from("an empty record"));
     }
     let mut buffer = [0xee; BATCH_ROOM];
@@ -50,43 +51,4 @@ fn a_record_has_these_bytes(rt: HostRuntime) -> Result<(), Fail> {
     has_bytes(&rt, alloc, &write_of(alloc, 3, -1)?, &negative)?;
     let name = [0, 1, 6, b'n', b'o', b'n', b'n', b'e', b'g'];
     has_bytes(&rt, alloc, &check_of(alloc, &Name::new("nonneg")?)?, &name)
-}
-
-#[test]
-fn what_spells_no_batch_is_read_as_none(rt: HostRuntime) -> Result<(), Fail> {
-    let records: [&[u8]; 6] = [
-        // one byte is missing
-        &[1, 0, 0, 5, 0, 0, 0, 0, 0, 0, 0],
-        // nothing is written and nothing is checked
-        &[0, 0],
-        // a variable stands twice
-        &[
-            2, 0, 0, 5, 0, 0, 0, 0, 0, 0, 0, 0, 0, 5, 0, 0, 0, 0, 0, 0, 0, 0,
-        ],
-        // a variable that is not there
-        &[1, 4, 0, 5, 0, 0, 0, 0, 0, 0, 0, 0],
-        // a name without a letter
-        &[0, 1, 0],
-        // a capital letter
-        &[0, 1, 1, 0x41],
-    ];
-    for record in &records {
-        let bytes = behind_head(rt.alloc(), record)?;
-        assert!(rt; decode_batch(rt.alloc(), &bytes, 4)?.is_none());
-    }
-    let mut bytes = behind_head(rt.alloc(), &[1, 0, 0, 5, 0, 0, 0, 0, 0, 0, 0, 0])?;
-    assert!(rt; decode_batch(rt.alloc(), &bytes, 4)?.is_some());
-    if bytes.len() > 16 {
-        bytes[16] = 0;
-    }
-    assert!(rt; decode_batch(rt.alloc(), &bytes, 4)?.is_none());
-    Ok(())
-}
-
-#[test]
-fn the_first_state_holds_nothing(rt: HostRuntime) -> Result<(), Fail> {
-    let state = State::first(rt.alloc(), 3)?;
-    assert!(rt; state.count() == 0 && state.names().is_empty());
-    assert_eq!(rt; state.values(), [0, 0, 0].as_slice());
-    Ok(())
 }

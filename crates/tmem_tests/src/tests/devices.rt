@@ -1,13 +1,13 @@
 //! The bytes on a device.
 ghost use Rattle.std.specs.Prelude.{◌≡◌};
 
-use super::{Told, answer, commit, fresh, opened, write};
+use super::{commit, fresh, no_closures, opened, write};
 use std::alloc::Global;
 use std::test::Fail;
 use tmem_disk::{Disk, SimDisk};
-use tmem_invariants::{Table, Tests};
-use tmem_tree::{Steps, StoredSteps};
-use tmem_world::Event;
+use tmem_invariants::Tests;
+use tmem_tree::StoredSteps;
+use tmem_world::{Event, Reply};
 
 /// A device on which the first write was made durable.
 fn written<T: Tests + Drop, S: StoredSteps + Drop>(
@@ -18,10 +18,11 @@ fn written<T: Tests + Drop, S: StoredSteps + Drop>(
 ) -> Result<SimDisk, Fail>
     requires { T.vars table ≡ 4 }
 {
+    let tx = write(alloc, 0, 5)?;
     let mut world = opened(alloc, disk, table, steps)?;
-    let _ = commit(&mut world, write(alloc, 0, 5)?);
-    match answer(&mut world, Event::Flush) {
-        Told::Durable(1) => Ok(world.into_disk()),
+    let _ = commit(&mut world, tx);
+    match world.step(Event::Flush) {
+        Reply::Durable(1) => Ok(world.into_disk()),
         _ => Err(Fail::new("not durable")),
     }
 }
@@ -40,8 +41,8 @@ fn the_bytes_of_a_fresh_device_and_of_a_first_record(rt: HostRuntime) -> Result<
         image,
         [0xa5, 1, 0, 0, 0, 0, 0, 0, 0, 0, 0, 0, 0, 0, 0, 0, 0, 0]
     );
-    let table = Table::of(Vec::new(alloc), 4)?;
-    let mut disk = written(alloc, disk, table, Steps::of(Vec::new(alloc))?)?;
+    let (table, steps) = no_closures(alloc)?;
+    let mut disk = written(alloc, disk, table, steps)?;
     assert_eq!(rt; disk.size(), 22016);
     let mut slot = [1; 31];
     assert!(rt; disk.read(5632, &mut slot).is_ok());

@@ -1,8 +1,8 @@
-//! Devices that stop, a second device, names and the texts of refusals.
+//! A second device, and the texts of refusals.
 ghost use Rattle.std.specs.Prelude.{◌≤◌};
 
 use std::test::Fail;
-use tmem_disk::{Cause, DeviceFault, Disk, Fault, Fill, Name, SimDisk};
+use tmem_disk::{Cause, DeviceFault, Disk, Fault, Name, SimDisk};
 
 // A device round another, which counts the writes that it passes on.
 #[derive(Drop)]
@@ -34,58 +34,6 @@ impl<D: Disk> Disk for CountDisk<D> {
     }
 }
 
-#[test]
-fn a_stop_takes_the_fill(rt: HostRuntime) -> Result<(), Fail> {
-    for (fill, left) in [
-        (Fill::Old, [1, 2, 3, 0, 0, 0, 0, 0]),
-        (Fill::New, [1, 7, 3, 0, 5, 6, 0, 0]),
-        (Fill::Byte(9), [1, 9, 3, 0, 9, 9, 0, 0]),
-    ] {
-        let mut disk = SimDisk::new(rt.alloc(), 8)?;
-        let mut seen = [0; 8];
-        let calls = [disk.write_at(0, &[1, 2, 3]), disk.sync()];
-        assert!(rt; calls == [Ok(()), Ok(())]);
-        disk.stop_at_write(1, fill);
-        let calls = [
-            disk.write_at(1, &[7]),
-            disk.write_at(4, &[5, 6]),
-            disk.write_at(0, &[8; 8]),
-            disk.read(0, &mut seen),
-            disk.sync(),
-        ];
-        let want = [
-            Ok(()),
-            Err(DeviceFault::Write),
-            Err(DeviceFault::Write),
-            Err(DeviceFault::Read),
-            Err(DeviceFault::Sync),
-        ];
-        assert!(rt; calls == want);
-        assert!(rt; disk.is_stopped());
-        disk.restart();
-        assert!(rt; disk.read(0, &mut seen).is_ok() && seen == left);
-    }
-    Ok(())
-}
-
-#[test]
-fn a_stop_outlives_a_restart(rt: HostRuntime) -> Result<(), Fail> {
-    let mut disk = SimDisk::new(rt.alloc(), 2)?;
-    let mut seen = [0; 2];
-    disk.stop_at_write(5, Fill::Old);
-    disk.stop_at_write(0, Fill::New);
-    assert!(rt; disk.write_at(0, &[4]) == Err(DeviceFault::Write));
-    disk.stop_at_write(0, Fill::Old);
-    assert!(rt; disk.is_stopped());
-    disk.restart();
-    assert!(rt; disk.write_at(0, &[5, 5]) == Err(DeviceFault::Write));
-    assert!(rt; disk.is_stopped());
-    disk.restart();
-    assert!(rt; disk.write_at(1, &[6]).is_ok() && disk.read(0, &mut seen).is_ok());
-    assert_eq!(rt; seen, [4, 6]);
-    Ok(())
-}
-
 // Writes a byte twice at any device that has one, and reads it back.
 fn twice<D: Disk>(disk: &mut D, byte: u8) -> Result<[u8; 1], DeviceFault>
     requires { 1 ≤ (D.view disk.old).capacity }
@@ -107,31 +55,6 @@ fn another_device_meets_the_trait(rt: HostRuntime) -> Result<(), Fail> {
     assert_eq!(rt; disk.size(), 3);
     assert_eq!(rt; twice(&mut disk, 7), Ok([7]));
     assert_eq!(rt; disk.writes, 2);
-    Ok(())
-}
-
-#[test]
-fn a_name_is_one_to_sixteen_letters(rt: HostRuntime) -> Result<(), Fail> {
-    for text in ["a", "nonneg", "abcdefghijklmnop", "zz"] {
-        let name = Name::new(text)?;
-        assert_eq!(rt; name.as_str(), text);
-        assert_eq!(rt; name.as_bytes(), text.as_bytes());
-    }
-    for text in [
-        "",
-        "abcdefghijklmnopq",
-        "Abc",
-        "a1",
-        "a b",
-        "a_b",
-        "\u{e9}",
-        "`",
-        "{",
-    ] {
-        assert_eq!(rt; Name::new(text), Err(Fault::BadName));
-    }
-    assert!(rt; Name::new("ab")? < Name::new("b")?);
-    assert!(rt; Name::new("a")? < Name::new("aa")?);
     Ok(())
 }
 

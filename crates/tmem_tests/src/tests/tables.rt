@@ -3,7 +3,7 @@ ghost use Rattle.std.specs.Prelude.{◌≡◌, false, length, IfOk};
 ghost use Rattle.tmem_invariants.specs.Answers.{MayCall, HasMeaning};
 ghost use Rattle.tmem_builtins.specs.Invariants.{is_not_negative};
 
-use super::{Told, answer, commit, fresh, opened, refusal, write};
+use super::{commit, committed, fresh, opened, refusal, write};
 use std::alloc::Global;
 use std::process::Abort;
 use std::sync::Arc;
@@ -13,7 +13,7 @@ use tmem_builtins::nonneg;
 use tmem_disk::{Fault, Name, SimDisk};
 use tmem_invariants::{Invariant, Table, Test, Tests};
 use tmem_tree::{Steps, StoredSteps, Tx};
-use tmem_world::Event;
+use tmem_world::{Event, Reply};
 
 /// The table of `nonneg` alone, over variable 0 of four.
 fn one(alloc: Global, test: Test) -> Result<Table, Fault>
@@ -40,9 +40,10 @@ fn registered<T: Tests + Drop, S: StoredSteps + Drop>(
 ) -> Result<SimDisk, Fail>
     requires { T.vars table ≡ 4 }
 {
+    let check = check_nonneg()?;
     let mut world = opened(alloc, fresh(alloc)?, table, steps)?;
-    assert!(rt; commit(&mut world, check_nonneg()?) == Told::Committed(0));
-    assert!(rt; answer(&mut world, Event::Flush) == Told::Durable(1));
+    assert!(rt; commit(&mut world, check) == committed(0, 0));
+    assert!(rt; world.step(Event::Flush) == Reply::Durable(1));
     Ok(world.into_disk())
 }
 
@@ -85,12 +86,14 @@ fn calls_where_touched<T: Tests + Drop, S: StoredSteps + Drop>(
 ) -> Result<(), Fail>
     requires { T.vars table ≡ 4 }
 {
+    let check = check_nonneg()?;
+    let (elsewhere, touching) = (write(alloc, 3, -5)?, write(alloc, 0, 5)?);
     let mut world = opened(alloc, fresh(alloc)?, table, steps)?;
-    assert!(rt; commit(&mut world, check_nonneg()?) == Told::Committed(0));
+    assert!(rt; commit(&mut world, check) == committed(0, 0));
     let before = calls.load(Ordering::SeqCst);
-    assert!(rt; commit(&mut world, write(alloc, 3, -5)?) == Told::Committed(1));
+    assert!(rt; commit(&mut world, elsewhere) == committed(1, -5));
     assert_eq!(rt; calls.load(Ordering::SeqCst), before);
-    assert!(rt; commit(&mut world, write(alloc, 0, 5)?) == Told::Committed(2));
+    assert!(rt; commit(&mut world, touching) == committed(2, 5));
     assert_ne!(rt; calls.load(Ordering::SeqCst), before);
     Ok(())
 }

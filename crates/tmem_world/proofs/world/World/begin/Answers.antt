@@ -13,7 +13,7 @@ returns-in-Ok-clause-step g c = λ program means m r keeps.
     let w = c.args.self.now in
     let names = known_names program w means in
     let fine = subst (λ (ns : List (List ℕ)). BreaksNone (g.S.StoredSteps.arities w.steps) w.layout.vars ns c.args.tx) (c.deref.ensures.value ∙ sym names) c.in-Ok.ensures.fine in
-    (with_attempt m c.args.slot (Begun c.args.tx []), in_session program w.session m _ _ _ r.session (search rules) (fine, refl), with_slot program _ _ m c.args.slot _ _ r (search rules) refl refl refl refl refl refl)
+    (with_attempt m c.args.slot (Begun c.args.tx []), in_session program w.session m _ _ _ r.session (search rules) (fine, refl), with_slot program _ _ m c.args.slot c.put.new.slot _ r (rw c.put.ensures (search rules)) refl refl refl refl refl refl)
 
 pub returns-in-Err-clause-step : goal.returns-in-Err-clause-step
 returns-in-Err-clause-step g c = λ program means m r keeps.
@@ -30,5 +30,5 @@ pub invariant_of-self-in-Ok-clause-fit : goal.invariant_of-self-in-Ok-clause-fit
 invariant_of-self-in-Ok-clause-fit g c =
     let w = c.args.self.now in
     let named = subst (λ (ns : List (List ℕ)). FitsNames ns c.args.tx) c.deref.ensures.value c.in-Ok.ensures.names in
-    All-set (FitsSlot w.layout.vars (g.S.StoredSteps.arities w.steps) w.names.items) w.slots.items c.args.slot (slot.Begun c.in-Ok.plan c.new-reads.result)
-    (rw c.in-Ok.ensures.plan (c.in-Ok.ensures.variables, c.in-Ok.ensures.steps, named)) w.fit
+    All-set (FitsSlot w.layout.vars (g.S.StoredSteps.arities w.steps) w.names.items) w.slots.items c.args.slot c.put.new.slot
+    (rw (c.put.ensures, c.in-Ok.ensures.plan) (c.in-Ok.ensures.variables, c.in-Ok.ensures.steps, named)) w.fit

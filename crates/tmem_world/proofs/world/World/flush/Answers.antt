@@ -1,6 +1,6 @@
 use Rattle.std.proofs.Common.{◌≡◌, arith, refl, ap, sym, subst, ℕ}
 use Rattle.std.specs.Prelude.{Ok, Err, is_none}
-use Rattle.tmem_world.specs.declared.event.Reply.TheVariants as reply
+use Rattle.tmem_event.specs.declared.event.Reply.TheVariants as reply
 use Rattle.tmem_world.specs.Replies.{FlushedNothing}
 use Rattle.tmem_world.proofs.Points.{in_session}
 use Rattle.tmem_world.proofs.Flushed.{flushes}

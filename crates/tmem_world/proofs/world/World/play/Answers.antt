@@ -1,13 +1,13 @@
 use Rattle.std.proofs.Common.{◌≡◌, ⊎_elim, ◌<◌, ◌+◌, ◌++◌, ◌∷◌, [], ◌∙◌, List, length, arith, sym, ap, subst, length-append, append_assoc}
 use Rattle.std.specs.Vec.{vec_capacity, vec_len}
 use Rattle.std.proofs.lemmas.Grind.{common_steps}
-use Rattle.tmem_world.specs.declared.event.Event.{Event}
-use Rattle.tmem_world.specs.declared.event.Reply.{Reply}
+use Rattle.tmem_event.specs.declared.event.Event.{Event}
+use Rattle.tmem_event.specs.declared.event.Reply.{Reply}
 use Rattle.tmem_journal.specs.declared.layout.Layout.{Layout}
 use Rattle.tmem_world.specs.WorldModel.{Setting, Run, Allows}
 use Rattle.tmem_world.specs.Replies.{failures_by, failures_by_all, IsAcknowledged}
 use Rattle.tmem_world.specs.Represents.{RestsOn, setting_of}
-use Rattle.tmem_world.specs.declared.event.Event.TheVariants as event
+use Rattle.tmem_event.specs.declared.event.Event.TheVariants as event
 use Rattle.tmem_world.proofs.Acknowledged.{keeps, acknowledged-append}
 use Rattle.tmem_world.proofs.Runs.{run-append}
 use Rattle.tmem_world.proofs.Still.{failures-append}

@@ -9,7 +9,7 @@ use Rattle.tmem_world.proofs.world.World.reopen.Goals as goal
 pub returns-in-Ok-clause-step : goal.returns-in-Ok-clause-step
 returns-in-Ok-clause-step g c = λ program stated m r keeps.
     let w = c.args.self.now in
-    found program _ _ m r (g.met.D.Disk.is_device w.disk) keeps refl c.clear.ensures.emptied (c.clear.ensures.len ∙ w.sized) c.find.ensures.seen c.find.ensures.stop c.in-Ok.session refl (c.durable-self.ensures ∙ c.in-Ok.ensures.fresh.1) (c.durable-self.ensures ∙ c.in-Ok.ensures.fresh.1) (c.in-Ok.ensures.found keeps) c.in-Ok.ensures.fresh.0 c.in-Ok.ensures.fresh.1 c.in-Ok.ensures.fresh.2 c.in-Ok.ensures.uses.failures c.in-Ok.ensures.synced c.in-Ok.ensures.uses.model c.durable-self.result (c.durable-self.ensures ∙ c.in-Ok.ensures.fresh.1)
+    found program _ _ m r (g.met.D.Disk.is_device w.disk) keeps refl c.clear.ensures.emptied (c.clear.ensures.len ∙ w.sized) c.find.ensures.seen c.find.ensures.stop c.in-Ok.session c.fill.ensures (c.durable-self.ensures ∙ c.in-Ok.ensures.fresh.1) (c.durable-self.ensures ∙ c.in-Ok.ensures.fresh.1) (c.in-Ok.ensures.found keeps) c.in-Ok.ensures.fresh.0 c.in-Ok.ensures.fresh.1 c.in-Ok.ensures.fresh.2 c.in-Ok.ensures.uses.failures c.in-Ok.ensures.synced c.in-Ok.ensures.uses.model c.durable-self.result (c.durable-self.ensures ∙ c.in-Ok.ensures.fresh.1)
 
 pub returns-in-Err-clause-step : goal.returns-in-Err-clause-step
 returns-in-Err-clause-step g c = λ program stated m r keeps.

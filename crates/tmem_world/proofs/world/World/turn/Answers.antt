@@ -41,7 +41,7 @@ invariant_of-self-in-Ok-Ended-clause-fit g c =
     subst (FitsSlot w.layout.vars arities w.names.items) (sym c.index.ensures ∙ c.in-Begun.is) (w.fit c.args.slot c.index.result.now (omega (arith, w.sized))) in
     let within = rw (c.in-Ok-Ended.is, c.in-Ok-Ended.field-0-is) at (c.evaluate-outcome.ensures.within w.layout.vars fits.0) in
     let named = rw (c.in-Ok-Ended.is, c.in-Ok-Ended.field-0-is) at (c.evaluate-outcome.ensures.named w.names.items fits.2) in
-    All-set (FitsSlot w.layout.vars arities w.names.items) w.slots.items c.args.slot (slot.Ended c.in-Ok-Ended.attempt) (within, named) w.fit
+    All-set (FitsSlot w.layout.vars arities w.names.items) w.slots.items c.args.slot c.put.new.slot (rw c.put.ensures (within, named)) w.fit
 
 pub returns-in-Ok-clause-step : goal.returns-in-Ok-clause-step
 returns-in-Ok-clause-step g c = λ program stated m r keeps.
@@ -83,7 +83,7 @@ returns-in-Ok-Ended-clause-step g c = λ program stated m r keeps.
     let ends = turns_end program m c.args.slot c.index.result.now c.in-Begun.plan c.in-Begun.reads c.in-Ok-Ended.attempt holds c.in-Begun.is right in (
       with_attempt m c.args.slot (Ended c.in-Begun.plan c.in-Ok-Ended.attempt.reads.entries),
       in_session program w.session m _ _ _ r.session (search rules) ends.0,
-      with_slot program w _ m c.args.slot (slot.Ended c.in-Ok-Ended.attempt) _ r (ends.1, refl) refl refl refl refl refl refl,
+      with_slot program w _ m c.args.slot c.put.new.slot _ r (rw c.put.ensures (ends.1, refl)) refl refl refl refl refl refl,
     )
 
 pub returns-in-Err-clause-step : goal.returns-in-Err-clause-step

@@ -1,9 +1,9 @@
 //! The command line.
-use super::{FIRST, FIRST_OUT, play, run};
+use super::{FIRST, play, run};
 use std::alloc::Global;
 use std::env::{Env, FillError};
 use std::test::Fail;
-use tmem_cli::{tell, words_of};
+use tmem_script::{tell, words_of};
 
 const HELP: &str = "Durable transactions, played from scripts
 
@@ -58,11 +58,6 @@ Usage: tmem run [SCRIPT]
 
 For more information, try '--help'.
 ";
-
-#[test]
-fn plays_the_first_script(rt: HostRuntime) -> Result<(), Fail> {
-    play(&rt, FIRST)?.expect("first", 0, FIRST_OUT, "")
-}
 
 #[test]
 fn variables_and_slots_out_of_limits(rt: HostRuntime) -> Result<(), Fail> {

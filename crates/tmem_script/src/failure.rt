@@ -1,9 +1,11 @@
 //! Why a run ends before its last line, and with which status.
 ghost use Rattle.std.specs.Prelude.{◌≡◌, ◌≤◌};
+ghost use Rattle.tmem_script.specs.Statuses.{status_of};
 
+use crate::script::ScriptError;
+use std::io::Write;
 use thiserror::Error;
 use tmem_disk::Fault;
-use tmem_script::ScriptError;
 
 /// Why the program did not do all that it was asked. Its text is what the user is told.
 #[derive(Debug, Drop, Error)]
@@ -21,11 +23,11 @@ pub enum Failure {
 }
 
 impl Failure {
-    ghost use Rattle.tmem_cli.specs.Statuses.{status_of};
+    ghost use Rattle.tmem_script.specs.Statuses.{status_of};
 
-    /// The status that the program ends with: 3 where there was no script to play, 2 where there were
-    /// no words, and else 1.
-    pub fn status(&self) -> u8
+    // The status that the program ends with: 3 where there was no script to play, 2 where there were
+    // no words, and else 1.
+    fn status(&self) -> u8
         ensures status { result ≡ status_of self.now }
         ensures most { result ≤ 3 }
     {
@@ -35,4 +37,14 @@ impl Failure {
             Failure::Script(ScriptError::Memory(_)) | Failure::Refused(_) | Failure::Output => 1,
         }
     }
+}
+
+/// Prints a failure, and answers its status.
+pub fn tell<E: Write>(failure: &Failure, err: &mut E) -> u8
+    ensures status { result ≡ status_of failure.now }
+    ensures most { result ≤ 3 }
+{
+    // Where this fails too, nobody is left to tell.
+    let _ = writeln!(err, "tmem: {failure}");
+    failure.status()
 }

@@ -1,7 +1,7 @@
 -- Which slots events name.
 use Rattle.std.specs.Prelude.{ℕ, ◌<◌}
-use Rattle.tmem_world.specs.declared.event.Event.{Event}
-use Rattle.tmem_world.specs.declared.event.Event.TheVariants.{Begin, Turn, Settle, Flush, Look, Reopen}
+use Rattle.tmem_event.specs.declared.event.Event.{Event}
+use Rattle.tmem_event.specs.declared.event.Event.TheVariants.{Begin, Turn, Settle, Flush, Look, Reopen}
 
 -- the attempt slot that the event names, or 0 where it names none
 abbrev pub slot_of : Event → ℕ

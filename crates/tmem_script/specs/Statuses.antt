@@ -1,7 +1,7 @@
 -- With which status the program ends.
 use Rattle.std.specs.Prelude.{ℕ}
-use Rattle.tmem_cli.specs.declared.failure.Failure.{Failure}
-use Rattle.tmem_cli.specs.declared.failure.Failure.TheVariants.{Script, Refused, Output, Words}
+use Rattle.tmem_script.specs.declared.failure.Failure.{Failure}
+use Rattle.tmem_script.specs.declared.failure.Failure.TheVariants.{Script, Refused, Output, Words}
 use Rattle.tmem_script.specs.declared.script.ScriptError.TheVariants.{Memory, Unreadable, NoScript}
 
 -- 3 where there was no script to play, 2 where the words could not be read, and else 1
