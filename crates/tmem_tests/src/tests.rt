@@ -6,6 +6,7 @@ mod batches;
 mod contents;
 mod devices;
 mod disks;
+mod limits;
 mod plays;
 mod tables;
 

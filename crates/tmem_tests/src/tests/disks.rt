@@ -1,4 +1,4 @@
-//! A second device, and the texts of refusals.
+//! A second device, names and the texts of refusals.
 ghost use Rattle.std.specs.Prelude.{◌≤◌};
 
 use std::test::Fail;
@@ -55,6 +55,31 @@ fn another_device_meets_the_trait(rt: HostRuntime) -> Result<(), Fail> {
     assert_eq!(rt; disk.size(), 3);
     assert_eq!(rt; twice(&mut disk, 7), Ok([7]));
     assert_eq!(rt; disk.writes, 2);
+    Ok(())
+}
+
+#[test]
+fn a_name_is_one_to_sixteen_letters(rt: HostRuntime) -> Result<(), Fail> {
+    for text in ["a", "nonneg", "abcdefghijklmnop", "zz"] {
+        let name = Name::new(text)?;
+        assert_eq!(rt; name.as_str(), text);
+        assert_eq!(rt; name.as_bytes(), text.as_bytes());
+    }
+    for text in [
+        "",
+        "abcdefghijklmnopq",
+        "Abc",
+        "a1",
+        "a b",
+        "a_b",
+        "\u{e9}",
+        "`",
+        "{",
+    ] {
+        assert_eq!(rt; Name::new(text), Err(Fault::BadName));
+    }
+    assert!(rt; Name::new("ab")? < Name::new("b")?);
+    assert!(rt; Name::new("a")? < Name::new("aa")?);
     Ok(())
 }
 

@@ -1,0 +1,92 @@
+//! Steps, footprints and tables out of their limits.
+ghost use Rattle.std.specs.Prelude.{◌≡◌, true, length};
+ghost use Rattle.tmem_tests.specs.Examples.{first_of};
+
+use std::test::Fail;
+use tmem_disk::{Cause, Fault, Name};
+use tmem_invariants::{Invariant, Table};
+use tmem_tree::{StepAnswer, StepEntry};
+
+#[test]
+fn a_step_of_five_arguments_is_refused(rt: HostRuntime) -> Result<(), Fail> {
+    let step = Box::new(
+        rt.alloc(),
+        |args: &[i64]| -> StepAnswer
+            requires { length args.now ≡ 5 }
+            ensures { result ≡ first_of args.now }
+        { StepAnswer::Value(args[0]) },
+    )?;
+    assert_eq!(rt;
+        StepEntry::new(5, step).err(),
+        Some(Fault::BadPlan(Cause::BadArguments))
+    );
+    Ok(())
+}
+
+#[test]
+fn footprints_out_of_limits_are_refused(rt: HostRuntime) -> Result<(), Fail> {
+    let sixteen = [0, 1, 2, 3, 4, 5, 6, 7, 8, 9, 10, 11, 12, 13, 14, 15];
+    let seventeen = [0, 1, 2, 3, 4, 5, 6, 7, 8, 9, 10, 11, 12, 13, 14, 15, 16];
+    let refused = Some(Fault::BadFootprint);
+    let cases: [(&[u16], Option<Fault>); 6] = [
+        (&[], refused),
+        (&[7], None),
+        (&sixteen, None),
+        (&seventeen, refused),
+        (&[3, 2, 3], refused),
+        (&[3, 2, 1], None),
+    ];
+    for (footprint, fault) in cases {
+        let always = Box::new(
+            rt.alloc(),
+            |_values: &[i64]| -> bool
+                ensures { result ≡ true }
+            { true },
+        )?;
+        let vars = Vec::from_slice(rt.alloc(), footprint)?;
+        assert_eq!(rt;
+            Invariant::new(Name::new("always")?, vars, always).err(),
+            fault
+        );
+    }
+    Ok(())
+}
+
+// A name for each number.
+fn numbered(n: u8) -> Result<Name, Fault> {
+    let letters = [b'a' + n / 26, b'a' + n % 26];
+    Name::new(std::str::from_utf8(&letters).unwrap_or(""))
+}
+
+#[test]
+fn tables_out_of_limits_are_refused(rt: HostRuntime) -> Result<(), Fail> {
+    // how many entries, of how many names, over which variable
+    let cases = [
+        (0, 1, 3, None),
+        (64, 64, 3, None),
+        (65, 65, 3, Some(Fault::BadName)),
+        (2, 1, 3, Some(Fault::BadName)),
+        (2, 1, 4, Some(Fault::BadName)),
+        (65, 65, 4, Some(Fault::BadName)),
+        (2, 2, 4, Some(Fault::BadFootprint)),
+    ];
+    for (entries, names, var, fault) in cases {
+        let mut made = Vec::new(rt.alloc());
+        for i in 0..entries {
+            let always = Box::new(
+                rt.alloc(),
+                |_values: &[i64]| -> bool
+                    ensures { result ≡ true }
+                { true },
+            )?;
+            let name = if i < names {
+                numbered(i)?
+            } else {
+                numbered(0)?
+            };
+            made.push(Invariant::new(name, vec![in rt.alloc(); var]?, always)?)?;
+        }
+        assert_eq!(rt; Table::of(made, 4).err(), fault);
+    }
+    Ok(())
+}
