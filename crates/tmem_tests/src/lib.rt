@@ -1,4 +1,4 @@
-//! Devices, tables, batches and worlds, by calls: what no script can say.
+//! Devices, tables, batches, transactions and worlds, by calls.
 //!
 //! A crate of tests alone. They stand above the crates that they test, so that each is proved by itself.
 #![tactic(auto)]

@@ -9,6 +9,7 @@ mod disks;
 mod limits;
 mod plays;
 mod tables;
+mod trees;
 
 use std::alloc::{AllocError, Global};
 use tmem_disk::{Fault, SimDisk};
