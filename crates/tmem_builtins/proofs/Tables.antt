@@ -4,7 +4,7 @@ use Rattle.std.proofs.lemmas.Bool.{false≢true}
 use Rattle.std.proofs.lemmas.List.Elements.{All-nil, All-cons}
 use Rattle.std.proofs.lemmas.List.Kept.{AllPairs-cons}
 use Rattle.std.proofs.lemmas.Slice.Eq.{bytes_eq-Decides}
-use Rattle.tmem_invariants.specs.Names.{AreBelow, AreTableNames, IsDistinct}
+use Rattle.tmem_invariants.specs.Names.{AreBelow, AreTableNames, AreDistinct}
 
 -- where a result is Ok, no error is to be spoken of
 pub no_error : {A E : Type 0} (r : Result A E) (P : E → Type 0) → IsOk r → IfErr r P
@@ -14,16 +14,16 @@ no_error (Err e) P ok = absurd (false≢true ok)
 apart : (a b : List ℕ) → bytes_eq a b ≡ false → a ≢ b
 apart a b differ same = false≢true (sym differ ∙ (bytes_eq-Decides a b).1 same)
 
-none : {X : Type 0} → IsDistinct {X = X} []
+none : {X : Type 0} → AreDistinct {X = X} []
 none i j d before within = absurd (omega (arith, within))
 
-one : {X : Type 0} (x : X) → IsDistinct (x ∷ [])
+one : {X : Type 0} (x : X) → AreDistinct (x ∷ [])
 one x = AllPairs-cons (λ a b. a ≢ b) x [] (All-nil (λ b. x ≢ b)) none
 
-two : {X : Type 0} (x y : X) → x ≢ y → IsDistinct (x ∷ y ∷ [])
+two : {X : Type 0} (x y : X) → x ≢ y → AreDistinct (x ∷ y ∷ [])
 two x y first = AllPairs-cons (λ a b. a ≢ b) x (y ∷ []) (All-cons (λ b. x ≢ b) y [] first (All-nil (λ b. x ≢ b))) (one y)
 
-three : {X : Type 0} (x y z : X) → x ≢ y → x ≢ z → y ≢ z → IsDistinct (x ∷ y ∷ z ∷ [])
+three : {X : Type 0} (x y z : X) → x ≢ y → x ≢ z → y ≢ z → AreDistinct (x ∷ y ∷ z ∷ [])
 three x y z first second third = AllPairs-cons (λ a b. a ≢ b) x (y ∷ z ∷ []) (All-cons (λ b. x ≢ b) y (z ∷ []) first (All-cons (λ b. x ≢ b) z [] second (All-nil (λ b. x ≢ b)))) (two y z third)
 
 below : (vars a : ℕ) → a < vars → AreBelow vars (a ∷ [])

@@ -1,26 +1,35 @@
--- A state as the fold of what waits.
-use Rattle.std.proofs.Common.{ℕ, ◌+◌, ◌≤◌, List, [], ◌∷◌, ◌++◌, length, take, drop, refl, sym, ap, ◌∙◌, arith}
-use Rattle.std.proofs.lemmas.List.{length-take-le, take-append-drop}
+-- A state as the fold of what was accepted, of which the last ones wait.
+use Rattle.std.proofs.Common.{◌≡◌, ℕ, ◌+◌, ◌-◌, List, [], ◌∷◌, ◌++◌, length, drop, refl, sym, ap, ◌∙◌, arith}
+use Rattle.std.proofs.lemmas.List.{drop-append-le, drop-drop}
+use Rattle.std.proofs.Math.Seq.{drop-nil}
 use mathlib.Core.Logic.{∥∥₁_map}
-use Rattle.tmem_record.specs.State.{State, apply, fold}
+use Rattle.tmem_record.specs.State.{State, apply}
 use Rattle.tmem_record.specs.declared.effect.Effect.{Effect}
-use Rattle.tmem_record.proofs.Folding.{fold-append, fold-push, count-fold}
-use Rattle.tmem_core.specs.Folded.{IsFolded}
+use Rattle.tmem_record.proofs.Folding.{fold-push, count-fold}
+use Rattle.tmem_core.specs.History.{IsFolded}
 
--- nothing waits
-pub folded-none : (s : State) → ∥ IsFolded s.count [] s ∥₁
-folded-none s = ∣ record { base = s; count = refl; folds = refl } ∣₁
+-- nothing was accepted
+pub folded-none : (s : State) → ∥ IsFolded s [] s.count [] s ∥₁
+folded-none s = ∣ record { folds = refl; late = omega arith; waits = drop-nil (s.count - s.count) } ∣₁
 
--- one effect more
-pub folded-push : (n : ℕ) (es : List Effect) (e : Effect) (s : State) → ∥ IsFolded n es s ∥₁ → ∥ IsFolded n (es ++ e ∷ []) (apply s e) ∥₁
-folded-push n es e s is =
-    ∥∥₁_map is (λ f. record { base = f.base; count = f.count; folds = fold-push f.base es e ∙ ap (λ t. apply t e) f.folds })
+module _ (opened : State) (all : List Effect) (durable : ℕ) (waiting : List Effect) (s : State) (is : ∥ IsFolded opened all durable waiting s ∥₁) where
+  -- one effect more
+  pub folded-push : (e : Effect) → s.count ≡ durable + length waiting → ∥ IsFolded opened (all ++ e ∷ []) durable (waiting ++ e ∷ []) (apply s e) ∥₁
+  folded-push e counted =
+      ∥∥₁_map is (λ f. record {
+        folds = fold-push opened all e ∙ ap (λ t. apply t e) f.folds;
+        late = f.late;
+        waits = drop-append-le (durable - opened.count) all (e ∷ []) (omega (arith, ap State.count f.folds, count-fold opened all, counted, f.late))
+            ∙ ap (λ es. es ++ e ∷ []) f.waits;
+      })
 
--- the oldest ones do not wait any more
-pub folded-drop : (n k : ℕ) (es : List Effect) (s : State) → k ≤ length es → ∥ IsFolded n es s ∥₁ → ∥ IsFolded (n + k) (drop k es) s ∥₁
-folded-drop n k es s le is =
-    ∥∥₁_map is (λ f. record {
-      base = fold f.base (take k es);
-      count = omega (arith, count-fold f.base (take k es), length-take-le k es le, f.count);
-      folds = sym (fold-append f.base (take k es) (drop k es)) ∙ ap (fold f.base) (take-append-drop k es) ∙ f.folds;
-    })
+  -- the oldest ones do not wait any more
+  pub folded-drop : (k : ℕ) → ∥ IsFolded opened all (durable + k) (drop k waiting) s ∥₁
+  folded-drop k =
+      ∥∥₁_map is (λ f. record {
+        folds = f.folds;
+        late = omega (arith, f.late);
+        waits =
+            let far : durable + k - opened.count ≡ durable - opened.count + k = omega (arith, f.late) in
+            ap (λ n. drop n all) far ∙ sym (drop-drop k (durable - opened.count) all) ∙ ap (drop k) f.waits;
+      })

@@ -11,12 +11,11 @@ use Rattle.tmem_record.specs.Names.{AreAscending, has_name, with_names}
 use Rattle.tmem_record.proofs.Folding.{AreAscending-with_names, has_name-with_names}
 use Rattle.tmem_record.proofs.Naming.{AreDistinct-ascending}
 use Rattle.tmem_invariants.specs.Meanings.{Meanings, AllHold, first_false}
-use Rattle.tmem_invariants.specs.Names.{is_among}
-use Rattle.tmem_invariants.proofs.Sound.{All-at_name, Contains-from_is_among, IsSound-from_none}
+use Rattle.tmem_invariants.proofs.Sound.{All-at_name, Contains-from_has_name, IsSound-from_none}
 
 -- each of these names is among others
 abbrev pub AreAmong : List (List ℕ) → List (List ℕ) → Type 0
-AreAmong names ns = All (λ name. IsTrue (is_among names name)) ns
+AreAmong names ns = All (λ name. IsTrue (has_name names name)) ns
 
 bool_same : (a b : Bool) → (a ≡ true → b ≡ true) → (b ≡ true → a ≡ true) → a ≡ b
 bool_same true b there back = sym (there refl)
@@ -43,7 +42,7 @@ few-AreAmong names ns up among =
     member name is =
         let found = Any-from_list_any (bytes_eq name) ns is in
         let same : get_or ns found.0 found.1 ≡ name = found.3 ∙ sym ((bytes_eq-Decides name found.1).0 found.4) in
-        let there = Contains-from_is_among names name (subst (λ n. is_among names n ≡ true) same (among found.0 found.1 found.2)) in
+        let there = Contains-from_has_name names name (subst (λ n. has_name names n ≡ true) same (among found.0 found.1 found.2)) in
         list_any_at (bytes_eq name) names there.0 name there.1 (ap (bytes_eq name) there.2 ∙ (bytes_eq-Decides name name).1 refl)
 
 -- each of the names with more added is one of them, or was added
@@ -65,9 +64,9 @@ AreAmong-with_names names ns ms first second k d below =
     let name = get_or (with_names ns ms) k d in
     by name (has_name ns name) refl (asked ns ms k d below)
   where
-    by : (name : List ℕ) (b : Bool) → has_name ns name ≡ b → (b || has_name ms name) ≡ true → is_among names name ≡ true
-    by name true is or = All-at_name (λ n. IsTrue (is_among names n)) ns name first is
-    by name false is or = All-at_name (λ n. IsTrue (is_among names n)) ms name second or
+    by : (name : List ℕ) (b : Bool) → has_name ns name ≡ b → (b || has_name ms name) ≡ true → has_name names name ≡ true
+    by name true is or = All-at_name (λ n. IsTrue (has_name names n)) ns name first is
+    by name false is or = All-at_name (λ n. IsTrue (has_name names n)) ms name second or
 
 -- and as few as the table's
 pub few-with_names : (names ns ms : List (List ℕ)) → AreAscending ns → AreAmong names ns → AreAmong names ms → length names ≤ 64 → length (with_names ns ms) ≤ 64

@@ -7,5 +7,4 @@ pub mod Registered
 pub mod Rotating
 pub mod Serials
 pub mod Settling
-pub mod Told
 pub mod Trials

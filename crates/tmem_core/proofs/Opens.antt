@@ -6,7 +6,7 @@ use Rattle.std.proofs.lemmas.Slice.Eq.{bytes_eq-Decides}
 use Rattle.tmem_disk.specs.declared.fault.Fault.TheVariants.{Missing, Broken}
 use Rattle.tmem_record.specs.State.{State}
 use Rattle.tmem_invariants.specs.Meanings.{Meanings, IsSound, fails, first_false, holds}
-use Rattle.tmem_invariants.specs.Names.{first_missing, is_among, lacks}
+use Rattle.tmem_invariants.specs.Names.{first_missing, has_name, lacks}
 use Rattle.tmem_invariants.proofs.Sound.{All-at_name, All-there, IsSound-from_none}
 use Rattle.tmem_core.specs.Opening.{opening_fault}
 use Rattle.tmem_core.specs.Program.{Program}
@@ -26,7 +26,7 @@ pub opens : (m : Meanings) (names : List (List ℕ)) (s : State) → first_missi
 opens m names s there none =
     IsSound-from_none m names s.names [] s.names s.values (All-there names s.names there) asked none
   where
-    asked : All (λ name. IsTrue (is_among s.names name || is_among [] name)) s.names
+    asked : All (λ name. IsTrue (has_name s.names name || has_name [] name)) s.names
     asked k d below =
         let name = get_or s.names k d in
         ap (λ b. b || false) (list_any_at (λ n. bytes_eq n name) s.names k d below ((bytes_eq-Decides name name).1 refl))
@@ -34,7 +34,7 @@ opens m names s there none =
 -- where one is missing it is not
 pub not_sound-missing : (m : Meanings) (names : List (List ℕ)) (s : State) (name : List ℕ) → Some name ≡ first_missing names s.names → IsSound m names s.names s.values → ⊥
 not_sound-missing m names s name is sound =
-    let lacking = found (lacks names) (λ n. IsTrue (is_among names n)) s.names name (sym is) sound.there in
+    let lacking = found (lacks names) (λ n. IsTrue (has_name names n)) s.names name (sym is) sound.there in
     let both : true ≡ false = sym lacking.1 ∙ ap not lacking.0 in
     cc
 
@@ -42,7 +42,7 @@ not_sound-missing m names s name is sound =
 pub not_sound-broken : (m : Meanings) (names : List (List ℕ)) (s : State) (name : List ℕ) → Some name ≡ first_false m names s.names [] s.values → IsSound m names s.names s.values → ⊥
 not_sound-broken m names s name is sound =
     let broken = found (fails m s.names [] s.values) (λ n. Unit {0}) names name (sym is) (λ k d below. tt) in
-    clash (is_among s.names name) (holds m s.values name) (λ there. All-at_name (λ n. IsTrue (holds m s.values n)) s.names name sound.hold there) broken.1
+    clash (has_name s.names name) (holds m s.values name) (λ there. All-at_name (λ n. IsTrue (holds m s.values n)) s.names name sound.hold there) broken.1
   where
     clash : (asked held : Bool) → (asked ≡ true → held ≡ true) → ((asked || false) && not held) ≡ true → ⊥
     clash true true implied is = cc

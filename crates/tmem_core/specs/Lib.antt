@@ -1,4 +1,4 @@
-pub mod Folded
+pub mod History
 pub mod Held
 pub mod Opening
 pub mod Program

@@ -40,8 +40,8 @@ verdict_on p s (run.Normal view) = verdict_normal p s view.effect view.registers
 verdict_on p s run.Retried = Retry
 verdict_on p s (run.Aborted code) = Aborted code
 
--- what a plan is answered on a state (Harris et al. 2005, section 3: one atomic step; Harris and Peyton Jones 2006: every
--- invariant is tested at its end)
+-- what a plan is answered on a state (Harris et al. 2005, section 3: one atomic step; Harris and Peyton Jones 2006: one
+-- that would leave an invariant broken has no effect)
 abbrev pub verdict : Program → Tx → State → Settled
 verdict p tx s = verdict_on p s (run p.steps tx (start (map_of s)))
 

@@ -8,18 +8,19 @@ ghost use Rattle.tmem_record.specs.Writes.{AreWrites};
 ghost use Rattle.tmem_record.specs.declared.name_set.TheConstants.{MAX_NAMES};
 ghost use Rattle.tmem_tree.specs.declared.tx.Tx.{Tx};
 ghost use Rattle.tmem_invariants.specs.Meanings.{Meanings, AllHold, IsSound, first_false};
-ghost use Rattle.tmem_invariants.specs.Names.{is_among};
 ghost use Rattle.tmem_tentative.specs.Fits.{IsForVariables};
 ghost use Rattle.tmem_tentative.specs.Right.{IsRight};
 ghost use Rattle.tmem_core.specs.Settle.{is_stale};
 ghost use Rattle.tmem_core.specs.Verdict.{is_nothing};
 ghost use Rattle.tmem_record.specs.Accepted.{IsAccepted, IsAccepted-prop};
-ghost use Rattle.tmem_core.specs.Folded.{IsFolded};
+ghost use Rattle.tmem_core.specs.History.{IsFolded, effects_of};
 
+use crate::history::History;
 use crate::settled::Settled;
 use crate::trial::first_false;
 use crate::waiting::{MAX_WAITING, Waiting};
 use std::alloc::{AllocError, Global};
+use std::snapshot::Snapshot;
 use tmem_disk::{Fault, Name};
 use tmem_invariants::Tests;
 use tmem_record::{Batch, Effect, State};
@@ -39,11 +40,15 @@ pub struct Core<T: Tests> {
     durable: u64,
     is_shut: bool,
 
+    // what it was made of, and what it accepted since: for clauses alone, they take no memory
+    opened: Snapshot<State>,
+    history: History,
+
     /// The table is over the variables of the state.
     pub ghost sized: { T.vars table ≡ length state.values },
 
     /// Each registered name is in the table.
-    pub ghost known: { All (λ name. IsTrue (is_among (T.names table) name)) state.names },
+    pub ghost known: { All (λ name. IsTrue (has_name (T.names table) name)) state.names },
 
     /// Each is true of the present map.
     pub ghost sound: { (m : Meanings) → T.is_stated table m → AllHold m state.names state.values },
@@ -51,8 +56,9 @@ pub struct Core<T: Tests> {
     /// What is accepted is durable or waits.
     pub ghost counted: { state.count ≡ durable + length waiting },
 
-    /// The state is what those that wait make of a state at the durable number.
-    pub ghost folded: { ∥ IsFolded durable waiting state ∥₁ },
+    /// The state is what all that it accepted makes of the state that it was made of, and those behind the durable number
+    /// wait.
+    pub ghost folded: { ∥ IsFolded opened.value (effects_of history) durable waiting state ∥₁ },
 
     /// At most `MAX_WAITING` wait.
     pub ghost few: { length waiting ≤ 256 },
@@ -65,7 +71,7 @@ pub struct Core<T: Tests> {
 }
 
 impl<T: Tests + Drop> Core<T> {
-    ghost use Rattle.tmem_core.specs.Held.{state_of, waiting_of, durable_of, is_shut_of, table_of};
+    ghost use Rattle.tmem_core.specs.Held.{state_of, opened_of, history_of, waiting_of, durable_of, is_shut_of, table_of};
     ghost use Rattle.tmem_core.specs.Opening.{opening_fault, IsOpeningRefusal};
     ghost use Rattle.tmem_core.specs.Program.{Program};
     ghost use Rattle.tmem_core.specs.Verdict.{verdict};
@@ -77,6 +83,7 @@ impl<T: Tests + Drop> Core<T> {
     pub fn new(alloc: Global, state: &State, table: T) -> Result<Core<T>, (Fault, T)>
         requires vars { T.vars table ≡ length state.now.values }
         ensures state { IfOk result (λ core. state_of core ≡ state.now) }
+        ensures history { IfOk result (λ core. (opened_of core ≡ state.now) × (history_of core ≡ [])) }
         ensures waiting { IfOk result (λ core. waiting_of core ≡ []) }
         ensures durable { IfOk result (λ core. durable_of core ≡ state.now.count) }
         ensures shut { IfOk result (λ core. is_shut_of core ≡ false) }
@@ -98,12 +105,15 @@ impl<T: Tests + Drop> Core<T> {
         match copies(alloc, state) {
             Ok((state, waiting)) => {
                 let durable = state.count();
+                let opened = Snapshot::of(&state);
                 Ok(Core {
                     table,
                     state,
                     waiting,
                     durable,
                     is_shut: false,
+                    opened,
+                    history: History::Start,
                 })
             }
             Err(_) => Err((Fault::Memory, table)),
@@ -158,6 +168,7 @@ impl<T: Tests + Drop> Core<T> {
     pub fn shut(&mut self)
         ensures shut { is_shut_of self.new ≡ true }
         ensures state { state_of self.new ≡ state_of self.old }
+        ensures history { (opened_of self.new ≡ opened_of self.old) × (history_of self.new ≡ history_of self.old) }
         ensures waiting { waiting_of self.new ≡ waiting_of self.old }
         ensures durable { durable_of self.new ≡ durable_of self.old }
         ensures table { table_of self.new ≡ table_of self.old }
@@ -170,11 +181,12 @@ impl<T: Tests + Drop> Core<T> {
     /// wait do; with `Spent` where no greater count is left. Nothing changes then, nor where the answer is no `Committed`.
     pub fn settle(&mut self, attempt: &Attempt) -> Result<Settled, Fault>
         requires variables { IsForVariables (length (state_of self.old).values) attempt.now }
-        requires names { All (λ name. IsTrue (is_among (T.names (table_of self.old)) name)) attempt.now.effect.names }
+        requires names { All (λ name. IsTrue (has_name (T.names (table_of self.old)) name)) attempt.now.effect.names }
         ensures answer { (p : Program) → p.names ≡ T.names (table_of self.old) → T.is_stated (table_of self.old) p.tests
             → result ≡ settle_answer p (is_shut_of self.old) (state_of self.old) (durable_of self.old) attempt.now }
         ensures refused { IfErr result IsRefusal }
         ensures state { state_of self.new ≡ fold (state_of self.old) (accepted_by result attempt.now.effect) }
+        ensures history { (opened_of self.new ≡ opened_of self.old) × (history_of self.new ≡ history_of self.old ++ accepted_by result attempt.now.effect) }
         ensures waiting { waiting_of self.new ≡ waiting_of self.old ++ accepted_by result attempt.now.effect }
         ensures durable { durable_of self.new ≡ durable_of self.old }
         ensures shut { is_shut_of self.new ≡ is_shut_of self.old }
@@ -205,11 +217,12 @@ impl<T: Tests + Drop> Core<T> {
         registers: [i64; REGISTERS],
     ) -> Result<Settled, Fault>
         requires variables { All (λ var. var < length (state_of self.old).values) (keys_of effect.now.writes) }
-        requires names { All (λ name. IsTrue (is_among (T.names (table_of self.old)) name)) effect.now.names }
+        requires names { All (λ name. IsTrue (has_name (T.names (table_of self.old)) name)) effect.now.names }
         ensures answer { (p : Program) → p.names ≡ T.names (table_of self.old) → T.is_stated (table_of self.old) p.tests
             → result ≡ normal_answer p (state_of self.old) (durable_of self.old) effect.now registers }
         ensures refused { IfErr result IsRefusal }
         ensures state { state_of self.new ≡ fold (state_of self.old) (accepted_by result effect.now) }
+        ensures history { (opened_of self.new ≡ opened_of self.old) × (history_of self.new ≡ history_of self.old ++ accepted_by result effect.now) }
         ensures waiting { waiting_of self.new ≡ waiting_of self.old ++ accepted_by result effect.now }
         ensures durable { durable_of self.new ≡ durable_of self.old }
         ensures shut { is_shut_of self.new ≡ is_shut_of self.old }
@@ -229,6 +242,7 @@ impl<T: Tests + Drop> Core<T> {
         ensures first { (m : Meanings) → T.is_stated (table_of self.old) m
             → result ≡ first_false m (T.names (table_of self.old)) (state_of self.old).names effect.now.names (apply (state_of self.old) effect.now).values }
         ensures state { state_of self.new ≡ state_of self.old }
+        ensures history { (opened_of self.new ≡ opened_of self.old) × (history_of self.new ≡ history_of self.old) }
         ensures waiting { waiting_of self.new ≡ waiting_of self.old }
         ensures durable { durable_of self.new ≡ durable_of self.old }
         ensures shut { is_shut_of self.new ≡ is_shut_of self.old }
@@ -244,11 +258,12 @@ impl<T: Tests + Drop> Core<T> {
     fn accept(&mut self, effect: &Effect, registers: [i64; REGISTERS]) -> Result<Settled, Fault>
         requires variables { All (λ var. var < length (state_of self.old).values) (keys_of effect.now.writes) }
         requires room { length (with_names (state_of self.old).names effect.now.names) ≤ MAX_NAMES }
-        requires known { All (λ name. IsTrue (is_among (T.names (table_of self.old)) name)) (apply (state_of self.old) effect.now).names }
+        requires known { All (λ name. IsTrue (has_name (T.names (table_of self.old)) name)) (apply (state_of self.old) effect.now).names }
         requires sound { (m : Meanings) → T.is_stated (table_of self.old) m → AllHold m (apply (state_of self.old) effect.now).names (apply (state_of self.old) effect.now).values }
         ensures answer { result ≡ sound_answer (state_of self.old) (durable_of self.old) effect.now registers }
         ensures refused { IfErr result IsRefusal }
         ensures state { state_of self.new ≡ fold (state_of self.old) (accepted_by result effect.now) }
+        ensures history { (opened_of self.new ≡ opened_of self.old) × (history_of self.new ≡ history_of self.old ++ accepted_by result effect.now) }
         ensures waiting { waiting_of self.new ≡ waiting_of self.old ++ accepted_by result effect.now }
         ensures durable { durable_of self.new ≡ durable_of self.old }
         ensures shut { is_shut_of self.new ≡ is_shut_of self.old }
@@ -270,6 +285,7 @@ impl<T: Tests + Drop> Core<T> {
         }
         self.state.accept(effect);
         self.waiting.push(effect);
+        self.history = History::with(&self.history, effect);
         Ok(Settled::Committed { number, registers })
     }
 
@@ -293,6 +309,7 @@ impl<T: Tests + Drop> Core<T> {
         ensures durable { durable_of self.new ≡ number }
         ensures waiting { waiting_of self.new ≡ drop (number - durable_of self.old) (waiting_of self.old) }
         ensures state { state_of self.new ≡ state_of self.old }
+        ensures history { (opened_of self.new ≡ opened_of self.old) × (history_of self.new ≡ history_of self.old) }
         ensures shut { is_shut_of self.new ≡ is_shut_of self.old }
         ensures table { table_of self.new ≡ table_of self.old }
     {

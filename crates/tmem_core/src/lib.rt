@@ -6,6 +6,7 @@
 #![tactic(auto)]
 
 mod core_state;
+mod history;
 mod settled;
 mod trial;
 mod waiting;

@@ -1,4 +1,5 @@
 pub mod Disk
+pub mod Distinct
 pub mod Fault
 pub mod Moments
 pub mod Name

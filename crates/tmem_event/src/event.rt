@@ -9,7 +9,7 @@ pub const ATTEMPTS: usize = 16;
 #[derive(Debug, Drop)]
 pub enum Event {
     /// Makes a plan of a transaction. The slot, below 16, holds it, whatever it held before.
-    /// Refused with `Closed`, `BadPlan`.
+    /// Refused with `Memory`, `Closed`, `BadPlan`.
     Begin { slot: u8, tx: Tx },
     /// Evaluates the slot's plan on the values that it has read. Where it needs one more, that is read.
     /// Refused with `Closed`, `Memory`.
@@ -22,7 +22,7 @@ pub enum Event {
     /// Asks how many accepted transactions are known durable. Refused with `Closed`.
     Look,
     /// Drops the session and all slots, and opens the same device again. Refused with `Memory`, `Device`,
-    /// `NotFormatted`, `Damaged`, `Geometry`, and then no session stands.
+    /// `NotFormatted`, `Damaged`, `Geometry`, `Missing`, `Broken`, and then no session stands.
     Reopen,
 }
 

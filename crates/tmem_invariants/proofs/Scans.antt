@@ -8,7 +8,7 @@ use Rattle.std.proofs.lemmas.List.Elements.{All-push}
 use Rattle.std.proofs.lemmas.List.Folds.{list_any_more, list_any_at, Any-from_list_any}
 use Rattle.std.proofs.lemmas.List.Quantifiers.{all_pairs_push}
 use Rattle.std.proofs.lemmas.Option.{slice_get-map, slice_get-get_or, slice_get_within, get_or_from_slice_get}
-use Rattle.tmem_invariants.specs.Names.{IsDistinct}
+use Rattle.tmem_invariants.specs.Names.{AreDistinct}
 
 -- the element that was read at a place
 pub slice_get_read : {X : Type 0} (xs : List X) (i : ℕ) (x : X) → i < length xs → x ≡ get_or xs i x → slice_get xs i ≡ Some x
@@ -97,11 +97,11 @@ find_same p q same (x ∷ xs) =
     ap (λ b. cond b (Some x) (find p xs)) (same x) ∙ ap (λ o. cond (q x) (Some x) o) (find_same p q same xs)
 
 -- an element that no earlier one equals
-pub IsDistinct-take_more : {X : Type 0} (eq : X → X → Bool) → ((a b : X) → Decides (eq a b) (a ≡ b)) → (xs : List X) (i : ℕ) (x : X) → slice_get xs i ≡ Some x → IsDistinct (take i xs) → list_any (λ y. eq y x) (take i xs) ≡ false → IsDistinct (take (i + 1) xs)
-IsDistinct-take_more eq same xs i x at distinct none =
+pub AreDistinct-take_more : {X : Type 0} (eq : X → X → Bool) → ((a b : X) → Decides (eq a b) (a ≡ b)) → (xs : List X) (i : ℕ) (x : X) → slice_get xs i ≡ Some x → AreDistinct (take i xs) → list_any (λ y. eq y x) (take i xs) ≡ false → AreDistinct (take (i + 1) xs)
+AreDistinct-take_more eq same xs i x at distinct none =
     let more : take (i + 1) xs ≡ take i xs ++ x ∷ [] =
     take_more xs i x (slice_get_within xs i x at) ∙ ap (λ y. take i xs ++ y ∷ []) (get_or_from_slice_get xs i x x at) in
-    subst IsDistinct (sym more) (all_pairs_push (λ a b. a ≢ b) (take i xs) x distinct apart)
+    subst AreDistinct (sym more) (all_pairs_push (λ a b. a ≢ b) (take i xs) x distinct apart)
   where
     apart : (k : ℕ) (d : _) → k < length (take i xs) → get_or (take i xs) k d ≢ x
     apart k d within is =
@@ -109,12 +109,12 @@ IsDistinct-take_more eq same xs i x at distinct none =
         let clash : true ≡ false = sym found ∙ none in
         cc
 
-pub IsDistinct_whole : {X : Type 0} (xs : List X) (i : ℕ) → length xs ≤ i → IsDistinct (take i xs) → IsDistinct xs
-IsDistinct_whole xs i past distinct = let whole : take i xs ≡ xs = grind (arith, common_steps) in subst IsDistinct whole distinct
+pub AreDistinct_whole : {X : Type 0} (xs : List X) (i : ℕ) → length xs ≤ i → AreDistinct (take i xs) → AreDistinct xs
+AreDistinct_whole xs i past distinct = let whole : take i xs ≡ xs = grind (arith, common_steps) in subst AreDistinct whole distinct
 
 -- an element that an earlier one equals
-pub not-IsDistinct : {X : Type 0} (eq : X → X → Bool) → ((a b : X) → Decides (eq a b) (a ≡ b)) → (xs : List X) (i : ℕ) (x : X) → slice_get xs i ≡ Some x → list_any (λ y. eq y x) (take i xs) ≡ true → ¬ IsDistinct xs
-not-IsDistinct eq same xs i x at some distinct =
+pub not-AreDistinct : {X : Type 0} (eq : X → X → Bool) → ((a b : X) → Decides (eq a b) (a ≡ b)) → (xs : List X) (i : ℕ) (x : X) → slice_get xs i ≡ Some x → list_any (λ y. eq y x) (take i xs) ≡ true → ¬ AreDistinct xs
+not-AreDistinct eq same xs i x at some distinct =
     let found = Any-from_list_any (λ y. eq y x) (take i xs) some in
     let before : found.0 < i = omega (arith, found.2, length-take i xs) in
     let there : get_or xs found.0 found.1 ≡ x = sym (get_or-take i xs found.0 found.1 before) ∙ found.3 ∙ (same found.1 x).0 found.4 in

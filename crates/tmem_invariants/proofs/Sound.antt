@@ -5,24 +5,24 @@ use Rattle.std.proofs.lemmas.Bool.{false_from_ne_true}
 use Rattle.std.proofs.lemmas.List.Folds.{Any-from_list_any, list_any_at, list_any_none}
 use Rattle.std.proofs.lemmas.Slice.Eq.{bytes_eq-Decides}
 use Rattle.tmem_invariants.specs.Meanings.{Meanings, AllHold, IsSound, fails, first_false, holds}
-use Rattle.tmem_invariants.specs.Names.{first_missing, is_among, lacks, name_at}
+use Rattle.tmem_invariants.specs.Names.{first_missing, has_name, lacks, name_at}
 use Rattle.tmem_invariants.proofs.Scans.{find_none}
 
 -- to be among names is to stand in the list
-pub Contains-from_is_among : (names : List (List ℕ)) (name : List ℕ) → is_among names name ≡ true → Contains names name
-Contains-from_is_among names name among =
+pub Contains-from_has_name : (names : List (List ℕ)) (name : List ℕ) → has_name names name ≡ true → Contains names name
+Contains-from_has_name names name among =
     let found = Any-from_list_any (λ other. bytes_eq other name) names among in
     let same : found.1 ≡ name = (bytes_eq-Decides found.1 name).0 found.4 in
     (found.0, found.2, subst (λ other. get_or names found.0 other ≡ other) same found.3)
 
-pub is_among-from_Contains : (names : List (List ℕ)) (name : List ℕ) → Contains names name → is_among names name ≡ true
-is_among-from_Contains names name there =
+pub has_name-from_Contains : (names : List (List ℕ)) (name : List ℕ) → Contains names name → has_name names name ≡ true
+has_name-from_Contains names name there =
     list_any_at (λ other. bytes_eq other name) names there.0 name there.1 (ap (λ other. bytes_eq other name) there.2 ∙ (bytes_eq-Decides name name).1 refl)
 
 -- what all of them have, each among them has
-pub All-at_name : (P : List ℕ → Type 0) (names : List (List ℕ)) (name : List ℕ) → All P names → is_among names name ≡ true → P name
+pub All-at_name : (P : List ℕ → Type 0) (names : List (List ℕ)) (name : List ℕ) → All P names → has_name names name ≡ true → P name
 All-at_name P names name all among =
-    let there = Contains-from_is_among names name among in
+    let there = Contains-from_has_name names name among in
     subst P there.2 (all there.0 name there.1)
 
 -- none found is none that passes
@@ -40,7 +40,7 @@ fails_each p xs none k d within =
     false_from_ne_true (p (get_or xs k d)) (λ is. let clash : true ≡ false = sym (list_any_at p xs k d within is) ∙ list_any-from_find p xs none in absurd (cc))
 
 -- a name of the table that is registered or proposed is true of the map, where no first false one was found
-pub holds_from_none : (m : Meanings) (names registered proposed : List (List ℕ)) (values : List ℤ) → first_false m names registered proposed values ≡ None → (name : List ℕ) → is_among names name ≡ true → (is_among registered name || is_among proposed name) ≡ true → holds m values name ≡ true
+pub holds_from_none : (m : Meanings) (names registered proposed : List (List ℕ)) (values : List ℤ) → first_false m names registered proposed values ≡ None → (name : List ℕ) → has_name names name ≡ true → (has_name registered name || has_name proposed name) ≡ true → holds m values name ≡ true
 holds_from_none m names registered proposed values none name there asked =
     held (holds m values name) refl
   where
@@ -59,9 +59,9 @@ None-from_answer names None first is none = sym is
 None-from_answer names (Some place) first is none = cc
 
 -- where a table lacks none of the registered names, each is there
-pub All-there : (names registered : List (List ℕ)) → first_missing names registered ≡ None → All (λ name. IsTrue (is_among names name)) registered
+pub All-there : (names registered : List (List ℕ)) → first_missing names registered ≡ None → All (λ name. IsTrue (has_name names name)) registered
 All-there names registered none k d within =
-    there (is_among names (get_or registered k d)) (fails_each (lacks names) registered none k d within)
+    there (has_name names (get_or registered k d)) (fails_each (lacks names) registered none k d within)
   where
     there : (b : Bool) → not b ≡ false → b ≡ true
     there true is = refl
@@ -69,7 +69,7 @@ All-there names registered none k d within =
 
 -- A state is sound where none of its registered names was found false. These names may be more than those that were
 -- registered before: each is one of them, or was proposed.
-pub IsSound-from_none : (m : Meanings) (names registered proposed kept : List (List ℕ)) (values : List ℤ) → All (λ name. IsTrue (is_among names name)) kept → All (λ name. IsTrue (is_among registered name || is_among proposed name)) kept → first_false m names registered proposed values ≡ None → IsSound m names kept values
+pub IsSound-from_none : (m : Meanings) (names registered proposed kept : List (List ℕ)) (values : List ℤ) → All (λ name. IsTrue (has_name names name)) kept → All (λ name. IsTrue (has_name registered name || has_name proposed name)) kept → first_false m names registered proposed values ≡ None → IsSound m names kept values
 IsSound-from_none m names registered proposed kept values there asked none = record {
   there = there;
   hold = λ k d within. holds_from_none m names registered proposed values none (get_or kept k d) (there k d within) (asked k d within);
@@ -87,4 +87,4 @@ first_false-AllHold m names registered proposed values registered_hold proposed_
 
     passes : (name : List ℕ) → fails m registered proposed values name ≡ false
     passes name =
-        asked (is_among registered name) (is_among proposed name) (holds m values name) (All-at_name (λ other. IsTrue (holds m values other)) registered name registered_hold) (All-at_name (λ other. IsTrue (holds m values other)) proposed name proposed_hold)
+        asked (has_name registered name) (has_name proposed name) (holds m values name) (All-at_name (λ other. IsTrue (holds m values other)) registered name registered_hold) (All-at_name (λ other. IsTrue (holds m values other)) proposed name proposed_hold)

@@ -3,26 +3,26 @@ use Rattle.std.proofs.Common.{◌≡◌, ℕ, ℤ, Bool, true, false, not, ◌||
 use Rattle.std.proofs.lemmas.Map.Views.{any-filter_same}
 use Rattle.std.proofs.lemmas.Slice.Eq.{bytes_eq-Decides}
 use Rattle.tmem_invariants.specs.Meanings.{Meanings, AllHold, DifferInWritten, fails, first_false, has_written, holds, is_written, touched, touches, value_of, values_at}
-use Rattle.tmem_invariants.specs.Names.{is_among}
+use Rattle.tmem_invariants.specs.Names.{has_name}
 use Rattle.tmem_invariants.proofs.Sound.{All-at_name}
 use Rattle.tmem_invariants.proofs.Scans.{find_same, or_false}
 
 -- a name is among the touched ones where it is among them all, and is touched
-pub is_among-touched : (m : Meanings) (written : List (ℕ × ℤ)) (names : List (List ℕ)) (name : List ℕ) → is_among (touched m written names) name ≡ (touches m written name && is_among names name)
-is_among-touched m written names name =
+pub has_name-touched : (m : Meanings) (written : List (ℕ × ℤ)) (names : List (List ℕ)) (name : List ℕ) → has_name (touched m written names) name ≡ (touches m written name && has_name names name)
+has_name-touched m written names name =
     any-filter_same (λ other. bytes_eq other name) (touches m written) (touches m written name) (λ other is. ap (touches m written) ((bytes_eq-Decides other name).0 is)) names
 
-pub is_among-touched_yes : (m : Meanings) (written : List (ℕ × ℤ)) (names : List (List ℕ)) (name : List ℕ) → is_among names name ≡ true → is_among (touched m written names) name ≡ touches m written name
-is_among-touched_yes m written names name among =
-    is_among-touched m written names name ∙ ap (λ b. touches m written name && b) among ∙ and_true (touches m written name)
+pub has_name-touched_yes : (m : Meanings) (written : List (ℕ × ℤ)) (names : List (List ℕ)) (name : List ℕ) → has_name names name ≡ true → has_name (touched m written names) name ≡ touches m written name
+has_name-touched_yes m written names name among =
+    has_name-touched m written names name ∙ ap (λ b. touches m written name && b) among ∙ and_true (touches m written name)
   where
     and_true : (b : Bool) → (b && true) ≡ b
     and_true true = refl
     and_true false = refl
 
-pub is_among-touched_no : (m : Meanings) (written : List (ℕ × ℤ)) (names : List (List ℕ)) (name : List ℕ) → is_among names name ≡ false → is_among (touched m written names) name ≡ false
-is_among-touched_no m written names name absent =
-    is_among-touched m written names name ∙ ap (λ b. touches m written name && b) absent ∙ and_false (touches m written name)
+pub has_name-touched_no : (m : Meanings) (written : List (ℕ × ℤ)) (names : List (List ℕ)) (name : List ℕ) → has_name names name ≡ false → has_name (touched m written names) name ≡ false
+has_name-touched_no m written names name absent =
+    has_name-touched m written names name ∙ ap (λ b. touches m written name && b) absent ∙ and_false (touches m written name)
   where
     and_false : (b : Bool) → (b && false) ≡ false
     and_false true = refl
@@ -37,7 +37,7 @@ values_at_same written before after differ (var ∷ vars) none =
     ∙ ap (λ values. value_of before var ∷ values) (values_at_same written before after differ vars parts.1)
 
 -- a registered name that is not touched still holds
-still_holds : (m : Meanings) (registered : List (List ℕ)) (written : List (ℕ × ℤ)) (before after : List ℤ) → DifferInWritten written before after → AllHold m registered before → (name : List ℕ) → is_among registered name ≡ true → touches m written name ≡ false → holds m after name ≡ true
+still_holds : (m : Meanings) (registered : List (List ℕ)) (written : List (ℕ × ℤ)) (before after : List ℤ) → DifferInWritten written before after → AllHold m registered before → (name : List ℕ) → has_name registered name ≡ true → touches m written name ≡ false → holds m after name ≡ true
 still_holds m registered written before after differ held name among untouched =
     let was : holds m before name ≡ true = All-at_name (λ n. IsTrue (holds m before n)) registered name held among in
     ap (m.test name) (values_at_same written before after differ (m.footprint name) untouched) ∙ was
@@ -56,5 +56,5 @@ first_false-touched m names registered proposed written before after differ held
   where
     same : (name : List ℕ) → fails m (touched m written registered) proposed after name ≡ fails m registered proposed after name
     same name =
-        ap (λ b. (b || is_among proposed name) && not (holds m after name)) (is_among-touched m written registered name)
-        ∙ tested_or_holds (touches m written name) (is_among registered name) (is_among proposed name) (not (holds m after name)) (λ among untouched. ap not (still_holds m registered written before after differ held name among untouched))
+        ap (λ b. (b || has_name proposed name) && not (holds m after name)) (has_name-touched m written registered name)
+        ∙ tested_or_holds (touches m written name) (has_name registered name) (has_name proposed name) (not (holds m after name)) (λ among untouched. ap not (still_holds m registered written before after differ held name among untouched))

@@ -9,7 +9,7 @@ use Rattle.std.proofs.Math.Nat.{not-suc-le-zero, suc-le-suc_iff, zero-lt-suc}
 use Rattle.std.proofs.Math.ListN.{get_or-map}
 use Rattle.tmem_invariants.specs.Answers.{Gives, HasMeaning, IsMeant}
 use Rattle.tmem_invariants.specs.Meanings.{Meanings}
-use Rattle.tmem_invariants.specs.Names.{IsDistinct}
+use Rattle.tmem_invariants.specs.Names.{AreDistinct}
 
 -- what a name means, and what any other name means by m
 abbrev pub meaning_also : List ℕ → List ℕ → (List ℤ → Bool) → Meanings → Meanings
@@ -41,13 +41,13 @@ All-cons P e es here rest zero d within = here
 All-cons P e es here rest (suc k) d within = rest k d (suc-le-suc_iff.0 within)
 
 -- distinct names that each have a meaning have meanings together
-pub chosen : {E : Type 0} (name : E → List ℕ) (footprint : E → List ℕ) (post : E → Bor (List ℤ) → Bool → Type 0) → ((e : E) → HasMeaning (post e) (length (footprint e))) → (es : List E) → IsDistinct (map name es) → ∥ ((m : Meanings) × All (λ e. IsMeant m (name e) (footprint e) (post e)) es) ∥₁
+pub chosen : {E : Type 0} (name : E → List ℕ) (footprint : E → List ℕ) (post : E → Bor (List ℤ) → Bool → Type 0) → ((e : E) → HasMeaning (post e) (length (footprint e))) → (es : List E) → AreDistinct (map name es) → ∥ ((m : Meanings) × All (λ e. IsMeant m (name e) (footprint e) (post e)) es) ∥₁
 chosen name footprint post each [] distinct =
     ∣ (record { footprint = λ other. []; test = λ other values. true }, λ k d within. absurd (not-suc-le-zero within)) ∣₁
 chosen {E = E} name footprint post each (e ∷ es) distinct =
     ∥∥₁_elim (each e) ∥∥₁_prop (λ f. ∥∥₁_map (chosen name footprint post each es rest) (λ m. (meaning_also (name e) (footprint e) f.0 m.0, All-cons (λ x. IsMeant (meaning_also (name e) (footprint e) f.0 m.0) (name x) (footprint x) (post x)) e es (IsMeant-own m.0 (name e) (footprint e) f.0 (post e) f.1) (λ k d within. IsMeant-other m.0 (name e) (footprint e) f.0 (name (get_or es k d)) (apart k d within) (footprint (get_or es k d)) (post (get_or es k d)) (m.1 k d within)))))
   where
-    rest : IsDistinct (map name es)
+    rest : AreDistinct (map name es)
     rest i j d before within = distinct (suc i) (suc j) d (suc-le-suc_iff.1 before) (suc-le-suc_iff.1 within)
 
     apart : (k : ℕ) (d : _) → k < length es → name (get_or es k d) ≢ name e

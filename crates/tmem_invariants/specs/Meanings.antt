@@ -1,7 +1,7 @@
 -- What the names of invariants mean, and which of them a map of values breaks first.
 use Rattle.std.specs.Prelude.{◌≡◌, ℕ, ℤ, pos, Bool, false, not, ◌&&◌, ◌||◌, ◌==◌, List, map, filter, find, All, Option, slice_index_or, IsTrue}
 use Rattle.std.specs.List.{list_any}
-use Rattle.tmem_invariants.specs.Names.{is_among}
+use Rattle.tmem_invariants.specs.Names.{has_name}
 
 -- What each name means, in every table and every session: a footprint, and a yes or no for each list of its length.
 pub record Meanings : Type 0 where
@@ -26,13 +26,13 @@ AllHold m names values = All (λ name. IsTrue (holds m values name)) names
 
 -- A sound state: each registered name is in the table, and is true of the map.
 pub record IsSound (m : Meanings) (names registered : List (List ℕ)) (values : List ℤ) : Type 0 where
-  pub there : All (λ name. IsTrue (is_among names name)) registered
+  pub there : All (λ name. IsTrue (has_name names name)) registered
   pub hold : AllHold m registered values
 
 -- whether a name is registered or proposed, and is false of the map
 abbrev pub fails : Meanings → List (List ℕ) → List (List ℕ) → List ℤ → List ℕ → Bool
 fails m registered proposed values name =
-    (is_among registered name || is_among proposed name) && not (holds m values name)
+    (has_name registered name || has_name proposed name) && not (holds m values name)
 
 -- the first of a table's names that is registered or proposed, and is false of the map
 abbrev pub first_false : Meanings → List (List ℕ) → List (List ℕ) → List (List ℕ) → List ℤ → Option (List ℕ)

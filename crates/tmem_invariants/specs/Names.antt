@@ -1,14 +1,11 @@
 -- Lists of names, as of a table or of what is registered.
-use Rattle.std.specs.Prelude.{◌≢◌, ℕ, ◌≤◌, ◌<◌, Bool, not, List, length, find, All, AllPairs, Option, option_and_then, slice_get, bytes_eq}
-use Rattle.std.specs.List.{list_any}
-
--- whether a name is one of these
-abbrev pub is_among : List (List ℕ) → List ℕ → Bool
-is_among names name = list_any (λ other. bytes_eq other name) names
+use Rattle.std.specs.Prelude.{ℕ, ◌≤◌, ◌<◌, Bool, not, List, length, find, All, Option, option_and_then, slice_get}
+pub use Rattle.tmem_disk.specs.Distinct.{AreDistinct}
+pub use Rattle.tmem_disk.specs.Name.{has_name}
 
 -- whether it is none of them
 abbrev pub lacks : List (List ℕ) → List ℕ → Bool
-lacks names name = not (is_among names name)
+lacks names name = not (has_name names name)
 
 -- the name at a place
 abbrev pub name_at : List (List ℕ) → Option ℕ → Option (List ℕ)
@@ -18,19 +15,15 @@ name_at names place = option_and_then (slice_get names) place
 abbrev pub first_missing : List (List ℕ) → List (List ℕ) → Option (List ℕ)
 first_missing names registered = find (lacks names) registered
 
--- no element stands twice
-abbrev pub IsDistinct : {X : Type 0} → List X → Type 0
-IsDistinct xs = AllPairs (λ x y. x ≢ y) xs
-
 -- names that a table may have: at most 64, and none twice
 abbrev pub AreTableNames : List (List ℕ) → Type 0
-AreTableNames names = (length names ≤ 64) × IsDistinct names
+AreTableNames names = (length names ≤ 64) × AreDistinct names
 
 -- a footprint that an invariant may have: 1 to 16 variables, and none twice
 pub record IsFootprint (footprint : List ℕ) : Type 0 where
   pub not_empty : 1 ≤ length footprint
   pub short : length footprint ≤ 16
-  pub distinct : IsDistinct footprint
+  pub distinct : AreDistinct footprint
 
 -- each variable is below a number
 abbrev pub AreBelow : ℕ → List ℕ → Type 0

@@ -3,7 +3,7 @@
 ghost use Rattle.std.specs.Prelude.{◌≡◌, ◌↔◌, ℕ, ◌≤◌, List, length, take, IsTrue, IsOk, IfOk, IfErr};
 ghost use Rattle.tmem_invariants.specs.Answers.{MayCall, HasMeaning, IsMeant};
 ghost use Rattle.tmem_invariants.specs.Meanings.{Meanings, fails, holds, touched, values_at};
-ghost use Rattle.tmem_invariants.specs.Names.{AreBelow, IsDistinct, IsFootprint, is_among};
+ghost use Rattle.tmem_invariants.specs.Names.{AreBelow, AreDistinct, IsFootprint, has_name};
 
 use crate::touched::is_touched;
 use tmem_disk::{Fault, Name};
@@ -26,7 +26,7 @@ pub struct Invariant {
     pub test: Test,
     ghost not_empty: { 1 ≤ length footprint.items },
     ghost short: { length footprint.items ≤ 16 },
-    ghost distinct: { IsDistinct footprint.items },
+    ghost distinct: { AreDistinct footprint.items },
     ghost callable: { MayCall (Test.pre test) (length footprint.items) },
     ghost stated: { HasMeaning (Test.post test) (length footprint.items) },
 }
@@ -96,7 +96,7 @@ impl Invariant {
 
     // Whether it is registered, and a variable of its footprint is written.
     fn is_touched_among(&self, registered: &[Name], written: &[(u16, i64)]) -> bool
-        ensures { (m : Meanings) → ⟦<Invariant as Stated>⟧.is_stated self.now m → result ≡ is_among (touched m written.now registered.now) self.now.name }
+        ensures { (m : Meanings) → ⟦<Invariant as Stated>⟧.is_stated self.now m → result ≡ has_name (touched m written.now registered.now) self.now.name }
     {
         registered.contains(&self.name) && is_touched(&self.footprint, written)
     }
@@ -115,7 +115,7 @@ impl Invariant {
 
 // Whether no variable stands twice.
 fn is_distinct(footprint: &[u16]) -> bool
-    ensures { IsTrue result ↔ IsDistinct footprint.now }
+    ensures { IsTrue result ↔ AreDistinct footprint.now }
 {
     for (i, var) in footprint.iter().enumerate() {
         if footprint[..i].contains(var) {

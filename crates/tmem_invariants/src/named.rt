@@ -2,7 +2,7 @@
 
 ghost use Rattle.std.specs.Prelude.{◌≡◌, ◌↔◌, ℕ, ℤ, ◌<◌, ◌≤◌, Some, List, length, slice_get, All, IsTrue, IsSome, IfSome};
 ghost use Rattle.tmem_invariants.specs.Meanings.{Meanings, AllHold, DifferInWritten, first_false, touched};
-ghost use Rattle.tmem_invariants.specs.Names.{IsDistinct, first_missing, is_among, name_at};
+ghost use Rattle.tmem_invariants.specs.Names.{AreDistinct, first_missing, has_name, name_at};
 
 use tmem_disk::Name;
 
@@ -36,7 +36,7 @@ pub trait Tests {
 
     /// The place of a name, if it is there.
     fn place(&self, name: &Name) -> Option<usize>
-        ensures there { IsSome result ↔ IsTrue (is_among (names self.now) name.now) }
+        ensures there { IsSome result ↔ IsTrue (has_name (names self.now) name.now) }
         ensures place { IfSome result (λ place. slice_get (names self.now) place ≡ Some name.now) };
 
     /// The first of the registered names that is not there: the first by bytes, where they ascend.
@@ -70,7 +70,7 @@ pub trait Tests {
     ghost few: { (tests : Self) → length (names tests) ≤ 64 };
 
     /// No name stands twice.
-    ghost distinct: { (tests : Self) → IsDistinct (names tests) };
+    ghost distinct: { (tests : Self) → AreDistinct (names tests) };
 
     /// There are meanings that they answer.
     ghost has_meanings: { (tests : Self) → ∥ ((m : Meanings) × is_stated tests m) ∥₁ };

@@ -3,7 +3,7 @@
 ghost use Rattle.std.specs.Prelude.{◌≡◌, ◌↔◌, ℕ, ◌<◌, ◌≤◌, List, length, map, All, slice_get, Some, IsTrue, IsSome, IfSome, IsOk, IfOk, Err};
 ghost use Rattle.tmem_invariants.specs.Answers.{IsMeant};
 ghost use Rattle.tmem_invariants.specs.Meanings.{Meanings, first_false, touched};
-ghost use Rattle.tmem_invariants.specs.Names.{AreBelow, AreTableNames, IsDistinct, is_among, name_at};
+ghost use Rattle.tmem_invariants.specs.Names.{AreBelow, AreTableNames, AreDistinct, has_name, name_at};
 
 use crate::invariant::{Invariant, Stated, Test};
 use crate::named::{MAX_INVARIANTS, Tests};
@@ -17,7 +17,7 @@ pub struct Table {
     /// How many variables there are.
     pub vars: u16,
     ghost few: { length entries.items ≤ 64 },
-    ghost distinct: { IsDistinct (map (λ entry. entry.name) entries.items) },
+    ghost distinct: { AreDistinct (map (λ entry. entry.name) entries.items) },
     ghost within: { All (λ entry. AreBelow vars entry.footprint.items) entries.items },
 }
 
@@ -46,7 +46,7 @@ impl Table {
 
 // Whether no name stands twice.
 fn have_distinct_names(entries: &[Invariant]) -> bool
-    ensures { IsTrue result ↔ IsDistinct (map (λ entry. entry.name) entries.now) }
+    ensures { IsTrue result ↔ AreDistinct (map (λ entry. entry.name) entries.now) }
 {
     for (i, entry) in entries.iter().enumerate() {
         if place_of(&entries[..i], &entry.name).is_some() {
@@ -70,7 +70,7 @@ fn are_within(entries: &[Invariant], vars: u16) -> bool
 
 // The place of a name.
 fn place_of(entries: &[Invariant], name: &Name) -> Option<usize>
-    ensures there { IsSome result ↔ IsTrue (is_among (map (λ entry. entry.name) entries.now) name.now) }
+    ensures there { IsSome result ↔ IsTrue (has_name (map (λ entry. entry.name) entries.now) name.now) }
     ensures place { IfSome result (λ place. slice_get (map (λ entry. entry.name) entries.now) place ≡ Some name.now) }
 {
     for (i, entry) in entries.iter().enumerate() {

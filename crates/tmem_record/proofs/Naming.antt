@@ -13,7 +13,7 @@ use Rattle.std.proofs.lemmas.List.Folds.{list_any-append}
 use Rattle.std.proofs.lemmas.List.Kept.{AllPairs-cons}
 use Rattle.std.proofs.lemmas.List.Quantifiers.{all_pairs_push}
 use Rattle.tmem_disk.specs.Name.{IsName}
-use Rattle.tmem_record.specs.Distinct.{AreDistinct}
+use Rattle.tmem_disk.specs.Distinct.{AreDistinct}
 use Rattle.tmem_record.specs.Names.{has_name, with_name, is_before, at_its_place, AreAscending, AreChecks, AreRegistered}
 
 -- what holds of a list holds of its first element and of the rest

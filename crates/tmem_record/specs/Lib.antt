@@ -1,7 +1,6 @@
 pub mod Accepted
 pub mod Batch
 pub mod Begins
-pub mod Distinct
 pub mod Names
 pub mod Spelling
 pub mod State

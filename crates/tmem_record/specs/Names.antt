@@ -1,15 +1,11 @@
 -- Lists of names: in order of first check, and in ascending order. A name is the list of its bytes.
-use Rattle.std.specs.Prelude.{◌≡◌, ℕ, ◌≤◌, Bool, true, List, [], ◌∷◌, ◌++◌, length, All, AllPairs, bytes_eq, if◌then◌else◌}
-use Rattle.std.specs.List.{list_any}
+use Rattle.std.specs.Prelude.{◌≡◌, ℕ, ◌≤◌, Bool, true, List, [], ◌∷◌, ◌++◌, length, All, AllPairs, if◌then◌else◌}
 use Rattle.std.specs.Ordering.{nat_cmp, is_lt}
 use Rattle.std.specs.Cmp.Lexicographic.{slice_cmp}
 use Rattle.std.proofs.Props.{props}
 use Rattle.tmem_disk.specs.Name.{IsName}
-use Rattle.tmem_record.specs.Distinct.{AreDistinct}
-
--- whether a name is among these
-abbrev pub has_name : List (List ℕ) → List ℕ → Bool
-has_name ns name = list_any (λ n. bytes_eq n name) ns
+pub use Rattle.tmem_disk.specs.Name.{has_name}
+use Rattle.tmem_disk.specs.Distinct.{AreDistinct}
 
 -- with one name more, at the end unless it is there
 abbrev pub with_name : List (List ℕ) → List ℕ → List (List ℕ)

@@ -4,7 +4,7 @@ use Rattle.std.proofs.Props.{props}
 pub use Rattle.tmem_record.specs.declared.effect.Effect.{Effect}
 pub use Rattle.tmem_record.specs.Writes.{variables, look, with_write, AreWrites}
 pub use Rattle.tmem_record.specs.Names.{has_name, with_name, is_before, at_its_place, insert_name, with_names, AreAscending, AreChecks, AreRegistered}
-pub use Rattle.tmem_record.specs.Distinct.{AreDistinct}
+pub use Rattle.tmem_disk.specs.Distinct.{AreDistinct}
 
 -- nothing is changed
 abbrev pub no_effect : Effect

@@ -2,7 +2,7 @@
 use Rattle.std.specs.Prelude.{ℕ, ℤ, ◌≤◌, List, [], ◌∷◌, length, map, Option, nat_eq, if◌then◌else◌}
 use Rattle.std.specs.Map.{lookup}
 use Rattle.std.proofs.Props.{props}
-use Rattle.tmem_record.specs.Distinct.{AreDistinct}
+use Rattle.tmem_disk.specs.Distinct.{AreDistinct}
 
 -- the variables that are written, in order
 abbrev pub variables : List (ℕ × ℤ) → List ℕ

@@ -1,6 +1,6 @@
 // What all accepted transactions made.
 ghost use Rattle.std.specs.Prelude.{◌≡◌, ◌≤◌, ◌<◌, ◌+◌, ◌^◌, ◌↔◌, length, All, IsTrue, IfOk, Some, slice_get};
-ghost use Rattle.tmem_record.specs.Distinct.{AreDistinct};
+ghost use Rattle.tmem_disk.specs.Distinct.{AreDistinct};
 ghost use Rattle.tmem_record.specs.Names.{has_name, with_names, AreRegistered};
 ghost use Rattle.tmem_record.specs.State.{apply, overwrite, written};
 

@@ -1,4 +1,4 @@
--- What whoever settles an attempt may rely on, whatever the steps mean.
+-- What holds of each answer of an evaluation, whatever the steps mean.
 use Rattle.std.specs.Prelude.{◌≡◌, ⊤, ℕ, ℤ, ◌<◌, ◌≤◌, true, List, length, None, nat_eq, All}
 use Rattle.std.specs.List.{IsDistinct}
 use Rattle.std.specs.Map.{keys_of}

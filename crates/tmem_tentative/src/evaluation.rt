@@ -25,7 +25,7 @@ pub fn evaluate<S: StoredSteps>(
     requires { FitsSteps (S.arities steps.now) plan.now }
     ensures right { (m : Meanings) → S.is_stated steps.now m → IfOk result (IsOutcome m plan.now reads.now.entries) }
 
-    // What an attempt is settled under, whatever the steps mean.
+    // What holds of each answer, whatever the steps mean.
     ensures fits { IfOk result (IsFit reads.now.entries) }
     ensures within { (vars : ℕ) → FitsVariables vars plan.now → IfOk result (IsWithin vars) }
     ensures named { (names : List (List ℕ)) → FitsNames names plan.now → IfOk result (IsNamed names) }

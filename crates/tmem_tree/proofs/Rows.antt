@@ -1,12 +1,21 @@
 -- A Seq's trees as a list.
-use Rattle.std.proofs.Common.{◌≡◌, ◌+◌, Bool, max, refl, ap, rules}
+use Rattle.std.proofs.Common.{◌≡◌, ℕ, ◌+◌, Bool, max, List, [], ◌∷◌, refl, ap, rules}
 use Rattle.std.specs.declared.vec.Vec.{Vec}
 use Rattle.std.specs.declared.alloc.Global.{Global}
 use Rattle.tmem_tree.specs.declared.tx.Tx.{Tx, Row_of-Tx, end_of-Tx, more_of-Tx}
 use Rattle.tmem_tree.specs.declared.tx.Tx.TheVariants.{Seq}
 use Rattle.tmem_tree.specs.declared.tx.Tx.TheBlock.{items-the_row-Tx}
 use Rattle.tmem_tree.specs.declared.tx.Tx.TheViews.{the_lemmas}
-use Rattle.tmem_tree.specs.Limits.{depth, depth_of_all, depth_in, one_if, count, count_all, count_in}
+use Rattle.tmem_tree.specs.Limits.{depth, depth_of_all, one_if, count, count_all}
+
+-- how deep the deepest of these is, and how many nodes of them pass a test
+abbrev pub depth_in : List Tx → ℕ
+depth_in [] = 0
+depth_in (tx ∷ txs) = max (depth tx) (depth_in txs)
+
+abbrev pub count_in : (Tx → Bool) → List Tx → ℕ
+count_in test [] = 0
+count_in test (tx ∷ txs) = count test tx + count_in test txs
 
 depth_of_all-items : {m : _} (txs : Row_of-Tx m) → depth_of_all txs ≡ depth_in (items-the_row-Tx m txs)
 depth_of_all-items end_of-Tx = refl

@@ -1,5 +1,5 @@
 -- How deep a transaction is, and how many of its nodes pass a test.
-use Rattle.std.specs.Prelude.{ℕ, ◌+◌, max, Bool, true, false, not, ◌||◌, ◌==◌, nat_le, List, [], ◌∷◌, length, slice_index_or, if◌then◌else◌}
+use Rattle.std.specs.Prelude.{ℕ, ◌+◌, max, Bool, true, false, not, ◌||◌, ◌==◌, nat_le, List, length, slice_index_or, if◌then◌else◌}
 use Rattle.std.specs.List.{list_any}
 use Rattle.tmem_record.specs.Names.{has_name}
 use Rattle.tmem_tree.specs.declared.tx.Tx.{Tx, Row_of-Tx, end_of-Tx, more_of-Tx}
@@ -78,12 +78,3 @@ has_bad_arguments arities _ = false
 abbrev pub has_unknown_name : List (List ℕ) → Tx → Bool
 has_unknown_name names (Check name) = not (has_name names name)
 has_unknown_name names _ = false
-
--- the same over a list of trees
-abbrev pub depth_in : List Tx → ℕ
-depth_in [] = 0
-depth_in (tx ∷ txs) = max (depth tx) (depth_in txs)
-
-abbrev pub count_in : (Tx → Bool) → List Tx → ℕ
-count_in test [] = 0
-count_in test (tx ∷ txs) = count test tx + count_in test txs

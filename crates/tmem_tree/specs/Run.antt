@@ -1,7 +1,8 @@
 -- What a transaction does, without any log: `run`. It is the meaning that Harris et al. 2005 (Composable Memory
 -- Transactions, section 3) give to sequences, to `retry`, to `orElse` and, with an abort for an exception that nobody
 -- catches, to exceptions, on a map and 16 registers in place of a heap and bound variables. A check proposes an invariant
--- by its name and goes on, as in Harris and Peyton Jones 2006 (Transactional Memory with Data Invariants).
+-- by its name and goes on. That an invariant may be broken inside a transaction is said in Harris and Peyton Jones 2006
+-- (Transactional Memory with Data Invariants); that a proposed one is tested at the end alone is this project's choice.
 use Rattle.std.specs.Prelude.{ℕ, zero, ℤ, pos, Bool, true, false, List, map, nat_eq, slice_index_or, slice_set, replicate, if◌then◌else◌}
 use Rattle.tmem_tree.specs.declared.tx.Tx.{Tx, Row_of-Tx, end_of-Tx, more_of-Tx}
 use Rattle.tmem_tree.specs.declared.tx.Tx.TheVariants.{Skip, Seq', Put, Read, Write, Step, When', OrElse', Retry, Abort, Check}

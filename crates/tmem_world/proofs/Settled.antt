@@ -15,7 +15,7 @@ use Rattle.tmem_tentative.specs.declared.attempt.Attempt as ended
 use Rattle.tmem_core.specs.declared.settled.Settled.{Settled}
 use Rattle.tmem_core.specs.declared.settled.Settled.TheVariants.{Committed, Seen, Retry, Aborted, Refused}
 use Rattle.tmem_invariants.specs.Meanings.{IsSound}
-use Rattle.tmem_invariants.specs.Names.{is_among}
+use Rattle.tmem_invariants.specs.Names.{has_name}
 use Rattle.tmem_core.specs.Held.{state_of, waiting_of, durable_of, is_shut_of, table_of}
 use Rattle.tmem_core.specs.Settle.{is_stale, allowed, judged}
 use Rattle.tmem_core.specs.Verdict.{verdict, accepted_of, state_after, serial_state, IsCommitted}
@@ -192,7 +192,7 @@ module _ (program : Program) where
     -- the core's new state is sound, by its type
     sound_now : table_of o'.core ≡ table_of o.core → SoundOn (state_of o'.core)
     sound_now same = record {
-      there = subst (λ (names : List (List ℕ)). All (λ (name : List ℕ). IsTrue (is_among names name)) (state_of o'.core).names) (ap (λ (x : T). t.names x) same ∙ sym means.names) o'.core.known;
+      there = subst (λ (names : List (List ℕ)). All (λ (name : List ℕ). IsTrue (has_name names name)) (state_of o'.core).names) (ap (λ (x : T). t.names x) same ∙ sym means.names) o'.core.known;
       hold = o'.core.sound program.tests (subst (λ (x : T). t.is_stated x program.tests) (sym same) means.stated);
     }
 

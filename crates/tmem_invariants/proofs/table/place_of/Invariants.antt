@@ -1,6 +1,6 @@
 use Rattle.std.proofs.Common.{◌≡◌, false, map, take}
-use Rattle.tmem_invariants.specs.Names.{is_among}
+use Rattle.tmem_invariants.specs.Names.{has_name}
 use Rattle.tmem_invariants.proofs.table.place_of.Given as goal
 
 abbrev pub invariant-loop-i : goal.invariant-loop-i
-invariant-loop-i g l = is_among (take l.i (map (λ entry. entry.name) l.entries)) l.name ≡ false
+invariant-loop-i g l = has_name (take l.i (map (λ entry. entry.name) l.entries)) l.name ≡ false

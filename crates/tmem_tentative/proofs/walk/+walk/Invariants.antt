@@ -1,6 +1,7 @@
 use Rattle.std.proofs.Common.{◌≡◌, ◌+◌, ◌≤◌, drop, length}
 use Rattle.tmem_tree.specs.Answers.{Meanings}
-use Rattle.tmem_tree.specs.Limits.{count, count_in, is_write, is_check, has_bad_register, has_bad_step, has_bad_arguments}
+use Rattle.tmem_tree.specs.Limits.{count, is_write, is_check, has_bad_register, has_bad_step, has_bad_arguments}
+use Rattle.tmem_tree.proofs.Rows.{count_in}
 use Rattle.tmem_tentative.specs.Eval.{eval}
 use Rattle.tmem_tentative.specs.Logs.{state_of}
 use Rattle.tmem_tentative.proofs.Rows.{eval_in}

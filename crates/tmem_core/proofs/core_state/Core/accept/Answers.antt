@@ -5,6 +5,7 @@ use Rattle.tmem_record.proofs.Folding.{length-values-apply}
 use Rattle.tmem_invariants.specs.Meanings.{AllHold}
 use Rattle.tmem_record.specs.Accepted.{IsAccepted}
 use Rattle.tmem_core.proofs.Known.{AreAmong}
+use Rattle.tmem_core.specs.History.{effects_of}
 use Rattle.tmem_core.proofs.Folded.{folded-push}
 use Rattle.tmem_core.proofs.Registered.{AreRegistered-with_names}
 use Rattle.tmem_core.proofs.Places.{writes_within, not_empty}
@@ -34,7 +35,7 @@ returns-clause-vars g c = rw c.accept.ensures (length-values-apply c.args.self.n
 pub invariant_of-self-clause-folded : goal.invariant_of-self-clause-folded
 invariant_of-self-clause-folded g c =
     let core = c.args.self.now in
-    rw (c.accept.ensures, c.push.ensures) (folded-push core.durable core.waiting c.args.effect.now core.state core.folded)
+    rw (c.accept.ensures, c.push.ensures, c.with.ensures) (folded-push core.opened.value (effects_of core.history) core.durable core.waiting core.state core.folded c.args.effect.now core.counted)
 
 pub invariant_of-self-clause-sized : goal.invariant_of-self-clause-sized
 invariant_of-self-clause-sized g c =

@@ -37,4 +37,4 @@ invariant_of-result-clause-sound g c = λ m stated.
     subst (λ (x : State). AllHold m x.names x.values) (sym c.in-Ok.ensures.state) (opens m names s there none).hold
 
 pub invariant_of-result-clause-folded : goal.invariant_of-result-clause-folded
-invariant_of-result-clause-folded g c = rw (c.count-durable.ensures, c.in-Ok.ensures.waiting) (folded-none _)
+invariant_of-result-clause-folded g c = rw (c.count-durable.ensures, c.in-Ok.ensures.waiting, c.of-opened.ensures) (folded-none _)

@@ -1,7 +1,6 @@
 use Rattle.std.proofs.Common.{rules, refl, [], List, ℕ, sym, ◌∙◌, subst}
 use Rattle.std.proofs.lemmas.List.Elements.{All-set}
 use Rattle.tmem_tree.specs.Plans.{BreaksNone, IsLeastBroken, FitsNames}
-use Rattle.tmem_world.specs.declared.session.Slot.TheVariants as slot
 use Rattle.tmem_world.specs.Settle.{FitsSlot}
 use Rattle.tmem_world.specs.WorldModel.{with_attempt, Begun}
 use Rattle.tmem_world.proofs.Points.{in_session, with_slot}
