@@ -123,6 +123,11 @@ impl Cause {
 }
 
 impl fmt::Display for Cause {
+    ghost use Rattle.std.specs.Prelude.{Some};
+    ghost use Rattle.std.specs.Fmt.{decimal};
+
+    ghost output = { λ cause. Some (decimal (number_of cause)) };
+
     fn fmt<W: fmt::Write>(&self, f: &mut fmt::Formatter<W>) -> fmt::Result {
         write!(f, "{}", self.number())
     }

@@ -80,12 +80,22 @@ fn all_letters(bytes: &[u8]) -> bool
 }
 
 impl fmt::Display for Name {
+    ghost use Rattle.std.specs.Fmt.{padded};
+
+    ghost output = { λ name. Some name };
+
+    ghost styled_output = { λ name spec. Some (padded spec name) };
+
     fn fmt<W: fmt::Write>(&self, f: &mut fmt::Formatter<W>) -> fmt::Result {
         f.pad(self.as_str())
     }
 }
 
 impl fmt::Debug for Name {
+    ghost use Rattle.std.specs.Prelude.{◌++◌, codes};
+
+    ghost debug_output = { λ name. Some (codes "Name(" ++ name ++ codes ")") };
+
     fn fmt<W: fmt::Write>(&self, f: &mut fmt::Formatter<W>) -> fmt::Result {
         write!(f, "Name({})", self.as_str())
     }

@@ -1,3 +1,4 @@
 pub mod Errors
+pub mod Lines
 pub mod Numbers
 pub mod Statuses

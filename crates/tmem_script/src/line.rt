@@ -1,4 +1,8 @@
-//! What is printed: one line for each reply, and one for the state.
+//! What is printed: one line for each reply.
+ghost use Rattle.std.specs.Prelude.{Some};
+ghost use Rattle.std.specs.Fmt.{DisplaysOnOk};
+ghost use Rattle.tmem_script.specs.Lines.{joined, line_of};
+
 use std::fmt;
 use tmem_event::Reply;
 
@@ -7,6 +11,8 @@ use tmem_event::Reply;
 pub struct ReplyLine(pub Reply);
 
 impl fmt::Display for ReplyLine {
+    ghost output = { λ line. line_of line.0 };
+
     fn fmt<W: fmt::Write>(&self, f: &mut fmt::Formatter<W>) -> fmt::Result {
         match &self.0 {
             Reply::Begun => write!(f, "begun"),
@@ -16,15 +22,28 @@ impl fmt::Display for ReplyLine {
             Reply::Committed { number, .. } => write!(f, "committed {number}"),
             Reply::Seen { at, registers } => {
                 write!(f, "seen {at} ")?;
-                f.write_joined(registers.iter(), ",")
+                write_joined(f, registers)
             }
             Reply::Retry => write!(f, "retry"),
             Reply::Aborted(code) => write!(f, "aborted {code}"),
             Reply::Refused(name) => write!(f, "refused {name}"),
-            Reply::Durable(durable) => write!(f, "durable {durable}"),
-            Reply::Looked(durable) => write!(f, "look {durable}"),
+            Reply::Durable(number) => write!(f, "durable {number}"),
+            Reply::Looked(number) => write!(f, "look {number}"),
             Reply::Opened(count) => write!(f, "opened {count}"),
             Reply::Fault(fault) => write!(f, "{fault}"),
         }
     }
+}
+
+// Numbers, with a comma between any two.
+fn write_joined<W: fmt::Write>(f: &mut fmt::Formatter<W>, numbers: &[i64]) -> fmt::Result
+    ensures { DisplaysOnOk W.write_str_gives f.old result (Some (joined numbers.now)) f.new }
+{
+    if let Some((first, others)) = numbers.split_first() {
+        write!(f, "{first}")?;
+        for other in others {
+            write!(f, ",{other}")?;
+        }
+    }
+    Ok(())
 }
