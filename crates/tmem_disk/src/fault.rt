@@ -1,7 +1,7 @@
 // The refusals of all layers, as the program prints them.
 ghost use Rattle.std.specs.Prelude.{◌≡◌};
 ghost use Rattle.tmem_disk.specs.declared.fault.Fault.TheVariants.{Memory};
-ghost use Rattle.tmem_disk.specs.Fault.{number_of};
+ghost use Rattle.tmem_disk.specs.Fault.{number_of, text_of};
 
 use crate::Name;
 use std::alloc::{AllocError, AllocFailed};
@@ -12,56 +12,67 @@ use thiserror::Error;
 #[derive(Clone, Copy, Debug, PartialEq, Eq, Error)]
 pub enum Fault {
     /// Memory that the call asked for was really refused. It may come in place of any other answer of such a call.
-    #[error("fault 1 memory")]
     Memory,
     /// A call of the device failed, in formatting or opening at any point, else before anything could become durable.
-    #[error("fault 2 device")]
     Device,
     /// The journal or the core was closed by an earlier failure.
-    #[error("fault 3 closed")]
     Closed,
     /// A sync failed, or the write that opens a gate: the state is there after reopening or it is not.
-    #[error("fault 4 unknown")]
     Unknown,
     /// As many accepted transactions as may wait are not known durable.
-    #[error("fault 5 full")]
     Full,
     /// Every slot of the log is used, until a checkpoint empties it.
-    #[error("fault 6 logfull")]
     LogFull,
     /// A value that was read is no longer the present one.
-    #[error("fault 7 conflict")]
     Conflict,
     /// The device does not begin as a formatted one does.
-    #[error("fault 8 notformatted")]
     NotFormatted,
     /// What stands on the device is nothing that the format allows.
-    #[error("fault 9 damaged")]
     Damaged,
     /// This invariant is registered on the device, and the table that was handed in lacks it.
-    #[error("fault 10 missing {0}")]
     Missing(Name),
     /// This registered invariant is false of the state on the device.
-    #[error("fault 11 broken {0}")]
     Broken(Name),
     /// A transaction is outside the limits of a plan, for this cause.
-    #[error("fault 12 badplan {0}")]
     BadPlan(Cause),
     /// A name is not one to sixteen letters from a to z, or a table has a name twice or too many of them.
-    #[error("fault 13 badname")]
     BadName,
     /// A footprint is empty, too long, names a variable twice, or names one that is not there.
-    #[error("fault 14 badfootprint")]
     BadFootprint,
     /// The count of transactions or the generation stands at its greatest number.
-    #[error("fault 15 spent")]
     Spent,
     /// A front has given out all its passes.
-    #[error("fault 16 noseat")]
     NoSeat,
     /// Numbers of variables or slots are out of limits or not those of the device, or the device is too small for them.
-    #[error("fault 17 geometry")]
     Geometry,
+}
+
+impl fmt::Display for Fault {
+    ghost use Rattle.std.specs.Prelude.{Some};
+
+    ghost output = { λ fault. Some (text_of fault) };
+
+    fn fmt<W: fmt::Write>(&self, f: &mut fmt::Formatter<W>) -> fmt::Result {
+        match self {
+            Fault::Memory => write!(f, "fault 1 memory"),
+            Fault::Device => write!(f, "fault 2 device"),
+            Fault::Closed => write!(f, "fault 3 closed"),
+            Fault::Unknown => write!(f, "fault 4 unknown"),
+            Fault::Full => write!(f, "fault 5 full"),
+            Fault::LogFull => write!(f, "fault 6 logfull"),
+            Fault::Conflict => write!(f, "fault 7 conflict"),
+            Fault::NotFormatted => write!(f, "fault 8 notformatted"),
+            Fault::Damaged => write!(f, "fault 9 damaged"),
+            Fault::Missing(name) => write!(f, "fault 10 missing {name}"),
+            Fault::Broken(name) => write!(f, "fault 11 broken {name}"),
+            Fault::BadPlan(cause) => write!(f, "fault 12 badplan {cause}"),
+            Fault::BadName => write!(f, "fault 13 badname"),
+            Fault::BadFootprint => write!(f, "fault 14 badfootprint"),
+            Fault::Spent => write!(f, "fault 15 spent"),
+            Fault::NoSeat => write!(f, "fault 16 noseat"),
+            Fault::Geometry => write!(f, "fault 17 geometry"),
+        }
+    }
 }
 
 impl From<AllocError> for Fault {

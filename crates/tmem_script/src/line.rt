@@ -11,7 +11,7 @@ use tmem_event::Reply;
 pub struct ReplyLine(pub Reply);
 
 impl fmt::Display for ReplyLine {
-    ghost output = { λ line. line_of line.0 };
+    ghost output = { λ line. Some (line_of line.0) };
 
     fn fmt<W: fmt::Write>(&self, f: &mut fmt::Formatter<W>) -> fmt::Result {
         match &self.0 {
