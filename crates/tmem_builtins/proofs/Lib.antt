@@ -1,2 +1,4 @@
+mod Meant
 mod Named
+mod Stated
 mod Tables

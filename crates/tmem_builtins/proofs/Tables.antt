@@ -4,7 +4,7 @@ use Rattle.std.proofs.lemmas.Bool.{false≢true}
 use Rattle.std.proofs.lemmas.List.Elements.{All-nil, All-cons}
 use Rattle.std.proofs.lemmas.List.Kept.{AllPairs-cons}
 use Rattle.std.proofs.lemmas.Slice.Eq.{bytes_eq-Decides}
-use Rattle.tmem_invariants.specs.Names.{AreBelow, AreTableNames, AreDistinct}
+use Rattle.tmem_invariants.specs.TableNames.{AreBelow, AreTableNames, AreDistinct}
 
 -- where a result is Ok, no error is to be spoken of
 pub no_error : {A E : Type 0} (r : Result A E) (P : E → Type 0) → IsOk r → IfErr r P

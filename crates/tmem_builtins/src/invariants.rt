@@ -1,11 +1,12 @@
 //! The invariants that scripts can check: `nonneg`, `sum` and `ordered`.
 ghost use Rattle.std.specs.Prelude.{◌≡◌, ◌∷◌, [], codes, length, map, IfErr, IfOk};
-ghost use Rattle.tmem_invariants.specs.Answers.{MayCall, HasMeaning};
+ghost use Rattle.tmem_invariants.specs.Answers.{MayCall, Gives};
+ghost use Rattle.tmem_builtins.specs.Builtins.{builtin_names, builtin_tests};
 ghost use Rattle.tmem_builtins.specs.Invariants.{is_not_negative, add_to_hundred, are_ordered, fitting};
 
 use std::alloc::Global;
 use tmem_disk::{Fault, Name};
-use tmem_invariants::{Invariant, Table, Test};
+use tmem_invariants::{Invariant, Invariants, Table, Test};
 
 /// The names of the three, ascending.
 pub fn names() -> [Name; 3]
@@ -69,14 +70,16 @@ pub fn table_of(
     ordered: Test,
 ) -> Result<Table, Fault>
     requires nonneg_callable { MayCall (Test.pre nonneg) 1 }
-    requires nonneg_stated { HasMeaning (Test.post nonneg) 1 }
+    requires nonneg_stated { Gives (Test.post nonneg) 1 is_not_negative }
     requires sum_callable { MayCall (Test.pre sum) 2 }
-    requires sum_stated { HasMeaning (Test.post sum) 2 }
+    requires sum_stated { Gives (Test.post sum) 2 add_to_hundred }
     requires ordered_callable { MayCall (Test.pre ordered) 2 }
-    requires ordered_stated { HasMeaning (Test.post ordered) 2 }
+    requires ordered_stated { Gives (Test.post ordered) 2 are_ordered }
     ensures vars { IfOk result (λ table. table.vars ≡ vars) }
     ensures entries { IfOk result (λ table. map (λ entry. (entry.name, entry.footprint.items, entry.test)) table.entries.items
         ≡ fitting vars ((codes "nonneg", 0 ∷ [], nonneg) ∷ (codes "sum", 0 ∷ 1 ∷ [], sum) ∷ (codes "ordered", 2 ∷ 3 ∷ [], ordered) ∷ [])) }
+    ensures names { IfOk result (λ table. ⟦<Table as Invariants>⟧.names table ≡ builtin_names vars) }
+    ensures stated { IfOk result (λ table. ⟦<Table as Invariants>⟧.is_stated table builtin_tests) }
     ensures refused { IfErr result (λ fault. fault ≡ Fault.Memory) }
 {
     let floor = Invariant::new(nonneg_name(), vec![in alloc; 0]?, nonneg)?;

@@ -1,11 +1,12 @@
 //! The stored steps that scripts can call, by name: `add`, `sub` and `need`.
 ghost use Rattle.std.specs.Prelude.{◌≡◌, ◌<◌, ◌∷◌, [], Some, codes, length, map, slice_index_or, IfErr, IfOk, IfSome};
-ghost use Rattle.tmem_tree.specs.Answers.{MayCall, HasMeaning};
+ghost use Rattle.tmem_tree.specs.StepAnswers.{MayCall, Gives};
+ghost use Rattle.tmem_builtins.specs.Builtins.{builtin_steps};
 ghost use Rattle.tmem_builtins.specs.Steps.{step_names, sum_of, difference_of, at_least};
 
 use std::alloc::Global;
 use tmem_disk::Fault;
-use tmem_tree::{Step, StepAnswer, StepEntry, Steps};
+use tmem_tree::{Step, StepAnswer, StepEntry, Steps, StoredSteps};
 
 /// The code of the abort where a result is no i64.
 const NO_NUMBER: u16 = 65535;
@@ -64,12 +65,14 @@ pub fn need(args: &[i64]) -> StepAnswer
 /// `Memory`.
 pub fn steps_of(alloc: Global, add: Step, sub: Step, need: Step) -> Result<Steps, Fault>
     requires add_callable { MayCall (Step.pre add) 2 }
-    requires add_stated { HasMeaning (Step.post add) 2 }
+    requires add_stated { Gives (Step.post add) 2 sum_of }
     requires sub_callable { MayCall (Step.pre sub) 2 }
-    requires sub_stated { HasMeaning (Step.post sub) 2 }
+    requires sub_stated { Gives (Step.post sub) 2 difference_of }
     requires need_callable { MayCall (Step.pre need) 2 }
-    requires need_stated { HasMeaning (Step.post need) 2 }
+    requires need_stated { Gives (Step.post need) 2 at_least }
     ensures steps { IfOk result (λ steps. map (λ entry. entry.step) steps.entries.items ≡ add ∷ sub ∷ need ∷ []) }
+    ensures arities { IfOk result (λ steps. ⟦<Steps as StoredSteps>⟧.arities steps ≡ 2 ∷ 2 ∷ 2 ∷ []) }
+    ensures stated { IfOk result (λ steps. ⟦<Steps as StoredSteps>⟧.is_stated steps builtin_steps) }
     ensures refused { IfErr result (λ fault. fault ≡ Fault.Memory) }
 {
     let mut entries = Vec::new(alloc);

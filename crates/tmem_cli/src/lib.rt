@@ -1,11 +1,12 @@
 //! What the program `tmem` does: it plays scripts of durable transactions, and prints a line for each event.
 //!
-//! `args` says which words a command line may have, `words` does what they say, and `play` plays a script on a device in
-//! memory.
+//! `args` says which words a command line may have, `words` does what they say, `play` plays a script on a device in
+//! memory, and `print` prints its lines.
 #![tactic(auto)]
 
 mod args;
 mod play;
+mod print;
 mod words;
 
 pub use words::run_words;

@@ -1,22 +1,37 @@
 //! Plays a script on a device in memory.
-ghost use Rattle.std.specs.Prelude.{◌≡◌, ◌<◌, IfOk, length};
+ghost use Rattle.std.specs.Prelude.{◌≡◌, Some, [], ◌∷◌, IfErr, IfOk, OnOk, length};
 ghost use Rattle.tmem_builtins.specs.Invariants.{is_not_negative, add_to_hundred, are_ordered};
 ghost use Rattle.tmem_builtins.specs.Steps.{sum_of, difference_of, at_least};
-ghost use Rattle.tmem_world.specs.Represents.{numbers_of, HoldsSession};
+ghost use Rattle.tmem_builtins.specs.Builtins.{builtin_steps, builtin_names, builtin_tests};
+ghost use Rattle.tmem_record.specs.State.{first_state};
+ghost use Rattle.tmem_journal.specs.Layout.{IsLayout};
+ghost use Rattle.tmem_core.specs.Program.{Program};
+ghost use Rattle.tmem_script.specs.declared.failure.Failure.TheVariants.{Output, Refused};
+ghost use Rattle.tmem_world.specs.WorldModel.{opening};
+ghost use Rattle.tmem_world.specs.Represents.{Represents, Means, numbers_of, steps_of, held_table, HoldsSession};
+ghost use Rattle.tmem_cli.specs.Printed.{PlaysEntries, PlaysScript, StopsPlaying};
 
+use crate::print::{print_line, print_state};
 use std::alloc::Global;
-use std::fmt::Display;
 use std::io::Write;
-use tmem_builtins::{add, names, need, nonneg, ordered, steps_of, sub, sum, table_of};
-use tmem_disk::{Disk, Fault, Name, SimDisk};
-use tmem_invariants::Tests;
-use tmem_script::{Failure, Line, ReplyLine, Script};
+use tmem_builtins::{add, need, nonneg, ordered, steps_of, sub, sum, table_of};
+use tmem_disk::{Fault, SimDisk};
+use tmem_invariants::Invariants;
+use tmem_journal::stands_for_one;
+use tmem_script::{Entry, Failure, ReplyLine, Script};
 use tmem_tree::{StepAnswer, StoredSteps};
 use tmem_world::{Layout, Reply, World, format};
 
-/// Plays a script on a fresh device, and prints a line for the opening and one for each event. A
-/// refused event is printed as its refusal, and the next is played.
-pub fn play<W: Write>(alloc: Global, script: Script, out: &mut W) -> Result<(), Failure> {
+/// Plays a script on a fresh device, and prints a line for the opening and one for each entry. A
+/// refused event is printed as its refusal, and the next is played. Refused by `Geometry` where the
+/// script's numbers are out of limits.
+pub(crate) fn play<W: Write>(alloc: Global, script: Script, out: &mut W) -> Result<(), Failure>
+    ensures played { OnOk result (PlaysScript script.vars script.entries.items (W.contents out.old) (W.contents out.new)) }
+    ensures fits { OnOk result (IsLayout script.vars script.slots) }
+    ensures geometry { ¬ IsLayout script.vars script.slots → result ≡ Err (Refused Fault.Geometry) }
+    ensures failed { IfErr result StopsPlaying }
+{
+    let layout = Layout::new(script.vars, script.slots)?;
     let at_least_zero = Box::new(
         alloc,
         |values: &[i64]| -> bool
@@ -42,17 +57,22 @@ pub fn play<W: Write>(alloc: Global, script: Script, out: &mut W) -> Result<(), 
     let a_hundred = a_hundred.map_err(Fault::from)?;
     let in_order = in_order.map_err(Fault::from)?;
     let table = table_of(alloc, script.vars, at_least_zero, a_hundred, in_order)?;
-    play_under(alloc, script, table, out)
+    play_under(alloc, layout, script.entries, table, out)
 }
 
-/// Plays a script, under these invariants.
-fn play_under<T: Tests + Drop, W: Write>(
+/// Plays the entries of a script, under these invariants.
+fn play_under<T: Invariants + Drop, W: Write>(
     alloc: Global,
-    script: Script,
+    layout: Layout,
+    entries: Vec<Entry>,
     table: T,
     out: &mut W,
 ) -> Result<(), Failure>
-    requires { T.vars table ≡ script.vars }
+    requires vars { T.vars table ≡ layout.vars }
+    requires names { T.names table ≡ builtin_names layout.vars }
+    requires stated { T.is_stated table builtin_tests }
+    ensures played { OnOk result (PlaysScript layout.vars entries.items (W.contents out.old) (W.contents out.new)) }
+    ensures failed { IfErr result StopsPlaying }
 {
     let total = Box::new(
         alloc,
@@ -79,133 +99,87 @@ fn play_under<T: Tests + Drop, W: Write>(
     let difference = difference.map_err(Fault::from)?;
     let floor = floor.map_err(Fault::from)?;
     let steps = steps_of(alloc, total, difference, floor)?;
-    play_with(alloc, script, table, steps, out)
+    play_with(alloc, layout, entries, table, steps, out)
 }
 
-/// Plays a script, under these invariants and with these stored steps.
-fn play_with<T: Tests + Drop, S: StoredSteps + Drop, W: Write>(
+/// Plays the entries of a script, under these invariants and with these stored steps.
+fn play_with<T: Invariants + Drop, S: StoredSteps + Drop, W: Write>(
     alloc: Global,
-    script: Script,
+    layout: Layout,
+    entries: Vec<Entry>,
     table: T,
     steps: S,
     out: &mut W,
 ) -> Result<(), Failure>
-    requires { T.vars table ≡ script.vars }
+    requires vars { T.vars table ≡ layout.vars }
+    requires names { T.names table ≡ builtin_names layout.vars }
+    requires tests { T.is_stated table builtin_tests }
+    requires arities { S.arities steps ≡ 2 ∷ 2 ∷ 2 ∷ [] }
+    requires steps { S.is_stated steps builtin_steps }
+    ensures played { OnOk result (PlaysScript layout.vars entries.items (W.contents out.old) (W.contents out.new)) }
+    ensures failed { IfErr result StopsPlaying }
 {
-    let Script { vars, slots, lines } = script;
-    let mut world = fresh_world(alloc, vars, slots, table, steps)?;
-    play_lines(&mut world, lines, vars, out)
+    let mut world = fresh_world(alloc, layout, table, steps)?;
+    print_line(out, ReplyLine(Reply::Opened(world.count())))?;
+    play_entries(&mut world, entries, layout.vars, out)
 }
 
-/// Prints the line of the opening, and plays the entries of a script, one after another.
-fn play_lines<T: Tests + Drop, S: StoredSteps + Drop, W: Write>(
+/// Plays the entries of a script, one after another.
+fn play_entries<T: Invariants + Drop, S: StoredSteps + Drop, W: Write>(
     world: &mut World<SimDisk, T, S>,
-    lines: Vec<Line>,
-    vars: u16,
-    out: &mut W,
-) -> Result<(), Failure>
-    requires vars { (numbers_of world.old).vars ≡ vars }
-    requires open { HoldsSession world.old }
-{
-    print(out, ReplyLine(Reply::Opened(world.count())))?;
-    let names = names();
-    for line in lines {
-        play_line(world, line, &names, vars, out)?;
-    }
-    Ok(())
-}
-
-/// Plays one entry. `names` are all that can be registered, ascending.
-fn play_line<T: Tests + Drop, S: StoredSteps + Drop, W: Write>(
-    world: &mut World<SimDisk, T, S>,
-    line: Line,
-    names: &[Name],
+    entries: Vec<Entry>,
     vars: u16,
     out: &mut W,
 ) -> Result<(), Failure>
     requires { (numbers_of world.old).vars ≡ vars }
-    ensures { numbers_of world.new ≡ numbers_of world.old }
+    ensures played { OnOk result (PlaysEntries world.old (W.contents out.old) entries.items world.new (W.contents out.new)) }
+    ensures failed { IfErr result (λ failure. failure ≡ Output) }
 {
-    match line {
-        Line::Event(playable) => print(out, ReplyLine(world.step(playable.event))),
-        Line::Show => print_state(out, world, names, vars),
+    for entry in entries {
+        play_entry(world, entry, vars, out)?;
+    }
+    Ok(())
+}
+
+/// Plays one entry, and prints its line.
+fn play_entry<T: Invariants + Drop, S: StoredSteps + Drop, W: Write>(
+    world: &mut World<SimDisk, T, S>,
+    entry: Entry,
+    vars: u16,
+    out: &mut W,
+) -> Result<(), Failure>
+    requires { (numbers_of world.old).vars ≡ vars }
+    ensures played { OnOk result (PlaysEntries world.old (W.contents out.old) (entry ∷ []) world.new (W.contents out.new)) }
+    ensures failed { IfErr result (λ failure. failure ≡ Output) }
+    ensures numbers { numbers_of world.new ≡ numbers_of world.old }
+    ensures steps { steps_of world.new ≡ steps_of world.old }
+    ensures table { held_table world.new ≡ held_table world.old }
+{
+    match entry {
+        Entry::Event(playable) => print_line(out, ReplyLine(world.step(playable.event))),
+        Entry::Show => print_state(out, world, vars),
     }
 }
 
-fn fresh_world<T: Tests + Drop, S: StoredSteps + Drop>(
+/// A world on a device in memory that was made for it: nothing accepted, every variable 0.
+fn fresh_world<T: Invariants + Drop, S: StoredSteps + Drop>(
     alloc: Global,
-    vars: u16,
-    slots: u16,
+    layout: Layout,
     table: T,
     steps: S,
 ) -> Result<World<SimDisk, T, S>, Fault>
-    requires { T.vars table ≡ vars }
-    ensures { IfOk result (λ world. ((numbers_of world).vars ≡ vars) × HoldsSession world) }
+    requires { T.vars table ≡ layout.vars }
+    ensures numbers { IfOk result (λ world. ((numbers_of world).vars ≡ layout.vars) × HoldsSession world) }
+    ensures steps { IfOk result (λ world. steps_of world ≡ steps) }
+    ensures table { IfOk result (λ world. held_table world ≡ Some table) }
+    ensures found { IfOk result (λ world. (program : Program) → Means world program → Represents program world (opening (first_state layout.vars) 0 0)) }
 {
-    let layout = Layout::new(vars, slots)?;
+    // what opening finds is the state that `format` left
+    stands_for_one();
     let mut disk = SimDisk::new(alloc, layout.end())?;
-    format(&mut disk, vars, slots)?;
-    let opened = World::open(alloc, disk, vars, slots, table, steps);
-    match opened {
+    format(&mut disk, layout.vars, layout.slots)?;
+    match World::open(alloc, disk, layout.vars, layout.slots, table, steps) {
         Ok(world) => Ok(world),
         Err(refusal) => Err(refusal.0),
     }
-}
-
-fn print<W: Write, T: Display + Drop>(out: &mut W, line: T) -> Result<(), Failure> {
-    writeln!(out, "{line}").map_err(|_| Failure::Output)
-}
-
-/// Prints the state. `names` are all that can be registered, ascending.
-fn print_state<D: Disk + Drop, T: Tests + Drop, S: StoredSteps + Drop, W: Write>(
-    out: &mut W,
-    world: &World<D, T, S>,
-    names: &[Name],
-    vars: u16,
-) -> Result<(), Failure>
-    requires { (numbers_of world.now).vars ≡ vars }
-{
-    if !world.is_open() {
-        return print(out, ReplyLine(Reply::Fault(Fault::Closed)));
-    }
-    write!(out, "state count={} names=", world.count()).map_err(|_| Failure::Output)?;
-    print_names(out, world, names)?;
-    write!(out, " values=").map_err(|_| Failure::Output)?;
-    print_values(out, world, vars)?;
-    print(out, "")
-}
-
-/// Prints those of the names that are registered, joined by commas.
-fn print_names<D: Disk + Drop, T: Tests + Drop, S: StoredSteps + Drop, W: Write>(
-    out: &mut W,
-    world: &World<D, T, S>,
-    names: &[Name],
-) -> Result<(), Failure>
-    requires { HoldsSession world.now }
-{
-    let mut is_first = true;
-    for name in names {
-        if world.has(name) {
-            let comma = if is_first { "" } else { "," };
-            write!(out, "{comma}{name}").map_err(|_| Failure::Output)?;
-            is_first = false;
-        }
-    }
-    Ok(())
-}
-
-/// Prints the value of each variable, joined by commas.
-fn print_values<D: Disk + Drop, T: Tests + Drop, S: StoredSteps + Drop, W: Write>(
-    out: &mut W,
-    world: &World<D, T, S>,
-    vars: u16,
-) -> Result<(), Failure>
-    requires open { HoldsSession world.now }
-    requires vars { (numbers_of world.now).vars ≡ vars }
-{
-    for var in 0..vars {
-        let comma = if var == 0 { "" } else { "," };
-        write!(out, "{comma}{}", world.value(var)).map_err(|_| Failure::Output)?;
-    }
-    Ok(())
 }

@@ -9,11 +9,11 @@ use std::fs;
 use std::io::{LineWriter, Read, Write};
 use std::rt::Files;
 use tmem_disk::Fault;
-use tmem_script::{Failure, Script, ScriptError, tell};
+use tmem_script::{Failure, Script, ScriptError, WordsError, report};
 
 /// Does what the words of a command line say, the program's name first, and answers the status: 0
-/// where all was done, 1 where it was refused on the way, 2 where the words were refused, 3 where
-/// there was no script to play.
+/// where all was done, 1 where it was refused on the way, 2 where the words were refused or memory
+/// did not suffice to read them, 3 where there was no script to play.
 pub fn run_words<R: Read, W: Write, E: Write>(
     rt: &(impl Files + AllocGlobal),
     words: Vec<String>,
@@ -26,7 +26,7 @@ pub fn run_words<R: Read, W: Write, E: Write>(
     let outcome = match script_path(rt.alloc(), words.as_slice()) {
         Ok(path) => run(rt, path, input, out),
         Err(refusal) if refusal.kind() == ErrorKind::OutOfMemory => {
-            Err(Failure::Refused(Fault::Memory))
+            Err(Failure::Words(WordsError::Memory))
         }
         Err(refusal) if refusal.use_stderr() => {
             let _ = write!(err, "{refusal}");
@@ -43,7 +43,7 @@ fn conclude<E: Write>(outcome: Result<(), Failure>, err: &mut E) -> u8
 {
     match outcome {
         Ok(()) => 0,
-        Err(failure) => tell(&failure, err),
+        Err(failure) => report(&failure, err),
     }
 }
 

@@ -5,7 +5,7 @@ use Rattle.std.proofs.Math.Seq.{drop-nil}
 use mathlib.Core.Logic.{∥∥₁_map}
 use Rattle.tmem_record.specs.State.{State, apply}
 use Rattle.tmem_record.specs.declared.effect.Effect.{Effect}
-use Rattle.tmem_record.proofs.Folding.{fold-push, count-fold}
+use Rattle.tmem_record.proofs.Laws.{fold-push, count-fold}
 use Rattle.tmem_core.specs.History.{IsFolded}
 
 -- nothing was accepted

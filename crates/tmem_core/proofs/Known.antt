@@ -8,10 +8,9 @@ use Rattle.std.proofs.lemmas.Map.Keys.{IsDistinct-from_apart}
 use Rattle.std.proofs.lemmas.Map.Made.{length-le_from_is_member}
 use Rattle.std.proofs.lemmas.Slice.Eq.{bytes_eq-Decides}
 use Rattle.tmem_record.specs.Names.{AreAscending, has_name, with_names}
-use Rattle.tmem_record.proofs.Folding.{AreAscending-with_names, has_name-with_names}
-use Rattle.tmem_record.proofs.Naming.{AreDistinct-ascending}
+use Rattle.tmem_record.proofs.Laws.{AreAscending-with_names, has_name-with_names, AreDistinct-ascending}
 use Rattle.tmem_invariants.specs.Meanings.{Meanings, AllHold, first_false}
-use Rattle.tmem_invariants.proofs.Sound.{All-at_name, Contains-from_has_name, IsSound-from_none}
+use Rattle.tmem_invariants.proofs.Laws.{All-at_name, Contains-from_has_name, IsSound-from_none}
 
 -- each of these names is among others
 abbrev pub AreAmong : List (List ℕ) → List (List ℕ) → Type 0

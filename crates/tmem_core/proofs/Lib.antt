@@ -1,10 +1,9 @@
 pub mod Folded
 pub mod Known
+pub mod Laws
 pub mod Opens
 pub mod Places
 pub mod Present
-pub mod Registered
-pub mod Rotating
-pub mod Serials
-pub mod Settling
+pub mod Windows
+pub mod SettleAnswers
 pub mod Trials

@@ -6,8 +6,8 @@ use Rattle.std.proofs.lemmas.Slice.Eq.{bytes_eq-Decides}
 use Rattle.tmem_disk.specs.declared.fault.Fault.TheVariants.{Missing, Broken}
 use Rattle.tmem_record.specs.State.{State}
 use Rattle.tmem_invariants.specs.Meanings.{Meanings, IsSound, fails, first_false, holds}
-use Rattle.tmem_invariants.specs.Names.{first_missing, has_name, lacks}
-use Rattle.tmem_invariants.proofs.Sound.{All-at_name, All-there, IsSound-from_none}
+use Rattle.tmem_invariants.specs.TableNames.{first_missing, has_name, lacks}
+use Rattle.tmem_invariants.proofs.Laws.{All-at_name, All-there, IsSound-from_none}
 use Rattle.tmem_core.specs.Opening.{opening_fault}
 use Rattle.tmem_core.specs.Program.{Program}
 

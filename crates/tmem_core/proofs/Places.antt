@@ -1,17 +1,14 @@
 -- What stands at a place of a list, and what a record may be at most.
-use Rattle.std.proofs.Common.{◌≡◌, ℕ, zero, suc, ℤ, ◌+◌, ◌<◌, ◌≤◌, true, false, not, List, [], ◌∷◌, length, take, drop, Some, All, Bool, sym, ap, ◌∙◌, subst, arith}
+use Rattle.std.proofs.Common.{◌≡◌, ℕ, zero, suc, ℤ, ◌<◌, ◌≤◌, List, [], ◌∷◌, take, drop, Some, All, ap, subst, arith}
 use Rattle.std.specs.Prelude.{slice_get}
 use Rattle.std.specs.Map.{keys_of}
 use Rattle.std.proofs.lemmas.List.{get_or-map, length-map}
 use Rattle.std.proofs.lemmas.List.Elements.{All-head, All-tail}
-use Rattle.std.proofs.lemmas.List.Sums.{sum_by-le}
-use Rattle.tmem_record.specs.State.{IsEmptyEffect}
 use Rattle.tmem_record.specs.Batch.{record_length}
 use Rattle.tmem_record.specs.Names.{AreChecks}
 use Rattle.tmem_record.specs.Writes.{AreWrites}
 use Rattle.tmem_record.specs.declared.effect.Effect.{Effect}
-use Rattle.tmem_record.proofs.Folding.{is_no_effect}
-use Rattle.tmem_core.specs.Verdict.{is_nothing}
+use Rattle.tmem_record.proofs.Laws.{record_length-le}
 
 -- the one behind so many others
 pub take_one : {X : Type 0} (xs : List X) (k : ℕ) (x : X) → slice_get xs k ≡ Some x → take 1 (drop k xs) ≡ x ∷ []
@@ -32,13 +29,4 @@ writes_within vars ws all k d below =
 
 -- a record always fits an empty batch
 pub record_fits : (e : Effect) → AreWrites e.writes → AreChecks e.names → record_length e ≤ 4077
-record_fits e writes checks =
-    let names = sum_by-le (λ n. 1 + length n) 17 e.names (λ k d below. omega (arith, (checks.names k d below).short)) in
-    omega (arith, writes.few, checks.few, names)
-
--- an effect that is not nothing
-pub not_empty : (e : Effect) (changes : Bool) → changes ≡ not (is_nothing e) → changes ≡ true → ¬ IsEmptyEffect e
-not_empty e changes is so empty =
-    let nothing : is_nothing e ≡ true = ap is_nothing (is_no_effect e empty) in
-    let both : true ≡ false = sym so ∙ is ∙ ap not nothing in
-    cc
+record_fits e writes checks = omega (arith, record_length-le e writes checks)

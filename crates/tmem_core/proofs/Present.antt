@@ -7,7 +7,7 @@ use Rattle.std.proofs.lemmas.Bool.Decides.{Decides-int_eq}
 use Rattle.tmem_record.specs.State.{State}
 use Rattle.tmem_record.specs.Writes.{look}
 use Rattle.tmem_tentative.specs.Right.{Agrees}
-use Rattle.tmem_core.specs.Settle.{is_stale}
+use Rattle.tmem_core.specs.SettleAnswer.{is_stale}
 use Rattle.tmem_core.specs.Verdict.{map_of}
 
 value_of : (values : List ℤ) (var : ℕ) (n : ℤ) → slice_get values var ≡ Some n → slice_index_or values var (pos 0) ≡ n

@@ -1,12 +1,12 @@
 -- Values that are written and put back.
 use Rattle.std.proofs.Common.{◌≡◌, ℕ, ◌<◌, ◌==◌, ◌||◌, ℤ, pos, Bool, true, false, List, [], ◌∷◌, length, map, get_or, slice_set, All, refl, sym, ap, ◌∙◌, subst, arith, length-set}
 use Rattle.std.proofs.lemmas.Bool.{eqb-true, eqb-false}
+use Rattle.std.proofs.lemmas.Bool.{or_parts}
 use Rattle.std.proofs.lemmas.List.{get_or-set_other, get_or-set_same, ext_get_or}
 use Rattle.std.proofs.lemmas.List.Elements.{All-head, All-map, All-tail}
 use Rattle.tmem_record.specs.State.{State, overwrite, written}
-use Rattle.tmem_record.proofs.Folding.{length-written}
+use Rattle.tmem_record.proofs.Laws.{length-written}
 use Rattle.tmem_invariants.specs.Meanings.{DifferInWritten, is_written, value_of}
-use Rattle.tmem_invariants.proofs.Scans.{or_false}
 
 -- the variables that are to be written, each with its value
 abbrev pub olds_of : List ℤ → List (ℕ × ℤ) → List (ℕ × ℤ)
@@ -16,7 +16,7 @@ olds_of values ws = map (λ (w : ℕ × ℤ). (w.0, value_of values w.0)) ws
 kept : (values : List ℤ) (ws : List (ℕ × ℤ)) (var : ℕ) → is_written ws var ≡ false → get_or (written values ws) var (pos 0) ≡ get_or values var (pos 0)
 kept values [] var none = refl
 kept values (w ∷ ws) var none =
-    let parts = or_false (w.0 == var) (is_written ws var) none in
+    let parts = or_parts (w.0 == var) (is_written ws var) none in
     kept (slice_set values w.0 w.1) ws var parts.1 ∙ get_or-set_other values w.0 var w.1 (pos 0) (λ same. eqb-false w.0 var parts.0 (sym same))
 
 pub differ : (values : List ℤ) (ws : List (ℕ × ℤ)) → DifferInWritten ws values (written values ws)

@@ -2,5 +2,5 @@ pub mod History
 pub mod Held
 pub mod Opening
 pub mod Program
-pub mod Settle
+pub mod SettleAnswer
 pub mod Verdict

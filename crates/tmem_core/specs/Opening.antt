@@ -5,7 +5,7 @@ use Rattle.tmem_disk.specs.declared.fault.Fault.{Fault}
 use Rattle.tmem_disk.specs.declared.fault.Fault.TheVariants.{Memory, Missing, Broken}
 use Rattle.tmem_record.specs.State.{State}
 use Rattle.tmem_invariants.specs.Meanings.{first_false}
-use Rattle.tmem_invariants.specs.Names.{first_missing}
+use Rattle.tmem_invariants.specs.TableNames.{first_missing}
 use Rattle.tmem_core.specs.Program.{Program}
 
 -- the first registered name, by bytes, that the program lacks; else the first in the table's order that is registered and

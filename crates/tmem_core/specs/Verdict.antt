@@ -1,22 +1,18 @@
 -- What a plan is answered on a state, and the serial order of the plans that are accepted.
-use Rattle.std.specs.Prelude.{ℕ, ℤ, pos, Bool, ◌&&◌, ◌==◌, List, [], ◌∷◌, ◌++◌, length, Option, Some, None, slice_index_or, if◌then◌else◌}
-use Rattle.tmem_record.specs.State.{State, no_effect, apply, fold}
+use Rattle.std.specs.Prelude.{ℕ, ℤ, pos, List, [], ◌∷◌, ◌++◌, Option, Some, None, slice_index_or, if◌then◌else◌}
+use Rattle.tmem_record.specs.State.{State, no_effect, is_empty, apply, fold}
 use Rattle.tmem_record.specs.declared.effect.Effect.{Effect}
 use Rattle.tmem_tree.specs.declared.tx.Tx.{Tx}
 use Rattle.tmem_tree.specs.Run as run
 use Rattle.tmem_tree.specs.Run.{run, start}
 use Rattle.tmem_invariants.specs.Meanings.{first_false}
-use Rattle.tmem_core.specs.declared.settled.Settled.{Settled}
-use Rattle.tmem_core.specs.declared.settled.Settled.TheVariants.{Committed, Seen, Retry, Aborted, Refused}
+use Rattle.tmem_tree.specs.declared.settled.Settled.{Settled}
+use Rattle.tmem_tree.specs.declared.settled.Settled.TheVariants.{Committed, Seen, Retry, Aborted, Refused}
 use Rattle.tmem_core.specs.Program.{Program}
 
 -- the map that a plan is run on: the value of each variable of a state
 abbrev pub map_of : State → ℕ → ℤ
 map_of s var = slice_index_or s.values var (pos 0)
-
--- whether an effect changes nothing
-abbrev pub is_nothing : Effect → Bool
-is_nothing e = (length e.writes == 0) && (length e.names == 0)
 
 -- the first name, in the table's order, that is registered or that the effect proposes, and is false of the map that the
 -- effect makes
@@ -32,10 +28,10 @@ unless_broken None v = v
 -- invariant is true of the new map
 abbrev pub verdict_normal : Program → State → Effect → List ℤ → Settled
 verdict_normal p s e registers =
-    unless_broken (first_broken p s e) (if is_nothing e then Seen s.count registers else Committed s.count registers)
+    unless_broken (first_broken p s e) (if is_empty e then Seen s.count registers else Committed s.count registers)
 
 -- the answer to a run on a state, that ended so
-abbrev pub verdict_on : Program → State → run.Ending → Settled
+abbrev pub verdict_on : Program → State → run.RunResult → Settled
 verdict_on p s (run.Normal view) = verdict_normal p s view.effect view.registers
 verdict_on p s run.Retried = Retry
 verdict_on p s (run.Aborted code) = Aborted code
@@ -46,7 +42,7 @@ abbrev pub verdict : Program → Tx → State → Settled
 verdict p tx s = verdict_on p s (run p.steps tx (start (map_of s)))
 
 -- what a run would change
-abbrev pub effect_on : run.Ending → Effect
+abbrev pub effect_on : run.RunResult → Effect
 effect_on (run.Normal view) = view.effect
 effect_on _ = no_effect
 

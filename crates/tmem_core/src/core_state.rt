@@ -1,31 +1,28 @@
 // The core.
-ghost use Rattle.std.specs.Prelude.{◌≡◌, ◌≢◌, ◌≤◌, ◌<◌, ◌+◌, ◌-◌, true, false, not, [], ◌++◌, length, drop, take, slice_get, Some, All, IsTrue, IfOk, IfErr, IfSome};
+ghost use Rattle.std.specs.Prelude.{◌≡◌, ◌≢◌, ◌≤◌, ◌<◌, ◌+◌, ◌-◌, true, false, [], ◌++◌, length, drop, take, slice_get, Some, All, IsTrue, IfOk, IfErr};
 ghost use Rattle.std.specs.Map.{keys_of};
 ghost use Rattle.std.proofs.Props.{props};
-ghost use Rattle.tmem_record.specs.Names.{has_name, with_names, AreChecks, AreRegistered, AreRegistered-prop};
+ghost use Rattle.tmem_record.specs.Names.{has_name, with_names, AreRegistered, AreRegistered-prop};
 ghost use Rattle.tmem_record.specs.State.{apply, fold};
-ghost use Rattle.tmem_record.specs.Writes.{AreWrites};
 ghost use Rattle.tmem_record.specs.declared.name_set.TheConstants.{MAX_NAMES};
 ghost use Rattle.tmem_tree.specs.declared.tx.Tx.{Tx};
 ghost use Rattle.tmem_invariants.specs.Meanings.{Meanings, AllHold, IsSound, first_false};
 ghost use Rattle.tmem_tentative.specs.Fits.{IsForVariables};
 ghost use Rattle.tmem_tentative.specs.Right.{IsRight};
-ghost use Rattle.tmem_core.specs.Settle.{is_stale};
-ghost use Rattle.tmem_core.specs.Verdict.{is_nothing};
-ghost use Rattle.tmem_record.specs.Accepted.{IsAccepted, IsAccepted-prop};
+ghost use Rattle.tmem_core.specs.SettleAnswer.{is_stale};
+ghost use Rattle.tmem_record.specs.Loggable.{IsLoggable, IsLoggable-prop};
 ghost use Rattle.tmem_core.specs.History.{IsFolded, effects_of};
 
 use crate::history::History;
-use crate::settled::Settled;
 use crate::trial::first_false;
 use crate::waiting::{MAX_WAITING, Waiting};
 use std::alloc::{AllocError, Global};
 use std::snapshot::Snapshot;
 use tmem_disk::{Fault, Name};
-use tmem_invariants::Tests;
-use tmem_record::{Batch, Effect, State};
+use tmem_invariants::Invariants;
+use tmem_record::{Batch, Effect, MAX_WRITES, State};
 use tmem_tentative::{Attempt, Ending, Reads};
-use tmem_tree::REGISTERS;
+use tmem_tree::{REGISTERS, Settled};
 
 /// How many records one `take` puts into a batch, at the most.
 pub const MAX_TAKEN: usize = 1;
@@ -33,12 +30,14 @@ pub const MAX_TAKEN: usize = 1;
 /// The present state, and the effects that are accepted and not known durable. Contracts speak of its parts by the words
 /// of `specs/Held`.
 #[derive(Drop)]
-pub struct Core<T: Tests> {
+pub struct Core<T: Invariants> {
     table: T,
     state: State,
     waiting: Waiting,
     durable: u64,
     is_shut: bool,
+    // where a settling puts the values that it writes over
+    olds: [(u16, i64); MAX_WRITES],
 
     // what it was made of, and what it accepted since: for clauses alone, they take no memory
     opened: Snapshot<State>,
@@ -67,15 +66,15 @@ pub struct Core<T: Tests> {
     pub ghost registered: { AreRegistered state.names } by { Prim.hlevel (props, AreRegistered-prop) },
 
     /// Each that waits changes something, and no variable that is not there.
-    pub ghost each: { All (IsAccepted (length state.values)) waiting } by { Prim.hlevel (props, IsAccepted-prop) },
+    pub ghost each: { All (IsLoggable (length state.values)) waiting } by { Prim.hlevel (props, IsLoggable-prop) },
 }
 
-impl<T: Tests + Drop> Core<T> {
+impl<T: Invariants + Drop> Core<T> {
     ghost use Rattle.tmem_core.specs.Held.{state_of, opened_of, history_of, waiting_of, durable_of, is_shut_of, table_of};
     ghost use Rattle.tmem_core.specs.Opening.{opening_fault, IsOpeningRefusal};
     ghost use Rattle.tmem_core.specs.Program.{Program};
     ghost use Rattle.tmem_core.specs.Verdict.{verdict};
-    ghost use Rattle.tmem_core.specs.Settle.{settle_answer, normal_answer, sound_answer, accepted_by, judged, IsRefusal, IsAdded};
+    ghost use Rattle.tmem_core.specs.SettleAnswer.{settle_answer, normal_answer, sound_answer, accepted_by, judged, IsRefusal, IsAdded};
 
     /// A core of this state, all of it durable, with room for all that may wait: no other call takes memory. Refused with
     /// `Missing` and the first registered name, by bytes, that the table lacks; else with `Broken` and the first one in
@@ -112,6 +111,7 @@ impl<T: Tests + Drop> Core<T> {
                     waiting,
                     durable,
                     is_shut: false,
+                    olds: [(0, 0); MAX_WRITES],
                     opened,
                     history: History::Start,
                 })
@@ -248,7 +248,7 @@ impl<T: Tests + Drop> Core<T> {
         ensures shut { is_shut_of self.new ≡ is_shut_of self.old }
         ensures table { table_of self.new ≡ table_of self.old }
     {
-        match first_false(&self.table, &mut self.state, effect) {
+        match first_false(&self.table, &mut self.state, &mut self.olds, effect) {
             Some(place) => Some(self.table.name(place)),
             None => None,
         }
@@ -271,7 +271,7 @@ impl<T: Tests + Drop> Core<T> {
         ensures vars { length (state_of self.new).values ≡ length (state_of self.old).values }
     {
         let number = self.state.count();
-        if !changes(effect) {
+        if effect.is_empty() {
             return Ok(Settled::Seen {
                 at: number,
                 registers,
@@ -339,15 +339,4 @@ fn is_stale(state: &State, reads: &Reads) -> bool
         }
     }
     false
-}
-
-// Whether an effect changes anything.
-fn changes(effect: &Effect) -> bool
-    ensures changes { result ≡ not (is_nothing effect.now) }
-    ensures writes { AreWrites effect.now.writes }
-    ensures names { AreChecks effect.now.names }
-{
-    let writes = effect.writes.as_slice();
-    let names = effect.names.as_slice();
-    !(writes.is_empty() && names.is_empty())
 }

@@ -6,7 +6,7 @@ use tmem_record::Effect;
 
 /// The accepted effects, each as it was when it was accepted.
 #[derive(Drop)]
-pub enum History {
+pub(crate) enum History {
     Start,
     After(Snapshot<Effect>, Snapshot<History>),
 }

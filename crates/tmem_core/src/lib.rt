@@ -2,15 +2,14 @@
 //!
 //! `Core::settle` answers an attempt by the present state: it compares the values that the attempt read, tests the
 //! invariants on the map that the effect would make, and accepts the effect or nothing. The core is memory only: it knows
-//! no device and no thread, and only its making takes memory. It asks for `Tests`, and names no closure.
+//! no device and no thread, and only its making takes memory. It asks for `Invariants`, and names no closure.
 #![tactic(auto)]
 
 mod core_state;
 mod history;
-mod settled;
 mod trial;
 mod waiting;
 
 pub use core_state::{Core, MAX_TAKEN};
-pub use settled::Settled;
+pub use tmem_tree::Settled;
 pub use waiting::MAX_WAITING;

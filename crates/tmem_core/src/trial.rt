@@ -2,14 +2,20 @@
 ghost use Rattle.std.specs.Prelude.{◌≡◌, ◌≤◌, ◌<◌, pos, List, ℤ, length, take, map, slice_index_or, All, IfSome};
 ghost use Rattle.tmem_record.specs.State.{written};
 ghost use Rattle.tmem_invariants.specs.Meanings.{Meanings, AllHold, first_false, value_of};
-ghost use Rattle.tmem_invariants.specs.Names.{name_at};
+ghost use Rattle.tmem_invariants.specs.TableNames.{name_at};
 
-use tmem_invariants::Tests;
+use tmem_invariants::Invariants;
 use tmem_record::{Effect, MAX_WRITES, State};
 
 /// The place, in the table's order, of the first name that is registered or that an effect proposes, and is false of the
-/// map that the effect would make. The effect is written into the state, and the old values are put back after the test.
-pub(crate) fn first_false<T: Tests>(table: &T, state: &mut State, effect: &Effect) -> Option<usize>
+/// map that the effect would make. The effect is written into the state, and the old values, which stand in a buffer
+/// meanwhile, are put back after the test.
+pub(crate) fn first_false<T: Invariants>(
+    table: &T,
+    state: &mut State,
+    olds: &mut [(u16, i64); MAX_WRITES],
+    effect: &Effect,
+) -> Option<usize>
     requires vars { T.vars table.now ≡ length state.old.values }
     requires variables { All (λ w. w.0 < length state.old.values) effect.now.writes }
     ensures within { IfSome result (λ place. place < length (T.names table.now)) }
@@ -18,8 +24,7 @@ pub(crate) fn first_false<T: Tests>(table: &T, state: &mut State, effect: &Effec
     ensures state { state.new ≡ state.old }
 {
     let writes = effect.writes.as_slice();
-    let mut olds = [(0u16, 0i64); MAX_WRITES];
-    save(state.values(), writes, &mut olds);
+    save(state.values(), writes, olds);
     state.overwrite(writes);
     let place = table.test_touched(
         state.values(),

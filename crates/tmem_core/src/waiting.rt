@@ -11,20 +11,21 @@ pub const MAX_WAITING: usize = 256;
 /// The effects that wait, the oldest first. There is room for all of them from the start.
 #[derive(Drop)]
 pub(crate) struct Waiting {
-    // made beforehand: those from `len` on do not wait
+    // a ring, made beforehand: the oldest stands at `start`, and the others behind it, around the end
     effects: Vec<Effect>,
+    start: usize,
     len: usize,
 }
 
 impl Model for Waiting {
-    ghost use Rattle.std.specs.Prelude.{List, take, length, ◌≡◌, ◌≤◌};
+    ghost use Rattle.std.specs.Prelude.{List, take, drop, length, ◌≡◌, ◌≤◌, ◌<◌, ◌++◌};
     ghost use Rattle.tmem_record.specs.declared.effect.Effect.{Effect as EffectOf};
 
     ghost Value = { List EffectOf };
 
-    ghost view = { λ w. take w.len w.effects.items };
+    ghost view = { λ w. take w.len (drop w.start w.effects.items ++ take w.start w.effects.items) };
 
-    ghost invariant = { λ w. (length w.effects.items ≡ 256) × (w.len ≤ 256) };
+    ghost invariant = { λ w. (length w.effects.items ≡ 256) × (w.start < 256) × (w.len ≤ 256) };
 }
 
 impl Waiting {
@@ -32,12 +33,15 @@ impl Waiting {
     pub(crate) fn new(alloc: Global) -> Result<Waiting, AllocError>
         ensures { IfOk result (λ waiting. waiting ≡ []) }
     {
-        let mut effects = Vec::new(alloc);
+        let mut effects = Vec::with_capacity(alloc, MAX_WAITING)?;
         for _ in 0..MAX_WAITING {
-            let effect = Effect::new(alloc)?;
-            effects.push(effect)?;
+            effects.push(Effect::new()).unwrap();
         }
-        Ok(Waiting { effects, len: 0 })
+        Ok(Waiting {
+            effects,
+            start: 0,
+            len: 0,
+        })
     }
 
     /// The effect that waits behind so many others.
@@ -45,7 +49,7 @@ impl Waiting {
         requires { index < length self.now }
         ensures { slice_get self.now index ≡ Some result.now }
     {
-        &self.effects[index]
+        &self.effects[(self.start + index) % MAX_WAITING]
     }
 
     /// Another effect waits, behind all others.
@@ -53,7 +57,7 @@ impl Waiting {
         requires { length self.old < MAX_WAITING }
         ensures { self.new ≡ self.old ++ effect.now ∷ [] }
     {
-        self.effects[self.len].copy_from(effect);
+        self.effects[(self.start + self.len) % MAX_WAITING].copy_from(effect);
         self.len += 1;
     }
 
@@ -62,7 +66,7 @@ impl Waiting {
         requires { many ≤ length self.old }
         ensures { self.new ≡ drop many self.old }
     {
-        self.effects.rotate_left(many);
+        self.start = (self.start + many) % MAX_WAITING;
         self.len -= many;
     }
 }

@@ -1,6 +1,6 @@
-pub mod Devices
 pub mod Fills
+pub mod Laws
 pub mod Marks
-pub mod Names
+pub mod AsStr
 pub mod Past
 pub mod Ranges

@@ -1,8 +1,8 @@
 -- Whether a device in memory runs, and at which of its calls it stops.
 use Rattle.std.specs.Prelude.{ℕ, zero, suc, Option, Some, None, IsSome}
 use Rattle.tmem_disk.specs.declared.power.Fill.{Fill}
-use Rattle.tmem_disk.specs.declared.power.Plan.{Plan}
-use Rattle.tmem_disk.specs.declared.power.Plan.TheVariants.{AtWrite}
+use Rattle.tmem_disk.specs.declared.power.ArmedStop.{ArmedStop}
+use Rattle.tmem_disk.specs.declared.power.ArmedStop.TheVariants.{AtWrite}
 use Rattle.tmem_disk.specs.declared.power.Power.{Power}
 
 -- it stands at a stop
@@ -18,7 +18,7 @@ abbrev pub running : Power
 running = record { stopped = None; armed = None }
 
 -- with this stop to come, in the place of any other that was to come
-abbrev pub arming : Plan → Power → Power
+abbrev pub arming : ArmedStop → Power → Power
 arming plan power = record { stopped = power.stopped; armed = Some plan }
 
 -- it runs again, with what was armed still to come
@@ -32,13 +32,13 @@ pub data Call : Type 0 where
   syncing : Call
 
 -- what runs meets its stop at a write
-abbrev pub met_by_write : Option Plan → Power
+abbrev pub met_by_write : Option ArmedStop → Power
 met_by_write None = running
 met_by_write (Some (AtWrite zero fill)) = record { stopped = Some fill; armed = None }
 met_by_write (Some (AtWrite (suc more) fill)) = record { stopped = None; armed = Some (AtWrite more fill) }
 
 -- what is stopped stays so, whatever is armed
-abbrev pub after_write : Option Fill → Option Plan → Power
+abbrev pub after_write : Option Fill → Option ArmedStop → Power
 after_write (Some fill) armed = record { stopped = Some fill; armed = armed }
 after_write None armed = met_by_write armed
 

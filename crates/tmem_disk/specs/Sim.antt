@@ -2,6 +2,7 @@
 use Rattle.std.specs.Prelude.{◌≡◌, ◌⊎◌, ⊤, ℕ, Bool, true, false, Option, Some, None, if◌then◌else◌, List, [], ◌∷◌, length, drop, replicate, slice_index, slice_index_or}
 use mathlib.Core.Logic.{inl, inr}
 use Rattle.tmem_disk.specs.Disk.{DeviceView, overwritten}
+use Rattle.tmem_disk.specs.declared.disk.DeviceFault.{DeviceFault}
 use Rattle.tmem_disk.specs.declared.power.Fill.{Fill}
 use Rattle.tmem_disk.specs.declared.power.Fill.TheVariants.{Old, New, Byte}
 
@@ -20,8 +21,8 @@ abbrev pub written : ℕ → List ℕ → Bytes → Bytes
 written at bytes b = record { present = overwritten b.present at bytes; synced = b.synced; marks = overwritten b.marks at (replicate (length bytes) true) }
 
 -- with these as the bytes that a read gives and as the synced ones, and no mark
-abbrev pub settled : List ℕ → Bytes
-settled bytes = record { present = bytes; synced = bytes; marks = replicate (length bytes) false }
+abbrev pub synced_with : List ℕ → Bytes
+synced_with bytes = record { present = bytes; synced = bytes; marks = replicate (length bytes) false }
 
 -- these bytes, with one byte in each marked place
 abbrev pub stamped : ℕ → List ℕ → List Bool → List ℕ
@@ -63,11 +64,12 @@ pub left_now : (moments : List (List ℕ × List Bool)) (synced : List ℕ) (mar
 left_now moments synced marks c (inl now) = now
 left_now moments synced marks c (inr before) = absurd (none_left moments c before)
 
--- a device in memory, by its count of faults, its bytes and its moments
-abbrev pub memory_view : ℕ → List ℕ → List (List ℕ × List Bool) → List ℕ → List Bool → DeviceView
-memory_view failures present moments synced marks = record {
+-- a device in memory, by its count of faults, the last one, its bytes and its moments
+abbrev pub memory_view : ℕ → Option DeviceFault → List ℕ → List (List ℕ × List Bool) → List ℕ → List Bool → DeviceView
+memory_view failures last_fault present moments synced marks = record {
   capacity = length present;
   failures = failures;
+  last_fault = last_fault;
   keeps_model = ⊤;
   seen = present;
   may_leave = LeftBy synced marks;

@@ -1,7 +1,7 @@
 -- What the clauses of a device in memory see of it, beside what they see of every device.
 use Rattle.std.specs.Prelude.{ℕ, List}
 use Rattle.std.proofs.Common.{inl, refl, sym, ◌∙◌}
-use Rattle.tmem_disk.specs.Sim.{Bytes, written, settled, unless_stopped, memory_view, left_now}
+use Rattle.tmem_disk.specs.Sim.{Bytes, written, synced_with, unless_stopped, memory_view, left_now}
 use Rattle.tmem_disk.specs.Disk.{DeviceView, IsDevice}
 use Rattle.tmem_disk.specs.Moments.{moments_of}
 use Rattle.tmem_disk.specs.declared.power.Power.{Power}
@@ -17,7 +17,7 @@ bytes_of disk = record { present = disk.present.items; synced = disk.platter.syn
 
 -- what every device shows
 abbrev pub view_of : SimDisk → DeviceView
-view_of disk = memory_view disk.failures disk.present.items (moments_of disk.history) disk.platter.synced.items disk.platter.marks.items
+view_of disk = memory_view disk.failures.count disk.failures.last disk.present.items (moments_of disk.past) disk.platter.synced.items disk.platter.marks.items
 
 -- it is a device
 pub is_device_of : (disk : SimDisk) → IsDevice (view_of disk)
@@ -28,7 +28,7 @@ is_device_of disk = record {
   left_is_whole = λ c k left. left.size ∙ sym disk.agrees.size;
   seen_may_stay = λ k. disk.agrees;
   counts_now = λ t c k le now. inl now;
-  only_now = λ c k left. left_now (moments_of disk.history) disk.platter.synced.items disk.platter.marks.items c left;
+  only_now = λ c k left. left_now (moments_of disk.past) disk.platter.synced.items disk.platter.marks.items c left;
 }
 
 -- what a write leaves: nothing changes where the device was stopped before
@@ -37,4 +37,4 @@ bytes_after_write power at bytes b = unless_stopped power.stopped b (written at 
 
 -- what a sync leaves: nothing changes where the device is stopped
 abbrev pub bytes_after_sync : Power → Bytes → Bytes
-bytes_after_sync power b = unless_stopped power.stopped b (settled b.present)
+bytes_after_sync power b = unless_stopped power.stopped b (synced_with b.present)

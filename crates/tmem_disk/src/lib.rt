@@ -4,9 +4,10 @@
 #![tactic(auto)]
 
 mod disk;
+mod failures;
 mod fault;
-mod history;
 mod name;
+mod platter;
 mod power;
 mod sim;
 

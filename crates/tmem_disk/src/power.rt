@@ -15,16 +15,16 @@ pub enum Fill {
 
 /// A stop that is still to come.
 #[derive(Clone, Copy)]
-pub enum Plan {
+pub(crate) enum ArmedStop {
     /// At the write behind so many more.
     AtWrite(u64, Fill),
 }
 
 /// The stop that a device stands at, and the one that is armed. The second outlives the first.
 #[derive(Clone, Copy)]
-pub struct Power {
+pub(crate) struct Power {
     pub(crate) stopped: Option<Fill>,
-    pub(crate) armed: Option<Plan>,
+    pub(crate) armed: Option<ArmedStop>,
 }
 
 impl Power {
@@ -41,15 +41,15 @@ impl Power {
         ensures stops { IsTrue result ↔ IsStopped self.new }
     {
         match self.armed {
-            Some(Plan::AtWrite(0, fill)) => {
+            Some(ArmedStop::AtWrite(0, fill)) => {
                 *self = Power {
                     stopped: Some(fill),
                     armed: None,
                 };
                 true
             }
-            Some(Plan::AtWrite(more, fill)) => {
-                self.armed = Some(Plan::AtWrite(more - 1, fill));
+            Some(ArmedStop::AtWrite(more, fill)) => {
+                self.armed = Some(ArmedStop::AtWrite(more - 1, fill));
                 false
             }
             None => false,

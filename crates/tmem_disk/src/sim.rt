@@ -1,12 +1,13 @@
 // A device in memory that can be stopped at a chosen write.
 ghost use Rattle.std.specs.Prelude.{◌≡◌, ◌<◌, ◌≤◌, ◌+◌, ◌^◌, ◌↔◌, true, length, replicate, slice_range, IsTrue, IsErr, IfOk, IfSome, OnOk, OnErr, IsOkUnless};
-ghost use Rattle.tmem_disk.specs.Disk.{IsCall, SameDevice, overwritten, Reads, SameSeenOutside, Rewritten, LeavesOnly, LeavesEach, StillLeaves, IsSynced, Elapses};
+ghost use Rattle.tmem_disk.specs.Disk.{IsCall, SameDevice, overwritten, ReadsAs, SameSeenOutside, Rewritten, LeavesOnly, LeavesEach, StillLeaves, IsSynced, Elapses};
 ghost use Rattle.tmem_disk.specs.Start.{IsNewDevice};
 ghost use Rattle.tmem_disk.specs.Power.{IsStopped, fill_of, running, arming, restarted, reading, writing, syncing, after, Fails};
-ghost use Rattle.tmem_disk.specs.Sim.{LeftBy, blank, written, settled, filled, stamped};
+ghost use Rattle.tmem_disk.specs.Sim.{LeftBy, blank, written, synced_with, filled, stamped};
 
-use crate::history::{History, Platter};
-use crate::power::{Plan, Power};
+use crate::failures::Failures;
+use crate::platter::{PastMoments, Platter};
+use crate::power::{ArmedStop, Power};
 use crate::{DeviceFault, Disk, Fault, Fill};
 use std::alloc::Global;
 
@@ -16,13 +17,13 @@ use std::alloc::Global;
 pub struct SimDisk {
     present: Vec<u8>,
     platter: Platter,
-    failures: u64,
+    failures: Failures,
     power: Power,
-    history: History,
+    past: PastMoments,
     ghost agrees: { LeftBy platter.synced.items platter.marks.items present.items },
     ghost marked: { length platter.marks.items ≡ length present.items },
     ghost fits: { length present.items < 2 ^ 64 },
-    ghost counted: { failures < 2 ^ 64 },
+    ghost counted: { failures.count < 2 ^ 64 },
 }
 
 impl SimDisk {
@@ -42,12 +43,15 @@ impl SimDisk {
                 synced: vec![in alloc; 0; len]?,
                 marks: vec![in alloc; false; len]?,
             },
-            failures: 0,
+            failures: Failures {
+                count: 0,
+                last: None,
+            },
             power: Power {
                 stopped: None,
                 armed: None,
             },
-            history: History::Start,
+            past: PastMoments::Start,
         })
     }
 
@@ -57,9 +61,9 @@ impl SimDisk {
     pub fn stop_at_write(&mut self, k: u64, fill: Fill)
         ensures same { SameDevice (view_of self.old) (view_of self.new) }
         ensures bytes { bytes_of self.new ≡ bytes_of self.old }
-        ensures power { power_of self.new ≡ arming (Plan.AtWrite k fill) (power_of self.old) }
+        ensures power { power_of self.new ≡ arming (ArmedStop.AtWrite k fill) (power_of self.old) }
     {
-        self.power.armed = Some(Plan::AtWrite(k, fill));
+        self.power.armed = Some(ArmedStop::AtWrite(k, fill));
     }
 
     /// Whether it stands at a stop.
@@ -77,14 +81,15 @@ impl SimDisk {
         ensures durable { IsSynced (view_of self.new) }
         ensures capacity { (view_of self.new).capacity ≡ (view_of self.old).capacity }
         ensures failures { (view_of self.new).failures ≡ (view_of self.old).failures }
+        ensures last_fault { (view_of self.new).last_fault ≡ (view_of self.old).last_fault }
         ensures time { Elapses (view_of self.old) (view_of self.new) (view_of self.new).may_leave }
         ensures bytes { IfSome (fill_of (power_of self.old))
-            (λ fill. bytes_of self.new ≡ settled (filled fill (bytes_of self.old))) }
+            (λ fill. bytes_of self.new ≡ synced_with (filled fill (bytes_of self.old))) }
         ensures power { power_of self.new ≡ restarted (power_of self.old) }
     {
         let fill = self.power.restart();
         fill_marked(&mut self.present, &self.platter, fill);
-        self.settle();
+        self.sync_all();
     }
 
     // Writes over a range, and marks it.
@@ -96,20 +101,20 @@ impl SimDisk {
         ensures stop { LeavesEach (view_of self.new) (Rewritten from (length bytes.now) (view_of self.old)) }
         ensures time { Elapses (view_of self.old) (view_of self.new) (view_of self.new).may_leave }
     {
-        self.history = History::with(&self.history, &self.platter);
+        self.past = PastMoments::with(&self.past, &self.platter);
         mark(&mut self.platter.marks, from, bytes.len());
         overwrite(&mut self.present, from, bytes);
     }
 
     // Makes the bytes that a read gives the synced ones, with no mark.
-    fn settle(&mut self)
-        ensures bytes { bytes_of self.new ≡ settled (bytes_of self.old).present }
+    fn sync_all(&mut self)
+        ensures bytes { bytes_of self.new ≡ synced_with (bytes_of self.old).present }
         ensures failures { self.new.failures ≡ self.old.failures }
         ensures power { self.new.power ≡ self.old.power }
         ensures durable { IsSynced (view_of self.new) }
         ensures time { Elapses (view_of self.old) (view_of self.new) (view_of self.new).may_leave }
     {
-        self.history = History::with(&self.history, &self.platter);
+        self.past = PastMoments::with(&self.past, &self.platter);
         self.platter.synced.copy_from_slice(&self.present);
         self.platter.marks.fill(false);
     }
@@ -175,14 +180,14 @@ impl Disk for SimDisk {
         ensures time { Elapses (view_of self.old) (view_of self.new) (view_of self.new).may_leave }
         ensures bytes { (view_of self.new).keeps_model →
             OnOk result (into.new ≡ slice_range (view_of self.old).seen at (at + length into.old)) }
-        ensures seen { Reads (view_of self.new) (view_of self.old).seen }
+        ensures seen { ReadsAs (view_of self.new) (view_of self.old).seen }
         ensures stop { LeavesEach (view_of self.new) (view_of self.old).may_leave }
         ensures fails { IsErr result ↔ Fails reading (power_of self.old) }
         ensures power { power_of self.new ≡ after reading (power_of self.old) }
         ensures unchanged { bytes_of self.new ≡ bytes_of self.old }
     {
         if self.power.is_stopped() {
-            self.failures = self.failures.saturating_add(1);
+            self.failures.note(DeviceFault::Read);
             return Err(DeviceFault::Read);
         }
         let from = at as usize;
@@ -194,7 +199,7 @@ impl Disk for SimDisk {
         requires { at + length bytes.now ≤ (view_of self.old).capacity }
         ensures call { IsCall (view_of self.old) (view_of self.new) result (λ f. f ≡ DeviceFault.Write) }
         ensures time { Elapses (view_of self.old) (view_of self.new) (view_of self.new).may_leave }
-        ensures written { OnOk result (Reads (view_of self.new) (overwritten (view_of self.old).seen at bytes.now)) }
+        ensures written { OnOk result (ReadsAs (view_of self.new) (overwritten (view_of self.old).seen at bytes.now)) }
         ensures elsewhere { SameSeenOutside at (length bytes.now) (view_of self.old) (view_of self.new) }
         ensures stop { LeavesOnly (view_of self.new) (Rewritten at (length bytes.now) (view_of self.old)) }
         ensures torn { OnOk result (LeavesEach (view_of self.new) (Rewritten at (length bytes.now) (view_of self.old))) }
@@ -204,12 +209,12 @@ impl Disk for SimDisk {
         ensures marked { bytes_of self.new ≡ bytes_after_write (power_of self.old) at bytes.now (bytes_of self.old) }
     {
         if self.power.is_stopped() {
-            self.failures = self.failures.saturating_add(1);
+            self.failures.note(DeviceFault::Write);
             return Err(DeviceFault::Write);
         }
         self.store(at as usize, bytes);
         if self.power.stops_at_write(at) {
-            self.failures = self.failures.saturating_add(1);
+            self.failures.note(DeviceFault::Write);
             return Err(DeviceFault::Write);
         }
         Ok(())
@@ -219,18 +224,18 @@ impl Disk for SimDisk {
         ensures call { IsCall (view_of self.old) (view_of self.new) result (λ f. f ≡ DeviceFault.Sync) }
         ensures time { Elapses (view_of self.old) (view_of self.new) (view_of self.new).may_leave }
         ensures durable { OnOk result (IsSynced (view_of self.new)) }
-        ensures seen { Reads (view_of self.new) (view_of self.old).seen }
+        ensures seen { ReadsAs (view_of self.new) (view_of self.old).seen }
         ensures stop { LeavesOnly (view_of self.new) (view_of self.old).may_leave }
         ensures not_synced { OnErr result (LeavesEach (view_of self.new) (view_of self.old).may_leave) }
         ensures fails { IsErr result ↔ Fails syncing (power_of self.old) }
         ensures power { power_of self.new ≡ after syncing (power_of self.old) }
-        ensures settled { bytes_of self.new ≡ bytes_after_sync (power_of self.old) (bytes_of self.old) }
+        ensures synced { bytes_of self.new ≡ bytes_after_sync (power_of self.old) (bytes_of self.old) }
     {
         if self.power.is_stopped() {
-            self.failures = self.failures.saturating_add(1);
+            self.failures.note(DeviceFault::Sync);
             return Err(DeviceFault::Sync);
         }
-        self.settle();
+        self.sync_all();
         Ok(())
     }
 }

@@ -1,6 +1,6 @@
 // What a world is asked, and what it answers.
 use tmem_disk::{Fault, Name};
-use tmem_tree::{REGISTERS, Tx};
+use tmem_tree::{Settled, Tx};
 
 /// How many attempts a world holds, numbered from 0.
 pub const ATTEMPTS: usize = 16;
@@ -32,30 +32,13 @@ pub enum Reply {
     /// The slot holds the plan.
     Begun,
     /// The plan needed this variable, and read its present value.
-    Read {
-        var: u16,
-        value: i64,
-    },
+    Read { var: u16, value: i64 },
     /// The plan has ended.
     Ended,
     /// The slot is empty, or what it holds has not ended.
     Idle,
-    /// The transaction was accepted, as the one of this number, and ended with these registers.
-    Committed {
-        number: u64,
-        registers: [i64; REGISTERS],
-    },
-    /// The transaction changes nothing. It ended with these registers, after so many accepted ones.
-    Seen {
-        at: u64,
-        registers: [i64; REGISTERS],
-    },
-    /// The transaction asks to be run again once some value that it read has changed.
-    Retry,
-    /// The transaction gave up, with this code.
-    Aborted(u16),
-    /// This invariant would be false: the first in the table's order of those that are registered or checked.
-    Refused(Name),
+    /// The transaction was settled, and answered so.
+    Settled(Settled),
     /// So many accepted transactions are durable.
     Durable(u64),
     /// So many accepted transactions are known durable.

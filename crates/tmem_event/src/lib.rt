@@ -4,3 +4,4 @@
 mod event;
 
 pub use event::{ATTEMPTS, Event, Reply};
+pub use tmem_tree::Settled;

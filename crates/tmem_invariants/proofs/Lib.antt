@@ -1,3 +1,3 @@
+pub mod Laws
 pub mod Scans
-pub mod Sound
-pub mod Testing
+pub mod TouchedInvariants

@@ -2,13 +2,14 @@
 use Rattle.std.proofs.Common.{◌≡◌, ◌≢◌, ℕ, zero, suc, ◌+◌, ◌<◌, ◌≤◌, Bool, true, false, cond, not, ◌||◌, List, [], ◌∷◌, ◌++◌, length, map, get_or, All, take, slice_get, Some, None, find, Decides, refl, sym, ap, ◌∙◌, subst, arith}
 use Rattle.std.specs.List.{list_any}
 use Rattle.std.specs.Option.{option_map}
+use Rattle.std.proofs.lemmas.Bool.{or_parts}
 use Rattle.std.proofs.lemmas.Grind.{common_steps}
 use Rattle.std.proofs.lemmas.List.{take_more, get_or-take, length-map, length-take}
 use Rattle.std.proofs.lemmas.List.Elements.{All-push}
 use Rattle.std.proofs.lemmas.List.Folds.{list_any_more, list_any_at, Any-from_list_any}
 use Rattle.std.proofs.lemmas.List.Quantifiers.{all_pairs_push}
 use Rattle.std.proofs.lemmas.Option.{slice_get-map, slice_get-get_or, slice_get_within, get_or_from_slice_get}
-use Rattle.tmem_invariants.specs.Names.{AreDistinct}
+use Rattle.tmem_invariants.specs.TableNames.{AreDistinct}
 
 -- the element that was read at a place
 pub slice_get_read : {X : Type 0} (xs : List X) (i : ℕ) (x : X) → i < length xs → x ≡ get_or xs i x → slice_get xs i ≡ Some x
@@ -37,11 +38,6 @@ list_any_here p xs i x at passes =
 pub list_any_whole : {X : Type 0} (p : X → Bool) (xs : List X) (i : ℕ) → length xs ≤ i → list_any p (take i xs) ≡ false → list_any p xs ≡ false
 list_any_whole p xs i past none = let whole : take i xs ≡ xs = grind (arith, common_steps) in rw whole at none
 
--- neither of two
-pub or_false : (a b : Bool) → (a || b) ≡ false → (a ≡ false) × (b ≡ false)
-or_false true b none = absurd (cc)
-or_false false b none = (refl, none)
-
 -- the first is the one at a place, where none before it is
 pub find_here : {X : Type 0} (p : X → Bool) (xs : List X) (i : ℕ) (x : X) → slice_get xs i ≡ Some x → list_any p (take i xs) ≡ false → p x ≡ true → find p xs ≡ Some x
 find_here p [] i x at none passes = cc
@@ -49,13 +45,13 @@ find_here p (y ∷ ys) zero x at none passes =
     let same : y ≡ x = cc in
     ap (λ b. cond b (Some y) (find p ys)) (ap p same ∙ passes) ∙ ap Some same
 find_here p (y ∷ ys) (suc i) x at none passes =
-    let parts = or_false (p y) (list_any p (take i ys)) none in
+    let parts = or_parts (p y) (list_any p (take i ys)) none in
     ap (λ b. cond b (Some y) (find p ys)) parts.0 ∙ find_here p ys i x at parts.1 passes
 
 pub find_none : {X : Type 0} (p : X → Bool) (xs : List X) → list_any p xs ≡ false → find p xs ≡ None
 find_none p [] none = refl
 find_none p (y ∷ ys) none =
-    let parts = or_false (p y) (list_any p ys) none in
+    let parts = or_parts (p y) (list_any p ys) none in
     ap (λ b. cond b (Some y) (find p ys)) parts.0 ∙ find_none p ys parts.1
 
 -- the same, of the elements of a list by what a map shows of them

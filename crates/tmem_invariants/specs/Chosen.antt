@@ -9,7 +9,7 @@ use Rattle.std.proofs.Math.Nat.{not-suc-le-zero, suc-le-suc_iff, zero-lt-suc}
 use Rattle.std.proofs.Math.ListN.{get_or-map}
 use Rattle.tmem_invariants.specs.Answers.{Gives, HasMeaning, IsMeant}
 use Rattle.tmem_invariants.specs.Meanings.{Meanings}
-use Rattle.tmem_invariants.specs.Names.{AreDistinct}
+use Rattle.tmem_invariants.specs.TableNames.{AreDistinct}
 
 -- what a name means, and what any other name means by m
 abbrev pub meaning_also : List ℕ → List ℕ → (List ℤ → Bool) → Meanings → Meanings

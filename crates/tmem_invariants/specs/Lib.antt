@@ -1,4 +1,4 @@
 pub mod Answers
 pub mod Chosen
 pub mod Meanings
-pub mod Names
+pub mod TableNames

@@ -1,7 +1,7 @@
 -- What the names of invariants mean, and which of them a map of values breaks first.
 use Rattle.std.specs.Prelude.{◌≡◌, ℕ, ℤ, pos, Bool, false, not, ◌&&◌, ◌||◌, ◌==◌, List, map, filter, find, All, Option, slice_index_or, IsTrue}
 use Rattle.std.specs.List.{list_any}
-use Rattle.tmem_invariants.specs.Names.{has_name}
+use Rattle.tmem_invariants.specs.TableNames.{has_name}
 
 -- What each name means, in every table and every session: a footprint, and a yes or no for each list of its length.
 pub record Meanings : Type 0 where

@@ -3,7 +3,7 @@
 ghost use Rattle.std.specs.Prelude.{◌≡◌, ◌↔◌, ℕ, ◌≤◌, List, length, take, IsTrue, IsOk, IfOk, IfErr};
 ghost use Rattle.tmem_invariants.specs.Answers.{MayCall, HasMeaning, IsMeant};
 ghost use Rattle.tmem_invariants.specs.Meanings.{Meanings, fails, holds, touched, values_at};
-ghost use Rattle.tmem_invariants.specs.Names.{AreBelow, AreDistinct, IsFootprint, has_name};
+ghost use Rattle.tmem_invariants.specs.TableNames.{AreBelow, AreDistinct, IsFootprint, has_name};
 
 use crate::touched::is_touched;
 use tmem_disk::{Fault, Name};
@@ -94,11 +94,12 @@ impl Invariant {
             && !self.holds(values)
     }
 
-    // Whether it is registered, and a variable of its footprint is written.
+    // Whether it is registered, and a variable of its footprint is written: that is asked first, since names take longer to
+    // compare.
     fn is_touched_among(&self, registered: &[Name], written: &[(u16, i64)]) -> bool
         ensures { (m : Meanings) → ⟦<Invariant as Stated>⟧.is_stated self.now m → result ≡ has_name (touched m written.now registered.now) self.now.name }
     {
-        registered.contains(&self.name) && is_touched(&self.footprint, written)
+        is_touched(&self.footprint, written) && registered.contains(&self.name)
     }
 
     // Whether it is true of a map. The closure is handed the values of the footprint, and nothing else.

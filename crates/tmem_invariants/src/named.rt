@@ -2,7 +2,7 @@
 
 ghost use Rattle.std.specs.Prelude.{◌≡◌, ◌↔◌, ℕ, ℤ, ◌<◌, ◌≤◌, Some, List, length, slice_get, All, IsTrue, IsSome, IfSome};
 ghost use Rattle.tmem_invariants.specs.Meanings.{Meanings, AllHold, DifferInWritten, first_false, touched};
-ghost use Rattle.tmem_invariants.specs.Names.{AreDistinct, first_missing, has_name, name_at};
+ghost use Rattle.tmem_invariants.specs.TableNames.{AreDistinct, first_missing, has_name, name_at};
 
 use tmem_disk::Name;
 
@@ -11,7 +11,7 @@ pub const MAX_INVARIANTS: usize = 64;
 
 /// Invariants in order, known by their names. A map of values is a slice with an entry for each variable. No call takes
 /// memory.
-pub trait Tests {
+pub trait Invariants {
     /// The names, in the table's order.
     ghost names: { Self → List (List ℕ) };
 

@@ -3,10 +3,10 @@
 ghost use Rattle.std.specs.Prelude.{◌≡◌, ◌↔◌, ℕ, ◌<◌, ◌≤◌, List, length, map, All, slice_get, Some, IsTrue, IsSome, IfSome, IsOk, IfOk, Err};
 ghost use Rattle.tmem_invariants.specs.Answers.{IsMeant};
 ghost use Rattle.tmem_invariants.specs.Meanings.{Meanings, first_false, touched};
-ghost use Rattle.tmem_invariants.specs.Names.{AreBelow, AreTableNames, AreDistinct, has_name, name_at};
+ghost use Rattle.tmem_invariants.specs.TableNames.{AreBelow, AreTableNames, AreDistinct, has_name, name_at};
 
 use crate::invariant::{Invariant, Stated, Test};
-use crate::named::{MAX_INVARIANTS, Tests};
+use crate::named::{Invariants, MAX_INVARIANTS};
 use tmem_disk::{Fault, Name};
 
 /// Invariants in order, over some number of variables.
@@ -120,7 +120,7 @@ fn test_each_touched(
     None
 }
 
-impl Tests for Table {
+impl Invariants for Table {
     ghost names = { λ table. map (λ entry. entry.name) table.entries.items };
 
     ghost vars = { λ table. table.vars };

@@ -1,17 +1,18 @@
 -- What a content stands for while a record goes into slot 0.
 use Rattle.std.proofs.Common.{◌≡◌, ◌⊎◌, inl, inr, ⊎_elim, ℕ, ◌+◌, ◌≤◌, List, [], ◌∷◌, length, Option, Some, None, refl, sym, ◌∙◌, ap, subst, arith}
-use Rattle.std.specs.Prelude.{slice_get}
+use Rattle.std.specs.Prelude.{slice_get, slice_range}
 use Rattle.std.proofs.lemmas.Bool.{cases_eq}
-use Rattle.tmem_disk.specs.Disk.{DeviceView, IsDevice, LeavesOnly, AtEachMoment, Elapses, SameOutside, Rewritten}
+use Rattle.tmem_disk.specs.Disk.{DeviceView, IsDevice, overwritten, ReadsAs, SameSeenOutside, LeavesOnly, AtEachMoment, Elapses, SameOutside, Rewritten}
+use Rattle.tmem_disk.proofs.Laws.{SameOutside-trans, SameOutside-wider, slice_range-overwritten, Rewritten-wider, Rewritten-trans, AtEachMoment-more, AtEachMoment-trans, LeavesOnly-moment}
 use Rattle.tmem_gate.specs.Gate.{IsOpenAt, IsClosed, HasBody, IsClosedOver, IsOpenOver}
 use Rattle.tmem_record.specs.State.{State, apply}
 use Rattle.tmem_record.specs.declared.effect.Effect.{Effect}
 use Rattle.tmem_journal.specs.Layout.{image_place, slot_place}
 use Rattle.tmem_record.specs.Spelling.{batch_bytes}
-use Rattle.tmem_journal.specs.Spelling.{block_body, image_body}
+use Rattle.tmem_journal.specs.ImageSpelling.{block_body, image_body}
 use Rattle.tmem_journal.specs.Stands.{FollowsOn, Holds, HoldsLog, StandsFor, used_of, replayed}
 use Rattle.tmem_journal.specs.Calls.{StandsForEither}
-use Rattle.tmem_journal.proofs.Ranges.{get_before, get_after, range_before, range_after}
+use Rattle.tmem_journal.proofs.SlotRanges.{get_before, get_after, range_before, range_after}
 use Rattle.tmem_journal.proofs.Lengths.{length-block_body, length-image_body}
 
 -- a closed gate stays so where its byte stays
@@ -112,3 +113,30 @@ module _ (old mid new : DeviceView) (vars slots : ℕ) (s : State) (e : Effect) 
 
   pub once_open : IsDevice new → AtEachMoment mid new (Rewritten (slot_place vars 0) 1 mid) → LeavesOnly new (IsOpenOver (slot_place vars 0) bytes) → LeavesOnly new (StandsFor vars slots 1 (apply s e))
   once_open device_now during is_open = record { each = λ k c left. ⊎_elim (λ without. absurd ((unused without).slot_0.not_open (is_open.each k c left).gate)) (λ with. with) ((once_opened device_now during).each k c left) }
+
+-- the call that writes a body behind the gate of a slot, in that slot's 4096 bytes
+module _ (old mid : DeviceView) (at : ℕ) (bytes : List ℕ) (fits : length bytes ≤ 4095) where
+  pub gate_untouched : SameSeenOutside (at + 1) (length bytes) old mid → SameSeenOutside (at + 1) 4095 old mid
+  gate_untouched same = λ k. SameOutside-wider (at + 1) (length bytes) (at + 1) 4095 old.seen mid.seen (omega arith) (omega arith) (same k)
+
+  pub body_within : SameSeenOutside (at + 1) (length bytes) old mid → SameSeenOutside at 4096 old mid
+  body_within same = λ k. SameOutside-wider (at + 1) (length bytes) at 4096 old.seen mid.seen (omega arith) (omega arith) (same k)
+
+  pub body_during : AtEachMoment old mid (Rewritten (at + 1) (length bytes) old) → AtEachMoment old mid (Rewritten at 4096 old)
+  body_during during = AtEachMoment-more old mid (Rewritten (at + 1) (length bytes) old) (Rewritten at 4096 old) during (λ k c from. Rewritten-wider (at + 1) (length bytes) at 4096 old c (omega arith) (omega arith) from)
+
+  pub body_written : IsDevice old → (mid.keeps_model → old.keeps_model) → at + 1 + length bytes ≤ old.capacity → ReadsAs mid (overwritten old.seen (at + 1) bytes) → mid.keeps_model → HasBody at bytes mid.seen
+  body_written device model room reads k =
+      let within : at + 1 + length bytes ≤ length old.seen = omega (arith, room, device.seen_is_whole (model k)) in
+      ap (λ (l : List ℕ). slice_range l (at + 1) (at + 1 + length bytes)) (reads k) ∙ slice_range-overwritten old.seen (at + 1) bytes within
+
+  -- and the call that opens the gate then
+  module _ (new : DeviceView) (model : new.keeps_model → mid.keeps_model) where
+    pub gate_within : SameSeenOutside (at + 1) (length bytes) old mid → SameSeenOutside at 1 mid new → SameSeenOutside at 4096 old new
+    gate_within first second = λ k. SameOutside-trans at 4096 old.seen mid.seen new.seen (body_within first (model k)) (SameOutside-wider at 1 at 4096 mid.seen new.seen (omega arith) (omega arith) (second k))
+
+    pub gate_during : IsDevice mid → Elapses old mid (Rewritten (at + 1) (length bytes) old) → AtEachMoment old mid (Rewritten (at + 1) (length bytes) old) → Elapses mid new (Rewritten at 1 mid) → AtEachMoment old new (Rewritten at 4096 old)
+    gate_during device first during second =
+        let slot = body_during during in
+        AtEachMoment-trans old mid new (Rewritten at 4096 old) (Rewritten at 1 mid) model first.later slot second
+        (λ k c from. Rewritten-trans at 4096 old mid c (model k) (LeavesOnly-moment old mid (Rewritten at 4096 old) device first.later slot) (Rewritten-wider at 1 at 4096 mid c (omega arith) (omega arith) from))

@@ -6,13 +6,14 @@ use Rattle.std.proofs.lemmas.List.Elements.{All-head, All-tail}
 use Rattle.byteorder.specs.Endian.{little_bytes}
 use Rattle.byteorder.specs.Numbers.{length-bytes_low_first}
 use Rattle.tmem_disk.specs.Name.{IsName}
+use Rattle.tmem_record.specs.Loggable.{IsLoggable}
 use Rattle.tmem_record.specs.Names.{AreRegistered}
 use Rattle.tmem_record.specs.State.{State}
 use Rattle.tmem_record.specs.declared.effect.Effect.{Effect}
-use Rattle.tmem_record.specs.Spelling.{number_bytes, value_bytes, write_bytes, name_bytes, writes_bytes, names_bytes, record_bytes, batch_bytes, IsRecordOver}
-use Rattle.tmem_record.proofs.Delimiting.{length-number_bytes, length-value_bytes, length-write_bytes}
+use Rattle.tmem_record.specs.Spelling.{number_bytes, value_bytes, write_bytes, name_bytes, writes_bytes, names_bytes, record_bytes, batch_bytes}
+use Rattle.tmem_record.proofs.Laws.{length-number_bytes, length-value_bytes, length-write_bytes}
 use Rattle.tmem_journal.specs.Layout.{pages_of}
-use Rattle.tmem_journal.specs.Spelling.{block_body, names_body, pages_body, image_body}
+use Rattle.tmem_journal.specs.ImageSpelling.{block_body, names_body, pages_body, image_body}
 
 pub length-little_bytes : (n x : ℕ) → length (little_bytes n x) ≡ n
 length-little_bytes n x = length-bytes_low_first 0 n x
@@ -85,13 +86,13 @@ length-image_body vars generation s registered all =
     behind_8 : List ℕ
     behind_8 = number_bytes 8 s.count ++ behind_16
 
-length-record_bytes-le : (vars : ℕ) (e : Effect) → IsRecordOver vars e → length (record_bytes e) ≤ 778
+length-record_bytes-le : (vars : ℕ) (e : Effect) → IsLoggable vars e → length (record_bytes e) ≤ 778
 unfolding record_bytes writes_bytes
 length-record_bytes-le vars e is =
-    omega (arith, length-append (length e.writes ∷ flat_map write_bytes e.writes) (names_bytes e.names), length-flat write_bytes 10 length-write_bytes e.writes, length-names_bytes-le e.names is.names.names, is.writes.are_writes.few, is.names.few)
+    omega (arith, length-append (length e.writes ∷ flat_map write_bytes e.writes) (names_bytes e.names), length-flat write_bytes 10 length-write_bytes e.writes, length-names_bytes-le e.names is.effect.names.names, is.effect.writes.few, is.effect.names.few)
 
 -- a batch of one record fits a slot
-pub length-batch_bytes-le : (vars generation first : ℕ) (e : Effect) → IsRecordOver vars e → length (batch_bytes generation first (e ∷ [])) ≤ 4095
+pub length-batch_bytes-le : (vars generation first : ℕ) (e : Effect) → IsLoggable vars e → length (batch_bytes generation first (e ∷ [])) ≤ 4095
 unfolding batch_bytes
 length-batch_bytes-le vars generation first e is =
     omega (arith, length-append (number_bytes 8 generation) behind_8, length-append (number_bytes 8 first) behind_16, length-append (number_bytes 2 1) behind_18, length-append (record_bytes e) [], length-number_bytes 8 generation, length-number_bytes 8 first, length-number_bytes 2 1, length-record_bytes-le vars e is)

@@ -6,7 +6,7 @@ use Rattle.tmem_gate.specs.Gate.{IsOpenOver}
 use Rattle.tmem_record.specs.State.{State, apply}
 use Rattle.tmem_record.specs.declared.effect.Effect.{Effect}
 use Rattle.tmem_journal.specs.Layout.{image_place}
-use Rattle.tmem_journal.specs.Spelling.{block_body, image_body}
+use Rattle.tmem_journal.specs.ImageSpelling.{block_body, image_body}
 use Rattle.tmem_journal.specs.Stands.{Holds, StandsFor}
 use Rattle.tmem_journal.specs.Parts.{HoldsImage, HoldsSlots}
 use Rattle.tmem_journal.proofs.Lengths.{length-image_body}

@@ -7,14 +7,14 @@ use Rattle.tmem_disk.specs.declared.fault.Fault.{Fault}
 use Rattle.tmem_disk.specs.declared.fault.Fault.TheVariants.{Memory, Device, NotFormatted, Damaged, Geometry}
 use Rattle.tmem_gate.specs.Gate.{IsOpenAt, IsOpenOver}
 use Rattle.tmem_record.specs.State.{State}
-use Rattle.tmem_record.specs.Begins.{Begins}
+use Rattle.tmem_record.specs.Prefix.{IsPrefix}
 use Rattle.tmem_record.specs.Spelling.{number_bytes}
-use Rattle.tmem_record.proofs.Numbers.{number-spelled}
+use Rattle.tmem_record.proofs.Laws.{number-spelled}
 use Rattle.tmem_journal.specs.Layout.{IsLayout}
-use Rattle.tmem_journal.specs.Spelling.{block_body}
+use Rattle.tmem_journal.specs.ImageSpelling.{block_body}
 use Rattle.tmem_journal.specs.Stands.{StandsFor}
-use Rattle.tmem_journal.specs.Reading.{StandsAt}
-use Rattle.tmem_journal.specs.Refusals.{HasLetters, IsOfOthers, IsRefusedBy, IsWhy}
+use Rattle.tmem_journal.specs.StandsAt.{StandsAt}
+use Rattle.tmem_journal.specs.Refusals.{HasMagic, IsOfOthers, IsRefusedBy, IsWhy}
 use Rattle.tmem_journal.specs.Parts.{IsBlockFault, IsBlockBy, IsWhyPart, HoldsImage}
 use Rattle.tmem_journal.proofs.Lengths.{length-block_body}
 use Rattle.tmem_journal.proofs.Recovering.{one_body, image_of}
@@ -54,13 +54,13 @@ block_letters vars slots = refl
 
 -- what is read behind the gate of block 0
 module _ (c bytes : List ℕ) (gate : IsOpenAt 0 c) (read : bytes ≡ slice_range c 1 (1 + 511)) where
-  begins : (front : List ℕ) → length front ≤ 511 → Begins front bytes → IsOpenOver 0 front c
+  begins : (front : List ℕ) → length front ≤ 511 → IsPrefix front bytes → IsOpenOver 0 front c
   begins front short begin = record { gate = gate; body = sym (front_of c 0 0 511 front bytes refl read short) ∙ begin }
 
-  begun : (front : List ℕ) → length front ≤ 511 → IsOpenOver 0 front c → Begins front bytes
+  begun : (front : List ℕ) → length front ≤ 511 → IsOpenOver 0 front c → IsPrefix front bytes
   begun front short cell = front_of c 0 0 511 front bytes refl read short ∙ cell.body
 
-  whole : (vars slots : ℕ) → bytes ≡ block_body vars slots → IsOpenOver 0 (block_body vars slots) c
+  pub whole : (vars slots : ℕ) → bytes ≡ block_body vars slots → IsOpenOver 0 (block_body vars slots) c
   whole vars slots is = record { gate = gate; body = ap (λ (n : ℕ). slice_range c 1 (1 + n)) (length-block_body vars slots) ∙ sym read ∙ is }
 
   pub block_read : (vars slots : ℕ) → IsOpenOver 0 (block_body vars slots) c → bytes ≡ block_body vars slots
@@ -85,11 +85,11 @@ module _ (K : Type 0) (vars slots : ℕ) (c bytes : List ℕ) (gate : K → IsOp
   why_read (Err f) is = why_fault f is
 
 -- a gate that is closed has no letters behind it
-pub no_letters : (c : List ℕ) → ¬ IsOpenAt 0 c → ¬ HasLetters c
+pub no_letters : (c : List ℕ) → ¬ IsOpenAt 0 c → ¬ HasMagic c
 no_letters c closed cell = closed cell.gate
 
 -- an open block 0 has the letters
-pub letters_of : (vars slots : ℕ) (c : List ℕ) → IsOpenOver 0 (block_body vars slots) c → HasLetters c
+pub letters_of : (vars slots : ℕ) (c : List ℕ) → IsOpenOver 0 (block_body vars slots) c → HasMagic c
 letters_of vars slots c cell =
     let read : block_body vars slots ≡ slice_range c 1 (1 + 511) = sym cell.body ∙ ap (λ (n : ℕ). slice_range c 1 (1 + n)) (length-block_body vars slots) in
     begins c (block_body vars slots) cell.gate read (codes "TMEM") (omega arith) (block_letters vars slots)
@@ -104,11 +104,11 @@ of_no_others vars slots layout c cell other =
 
 module _ (vars slots : ℕ) (layout : IsLayout vars slots) (c : List ℕ) where
   -- a content that is refused stands for no state
-  pub refused_stands_for_none : (f : Fault) → IsRefusedBy vars slots c f → (used : ℕ) (s : State) → StandsFor vars slots used s c → ⊥
-  refused_stands_for_none NotFormatted is used s stands = is (letters_of vars slots c stands.holds.block)
-  refused_stands_for_none Geometry is used s stands = of_no_others vars slots layout c stands.holds.block is
-  refused_stands_for_none Damaged is used s stands = is.2 used s stands
-  refused_stands_for_none _ is used s stands = absurd is
+  pub none_where_refused : (f : Fault) → IsRefusedBy vars slots c f → (used : ℕ) (s : State) → StandsFor vars slots used s c → ⊥
+  none_where_refused NotFormatted is used s stands = is (letters_of vars slots c stands.holds.block)
+  none_where_refused Geometry is used s stands = of_no_others vars slots layout c stands.holds.block is
+  none_where_refused Damaged is used s stands = is.2 used s stands
+  none_where_refused _ is used s stands = absurd is
 
   by_block : (f : Fault) → IsBlockBy vars slots c f → IsRefusedBy vars slots c f
   by_block NotFormatted is = is

@@ -1,7 +1,7 @@
 -- Bytes that stand from a place on: in parts, and read as numbers.
-use Rattle.std.proofs.Common.{◌≡◌, ◌<◌, ◌≤◌, ◌+◌, ◌*◌, ◌-◌, ◌^◌, ℕ, ℤ, List, [], ◌∷◌, ◌++◌, length, take, drop, get_or, replicate, refl, sym, ◌∙◌, ap, subst, eqb, arith, length-append}
+use Rattle.std.proofs.Common.{◌≡◌, ◌<◌, ◌≤◌, ◌+◌, ◌*◌, ◌-◌, ◌^◌, ℕ, ℤ, List, [], ◌∷◌, ◌++◌, length, take, drop, replicate, refl, sym, ◌∙◌, ap, subst, eqb, arith, length-append}
 use Rattle.std.specs.Prelude.{slice_range}
-use Rattle.std.proofs.lemmas.List.{take-append-drop, take-take, drop-take, drop-drop, take_all, take_at, drop_at, length-take-le, length-drop, append-nil, length-replicate, get_or-drop, take_rest, drop_more}
+use Rattle.std.proofs.lemmas.List.{take-append-drop, take-take, drop-take, drop-drop, take_all, take_at, drop_at, length-take-le, length-drop, append-nil, length-replicate, get_or-drop, take_rest}
 use Rattle.std.specs.Int.{w64, cast_unsigned, cast_signed}
 use Rattle.std.specs.Prelude.{IsTrue}
 use Rattle.std.proofs.lemmas.Bool.{eqb-true, eq-eqb}
@@ -10,9 +10,8 @@ use Rattle.std.proofs.lemmas.Int.{of_z-to_z}
 use Rattle.byteorder.specs.Endian.{little_bytes, little_number}
 use Rattle.byteorder.specs.Numbers.{little_from-lt}
 use Rattle.tmem_record.specs.Spelling.{number_bytes, value_bytes}
-use Rattle.tmem_record.proofs.Numbers.{IsBytes, take-spelled, number-spelled}
-use Rattle.tmem_record.proofs.Delimiting.{length-number_bytes, length-value_bytes}
-use Rattle.tmem_journal.specs.Reading.{StandsAt, zero_bytes, values_bytes}
+use Rattle.tmem_record.proofs.Laws.{IsBytes, take-spelled, number-spelled, length-number_bytes, length-value_bytes}
+use Rattle.tmem_journal.specs.StandsAt.{StandsAt, zero_bytes, values_bytes}
 use Rattle.tmem_journal.proofs.Lengths.{length-little_bytes, length-flat}
 
 pub length-zero_bytes : (n : ℕ) → length (zero_bytes n) ≡ n
@@ -138,9 +137,3 @@ cut i j a rest bytes next stands = (first_part i a rest bytes stands, moved (i +
 
 pub glue : (i j : ℕ) (a rest bytes : List ℕ) → i + length a ≡ j → StandsAt i a bytes → StandsAt j rest bytes → StandsAt i (a ++ rest) bytes
 glue i j a rest bytes next first second = both_parts i a rest bytes first (moved j (i + length a) rest bytes (sym next) second)
-
--- the first byte, and what follows it
-pub first_and_rest : (bytes : List ℕ) → 1 ≤ length bytes → bytes ≡ get_or bytes 0 0 ∷ take (length bytes - 1) (drop 1 bytes)
-first_and_rest bytes some =
-    let below : 0 < length bytes = omega (arith, some) in
-    drop_more bytes 0 0 below ∙ ap (λ (l : List ℕ). get_or bytes 0 0 ∷ l) (sym (take_rest bytes 1))

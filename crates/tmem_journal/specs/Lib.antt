@@ -1,8 +1,10 @@
 pub mod Calls
+pub mod Formatted
+pub mod Laws
 pub mod Layout
 pub mod Looks
 pub mod Parts
-pub mod Reading
+pub mod StandsAt
 pub mod Refusals
-pub mod Spelling
+pub mod ImageSpelling
 pub mod Stands

@@ -1,12 +1,16 @@
--- What functions over a device say of it among themselves.
-use Rattle.std.specs.Prelude.{◌≡◌, ℕ, take, replicate}
-use Rattle.tmem_disk.specs.Disk.{DeviceView, Reads, LeavesOnly}
+-- What a call leaves alone.
+use Rattle.std.specs.Prelude.{ℕ}
+use Rattle.tmem_disk.specs.Disk.{DeviceView, ReadsAs, SameSeenOutside, LeavesOnly, AtEachMoment, Elapses, Rewritten}
 
 -- A read gives what it gave before, and a stop leaves no more than before.
 pub record LooksOnly (old new : DeviceView) : Type 0 where
-  pub seen : Reads new old.seen
+  pub seen : ReadsAs new old.seen
   pub stop : LeavesOnly new old.may_leave
 
--- a read gives zeros for so many bytes from the first on
-pub record BeginsZero (n : ℕ) (d : DeviceView) : Type 0 where
-  pub zeros : d.keeps_model → take n d.seen ≡ replicate n 0
+-- Nothing outside a range of n bytes is written. A read gives there what it gave before, and a stop at any moment of the
+-- call or after it leaves there what it might have left before.
+pub record WritesWithin (at n : ℕ) (old new : DeviceView) : Type 0 where
+  pub seen : SameSeenOutside at n old new
+  pub stop : LeavesOnly new (Rewritten at n old)
+  pub any_moment : AtEachMoment old new (Rewritten at n old)
+  pub time : Elapses old new (Rewritten at n old)

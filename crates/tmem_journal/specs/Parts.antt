@@ -5,11 +5,11 @@ use Rattle.tmem_disk.specs.declared.fault.Fault.TheVariants.{Memory, Device, Not
 use Rattle.tmem_gate.specs.Gate.{IsClosed, IsOpenOver}
 use Rattle.tmem_record.specs.State.{State}
 use Rattle.tmem_record.specs.declared.effect.Effect.{Effect}
-use Rattle.tmem_record.specs.Begins.{Begins}
+use Rattle.tmem_record.specs.Prefix.{IsPrefix}
 use Rattle.tmem_journal.specs.Layout.{IsLayout, image_place, slot_place}
-use Rattle.tmem_journal.specs.Spelling.{block_body, image_body, IsImage}
+use Rattle.tmem_journal.specs.ImageSpelling.{block_body, image_body, IsImage}
 use Rattle.tmem_journal.specs.Stands.{HoldsLog}
-use Rattle.tmem_journal.specs.Refusals.{HasLetters, IsOfOthers}
+use Rattle.tmem_journal.specs.Refusals.{HasMagic, IsOfOthers}
 
 -- these bytes are those of a block 0 of other numbers
 pub record SpellsOthers (vars slots : ℕ) (bytes : List ℕ) : Type 0 where
@@ -21,16 +21,16 @@ pub record SpellsOthers (vars slots : ℕ) (bytes : List ℕ) : Type 0 where
 
 -- what the bytes behind the gate of block 0 are refused by
 abbrev pub IsBlockFault : ℕ → ℕ → List ℕ → Fault → Type 0
-IsBlockFault vars slots bytes NotFormatted = ¬ Begins (codes "TMEM") bytes
+IsBlockFault vars slots bytes NotFormatted = ¬ IsPrefix (codes "TMEM") bytes
 IsBlockFault vars slots bytes Geometry = SpellsOthers vars slots bytes
-IsBlockFault vars slots bytes Damaged = Begins (codes "TMEM") bytes × ((v s : ℕ) → IsLayout v s → bytes ≡ block_body v s → ⊥)
+IsBlockFault vars slots bytes Damaged = IsPrefix (codes "TMEM") bytes × ((v s : ℕ) → IsLayout v s → bytes ≡ block_body v s → ⊥)
 IsBlockFault vars slots bytes _ = ⊥
 
 -- what block 0 of a content is refused by
 abbrev pub IsBlockBy : ℕ → ℕ → List ℕ → Fault → Type 0
-IsBlockBy vars slots c NotFormatted = ¬ HasLetters c
+IsBlockBy vars slots c NotFormatted = ¬ HasMagic c
 IsBlockBy vars slots c Geometry = IsOfOthers vars slots c
-IsBlockBy vars slots c Damaged = HasLetters c × ((v s : ℕ) → IsLayout v s → IsOpenOver 0 (block_body v s) c → ⊥)
+IsBlockBy vars slots c Damaged = HasMagic c × ((v s : ℕ) → IsLayout v s → IsOpenOver 0 (block_body v s) c → ⊥)
 IsBlockBy vars slots c _ = ⊥
 
 -- why an image or a log was not found: want of memory, a failed call of the device, or else damage

@@ -5,12 +5,12 @@ use Rattle.tmem_disk.specs.declared.fault.Fault.TheVariants.{Memory, Device, Not
 use Rattle.tmem_gate.specs.Gate.{IsOpenOver}
 use Rattle.tmem_record.specs.State.{State}
 use Rattle.tmem_journal.specs.Layout.{IsLayout}
-use Rattle.tmem_journal.specs.Spelling.{block_body}
+use Rattle.tmem_journal.specs.ImageSpelling.{block_body}
 use Rattle.tmem_journal.specs.Stands.{StandsFor}
 
--- block 0 is open, and begins with the letters
-abbrev pub HasLetters : List ℕ → Type 0
-HasLetters c = IsOpenOver 0 (codes "TMEM") c
+-- block 0 is open, and begins with the magic
+abbrev pub HasMagic : List ℕ → Type 0
+HasMagic c = IsOpenOver 0 (codes "TMEM") c
 
 -- block 0 is open over other numbers than these, which are within the limits too
 pub record IsOfOthers (vars slots : ℕ) (c : List ℕ) : Type 0 where
@@ -20,11 +20,11 @@ pub record IsOfOthers (vars slots : ℕ) (c : List ℕ) : Type 0 where
   pub block : IsOpenOver 0 (block_body their_vars their_slots) c
   pub others : ¬ ((their_vars ≡ vars) × (their_slots ≡ slots))
 
--- Which refusal a content that stands for no state has: it lacks the letters, or it is of other numbers, or else it is damaged.
+-- Which refusal a content that stands for no state has: it lacks the magic, or it is of other numbers, or else it is damaged.
 abbrev pub IsRefusedBy : ℕ → ℕ → List ℕ → Fault → Type 0
-IsRefusedBy vars slots c NotFormatted = ¬ HasLetters c
+IsRefusedBy vars slots c NotFormatted = ¬ HasMagic c
 IsRefusedBy vars slots c Geometry = IsOfOthers vars slots c
-IsRefusedBy vars slots c Damaged = HasLetters c × (¬ IsOfOthers vars slots c) × ((used : ℕ) (s : State) → StandsFor vars slots used s c → ⊥)
+IsRefusedBy vars slots c Damaged = HasMagic c × (¬ IsOfOthers vars slots c) × ((used : ℕ) (s : State) → StandsFor vars slots used s c → ⊥)
 IsRefusedBy vars slots c _ = ⊥
 
 -- Why a content was not opened: want of memory, a failed call of the device, or one of these three.

@@ -2,14 +2,15 @@
 use Rattle.std.specs.Prelude.{◌≡◌, ◌<◌, ◌≤◌, ℕ, ◌+◌, ◌^◌, List, [], ◌∷◌, length, Option, Some, None}
 use Rattle.tmem_gate.specs.Gate.{IsClosed, IsOpenOver}
 use Rattle.tmem_record.specs.State.{State, apply, with_names}
-use Rattle.tmem_record.specs.Spelling.{batch_bytes, IsRecordOver}
+use Rattle.tmem_record.specs.Loggable.{IsLoggable}
+use Rattle.tmem_record.specs.Spelling.{batch_bytes}
 use Rattle.tmem_record.specs.declared.effect.Effect.{Effect}
 use Rattle.tmem_journal.specs.Layout.{image_place, slot_place}
-use Rattle.tmem_journal.specs.Spelling.{block_body, image_body, IsImage}
+use Rattle.tmem_journal.specs.ImageSpelling.{block_body, image_body, IsImage}
 
 -- a record that may follow on an image: a greater count is left, and there is room for its names beside the image's
 pub record FollowsOn (vars : ℕ) (image : State) (e : Effect) : Type 0 where
-  pub is_record : IsRecordOver vars e
+  pub loggable : IsLoggable vars e
   pub countable : image.count + 1 < 2 ^ 64
   pub room : length (with_names image.names e.names) ≤ 64
 

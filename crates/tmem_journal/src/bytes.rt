@@ -1,13 +1,15 @@
 // Runs of bytes in a buffer.
-ghost use Rattle.std.specs.Prelude.{◌≡◌, ◌≤◌, ◌+◌, ◌↔◌, ◌∷◌, ◌++◌, length, take, drop, replicate, IsTrue, FitsSigned};
+ghost use Rattle.std.specs.Prelude.{◌≡◌, ◌<◌, ◌≤◌, ◌+◌, ◌↔◌, ◌++◌, length, take, drop, replicate, IsTrue, FitsSigned};
 ghost use Rattle.std.specs.Int.{w64};
+ghost use Rattle.tmem_gate.specs.Gate.{IsOpenAt};
 ghost use Rattle.tmem_record.specs.Spelling.{number_bytes, value_bytes};
-ghost use Rattle.tmem_journal.specs.Reading.{StandsAt, zero_bytes};
+ghost use Rattle.tmem_journal.specs.StandsAt.{StandsAt, zero_bytes};
 
 use byteorder::{ByteOrder, LittleEndian};
+use tmem_gate::GATE_OPEN;
 
 /// Writes over the bytes from a place on, and answers the place behind them.
-pub fn put(into: &mut [u8], at: usize, bytes: &[u8]) -> usize
+pub(crate) fn put(into: &mut [u8], at: usize, bytes: &[u8]) -> usize
     requires { at + length bytes.now ≤ length into.old }
     ensures next { result ≡ at + length bytes.now }
     ensures front { take result into.new ≡ take at into.old ++ bytes.now }
@@ -18,23 +20,23 @@ pub fn put(into: &mut [u8], at: usize, bytes: &[u8]) -> usize
     next
 }
 
-/// The first byte, and what follows it.
-pub fn first_byte(bytes: &[u8]) -> (u8, &[u8])
-    requires { 1 ≤ length bytes.now }
-    ensures { bytes.now ≡ result.0 ∷ result.1.now }
+/// Whether the gate at a place is open.
+pub(crate) fn is_open(bytes: &[u8], at: usize) -> bool
+    requires { at < length bytes.now }
+    ensures { IsTrue result ↔ IsOpenAt at bytes.now }
 {
-    (bytes[0], &bytes[1..])
+    bytes[at] == GATE_OPEN
 }
 
 /// Whether all of the bytes are 0.
-pub fn is_zero(bytes: &[u8]) -> bool
+pub(crate) fn is_zero(bytes: &[u8]) -> bool
     ensures { IsTrue result ↔ (bytes.now ≡ replicate (length bytes.now) 0) }
 {
     bytes.iter().all(|byte| *byte == 0)
 }
 
 /// Whether so many bytes from a place on are 0.
-pub fn is_blank(bytes: &[u8], from: usize, count: usize) -> bool
+pub(crate) fn is_blank(bytes: &[u8], from: usize, count: usize) -> bool
     requires { from + count ≤ length bytes.now }
     ensures { IsTrue result ↔ StandsAt from (zero_bytes count) bytes.now }
 {
@@ -42,7 +44,7 @@ pub fn is_blank(bytes: &[u8], from: usize, count: usize) -> bool
 }
 
 /// The number of 2 bytes from a place on.
-pub fn short_at(bytes: &[u8], at: usize) -> u16
+pub(crate) fn short_at(bytes: &[u8], at: usize) -> u16
     requires { at + 2 ≤ length bytes.now }
     ensures { StandsAt at (number_bytes 2 result) bytes.now }
 {
@@ -50,7 +52,7 @@ pub fn short_at(bytes: &[u8], at: usize) -> u16
 }
 
 /// The number of 8 bytes from a place on.
-pub fn number_at(bytes: &[u8], at: usize) -> u64
+pub(crate) fn number_at(bytes: &[u8], at: usize) -> u64
     requires { at + 8 ≤ length bytes.now }
     ensures { StandsAt at (number_bytes 8 result) bytes.now }
 {
@@ -58,7 +60,7 @@ pub fn number_at(bytes: &[u8], at: usize) -> u64
 }
 
 /// Whether this number of 8 bytes stands from a place on.
-pub fn is_number(bytes: &[u8], at: usize, number: u64) -> bool
+pub(crate) fn is_number(bytes: &[u8], at: usize, number: u64) -> bool
     requires { at + 8 ≤ length bytes.now }
     ensures { IsTrue result ↔ StandsAt at (number_bytes 8 number) bytes.now }
 {
@@ -66,7 +68,7 @@ pub fn is_number(bytes: &[u8], at: usize, number: u64) -> bool
 }
 
 /// The value from a place on.
-pub fn value_at(bytes: &[u8], at: usize) -> i64
+pub(crate) fn value_at(bytes: &[u8], at: usize) -> i64
     requires { at + 8 ≤ length bytes.now }
     ensures bytes { StandsAt at (value_bytes result) bytes.now }
     ensures fits { FitsSigned w64 result }

@@ -1,15 +1,14 @@
 // States, and their bytes in an image copy.
-ghost use Rattle.std.specs.Prelude.{◌≡◌, ◌≤◌, ◌<◌, ◌+◌, ◌*◌, ◌↔◌, ◌++◌, [], ℕ, List, length, IfOk, IfSome, IfNone, IsTrue};
+ghost use Rattle.std.specs.Prelude.{◌≡◌, ◌≤◌, ◌<◌, ◌+◌, ◌*◌, ◌↔◌, ℕ, List, length, IfOk, IfSome, IfNone, IsTrue};
 ghost use Rattle.tmem_record.specs.Names.{AreRegistered};
-ghost use Rattle.tmem_record.specs.Spelling.{names_bytes};
 ghost use Rattle.tmem_record.specs.State.{State as StateOf};
 ghost use Rattle.tmem_journal.specs.Layout.{image_size};
-ghost use Rattle.tmem_journal.specs.Spelling.{names_body, image_body, IsImage};
-ghost use Rattle.tmem_journal.specs.Reading.{StandsAt, AreValues, values_bytes, IsFramed};
+ghost use Rattle.tmem_journal.specs.ImageSpelling.{names_body, image_body, IsImage};
+ghost use Rattle.tmem_journal.specs.StandsAt.{StandsAt, AreValues, values_bytes, IsFramed};
 
-use crate::bytes::{first_byte, is_blank, is_number, is_zero, number_at, value_at};
+use crate::bytes::{is_blank, is_number, is_zero, number_at, value_at};
 use std::alloc::{AllocError, Global};
-use tmem_record::{MAX_NAMES, NameSet, State, read_name};
+use tmem_record::{NameSet, State, read_name_set};
 
 // An image's header without its gate.
 const HEADER_ROOM: usize = 2047;
@@ -28,32 +27,6 @@ fn is_framed(bytes: &[u8], vars: u16) -> bool
     is_first && has_no_rest
 }
 
-// The names, behind how many there are, and what follows them.
-fn names_of<'a>(bytes: &'a [u8], names: &mut NameSet) -> Option<&'a [u8]>
-    requires some { 1 ≤ length bytes.now }
-    requires none_yet { names.old ≡ [] }
-    ensures are_registered { IfSome result (λ rest. AreRegistered names.new) }
-    ensures found { IfSome result (λ rest. bytes.now ≡ names_bytes names.new ++ rest.now) }
-    ensures none { IfNone result ((ns : List (List ℕ)) (rest : List ℕ) → AreRegistered ns → bytes.now ≡ names_bytes ns ++ rest → ⊥) }
-{
-    let (count, behind) = first_byte(bytes);
-    if count as usize > MAX_NAMES {
-        return None;
-    }
-    let mut rest = behind;
-    for _ in 0..count {
-        let Some(name) = read_name(rest) else {
-            return None;
-        };
-        let taken = 1 + name.as_bytes().len();
-        if !names.push(&name) {
-            return None;
-        }
-        rest = &rest[taken..];
-    }
-    Some(rest)
-}
-
 // The names of an image, from their number on to the end of the header.
 fn read_names(alloc: Global, bytes: &[u8]) -> Result<Option<NameSet>, AllocError>
     requires { length bytes.now ≡ 2031 }
@@ -62,7 +35,7 @@ fn read_names(alloc: Global, bytes: &[u8]) -> Result<Option<NameSet>, AllocError
     ensures none { IfOk result (λ found. IfNone found ((ns : List (List ℕ)) → AreRegistered ns → bytes.now ≡ names_body ns → ⊥)) }
 {
     let mut names = NameSet::new(alloc)?;
-    let Some(rest) = names_of(bytes, &mut names) else {
+    let Some(rest) = read_name_set(bytes, &mut names) else {
         return Ok(None);
     };
     if !is_zero(rest) {
@@ -86,7 +59,11 @@ fn values_at(alloc: Global, bytes: &[u8], from: usize, count: u16) -> Result<Vec
 }
 
 /// Reads an image of generation 1, from all of the bytes behind its gate.
-pub fn read_image(alloc: Global, bytes: &[u8], vars: u16) -> Result<Option<State>, AllocError>
+pub(crate) fn read_image(
+    alloc: Global,
+    bytes: &[u8],
+    vars: u16,
+) -> Result<Option<State>, AllocError>
     requires { length bytes.now + 1 ≡ image_size vars }
     ensures fits { IfOk result (λ found. IfSome found (IsImage vars)) }
     ensures found { IfOk result (λ found. IfSome found (λ s. bytes.now ≡ image_body vars 1 s)) }

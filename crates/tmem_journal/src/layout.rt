@@ -5,13 +5,19 @@ ghost use Rattle.tmem_journal.specs.Layout.{IsLayout, pages_of, image_size, imag
 use tmem_disk::Fault;
 
 /// The greatest number of variables.
-pub const MOST_VARS: u16 = 1024;
+pub(crate) const MOST_VARS: u16 = 1024;
 
 /// The least number of log slots.
-pub const LEAST_SLOTS: u16 = 2;
+pub(crate) const LEAST_SLOTS: u16 = 2;
 
 /// The greatest number of log slots.
-pub const MOST_SLOTS: u16 = 64;
+pub(crate) const MOST_SLOTS: u16 = 64;
+
+/// How long block 0 is.
+pub(crate) const BLOCK_SIZE: usize = 512;
+
+/// How long a log slot is.
+pub(crate) const SLOT_SIZE: usize = 4096;
 
 /// How many variables and log slots a device has, within the limits. Places and sizes are in bytes.
 #[derive(Clone, Copy, Debug, PartialEq, Eq)]

@@ -1,19 +1,26 @@
-//! The state that a device stands for: how it is laid out, found and carried on by one record.
+//! The journal: which state the bytes of a device stand for.
 //!
-//! `Stands` in `specs/` says which content stands for which state. `format` makes a device that stands for nothing
-//! accepted, `recover` finds the state, and `append` carries it on: at each moment inside the call a stop leaves the state
-//! before or the one after. `layout` has the places, `block`, `image` and `record` the bytes there, over `bytes`; `calls`
-//! are those of the device, and `parts` reads what stands there.
+//! `Stands` in `specs/` says which content stands for which state. `format` writes an empty store, `recover` finds the
+//! state after a restart, and `append` logs one more record. A stop (a crash: a power cut or a kill) at any moment of
+//! `append` leaves the state before the record or the state after it.
+//!
+//! `layout` has the places of the parts; `block`, `image` and `record` read and write their bytes, over `bytes`; `calls`
+//! makes the calls of the device, and `parts` finds block 0, the image and the log. `laws` states what holds of every
+//! content.
 #![tactic(auto)]
 
 mod block;
 mod bytes;
 mod calls;
+mod formatting;
 mod image;
 mod journal;
+mod laws;
 mod layout;
 mod parts;
 mod record;
 
-pub use journal::{Found, LOG_SLOTS, append, format, recover};
+pub use formatting::format;
+pub use journal::{Found, LOG_SLOTS, append, recover};
+pub use laws::{refused_stands_for_none, stands_for_one};
 pub use layout::Layout;

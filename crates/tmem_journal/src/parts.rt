@@ -1,26 +1,27 @@
-// The parts of a device as they are found.
-ghost use Rattle.std.specs.Prelude.{◌≤◌, Option, IfOk, OnOk, IfErr, IfSome};
-ghost use Rattle.tmem_gate.specs.Gate.{IsOpenOver};
+// Reads the parts of a device: block 0, the image and the log, each by one read.
+ghost use Rattle.std.specs.Prelude.{◌≡◌, ◌<◌, ◌≤◌, ◌*◌, ◌↔◌, ℕ, length, Option, IsTrue, IfOk, OnOk, IfErr, IfSome};
+ghost use Rattle.tmem_gate.specs.Gate.{IsClosed, IsOpenOver};
 ghost use Rattle.tmem_record.specs.State.{State as StateOf};
 ghost use Rattle.tmem_record.specs.declared.effect.Effect.{Effect as EffectOf};
 ghost use Rattle.tmem_journal.specs.Layout.{end_place};
-ghost use Rattle.tmem_journal.specs.Spelling.{block_body, IsImage};
+ghost use Rattle.tmem_journal.specs.ImageSpelling.{block_body, IsImage};
 ghost use Rattle.tmem_journal.specs.Stands.{FollowsOn};
 ghost use Rattle.tmem_journal.specs.Calls.{Uses};
 ghost use Rattle.tmem_journal.specs.Refusals.{IsWhy};
 ghost use Rattle.tmem_journal.specs.Looks.{LooksOnly};
-ghost use Rattle.tmem_journal.specs.Parts.{IsBlockBy, IsWhyPart, HoldsImage, ClosedBehind, HoldsSlots};
+ghost use Rattle.tmem_journal.specs.Parts.{IsBlockBy, IsWhyPart, HoldsImage, HoldsSlots};
 
-use crate::block::{BLOCK_ROOM, read_block};
-use crate::calls::{is_open, read};
+use crate::block::read_block;
+use crate::bytes::is_open;
+use crate::calls::{read, read_piece};
 use crate::image::read_image;
-use crate::layout::Layout;
+use crate::layout::{BLOCK_SIZE, Layout, SLOT_SIZE};
 use crate::record::read_record;
 use std::alloc::Global;
 use tmem_disk::{Disk, Fault};
-use tmem_record::{BATCH_ROOM, Effect, State};
+use tmem_record::{Effect, State};
 
-// Whether block 0 is that of this layout.
+// Checks that block 0 is open, and of this layout.
 pub(crate) fn found_block<D: Disk>(disk: &mut D, layout: Layout) -> Result<(), Fault>
     requires { end_place layout.vars layout.slots ≤ (D.view disk.old).capacity }
     ensures uses { Uses (D.view disk.old) (D.view disk.new) result }
@@ -28,15 +29,15 @@ pub(crate) fn found_block<D: Disk>(disk: &mut D, layout: Layout) -> Result<(), F
     ensures found { (D.view disk.new).keeps_model → OnOk result (IsOpenOver 0 (block_body layout.vars layout.slots) (D.view disk.old).seen) }
     ensures refused { IfErr result (IsWhy (λ f. (D.view disk.new).keeps_model → IsBlockBy layout.vars layout.slots (D.view disk.old).seen f)) }
 {
-    if !is_open(disk, 0)? {
+    let mut block = [0; BLOCK_SIZE];
+    read(disk, 0, &mut block)?;
+    if !is_open(&block, 0) {
         return Err(Fault::NotFormatted);
     }
-    let mut block = [0; BLOCK_ROOM];
-    read(disk, 1, &mut block)?;
-    read_block(&block, layout)
+    read_block(&block[1..], layout)
 }
 
-// The state of image copy 0, while copy 1 is closed.
+// Reads the state of image copy 0, and the gate of copy 1 behind it, which has to be closed.
 pub(crate) fn found_image<D: Disk>(
     alloc: Global,
     disk: &mut D,
@@ -49,31 +50,28 @@ pub(crate) fn found_image<D: Disk>(
     ensures found { (D.view disk.new).keeps_model → IfOk result (λ s. HoldsImage layout.vars s (D.view disk.old).seen) }
     ensures refused { IfErr result (IsWhyPart ((D.view disk.new).keeps_model → (s : StateOf) → HoldsImage layout.vars s (D.view disk.old).seen → ⊥)) }
 {
-    if is_open(disk, layout.image(1))? || !is_open(disk, layout.image(0))? {
+    let size = layout.image_size() as usize;
+    let bytes = read_piece(alloc, disk, layout.image(0), size + 1)?;
+    if is_open(&bytes, size) || !is_open(&bytes, 0) {
         return Err(Fault::Damaged);
     }
-    let mut body = vec![in alloc; 0; layout.image_size() as usize - 1]?;
-    read(disk, layout.image(0) + 1, &mut body)?;
-    read_image(alloc, &body, layout.vars)?.ok_or(Fault::Damaged)
+    read_image(alloc, &bytes[1..size], layout.vars)?.ok_or(Fault::Damaged)
 }
 
-// Whether each slot behind slot 0 is closed.
-fn closed_behind<D: Disk>(disk: &mut D, layout: Layout) -> Result<(), Fault>
-    requires { end_place layout.vars layout.slots ≤ (D.view disk.old).capacity }
-    ensures uses { Uses (D.view disk.old) (D.view disk.new) result }
-    ensures looks { LooksOnly (D.view disk.old) (D.view disk.new) }
-    ensures found { (D.view disk.new).keeps_model → OnOk result (ClosedBehind layout.vars layout.slots (D.view disk.old).seen) }
-    ensures refused { IfErr result (IsWhyPart ((D.view disk.new).keeps_model → ClosedBehind layout.vars layout.slots (D.view disk.old).seen → ⊥)) }
+// Whether each slot behind slot 0 is closed, in the bytes of all slots.
+fn are_closed_behind(log: &[u8], slots: u16) -> bool
+    requires { length log.now ≡ 4096 * slots }
+    ensures { IsTrue result ↔ ((k : ℕ) → 1 ≤ k → k < slots → IsClosed (4096 * k) log.now) }
 {
-    for k in 1..layout.slots {
-        if is_open(disk, layout.slot(k))? {
-            return Err(Fault::Damaged);
+    for k in 1..slots {
+        if is_open(log, SLOT_SIZE * k as usize) {
+            return false;
         }
     }
-    Ok(())
+    true
 }
 
-// The record in slot 0, if that is open, which follows on the image. The slots behind it are closed.
+// Reads the record of slot 0, where that is open: it has to follow on the image. Every other slot has to be closed.
 pub(crate) fn found_log<D: Disk>(
     alloc: Global,
     disk: &mut D,
@@ -87,13 +85,15 @@ pub(crate) fn found_log<D: Disk>(
     ensures found { (D.view disk.new).keeps_model → IfOk result (λ log. HoldsSlots layout.vars layout.slots image.now log (D.view disk.old).seen) }
     ensures refused { IfErr result (IsWhyPart ((D.view disk.new).keeps_model → (log : Option EffectOf) → HoldsSlots layout.vars layout.slots image.now log (D.view disk.old).seen → ⊥)) }
 {
-    closed_behind(disk, layout)?;
-    if !is_open(disk, layout.slot(0))? {
+    let len = SLOT_SIZE * layout.slots as usize;
+    let log = read_piece(alloc, disk, layout.slot(0), len)?;
+    if !are_closed_behind(&log, layout.slots) {
+        return Err(Fault::Damaged);
+    }
+    if !is_open(&log, 0) {
         return Ok(None);
     }
-    let mut body = [0; BATCH_ROOM];
-    read(disk, layout.slot(0) + 1, &mut body)?;
-    match read_record(alloc, &body, layout.vars, image)? {
+    match read_record(alloc, &log[1..SLOT_SIZE], layout.vars, image)? {
         Some(effect) => Ok(Some(effect)),
         None => Err(Fault::Damaged),
     }

@@ -1,7 +1,7 @@
 // The record of a log slot, as it follows on an image.
 ghost use Rattle.std.specs.Prelude.{◌≡◌, [], ◌∷◌, IfOk, IfErr, IfSome, IfNone};
 ghost use Rattle.tmem_record.specs.declared.effect.Effect.{Effect as EffectOf};
-ghost use Rattle.tmem_record.specs.Begins.{Begins};
+ghost use Rattle.tmem_record.specs.Prefix.{IsPrefix};
 ghost use Rattle.tmem_record.specs.Spelling.{batch_bytes};
 ghost use Rattle.tmem_journal.specs.Stands.{FollowsOn};
 
@@ -9,17 +9,18 @@ use std::alloc::Global;
 use tmem_disk::Fault;
 use tmem_record::{Effect, State, decode_batch};
 
-/// Reads the record that follows on an image: the only one of the batch of generation 1 at the front of the bytes,
-/// numbered by the image's count, with names for which there is room. Refused for want of memory alone.
-pub fn read_record(
+/// Reads the record that follows on an image. The bytes begin with a batch of generation 1 that has this one record; its
+/// number is the image's count, and there is room for its names. `None` where they do not; refused for want of memory
+/// alone.
+pub(crate) fn read_record(
     alloc: Global,
     bytes: &[u8],
     vars: u16,
     image: &State,
 ) -> Result<Option<Effect>, Fault>
     ensures follows { IfOk result (λ found. IfSome found (FollowsOn vars image.now)) }
-    ensures found { IfOk result (λ found. IfSome found (λ e. Begins (batch_bytes 1 image.now.count (e ∷ [])) bytes.now)) }
-    ensures none { IfOk result (λ found. IfNone found ((e : EffectOf) → FollowsOn vars image.now e → Begins (batch_bytes 1 image.now.count (e ∷ [])) bytes.now → ⊥)) }
+    ensures found { IfOk result (λ found. IfSome found (λ e. IsPrefix (batch_bytes 1 image.now.count (e ∷ [])) bytes.now)) }
+    ensures none { IfOk result (λ found. IfNone found ((e : EffectOf) → FollowsOn vars image.now e → IsPrefix (batch_bytes 1 image.now.count (e ∷ [])) bytes.now → ⊥)) }
     ensures refused { IfErr result (λ fault. fault ≡ Fault.Memory) }
 {
     if image.count() == u64::MAX {
@@ -35,5 +36,5 @@ pub fn read_record(
     if !image.has_room_for(effect.names.as_slice()) {
         return Ok(None);
     }
-    Ok(Some(effect.copy(alloc)?))
+    Ok(Some(effect.copy()))
 }

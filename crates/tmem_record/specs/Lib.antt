@@ -1,6 +1,6 @@
-pub mod Accepted
+pub mod Loggable
 pub mod Batch
-pub mod Begins
+pub mod Prefix
 pub mod Names
 pub mod Spelling
 pub mod State

@@ -1,14 +1,18 @@
--- What a transaction changes, and the state that accepted transactions make.
-use Rattle.std.specs.Prelude.{◌≡◌, ℕ, ◌+◌, ◌<◌, ℤ, pos, List, [], ◌∷◌, replicate, slice_set, All}
+-- What a transaction changes, and the state that the accepted transactions make.
+use Rattle.std.specs.Prelude.{ℕ, ◌+◌, ◌<◌, ◌==◌, ℤ, pos, Bool, ◌&&◌, List, [], ◌∷◌, length, replicate, slice_set, All}
 use Rattle.std.proofs.Props.{props}
 pub use Rattle.tmem_record.specs.declared.effect.Effect.{Effect}
 pub use Rattle.tmem_record.specs.Writes.{variables, look, with_write, AreWrites}
 pub use Rattle.tmem_record.specs.Names.{has_name, with_name, is_before, at_its_place, insert_name, with_names, AreAscending, AreChecks, AreRegistered}
 pub use Rattle.tmem_disk.specs.Distinct.{AreDistinct}
 
--- nothing is changed
+-- the effect that changes nothing
 abbrev pub no_effect : Effect
 no_effect = record { writes = []; names = [] }
+
+-- whether an effect changes nothing
+abbrev pub is_empty : Effect → Bool
+is_empty e = (length e.writes == 0) && (length e.names == 0)
 
 -- how many transactions were accepted, the registered names, strictly ascending, and the value of each variable
 pub record State : Type 0 where
@@ -16,7 +20,7 @@ pub record State : Type 0 where
   pub names : List (List ℕ)
   pub values : List ℤ
 
--- where a store begins: nothing accepted, no name, and each variable 0
+-- the state of a new store: nothing accepted, no name, and each variable 0
 abbrev pub first_state : ℕ → State
 first_state vars = record { count = 0; names = []; values = replicate vars (pos 0) }
 
@@ -38,20 +42,13 @@ abbrev pub fold : State → List Effect → State
 fold s [] = s
 fold s (e ∷ es) = fold (apply s e) es
 
--- an effect over so many variables: at most 64 writes, no variable twice, and at most 8 names, none twice
+-- an effect over so many variables: at most 64 writes, no variable twice and values of 64 bits, and at most 8 names, none
+-- twice
 pub record IsEffect (vars : ℕ) (e : Effect) : Type 0 where
   pub writes : AreWrites e.writes
   pub within : All (λ (w : ℕ × ℤ). w.0 < vars) e.writes
   pub names : AreChecks e.names
 
--- an effect that changes nothing
-pub record IsEmptyEffect (e : Effect) : Type 0 where
-  pub writes : e.writes ≡ []
-  pub names : e.names ≡ []
-
--- that an effect is one, and that it is empty, are facts: each has one proof at most
+-- that an effect is one is a fact: it has one proof at most
 pub IsEffect-prop : (vars : ℕ) (e : Effect) → IsProp (IsEffect vars e)
 IsEffect-prop vars e = hlevel props
-
-pub IsEmptyEffect-prop : (e : Effect) → IsProp (IsEmptyEffect e)
-IsEmptyEffect-prop e = hlevel props

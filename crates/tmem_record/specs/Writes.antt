@@ -1,5 +1,6 @@
 -- The writes of a transaction, each a variable and the value that it takes.
-use Rattle.std.specs.Prelude.{ℕ, ℤ, ◌≤◌, List, [], ◌∷◌, length, map, Option, nat_eq, if◌then◌else◌}
+use Rattle.std.specs.Prelude.{ℕ, ℤ, ◌≤◌, List, [], ◌∷◌, length, map, Option, nat_eq, All, FitsSigned, if◌then◌else◌}
+use Rattle.std.specs.Int.{w64}
 use Rattle.std.specs.Map.{lookup}
 use Rattle.std.proofs.Props.{props}
 use Rattle.tmem_disk.specs.Distinct.{AreDistinct}
@@ -17,10 +18,11 @@ abbrev pub with_write : List (ℕ × ℤ) → ℕ → ℤ → List (ℕ × ℤ)
 with_write [] var value = (var, value) ∷ []
 with_write (w ∷ ws) var value = if nat_eq var w.0 then (var, value) ∷ ws else w ∷ with_write ws var value
 
--- at most 64 writes, and no variable twice
+-- at most 64 writes, no variable twice, and values of 64 bits
 pub record AreWrites (ws : List (ℕ × ℤ)) : Type 0 where
   pub few : length ws ≤ 64
   pub distinct : AreDistinct (variables ws)
+  pub fits : All (λ (w : ℕ × ℤ). FitsSigned w64 w.1) ws
 
 -- that is a fact: it has one proof at most
 pub AreWrites-prop : (ws : List (ℕ × ℤ)) → IsProp (AreWrites ws)

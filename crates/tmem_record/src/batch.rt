@@ -1,7 +1,7 @@
 // A list of effects that fits one slot of the log.
-ghost use Rattle.std.specs.Prelude.{◌≡◌, ◌≤◌, ◌<◌, ◌+◌, ◌*◌, ◌↔◌, [], ◌∷◌, ◌++◌, length, sum_by, IsTrue, IfOk};
+ghost use Rattle.std.specs.Prelude.{◌≡◌, ◌≤◌, ◌<◌, ◌+◌, ◌*◌, ◌↔◌, ℕ, [], ◌∷◌, ◌++◌, length, sum_by, false, All, IsTrue, IfOk};
 ghost use Rattle.std.specs.Bool.{OnTrue, OnFalse};
-ghost use Rattle.tmem_record.specs.State.{IsEmptyEffect, AreWrites, AreChecks};
+ghost use Rattle.tmem_record.specs.State.{AreWrites, AreChecks, is_empty};
 ghost use Rattle.tmem_record.specs.declared.names.TheConstants.{MAX_CHECKS};
 ghost use Rattle.tmem_record.specs.Batch.{record_length, records_length, IsBatch};
 
@@ -73,7 +73,9 @@ impl Batch {
     /// Its records in order.
     pub fn effects(&self) -> &[Effect]
         ensures effects { result.now ≡ self.now }
-        ensures is_batch { IsBatch self.now }
+        ensures few { length self.now ≤ MAX_RECORDS }
+        ensures fits { records_length self.now ≤ BATCH_BYTES }
+        ensures is_batch { (vars : ℕ) → 1 ≤ length self.now → All (λ e. All (λ w. w.0 < vars) e.writes) self.now → IsBatch vars self.now }
     {
         &self.effects[..self.len]
     }
@@ -89,7 +91,7 @@ impl Batch {
     /// Puts a record last. Where there are 64 records already, or its bytes do not fit, nothing changes and the answer
     /// is false.
     pub fn push(&mut self, effect: &Effect) -> bool
-        requires { ¬ IsEmptyEffect effect.now }
+        requires { is_empty effect.now ≡ false }
         ensures fits { IsTrue result
             ↔ ((length self.old < MAX_RECORDS)
             × (records_length self.old + record_length effect.now ≤ BATCH_BYTES)) }
@@ -114,10 +116,9 @@ impl Batch {
 fn spare(alloc: Global) -> Result<Vec<Effect>, AllocError>
     ensures { IfOk result (λ effects. length effects.items ≡ MAX_RECORDS) }
 {
-    let mut effects = Vec::new(alloc);
+    let mut effects = Vec::with_capacity(alloc, MAX_RECORDS)?;
     for _ in 0..MAX_RECORDS {
-        let effect = Effect::new(alloc)?;
-        effects.push(effect)?;
+        effects.push(Effect::new()).unwrap();
     }
     Ok(effects)
 }

@@ -1,31 +1,33 @@
-// A batch as bytes, and back.
-ghost use Rattle.std.specs.Prelude.{◌≡◌, ◌≤◌, ◌<◌, ◌+◌, ◌*◌, ◌^◌, [], ◌∷◌, ◌++◌, ℕ, ℤ, length, take, drop, flat_map, sum_by, All, IfOk, IfErr, IfSome, IfNone, IsSome, List, FitsSigned};
+// Batches and names as bytes: how they are written and read.
+ghost use Rattle.std.specs.Prelude.{◌≡◌, ◌≤◌, ◌<◌, ◌+◌, ◌*◌, ◌^◌, [], ◌∷◌, ◌++◌, ℕ, ℤ, length, take, drop, flat_map, sum_by, All, IfOk, IfErr, IfSome, IfNone, List, FitsSigned};
 ghost use Rattle.std.specs.Int.{w64};
 ghost use Rattle.tmem_disk.specs.Name.{IsName};
 ghost use Rattle.tmem_record.specs.declared.effect.Effect.{Effect as EffectOf};
-ghost use Rattle.tmem_record.specs.State.{AreChecks};
-ghost use Rattle.tmem_record.specs.Begins.{Begins};
-ghost use Rattle.tmem_record.specs.Batch.{record_length, records_length};
-ghost use Rattle.tmem_record.specs.Spelling.{number_bytes, value_bytes, write_bytes, name_bytes, writes_bytes, names_bytes, record_bytes, batch_bytes, HasValues, IsWriteOver, AreWritesOver, IsRecordOver, FitTogether, IsBatchOver, SpellsBatch, OneSpelling};
+ghost use Rattle.tmem_record.specs.State.{AreWrites, AreChecks, AreRegistered};
+ghost use Rattle.tmem_record.specs.Loggable.{IsLoggable};
+ghost use Rattle.tmem_record.specs.Prefix.{IsPrefix};
+ghost use Rattle.tmem_record.specs.Batch.{record_length, records_length, IsBatch};
+ghost use Rattle.tmem_record.specs.Spelling.{number_bytes, value_bytes, write_bytes, name_bytes, writes_bytes, names_bytes, record_bytes, batch_bytes, SpellsBatch, OneSpelling};
 
 use crate::batch::{Batch, MAX_RECORDS};
 use crate::effect::Effect;
+use crate::name_set::{MAX_NAMES, NameSet};
 use crate::names::{MAX_CHECKS, Names};
 use crate::writes::{MAX_WRITES, Writes};
 use byteorder::{ByteOrder, LittleEndian};
 use std::alloc::Global;
 use tmem_disk::{Fault, Name};
 
-/// How many bytes a batch may have: those of a slot of the log behind its gate.
+/// How many bytes a batch may have: as many as a log slot has behind its gate.
 pub const BATCH_ROOM: usize = 4095;
 
-/// How many bytes the longest name has, behind its length.
+/// How many bytes the longest name takes: its length, and 16 letters.
 pub const NAME_ROOM: usize = 17;
 
-/// How many bytes stand between the gate of a slot and its records.
+/// How many bytes stand between the gate of a log slot and its records.
 pub const HEAD_BYTES: usize = 18;
 
-// How many bytes a write has.
+// How many bytes a write takes.
 const WRITE_BYTES: usize = 10;
 
 /// A batch that was read.
@@ -41,7 +43,7 @@ pub struct Decoded {
     pub length: usize,
 }
 
-// Writes these over the bytes from a place on, and answers the place behind them.
+// Copies bytes to a place in the buffer, and returns the place behind them.
 fn put(into: &mut [u8], at: usize, bytes: &[u8]) -> usize
     requires { at + length bytes.now ≤ length into.old }
     ensures next { result ≡ at + length bytes.now }
@@ -53,12 +55,11 @@ fn put(into: &mut [u8], at: usize, bytes: &[u8]) -> usize
     next
 }
 
-// Writes each of the writes from a place on, and answers the place behind them.
+// Spells writes from a place on, and returns the place behind them.
 fn put_writes(into: &mut [u8], start: usize, writes: &[(u16, i64)]) -> usize
     requires { start + 10 * length writes.now ≤ length into.old }
     ensures next { result ≡ start + 10 * length writes.now }
     ensures front { take result into.new ≡ take start into.old ++ flat_map write_bytes writes.now }
-    ensures values { HasValues writes.now }
 {
     let mut at = start;
     for write in writes {
@@ -68,7 +69,7 @@ fn put_writes(into: &mut [u8], start: usize, writes: &[(u16, i64)]) -> usize
     at
 }
 
-// The same of names, each behind its length.
+// Spells names from a place on, each behind its length, and returns the place behind them.
 fn put_names(into: &mut [u8], start: usize, names: &[Name]) -> usize
     requires { start + sum_by (λ n. 1 + length n) names.now ≤ length into.old }
     ensures next { result ≡ start + sum_by (λ n. 1 + length n) names.now }
@@ -83,7 +84,7 @@ fn put_names(into: &mut [u8], start: usize, names: &[Name]) -> usize
     at
 }
 
-/// Spells a name at the front of a buffer, and answers how many bytes it has. What stands behind them stays.
+/// Writes the bytes of a name to the front of a buffer, and returns how many there are. The rest of the buffer stays.
 pub fn write_name(name: &Name, into: &mut [u8]) -> usize
     requires { NAME_ROOM ≤ length into.old }
     ensures next { result ≡ 1 + length name.now }
@@ -95,12 +96,11 @@ pub fn write_name(name: &Name, into: &mut [u8]) -> usize
     put(into, at, letters)
 }
 
-// The same of one record.
+// Spells a record from a place on, and returns the place behind it.
 fn put_record(into: &mut [u8], start: usize, effect: &Effect) -> usize
     requires { start + record_length effect.now ≤ length into.old }
     ensures next { result ≡ start + record_length effect.now }
     ensures front { take result into.new ≡ take start into.old ++ record_bytes effect.now }
-    ensures values { HasValues effect.now.writes }
 {
     let writes = effect.writes.as_slice();
     let names = effect.names.as_slice();
@@ -110,12 +110,11 @@ fn put_record(into: &mut [u8], start: usize, effect: &Effect) -> usize
     put_names(into, at, names)
 }
 
-// The same of records.
+// Spells records from a place on, one after another, and returns the place behind them.
 fn put_records(into: &mut [u8], start: usize, effects: &[Effect]) -> usize
     requires { start + records_length effects.now ≤ length into.old }
     ensures next { result ≡ start + records_length effects.now }
     ensures front { take result into.new ≡ take start into.old ++ flat_map record_bytes effects.now }
-    ensures values { All (λ e. HasValues e.writes) effects.now }
 {
     let mut at = start;
     for effect in effects {
@@ -124,13 +123,12 @@ fn put_records(into: &mut [u8], start: usize, effects: &[Effect]) -> usize
     at
 }
 
-/// Spells a batch at the front of a buffer, and answers how many bytes it has.
+/// Writes the bytes of a batch to the front of a buffer, and returns how many there are.
 pub fn encode_batch(batch: &Batch, generation: u64, first: u64, into: &mut [u8]) -> usize
     requires some { 1 ≤ length batch.now }
     requires room { BATCH_ROOM ≤ length into.old }
     ensures room { result ≤ BATCH_ROOM }
     ensures bytes { take result into.new ≡ batch_bytes generation first batch.now }
-    ensures values { All (λ e. HasValues e.writes) batch.now }
     ensures spells { (vars : ℕ) → All (λ e. All (λ w. w.0 < vars) e.writes) batch.now → SpellsBatch vars generation first batch.now (take result into.new) }
 {
     let effects = batch.effects();
@@ -179,11 +177,12 @@ fn value_of(bytes: &[u8]) -> (i64, &[u8])
     (LittleEndian::read_i64(bytes), &bytes[8..])
 }
 
-// The write at the front, of a variable that exists, and what follows it.
+// The write at the front, of one of so many variables, and what follows it.
 fn write_of(bytes: &[u8], vars: u16) -> Option<((u16, i64), &[u8])>
-    ensures is_write { IfSome result (λ found. IsWriteOver vars found.0) }
+    ensures within { IfSome result (λ found. found.0.0 < vars) }
+    ensures fits { IfSome result (λ found. FitsSigned w64 found.0.1) }
     ensures found { IfSome result (λ found. bytes.now ≡ write_bytes found.0 ++ found.1.now) }
-    ensures none { IfNone result ((w : ℕ × ℤ) (rest : List ℕ) → IsWriteOver vars w → bytes.now ≡ write_bytes w ++ rest → ⊥) }
+    ensures none { IfNone result ((w : ℕ × ℤ) (rest : List ℕ) → w.0 < vars → FitsSigned w64 w.1 → bytes.now ≡ write_bytes w ++ rest → ⊥) }
 {
     if bytes.len() < WRITE_BYTES {
         return None;
@@ -199,9 +198,10 @@ fn write_of(bytes: &[u8], vars: u16) -> Option<((u16, i64), &[u8])>
 // The writes of a record, behind how many there are, and what follows them.
 fn writes_of<'a>(bytes: &'a [u8], vars: u16, writes: &mut Writes) -> Option<&'a [u8]>
     requires { writes.old ≡ [] }
-    ensures are_writes { IfSome result (λ rest. AreWritesOver vars writes.new) }
+    ensures are_writes { IfSome result (λ rest. AreWrites writes.new) }
+    ensures within { IfSome result (λ rest. All (λ w. w.0 < vars) writes.new) }
     ensures found { IfSome result (λ rest. bytes.now ≡ writes_bytes writes.new ++ rest.now) }
-    ensures none { IfNone result ((ws : List (ℕ × ℤ)) (rest : List ℕ) → AreWritesOver vars ws → bytes.now ≡ writes_bytes ws ++ rest → ⊥) }
+    ensures none { IfNone result ((ws : List (ℕ × ℤ)) (rest : List ℕ) → AreWrites ws → All (λ w. w.0 < vars) ws → bytes.now ≡ writes_bytes ws ++ rest → ⊥) }
 {
     let (count, behind) = byte_of(bytes)?;
     if count as usize > MAX_WRITES {
@@ -239,15 +239,40 @@ fn name_of(bytes: &[u8]) -> Option<(Name, &[u8])>
     Some((name, rest))
 }
 
-/// The name that a beginning of the bytes spells, or nothing where no beginning spells one.
+/// Reads a name from the front of the bytes. `None` where no prefix of them spells a name.
 pub fn read_name(bytes: &[u8]) -> Option<Name>
-    ensures found { IfSome result (λ name. Begins (name_bytes name) bytes.now) }
-    ensures none { IfNone result ((name : List ℕ) → IsName name → Begins (name_bytes name) bytes.now → ⊥) }
+    ensures found { IfSome result (λ name. IsPrefix (name_bytes name) bytes.now) }
+    ensures none { IfNone result ((name : List ℕ) → IsName name → IsPrefix (name_bytes name) bytes.now → ⊥) }
 {
     match name_of(bytes) {
         Some((name, _)) => Some(name),
         None => None,
     }
+}
+
+/// Reads a set of names from the front of the bytes into an empty one: how many names there are, and each of them in
+/// ascending order. Returns the bytes behind them, or `None` where no prefix of the bytes spells such names.
+pub fn read_name_set<'a>(bytes: &'a [u8], names: &mut NameSet) -> Option<&'a [u8]>
+    requires { names.old ≡ [] }
+    ensures are_registered { IfSome result (λ rest. AreRegistered names.new) }
+    ensures found { IfSome result (λ rest. bytes.now ≡ names_bytes names.new ++ rest.now) }
+    ensures none { IfNone result ((ns : List (List ℕ)) (rest : List ℕ) → AreRegistered ns → bytes.now ≡ names_bytes ns ++ rest → ⊥) }
+{
+    let (total, behind) = byte_of(bytes)?;
+    if total as usize > MAX_NAMES {
+        return None;
+    }
+    let mut rest = behind;
+    for _ in 0..total {
+        let Some((name, next)) = name_of(rest) else {
+            return None;
+        };
+        if !names.push(&name) {
+            return None;
+        }
+        rest = next;
+    }
+    Some(rest)
 }
 
 // The names of a record, behind how many there are, and what follows them.
@@ -277,9 +302,9 @@ fn names_of<'a>(bytes: &'a [u8], names: &mut Names) -> Option<&'a [u8]>
 
 // The record at the front, and what follows it.
 fn record_of<'a>(bytes: &'a [u8], vars: u16, effect: &mut Effect) -> Option<&'a [u8]>
-    ensures is_record { IfSome result (λ rest. IsRecordOver vars effect.new) }
+    ensures is_loggable { IfSome result (λ rest. IsLoggable vars effect.new) }
     ensures found { IfSome result (λ rest. bytes.now ≡ record_bytes effect.new ++ rest.now) }
-    ensures none { IfNone result ((e : EffectOf) (rest : List ℕ) → IsRecordOver vars e → bytes.now ≡ record_bytes e ++ rest → ⊥) }
+    ensures none { IfNone result ((e : EffectOf) (rest : List ℕ) → IsLoggable vars e → bytes.now ≡ record_bytes e ++ rest → ⊥) }
 {
     effect.clear();
     let behind = writes_of(bytes, vars, &mut effect.writes)?;
@@ -299,11 +324,12 @@ fn records_of<'a>(
     batch: &mut Batch,
 ) -> Option<&'a [u8]>
     requires none_yet { batch.old ≡ [] }
+    requires some { 1 ≤ count }
     requires few { count ≤ MAX_RECORDS }
     ensures counted { IfSome result (λ rest. length batch.new ≡ count) }
-    ensures together { IfSome result (λ rest. FitTogether vars batch.new) }
+    ensures is_batch { IfSome result (λ rest. IsBatch vars batch.new) }
     ensures found { IfSome result (λ rest. bytes.now ≡ flat_map record_bytes batch.new ++ rest.now) }
-    ensures none { IfNone result ((es : List EffectOf) (rest : List ℕ) → length es ≡ count → FitTogether vars es → bytes.now ≡ flat_map record_bytes es ++ rest → ⊥) }
+    ensures none { IfNone result ((es : List EffectOf) (rest : List ℕ) → length es ≡ count → IsBatch vars es → bytes.now ≡ flat_map record_bytes es ++ rest → ⊥) }
 {
     let mut rest = bytes;
     for _ in 0..count {
@@ -324,9 +350,9 @@ fn batch_of<'a>(
     batch: &mut Batch,
 ) -> Option<(u64, u64, &'a [u8])>
     requires { batch.old ≡ [] }
-    ensures is_batch { IfSome result (λ found. IsBatchOver vars batch.new) }
+    ensures is_batch { IfSome result (λ found. IsBatch vars batch.new) }
     ensures found { IfSome result (λ found. bytes.now ≡ batch_bytes found.0 found.1 batch.new ++ found.2.now) }
-    ensures none { IfNone result ((generation first : ℕ) (es : List EffectOf) (rest : List ℕ) → generation < 2 ^ 64 → first < 2 ^ 64 → IsBatchOver vars es → bytes.now ≡ batch_bytes generation first es ++ rest → ⊥) }
+    ensures none { IfNone result ((generation first : ℕ) (es : List EffectOf) (rest : List ℕ) → generation < 2 ^ 64 → first < 2 ^ 64 → IsBatch vars es → bytes.now ≡ batch_bytes generation first es ++ rest → ⊥) }
 {
     if bytes.len() < HEAD_BYTES {
         return None;
@@ -352,15 +378,15 @@ pub fn read_head(bytes: &[u8; HEAD_BYTES]) -> (u64, u64, u16)
     (generation, first, count)
 }
 
-/// The batch that a beginning of the bytes spells, over so many variables, or nothing where no beginning spells one.
-/// Refused for want of memory alone.
+/// Reads a batch over so many variables from the front of the bytes. `None` where no prefix of them spells one. The only
+/// error is want of memory.
 pub fn decode_batch(alloc: Global, bytes: &[u8], vars: u16) -> Result<Option<Decoded>, Fault>
     ensures found { IfOk result (λ found. IfSome found (λ d. SpellsBatch vars d.generation d.first d.effects (take d.length bytes.now))) }
     ensures within { IfOk result (λ found. IfSome found (λ d. d.length ≤ length bytes.now)) }
     ensures none { IfOk result (λ found. IfNone found ((generation first n : ℕ) (es : List EffectOf) → SpellsBatch vars generation first es (take n bytes.now) → ⊥)) }
     ensures refused { IfErr result (λ fault. fault ≡ Fault.Memory) }
 {
-    let mut effect = Effect::new(alloc)?;
+    let mut effect = Effect::new();
     let mut effects = Batch::new(alloc)?;
     let Some((generation, first, rest)) = batch_of(bytes, vars, &mut effect, &mut effects) else {
         return Ok(None);
@@ -373,7 +399,7 @@ pub fn decode_batch(alloc: Global, bytes: &[u8], vars: u16) -> Result<Option<Dec
     }))
 }
 
-/// A batch has one spelling, and no spelling begins that of another batch.
+/// A batch has one spelling, and no spelling is a prefix of that of another batch.
 pub fn one_spelling()
     ensures { OneSpelling }
 {}

@@ -1,10 +1,9 @@
 // What one transaction changes.
-ghost use Rattle.std.specs.Prelude.{◌≡◌, ◌↔◌, IsTrue, IfOk};
-ghost use Rattle.tmem_record.specs.State.{IsEmptyEffect};
+ghost use Rattle.std.specs.Prelude.{◌≡◌, ◌<◌, ℕ, All};
+ghost use Rattle.tmem_record.specs.State.{IsEffect, is_empty, no_effect};
 
 use crate::names::Names;
 use crate::writes::Writes;
-use std::alloc::{AllocError, Global};
 
 /// What a transaction changes: the variables that it writes and the names that it checks.
 #[derive(Drop)]
@@ -16,23 +15,27 @@ pub struct Effect {
 }
 
 impl Effect {
-    /// No writes and no names, with room for 64 and 8.
-    pub fn new(alloc: Global) -> Result<Effect, AllocError>
-        ensures { IfOk result IsEmptyEffect }
+    /// An effect that changes nothing.
+    pub fn new() -> Effect
+        ensures { result ≡ no_effect }
     {
-        let writes = Writes::new(alloc)?;
-        let names = Names::new(alloc)?;
-        Ok(Effect { writes, names })
+        Effect {
+            writes: Writes::new(),
+            names: Names::new(),
+        }
     }
 
-    /// Whether it changes nothing.
-    pub(crate) fn is_empty(&self) -> bool
-        ensures { IsTrue result ↔ IsEmptyEffect self.now }
+    /// Whether it changes nothing: it has no write and no name.
+    pub fn is_empty(&self) -> bool
+        ensures empty { result ≡ is_empty self.now }
+        ensures is_effect { (vars : ℕ) → All (λ w. w.0 < vars) self.now.writes → IsEffect vars self.now }
     {
-        self.writes.as_slice().is_empty() && self.names.as_slice().is_empty()
+        let writes = self.writes.as_slice();
+        let names = self.names.as_slice();
+        writes.is_empty() && names.is_empty()
     }
 
-    /// Takes over the writes and the names of another.
+    /// Copies the writes and the names of another effect.
     pub fn copy_from(&mut self, other: &Effect)
         ensures { self.new ≡ other.now }
     {
@@ -40,18 +43,18 @@ impl Effect {
         self.names.copy_from(&other.names);
     }
 
-    /// The same effect in memory of its own.
-    pub fn copy(&self, alloc: Global) -> Result<Effect, AllocError>
-        ensures { IfOk result (λ effect. effect ≡ self.now) }
+    /// The same effect once more.
+    pub fn copy(&self) -> Effect
+        ensures { result ≡ self.now }
     {
-        let mut effect = Effect::new(alloc)?;
+        let mut effect = Effect::new();
         effect.copy_from(self);
-        Ok(effect)
+        effect
     }
 
-    /// Forgets all writes and names.
+    /// Removes all writes and names.
     pub fn clear(&mut self)
-        ensures { IsEmptyEffect self.new }
+        ensures { self.new ≡ no_effect }
     {
         self.writes.clear();
         self.names.clear();

@@ -1,6 +1,6 @@
 //! What core and journal exchange: an effect is what one transaction changes, a state is what all accepted transactions
-//! made, and a batch is a list of effects that fits one slot of the log. Each takes memory when it is made, and none
-//! after that. A batch has one spelling in bytes, which is written and read here.
+//! made, and a batch is a list of effects that fits one slot of the log. An effect is held in place. A state and a batch
+//! take memory when they are made, and none after that. A batch has one spelling in bytes, which is written and read here.
 #![tactic(auto)]
 
 mod batch;
@@ -14,7 +14,7 @@ mod writes;
 pub use batch::{BATCH_BYTES, Batch, MAX_RECORD_BYTES, MAX_RECORDS};
 pub use codec::{
     BATCH_ROOM, Decoded, HEAD_BYTES, NAME_ROOM, decode_batch, encode_batch, one_spelling,
-    read_head, read_name, write_name,
+    read_head, read_name, read_name_set, write_name,
 };
 pub use effect::Effect;
 pub use name_set::{MAX_NAMES, NameSet};

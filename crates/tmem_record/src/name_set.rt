@@ -53,7 +53,7 @@ impl NameSet {
         holds(&self.items, name)
     }
 
-    /// Registers a name, unless it is.
+    /// Registers a name, unless it is registered.
     pub(crate) fn insert(&mut self, name: &Name)
         requires { has_name self.old name.now ≡ false → length self.old < MAX_NAMES }
         ensures { self.new ≡ insert_name self.old name.now }
@@ -64,15 +64,15 @@ impl NameSet {
         }
     }
 
-    /// Registers a name behind all others. Where 64 are registered already, or one of them is not below it, nothing
-    /// changes and the answer is false.
+    /// Registers a name that is above all others. Where 64 are registered already, or one of them is not below it,
+    /// nothing changes and the result is false.
     pub fn push(&mut self, name: &Name) -> bool
         ensures fits { IsTrue result
             ↔ ((length self.old < MAX_NAMES) × All (λ n. is_before n name.now ≡ true) self.old) }
         ensures pushed { OnTrue result (self.new ≡ self.old ++ name.now ∷ []) }
         ensures kept { OnFalse result (self.new ≡ self.old) }
     {
-        // its letters are a name's, as those of every name
+        // brings in that the letters are those of a name
         let _ = name.as_bytes();
         if self.items.len() == MAX_NAMES || !are_below(&self.items, name) {
             return false;

@@ -1,40 +1,42 @@
 // The names that a transaction checks.
-ghost use Rattle.std.specs.Prelude.{◌≡◌, ◌≤◌, ◌<◌, [], length, false, not, count_by, IfOk};
+ghost use Rattle.std.specs.Prelude.{◌≡◌, ◌≤◌, ◌<◌, [], length, false, not, count_by};
 ghost use Rattle.tmem_disk.specs.Name.{IsName};
 ghost use Rattle.tmem_record.specs.Names.{has_name, with_name, AreChecks};
 
-use std::alloc::{AllocError, Global};
 use std::marker::Model;
 use tmem_disk::Name;
 
 /// How many names one transaction may check.
 pub const MAX_CHECKS: usize = 8;
 
-/// The names that a transaction checks: each once, in order of first check. There is room for all of them from the
-/// start.
+/// The names that a transaction checks: each once, in order of first check. They are held in place.
 #[derive(Drop)]
 pub struct Names {
-    items: Vec<Name>,
+    // those from `len` on are not checked
+    items: [Name; MAX_CHECKS],
+    len: usize,
 }
 
 impl Model for Names {
-    ghost use Rattle.std.specs.Prelude.{ℕ, List, ◌≤◌, vec_capacity};
+    ghost use Rattle.std.specs.Prelude.{ℕ, List, ◌≤◌, take};
     ghost use Rattle.tmem_record.specs.Names.{AreChecks};
 
     ghost Value = { List (List ℕ) };
 
-    ghost view = { λ n. n.items.items };
+    ghost view = { λ n. take n.len n.items };
 
-    ghost invariant = { λ n. AreChecks n.items.items × (8 ≤ vec_capacity n.items) };
+    ghost invariant = { λ n. AreChecks (take n.len n.items) × (n.len ≤ 8) };
 }
 
 impl Names {
-    // No names, with room for 8.
-    pub(crate) fn new(alloc: Global) -> Result<Names, AllocError>
-        ensures { IfOk result (λ names. names ≡ []) }
+    // No names.
+    pub(crate) fn new() -> Names
+        ensures { result ≡ [] }
     {
-        let items = Vec::with_capacity(alloc, MAX_CHECKS)?;
-        Ok(Names { items })
+        Names {
+            items: [placeholder(); MAX_CHECKS],
+            len: 0,
+        }
     }
 
     /// The names in order.
@@ -42,14 +44,14 @@ impl Names {
         ensures names { result.now ≡ self.now }
         ensures are_checks { AreChecks self.now }
     {
-        &self.items
+        &self.items[..self.len]
     }
 
     /// Whether a name is checked.
     pub(crate) fn has(&self, name: &Name) -> bool
         ensures { result ≡ has_name self.now name.now }
     {
-        holds(&self.items, name)
+        holds(self.as_slice(), name)
     }
 
     /// Adds a name at the end, unless it is there.
@@ -57,8 +59,9 @@ impl Names {
         requires { has_name self.old name.now ≡ false → length self.old < MAX_CHECKS }
         ensures { self.new ≡ with_name self.old name.now }
     {
-        if !holds(&self.items, name) {
-            self.items.push(*name).unwrap();
+        if !holds(&self.items[..self.len], name) {
+            self.items[self.len] = *name;
+            self.len += 1;
         }
     }
 
@@ -66,16 +69,22 @@ impl Names {
     pub(crate) fn copy_from(&mut self, other: &Names)
         ensures { self.new ≡ other.now }
     {
-        self.clear();
-        self.items.extend_from_slice(&other.items).unwrap();
+        let items = other.as_slice();
+        self.items[..items.len()].copy_from_slice(items);
+        self.len = items.len();
     }
 
     // Forgets all names.
     pub(crate) fn clear(&mut self)
         ensures { self.new ≡ [] }
     {
-        self.items.clear();
+        self.len = 0;
     }
+}
+
+// A name for the places that hold none.
+fn placeholder() -> Name {
+    Name::new("a").unwrap()
 }
 
 // Whether a name is among these.

@@ -1,39 +1,42 @@
 // The writes of a transaction.
-ghost use Rattle.std.specs.Prelude.{◌≡◌, ◌≤◌, ◌<◌, ◌==◌, [], length, IsNone, IfOk, is_some, position, find, option_map};
+ghost use Rattle.std.specs.Prelude.{◌≡◌, ◌≤◌, ◌<◌, ◌==◌, [], length, IsNone, is_some, position, find, option_map};
 ghost use Rattle.std.specs.List.{list_any};
 ghost use Rattle.tmem_record.specs.Writes.{look, with_write, AreWrites};
 
-use std::alloc::{AllocError, Global};
 use std::marker::Model;
 
 /// How many variables one transaction may write.
 pub const MAX_WRITES: usize = 64;
 
-/// The writes of a transaction: each variable once, in order of its first write, with its last value. There is room
-/// for all of them from the start.
+/// The writes of a transaction: each variable once, in order of its first write, with its last value. They are held in
+/// place.
 #[derive(Drop)]
 pub struct Writes {
-    items: Vec<(u16, i64)>,
+    // those from `len` on are no writes
+    items: [(u16, i64); MAX_WRITES],
+    len: usize,
 }
 
 impl Model for Writes {
-    ghost use Rattle.std.specs.Prelude.{ℕ, ℤ, List, ◌≤◌, vec_capacity};
+    ghost use Rattle.std.specs.Prelude.{ℕ, ℤ, List, ◌≤◌, take};
     ghost use Rattle.tmem_record.specs.Writes.{AreWrites};
 
     ghost Value = { List (ℕ × ℤ) };
 
-    ghost view = { λ w. w.items.items };
+    ghost view = { λ w. take w.len w.items };
 
-    ghost invariant = { λ w. AreWrites w.items.items × (64 ≤ vec_capacity w.items) };
+    ghost invariant = { λ w. AreWrites (take w.len w.items) × (w.len ≤ 64) };
 }
 
 impl Writes {
-    // No writes, with room for 64.
-    pub(crate) fn new(alloc: Global) -> Result<Writes, AllocError>
-        ensures { IfOk result (λ writes. writes ≡ []) }
+    // No writes.
+    pub(crate) fn new() -> Writes
+        ensures { result ≡ [] }
     {
-        let items = Vec::with_capacity(alloc, MAX_WRITES)?;
-        Ok(Writes { items })
+        Writes {
+            items: [(0, 0); MAX_WRITES],
+            len: 0,
+        }
     }
 
     /// The writes in order.
@@ -41,21 +44,21 @@ impl Writes {
         ensures writes { result.now ≡ self.now }
         ensures are_writes { AreWrites self.now }
     {
-        &self.items
+        &self.items[..self.len]
     }
 
     /// The value that a variable takes, if it is written.
     pub fn get(&self, var: u16) -> Option<i64>
         ensures { result ≡ look self.now var }
     {
-        value(&self.items, var)
+        value(self.as_slice(), var)
     }
 
     /// Whether a variable is written.
     pub(crate) fn has(&self, var: u16) -> bool
         ensures { result ≡ is_some (look self.now var) }
     {
-        is_written(&self.items, var)
+        is_written(self.as_slice(), var)
     }
 
     /// Writes a variable: it keeps the place of its first write.
@@ -63,9 +66,12 @@ impl Writes {
         requires { IsNone (look self.old var) → length self.old < MAX_WRITES }
         ensures { self.new ≡ with_write self.old var value }
     {
-        match place(&self.items, var) {
+        match place(&self.items[..self.len], var) {
             Some(at) => self.items[at] = (var, value),
-            None => self.items.push((var, value)).unwrap(),
+            None => {
+                self.items[self.len] = (var, value);
+                self.len += 1;
+            }
         }
     }
 
@@ -73,15 +79,16 @@ impl Writes {
     pub(crate) fn copy_from(&mut self, other: &Writes)
         ensures { self.new ≡ other.now }
     {
-        self.clear();
-        self.items.extend_from_slice(&other.items).unwrap();
+        let items = other.as_slice();
+        self.items[..items.len()].copy_from_slice(items);
+        self.len = items.len();
     }
 
     // Forgets all writes.
     pub(crate) fn clear(&mut self)
         ensures { self.new ≡ [] }
     {
-        self.items.clear();
+        self.len = 0;
     }
 }
 

@@ -8,3 +8,9 @@ abbrev pub IsWanting : ScriptError → Type 0
 IsWanting (Memory e) = ⊤
 IsWanting Unreadable = ⊥
 IsWanting NoScript = ⊥
+
+-- where nothing but the script is at fault, this holds; a reader of a value never fails to read its text
+abbrev pub Refuses : ScriptError → Type 0 → Type 0
+Refuses (Memory e) P = Unit {0}
+Refuses Unreadable P = ⊥
+Refuses NoScript P = P

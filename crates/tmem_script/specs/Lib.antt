@@ -1,4 +1,5 @@
 pub mod Errors
 pub mod Lines
-pub mod Numbers
+pub mod Scripts
 pub mod Statuses
+pub mod TxForms

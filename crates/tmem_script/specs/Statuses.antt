@@ -11,4 +11,4 @@ status_of (Script NoScript) = 3
 status_of (Script (Memory e)) = 1
 status_of (Refused fault) = 1
 status_of Output = 1
-status_of Words = 2
+status_of (Words e) = 2

@@ -1,6 +1,11 @@
 //! One event of a script, from its JSON form.
-ghost use Rattle.std.specs.Prelude.{IfOk, ◌<◌};
-ghost use Rattle.tmem_event.specs.Events.{NamesSlot};
+ghost use Rattle.std.specs.Prelude.{◌≡◌, ◌<◌, ℕ, codes, IfOk, IfErr};
+ghost use Rattle.serde_json.specs.Data.{string};
+ghost use Rattle.serde_json.specs.View.{view};
+ghost use Rattle.tmem_event.specs.declared.event.Event.{Event};
+ghost use Rattle.tmem_script.specs.Errors.{Refuses};
+ghost use Rattle.tmem_script.specs.Scripts.{IsEvent};
+ghost use Rattle.tmem_script.specs.TxForms.{natural, tagged};
 
 use crate::json::{byte_of, pair_of};
 use crate::script::ScriptError;
@@ -11,21 +16,26 @@ use tmem_event::{ATTEMPTS, Event};
 
 /// Reads an event: a word such as `"flush"`, or an object with one member such as `{"turn":0}`. Its
 /// attempt slot is one that a world has.
-pub fn event_of(alloc: Global, value: &Value) -> Result<Event, ScriptError>
-    ensures { IfOk result NamesSlot }
+pub(crate) fn event_of(alloc: Global, value: &Value) -> Result<Event, ScriptError>
+    ensures ok { IfOk result (λ event. IsEvent event (view value.now)) }
+    ensures refused { IfErr result (λ e. Refuses e ((event : Event) → ¬ IsEvent event (view value.now))) }
 {
-    match value {
-        Value::String(word) => event_of_word(word.as_str()),
-        Value::Object(members) if members.len() == 1 => match members.iter().next() {
-            Some((key, body)) => event_of_member(alloc, key.as_str(), body),
-            None => Err(ScriptError::NoScript),
-        },
-        _ => Err(ScriptError::NoScript),
+    if let Some(word) = value.as_str() {
+        return event_of_word(word);
+    }
+    let members = value.as_object().ok_or(ScriptError::NoScript)?;
+    if members.len() != 1 {
+        return Err(ScriptError::NoScript);
+    }
+    match members.first_key_value() {
+        Some((key, body)) => event_of_member(alloc, key.as_str(), body),
+        None => Err(ScriptError::NoScript),
     }
 }
 
 fn event_of_word(word: &str) -> Result<Event, ScriptError>
-    ensures { IfOk result NamesSlot }
+    ensures ok { IfOk result (λ event. IsEvent event (string word.now)) }
+    ensures refused { IfErr result (λ e. Refuses e ((event : Event) → ¬ IsEvent event (string word.now))) }
 {
     match word {
         "flush" => Ok(Event::Flush),
@@ -36,15 +46,11 @@ fn event_of_word(word: &str) -> Result<Event, ScriptError>
 }
 
 fn event_of_member(alloc: Global, key: &str, body: &Value) -> Result<Event, ScriptError>
-    ensures { IfOk result NamesSlot }
+    ensures ok { IfOk result (λ event. IsEvent event (tagged key.now (view body.now))) }
+    ensures refused { IfErr result (λ e. Refuses e ((event : Event) → ¬ IsEvent event (tagged key.now (view body.now)))) }
 {
     match key {
-        "begin" => {
-            let (slot, tx) = pair_of(body)?;
-            let slot = slot_of(slot)?;
-            let tx = tx_of(alloc, tx)?;
-            Ok(Event::Begin { slot, tx })
-        }
+        "begin" => begin_of(alloc, body),
         "turn" => {
             let slot = slot_of(body)?;
             Ok(Event::Turn { slot })
@@ -57,8 +63,20 @@ fn event_of_member(alloc: Global, key: &str, body: &Value) -> Result<Event, Scri
     }
 }
 
+fn begin_of(alloc: Global, body: &Value) -> Result<Event, ScriptError>
+    ensures ok { IfOk result (λ event. IsEvent event (tagged (codes "begin") (view body.now))) }
+    ensures refused { IfErr result (λ e. Refuses e ((event : Event) → ¬ IsEvent event (tagged (codes "begin") (view body.now)))) }
+{
+    let (first, second) = pair_of(body)?;
+    let slot = slot_of(first)?;
+    let tx = tx_of(alloc, second)?;
+    Ok(Event::Begin { slot, tx })
+}
+
 fn slot_of(value: &Value) -> Result<u8, ScriptError>
-    ensures { IfOk result (λ slot. slot < 16) }
+    ensures ok { IfOk result (λ slot. view value.now ≡ natural slot) }
+    ensures below { IfOk result (λ slot. slot < 16) }
+    ensures refused { IfErr result (λ e. Refuses e ((slot : ℕ) → slot < 16 → ¬ (view value.now ≡ natural slot))) }
 {
     let slot = byte_of(value)?;
     if slot as usize >= ATTEMPTS {

@@ -14,12 +14,32 @@ pub enum Failure {
     Script(#[from] ScriptError),
     /// The device, its format or its opening was refused, or memory for the way there.
     #[error(transparent)]
-    Refused(#[from] Fault),
+    Refused(Fault),
     #[error("output failed")]
     Output,
-    /// The command line is no text, so its words could not even be read.
+    /// The words of the command line were not read.
+    #[error(transparent)]
+    Words(#[from] WordsError),
+}
+
+/// Why the words of the command line were not read. Its text is what the user is told.
+#[derive(Clone, Copy, Debug, PartialEq, Eq, Error)]
+pub enum WordsError {
     #[error("the command line is not UTF-8")]
-    Words,
+    NotText,
+    #[error("not enough memory for the command line")]
+    Memory,
+}
+
+impl From<Fault> for Failure {
+    ghost use Rattle.std.specs.Prelude.{◌≡◌};
+    ghost use Rattle.tmem_script.specs.declared.failure.Failure.TheVariants.{Refused};
+
+    ghost from_gives = { λ fault failure. failure ≡ Refused fault };
+
+    fn from(fault: Fault) -> Failure {
+        Failure::Refused(fault)
+    }
 }
 
 impl Failure {
@@ -33,14 +53,14 @@ impl Failure {
     {
         match self {
             Failure::Script(ScriptError::Unreadable | ScriptError::NoScript) => 3,
-            Failure::Words => 2,
+            Failure::Words(_) => 2,
             Failure::Script(ScriptError::Memory(_)) | Failure::Refused(_) | Failure::Output => 1,
         }
     }
 }
 
 /// Prints a failure, and answers its status.
-pub fn tell<E: Write>(failure: &Failure, err: &mut E) -> u8
+pub fn report<E: Write>(failure: &Failure, err: &mut E) -> u8
     ensures status { result ≡ status_of failure.now }
     ensures most { result ≤ 3 }
 {

@@ -1,47 +1,99 @@
 //! The pieces that several JSON forms of a script have.
-ghost use Rattle.std.specs.Prelude.{◌≡◌, Some, IfOk};
-ghost use Rattle.serde_json.specs.Find.{get};
-ghost use Rattle.serde_json.specs.View.{view};
-ghost use Rattle.tmem_script.specs.Numbers.{whole};
+ghost use Rattle.std.specs.Prelude.{◌≡◌, ◌<◌, ◌∷◌, [], ℕ, ℤ, List, map, All, IfOk, IfErr, FitsSigned};
+ghost use Rattle.std.specs.Int.{w64};
+ghost use Rattle.serde_json.specs.Data.{Data, Members, member};
+ghost use Rattle.serde_json.specs.View.{view, members_view};
+ghost use Rattle.tmem_script.specs.Errors.{Refuses};
+ghost use Rattle.tmem_script.specs.TxForms.{IsByte, IsShort, array_of, natural, integer};
 
 use crate::script::ScriptError;
-use serde_json::Value;
+use serde_json::{Map, Value};
+use std::alloc::Global;
 
-/// The value of a key of an object, which has to be there.
-pub fn member_of<'a>(value: &'a Value, key: &str) -> Result<&'a Value, ScriptError>
-    ensures { IfOk result (λ found. get key.now (view value.now) ≡ Some (view found.now)) }
+/// Takes the first of an object's members, which stand in the order of their keys, out of it. It has to have this key.
+pub(crate) fn next_of(members: &mut Map<String, Value>, key: &str) -> Result<Value, ScriptError>
+    ensures ok { IfOk result (λ value.
+        members_view members.old.entries ≡ member key.now (view value) (members_view members.new.entries)) }
+    ensures refused { IfErr result (λ e. Refuses e ((d : Data) (ms : Members)
+        → ¬ (members_view members.old.entries ≡ member key.now d ms))) }
 {
-    value.get(key).ok_or(ScriptError::NoScript)
+    let Some((name, value)) = members.pop_first() else {
+        return Err(ScriptError::NoScript);
+    };
+    if name.as_str() != key {
+        return Err(ScriptError::NoScript);
+    }
+    Ok(value)
 }
 
 /// The two items of an array of two.
-pub fn pair_of(value: &Value) -> Result<(&Value, &Value), ScriptError> {
+pub(crate) fn pair_of(value: &Value) -> Result<(&Value, &Value), ScriptError>
+    ensures ok { IfOk result (λ pair. view value.now ≡ array_of (view pair.0.now ∷ view pair.1.now ∷ [])) }
+    ensures refused { IfErr result (λ e. Refuses e ((x y : Data) → ¬ (view value.now ≡ array_of (x ∷ y ∷ [])))) }
+{
     let items = value.as_array().ok_or(ScriptError::NoScript)?;
-    match items.as_slice() {
-        [first, second] => Ok((first, second)),
-        _ => Err(ScriptError::NoScript),
+    if items.len() != 2 {
+        return Err(ScriptError::NoScript);
     }
+    Ok((&items[0], &items[1]))
 }
 
 /// The three items of an array of three.
-pub fn triple_of(value: &Value) -> Result<(&Value, &Value, &Value), ScriptError> {
+pub(crate) fn triple_of(value: &Value) -> Result<(&Value, &Value, &Value), ScriptError>
+    ensures ok { IfOk result (λ triple.
+        view value.now ≡ array_of (view triple.0.now ∷ view triple.1.now ∷ view triple.2.now ∷ [])) }
+    ensures refused { IfErr result (λ e. Refuses e ((x y z : Data) → ¬ (view value.now ≡ array_of (x ∷ y ∷ z ∷ [])))) }
+{
     let items = value.as_array().ok_or(ScriptError::NoScript)?;
-    match items.as_slice() {
-        [first, second, third] => Ok((first, second, third)),
+    if items.len() != 3 {
+        return Err(ScriptError::NoScript);
+    }
+    Ok((&items[0], &items[1], &items[2]))
+}
+
+/// A whole number from 0 to 65535, written without a point or an exponent.
+pub(crate) fn short_of(value: &Value) -> Result<u16, ScriptError>
+    ensures ok { IfOk result (λ n. view value.now ≡ natural n) }
+    ensures in_range { IfOk result IsShort }
+    ensures refused { IfErr result (λ e. Refuses e ((n : ℕ) → IsShort n → ¬ (view value.now ≡ natural n))) }
+{
+    match value.as_u64() {
+        Some(number) if number < 65536 => Ok(number as u16),
         _ => Err(ScriptError::NoScript),
     }
 }
 
-/// A whole number from 0 to 65535, written without a point or an exponent.
-pub fn short_of(value: &Value) -> Result<u16, ScriptError>
-    ensures { IfOk result (λ n. whole (view value.now) ≡ Some n) }
+/// A whole number from 0 to 255, written without a point or an exponent.
+pub(crate) fn byte_of(value: &Value) -> Result<u8, ScriptError>
+    ensures ok { IfOk result (λ n. view value.now ≡ natural n) }
+    ensures in_range { IfOk result IsByte }
+    ensures refused { IfErr result (λ e. Refuses e ((n : ℕ) → IsByte n → ¬ (view value.now ≡ natural n))) }
 {
     let number = value.as_u64().ok_or(ScriptError::NoScript)?;
-    u16::try_from(number).map_err(|_| ScriptError::NoScript)
+    u8::try_from(number).map_err(|_| ScriptError::NoScript)
 }
 
-/// A whole number from 0 to 255, written without a point or an exponent.
-pub fn byte_of(value: &Value) -> Result<u8, ScriptError> {
-    let number = value.as_u64().ok_or(ScriptError::NoScript)?;
-    u8::try_from(number).map_err(|_| ScriptError::NoScript)
+/// A whole number of 64 bits with a sign, written without a point or an exponent.
+pub(crate) fn integer_of(value: &Value) -> Result<i64, ScriptError>
+    ensures ok { IfOk result (λ n. view value.now ≡ integer n) }
+    ensures in_range { IfOk result (λ n. FitsSigned w64 n) }
+    ensures refused { IfErr result (λ e. Refuses e ((n : ℤ) → FitsSigned w64 n → ¬ (view value.now ≡ integer n))) }
+{
+    let number = value.as_number().ok_or(ScriptError::NoScript)?;
+    number.as_i64().ok_or(ScriptError::NoScript)
+}
+
+/// An array of registers, in their order.
+pub(crate) fn registers_of(alloc: Global, value: &Value) -> Result<Vec<u8>, ScriptError>
+    ensures ok { IfOk result (λ registers. view value.now ≡ array_of (map natural registers.items)) }
+    ensures in_range { IfOk result (λ registers. All IsByte registers.items) }
+    ensures refused { IfErr result (λ e. Refuses e ((registers : List ℕ) → All IsByte registers
+        → ¬ (view value.now ≡ array_of (map natural registers)))) }
+{
+    let items = value.as_array().ok_or(ScriptError::NoScript)?;
+    let mut registers = Vec::with_capacity(alloc, items.len())?;
+    for item in items {
+        registers.push(byte_of(item)?)?;
+    }
+    Ok(registers)
 }

@@ -1,19 +1,18 @@
-//! What goes into the program and comes out of it as text: the words of its command line, scripts, and the lines that
-//! answer them.
+//! What goes into the program and comes out of it as text: scripts, the lines that answer them, and what is told where a
+//! run fails.
 //!
-//! `Script::from_slice` reads and checks a whole script, before any device is made: `event` and `tx` read its parts,
-//! and `json` what these share. `ReplyLine` spells a reply, and `tell` a failure, which `failure` gives a status.
+//! `Script::from_slice` reads and checks a whole script, before any device is made: `entry`, `event` and `tx` read its
+//! parts, and `json` what these share. `ReplyLine` spells a reply, and `report` a failure, which `failure` gives a status.
 #![tactic(auto)]
 
+mod entry;
 mod event;
 mod failure;
 mod json;
 mod line;
 mod script;
 mod tx;
-mod words;
 
-pub use failure::{Failure, tell};
+pub use failure::{Failure, WordsError, report};
 pub use line::ReplyLine;
-pub use script::{Line, Playable, Script, ScriptError};
-pub use words::words_of;
+pub use script::{Entry, Playable, Script, ScriptError};

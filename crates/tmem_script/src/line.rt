@@ -1,10 +1,10 @@
 //! What is printed: one line for each reply.
 ghost use Rattle.std.specs.Prelude.{Some};
 ghost use Rattle.std.specs.Fmt.{DisplaysOnOk};
-ghost use Rattle.tmem_script.specs.Lines.{joined, line_of};
+ghost use Rattle.tmem_script.specs.Lines.{joined, line_of, settled_line};
 
 use std::fmt;
-use tmem_event::Reply;
+use tmem_event::{Reply, Settled};
 
 /// The line of a reply, without its newline.
 #[derive(Drop)]
@@ -19,19 +19,28 @@ impl fmt::Display for ReplyLine {
             Reply::Read { var, value } => write!(f, "read {var} {value}"),
             Reply::Ended => write!(f, "ended"),
             Reply::Idle => write!(f, "idle"),
-            Reply::Committed { number, .. } => write!(f, "committed {number}"),
-            Reply::Seen { at, registers } => {
-                write!(f, "seen {at} ")?;
-                write_joined(f, registers)
-            }
-            Reply::Retry => write!(f, "retry"),
-            Reply::Aborted(code) => write!(f, "aborted {code}"),
-            Reply::Refused(name) => write!(f, "refused {name}"),
+            Reply::Settled(settled) => write_settled(f, settled),
             Reply::Durable(number) => write!(f, "durable {number}"),
             Reply::Looked(number) => write!(f, "look {number}"),
             Reply::Opened(count) => write!(f, "opened {count}"),
             Reply::Fault(fault) => write!(f, "{fault}"),
         }
+    }
+}
+
+// What a transaction was answered.
+fn write_settled<W: fmt::Write>(f: &mut fmt::Formatter<W>, settled: &Settled) -> fmt::Result
+    ensures { DisplaysOnOk W.write_str_gives f.old result (Some (settled_line settled.now)) f.new }
+{
+    match settled {
+        Settled::Committed { number, .. } => write!(f, "committed {number}"),
+        Settled::Seen { at, registers } => {
+            write!(f, "seen {at} ")?;
+            write_joined(f, registers)
+        }
+        Settled::Retry => write!(f, "retry"),
+        Settled::Aborted(code) => write!(f, "aborted {code}"),
+        Settled::Refused(name) => write!(f, "refused {name}"),
     }
 }
 

@@ -1,14 +1,11 @@
 //! Scripts: the numbers of a device, and what is to be done on it.
-ghost use Rattle.std.specs.Prelude.{◌≡◌, Some, codes, IfOk};
-ghost use Rattle.serde_json.specs.Data.{Data};
-ghost use Rattle.serde_json.specs.Read.{read};
+ghost use Rattle.std.specs.Prelude.{◌≡◌, IfOk};
 ghost use Rattle.tmem_event.specs.Events.{NamesSlot};
-ghost use Rattle.tmem_script.specs.Numbers.{number_at};
 
-use crate::event::event_of;
-use crate::json::{member_of, short_of};
+use crate::entry::entries_of;
+use crate::json::{next_of, short_of};
 use serde_json::Value;
-use std::alloc::{AllocError, Global};
+use std::alloc::{AllocError, AllocFailed, Global};
 use std::io;
 use thiserror::Error;
 use tmem_disk::Fault;
@@ -19,12 +16,12 @@ use tmem_event::Event;
 pub struct Script {
     pub vars: u16,
     pub slots: u16,
-    pub lines: Vec<Line>,
+    pub entries: Vec<Entry>,
 }
 
 /// What one entry of a script's events asks for.
 #[derive(Drop)]
-pub enum Line {
+pub enum Entry {
     Event(Playable),
     /// To print the state.
     Show,
@@ -41,11 +38,33 @@ pub struct Playable {
 #[derive(Debug, Drop, Error)]
 pub enum ScriptError {
     #[error("{}", Fault::Memory)]
-    Memory(#[from(alloc)] AllocError),
+    Memory(AllocError),
     #[error("cannot read script")]
     Unreadable,
     #[error("bad script")]
     NoScript,
+}
+
+impl From<AllocError> for ScriptError {
+    ghost use Rattle.std.specs.Prelude.{◌≡◌, alloc_error};
+    ghost use Rattle.tmem_script.specs.declared.script.ScriptError.TheVariants.{Memory};
+
+    ghost from_gives = { λ _ e. e ≡ Memory alloc_error };
+
+    fn from(_: AllocError) -> ScriptError {
+        ScriptError::Memory(AllocError)
+    }
+}
+
+impl<T: Drop> From<AllocFailed<T>> for ScriptError {
+    ghost use Rattle.std.specs.Prelude.{◌≡◌, alloc_error};
+    ghost use Rattle.tmem_script.specs.declared.script.ScriptError.TheVariants.{Memory};
+
+    ghost from_gives = { λ _ e. e ≡ Memory alloc_error };
+
+    fn from(_: AllocFailed<T>) -> ScriptError {
+        ScriptError::Memory(AllocError)
+    }
 }
 
 impl From<io::Error> for ScriptError {
@@ -85,37 +104,47 @@ impl From<serde_json::Error> for ScriptError {
 }
 
 impl Script {
+    ghost use Rattle.std.specs.Prelude.{◌⊎◌, ℕ, List, Err, IfErr};
+    ghost use Rattle.serde_json.specs.View.{view};
+    ghost use Rattle.tmem_script.specs.Errors.{IsWanting, Refuses};
+    ghost use Rattle.tmem_script.specs.Scripts.{IsScript, IsScriptText};
+    ghost use Rattle.tmem_script.specs.declared.script.Entry.{Entry};
+    ghost use Rattle.tmem_script.specs.declared.script.ScriptError.TheVariants.{NoScript};
+
     /// Reads a script from its text: an object with the keys `vars`, `slots` and `events`, and no
-    /// other. Of a key that stands twice the last value counts.
+    /// other. Of a key that stands twice the last value counts. Refused with `NoScript` where the
+    /// text is none, and with `Memory`.
     pub fn from_slice(alloc: Global, text: &[u8]) -> Result<Script, ScriptError>
-        ensures numbers { IfOk result (λ script. (d : Data) × (read text.now ≡ Some d)
-            × (number_at (codes "vars") d ≡ Some script.vars) × (number_at (codes "slots") d ≡ Some script.slots)) }
+        ensures script { IfOk result (λ script. IsScriptText script.vars script.slots script.entries.items text.now) }
+        ensures no_script { IfErr result (λ e. e ≡ NoScript → (vars slots : ℕ) (entries : List Entry)
+            → ¬ IsScriptText vars slots entries text.now) }
+        ensures refused { IfErr result (λ e. (e ≡ NoScript) ⊎ IsWanting e) }
     {
         let value = Value::from_slice(alloc, text)?;
-        let members = value.as_object().ok_or(ScriptError::NoScript)?;
-        if members.len() != 3 {
+        Script::from_value(alloc, value)
+    }
+
+    fn from_value(alloc: Global, value: Value) -> Result<Script, ScriptError>
+        ensures ok { IfOk result (λ script. IsScript script.vars script.slots script.entries.items (view value)) }
+        ensures refused { IfErr result (λ e. Refuses e ((vars slots : ℕ) (entries : List Entry)
+            → ¬ IsScript vars slots entries (view value))) }
+    {
+        let Value::Object(mut members) = value else {
+            return Err(ScriptError::NoScript);
+        };
+        let events = next_of(&mut members, "events")?;
+        let slots = next_of(&mut members, "slots")?;
+        let vars = next_of(&mut members, "vars")?;
+        if members.len() != 0 {
             return Err(ScriptError::NoScript);
         }
-        let vars = short_of(member_of(&value, "vars")?)?;
-        let slots = short_of(member_of(&value, "slots")?)?;
-        let lines = lines_of(alloc, member_of(&value, "events")?)?;
-        Ok(Script { vars, slots, lines })
+        let vars = short_of(&vars)?;
+        let slots = short_of(&slots)?;
+        let entries = entries_of(alloc, events)?;
+        Ok(Script {
+            vars,
+            slots,
+            entries,
+        })
     }
-}
-
-fn lines_of(alloc: Global, value: &Value) -> Result<Vec<Line>, ScriptError> {
-    let items = value.as_array().ok_or(ScriptError::NoScript)?;
-    let mut lines = Vec::with_capacity(alloc, items.len())?;
-    for item in items {
-        lines.push(line_of(alloc, item)?)?;
-    }
-    Ok(lines)
-}
-
-fn line_of(alloc: Global, value: &Value) -> Result<Line, ScriptError> {
-    if value.as_str() == Some("show") {
-        return Ok(Line::Show);
-    }
-    let event = event_of(alloc, value)?;
-    Ok(Line::Event(Playable { event }))
 }

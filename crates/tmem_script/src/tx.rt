@@ -1,7 +1,17 @@
 //! Transactions, from their JSON form.
-use crate::json::{byte_of, pair_of, short_of, triple_of};
+ghost use Rattle.std.specs.Prelude.{◌≡◌, ◌≢◌, ◌<◌, ◌∷◌, [], ℕ, ℤ, List, length, slice_index_or, codes, IfOk, IfErr, FitsSigned};
+ghost use Rattle.std.specs.Int.{w64};
+ghost use Rattle.serde_json.specs.Data.{string};
+ghost use Rattle.serde_json.specs.View.{view};
+ghost use Rattle.tmem_script.specs.Errors.{Refuses};
+ghost use Rattle.tmem_script.specs.TxForms.{IsByte, IsShort, IsTx, array_of, integer, natural, tagged};
+ghost use Rattle.tmem_builtins.specs.Steps.{step_names};
+ghost use Rattle.tmem_disk.specs.Name.{IsName};
+ghost use Rattle.tmem_tree.specs.declared.tx.Tx.{Tx};
+
+use crate::json::{byte_of, integer_of, pair_of, registers_of, short_of, triple_of};
 use crate::script::ScriptError;
-use serde_json::Value;
+use serde_json::{Map, Value};
 use std::alloc::Global;
 use tmem_builtins::index_of;
 use tmem_disk::Name;
@@ -11,18 +21,29 @@ use tmem_tree::Tx;
 /// `{"seq":[]}`. What is in the ranges of the numbers and yet no plan is refused when its event is
 /// played.
 #[cycle(tx)]
-pub fn tx_of(alloc: Global, value: &Value) -> Result<Tx, ScriptError> {
+pub(crate) fn tx_of(alloc: Global, value: &Value) -> Result<Tx, ScriptError>
+    ensures ok { IfOk result (λ tx. IsTx tx (view value.now)) }
+    ensures refused { IfErr result (λ e. Refuses e ((tx : Tx) → ¬ IsTx tx (view value.now))) }
+{
     match value {
         Value::String(word) => tx_of_word(word.as_str()),
-        Value::Object(members) if members.len() == 1 => match members.iter().next() {
-            Some((key, body)) => tx_of_member(alloc, key.as_str(), body),
-            None => Err(ScriptError::NoScript),
-        },
+        Value::Object(members) => {
+            if members.len() != 1 {
+                return Err(ScriptError::NoScript);
+            }
+            match members.iter().next() {
+                Some((key, body)) => tx_of_member(alloc, key.as_str(), body),
+                None => Err(ScriptError::NoScript),
+            }
+        }
         _ => Err(ScriptError::NoScript),
     }
 }
 
-fn tx_of_word(word: &str) -> Result<Tx, ScriptError> {
+fn tx_of_word(word: &str) -> Result<Tx, ScriptError>
+    ensures ok { IfOk result (λ tx. IsTx tx (string word.now)) }
+    ensures refused { IfErr result (λ e. Refuses e ((tx : Tx) → ¬ IsTx tx (string word.now))) }
+{
     match word {
         "skip" => Ok(Tx::Skip),
         "retry" => Ok(Tx::Retry),
@@ -31,9 +52,12 @@ fn tx_of_word(word: &str) -> Result<Tx, ScriptError> {
 }
 
 #[cycle(tx)]
-fn tx_of_member(alloc: Global, key: &str, body: &Value) -> Result<Tx, ScriptError> {
+fn tx_of_member(alloc: Global, key: &str, body: &Value) -> Result<Tx, ScriptError>
+    ensures ok { IfOk result (λ tx. IsTx tx (tagged key.now (view body.now))) }
+    ensures refused { IfErr result (λ e. Refuses e ((tx : Tx) → ¬ IsTx tx (tagged key.now (view body.now)))) }
+{
     match key {
-        "seq" => Ok(Tx::Seq(row_of(alloc, body)?)),
+        "seq" => seq_of(alloc, body),
         "when" => when_of(alloc, body),
         "orelse" => or_else_of(alloc, body),
         _ => leaf_of(alloc, key, body),
@@ -41,51 +65,68 @@ fn tx_of_member(alloc: Global, key: &str, body: &Value) -> Result<Tx, ScriptErro
 }
 
 #[cycle(tx)]
-fn row_of(alloc: Global, value: &Value) -> Result<Vec<Tx>, ScriptError> {
-    let Value::Array(items) = value else {
+fn seq_of(alloc: Global, body: &Value) -> Result<Tx, ScriptError>
+    ensures ok { IfOk result (λ tx. IsTx tx (tagged (codes "seq") (view body.now))) }
+    ensures refused { IfErr result (λ e. Refuses e ((tx : Tx) → ¬ IsTx tx (tagged (codes "seq") (view body.now)))) }
+{
+    let Value::Array(items) = body else {
         return Err(ScriptError::NoScript);
     };
     let mut row = Vec::with_capacity(alloc, items.len())?;
     for item in items {
         row.push(tx_of(alloc, item)?)?;
     }
-    Ok(row)
+    Ok(Tx::Seq(row))
 }
 
 #[cycle(tx)]
-fn when_of(alloc: Global, value: &Value) -> Result<Tx, ScriptError> {
-    let Value::Array(items) = value else {
+fn when_of(alloc: Global, body: &Value) -> Result<Tx, ScriptError>
+    ensures ok { IfOk result (λ tx. IsTx tx (tagged (codes "when") (view body.now))) }
+    ensures refused { IfErr result (λ e. Refuses e ((tx : Tx) → ¬ IsTx tx (tagged (codes "when") (view body.now)))) }
+{
+    let Value::Array(items) = body else {
         return Err(ScriptError::NoScript);
     };
     let [reg, then, other] = items.as_slice() else {
         return Err(ScriptError::NoScript);
     };
     let reg = byte_of(reg)?;
-    let then = Box::new(alloc, tx_of(alloc, then)?)?;
-    let other = Box::new(alloc, tx_of(alloc, other)?)?;
+    let first = tx_of(alloc, then)?;
+    let second = tx_of(alloc, other)?;
+    let then = Box::new(alloc, first)?;
+    let other = Box::new(alloc, second)?;
     Ok(Tx::When { reg, then, other })
 }
 
 #[cycle(tx)]
-fn or_else_of(alloc: Global, value: &Value) -> Result<Tx, ScriptError> {
-    let Value::Array(items) = value else {
+fn or_else_of(alloc: Global, body: &Value) -> Result<Tx, ScriptError>
+    ensures ok { IfOk result (λ tx. IsTx tx (tagged (codes "orelse") (view body.now))) }
+    ensures refused { IfErr result (λ e. Refuses e ((tx : Tx) → ¬ IsTx tx (tagged (codes "orelse") (view body.now)))) }
+{
+    let Value::Array(items) = body else {
         return Err(ScriptError::NoScript);
     };
-    let [first, second] = items.as_slice() else {
+    let [left, right] = items.as_slice() else {
         return Err(ScriptError::NoScript);
     };
-    let first = Box::new(alloc, tx_of(alloc, first)?)?;
-    let second = Box::new(alloc, tx_of(alloc, second)?)?;
-    Ok(Tx::OrElse(first, second))
+    let first = tx_of(alloc, left)?;
+    let second = tx_of(alloc, right)?;
+    let left = Box::new(alloc, first)?;
+    let right = Box::new(alloc, second)?;
+    Ok(Tx::OrElse(left, right))
 }
 
 /// A transaction that holds no other.
-fn leaf_of(alloc: Global, key: &str, body: &Value) -> Result<Tx, ScriptError> {
+fn leaf_of(alloc: Global, key: &str, body: &Value) -> Result<Tx, ScriptError>
+    requires no_seq { key.now ≢ codes "seq" }
+    requires no_when { key.now ≢ codes "when" }
+    requires no_or_else { key.now ≢ codes "orelse" }
+    ensures ok { IfOk result (λ tx. IsTx tx (tagged key.now (view body.now))) }
+    ensures refused { IfErr result (λ e. Refuses e ((tx : Tx) → ¬ IsTx tx (tagged key.now (view body.now)))) }
+{
     match key {
         "put" => {
-            let (reg, number) = pair_of(body)?;
-            let reg = byte_of(reg)?;
-            let number = number.as_i64().ok_or(ScriptError::NoScript)?;
+            let (reg, number) = register_and_number_of(body)?;
             Ok(Tx::Put { reg, number })
         }
         "read" => {
@@ -109,32 +150,57 @@ fn leaf_of(alloc: Global, key: &str, body: &Value) -> Result<Tx, ScriptError> {
     }
 }
 
-fn variable_and_register_of(value: &Value) -> Result<(u16, u8), ScriptError> {
-    let (var, reg) = pair_of(value)?;
-    Ok((short_of(var)?, byte_of(reg)?))
+fn register_and_number_of(value: &Value) -> Result<(u8, i64), ScriptError>
+    ensures ok { IfOk result (λ pair. view value.now ≡ array_of (natural pair.0 ∷ integer pair.1 ∷ [])) }
+    ensures in_range { IfOk result (λ pair. IsByte pair.0 × FitsSigned w64 pair.1) }
+    ensures refused { IfErr result (λ e. Refuses e ((reg : ℕ) (n : ℤ) → IsByte reg → FitsSigned w64 n
+        → ¬ (view value.now ≡ array_of (natural reg ∷ integer n ∷ [])))) }
+{
+    let (first, second) = pair_of(value)?;
+    let reg = byte_of(first)?;
+    let number = integer_of(second)?;
+    Ok((reg, number))
+}
+
+fn variable_and_register_of(value: &Value) -> Result<(u16, u8), ScriptError>
+    ensures ok { IfOk result (λ pair. view value.now ≡ array_of (natural pair.0 ∷ natural pair.1 ∷ [])) }
+    ensures in_range { IfOk result (λ pair. IsShort pair.0 × IsByte pair.1) }
+    ensures refused { IfErr result (λ e. Refuses e ((var reg : ℕ) → IsShort var → IsByte reg
+        → ¬ (view value.now ≡ array_of (natural var ∷ natural reg ∷ [])))) }
+{
+    let (first, second) = pair_of(value)?;
+    let var = short_of(first)?;
+    let reg = byte_of(second)?;
+    Ok((var, reg))
 }
 
 /// The name of an invariant, whether or not there is one of that name.
-fn name_of(value: &Value) -> Result<Name, ScriptError> {
+fn name_of(value: &Value) -> Result<Name, ScriptError>
+    ensures ok { IfOk result (λ name. (view value.now ≡ string name) × IsName name) }
+    ensures refused { IfErr result (λ e. Refuses e ((name : List ℕ) → IsName name → ¬ (view value.now ≡ string name))) }
+{
     let text = value.as_str().ok_or(ScriptError::NoScript)?;
     Name::new(text).map_err(|_| ScriptError::NoScript)
 }
 
 /// A call of a stored step, by its name.
-fn step_of(alloc: Global, value: &Value) -> Result<Tx, ScriptError> {
-    let (name, args, out) = triple_of(value)?;
-    let name = name.as_str().ok_or(ScriptError::NoScript)?;
-    let index = index_of(name).ok_or(ScriptError::NoScript)?;
-    let args = registers_of(alloc, args)?;
-    let out = byte_of(out)?;
+fn step_of(alloc: Global, value: &Value) -> Result<Tx, ScriptError>
+    ensures ok { IfOk result (λ tx. IsTx tx (tagged (codes "step") (view value.now))) }
+    ensures refused { IfErr result (λ e. Refuses e ((tx : Tx) → ¬ IsTx tx (tagged (codes "step") (view value.now)))) }
+{
+    let (name, registers, register) = triple_of(value)?;
+    let index = step_index_of(name)?;
+    let args = registers_of(alloc, registers)?;
+    let out = byte_of(register)?;
     Ok(Tx::Step { index, args, out })
 }
 
-fn registers_of(alloc: Global, value: &Value) -> Result<Vec<u8>, ScriptError> {
-    let items = value.as_array().ok_or(ScriptError::NoScript)?;
-    let mut registers = Vec::with_capacity(alloc, items.len())?;
-    for item in items {
-        registers.push(byte_of(item)?)?;
-    }
-    Ok(registers)
+/// Where the step of this name stands.
+fn step_index_of(value: &Value) -> Result<u16, ScriptError>
+    ensures ok { IfOk result (λ index. (view value.now ≡ string (slice_index_or step_names index [])) × (index < length step_names)) }
+    ensures refused { IfErr result (λ e. Refuses e ((index : ℕ) → index < length step_names
+        → ¬ (view value.now ≡ string (slice_index_or step_names index [])))) }
+{
+    let name = value.as_str().ok_or(ScriptError::NoScript)?;
+    index_of(name).ok_or(ScriptError::NoScript)
 }

@@ -3,12 +3,12 @@ use Rattle.tmem_tentative.specs.declared.log.Log.{Log}
 use Rattle.tmem_tentative.specs.declared.log.Flow.{Flow}
 use Rattle.tmem_tentative.specs.declared.log.Flow.TheVariants.{Normal, Need, Retry, Abort}
 use Rattle.tmem_tentative.specs.Eval as eval
-use Rattle.tmem_tentative.specs.Eval.{State, Goes, Needs, Retries, Aborts}
+use Rattle.tmem_tentative.specs.Eval.{RunState, Goes, Needs, Retries, Aborts}
 
-abbrev pub state_of : Log → State
-state_of log = record { registers = log.registers; effect = log.effect; seen = log.reads.entries }
+abbrev pub run_state_of : Log → RunState
+run_state_of log = record { registers = log.registers; effect = log.effect; seen = log.reads.entries }
 
-abbrev pub flow_of : Flow → State → eval.Flow
+abbrev pub flow_of : Flow → RunState → eval.Flow
 flow_of Normal s = Goes s
 flow_of (Need var) s = Needs var
 flow_of Retry s = Retries s.seen

@@ -1,7 +1,7 @@
 -- When an evaluation is right.
 use Rattle.std.specs.Prelude.{◌≡◌, ℕ, ℤ, List, [], ◌∷◌, map, Option, Some, None}
 use Rattle.tmem_tree.specs.declared.tx.Tx.{Tx}
-use Rattle.tmem_tree.specs.Answers.{Meanings}
+use Rattle.tmem_tree.specs.StepAnswers.{StepMeanings}
 use Rattle.tmem_record.specs.State.{no_effect}
 use Rattle.tmem_record.specs.Writes.{look}
 use Rattle.tmem_tree.specs.Run as run
@@ -35,20 +35,20 @@ pub record IsBlank (a : Attempt) : Type 0 where
   pub effect : a.effect ≡ no_effect
 
 -- the run's ending, and where that is normal its registers and its effect
-abbrev pub EndsAs : run.Ending → Attempt → Type 0
+abbrev pub EndsAs : run.RunResult → Attempt → Type 0
 EndsAs (run.Normal view) a = (a.ending ≡ Normal) × (a.registers ≡ view.registers) × (a.effect ≡ view.effect)
 EndsAs run.Retried a = (a.ending ≡ Retry) × IsBlank a
 EndsAs (run.Aborted code) a = (a.ending ≡ Abort code) × IsBlank a
 
 -- on EVERY map that agrees with the attempt's reads, these are the visited variables, in order, with their values, and the
 -- run ends as the attempt does
-pub record IsRight (steps : Meanings) (tx : Tx) (a : Attempt) : Type 0 where
+pub record IsRight (steps : StepMeanings) (tx : Tx) (a : Attempt) : Type 0 where
   pub reads : (values : ℕ → ℤ) → Agrees values a.reads.entries → a.reads.entries ≡ valued values (visited steps tx values)
   pub ends : (values : ℕ → ℤ) → Agrees values a.reads.entries → EndsAs (run steps tx (start values)) a
 
 -- on every map that agrees with the reads handed in, the variable is the first visited one that they lack; or they lack
 -- none, the attempt has what they have of the visited ones, and it is right
-abbrev pub IsOutcome : Meanings → Tx → List (ℕ × ℤ) → Outcome → Type 0
+abbrev pub IsOutcome : StepMeanings → Tx → List (ℕ × ℤ) → Outcome → Type 0
 IsOutcome steps tx reads (Need var) =
     (values : ℕ → ℤ) → Agrees values reads → first_lacking reads (visited steps tx values) ≡ Some var
 IsOutcome steps tx reads (Ended a) =

@@ -1,7 +1,7 @@
 // One evaluation, from the start.
 
 ghost use Rattle.std.specs.Prelude.{◌≡◌, ℕ, List, IfOk, IfErr};
-ghost use Rattle.tmem_tree.specs.Answers.{Meanings};
+ghost use Rattle.tmem_tree.specs.StepAnswers.{StepMeanings};
 ghost use Rattle.tmem_tree.specs.Plans.{FitsSteps, FitsVariables, FitsNames};
 ghost use Rattle.tmem_tentative.specs.Right.{IsOutcome, IsBlank};
 ghost use Rattle.tmem_tentative.specs.Fits.{IsFit, IsWithin, IsNamed};
@@ -23,7 +23,7 @@ pub fn evaluate<S: StoredSteps>(
     reads: &Reads,
 ) -> Result<Outcome, Fault>
     requires { FitsSteps (S.arities steps.now) plan.now }
-    ensures right { (m : Meanings) → S.is_stated steps.now m → IfOk result (IsOutcome m plan.now reads.now.entries) }
+    ensures right { (m : StepMeanings) → S.is_stated steps.now m → IfOk result (IsOutcome m plan.now reads.now.entries) }
 
     // What holds of each answer, whatever the steps mean.
     ensures fits { IfOk result (IsFit reads.now.entries) }
@@ -33,7 +33,7 @@ pub fn evaluate<S: StoredSteps>(
 {
     let mut log = Log {
         registers: [0; REGISTERS],
-        effect: Effect::new(alloc)?,
+        effect: Effect::new(),
         reads: Reads::new(alloc),
     };
     let flow = walk(alloc, plan.tree(), steps, reads, &mut log)?;

@@ -2,22 +2,23 @@
 
 ghost use Rattle.std.specs.Prelude.{◌≡◌, ℕ, ◌+◌, ◌<◌, ◌≤◌, IfOk, IfErr, false, length, take, map, slice_index};
 ghost use Rattle.std.specs.List.{list_any};
-ghost use Rattle.tmem_tree.specs.Answers.{Meanings};
+ghost use Rattle.tmem_tree.specs.StepAnswers.{StepMeanings};
 ghost use Rattle.tmem_record.specs.Writes.{look};
 ghost use Rattle.tmem_tree.specs.Limits.{count, is_write, is_check, has_bad_register, is_no_register};
 ghost use Rattle.tmem_tree.specs.Plans.{FitsSteps};
 ghost use Rattle.tmem_tree.specs.Run.{register};
 ghost use Rattle.tmem_tentative.specs.Eval.{eval, read, answered};
-ghost use Rattle.tmem_tentative.specs.Logs.{state_of, flow_of};
+ghost use Rattle.tmem_tentative.specs.Logs.{run_state_of, flow_of};
 
 use crate::attempt::Reads;
 use crate::log::{Flow, Log};
-use std::alloc::Global;
+use std::alloc::{AllocError, Global};
 use tmem_disk::Fault;
 use tmem_record::Effect;
 use tmem_tree::{MAX_ARGUMENTS, REGISTERS, StepAnswer, StoredSteps, Tx};
 
 /// Goes on with a run, as far as the reads allow.
+#[cycle(walk)]
 pub(crate) fn walk<S: StoredSteps>(
     alloc: Global,
     tx: &Tx,
@@ -31,7 +32,7 @@ pub(crate) fn walk<S: StoredSteps>(
     requires names { length log.old.effect.names + count is_check tx.now ≤ 8 }
     ensures room { length log.new.effect.writes ≤ length log.old.effect.writes + count is_write tx.now }
     ensures names { length log.new.effect.names ≤ length log.old.effect.names + count is_check tx.now }
-    ensures flow { (m : Meanings) → S.is_stated steps.now m → IfOk result (λ flow. flow_of flow (state_of log.new) ≡ eval m reads.now.entries tx.now (state_of log.old)) }
+    ensures flow { (m : StepMeanings) → S.is_stated steps.now m → IfOk result (λ flow. flow_of flow (run_state_of log.new) ≡ eval m reads.now.entries tx.now (run_state_of log.old)) }
     ensures fault { IfErr result (λ fault. fault ≡ Fault.Memory) }
 {
     match tx {
@@ -62,17 +63,10 @@ pub(crate) fn walk<S: StoredSteps>(
                 walk(alloc, then, steps, reads, log)
             }
         }
-        Tx::OrElse(first, second) => {
-            let registers = log.registers;
-            let effect = log.effect.copy(alloc)?;
-            match walk(alloc, first, steps, reads, log)? {
-                Flow::Retry => {
-                    forget(log, registers, effect);
-                    walk(alloc, second, steps, reads, log)
-                }
-                flow => Ok(flow),
-            }
-        }
+        Tx::OrElse(first, second) => match walk_first(alloc, first, steps, reads, log)? {
+            Flow::Retry => walk(alloc, second, steps, reads, log),
+            flow => Ok(flow),
+        },
         Tx::Retry => Ok(Flow::Retry),
         Tx::Abort { code } => Ok(Flow::Abort(*code)),
         Tx::Check { name } => {
@@ -82,21 +76,59 @@ pub(crate) fn walk<S: StoredSteps>(
     }
 }
 
+// Goes on with the first branch of a choice. Where that retries, the registers and the effect are as before it. They are
+// saved in a frame of their own: `walk` has a frame for each level of the tree, and the second branch needs no copy.
+#[cycle(walk)]
+#[inline(never)]
+fn walk_first<S: StoredSteps>(
+    alloc: Global,
+    tx: &Tx,
+    steps: &S,
+    reads: &Reads,
+    log: &mut Log,
+) -> Result<Flow, Fault>
+    requires registers { count has_bad_register tx.now ≡ 0 }
+    requires steps { FitsSteps (S.arities steps.now) tx.now }
+    requires room { length log.old.effect.writes + count is_write tx.now ≤ 64 }
+    requires names { length log.old.effect.names + count is_check tx.now ≤ 8 }
+    ensures room { length log.new.effect.writes ≤ length log.old.effect.writes + count is_write tx.now }
+    ensures names { length log.new.effect.names ≤ length log.old.effect.names + count is_check tx.now }
+    ensures flow { (m : StepMeanings) → S.is_stated steps.now m → IfOk result (λ flow. flow_of flow (run_state_of log.new) ≡ eval m reads.now.entries tx.now (run_state_of log.old)) }
+    ensures registers { result ≡ Ok Flow.Retry → log.new.registers ≡ log.old.registers }
+    ensures effect { result ≡ Ok Flow.Retry → log.new.effect ≡ log.old.effect }
+    ensures fault { IfErr result (λ fault. fault ≡ Fault.Memory) }
+{
+    let registers = log.registers;
+    let effect = saved(alloc, &log.effect)?;
+    let flow = walk(alloc, tx, steps, reads, log)?;
+    if flow == Flow::Retry {
+        forget(log, registers, &effect);
+    }
+    Ok(flow)
+}
+
+// A copy of an effect in memory of its own: it would be large in the frame of a walk.
+fn saved(alloc: Global, effect: &Effect) -> Result<Box<Effect>, AllocError>
+    ensures { IfOk result (λ saved. saved.value ≡ effect.now) }
+{
+    Ok(Box::new(alloc, effect.copy())?)
+}
+
 // Forgets what a branch did that retried, but for its reads: registers and effect are as before it.
-fn forget(log: &mut Log, registers: [i64; REGISTERS], effect: Effect)
+fn forget(log: &mut Log, registers: [i64; REGISTERS], effect: &Effect)
     ensures registers { log.new.registers ≡ registers }
-    ensures effect { log.new.effect ≡ effect }
+    ensures effect { log.new.effect ≡ effect.now }
     ensures reads { log.new.reads ≡ log.old.reads }
 {
     log.registers = registers;
-    log.effect = effect;
+    log.effect.copy_from(effect);
 }
 
 // A Read of one variable.
 fn read(reads: &Reads, log: &mut Log, var: u16, reg: u8) -> Result<Flow, Fault>
     requires { reg < 16 }
     ensures effect { log.new.effect ≡ log.old.effect }
-    ensures flow { IfOk result (λ flow. flow_of flow (state_of log.new) ≡ read (look log.old.effect.writes var) (look reads.now.entries var) (state_of log.old) var reg) }
+    ensures flow { IfOk result (λ flow. flow_of flow (run_state_of log.new) ≡ read (look log.old.effect.writes var) (look reads.now.entries var) (run_state_of log.old) var reg) }
     ensures fault { IfErr result (λ fault. fault ≡ Fault.Memory) }
 {
     if let Some(number) = log.effect.writes.get(var) {
@@ -121,7 +153,7 @@ fn call<S: StoredSteps>(steps: &S, log: &mut Log, index: u16, args: &[u8], out: 
     requires registers { list_any is_no_register args.now ≡ false }
     requires out { out < 16 }
     ensures effect { log.new.effect ≡ log.old.effect }
-    ensures flow { (m : Meanings) → S.is_stated steps.now m → flow_of result (state_of log.new) ≡ answered (m index (map (register log.old.registers) args.now)) (state_of log.old) out }
+    ensures flow { (m : StepMeanings) → S.is_stated steps.now m → flow_of result (run_state_of log.new) ≡ answered (m index (map (register log.old.registers) args.now)) (run_state_of log.old) out }
 {
     let mut given = [0; MAX_ARGUMENTS as usize];
     gather(args, &log.registers, &mut given);

@@ -2,26 +2,27 @@
 ghost use Rattle.std.specs.Prelude.{◌≡◌, IfOk};
 ghost use Rattle.tmem_world.specs.Represents.{numbers_of, HoldsSession};
 
+mod at_limits;
 mod batches;
 mod contents;
 mod devices;
 mod disks;
 mod limits;
+mod no_closures;
 mod plays;
 mod tables;
-mod trees;
 
 use std::alloc::{AllocError, Global};
 use tmem_disk::{Fault, SimDisk};
-use tmem_invariants::{Table, Tests};
-use tmem_tree::{Steps, StoredSteps, Tx};
-use tmem_world::{Event, Layout, Reply, World, format};
+use tmem_invariants::Invariants;
+use tmem_tree::{StoredSteps, Tx};
+use tmem_world::{Event, Layout, Reply, Settled, World, format};
 
 /// What is answered to a transaction that was accepted, and left this number in register 0 alone.
 fn committed(number: u64, first: i64) -> Reply {
     let mut registers = [0; 16];
     registers[0] = first;
-    Reply::Committed { number, registers }
+    Reply::Settled(Settled::Committed { number, registers })
 }
 
 /// Puts a number in register 0, and writes it to a variable.
@@ -37,17 +38,8 @@ fn fresh(alloc: Global) -> Result<SimDisk, Fault> {
     Ok(disk)
 }
 
-/// For four variables, no invariant and no stored step.
-fn no_closures(alloc: Global) -> Result<(Table, Steps), Fault>
-    ensures { IfOk result (λ made. made.0.vars ≡ 4) }
-{
-    let table = Table::of(Vec::new(alloc), 4)?;
-    let steps = Steps::of(Vec::new(alloc))?;
-    Ok((table, steps))
-}
-
 /// A world over a device of four variables and four slots.
-fn opened<T: Tests + Drop, S: StoredSteps + Drop>(
+fn opened<T: Invariants + Drop, S: StoredSteps + Drop>(
     alloc: Global,
     disk: SimDisk,
     table: T,
@@ -64,7 +56,7 @@ fn opened<T: Tests + Drop, S: StoredSteps + Drop>(
 }
 
 /// What opening a device of four slots is refused by, and the device.
-fn refusal<T: Tests + Drop, S: StoredSteps + Drop>(
+fn refusal<T: Invariants + Drop, S: StoredSteps + Drop>(
     alloc: Global,
     disk: SimDisk,
     vars: u16,
@@ -81,7 +73,10 @@ fn refusal<T: Tests + Drop, S: StoredSteps + Drop>(
 }
 
 /// Begins a transaction that reads nothing on slot 0, evaluates it and settles it.
-fn commit<T: Tests + Drop, S: StoredSteps + Drop>(world: &mut World<SimDisk, T, S>, tx: Tx) -> Reply
+fn commit<T: Invariants + Drop, S: StoredSteps + Drop>(
+    world: &mut World<SimDisk, T, S>,
+    tx: Tx,
+) -> Reply
     ensures { numbers_of world.new ≡ numbers_of world.old }
 {
     let _ = world.step(Event::Begin { slot: 0, tx });

@@ -1,2 +1,2 @@
-pub mod Rows
-mod Unbroken
+pub mod Laws
+mod Plans

@@ -1,5 +1,5 @@
-pub mod Answers
-pub mod Chosen
+pub mod StepAnswers
+pub mod ChosenSteps
 pub mod Limits
 pub mod Plans
 pub mod Run

@@ -1,5 +1,5 @@
 -- Which transactions are plans.
-use Rattle.std.specs.Prelude.{◌≡◌, ℕ, ◌<◌, ◌≤◌, Bool, false, List}
+use Rattle.std.specs.Prelude.{◌≡◌, ℕ, ◌<◌, ◌≤◌, Bool, false, ◌||◌, List}
 use Rattle.tmem_disk.specs.declared.fault.Cause.{Cause}
 use Rattle.tmem_disk.specs.declared.fault.Cause.TheVariants.{TooDeep, TooManyNodes, TooManyWrites, TooManyChecks, BadRegister, BadVariable, BadStep, BadArguments, UnknownName}
 use Rattle.tmem_disk.specs.Fault.{number_of}
@@ -17,6 +17,11 @@ is_counted BadVariable arities vars names = has_bad_variable vars
 is_counted BadStep arities vars names = has_bad_step arities
 is_counted BadArguments arities vars names = has_bad_arguments arities
 is_counted UnknownName arities vars names = has_unknown_name names
+
+-- the nodes that break a limit by themselves
+abbrev pub is_bad : List ℕ → ℕ → List (List ℕ) → Tx → Bool
+is_bad arities vars names tx =
+    has_bad_register tx || has_bad_variable vars tx || has_bad_step arities tx || has_bad_arguments arities tx || has_unknown_name names tx
 
 -- the limit of this cause is broken, for steps that take so many arguments, for so many variables and for invariants of
 -- these names

@@ -8,7 +8,7 @@ use Rattle.tmem_tree.specs.declared.tx.Tx.{Tx, Row_of-Tx, end_of-Tx, more_of-Tx}
 use Rattle.tmem_tree.specs.declared.tx.Tx.TheVariants.{Skip, Seq', Put, Read, Write, Step, When', OrElse', Retry, Abort, Check}
 use Rattle.tmem_tree.specs.declared.step.StepAnswer.{StepAnswer}
 use Rattle.tmem_tree.specs.declared.step.StepAnswer.TheVariants as answer
-use Rattle.tmem_tree.specs.Answers.{Meanings}
+use Rattle.tmem_tree.specs.StepAnswers.{StepMeanings}
 use Rattle.tmem_record.specs.State.{no_effect}
 use Rattle.tmem_record.specs.Names.{with_name}
 use Rattle.tmem_record.specs.Writes.{with_write}
@@ -21,10 +21,10 @@ pub record View : Type 0 where
   pub effect : Effect
 
 -- how a run ends
-pub data Ending : Type 0 where
-  Normal : (view : View) → Ending
-  Retried : Ending
-  Aborted : (code : ℕ) → Ending
+pub data RunResult : Type 0 where
+  Normal : (view : View) → RunResult
+  Retried : RunResult
+  Aborted : (code : ℕ) → RunResult
 
 abbrev pub no_registers : List ℤ
 no_registers = replicate 16 (pos 0)
@@ -61,26 +61,26 @@ is_zero (pos zero) = true
 is_zero _ = false
 
 -- goes on where the run ended normally
-abbrev pub then_run : Ending → (View → Ending) → Ending
+abbrev pub then_run : RunResult → (View → RunResult) → RunResult
 then_run (Normal view) next = next view
 then_run Retried next = Retried
 then_run (Aborted code) next = Aborted code
 
 -- the second in place of the first where that retried
-abbrev pub or_else : Ending → Ending → Ending
+abbrev pub or_else : RunResult → RunResult → RunResult
 or_else (Normal view) second = Normal view
 or_else Retried second = second
 or_else (Aborted code) second = Aborted code
 
 -- a value goes to the register
-abbrev pub answered : StepAnswer → View → ℕ → Ending
+abbrev pub answered : StepAnswer → View → ℕ → RunResult
 answered (answer.Value n) view out = Normal (put view out n)
 answered answer.Retry view out = Retried
 answered (answer.Abort code) view out = Aborted code
 
-module _ (steps : Meanings) where
+module _ (steps : StepMeanings) where
   abbrev mutual
-    pub run : Tx → View → Ending
+    pub run : Tx → View → RunResult
     run Skip view = Normal view
     run (Seq' shape txs) view = run_all txs view
     run (Put reg number) view = Normal (put view reg number)
@@ -95,6 +95,6 @@ module _ (steps : Meanings) where
     run (Check name) view = Normal (check view name)
 
     -- one after another, up to the first that does not end normally
-    pub run_all : {m : _} → Row_of-Tx m → View → Ending
+    pub run_all : {m : _} → Row_of-Tx m → View → RunResult
     run_all end_of-Tx view = Normal view
     run_all (more_of-Tx tx txs) view = then_run (run tx view) (run_all txs)

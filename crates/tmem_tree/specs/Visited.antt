@@ -3,9 +3,9 @@
 use Rattle.std.specs.Prelude.{ℕ, ℤ, Bool, true, false, List, [], ◌∷◌, ◌++◌, Option, Some, None, nat_eq, if◌then◌else◌}
 use Rattle.tmem_tree.specs.declared.tx.Tx.{Tx, Row_of-Tx, end_of-Tx, more_of-Tx}
 use Rattle.tmem_tree.specs.declared.tx.Tx.TheVariants.{Skip, Seq', Put, Read, Write, Step, When', OrElse', Retry, Abort, Check}
-use Rattle.tmem_tree.specs.Answers.{Meanings}
+use Rattle.tmem_tree.specs.StepAnswers.{StepMeanings}
 use Rattle.tmem_record.specs.Writes.{look}
-use Rattle.tmem_tree.specs.Run.{View, Ending, Normal, Retried, Aborted, run, start, is_zero, register}
+use Rattle.tmem_tree.specs.Run.{View, RunResult, Normal, Retried, Aborted, run, start, is_zero, register}
 
 -- a Read of a variable that the transaction did not write
 abbrev pub read_of : Option ℤ → ℕ → List ℕ
@@ -13,18 +13,18 @@ read_of (Some n) var = []
 read_of None var = var ∷ []
 
 -- what is visited next, where a run ended normally
-abbrev pub then_visit : Ending → (View → List ℕ) → List ℕ
+abbrev pub then_visit : RunResult → (View → List ℕ) → List ℕ
 then_visit (Normal view) next = next view
 then_visit Retried next = []
 then_visit (Aborted code) next = []
 
 -- what is visited next, where a run retried
-abbrev pub else_visit : Ending → List ℕ → List ℕ
+abbrev pub else_visit : RunResult → List ℕ → List ℕ
 else_visit (Normal view) vars = []
 else_visit Retried vars = vars
 else_visit (Aborted code) vars = []
 
-module _ (steps : Meanings) where
+module _ (steps : StepMeanings) where
   -- the variables of the Reads that the run reaches while the view's effect has no write of them, one after another
   abbrev mutual
     pub visits : Tx → View → List ℕ
@@ -58,5 +58,5 @@ each_once seen [] = seen
 each_once seen (var ∷ vars) = each_once (noted seen var) vars
 
 -- each visited variable once, in order of first visit, of the run on a map
-abbrev pub visited : Meanings → Tx → (ℕ → ℤ) → List ℕ
+abbrev pub visited : StepMeanings → Tx → (ℕ → ℤ) → List ℕ
 visited steps tx values = each_once [] (visits steps tx (start values))

@@ -5,14 +5,17 @@
 //! the meaning that its maker stated; the layers above ask for `StoredSteps`, and name no closure.
 #![tactic(auto)]
 
+mod budget;
 mod limits;
 mod plan;
+mod settled;
 mod step;
 mod steps;
 mod tx;
 
 pub use limits::{MAX_DEPTH, MAX_NODES, MAX_WRITES, REGISTERS};
 pub use plan::Plan;
+pub use settled::Settled;
 pub use step::{MAX_ARGUMENTS, Step, StepAnswer, StepEntry};
 pub use steps::{MAX_STEPS, Steps, StoredSteps};
 pub use tmem_record::MAX_CHECKS;

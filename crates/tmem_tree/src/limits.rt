@@ -3,7 +3,7 @@
 ghost use Rattle.std.specs.Prelude.{◌≡◌, ℕ, ◌+◌, ◌-◌, ◌≤◌, ◌<◌, ◌^◌, IfSome, IsNone, IsTrue, ◌↔◌};
 ghost use Rattle.std.specs.List.{list_any};
 ghost use Rattle.tmem_tree.specs.Limits.{depth, count, is_no_register, has_bad_register, has_bad_variable, has_bad_step, has_bad_arguments, has_unknown_name};
-ghost use Rattle.tmem_tree.specs.Plans.{is_counted};
+ghost use Rattle.tmem_tree.specs.Plans.{is_bad, is_counted};
 
 use crate::steps::StoredSteps;
 use crate::tx::Tx;
@@ -99,19 +99,31 @@ fn is_counted<S: StoredSteps>(tx: &Tx, cause: Cause, steps: &S, vars: u16, names
     }
 }
 
+/// Whether a node names a register, a variable, a step or a name that is not there, or hands a step another number of
+/// arguments than it takes.
+pub(crate) fn has_bad_part<S: StoredSteps>(tx: &Tx, steps: &S, vars: u16, names: &[Name]) -> bool
+    ensures { result ≡ is_bad (S.arities steps.now) vars names.now tx.now }
+{
+    has_bad_register(tx)
+        || has_bad_variable(tx, vars)
+        || has_bad_step(tx, steps)
+        || has_bad_arguments(tx, steps)
+        || has_unknown_name(tx, names)
+}
+
 fn has_bad_register(tx: &Tx) -> bool
     ensures { result ≡ has_bad_register tx.now }
 {
     match tx {
         Tx::Put { reg, .. } | Tx::Read { reg, .. } | Tx::Write { reg, .. } | Tx::When { reg, .. } =>
             *reg as usize >= REGISTERS,
-        Tx::Step { args, out, .. } => *out as usize >= REGISTERS || has_no_register(args),
+        Tx::Step { args, out, .. } => *out as usize >= REGISTERS || any_bad_register(args),
         _ => false,
     }
 }
 
 // Whether one of these is no register.
-fn has_no_register(regs: &[u8]) -> bool
+fn any_bad_register(regs: &[u8]) -> bool
     ensures { result ≡ list_any is_no_register regs.now }
 {
     regs.iter().any(|reg| *reg as usize >= REGISTERS)

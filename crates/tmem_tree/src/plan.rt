@@ -1,8 +1,9 @@
 // A transaction within the limits.
 
-ghost use Rattle.std.specs.Prelude.{◌≡◌, IfOk, IfErr, IfSome, IsNone};
+ghost use Rattle.std.specs.Prelude.{◌≡◌, ◌↔◌, IsTrue, IfOk, IfErr};
 ghost use Rattle.tmem_tree.specs.Plans.{BreaksNone, IsLeastBroken, IsWithinLimits, FitsSteps, FitsVariables, FitsNames};
 
+use crate::budget::{WHOLE, pay};
 use crate::limits::{MAX_DEPTH, MAX_NODES, MAX_WRITES, is_within_depth, spend};
 use crate::steps::StoredSteps;
 use crate::tx::Tx;
@@ -35,7 +36,7 @@ impl Model for Plan {
 impl Plan {
     /// The plan, for these steps, so many variables and the invariants of these names. Refused with the least cause by
     /// number whose limit is broken.
-    #[tactic(auto, using(crate::proofs::Unbroken::fits_steps, crate::proofs::Unbroken::fits_variables, crate::proofs::Unbroken::fits_names))]
+    #[tactic(auto, using(crate::proofs::Plans::fits_steps, crate::proofs::Plans::fits_variables, crate::proofs::Plans::fits_names))]
     pub fn new<S: StoredSteps>(tx: Tx, steps: &S, vars: u16, names: &[Name]) -> Result<Plan, Fault>
         ensures plan { IfOk result (λ plan. plan ≡ tx) }
         ensures fine { IfOk result (λ _. BreaksNone (S.arities steps.now) vars names.now tx) }
@@ -44,10 +45,10 @@ impl Plan {
         ensures names { IfOk result (λ _. FitsNames names.now tx) }
         ensures least { IfErr result (λ fault. (cause : Cause) × (fault ≡ Fault.BadPlan cause) × IsLeastBroken (S.arities steps.now) vars names.now tx cause) }
     {
-        match least_broken(&tx, steps, vars, names) {
-            Some(cause) => Err(Fault::BadPlan(cause)),
-            None => Ok(Plan { tx }),
+        if breaks_none(&tx, steps, vars, names) {
+            return Ok(Plan { tx });
         }
+        Err(Fault::BadPlan(least_broken(&tx, steps, vars, names)))
     }
 
     /// The transaction.
@@ -59,38 +60,42 @@ impl Plan {
     }
 }
 
-// The least limit that is broken, if one is.
-fn least_broken<S: StoredSteps>(tx: &Tx, steps: &S, vars: u16, names: &[Name]) -> Option<Cause>
-    ensures some { IfSome result (λ cause. IsLeastBroken (S.arities steps.now) vars names.now tx.now cause) }
-    ensures none { IsNone result → BreaksNone (S.arities steps.now) vars names.now tx.now }
+// Whether no limit is broken.
+fn breaks_none<S: StoredSteps>(tx: &Tx, steps: &S, vars: u16, names: &[Name]) -> bool
+    ensures { IsTrue result ↔ BreaksNone (S.arities steps.now) vars names.now tx.now }
+{
+    pay(tx, steps, vars, names, MAX_DEPTH, WHOLE).is_some()
+}
+
+// The least limit that is broken, where one is.
+fn least_broken<S: StoredSteps>(tx: &Tx, steps: &S, vars: u16, names: &[Name]) -> Cause
+    requires { ¬ BreaksNone (S.arities steps.now) vars names.now tx.now }
+    ensures { IsLeastBroken (S.arities steps.now) vars names.now tx.now result }
 {
     let checks = MAX_CHECKS as u32;
     if !is_within_depth(tx, MAX_DEPTH) {
-        return Some(Cause::TooDeep);
+        return Cause::TooDeep;
     }
     if spend(tx, Cause::TooManyNodes, steps, vars, names, MAX_NODES).is_none() {
-        return Some(Cause::TooManyNodes);
+        return Cause::TooManyNodes;
     }
     if spend(tx, Cause::TooManyWrites, steps, vars, names, MAX_WRITES).is_none() {
-        return Some(Cause::TooManyWrites);
+        return Cause::TooManyWrites;
     }
     if spend(tx, Cause::TooManyChecks, steps, vars, names, checks).is_none() {
-        return Some(Cause::TooManyChecks);
+        return Cause::TooManyChecks;
     }
     if spend(tx, Cause::BadRegister, steps, vars, names, 0).is_none() {
-        return Some(Cause::BadRegister);
+        return Cause::BadRegister;
     }
     if spend(tx, Cause::BadVariable, steps, vars, names, 0).is_none() {
-        return Some(Cause::BadVariable);
+        return Cause::BadVariable;
     }
     if spend(tx, Cause::BadStep, steps, vars, names, 0).is_none() {
-        return Some(Cause::BadStep);
+        return Cause::BadStep;
     }
     if spend(tx, Cause::BadArguments, steps, vars, names, 0).is_none() {
-        return Some(Cause::BadArguments);
+        return Cause::BadArguments;
     }
-    if spend(tx, Cause::UnknownName, steps, vars, names, 0).is_none() {
-        return Some(Cause::UnknownName);
-    }
-    None
+    Cause::UnknownName
 }

@@ -1,7 +1,7 @@
 // One stored step.
 
 ghost use Rattle.std.specs.Prelude.{◌≡◌, ℕ, ◌≤◌, ℤ, List, length, IsOk, IfOk, IfErr, ◌↔◌};
-ghost use Rattle.tmem_tree.specs.Answers.{MayCall, Gives, HasMeaning};
+ghost use Rattle.tmem_tree.specs.StepAnswers.{MayCall, Gives, HasMeaning};
 
 use tmem_disk::{Cause, Fault};
 

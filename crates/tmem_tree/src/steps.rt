@@ -1,7 +1,7 @@
 // The stored steps of a program, in order.
 
 ghost use Rattle.std.specs.Prelude.{◌≡◌, ℕ, ◌<◌, ◌≤◌, List, length, vec_len, map, All, slice_index, slice_get, Some, IsOk, IfOk, IfErr, ◌↔◌};
-ghost use Rattle.tmem_tree.specs.Answers.{Meanings, Gives};
+ghost use Rattle.tmem_tree.specs.StepAnswers.{StepMeanings, Gives};
 
 use crate::step::{Step, StepAnswer, StepEntry};
 use tmem_disk::{Cause, Fault};
@@ -15,7 +15,7 @@ pub trait StoredSteps {
     ghost arities: { Self → List ℕ };
 
     /// Each answers what these meanings say of its index.
-    ghost is_stated: { Self → Meanings → Type 0 };
+    ghost is_stated: { Self → StepMeanings → Type 0 };
 
     /// How many there are.
     fn len(&self) -> usize
@@ -30,7 +30,7 @@ pub trait StoredSteps {
     fn answer(&self, index: usize, args: &[i64]) -> StepAnswer
         requires there { index < length (arities self.now) }
         requires given { length args.now ≡ slice_index (arities self.now) index }
-        ensures { (m : Meanings) → is_stated self.now m → result ≡ m index args.now };
+        ensures { (m : StepMeanings) → is_stated self.now m → result ≡ m index args.now };
 
     /// There are at most `MAX_STEPS`.
     ghost few: { (steps : Self) → length (arities steps) ≤ 64 };
@@ -39,7 +39,7 @@ pub trait StoredSteps {
     ghost small: { (steps : Self) → All (λ n. n ≤ 4) (arities steps) };
 
     /// Each has a meaning.
-    ghost has_meanings: { (steps : Self) → ∥ ((m : Meanings) × is_stated steps m) ∥₁ };
+    ghost has_meanings: { (steps : Self) → ∥ ((m : StepMeanings) × is_stated steps m) ∥₁ };
 }
 
 /// Stored steps that are closures.
@@ -90,7 +90,7 @@ impl StoredSteps for Steps {
     ghost small = { λ steps. All-map (λ n. n ≤ 4) (λ entry. entry.arity) steps.entries.items (λ k d below. (get_or steps.entries.items k d).few) };
 
     ghost use Rattle.tmem_tree.specs.declared.step.StepAnswer.TheVariants.{Retry};
-    ghost use Rattle.tmem_tree.specs.Chosen.{chosen};
+    ghost use Rattle.tmem_tree.specs.ChosenSteps.{chosen};
 
     ghost has_meanings = { λ steps. chosen _ (λ _. Retry) (λ entry. entry.stated) steps.entries.items };
 }

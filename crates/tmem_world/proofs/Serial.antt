@@ -6,8 +6,8 @@ use Rattle.tmem_record.specs.declared.effect.Effect.{Effect}
 use Rattle.tmem_tree.specs.declared.tx.Tx.{Tx}
 use Rattle.tmem_core.specs.Program.{Program}
 use Rattle.tmem_core.specs.Verdict.{effect_of, accepted_of, state_after, serial_state, serial_effects, IsCommitted, AreCommitted, verdict}
-use Rattle.tmem_record.proofs.Folding.{length-names-fold-le}
-use Rattle.tmem_core.proofs.Serials.{accepted_of-committed, state_after-committed, serial_effects-push, serial_state-append, serial_state-fold, length-serial_effects}
+use Rattle.tmem_record.proofs.Laws.{length-names-fold-le}
+use Rattle.tmem_core.proofs.Laws.{accepted_of-committed, state_after-committed, serial_effects-push, serial_state-append, serial_state-fold, length-serial_effects}
 
 drop-append : (k : ℕ) (es fs : List Effect) → k ≤ length es → drop k (es ++ fs) ≡ drop k es ++ fs
 drop-append zero es fs le = refl

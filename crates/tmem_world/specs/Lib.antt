@@ -1,8 +1,9 @@
+pub mod AnyDevice
 pub mod Facts
-pub mod Refusals
+pub mod HeldTable
 pub mod Replies
 pub mod Represents
+pub mod SessionRefusals
 pub mod Sessions
-pub mod Settle
-pub mod Tables
+pub mod SettleSlot
 pub mod WorldModel

@@ -1,11 +1,18 @@
 -- What a reply tells of the device, and what it acknowledges.
-use Rattle.std.specs.Prelude.{◌≡◌, ⊤, ◌⊎◌, ℕ, ◌<◌, List, [], ◌∷◌}
+use Rattle.std.specs.Prelude.{◌≡◌, ⊤, ◌⊎◌, ℕ, ◌<◌, List, [], ◌∷◌, Result, Ok, Err}
+use Rattle.tmem_disk.specs.declared.fault.Fault.{Fault}
 use Rattle.tmem_disk.specs.declared.fault.Fault.TheVariants as fault
+use Rattle.tmem_tree.specs.declared.settled.Settled.{Settled}
 use Rattle.tmem_event.specs.declared.event.Event.{Event}
 use Rattle.tmem_event.specs.declared.event.Event.TheVariants as event
 use Rattle.tmem_event.specs.declared.event.Reply.{Reply}
 use Rattle.tmem_event.specs.declared.event.Reply.TheVariants as reply
 use Rattle.tmem_journal.specs.Calls.{failures_after}
+
+-- an answer to a transaction that has ended, as a reply
+abbrev pub reply_of : Result Settled Fault → Reply
+reply_of (Ok settled) = reply.Settled settled
+reply_of (Err f) = reply.Fault f
 
 -- how many calls of the device have failed, once an event was answered so
 abbrev pub failures_by : Reply → ℕ → ℕ
@@ -25,10 +32,10 @@ FlushedNothing durable (reply.Fault fault.Unknown) = ⊥
 FlushedNothing durable _ = ⊤
 
 -- The event was answered so without a call of the device: only a flush that writes and opening make any.
-abbrev pub IsStill : ℕ → Event → Reply → Type 0
-IsStill durable event.Flush r = FlushedNothing durable r
-IsStill durable event.Reopen r = ⊥
-IsStill durable _ r = ⊤
+abbrev pub CallsNoDevice : ℕ → Event → Reply → Type 0
+CallsNoDevice durable event.Flush r = FlushedNothing durable r
+CallsNoDevice durable event.Reopen r = ⊥
+CallsNoDevice durable _ r = ⊤
 
 -- the transactions below this number are acknowledged by the reply
 abbrev pub acknowledged : Reply → ℕ

@@ -3,13 +3,13 @@ use Rattle.std.specs.Prelude.{Err, IsSome, ◌≡◌, ◌<◌, ◌≤◌, ◌⊎
 use Rattle.std.specs.List.{AllZip}
 use Rattle.std.specs.Option.{ForSome}
 use Rattle.tmem_invariants.specs.Meanings.{IsSound}
-use Rattle.tmem_disk.specs.Disk.{DeviceView, LeavesOnly, Reads}
+use Rattle.tmem_disk.specs.Disk.{DeviceView, LeavesOnly, ReadsAs}
 use Rattle.tmem_disk.specs.declared.fault.Fault.{Fault}
 use Rattle.tmem_disk.specs.declared.fault.Fault.TheVariants.{Geometry}
 use Rattle.tmem_journal.specs.Calls.{Uses, FitsOn}
 use Rattle.tmem_journal.specs.Refusals.{IsRefusedBy}
-use Rattle.tmem_world.specs.Refusals.{IsWhyNot}
-use Rattle.tmem_world.specs.Tables.{table_in}
+use Rattle.tmem_world.specs.SessionRefusals.{IsWhyNot}
+use Rattle.tmem_world.specs.HeldTable.{table_in}
 use Rattle.tmem_core.specs.Program.{Program}
 use Rattle.tmem_tentative.specs.Right.{IsRight}
 use Rattle.tmem_core.specs.Held.{state_of, waiting_of, durable_of, is_shut_of}
@@ -24,7 +24,7 @@ use Rattle.tmem_world.specs.declared.session.Session as session
 use Rattle.tmem_world.specs.declared.world.World.{World}
 use Rattle.tmem_journal.specs.Stands.{StandsFor}
 use Rattle.tmem_world.specs.Replies.{IsAcknowledged}
-use Rattle.tmem_world.specs.WorldModel.{Setting, WorldModel, Attempt, NoAttempt, Begun, Ended, Session, Open, Closed, Gone, present, cut, Allows, Run}
+use Rattle.tmem_world.specs.WorldModel.{Setting, WorldModel, SlotModel, NoTransaction, Begun, Ended, SessionStatus, Open, Closed, Gone, present, cut, Allows, Run}
 
 -- its numbers of variables and log slots
 abbrev pub numbers_of : {D T S : Type 0} {d t s : _} → World D T S d t s → Layout
@@ -56,13 +56,13 @@ pub record Means {D T S : Type 0} {d t s : _} (w : World D T S d t s) (program :
   pub tests : ForSome (held_table w) (λ table. t.is_stated table program.tests)
 
 -- the slot holds this attempt
-abbrev pub SlotIs : Program → Slot → Attempt → Type 0
-SlotIs program slot.Empty NoAttempt = ⊤
+abbrev pub SlotIs : Program → Slot → SlotModel → Type 0
+SlotIs program slot.Empty NoTransaction = ⊤
 SlotIs program (slot.Begun plan reads) (Begun tx values) = (plan ≡ tx) × (reads.entries ≡ values)
 SlotIs program (slot.Ended a) (Ended tx values) = IsRight program.steps tx a × (a.reads.entries ≡ values)
 SlotIs program _ _ = ⊥
 
-abbrev pub session_of : Bool → Session
+abbrev pub session_of : Bool → SessionStatus
 session_of true = Closed
 session_of false = Open
 
@@ -96,7 +96,7 @@ StandsCut program vars slots m c =
 -- The world is at this point of a run, and every stop of its device leaves the serial order cut at the durable number or at the doubtful one.
 pub record Represents {D T S : Type 0} {d t s : _} (program : Program) (w : World D T S d t s) (m : WorldModel) : Type 0 where
   pub numbers : IsNumbered program m
-  pub slots : AllZip (SlotIs program) w.slots.items m.attempts
+  pub slots : AllZip (SlotIs program) w.slots.items m.slots
   pub session : HasSession program w.session m
   pub durable : w.durable ≡ m.durable
   pub doubtful : w.doubtful ≡ m.doubtful
@@ -109,8 +109,8 @@ RestsOn premise event.Reopen = premise
 RestsOn premise _ = ⊤
 
 -- Whatever the closures mean, by their statement: from each point of a run that the old world is at, the event may be answered so, and the new world is at the next point.
-abbrev pub Steps : {D T S : Type 0} {d t s : _} → World D T S d t s → Event → Reply → World D T S d t s → Type 0
-Steps {d = d} old e r new =
+abbrev pub IsStep : {D T S : Type 0} {d t s : _} → World D T S d t s → Event → Reply → World D T S d t s → Type 0
+IsStep {d = d} old e r new =
     (program : Program) → Means old program
     → (m : WorldModel) → Represents program old m → RestsOn ((d.view new.disk).keeps_model) e
     → (m' : WorldModel) × Allows (setting_of old program) m e r m' × Represents program new m'
@@ -127,9 +127,9 @@ abbrev pub HoldsSession : {D T S : Type 0} {d t s : _} → World D T S d t s →
 HoldsSession w = IsSome w.session
 
 -- Why opening was refused, and what it left of the device: by Geometry where the numbers do not fit it; else memory or the device, or what its content is refused by; or else an invariant of the state that it stands for is missing or false.
-pub record IsBack (old : DeviceView) (vars slots : ℕ) (unsound : Type 0) (f : Fault) (new : DeviceView) : Type 0 where
+pub record OpeningRefused (old : DeviceView) (vars slots : ℕ) (unsound : Type 0) (f : Fault) (new : DeviceView) : Type 0 where
   pub uses : Uses {T = Unit {0}} old new (Err f)
   pub numbers : ¬ FitsOn vars slots old.capacity → f ≡ Geometry
   pub why : IsWhyNot (λ g. new.keeps_model → FitsOn vars slots old.capacity → IsRefusedBy vars slots old.seen g) unsound f
-  pub seen : Reads new old.seen
+  pub seen : ReadsAs new old.seen
   pub stop : LeavesOnly new old.may_leave

@@ -41,7 +41,7 @@ LeftByFlush vars slots durable e old new answer =
     (s : State) → s.count ≡ durable → length (with_names s.names e.names) ≤ 64 → LeavesOnly old (StandsFor vars slots 0 s) → Appended vars slots s e new answer
 
 -- the oldest effect was to be written
-pub record Writes {T : Type 0} {t : _} (vars slots : ℕ) (e : Effect) (old : Session T t) (dold : DeviceView) (answer : Result (Unit {0}) Fault) (dnew : DeviceView) : Type 0 where
+pub record WritesOldest {T : Type 0} {t : _} (vars slots : ℕ) (e : Effect) (old : Session T t) (dold : DeviceView) (answer : Result (Unit {0}) Fault) (dnew : DeviceView) : Type 0 where
   pub running : is_shut_of old.core ≡ false
   pub unused : old.used ≡ 0
   pub oldest : (rest : List Effect) × (waiting_of old.core ≡ e ∷ rest)
@@ -60,9 +60,9 @@ Flushes vars slots old dold (Err fault.LogFull) new dnew same =
     (is_shut_of old.core ≡ false) × (waiting_of old.core ≢ []) × (old.used ≡ 1) × (new ≡ old) × same
 Flushes vars slots old dold (Ok n) new dnew same =
     ((n ≡ durable_of old.core) × (is_shut_of old.core ≡ false) × (waiting_of old.core ≡ []) × (new ≡ old) × same)
-    ⊎ ((n ≡ durable_of old.core + 1) × (waiting_of new.core ≡ drop 1 (waiting_of old.core)) × (new.used ≡ 1) × (is_shut_of new.core ≡ false) × ((e : Effect) × Writes vars slots e old dold (Ok tt) dnew))
+    ⊎ ((n ≡ durable_of old.core + 1) × (waiting_of new.core ≡ drop 1 (waiting_of old.core)) × (new.used ≡ 1) × (is_shut_of new.core ≡ false) × ((e : Effect) × WritesOldest vars slots e old dold (Ok tt) dnew))
 Flushes vars slots old dold (Err fault.Device) new dnew same =
-    ClosesBy old new × ((e : Effect) × Writes vars slots e old dold (Err fault.Device) dnew)
+    ClosesBy old new × ((e : Effect) × WritesOldest vars slots e old dold (Err fault.Device) dnew)
 Flushes vars slots old dold (Err fault.Unknown) new dnew same =
-    ClosesBy old new × ((e : Effect) × Writes vars slots e old dold (Err fault.Unknown) dnew)
+    ClosesBy old new × ((e : Effect) × WritesOldest vars slots e old dold (Err fault.Unknown) dnew)
 Flushes vars slots old dold (Err _) new dnew same = ⊥

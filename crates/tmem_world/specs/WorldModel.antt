@@ -10,14 +10,15 @@ use Rattle.tmem_core.specs.Program.{Program}
 use Rattle.tmem_tree.specs.Plans.{BreaksNone, IsLeastBroken}
 use Rattle.tmem_tree.specs.Visited.{visited}
 use Rattle.tmem_tentative.specs.Right.{first_lacking, valued}
-use Rattle.tmem_core.specs.declared.settled.Settled.{Settled}
-use Rattle.tmem_core.specs.declared.settled.Settled.TheVariants.{Committed, Seen, Retry, Aborted, Refused}
+use Rattle.tmem_tree.specs.declared.settled.Settled.{Settled}
+use Rattle.tmem_tree.specs.declared.settled.Settled.TheVariants.{Committed}
 use Rattle.tmem_core.specs.Verdict.{map_of, verdict, serial_state}
-use Rattle.tmem_core.specs.Settle.{judged}
+use Rattle.tmem_core.specs.SettleAnswer.{judged}
 use Rattle.tmem_event.specs.declared.event.Event.{Event}
 use Rattle.tmem_event.specs.declared.event.Event.TheVariants as event
 use Rattle.tmem_event.specs.declared.event.Reply.{Reply}
 use Rattle.tmem_event.specs.declared.event.Reply.TheVariants as reply
+use Rattle.tmem_world.specs.Replies.{reply_of}
 
 -- What a store is opened with: how many variables it has, how many arguments each stored step takes, and what the steps
 -- answer and the invariants mean.
@@ -27,19 +28,24 @@ pub record Setting : Type 0 where
   pub program : Program
 
 -- one caller's attempt: a plan with the values that it has read so far, or one that has ended with all that it read
-pub data Attempt : Type 0 where
-  NoAttempt : Attempt
-  Begun : (plan : Tx) → (reads : List (ℕ × ℤ)) → Attempt
-  Ended : (plan : Tx) → (reads : List (ℕ × ℤ)) → Attempt
+pub data SlotModel : Type 0 where
+  NoTransaction : SlotModel
+  Begun : (plan : Tx) → (reads : List (ℕ × ℤ)) → SlotModel
+  Ended : (plan : Tx) → (reads : List (ℕ × ℤ)) → SlotModel
 
-pub data Session : Type 0 where
-  Open : Session
-  Closed : Session
-  Gone : Session
+pub data SessionStatus : Type 0 where
+  Open : SessionStatus
+  Closed : SessionStatus
+  Gone : SessionStatus
+
+-- a session stands, open or closed
+abbrev pub stands : SessionStatus → Bool
+stands Gone = false
+stands _ = true
 
 -- none of the sixteen slots holds one
-unfoldable pub no_attempts : List Attempt
-no_attempts = replicate 16 NoAttempt
+unfoldable pub no_transactions : List SlotModel
+no_transactions = replicate 16 NoTransaction
 
 -- A run so far. Its opening found one state, and these plans were accepted since, in this order.
 pub record WorldModel : Type 0 where
@@ -53,8 +59,8 @@ pub record WorldModel : Type 0 where
   -- how many calls of the device have failed
   pub failures : ℕ
   -- sixteen attempts
-  pub attempts : List Attempt
-  pub session : Session
+  pub slots : List SlotModel
+  pub session : SessionStatus
 
 -- the state after those of the accepted transactions whose numbers are below n
 abbrev pub cut : Program → WorldModel → ℕ → State
@@ -73,15 +79,15 @@ opening s used failures = record {
   doubtful = s.count;
   used = used;
   failures = failures;
-  attempts = no_attempts;
+  slots = no_transactions;
   session = Open;
 }
 
-abbrev pub attempt_at : WorldModel → ℕ → Attempt
-attempt_at m slot = slice_index_or m.attempts slot NoAttempt
+abbrev pub slot_at : WorldModel → ℕ → SlotModel
+slot_at m slot = slice_index_or m.slots slot NoTransaction
 
-abbrev pub with_attempt : WorldModel → ℕ → Attempt → WorldModel
-with_attempt m slot a = record m { attempts = slice_set m.attempts slot a }
+abbrev pub holding : WorldModel → ℕ → SlotModel → WorldModel
+holding m slot a = record m { slots = slice_set m.slots slot a }
 
 -- a plan is begun, or the least broken limit is named
 abbrev pub IsPlanFault : Setting → Tx → Fault → Type 0
@@ -89,10 +95,10 @@ IsPlanFault set tx fault.Memory = ⊤
 IsPlanFault set tx (fault.BadPlan cause) = IsLeastBroken set.arities set.vars set.program.names tx cause
 IsPlanFault set tx _ = ⊥
 
-abbrev pub Begins : Setting → WorldModel → ℕ → Tx → Reply → WorldModel → Type 0
-Begins set m slot tx reply.Begun m' = BreaksNone set.arities set.vars set.program.names tx × (m' ≡ with_attempt m slot (Begun tx []))
-Begins set m slot tx (reply.Fault f) m' = IsPlanFault set tx f × (m' ≡ m)
-Begins set m slot tx _ m' = ⊥
+abbrev pub AllowsBegin : Setting → WorldModel → ℕ → Tx → Reply → WorldModel → Type 0
+AllowsBegin set m slot tx reply.Begun m' = BreaksNone set.arities set.vars set.program.names tx × (m' ≡ holding m slot (Begun tx []))
+AllowsBegin set m slot tx (reply.Fault f) m' = IsPlanFault set tx f × (m' ≡ m)
+AllowsBegin set m slot tx _ m' = ⊥
 
 -- the values that were read, and those of the map for all other variables
 abbrev pub value_or : Option ℤ → ℤ → ℤ
@@ -106,82 +112,79 @@ overridden reads values var = value_or (look reads var) (values var)
 abbrev pub goes_on : Option ℕ → Program → WorldModel → ℕ → Tx → List (ℕ × ℤ) → Reply × WorldModel
 goes_on (Some var) program m slot plan reads =
     let value = map_of (present program m) var in
-    (reply.Read var value, with_attempt m slot (Begun plan (reads ++ (var, value) ∷ [])))
+    (reply.Read var value, holding m slot (Begun plan (reads ++ (var, value) ∷ [])))
 goes_on None program m slot plan reads =
     let values = overridden reads (map_of (present program m)) in
-    (reply.Ended, with_attempt m slot (Ended plan (valued values (visited program.steps plan values))))
+    (reply.Ended, holding m slot (Ended plan (valued values (visited program.steps plan values))))
 
 -- a begun plan is run on the present map overridden by its reads; one that has ended stays so
-abbrev pub TurnsFrom : Program → Attempt → WorldModel → ℕ → Reply → WorldModel → Type 0
-TurnsFrom program NoAttempt m slot r m' = (r ≡ reply.Idle) × (m' ≡ m)
-TurnsFrom program (Ended plan reads) m slot r m' = (r ≡ reply.Ended) × (m' ≡ m)
-TurnsFrom program (Begun plan reads) m slot r m' =
+abbrev pub AllowsTurn : Program → SlotModel → WorldModel → ℕ → Reply → WorldModel → Type 0
+AllowsTurn program NoTransaction m slot r m' = (r ≡ reply.Idle) × (m' ≡ m)
+AllowsTurn program (Ended plan reads) m slot r m' = (r ≡ reply.Ended) × (m' ≡ m)
+AllowsTurn program (Begun plan reads) m slot r m' =
     ((r, m') ≡ goes_on (first_lacking reads (visited program.steps plan (overridden reads (map_of (present program m))))) program m slot plan reads)
     ⊎ ((r ≡ reply.Fault fault.Memory) × (m' ≡ m))
 
-abbrev pub is_closed : Session → Bool
+abbrev pub is_closed : SessionStatus → Bool
 is_closed Open = false
 is_closed _ = true
 
--- An answer to a plan that has ended, as a reply, and the run after it. A refused attempt stays in its slot.
-abbrev pub settled_as : Result Settled Fault → WorldModel → ℕ → Tx → Reply × WorldModel
-settled_as (Ok (Committed number registers)) m slot plan =
-    (reply.Committed number registers, record (with_attempt m slot NoAttempt) { accepted = m.accepted ++ plan ∷ [] })
-settled_as (Ok (Seen at registers)) m slot plan = (reply.Seen at registers, with_attempt m slot NoAttempt)
-settled_as (Ok Retry) m slot plan = (reply.Retry, with_attempt m slot NoAttempt)
-settled_as (Ok (Aborted code)) m slot plan = (reply.Aborted code, with_attempt m slot NoAttempt)
-settled_as (Ok (Refused name)) m slot plan = (reply.Refused name, with_attempt m slot NoAttempt)
-settled_as (Err f) m slot plan = (reply.Fault f, m)
+-- The run after the answer to a plan that has ended. A refused attempt stays in its slot.
+abbrev pub settled_by : Result Settled Fault → WorldModel → ℕ → Tx → WorldModel
+settled_by (Ok (Committed number registers)) m slot plan = record (holding m slot NoTransaction) { accepted = m.accepted ++ plan ∷ [] }
+settled_by (Ok settled) m slot plan = holding m slot NoTransaction
+settled_by (Err f) m slot plan = m
 
 -- A plan that has ended is answered by its verdict on the present state, while the values that it read are the present ones.
-abbrev pub settled : Program → Attempt → WorldModel → ℕ → Reply × WorldModel
-settled program NoAttempt m slot = (reply.Idle, m)
-settled program (Begun plan reads) m slot = (reply.Idle, m)
-settled program (Ended plan reads) m slot =
-    settled_as (judged (is_closed m.session) (present program m) m.durable reads (verdict program plan (present program m))) m slot plan
+abbrev pub settle_result : Program → SlotModel → WorldModel → ℕ → Reply × WorldModel
+settle_result program NoTransaction m slot = (reply.Idle, m)
+settle_result program (Begun plan reads) m slot = (reply.Idle, m)
+settle_result program (Ended plan reads) m slot =
+    let answer = judged (is_closed m.session) (present program m) m.durable reads (verdict program plan (present program m)) in
+    (reply_of answer, settled_by answer m slot plan)
 
 -- One record is made durable, or the device fails and the session is closed. After an unknown outcome the doubtful number is what the record would have reached.
-abbrev pub FlushesOne : WorldModel → Reply → WorldModel → Type 0
-FlushesOne m (reply.Durable n) m' =
+abbrev pub AllowsFlushOfOne : WorldModel → Reply → WorldModel → Type 0
+AllowsFlushOfOne m (reply.Durable n) m' =
     (n ≡ m.durable + 1) × (m' ≡ record m { durable = n; doubtful = n; used = m.used + 1 })
-FlushesOne m (reply.Fault fault.Device) m' = m' ≡ record m { session = Closed; failures = after_fault m.failures }
-FlushesOne m (reply.Fault fault.Unknown) m' =
+AllowsFlushOfOne m (reply.Fault fault.Device) m' = m' ≡ record m { session = Closed; failures = after_fault m.failures }
+AllowsFlushOfOne m (reply.Fault fault.Unknown) m' =
     m' ≡ record m { session = Closed; failures = after_fault m.failures; doubtful = m.durable + 1 }
-FlushesOne m _ m' = ⊥
+AllowsFlushOfOne m _ m' = ⊥
 
-abbrev pub FlushesIn : Program → Session → WorldModel → Reply → WorldModel → Type 0
-FlushesIn program Open m r m' =
+abbrev pub AllowsFlush : Program → SessionStatus → WorldModel → Reply → WorldModel → Type 0
+AllowsFlush program Open m r m' =
     MatchBool (nat_eq m.durable (present program m).count)
     ((r ≡ reply.Durable m.durable) × (m' ≡ m))
-    (MatchBool (nat_eq m.used 1) ((r ≡ reply.Fault fault.LogFull) × (m' ≡ m)) (FlushesOne m r m'))
-FlushesIn program _ m r m' = (r ≡ reply.Fault fault.Closed) × (m' ≡ m)
+    (MatchBool (nat_eq m.used 1) ((r ≡ reply.Fault fault.LogFull) × (m' ≡ m)) (AllowsFlushOfOne m r m'))
+AllowsFlush program _ m r m' = (r ≡ reply.Fault fault.Closed) × (m' ≡ m)
 
 -- without a session
 abbrev pub dropped : WorldModel → WorldModel
-dropped m = record m { attempts = no_attempts; session = Gone }
+dropped m = record m { slots = no_transactions; session = Gone }
 
 -- Opening the device again finds the durable number or the doubtful one, and keeps the transactions below it.
-abbrev pub Reopens : WorldModel → Reply → WorldModel → Type 0
-Reopens m (reply.Opened n) m' =
+abbrev pub AllowsReopen : WorldModel → Reply → WorldModel → Type 0
+AllowsReopen m (reply.Opened n) m' =
     ((n ≡ m.durable) ⊎ (n ≡ m.doubtful))
-    × (m' ≡ record m { accepted = take (n - m.opened.count) m.accepted; durable = n; doubtful = n; used = m.used + (n - m.durable); attempts = no_attempts; session = Open })
-Reopens m (reply.Fault fault.Memory) m' = m' ≡ dropped m
-Reopens m (reply.Fault fault.Device) m' = m' ≡ record (dropped m) { failures = after_fault m.failures }
-Reopens m _ m' = ⊥
+    × (m' ≡ record m { accepted = take (n - m.opened.count) m.accepted; durable = n; doubtful = n; used = m.used + (n - m.durable); slots = no_transactions; session = Open })
+AllowsReopen m (reply.Fault fault.Memory) m' = m' ≡ dropped m
+AllowsReopen m (reply.Fault fault.Device) m' = m' ≡ record (dropped m) { failures = after_fault m.failures }
+AllowsReopen m _ m' = ⊥
 
 -- without a session every event but opening is refused
-abbrev pub InSession : Session → WorldModel → Reply → WorldModel → Type 0 → Type 0
+abbrev pub InSession : SessionStatus → WorldModel → Reply → WorldModel → Type 0 → Type 0
 InSession Gone m r m' allowed = (r ≡ reply.Fault fault.Closed) × (m' ≡ m)
 InSession _ m r m' allowed = allowed
 
 -- In this run the event may be answered so, and leads to that run.
 abbrev pub Allows : Setting → WorldModel → Event → Reply → WorldModel → Type 0
-Allows set m (event.Begin slot tx) r m' = InSession m.session m r m' (Begins set m slot tx r m')
-Allows set m (event.Turn slot) r m' = InSession m.session m r m' (TurnsFrom set.program (attempt_at m slot) m slot r m')
-Allows set m (event.Settle slot) r m' = InSession m.session m r m' ((r, m') ≡ settled set.program (attempt_at m slot) m slot)
-Allows set m event.Flush r m' = InSession m.session m r m' (FlushesIn set.program m.session m r m')
+Allows set m (event.Begin slot tx) r m' = InSession m.session m r m' (AllowsBegin set m slot tx r m')
+Allows set m (event.Turn slot) r m' = InSession m.session m r m' (AllowsTurn set.program (slot_at m slot) m slot r m')
+Allows set m (event.Settle slot) r m' = InSession m.session m r m' ((r, m') ≡ settle_result set.program (slot_at m slot) m slot)
+Allows set m event.Flush r m' = InSession m.session m r m' (AllowsFlush set.program m.session m r m')
 Allows set m event.Look r m' = InSession m.session m r m' ((r ≡ reply.Looked m.durable) × (m' ≡ m))
-Allows set m event.Reopen r m' = Reopens m r m'
+Allows set m event.Reopen r m' = AllowsReopen m r m'
 
 -- These events may be answered so, one after another.
 abbrev pub Run : Setting → WorldModel → List Event → List Reply → WorldModel → Type 0

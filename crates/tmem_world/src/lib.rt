@@ -1,14 +1,16 @@
-//! Durable transactions for one thread: a list of events is played over the present state and a device.
+//! Durable transactions for one thread: events are played over the present state and a device.
 //!
 //! `World` is what callers see. Its replies are those of a run of the model (`WorldModel` in `specs/`), and every stop of
 //! its device leaves a content that stands for the serial order of accepted transactions, cut at a number that holds all
-//! that was acknowledged (`Represents`). Transactions, their evaluation, the core and what stands on the device are crates
-//! of their own; `session` joins the core to the device.
+//! that was acknowledged (`Represents`). What a stop leaves, and which state a reopening finds, rests on the disk model; on
+//! a device that breaks it a reopening begins another run (`AnyDevice`). Transactions, their evaluation, the core and what
+//! stands on the device are crates of their own; `session` joins the core to the device.
 #![tactic(auto)]
 
+mod buffer;
 mod session;
 mod world;
 
-pub use tmem_event::{ATTEMPTS, Event, Reply};
+pub use tmem_event::{ATTEMPTS, Event, Reply, Settled};
 pub use tmem_journal::{Layout, format};
 pub use world::World;

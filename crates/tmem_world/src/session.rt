@@ -1,6 +1,6 @@
 // A session over a device: the core, and how much of the log is used.
-ghost use Rattle.std.specs.Prelude.{◌≡◌, ◌+◌, ◌<◌, ◌≤◌, ◌^◌, false, [], length, Ok, Some, IfOk, IfErr, OnOk, ℕ};
-ghost use Rattle.tmem_disk.specs.Disk.{LeavesOnly, Reads, IsSynced};
+ghost use Rattle.std.specs.Prelude.{◌≡◌, ◌+◌, ◌<◌, ◌≤◌, ◌^◌, false, [], length, Some, IfOk, IfErr, OnOk, ℕ};
+ghost use Rattle.tmem_disk.specs.Disk.{LeavesOnly, ReadsAs, IsSynced};
 ghost use Rattle.tmem_gate.specs.Gate.{IsClosed};
 ghost use Rattle.tmem_record.specs.State.{State};
 ghost use Rattle.tmem_invariants.specs.Meanings.{Meanings, IsSound};
@@ -11,14 +11,15 @@ ghost use Rattle.tmem_journal.specs.Layout.{end_place, slot_place};
 ghost use Rattle.tmem_journal.specs.Stands.{StandsFor};
 ghost use Rattle.tmem_journal.specs.Calls.{Uses};
 ghost use Rattle.tmem_journal.specs.Refusals.{IsRefusedBy};
-ghost use Rattle.tmem_world.specs.Refusals.{IsWhyNot, fault_alone};
-ghost use Rattle.tmem_world.specs.Settle.{FitsCore, Settles, reply_of};
+ghost use Rattle.tmem_world.specs.SessionRefusals.{IsWhyNot, fault_alone};
+ghost use Rattle.tmem_world.specs.SettleSlot.{FitsCore, Settles};
 
+use crate::buffer::Buffer;
 use std::alloc::Global;
-use tmem_core::{Core, Settled};
+use tmem_core::Core;
 use tmem_disk::{Disk, Fault};
 use tmem_event::Reply;
-use tmem_invariants::Tests;
+use tmem_invariants::Invariants;
 use tmem_journal::{LOG_SLOTS, Layout, append, recover};
 use tmem_record::Batch;
 use tmem_tentative::{Attempt, Reads};
@@ -33,16 +34,19 @@ pub(crate) enum Slot {
     Ended(Attempt),
 }
 
-/// What stands between an opening and a stop. The core is shut once the device has failed.
+/// What a world keeps in memory from an opening to the next one, or to a crash. The core is shut once the device has
+/// failed.
 #[derive(Drop)]
-pub(crate) struct Session<T: Tests> {
+pub(crate) struct Session<T: Invariants> {
     pub(crate) core: Core<T>,
     pub(crate) batch: Batch,
+    pub(crate) buffer: Buffer,
     pub(crate) used: u16,
 }
 
-/// Opens the device, and begins a session with this table, which is handed back with a refusal. Nothing is written.
-pub(crate) fn find<D: Disk, T: Tests + Drop>(
+/// Recovers the state that the device stands for, and begins a session there with this table. A refusal hands the table
+/// back. Nothing is written.
+pub(crate) fn begin_session<D: Disk, T: Invariants + Drop>(
     alloc: Global,
     disk: &mut D,
     layout: Layout,
@@ -63,7 +67,7 @@ pub(crate) fn find<D: Disk, T: Tests + Drop>(
     ensures table { IfOk result (λ s. table_of s.core ≡ table) }
     ensures back { IfErr result (λ e. e.1 ≡ table) }
     ensures sound { (m : Meanings) → T.is_stated table m → IfOk result (λ s. IsSound m (T.names table) (state_of s.core).names (state_of s.core).values) }
-    ensures seen { Reads (D.view disk.new) (D.view disk.old).seen }
+    ensures seen { ReadsAs (D.view disk.new) (D.view disk.old).seen }
     ensures stop { LeavesOnly (D.view disk.new) (D.view disk.old).may_leave }
     ensures synced { OnOk result (IsSynced (D.view disk.new)) }
     ensures closed { IfOk result (λ s. s.used ≡ 0 → LeavesOnly (D.view disk.new) (IsClosed (slot_place layout.vars 0))) }
@@ -76,21 +80,26 @@ pub(crate) fn find<D: Disk, T: Tests + Drop>(
         Ok(batch) => batch,
         Err(_) => return Err((Fault::Memory, table)),
     };
+    let buffer = match Buffer::zeroed(alloc) {
+        Ok(buffer) => buffer,
+        Err(_) => return Err((Fault::Memory, table)),
+    };
     match Core::new(alloc, &found.state, table) {
         Ok(core) => Ok(Session {
             core,
             batch,
+            buffer,
             used: found.used,
         }),
         Err(refused) => Err(refused),
     }
 }
 
-impl<T: Tests + Drop> Session<T> {
+impl<T: Invariants + Drop> Session<T> {
     ghost use Rattle.tmem_world.specs.Sessions.{IsCounted, IsFree, Flushes, durable_after};
 
-    /// Settles what a slot holds.
-    pub(crate) fn settle(&mut self, slot: &mut Slot) -> Reply
+    /// Settles what a slot holds, which is emptied unless the answer is a refusal.
+    pub(crate) fn settle_slot(&mut self, slot: &mut Slot) -> Reply
         requires { FitsCore (length (state_of self.old.core).values) (T.names (table_of self.old.core)) slot.old }
         ensures { Settles self.old slot.old result self.new slot.new }
     {
@@ -100,7 +109,7 @@ impl<T: Tests + Drop> Session<T> {
         match self.core.settle(attempt) {
             Ok(settled) => {
                 *slot = Slot::Empty;
-                told(settled)
+                Reply::Settled(settled)
             }
             Err(fault) => Reply::Fault(fault),
         }
@@ -131,7 +140,7 @@ impl<T: Tests + Drop> Session<T> {
             return Err(Fault::LogFull);
         }
         self.core.take(durable, &mut self.batch);
-        match append(disk, layout, durable, &self.batch) {
+        match append(disk, layout, durable, &self.batch, &mut self.buffer.bytes) {
             Ok(()) => {
                 self.core.note_durable(durable + 1);
                 self.used = LOG_SLOTS;
@@ -142,18 +151,5 @@ impl<T: Tests + Drop> Session<T> {
                 Err(fault)
             }
         }
-    }
-}
-
-// An answer that is no refusal, as a reply.
-fn told(settled: Settled) -> Reply
-    ensures { result ≡ reply_of (Ok settled) }
-{
-    match settled {
-        Settled::Committed { number, registers } => Reply::Committed { number, registers },
-        Settled::Seen { at, registers } => Reply::Seen { at, registers },
-        Settled::Retry => Reply::Retry,
-        Settled::Aborted(code) => Reply::Aborted(code),
-        Settled::Refused(name) => Reply::Refused(name),
     }
 }

@@ -2,7 +2,7 @@
 ghost use Rattle.std.specs.Prelude.{◌≡◌, ◌<◌, ◌≤◌, ◌+◌, ◌^◌, ◌⊎◌, ◌↔◌, ℕ, true, false, Some, None, [], length, All, IsTrue, IsSome, IfOk, IfErr, OnOk, IfSome, replicate, slice_index_or, pos};
 ghost use Rattle.std.specs.Option.{ForSome};
 ghost use Rattle.std.proofs.Props.{props};
-ghost use Rattle.tmem_disk.specs.Disk.{LeavesOnly, Reads, IsSynced};
+ghost use Rattle.tmem_disk.specs.Disk.{LeavesOnly, ReadsAs, IsSynced};
 ghost use Rattle.tmem_record.specs.State.{State};
 ghost use Rattle.tmem_record.specs.Names.{has_name};
 ghost use Rattle.tmem_core.specs.Held.{state_of, waiting_of, durable_of, table_of};
@@ -11,31 +11,31 @@ ghost use Rattle.tmem_core.specs.Program.{Program};
 ghost use Rattle.tmem_journal.specs.Layout.{end_place};
 ghost use Rattle.tmem_journal.specs.Stands.{StandsFor};
 ghost use Rattle.tmem_journal.specs.Calls.{Uses, FitsOn};
-ghost use Rattle.tmem_world.specs.Refusals.{IsWhyNot};
-ghost use Rattle.tmem_world.specs.Tables.{table_in};
-ghost use Rattle.tmem_world.specs.Settle.{FitsSlot, Joins, Keeps};
+ghost use Rattle.tmem_world.specs.SessionRefusals.{IsWhyNot};
+ghost use Rattle.tmem_world.specs.HeldTable.{table_in};
+ghost use Rattle.tmem_world.specs.SettleSlot.{FitsSlot, Joins, Keeps};
 ghost use Rattle.tmem_world.specs.Facts.{FitsSlot-prop};
 ghost use Rattle.tmem_world.specs.Sessions.{IsCounted, IsKnown, IsFree, doubtful_number};
 ghost use Rattle.tmem_event.specs.Events.{NamesSlot};
-ghost use Rattle.tmem_world.specs.WorldModel.{WorldModel, opening, present, Run};
+ghost use Rattle.tmem_world.specs.WorldModel.{WorldModel, opening, present, stands, Run};
 
-use crate::session::{Session, Slot, find};
+use crate::session::{Session, Slot, begin_session};
 use std::alloc::{AllocError, Global};
 use tmem_disk::{Disk, Fault, Name};
 use tmem_event::{ATTEMPTS, Event, Reply};
-use tmem_invariants::Tests;
-use tmem_journal::Layout;
+use tmem_invariants::Invariants;
+use tmem_journal::{Layout, refused_stands_for_none, stands_for_one};
 use tmem_tentative::{Outcome, Reads, evaluate};
 use tmem_tree::{Plan, StoredSteps, Tx};
 
 /// Durable transactional memory for one thread: it plays events over the present state and a device.
 #[derive(Drop)]
-pub struct World<D: Disk, T: Tests, S: StoredSteps> {
+pub struct World<D: Disk, T: Invariants, S: StoredSteps> {
     alloc: Global,
     disk: D,
     layout: Layout,
     steps: S,
-    // the names of the table, in its order
+    // the names of the table's invariants, in its order
     names: Vec<Name>,
     session: Option<Session<T>>,
     // the table, where no session has it
@@ -54,9 +54,10 @@ pub struct World<D: Disk, T: Tests, S: StoredSteps> {
     ghost free: { ForSome session (λ s. IsFree layout.vars s (D.view disk)) },
 }
 
-impl<D: Disk, T: Tests + Drop, S: StoredSteps + Drop> World<D, T, S> {
-    ghost use Rattle.tmem_world.specs.Represents.{Represents, Means, Steps, Plays, HoldsSession, IsBack, numbers_of, device_of, steps_of, held_table, durable_number};
-    ghost use Rattle.tmem_world.specs.Replies.{failures_by, failures_by_all, FlushedNothing, IsStill};
+impl<D: Disk, T: Invariants + Drop, S: StoredSteps + Drop> World<D, T, S> {
+    ghost use Rattle.tmem_world.specs.Represents.{Represents, Means, IsStep, Plays, HoldsSession, OpeningRefused, numbers_of, device_of, steps_of, held_table, setting_of, durable_number};
+    ghost use Rattle.tmem_world.specs.AnyDevice.{Reopens, IsReopened, PlaysOnAnyDevice};
+    ghost use Rattle.tmem_world.specs.Replies.{failures_by, failures_by_all, FlushedNothing, CallsNoDevice};
 
     /// Opens a device of these numbers: finds what its content stands for, and begins a session there, with these
     /// invariants and stored steps. Refused by `Geometry` where the numbers are out of limits, the device is smaller than
@@ -80,7 +81,7 @@ impl<D: Disk, T: Tests + Drop, S: StoredSteps + Drop> World<D, T, S> {
         ensures table { IfOk result (λ w. held_table w ≡ Some table) }
         ensures fits { IfOk result (λ w. ((numbers_of w).vars ≡ vars) × ((numbers_of w).slots ≡ slots) × HoldsSession w × FitsOn vars slots (D.view disk).capacity) }
         ensures model { IfOk result (λ w. (D.view (device_of w)).keeps_model → (D.view disk).keeps_model) }
-        ensures refused { IfErr result (λ e. IsBack (D.view disk) vars slots
+        ensures refused { IfErr result (λ e. OpeningRefused (D.view disk) vars slots
             ((used : ℕ) × (s : State) × ((D.view e.1).keeps_model → StandsFor vars slots used s (D.view disk).seen)
             × ((p : Program) → p.names ≡ T.names table → T.is_stated table p.tests → opening_fault p s ≡ Some e.0))
             e.0 (D.view e.1)) }
@@ -100,7 +101,7 @@ impl<D: Disk, T: Tests + Drop, S: StoredSteps + Drop> World<D, T, S> {
             Ok(names) => names,
             Err(_) => return Err((Fault::Memory, disk)),
         };
-        match find(alloc, &mut disk, layout, table) {
+        match begin_session(alloc, &mut disk, layout, table) {
             Ok(session) => {
                 let durable = session.core.durable();
                 Ok(World {
@@ -123,12 +124,15 @@ impl<D: Disk, T: Tests + Drop, S: StoredSteps + Drop> World<D, T, S> {
     /// Plays one event. The event's slot, where it has one, is below 16.
     pub fn step(&mut self, event: Event) -> Reply
         requires { NamesSlot event }
-        ensures step { Steps self.old event result self.new }
+        ensures step { IsStep self.old event result self.new }
+        ensures reopened { Reopens self.old event result self.new }
         ensures failures { (D.view (device_of self.new)).failures ≡ failures_by result (D.view (device_of self.old)).failures }
-        ensures still { IsStill (durable_number self.old) event result → device_of self.new ≡ device_of self.old }
+        ensures still { CallsNoDevice (durable_number self.old) event result → device_of self.new ≡ device_of self.old }
         ensures numbers { numbers_of self.new ≡ numbers_of self.old }
         ensures steps { steps_of self.new ≡ steps_of self.old }
         ensures table { held_table self.new ≡ held_table self.old }
+        ensures means { (program : Program) → Means self.old program → Means self.new program }
+        ensures setting { (program : Program) → setting_of self.new program ≡ setting_of self.old program }
         ensures model { (D.view (device_of self.new)).keeps_model → (D.view (device_of self.old)).keeps_model }
     {
         match event {
@@ -145,10 +149,13 @@ impl<D: Disk, T: Tests + Drop, S: StoredSteps + Drop> World<D, T, S> {
     pub fn play(&mut self, events: Vec<Event>) -> Result<Vec<Reply>, Fault>
         requires { All NamesSlot events.items }
         ensures run { IfOk result (λ replies. Plays self.old events.items replies.items self.new) }
+        ensures any_device { IfOk result (λ replies. PlaysOnAnyDevice self.old events.items replies.items self.new) }
         ensures failures { IfOk result (λ replies. (D.view (device_of self.new)).failures ≡ failures_by_all replies.items (D.view (device_of self.old)).failures) }
         ensures numbers { numbers_of self.new ≡ numbers_of self.old }
         ensures steps { steps_of self.new ≡ steps_of self.old }
         ensures table { held_table self.new ≡ held_table self.old }
+        ensures means { (program : Program) → Means self.old program → Means self.new program }
+        ensures setting { (program : Program) → setting_of self.new program ≡ setting_of self.old program }
         ensures model { (D.view (device_of self.new)).keeps_model → (D.view (device_of self.old)).keeps_model }
         ensures err { IfErr result (λ f. (f ≡ Fault.Memory) × (self.new ≡ self.old)) }
     {
@@ -162,7 +169,8 @@ impl<D: Disk, T: Tests + Drop, S: StoredSteps + Drop> World<D, T, S> {
 
     /// Whether a session stands, also a closed one.
     pub fn is_open(&self) -> bool
-        ensures { IsTrue result ↔ HoldsSession self.now }
+        ensures session { IsTrue result ↔ HoldsSession self.now }
+        ensures status { (program : Program) (m : WorldModel) → Represents program self.now m → result ≡ stands m.session }
     {
         self.session.is_some()
     }
@@ -209,10 +217,10 @@ impl<D: Disk, T: Tests + Drop, S: StoredSteps + Drop> World<D, T, S> {
         disk
     }
 
-    // Makes a plan.
+    // Makes a plan of a transaction.
     fn begin(&mut self, slot: u8, tx: Tx) -> Reply
         requires { slot < 16 }
-        ensures step { Steps self.old (Event.Begin slot tx) result self.new }
+        ensures step { IsStep self.old (Event.Begin slot tx) result self.new }
         ensures failures { failures_by result (D.view self.old.disk).failures ≡ (D.view self.old.disk).failures }
         ensures kept { (self.new.layout ≡ self.old.layout) × (self.new.steps ≡ self.old.steps) × (self.new.disk ≡ self.old.disk) }
         ensures table { held_table self.new ≡ held_table self.old }
@@ -230,10 +238,10 @@ impl<D: Disk, T: Tests + Drop, S: StoredSteps + Drop> World<D, T, S> {
         }
     }
 
-    // Evaluates a plan.
+    // Evaluates a plan on the values that it has read.
     fn turn(&mut self, slot: u8) -> Reply
         requires { slot < 16 }
-        ensures step { Steps self.old (Event.Turn slot) result self.new }
+        ensures step { IsStep self.old (Event.Turn slot) result self.new }
         ensures failures { failures_by result (D.view self.old.disk).failures ≡ (D.view self.old.disk).failures }
         ensures kept { (self.new.layout ≡ self.old.layout) × (self.new.steps ≡ self.old.steps) × (self.new.disk ≡ self.old.disk) }
         ensures table { held_table self.new ≡ held_table self.old }
@@ -265,20 +273,20 @@ impl<D: Disk, T: Tests + Drop, S: StoredSteps + Drop> World<D, T, S> {
     // Settles a plan that has ended.
     fn settle(&mut self, slot: u8) -> Reply
         requires { slot < 16 }
-        ensures step { Steps self.old (Event.Settle slot) result self.new }
+        ensures step { IsStep self.old (Event.Settle slot) result self.new }
         ensures failures { failures_by result (D.view self.old.disk).failures ≡ (D.view self.old.disk).failures }
         ensures kept { (self.new.layout ≡ self.old.layout) × (self.new.steps ≡ self.old.steps) × (self.new.disk ≡ self.old.disk) }
         ensures table { held_table self.new ≡ held_table self.old }
     {
         match &mut self.session {
             None => Reply::Fault(Fault::Closed),
-            Some(session) => session.settle(&mut self.slots[slot as usize]),
+            Some(session) => session.settle_slot(&mut self.slots[slot as usize]),
         }
     }
 
     // Makes the oldest transaction that waits durable.
     fn flush(&mut self) -> Reply
-        ensures step { Steps self.old Event.Flush result self.new }
+        ensures step { IsStep self.old Event.Flush result self.new }
         ensures failures { (D.view self.new.disk).failures ≡ failures_by result (D.view self.old.disk).failures }
         ensures still { FlushedNothing self.old.durable result → self.new.disk ≡ self.old.disk }
         ensures layout { self.new.layout ≡ self.old.layout }
@@ -304,7 +312,7 @@ impl<D: Disk, T: Tests + Drop, S: StoredSteps + Drop> World<D, T, S> {
 
     // Asks how many transactions are durable.
     fn look(&self) -> Reply
-        ensures step { Steps self.now Event.Look result self.now }
+        ensures step { IsStep self.now Event.Look result self.now }
         ensures failures { failures_by result (D.view self.now.disk).failures ≡ (D.view self.now.disk).failures }
     {
         if self.session.is_none() {
@@ -313,18 +321,21 @@ impl<D: Disk, T: Tests + Drop, S: StoredSteps + Drop> World<D, T, S> {
         Reply::Looked(self.durable)
     }
 
-    // Opens the device again.
+    // Drops the session and what the slots hold, and opens the device again.
     fn reopen(&mut self) -> Reply
-        ensures step { Steps self.old Event.Reopen result self.new }
+        ensures step { IsStep self.old Event.Reopen result self.new }
+        ensures reopened { IsReopened self.old result self.new }
         ensures failures { (D.view self.new.disk).failures ≡ failures_by result (D.view self.old.disk).failures }
         ensures layout { self.new.layout ≡ self.old.layout }
         ensures steps { self.new.steps ≡ self.old.steps }
         ensures table { held_table self.new ≡ held_table self.old }
         ensures model { (D.view self.new.disk).keeps_model → (D.view self.old.disk).keeps_model }
     {
+        stands_for_one();
+        refused_stands_for_none();
         clear(&mut self.slots);
         let table = take_table(&mut self.session, &mut self.table);
-        match find(self.alloc, &mut self.disk, self.layout, table) {
+        match begin_session(self.alloc, &mut self.disk, self.layout, table) {
             Ok(session) => {
                 self.durable = session.core.durable();
                 self.doubtful = self.durable;
@@ -339,8 +350,8 @@ impl<D: Disk, T: Tests + Drop, S: StoredSteps + Drop> World<D, T, S> {
     }
 }
 
-// Ends the session, if one stands, and hands its table out, or the one that lies beside.
-fn take_table<T: Tests + Drop>(session: &mut Option<Session<T>>, beside: &mut Option<T>) -> T
+// Drops the session, if there is one, and hands out its table, or else the one that was kept beside it.
+fn take_table<T: Invariants + Drop>(session: &mut Option<Session<T>>, beside: &mut Option<T>) -> T
     requires { IsSome (table_in session.old beside.old) }
     ensures table { table_in session.old beside.old ≡ Some result }
     ensures ended { session.new ≡ None }
@@ -355,7 +366,7 @@ fn take_table<T: Tests + Drop>(session: &mut Option<Session<T>>, beside: &mut Op
     }
 }
 
-// One value more joins those that the slot's plan has read. Its only fault is want of memory.
+// Adds a value to those that the slot's plan has read. The only fault is want of memory.
 fn join(slot: &mut Slot, var: u16, value: i64) -> Result<(), Fault>
     ensures joins { OnOk result (Joins slot.old var value slot.new) }
     ensures keeps { IfErr result (λ fault. (fault ≡ Fault.Memory) × Keeps slot.old slot.new) }
@@ -367,7 +378,7 @@ fn join(slot: &mut Slot, var: u16, value: i64) -> Result<(), Fault>
 }
 
 // The names of a table, in its order.
-fn names_of<T: Tests>(alloc: Global, table: &T) -> Result<Vec<Name>, AllocError>
+fn names_of<T: Invariants>(alloc: Global, table: &T) -> Result<Vec<Name>, AllocError>
     ensures { IfOk result (λ names. names.items ≡ T.names table.now) }
 {
     let mut names = Vec::with_capacity(alloc, table.len())?;
@@ -389,7 +400,7 @@ fn empty_slots(alloc: Global) -> Result<Vec<Slot>, AllocError>
     Ok(slots)
 }
 
-// After an unknown outcome the doubtful number is what the record would have reached.
+// After an unknown outcome the doubtful number counts the record too.
 fn doubtful_after(fault: &Fault, durable: u64, doubtful: u64) -> u64
     requires { fault.now ≡ Fault.Unknown → durable + 1 < 2 ^ 64 }
     ensures { result ≡ doubtful_number fault.now durable doubtful }

@@ -16,7 +16,7 @@ fn expect_bad(alloc: Global, text: &str) -> Result<(), Fail> {
 /// Fails where a text is no script of so many events.
 fn expect_good(alloc: Global, text: &str, events: usize) -> Result<(), Fail> {
     let script = Script::from_slice(alloc, text.as_bytes())?;
-    if script.lines.len() != events {
+    if script.entries.len() != events {
         return Err(Fail::new(format_args!("not {events} events: {text}")));
     }
     Ok(())

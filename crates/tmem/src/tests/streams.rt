@@ -45,6 +45,41 @@ impl io::Write for Narrow {
     }
 }
 
+/// Takes everything, and notes where each write ends.
+#[derive(Drop)]
+struct Noting {
+    text: Vec<u8>,
+    ends: Vec<usize>,
+}
+
+impl io::Write for Noting {
+    fn write(&mut self, buf: &[u8]) -> io::Result<usize> {
+        self.text.extend_from_slice(buf)?;
+        self.ends.push(self.text.len())?;
+        Ok(buf.len())
+    }
+
+    fn flush(&mut self) -> io::Result<()> {
+        Ok(())
+    }
+}
+
+#[test]
+fn each_line_goes_out_by_itself(rt: HostRuntime) -> Result<(), Fail> {
+    let mut out = Noting {
+        text: Vec::new(rt.alloc()),
+        ends: Vec::new(rt.alloc()),
+    };
+    let mut err = Vec::new(rt.alloc());
+    let words = with_name(rt.alloc(), &["run"])?;
+    let status = run_words(&rt, words, &mut FIRST.as_bytes(), &mut out, &mut err);
+    assert_eq!(rt; status, 0);
+    assert!(rt; out.text.as_slice() == FIRST_OUT.as_bytes());
+    // where the seven lines end
+    assert!(rt; out.ends.as_slice() == [9, 15, 21, 33, 43, 52, 88].as_slice());
+    Ok(())
+}
+
 #[test]
 fn plays_a_file(rt: HostRuntime) -> Result<(), Fail> {
     fs::write(&rt, "first.json", FIRST)?;

@@ -1,9 +1,10 @@
 //! The command line.
 use super::{FIRST, play, run};
+use crate::command_line::words_of;
 use std::alloc::Global;
 use std::env::{Env, FillError};
 use std::test::Fail;
-use tmem_script::{tell, words_of};
+use tmem_script::{Failure, WordsError, report};
 
 const HELP: &str = "Durable transactions, played from scripts
 
@@ -14,7 +15,8 @@ Commands:
   help  Print this message or the help of the given subcommand(s)
 
 Options:
-  -h, --help  Print help
+  -h, --help     Print help
+  -V, --version  Print version
 ";
 
 const RUN_HELP: &str = "Plays a script on a device in memory
@@ -102,6 +104,23 @@ fn refused_words_are_status_two(rt: HostRuntime) -> Result<(), Fail> {
     Ok(())
 }
 
+#[test]
+fn the_version_goes_to_standard_output(rt: HostRuntime) -> Result<(), Fail> {
+    let asked: &[&[&str]] = &[&["--version"], &["-V"]];
+    for words in asked {
+        run(&rt, words, b"")?.expect(format_args!("{words:?}"), 0, "tmem 0.1.0\n", "")?;
+    }
+    Ok(())
+}
+
+#[test]
+fn want_of_memory_for_the_command_line_is_status_two(rt: HostRuntime) -> Result<(), Fail> {
+    let mut err = Vec::new(rt.alloc());
+    assert_eq!(rt; report(&Failure::Words(WordsError::Memory), &mut err), 2);
+    assert!(rt; err.as_slice() == "tmem: not enough memory for the command line\n".as_bytes());
+    Ok(())
+}
+
 /// A command line of these words.
 #[derive(Drop)]
 struct Given<'a> {
@@ -152,8 +171,8 @@ fn reads_the_words_of_the_command_line(rt: HostRuntime) -> Result<(), Fail> {
     let mut err = Vec::new(alloc);
     match broken {
         Ok(_) => Err(Fail::new("words that are not UTF-8 were read")),
-        Err(failure) => {
-            assert_eq!(rt; tell(&failure, &mut err), 2);
+        Err(refusal) => {
+            assert_eq!(rt; report(&Failure::Words(refusal), &mut err), 2);
             assert!(rt; err.as_slice() == "tmem: the command line is not UTF-8\n".as_bytes());
             Ok(())
         }

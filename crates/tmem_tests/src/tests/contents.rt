@@ -1,11 +1,10 @@
 //! What a content is refused by.
+use super::no_closures::{NoInvariants, NoSteps};
 use super::{fresh, refusal};
 use std::alloc::Global;
 use std::process::Abort;
 use std::test::Fail;
 use tmem_disk::{Fault, SimDisk};
-use tmem_invariants::Table;
-use tmem_tree::Steps;
 use tmem_world::format;
 
 /// Fails where opening a device is refused by another fault, or by none.
@@ -16,8 +15,7 @@ fn refuses(
     vars: u16,
     want: Option<Fault>,
 ) -> Result<(), Fail> {
-    let table = Table::of(Vec::new(alloc), vars)?;
-    let had = refusal(alloc, disk, vars, table, Steps::of(Vec::new(alloc))?);
+    let had = refusal(alloc, disk, vars, NoInvariants { vars }, NoSteps);
     assert_eq!(rt; had.map(|refusal| refusal.0), want);
     Ok(())
 }

@@ -1,25 +1,15 @@
 //! The bytes on a device.
-ghost use Rattle.std.specs.Prelude.{◌≡◌};
-
-use super::{commit, fresh, no_closures, opened, write};
+use super::no_closures::{NoInvariants, NoSteps};
+use super::{commit, fresh, opened, write};
 use std::alloc::Global;
 use std::test::Fail;
 use tmem_disk::{Disk, SimDisk};
-use tmem_invariants::Tests;
-use tmem_tree::StoredSteps;
 use tmem_world::{Event, Reply};
 
 /// A device on which the first write was made durable.
-fn written<T: Tests + Drop, S: StoredSteps + Drop>(
-    alloc: Global,
-    disk: SimDisk,
-    table: T,
-    steps: S,
-) -> Result<SimDisk, Fail>
-    requires { T.vars table ≡ 4 }
-{
+fn written(alloc: Global, disk: SimDisk) -> Result<SimDisk, Fail> {
     let tx = write(alloc, 0, 5)?;
-    let mut world = opened(alloc, disk, table, steps)?;
+    let mut world = opened(alloc, disk, NoInvariants { vars: 4 }, NoSteps)?;
     let _ = commit(&mut world, tx);
     match world.step(Event::Flush) {
         Reply::Durable(1) => Ok(world.into_disk()),
@@ -41,8 +31,7 @@ fn the_bytes_of_a_fresh_device_and_of_a_first_record(rt: HostRuntime) -> Result<
         image,
         [0xa5, 1, 0, 0, 0, 0, 0, 0, 0, 0, 0, 0, 0, 0, 0, 0, 0, 0]
     );
-    let (table, steps) = no_closures(alloc)?;
-    let mut disk = written(alloc, disk, table, steps)?;
+    let mut disk = written(alloc, disk)?;
     assert_eq!(rt; disk.size(), 22016);
     let mut slot = [1; 31];
     assert!(rt; disk.read(5632, &mut slot).is_ok());

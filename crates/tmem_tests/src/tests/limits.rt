@@ -2,6 +2,7 @@
 ghost use Rattle.std.specs.Prelude.{◌≡◌, true, length};
 ghost use Rattle.tmem_tests.specs.Examples.{first_of};
 
+use super::tables::numbered;
 use std::test::Fail;
 use tmem_disk::{Cause, Fault, Name};
 use tmem_invariants::{Invariant, Table};
@@ -50,12 +51,6 @@ fn footprints_out_of_limits_are_refused(rt: HostRuntime) -> Result<(), Fail> {
         );
     }
     Ok(())
-}
-
-// A name for each number.
-fn numbered(n: u8) -> Result<Name, Fault> {
-    let letters = [b'a' + n / 26, b'a' + n % 26];
-    Name::new(std::str::from_utf8(&letters).unwrap_or(""))
 }
 
 #[test]

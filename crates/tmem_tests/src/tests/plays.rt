@@ -1,16 +1,13 @@
 //! Lists of events, and devices that stop.
-ghost use Rattle.std.specs.Prelude.{◌≡◌, All, IfOk};
+ghost use Rattle.std.specs.Prelude.{All, IfOk};
 ghost use Rattle.tmem_event.specs.Events.{NamesSlot};
-ghost use Rattle.tmem_world.specs.Represents.{numbers_of};
 
-use super::{commit, committed, fresh, no_closures, opened, write};
+use super::no_closures::{NoInvariants, NoSteps};
+use super::{commit, committed, fresh, opened, write};
 use std::alloc::{AllocError, Global};
-use std::process::Abort;
 use std::test::Fail;
 use tmem_disk::{Fault, Fill, SimDisk};
-use tmem_invariants::Tests;
-use tmem_tree::StoredSteps;
-use tmem_world::{Event, Reply, World};
+use tmem_world::{Event, Reply};
 
 /// Writes 5 to variable 0, makes it durable, and opens the device again.
 fn first_write(alloc: Global) -> Result<Vec<Event>, AllocError>
@@ -28,15 +25,11 @@ fn first_write(alloc: Global) -> Result<Vec<Event>, AllocError>
     Ok(events)
 }
 
-/// Fails where the events of `first_write` are answered otherwise.
-fn plays<T: Tests + Drop, S: StoredSteps + Drop>(
-    rt: &impl Abort,
-    world: &mut World<SimDisk, T, S>,
-    events: Vec<Event>,
-) -> Result<(), Fail>
-    requires slots { All NamesSlot events.items }
-    requires vars { (numbers_of world.old).vars ≡ 4 }
-{
+#[test]
+fn a_played_list_is_answered_as_its_steps(rt: HostRuntime) -> Result<(), Fail> {
+    let alloc = rt.alloc();
+    let events = first_write(alloc)?;
+    let mut world = opened(alloc, fresh(alloc)?, NoInvariants { vars: 4 }, NoSteps)?;
     let replies = world.play(events)?;
     let want = [
         Reply::Begun,
@@ -52,40 +45,12 @@ fn plays<T: Tests + Drop, S: StoredSteps + Drop>(
     Ok(())
 }
 
-/// Plays `first_write` on a fresh device.
-fn plays_on_fresh<T: Tests + Drop, S: StoredSteps + Drop>(
-    rt: &impl Abort,
-    alloc: Global,
-    table: T,
-    steps: S,
-) -> Result<(), Fail>
-    requires { T.vars table ≡ 4 }
-{
-    let events = first_write(alloc)?;
-    let mut world = opened(alloc, fresh(alloc)?, table, steps)?;
-    plays(rt, &mut world, events)
-}
-
-#[test]
-fn a_played_list_is_answered_as_its_steps(rt: HostRuntime) -> Result<(), Fail> {
-    let (table, steps) = no_closures(rt.alloc())?;
-    plays_on_fresh(&rt, rt.alloc(), table, steps)
-}
-
 /// Flushes the first write over a device that stops at a write of it: the reply, and what the stop left.
-fn stopped_at<T: Tests + Drop, S: StoredSteps + Drop>(
-    alloc: Global,
-    k: u64,
-    fill: Fill,
-    table: T,
-    steps: S,
-) -> Result<(Reply, SimDisk), Fail>
-    requires { T.vars table ≡ 4 }
-{
+fn torn(alloc: Global, k: u64, byte: u8) -> Result<(Reply, SimDisk), Fail> {
     let tx = write(alloc, 0, 5)?;
     let mut disk = fresh(alloc)?;
-    disk.stop_at_write(k, fill);
-    let mut world = opened(alloc, disk, table, steps)?;
+    disk.stop_at_write(k, Fill::Byte(byte));
+    let mut world = opened(alloc, disk, NoInvariants { vars: 4 }, NoSteps)?;
     let _ = commit(&mut world, tx);
     let flushed = world.step(Event::Flush);
     let mut disk = world.into_disk();
@@ -97,28 +62,9 @@ fn stopped_at<T: Tests + Drop, S: StoredSteps + Drop>(
 }
 
 /// How many transactions a device is found to hold.
-fn count_on<T: Tests + Drop, S: StoredSteps + Drop>(
-    alloc: Global,
-    disk: SimDisk,
-    table: T,
-    steps: S,
-) -> Result<u64, Fail>
-    requires { T.vars table ≡ 4 }
-{
-    let world = opened(alloc, disk, table, steps)?;
-    Ok(world.count())
-}
-
-/// The same without closures.
-fn torn(alloc: Global, k: u64, byte: u8) -> Result<(Reply, SimDisk), Fail> {
-    let (table, steps) = no_closures(alloc)?;
-    stopped_at(alloc, k, Fill::Byte(byte), table, steps)
-}
-
-/// How many transactions a device is found to hold, without closures.
 fn found_on(alloc: Global, disk: SimDisk) -> Result<u64, Fail> {
-    let (table, steps) = no_closures(alloc)?;
-    count_on(alloc, disk, table, steps)
+    let world = opened(alloc, disk, NoInvariants { vars: 4 }, NoSteps)?;
+    Ok(world.count())
 }
 
 #[test]

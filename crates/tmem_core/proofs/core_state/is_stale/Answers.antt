@@ -1,7 +1,7 @@
 use Rattle.std.proofs.Common.{◌≡◌, ◌<◌, length, of_z, w64, arith, refl, sym, ◌∙◌, ap}
 use Rattle.std.specs.Map.{keys_of}
 use Rattle.std.proofs.lemmas.List.Elements.{All-head, All-tail}
-use Rattle.tmem_core.specs.Settle.{is_stale}
+use Rattle.tmem_core.specs.SettleAnswer.{is_stale}
 use Rattle.tmem_core.proofs.Present.{stale_here, stale_later}
 use Rattle.tmem_core.proofs.core_state.is_stale.Goals as goal
 

@@ -1,6 +1,6 @@
 use Rattle.std.proofs.Common.{◌≡◌, ◌<◌, length, All}
 use Rattle.std.specs.Map.{keys_of}
-use Rattle.tmem_core.specs.Settle.{is_stale}
+use Rattle.tmem_core.specs.SettleAnswer.{is_stale}
 use Rattle.tmem_core.proofs.core_state.is_stale.Given as goal
 
 abbrev pub invariant-loop-var : goal.invariant-loop-var

@@ -1,5 +1,5 @@
 use Rattle.std.proofs.Common.{sym, ◌∙◌}
-use Rattle.tmem_record.proofs.Folding.{length-written}
+use Rattle.tmem_record.proofs.Laws.{length-written}
 use Rattle.tmem_core.proofs.Trials.{differ, olds_within, state_back}
 use Rattle.tmem_core.proofs.trial.first_false.Goals as goal
 

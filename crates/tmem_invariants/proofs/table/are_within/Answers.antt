@@ -1,5 +1,5 @@
 use Rattle.std.proofs.Common.{rules}
-use Rattle.tmem_invariants.specs.Names.{AreBelow}
+use Rattle.tmem_invariants.specs.TableNames.{AreBelow}
 use Rattle.tmem_invariants.proofs.Scans.{All-take_more, All_whole}
 use Rattle.tmem_invariants.proofs.table.are_within.Goals as goal
 

@@ -1,5 +1,5 @@
 use Rattle.std.proofs.Common.{All, take}
-use Rattle.tmem_invariants.specs.Names.{AreBelow}
+use Rattle.tmem_invariants.specs.TableNames.{AreBelow}
 use Rattle.tmem_invariants.proofs.table.are_within.Given as goal
 
 abbrev pub invariant-loop-entry : goal.invariant-loop-entry

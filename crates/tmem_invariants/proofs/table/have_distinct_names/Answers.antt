@@ -2,7 +2,7 @@ use Rattle.std.proofs.Common.{bytes_eq, map, refl, sym, ap, ◌∙◌}
 use Rattle.std.proofs.lemmas.Bool.{false_from_ne_true}
 use Rattle.std.proofs.lemmas.List.{length-map, take-map}
 use Rattle.std.proofs.lemmas.Slice.Eq.{bytes_eq-Decides}
-use Rattle.tmem_invariants.specs.Names.{has_name}
+use Rattle.tmem_invariants.specs.TableNames.{has_name}
 use Rattle.tmem_invariants.proofs.Scans.{slice_get-map_read, AreDistinct-take_more, AreDistinct_whole, not-AreDistinct}
 use Rattle.tmem_invariants.proofs.table.have_distinct_names.Goals as goal
 

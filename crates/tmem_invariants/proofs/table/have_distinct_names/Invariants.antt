@@ -1,5 +1,5 @@
 use Rattle.std.proofs.Common.{map, take}
-use Rattle.tmem_invariants.specs.Names.{AreDistinct}
+use Rattle.tmem_invariants.specs.TableNames.{AreDistinct}
 use Rattle.tmem_invariants.proofs.table.have_distinct_names.Given as goal
 
 abbrev pub invariant-loop-i : goal.invariant-loop-i

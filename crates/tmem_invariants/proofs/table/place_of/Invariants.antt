@@ -1,5 +1,5 @@
 use Rattle.std.proofs.Common.{◌≡◌, false, map, take}
-use Rattle.tmem_invariants.specs.Names.{has_name}
+use Rattle.tmem_invariants.specs.TableNames.{has_name}
 use Rattle.tmem_invariants.proofs.table.place_of.Given as goal
 
 abbrev pub invariant-loop-i : goal.invariant-loop-i

@@ -2,8 +2,8 @@ use Rattle.std.proofs.Common.{ℕ, ℤ, List, refl, sym, ◌∙◌, ap, subst, l
 use Rattle.std.proofs.lemmas.Bool.{false≢true}
 use Rattle.tmem_record.specs.Names.{AreRegistered}
 use Rattle.tmem_record.specs.Spelling.{number_bytes}
-use Rattle.tmem_journal.specs.Reading.{StandsAt, values_bytes}
-use Rattle.tmem_journal.specs.Spelling.{names_body}
+use Rattle.tmem_journal.specs.StandsAt.{StandsAt, values_bytes}
+use Rattle.tmem_journal.specs.ImageSpelling.{names_body}
 use Rattle.tmem_journal.proofs.Imaging.{split_image, join_image, names_stand, names_part}
 use Rattle.tmem_journal.proofs.image.read_image.Goals as goal
 

@@ -2,7 +2,7 @@ use Rattle.std.proofs.Common.{ℤ, List, [], ◌∷◌, ◌++◌, ◌∙◌, ap,
 use Rattle.std.proofs.lemmas.Grind.{elements}
 use Rattle.std.proofs.lemmas.Int.{to_z-of_z}
 use Rattle.std.specs.Int.{w64}
-use Rattle.tmem_journal.specs.Reading.{StandsAt, values_bytes}
+use Rattle.tmem_journal.specs.StandsAt.{StandsAt, values_bytes}
 use Rattle.tmem_journal.proofs.Standing.{no_values, one_value_more, moved}
 use Rattle.tmem_journal.proofs.image.values_at.Goals as goal
 

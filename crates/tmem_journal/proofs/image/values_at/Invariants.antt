@@ -1,5 +1,5 @@
 use Rattle.std.proofs.Common.{◌≡◌, length}
-use Rattle.tmem_journal.specs.Reading.{StandsAt, AreValues, values_bytes}
+use Rattle.tmem_journal.specs.StandsAt.{StandsAt, AreValues, values_bytes}
 use Rattle.tmem_journal.proofs.image.values_at.Given as goal
 
 abbrev pub invariant-loop-k : goal.invariant-loop-k

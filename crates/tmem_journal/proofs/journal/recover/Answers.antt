@@ -1,7 +1,7 @@
 use Rattle.std.proofs.Common.{ℕ, List, None, Some, sym, ◌∙◌, subst, rules, arith}
 use Rattle.std.proofs.lemmas.Result.{err_from_is_err_and}
 use Rattle.tmem_gate.specs.Gate.{IsClosed}
-use Rattle.tmem_record.proofs.Folding.{length-written}
+use Rattle.tmem_record.proofs.Laws.{length-written}
 use Rattle.tmem_journal.specs.Layout.{slot_place}
 use Rattle.tmem_journal.proofs.Appending.{stands_unused}
 use Rattle.tmem_journal.proofs.Recovering.{nothing_found, all_found, stands_with, leaves_seen}
@@ -64,4 +64,4 @@ returns-in-Some-clause-sized g c = rw c.accept.ensures (length-written c.in_ok-s
 pub accept-requires-clause-within : goal.accept-requires-clause-within
 accept-requires-clause-within g c =
     let follows = rw c.in-Some.is at c.in_ok-found_log.ensures.follows in
-    λ k d below. omega (arith, (follows.is_record.writes.each k d below).within, c.in_ok-state.ensures.fits.values)
+    λ k d below. omega (arith, follows.loggable.effect.within k d below, c.in_ok-state.ensures.fits.values)

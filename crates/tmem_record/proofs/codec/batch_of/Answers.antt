@@ -1,5 +1,5 @@
 use Rattle.std.proofs.Common.{arith}
-use Rattle.tmem_record.proofs.Reading.{or_none, no_room_for_head, no_such_count, no_records_there, batch_found}
+use Rattle.tmem_record.proofs.CodecReads.{or_none, no_room_for_head, no_such_count, no_records_there, batch_found}
 use Rattle.tmem_record.proofs.codec.batch_of.Goals as goal
 use Rattle.tmem_record.proofs.codec.batch_of.Goals.{then-count-eq0-via-then-count-eq0, then-count-eq0-via-else-count-eq0+then-count-gt-MAX_RECORDS}
 

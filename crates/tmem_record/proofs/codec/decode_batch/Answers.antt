@@ -1,4 +1,4 @@
-use Rattle.tmem_record.proofs.Reading.{no_beginning}
+use Rattle.tmem_record.proofs.CodecReads.{no_beginning}
 use Rattle.tmem_record.proofs.codec.decode_batch.Goals as goal
 
 pub returns-in_default-clause-none : goal.returns-in_default-clause-none

@@ -1,6 +1,6 @@
 use Rattle.std.proofs.Common.{rules, ◌≡◌, ◌+◌, true, false, arith}
 use Rattle.tmem_record.specs.Names.{has_name, with_name}
-use Rattle.tmem_record.proofs.Reading.{ReadNames, or_none, nothing_of_names, too_many_names, no_name_next, checked_twice, name_more, names_found}
+use Rattle.tmem_record.proofs.CodecReads.{ReadNames, or_none, nothing_of_names, too_many_names, no_name_next, checked_twice, name_more, names_found}
 use Rattle.tmem_record.proofs.codec.names_of.Goals as goal
 
 pub returns-in_err-count-clause-none : goal.returns-in_err-count-clause-none

@@ -1,4 +1,4 @@
-use Rattle.tmem_record.proofs.Reading.{ReadNames}
+use Rattle.tmem_record.proofs.CodecReads.{ReadNames}
 use Rattle.tmem_record.proofs.codec.names_of.Given as goal
 
 abbrev pub invariant-loop : goal.invariant-loop

@@ -1,6 +1,6 @@
 use Rattle.std.proofs.Common.{◌+◌, ◌∙◌, ap, length, arith, refl}
 use Rattle.std.proofs.lemmas.List.Sums.{sum_by_more}
-use Rattle.tmem_record.proofs.Putting.{name_put}
+use Rattle.tmem_record.proofs.CodecWrites.{name_put}
 use Rattle.tmem_record.proofs.codec.put_names.Goals as goal
 
 pub loop-name-preserved : goal.loop-name-preserved

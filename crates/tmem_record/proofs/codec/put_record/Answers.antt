@@ -1,5 +1,5 @@
 use Rattle.std.proofs.Common.{ap, length}
-use Rattle.tmem_record.proofs.Putting.{record_is}
+use Rattle.tmem_record.proofs.CodecWrites.{record_is}
 use Rattle.tmem_record.proofs.codec.put_record.Goals as goal
 
 pub returns-clause-front : goal.returns-clause-front

@@ -1,10 +1,8 @@
-use Rattle.std.proofs.Common.{ap, subst, arith}
-use Rattle.std.proofs.lemmas.List.Elements.{All-more}
+use Rattle.std.proofs.Common.{ap, arith}
 use Rattle.std.proofs.lemmas.List.Sums.{sum_by_more}
-use Rattle.tmem_record.specs.State.{Effect}
 use Rattle.tmem_record.specs.Batch.{record_length}
-use Rattle.tmem_record.specs.Spelling.{record_bytes, HasValues}
-use Rattle.tmem_record.proofs.Putting.{part_more}
+use Rattle.tmem_record.specs.Spelling.{record_bytes}
+use Rattle.tmem_record.proofs.CodecWrites.{part_more}
 use Rattle.tmem_record.proofs.codec.put_records.Goals as goal
 
 pub loop-effect-preserved : goal.loop-effect-preserved
@@ -13,5 +11,4 @@ loop-effect-preserved c =
     record {
       place = omega (arith, more, ap record_length c.effect-item.is, c.put_record-at.ensures.next, c.loop-effect.invariant.place);
       front = part_more record_bytes c.args.effects.now c.loop-effect.effect-index c.effect-item.result c.loop-effect-test.true _ _ _ _ c.loop-effect.invariant.front c.put_record-at.ensures.front (ap record_bytes c.effect-item.is);
-      values = All-more (λ (e : Effect). HasValues e.writes) c.args.effects.now c.loop-effect.effect-index c.effect-item.result c.loop-effect-test.true c.loop-effect.invariant.values (subst (λ (e : Effect). HasValues e.writes) c.effect-item.is c.put_record-at.ensures.values);
     }

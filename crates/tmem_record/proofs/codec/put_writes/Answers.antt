@@ -1,10 +1,8 @@
-use Rattle.std.proofs.Common.{ℤ, ◌∙◌, ap, subst, length, arith, get_or, pos, rules, w64, FitsSigned}
+use Rattle.std.proofs.Common.{ℤ, ◌∙◌, ap, length, arith, get_or, pos, rules, w64, FitsSigned}
 use Rattle.std.proofs.lemmas.Int.{to_z-of_z}
-use Rattle.std.proofs.lemmas.List.{take_all}
 use Rattle.std.specs.Int.{cast_unsigned}
 use Rattle.byteorder.specs.Endian.{little_bytes}
-use Rattle.tmem_record.specs.Spelling.{HasValues}
-use Rattle.tmem_record.proofs.Putting.{write_put, values_put}
+use Rattle.tmem_record.proofs.CodecWrites.{write_put}
 use Rattle.tmem_record.proofs.codec.put_writes.Goals as goal
 
 pub loop-write-preserved : goal.loop-write-preserved
@@ -14,8 +12,4 @@ loop-write-preserved c =
     record {
       place = omega (arith, ap length c.to_le_bytes.ensures, ap length c.to_le_bytes-in-loop-write.ensures);
       front = write_put c.args.writes.now c.loop-write.write-index (omega arith) _ _ _ _ _ _ c.loop-write.invariant.front c.put-at.ensures.front c.put-at-in-loop-write.ensures.front c.to_le_bytes.ensures (c.to_le_bytes-in-loop-write.ensures ∙ same);
-      values = values_put c.args.writes.now c.loop-write.write-index (omega arith) c.loop-write.invariant.values fits;
     }
-
-pub returns-clause-values : goal.returns-clause-values
-returns-clause-values c = subst HasValues (take_all c.loop-write.write-index c.args.writes.now (omega arith)) c.loop-write.invariant.values

@@ -1,5 +1,5 @@
 use Rattle.std.proofs.Common.{arith}
-use Rattle.tmem_record.proofs.Reading.{head_alone}
+use Rattle.tmem_record.proofs.CodecReads.{head_alone}
 use Rattle.tmem_record.proofs.codec.read_head.Goals as goal
 
 pub returns : goal.returns

@@ -1,4 +1,4 @@
-use Rattle.tmem_record.proofs.Reading.{ReadRecords}
+use Rattle.tmem_record.proofs.CodecReads.{ReadRecords}
 use Rattle.tmem_record.proofs.codec.records_of.Given as goal
 
 abbrev pub invariant-loop : goal.invariant-loop

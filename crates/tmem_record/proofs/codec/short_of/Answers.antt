@@ -1,5 +1,5 @@
 use Rattle.std.proofs.Common.{ℕ, arith}
-use Rattle.tmem_record.proofs.Reading.{number_front}
+use Rattle.tmem_record.proofs.CodecReads.{number_front}
 use Rattle.tmem_record.proofs.codec.short_of.Goals as goal
 
 pub returns-clause-parts : goal.returns-clause-parts

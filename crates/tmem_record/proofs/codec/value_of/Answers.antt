@@ -1,6 +1,6 @@
 use Rattle.std.proofs.Common.{ℕ, ◌∙◌, arith, rules, w64, FitsSigned}
 use Rattle.std.proofs.lemmas.Int.{to_z-of_z}
-use Rattle.tmem_record.proofs.Reading.{value_front}
+use Rattle.tmem_record.proofs.CodecReads.{value_front}
 use Rattle.tmem_record.proofs.codec.value_of.Goals as goal
 
 pub returns-clause-parts : goal.returns-clause-parts

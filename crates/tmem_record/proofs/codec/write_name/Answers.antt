@@ -1,5 +1,5 @@
 use Rattle.std.proofs.Common.{◌∙◌, refl, arith}
-use Rattle.tmem_record.proofs.Putting.{name_alone, drop_further}
+use Rattle.tmem_record.proofs.CodecWrites.{name_alone, drop_further}
 use Rattle.tmem_record.proofs.codec.write_name.Goals as goal
 
 pub returns-clause-bytes : goal.returns-clause-bytes

@@ -2,14 +2,14 @@ use Rattle.std.proofs.Common.{◌≡◌, ◌++◌, ℤ, sym, subst, arith}
 use Rattle.std.specs.Int.{w64}
 use Rattle.std.proofs.lemmas.Int.{to_z-of_z}
 use Rattle.tmem_record.specs.Spelling.{value_bytes}
-use Rattle.tmem_record.proofs.Reading.{no_room_for_write, no_such_variable, write_front}
+use Rattle.tmem_record.proofs.CodecReads.{no_room_for_write, no_such_variable, write_front}
 use Rattle.tmem_record.proofs.codec.write_of.Goals as goal
 
 pub returns-then-bytes-lt-WRITE_BYTES-clause-none : goal.returns-then-bytes-lt-WRITE_BYTES-clause-none
-returns-then-bytes-lt-WRITE_BYTES-clause-none c = λ w rest is same. no_room_for_write c.args.bytes.now rest w (omega arith) same
+returns-then-bytes-lt-WRITE_BYTES-clause-none c = λ w rest within fits same. no_room_for_write c.args.bytes.now rest w (omega arith) same
 
 pub returns-then-var-vars-clause-none : goal.returns-then-var-vars-clause-none
-returns-then-var-vars-clause-none c = no_such_variable c.args.vars c.short_of-var.result.0 c.args.bytes.now _ c.short_of-var.ensures.parts (omega arith) (omega arith)
+returns-then-var-vars-clause-none c = λ w rest within fits same. no_such_variable c.args.vars c.short_of-var.result.0 c.args.bytes.now _ c.short_of-var.ensures.parts (omega arith) (omega arith) w rest within same
 
 pub returns-clause-found : goal.returns-clause-found
 returns-clause-found c =

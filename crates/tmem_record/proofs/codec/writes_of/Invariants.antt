@@ -1,4 +1,4 @@
-use Rattle.tmem_record.proofs.Reading.{ReadWrites}
+use Rattle.tmem_record.proofs.CodecReads.{ReadWrites}
 use Rattle.tmem_record.proofs.codec.writes_of.Given as goal
 
 abbrev pub invariant-loop : goal.invariant-loop

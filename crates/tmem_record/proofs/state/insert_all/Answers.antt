@@ -1,6 +1,6 @@
 use Rattle.std.proofs.Common.{sym, ◌∙◌, ap, take}
 use Rattle.tmem_record.specs.Names.{with_names, insert_name}
-use Rattle.tmem_record.proofs.Folding.{room_for_next, with_names-next}
+use Rattle.tmem_record.proofs.NamesLaws.{room_for_next, with_names-next}
 use Rattle.tmem_record.proofs.state.insert_all.Goals as goal
 
 pub insert-requires : goal.insert-requires

@@ -1,6 +1,6 @@
 use Rattle.std.proofs.Common.{rules, sym, ap, length, take, arith, get_or, pos, w64, FitsSigned}
 use Rattle.std.proofs.lemmas.Int.{to_z-of_z}
-use Rattle.tmem_record.proofs.Folding.{length-written, written-next}
+use Rattle.tmem_record.proofs.StateLaws.{length-written, written-next}
 use Rattle.tmem_record.proofs.state.set_all.Goals as goal
 
 pub index_mut-requires : goal.index_mut-requires

@@ -1,7 +1,7 @@
 use Rattle.std.proofs.Common.{refl}
 use Rattle.tmem_tree.specs.Run.{run}
 use Rattle.tmem_tree.specs.Visited.{visits}
-use Rattle.tmem_tentative.proofs.Choices.{or_else-assoc, or_else-retried, else_visit-assoc, else_visit-nil, alike_answers}
+use Rattle.tmem_tentative.proofs.OrElseLaws.{or_else-assoc, or_else-retried, else_visit-assoc, else_visit-nil, alike_answers}
 use Rattle.tmem_tentative.proofs.laws.or_else_laws.Goals as goal
 
 pub returns : goal.returns

@@ -1,7 +1,7 @@
 use Rattle.std.proofs.Common.{◌+◌, ◌≤◌, drop}
 use Rattle.std.specs.Prelude.{◌↔◌}
 use Rattle.tmem_tree.specs.Limits.{depth}
-use Rattle.tmem_tree.proofs.Rows.{depth_in}
+use Rattle.tmem_tree.proofs.Laws.{depth_in}
 use Rattle.tmem_tree.proofs.limits.+is_within_depth.Given as goal
 
 abbrev pub invariant-loop-t : goal.invariant-loop-t

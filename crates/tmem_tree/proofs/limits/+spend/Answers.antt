@@ -1,6 +1,6 @@
 use Rattle.std.proofs.Common.{arith}
 use Rattle.tmem_tree.specs.Plans.{is_counted}
-use Rattle.tmem_tree.proofs.Rows.{count-Seq}
+use Rattle.tmem_tree.proofs.Laws.{count-Seq}
 use Rattle.tmem_tree.proofs.limits.+spend.Goals as goal
 
 pub loop-t-init : goal.loop-t-init

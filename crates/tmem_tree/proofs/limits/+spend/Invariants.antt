@@ -1,7 +1,7 @@
 use Rattle.std.proofs.Common.{◌≡◌, ◌+◌, drop}
 use Rattle.tmem_tree.specs.Limits.{count}
 use Rattle.tmem_tree.specs.Plans.{is_counted}
-use Rattle.tmem_tree.proofs.Rows.{count_in}
+use Rattle.tmem_tree.proofs.Laws.{count_in}
 use Rattle.tmem_tree.proofs.limits.+spend.Given as goal
 
 abbrev pub invariant-loop-t : goal.invariant-loop-t

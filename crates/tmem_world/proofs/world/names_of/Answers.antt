@@ -5,7 +5,7 @@ use Rattle.tmem_world.proofs.world.names_of.Goals as goal
 
 pub loop-place-preserved : goal.loop-place-preserved
 loop-place-preserved g c =
-    let all = g.T.Tests.names c.args.table.now in
+    let all = g.T.Invariants.names c.args.table.now in
     let k = c.loop-place.place in
     let name = c.name.result in
     let next : suc k ≡ k + 1 = omega arith in

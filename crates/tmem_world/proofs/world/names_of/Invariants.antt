@@ -3,6 +3,6 @@ use Rattle.tmem_world.proofs.world.names_of.Given as goal
 
 abbrev pub invariant-loop-place : goal.invariant-loop-place
 invariant-loop-place g l = record {
-  names : l.names.items ≡ take l.place (g.T.Tests.names l.fn.table);
-  within : l.place ≤ length (g.T.Tests.names l.fn.table);
+  names : l.names.items ≡ take l.place (g.T.Invariants.names l.fn.table);
+  within : l.place ≤ length (g.T.Invariants.names l.fn.table);
 }

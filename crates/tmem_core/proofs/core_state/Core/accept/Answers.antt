@@ -1,14 +1,13 @@
 use Rattle.std.proofs.Common.{length, sym, subst, ◌∙◌}
 use Rattle.std.proofs.lemmas.List.Elements.{All-push}
 use Rattle.tmem_record.specs.State.{State}
-use Rattle.tmem_record.proofs.Folding.{length-values-apply}
+use Rattle.tmem_record.proofs.Laws.{length-values-apply, AreRegistered-with_names}
 use Rattle.tmem_invariants.specs.Meanings.{AllHold}
-use Rattle.tmem_record.specs.Accepted.{IsAccepted}
+use Rattle.tmem_record.specs.Loggable.{IsLoggable}
 use Rattle.tmem_core.proofs.Known.{AreAmong}
 use Rattle.tmem_core.specs.History.{effects_of}
 use Rattle.tmem_core.proofs.Folded.{folded-push}
-use Rattle.tmem_core.proofs.Registered.{AreRegistered-with_names}
-use Rattle.tmem_core.proofs.Places.{writes_within, not_empty}
+use Rattle.tmem_core.proofs.Places.{writes_within}
 use Rattle.tmem_core.proofs.core_state.Core.accept.Goals as goal
 
 pub accept-requires-clause-within : goal.accept-requires-clause-within
@@ -19,15 +18,13 @@ invariant_of-self-clause-each g c =
     let core = c.args.self.now in
     let e = c.args.effect.now in
     let vars = length core.state.values in
-    let is : IsAccepted vars e = record {
-      effect = record { writes = c.changes.ensures.writes; within = writes_within vars e.writes c.requires.variables; names = c.changes.ensures.names };
-      not_empty = not_empty e c.changes.result c.changes.ensures.changes c.if-not-changes.false;
-    } in
-    rw (c.accept.ensures, c.push.ensures, length-values-apply core.state e) (All-push (IsAccepted vars) core.waiting e core.each is)
+    let is : IsLoggable vars e = record { effect = c.is_empty.ensures.is_effect vars (writes_within vars e.writes c.requires.variables); not_empty = sym c.is_empty.ensures.empty ∙ c.if-is_empty.false } in
+    rw (c.accept.ensures, c.push.ensures, length-values-apply core.state e) (All-push (IsLoggable vars) core.waiting e core.each is)
 
 pub invariant_of-self-clause-registered : goal.invariant_of-self-clause-registered
 invariant_of-self-clause-registered g c =
-    rw c.accept.ensures (AreRegistered-with_names c.args.self.now.state.names c.args.effect.now.names c.changes.ensures.names.names c.requires.room c.args.self.now.registered)
+    let is = c.is_empty.ensures.is_effect (length c.args.self.now.state.values) (writes_within (length c.args.self.now.state.values) c.args.effect.now.writes c.requires.variables) in
+    rw c.accept.ensures (AreRegistered-with_names c.args.self.now.state.names c.args.effect.now.names is.names.names c.requires.room c.args.self.now.registered)
 
 pub returns-clause-vars : goal.returns-clause-vars
 returns-clause-vars g c = rw c.accept.ensures (length-values-apply c.args.self.now.state c.args.effect.now)
@@ -43,7 +40,7 @@ invariant_of-self-clause-sized g c =
     rw c.accept.ensures (core.sized ∙ sym (length-values-apply core.state c.args.effect.now))
 
 pub invariant_of-self-clause-known : goal.invariant_of-self-clause-known
-invariant_of-self-clause-known g c = subst (λ (s : State). AreAmong (g.T.Tests.names c.args.self.now.table) s.names) (sym c.accept.ensures) c.requires.known
+invariant_of-self-clause-known g c = subst (λ (s : State). AreAmong (g.T.Invariants.names c.args.self.now.table) s.names) (sym c.accept.ensures) c.requires.known
 
 pub invariant_of-self-clause-sound : goal.invariant_of-self-clause-sound
 invariant_of-self-clause-sound g c = λ m stated. subst (λ (s : State). AllHold m s.names s.values) (sym c.accept.ensures) (c.requires.sound m stated)

@@ -1,8 +1,8 @@
 use Rattle.std.proofs.Common.{◌≡◌, None, [], sym, subst, ap, ◌∙◌}
 use Rattle.tmem_record.specs.State.{State}
 use Rattle.tmem_invariants.specs.Meanings.{AllHold, first_false}
-use Rattle.tmem_invariants.specs.Names.{first_missing, name_at}
-use Rattle.tmem_invariants.proofs.Sound.{All-there}
+use Rattle.tmem_invariants.specs.TableNames.{first_missing, name_at}
+use Rattle.tmem_invariants.proofs.Laws.{All-there}
 use Rattle.tmem_core.proofs.Folded.{folded-none}
 use Rattle.tmem_core.proofs.Known.{AreAmong}
 use Rattle.tmem_core.proofs.Opens.{opens, not_sound-missing, not_sound-broken}
@@ -11,25 +11,25 @@ use Rattle.tmem_core.proofs.core_state.Core.new.Goals as goal
 pub returns-in-Some-clause-unsound : goal.returns-in-Some-clause-unsound
 returns-in-Some-clause-unsound g c = λ m stated apart sound.
     let missing = rw c.names.ensures.names at (sym c.in-Some.is ∙ c.missing.ensures) in
-    not_sound-missing m (g.T.Tests.names c.args.table) c.args.state.now c.in-Some.name missing sound
+    not_sound-missing m (g.T.Invariants.names c.args.table) c.args.state.now c.in-Some.name missing sound
 
 pub returns-in-Some-test_all-clause-unsound : goal.returns-in-Some-test_all-clause-unsound
 returns-in-Some-test_all-clause-unsound g c = λ m stated apart sound.
-    let names = g.T.Tests.names c.args.table in
+    let names = g.T.Invariants.names c.args.table in
     let answer = rw (c.names-2.ensures.names, c.values.ensures) at (c.test_all.ensures.first m stated) in
     let broken = sym c.name-name.ensures ∙ sym (ap (name_at names) c.in-Some-test_all.is) ∙ answer in
     not_sound-broken m names c.args.state.now c.name-name.result broken sound
 
 pub invariant_of-result-clause-known : goal.invariant_of-result-clause-known
 invariant_of-result-clause-known g c =
-    let names = g.T.Tests.names c.args.table in
+    let names = g.T.Invariants.names c.args.table in
     let s = c.args.state.now in
     let there : first_missing names s.names ≡ None = rw c.names.ensures.names at (sym c.missing.ensures ∙ c.in_default.is) in
     subst (λ (x : State). AreAmong names x.names) (sym c.in-Ok.ensures.state) (All-there names s.names there)
 
 pub invariant_of-result-clause-sound : goal.invariant_of-result-clause-sound
 invariant_of-result-clause-sound g c = λ m stated.
-    let names = g.T.Tests.names c.args.table in
+    let names = g.T.Invariants.names c.args.table in
     let s = c.args.state.now in
     let there : first_missing names s.names ≡ None = rw c.names.ensures.names at (sym c.missing.ensures ∙ c.in_default.is) in
     let answer = rw (c.names-2.ensures.names, c.values.ensures) at (c.test_all.ensures.first m stated) in

@@ -1,6 +1,6 @@
 use Rattle.std.proofs.Common.{◌≡◌, ℕ, ◌+◌, ◌-◌, length, drop, arith, subst}
 use Rattle.std.proofs.lemmas.List.Elements.{All-drop}
-use Rattle.tmem_record.specs.Accepted.{IsAccepted}
+use Rattle.tmem_record.specs.Loggable.{IsLoggable}
 use Rattle.tmem_core.specs.History.{IsFolded, effects_of}
 use Rattle.tmem_core.proofs.Folded.{folded-drop}
 use Rattle.tmem_core.proofs.core_state.Core.note_durable.Goals as goal
@@ -16,4 +16,4 @@ invariant_of-self-clause-folded g c =
 pub invariant_of-self-clause-each : goal.invariant_of-self-clause-each
 invariant_of-self-clause-each g c =
     let core = c.args.self.now in
-    rw c.drop_oldest.ensures (All-drop (IsAccepted (length core.state.values)) (c.args.number - core.durable) core.waiting core.each)
+    rw c.drop_oldest.ensures (All-drop (IsLoggable (length core.state.values)) (c.args.number - core.durable) core.waiting core.each)

@@ -1,5 +1,5 @@
 use Rattle.std.proofs.Common.{sym, ◌∙◌}
-use Rattle.tmem_core.proofs.Settling.{judges, adds}
+use Rattle.tmem_core.proofs.SettleAnswers.{judges, adds}
 use Rattle.tmem_core.proofs.core_state.Core.settle.Goals as goal
 
 pub returns-in-Normal-clause-verdict : goal.returns-in-Normal-clause-verdict

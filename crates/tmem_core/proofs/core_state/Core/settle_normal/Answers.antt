@@ -1,27 +1,27 @@
 use Rattle.std.proofs.Common.{◌≡◌, None, sym, ap, ◌∙◌}
 use Rattle.tmem_record.specs.State.{apply}
 use Rattle.tmem_invariants.specs.Meanings.{first_false}
-use Rattle.tmem_core.specs.Settle.{sound_answer, unless_refused}
+use Rattle.tmem_core.specs.SettleAnswer.{sound_answer, unless_refused}
 use Rattle.tmem_core.proofs.Known.{AllHold-with_names, AreAmong-with_names, few-with_names}
 use Rattle.tmem_core.proofs.core_state.Core.settle_normal.Goals as goal
 
 pub accept-requires-clause-room : goal.accept-requires-clause-room
 accept-requires-clause-room g c =
     let core = c.args.self.now in
-    rw c.first_broken.ensures.state (few-with_names (g.T.Tests.names core.table) core.state.names c.args.effect.now.names core.registered.ascending core.known c.requires.names (g.met.T.Tests.few core.table))
+    rw c.first_broken.ensures.state (few-with_names (g.T.Invariants.names core.table) core.state.names c.args.effect.now.names core.registered.ascending core.known c.requires.names (g.met.T.Invariants.few core.table))
 
 pub accept-requires-clause-known : goal.accept-requires-clause-known
 accept-requires-clause-known g c =
     let core = c.args.self.now in
-    rw (c.first_broken.ensures.state, c.first_broken.ensures.table) (AreAmong-with_names (g.T.Tests.names core.table) core.state.names c.args.effect.now.names core.known c.requires.names)
+    rw (c.first_broken.ensures.state, c.first_broken.ensures.table) (AreAmong-with_names (g.T.Invariants.names core.table) core.state.names c.args.effect.now.names core.known c.requires.names)
 
 pub accept-requires-clause-sound : goal.accept-requires-clause-sound
 accept-requires-clause-sound g c = λ m stated.
     let core = c.args.self.now in
     let e = c.args.effect.now in
     let broken = c.first_broken.ensures.first m (rw c.first_broken.ensures.table at stated) in
-    let none : first_false m (g.T.Tests.names core.table) core.state.names e.names (apply core.state e).values ≡ None = sym broken ∙ c.in-None.is in
-    rw c.first_broken.ensures.state (AllHold-with_names m (g.T.Tests.names core.table) core.state.names e.names (apply core.state e).values core.known c.requires.names none)
+    let none : first_false m (g.T.Invariants.names core.table) core.state.names e.names (apply core.state e).values ≡ None = sym broken ∙ c.in-None.is in
+    rw c.first_broken.ensures.state (AllHold-with_names m (g.T.Invariants.names core.table) core.state.names e.names (apply core.state e).values core.known c.requires.names none)
 
 pub returns-in-Some-clause-answer : goal.returns-in-Some-clause-answer
 returns-in-Some-clause-answer g c = λ p names stated.

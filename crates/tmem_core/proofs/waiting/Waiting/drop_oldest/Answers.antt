@@ -1,6 +1,10 @@
-use Rattle.std.proofs.Common.{arith, ap, length, length-take}
-use Rattle.tmem_core.proofs.Rotating.{take-rotated}
+use Rattle.std.proofs.Common.{◌≤◌, drop, length, ap, ◌∙◌, arith}
+use Rattle.tmem_core.proofs.Windows.{length-window, window-later}
 use Rattle.tmem_core.proofs.waiting.Waiting.drop_oldest.Goals as goal
 
 pub returns : goal.returns
-returns c = rw (c.rotate_left.ensures.items, ← c.self.view_is) (take-rotated c.args.many c.self.inside.len c.self.inside.effects.items (omega (arith, c.requires, ap length c.self.view_is, length-take c.self.inside.len c.self.inside.effects.items)) (omega (arith, c.self.invariant)))
+returns c =
+    let w = c.self.inside in
+    let held = length-window 256 w.start w.len w.effects.items c.self.invariant.1 c.self.invariant.2 c.self.invariant.0 in
+    let fits : c.args.many ≤ w.len = omega (arith, c.requires, held, ap length c.self.view_is) in
+    window-later 256 w.start w.len w.effects.items c.self.invariant.1 c.self.invariant.2 c.self.invariant.0 c.args.many fits ∙ ap (drop c.args.many) c.self.view_is

@@ -1,6 +1,6 @@
 use Rattle.std.proofs.Common.{rules}
 use Rattle.std.proofs.lemmas.Str.{IsUtf8-from_ascii}
-use Rattle.tmem_disk.proofs.Names.{letters-ascii}
+use Rattle.tmem_disk.proofs.AsStr.{letters-ascii}
 use Rattle.tmem_disk.proofs.name.Name.as_str.Goals as goal
 
 pub unwrap-requires : goal.unwrap-requires

@@ -15,4 +15,4 @@ returns-clause-stop c =
     λ k. rw c.mark.ensures (λ f. (left_after d.platter.synced.items d.platter.marks.items c.args.from (length c.args.bytes.now) same (omega (arith, same)) f, left_all d.platter.synced.items d.platter.marks.items c.args.from (length c.args.bytes.now) same (omega (arith, same)) f))
 
 pub returns-clause-time : goal.returns-clause-time
-returns-clause-time c = elapses_to _ _ _ _ _ _ _ _ _ _ c.with.ensures
+returns-clause-time c = elapses_to _ _ _ _ _ _ _ _ _ _ _ _ c.with.ensures

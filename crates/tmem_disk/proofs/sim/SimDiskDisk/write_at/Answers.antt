@@ -1,5 +1,5 @@
 use Rattle.std.proofs.Common.{rules, length, ◌∙◌, sym}
-use Rattle.tmem_disk.proofs.Ranges.{SameOutside-refl}
+use Rattle.tmem_disk.proofs.Laws.{SameOutside-refl}
 use Rattle.tmem_disk.proofs.Fills.{unless_stopped-runs}
 use Rattle.tmem_disk.proofs.sim.SimDiskDisk.write_at.Goals as goal
 

@@ -1,15 +1,19 @@
-use Rattle.std.proofs.Common.{sym, ap, ◌∙◌}
+use Rattle.std.proofs.Common.{◌&&◌, sym, ap, ◌∙◌}
 use Rattle.tmem_invariants.specs.Meanings.{has_written}
-use Rattle.tmem_invariants.proofs.Testing.{has_name-touched_yes, has_name-touched_no}
+use Rattle.tmem_invariants.specs.TableNames.{has_name}
+use Rattle.tmem_invariants.proofs.TouchedInvariants.{has_name-touched}
 use Rattle.tmem_invariants.proofs.invariant.Invariant.is_touched_among.Goals as goal
 
-pub returns-then-contains : goal.returns-then-contains
-returns-then-contains g c = λ m stated.
-    c.is_touched.ensures
-    ∙ ap (has_written c.args.written.now) (c.deref.ensures.value ∙ stated.over)
-    ∙ sym (has_name-touched_yes m c.args.written.now c.args.registered.now c.args.self.now.name (sym c.contains.ensures.value ∙ c.if-contains.true))
+pub returns-then-is_touched : goal.returns-then-is_touched
+returns-then-is_touched g c = λ m stated.
+    let over = ap (has_written c.args.written.now) (c.deref.ensures.value ∙ stated.over) in
+    c.contains.ensures.value
+    ∙ ap (λ b. b && has_name c.args.registered.now c.args.self.now.name) (sym c.if-is_touched.true ∙ c.is_touched.ensures ∙ over)
+    ∙ sym (has_name-touched m c.args.written.now c.args.registered.now c.args.self.now.name)
 
-pub returns-else-contains : goal.returns-else-contains
-returns-else-contains g c = λ m stated.
-    c.if-contains.false
-    ∙ sym (has_name-touched_no m c.args.written.now c.args.registered.now c.args.self.now.name (sym c.contains.ensures.value ∙ c.if-contains.false))
+pub returns-else-is_touched : goal.returns-else-is_touched
+returns-else-is_touched g c = λ m stated.
+    let over = ap (has_written c.args.written.now) (c.deref.ensures.value ∙ stated.over) in
+    c.if-is_touched.false
+    ∙ ap (λ b. b && has_name c.args.registered.now c.args.self.now.name) (sym c.if-is_touched.false ∙ c.is_touched.ensures ∙ over)
+    ∙ sym (has_name-touched m c.args.written.now c.args.registered.now c.args.self.now.name)

@@ -2,7 +2,7 @@ use Rattle.std.proofs.Common.{rules, ◌≡◌, ap, sym, ◌∙◌, length, arit
 use Rattle.std.specs.List.{prefix_len}
 use Rattle.std.proofs.lemmas.List.Sums.{prefix_len-le-length}
 use Rattle.tmem_record.specs.Names.{has_name, is_before, at_its_place}
-use Rattle.tmem_record.proofs.Naming.{AreRegistered-at_its_place, at_its_place-insert}
+use Rattle.tmem_record.proofs.NamesLaws.{AreRegistered-at_its_place, at_its_place-insert}
 use Rattle.tmem_record.proofs.name_set.NameSet.insert.Goals as goal
 
 pub insert-requires : goal.insert-requires

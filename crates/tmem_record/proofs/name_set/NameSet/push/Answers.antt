@@ -1,7 +1,7 @@
 use Rattle.std.proofs.Common.{rules, ◌≡◌, ◌++◌, ◌∷◌, [], arith, true}
 use Rattle.std.specs.Prelude.{All}
 use Rattle.tmem_record.specs.Names.{is_before}
-use Rattle.tmem_record.proofs.Naming.{AreRegistered-push}
+use Rattle.tmem_record.proofs.NamesLaws.{AreRegistered-push}
 use Rattle.tmem_record.proofs.name_set.NameSet.push.Goals as goal
 
 pub invariant_of-self : goal.invariant_of-self

@@ -1,7 +1,7 @@
 use Rattle.std.proofs.Common.{◌≡◌, ◌+◌, ℕ, length, ap, sym, ◌∙◌, arith, not, count_by, List}
 use Rattle.std.proofs.lemmas.Bool.{leb-true, le-leb}
 use Rattle.tmem_record.specs.Names.{has_name, with_names}
-use Rattle.tmem_record.proofs.Folding.{length-with_names}
+use Rattle.tmem_record.proofs.NamesLaws.{length-with_names}
 use Rattle.tmem_record.proofs.state.State.has_room_for.Goals as goal
 
 pub returns : goal.returns

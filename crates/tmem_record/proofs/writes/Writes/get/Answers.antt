@@ -1,5 +1,5 @@
 use Rattle.std.proofs.Common.{rules}
-use Rattle.tmem_record.proofs.Writing.{look-find}
+use Rattle.tmem_record.proofs.WritesLaws.{look-find}
 use Rattle.tmem_record.proofs.writes.Writes.get.Goals as goal
 
 pub returns : goal.returns

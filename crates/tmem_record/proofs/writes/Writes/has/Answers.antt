@@ -1,5 +1,5 @@
 use Rattle.std.proofs.Common.{rules}
-use Rattle.tmem_record.proofs.Writing.{is_some-look}
+use Rattle.tmem_record.proofs.WritesLaws.{is_some-look}
 use Rattle.tmem_record.proofs.writes.Writes.has.Goals as goal
 
 pub returns : goal.returns

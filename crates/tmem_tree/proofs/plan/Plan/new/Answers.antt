@@ -1,6 +1,5 @@
-use Rattle.std.proofs.Common.{refl}
-use Rattle.tmem_tree.proofs.Unbroken.{within_limits}
+use Rattle.tmem_tree.proofs.Plans.{within_limits}
 use Rattle.tmem_tree.proofs.plan.Plan.new.Goals as goal
 
 pub invariant_of-result : goal.invariant_of-result
-invariant_of-result g c = within_limits _ _ _ _ (c.in-None.ensures.none refl)
+invariant_of-result g c = within_limits _ _ _ _ (c.breaks_none.ensures.0 c.if-breaks_none.true)

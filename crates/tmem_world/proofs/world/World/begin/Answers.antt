@@ -1,10 +1,10 @@
 use Rattle.std.proofs.Common.{rules, refl, [], List, ℕ, sym, ◌∙◌, subst}
 use Rattle.std.proofs.lemmas.List.Elements.{All-set}
 use Rattle.tmem_tree.specs.Plans.{BreaksNone, IsLeastBroken, FitsNames}
-use Rattle.tmem_world.specs.Settle.{FitsSlot}
-use Rattle.tmem_world.specs.WorldModel.{with_attempt, Begun}
+use Rattle.tmem_world.specs.SettleSlot.{FitsSlot}
+use Rattle.tmem_world.specs.WorldModel.{holding, Begun}
 use Rattle.tmem_world.proofs.Points.{in_session, with_slot}
-use Rattle.tmem_world.proofs.Tables.{known_names}
+use Rattle.tmem_world.proofs.HeldTables.{known_names}
 use Rattle.tmem_world.proofs.world.World.begin.Goals as goal
 
 pub returns-in-Ok-clause-step : goal.returns-in-Ok-clause-step
@@ -12,7 +12,7 @@ returns-in-Ok-clause-step g c = λ program means m r keeps.
     let w = c.args.self.now in
     let names = known_names program w means in
     let fine = subst (λ (ns : List (List ℕ)). BreaksNone (g.S.StoredSteps.arities w.steps) w.layout.vars ns c.args.tx) (c.deref.ensures.value ∙ sym names) c.in-Ok.ensures.fine in
-    (with_attempt m c.args.slot (Begun c.args.tx []), in_session program w.session m _ _ _ r.session (search rules) (fine, refl), with_slot program _ _ m c.args.slot c.put.new.slot _ r (rw c.put.ensures (search rules)) refl refl refl refl refl refl)
+    (holding m c.args.slot (Begun c.args.tx []), in_session program w.session m _ _ _ r.session (search rules) (fine, refl), with_slot program _ _ m c.args.slot c.put.new.slot _ r (rw c.put.ensures (search rules)) refl refl refl refl refl refl)
 
 pub returns-in-Err-clause-step : goal.returns-in-Err-clause-step
 returns-in-Err-clause-step g c = λ program means m r keeps.

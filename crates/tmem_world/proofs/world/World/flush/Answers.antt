@@ -3,8 +3,8 @@ use Rattle.std.specs.Prelude.{Ok, Err, is_none}
 use Rattle.tmem_event.specs.declared.event.Reply.TheVariants as reply
 use Rattle.tmem_world.specs.Replies.{FlushedNothing}
 use Rattle.tmem_world.proofs.Points.{in_session}
-use Rattle.tmem_world.proofs.Flushed.{flushes}
-use Rattle.tmem_world.proofs.Still.{flush_still}
+use Rattle.tmem_world.proofs.FlushedPoints.{flushes}
+use Rattle.tmem_world.proofs.CallsNoDevice.{flush_still}
 use Rattle.tmem_world.proofs.world.World.flush.Goals as goal
 
 pub doubtful_after-self-requires : goal.doubtful_after-self-requires

@@ -3,25 +3,13 @@ use Rattle.std.specs.Vec.{vec_capacity, vec_len}
 use Rattle.std.proofs.lemmas.Grind.{common_steps}
 use Rattle.tmem_event.specs.declared.event.Event.{Event}
 use Rattle.tmem_event.specs.declared.event.Reply.{Reply}
-use Rattle.tmem_journal.specs.declared.layout.Layout.{Layout}
 use Rattle.tmem_world.specs.WorldModel.{Setting, Run, Allows}
 use Rattle.tmem_world.specs.Replies.{failures_by, failures_by_all, IsAcknowledged}
-use Rattle.tmem_world.specs.Represents.{RestsOn, setting_of}
-use Rattle.tmem_event.specs.declared.event.Event.TheVariants as event
-use Rattle.tmem_world.proofs.Acknowledged.{keeps, acknowledged-append}
-use Rattle.tmem_world.proofs.Runs.{run-append}
-use Rattle.tmem_world.proofs.Still.{failures-append}
-use Rattle.tmem_world.proofs.Tables.{means_stay}
+use Rattle.tmem_world.specs.Represents.{setting_of}
+use Rattle.tmem_world.proofs.Laws.{keeps_durable, acknowledged-append, run-append, run_on_any_device-append, failures-append, rests_on}
+use Rattle.tmem_world.proofs.AnyDevicePoints.{steps}
+use Rattle.tmem_world.specs.AnyDevice.{AllowsOnAnyDevice, RunOnAnyDevice}
 use Rattle.tmem_world.proofs.world.World.play.Goals as goal
-
--- under the premise each event rests on it
-rests : (P : Type 0) (e : Event) → P → RestsOn P e
-rests P (event.Begin slot tx) p = tt
-rests P (event.Turn slot) p = tt
-rests P (event.Settle slot) p = tt
-rests P event.Flush p = tt
-rests P event.Look p = tt
-rests P event.Reopen p = p
 
 pub loop-event-preserved : goal.loop-event-preserved
 loop-event-preserved g c =
@@ -42,13 +30,13 @@ loop-event-preserved g c =
       parts = parts;
       long = grind (arith, common_steps, one);
       room = omega (arith, so.room, c.push.ensures.capacity);
+      means = λ program stated. c.step-reply.ensures.means program (so.means program stated);
+      setting = λ program. c.step-reply.ensures.setting program ∙ so.setting program;
       run = λ program stated m r k.
           let before = so.run program stated m r (c.step-reply.ensures.model k) in
-          let now = c.step-reply.ensures.step program (means_stay program c.args.self.now c.loop-event.self so.steps so.table stated) before.0 before.2 (rests _ c.in-Some.event k) in
-          let kept = keeps (setting_of c.loop-event.self program) before.0 c.in-Some.event c.step-reply.result now.0 before.2.numbers.durable now.1 in
-          let same : setting_of c.loop-event.self program ≡ setting_of c.args.self.now program =
-          ap (λ (l : Layout). record { vars = l.vars; arities = g.S.StoredSteps.arities c.loop-event.self.steps; program = program }) so.layout ∙ ap (λ x. record { vars = c.args.self.now.layout.vars; arities = g.S.StoredSteps.arities x; program = program }) so.steps in
-          let allowed = subst (λ (t : Setting). Allows t before.0 c.in-Some.event c.step-reply.result now.0) same now.1 in (
+          let now = c.step-reply.ensures.step program (so.means program stated) before.0 before.2 (rests_on _ c.in-Some.event k) in
+          let kept = keeps_durable (setting_of c.loop-event.self program) before.0 c.in-Some.event c.step-reply.result now.0 before.2.numbers.durable now.1 in
+          let allowed = subst (λ (t : Setting). Allows t before.0 c.in-Some.event c.step-reply.result now.0) (so.setting program) now.1 in (
             now.0,
             subst (λ (rs : List Reply). Run (setting_of c.args.self.now program) m (c.loop-event.yielded ++ c.in-Some.event ∷ []) rs now.0) (sym pushed)
                 (run-append (setting_of c.args.self.now program) c.loop-event.yielded c.loop-event.replies.items c.in-Some.event c.step-reply.result m before.0 now.0 before.1 allowed),
@@ -56,5 +44,15 @@ loop-event-preserved g c =
             omega (arith, before.3, kept.durable),
             λ number is. ⊎_elim (λ among. let below = before.4 number among in omega (arith, below, kept.durable)) (λ last. omega (arith, last, kept.acknowledged))
                 (acknowledged-append c.loop-event.replies.items c.step-reply.result number (subst (λ (rs : List Reply). IsAcknowledged rs number) pushed is)),
+          );
+      any_device = λ program stated m r.
+          let before = so.any_device program stated m r in
+          let means = so.means program stated in
+          let now = steps program c.loop-event.self _ before.0 before.2 (c.step-reply.ensures.means program means) c.in-Some.event c.step-reply.result means c.step-reply.ensures.step c.step-reply.ensures.reopened in
+          let allowed = subst (λ (t : Setting). AllowsOnAnyDevice t before.0 c.in-Some.event c.step-reply.result now.0) (so.setting program) now.1 in (
+            now.0,
+            subst (λ (rs : List Reply). RunOnAnyDevice (setting_of c.args.self.now program) m (c.loop-event.yielded ++ c.in-Some.event ∷ []) rs now.0) (sym pushed)
+                (run_on_any_device-append (setting_of c.args.self.now program) c.loop-event.yielded c.loop-event.replies.items c.in-Some.event c.step-reply.result m before.0 now.0 before.1 allowed),
+            now.2,
           );
     }

@@ -3,8 +3,8 @@ use Rattle.std.proofs.lemmas.Int.{to_z-of_z}
 use Rattle.std.proofs.lemmas.List.Elements.{All-set}
 use Rattle.tmem_world.specs.declared.session.Slot.{Slot}
 use Rattle.tmem_world.specs.declared.session.Slot.TheVariants as slot
-use Rattle.tmem_world.specs.Settle.{FitsSlot, Joins, Keeps}
-use Rattle.tmem_world.specs.WorldModel.{with_attempt, attempt_at, Begun, Ended}
+use Rattle.tmem_world.specs.SettleSlot.{FitsSlot, Joins, Keeps}
+use Rattle.tmem_world.specs.WorldModel.{holding, slot_at, Begun, Ended}
 use Rattle.tmem_world.proofs.Points.{in_session, with_slot, slot_holds, at_place, turns_idle, turns_ended, turns_read, turns_end, turns_short, joined, kept, same_attempt, is_begun}
 use Rattle.tmem_world.proofs.world.World.turn.Goals as goal
 
@@ -56,7 +56,7 @@ returns-in-Ok-clause-step g c = λ program stated m r keeps.
     let same : c.index_mut.result.now ≡ slot.Begun c.in-Begun.plan c.in-Begun.reads =
     c.index_mut.ensures.value ∙ at_place w.slots.items c.args.slot c.index_mut.result.now c.index.result.now below ∙ sym c.index.ensures ∙ c.in-Begun.is in
     let joins : Joins (slot.Begun c.in-Begun.plan c.in-Begun.reads) c.in-Ok-Need.var n c.join.new.slot = subst (λ (x : Slot). Joins x c.in-Ok-Need.var n c.join.new.slot) same c.in-Ok.ensures.joins in (
-      with_attempt m c.args.slot (Begun c.in-Begun.plan (c.in-Begun.reads.entries ++ (c.in-Ok-Need.var, n) ∷ [])),
+      holding m c.args.slot (Begun c.in-Begun.plan (c.in-Begun.reads.entries ++ (c.in-Ok-Need.var, n) ∷ [])),
       in_session program w.session m _ _ _ r.session (search rules) (turns_read program m c.args.slot c.index.result.now c.in-Begun.plan c.in-Begun.reads c.in-Ok-Need.var n holds c.in-Begun.is right value),
       with_slot program w _ m c.args.slot c.join.new.slot _ r (joined program c.in-Begun.plan c.in-Begun.reads c.in-Ok-Need.var n c.join.new.slot lacks joins) refl refl refl refl refl refl,
     )
@@ -69,9 +69,9 @@ returns-in-Err-join-clause-step g c = λ program stated m r keeps.
     let same : c.index.result.now ≡ c.index_mut.result.now =
     c.index.ensures ∙ at_place w.slots.items c.args.slot c.index.result.now c.index_mut.result.now below ∙ sym c.index_mut.ensures.value in
     let keeps : Keeps c.index.result.now c.join.new.slot = subst (λ (x : Slot). Keeps x c.join.new.slot) (sym same) c.in-Err-join.ensures.keeps.1 in (
-      with_attempt m c.args.slot (attempt_at m c.args.slot),
-      rw (same_attempt m c.args.slot) (rw c.in-Err-join.ensures.keeps.0 (in_session program w.session m _ _ _ r.session (search rules) (turns_short program m c.args.slot (attempt_at m c.args.slot) c.in-Begun.plan c.in-Begun.reads.entries (is_begun program c.index.result.now _ c.in-Begun.plan c.in-Begun.reads holds c.in-Begun.is)))),
-      with_slot program w _ m c.args.slot c.join.new.slot _ r (kept program c.index.result.now c.join.new.slot (attempt_at m c.args.slot) holds keeps) refl refl refl refl refl refl,
+      holding m c.args.slot (slot_at m c.args.slot),
+      rw (same_attempt m c.args.slot) (rw c.in-Err-join.ensures.keeps.0 (in_session program w.session m _ _ _ r.session (search rules) (turns_short program m c.args.slot (slot_at m c.args.slot) c.in-Begun.plan c.in-Begun.reads.entries (is_begun program c.index.result.now _ c.in-Begun.plan c.in-Begun.reads holds c.in-Begun.is)))),
+      with_slot program w _ m c.args.slot c.join.new.slot _ r (kept program c.index.result.now c.join.new.slot (slot_at m c.args.slot) holds keeps) refl refl refl refl refl refl,
     )
 
 pub returns-in-Ok-Ended-clause-step : goal.returns-in-Ok-Ended-clause-step
@@ -81,7 +81,7 @@ returns-in-Ok-Ended-clause-step g c = λ program stated m r keeps.
     let holds = slot_holds program _ m c.args.slot c.index.result.now r below c.index.ensures in
     let right = rw (c.in-Ok-Ended.is, c.in-Ok-Ended.field-0-is) at (c.evaluate-outcome.ensures.right program.steps stated.steps) in
     let ends = turns_end program m c.args.slot c.index.result.now c.in-Begun.plan c.in-Begun.reads c.in-Ok-Ended.attempt holds c.in-Begun.is right in (
-      with_attempt m c.args.slot (Ended c.in-Begun.plan c.in-Ok-Ended.attempt.reads.entries),
+      holding m c.args.slot (Ended c.in-Begun.plan c.in-Ok-Ended.attempt.reads.entries),
       in_session program w.session m _ _ _ r.session (search rules) ends.0,
       with_slot program w _ m c.args.slot c.put.new.slot _ r (rw c.put.ensures (ends.1, refl)) refl refl refl refl refl refl,
     )
@@ -92,6 +92,6 @@ returns-in-Err-clause-step g c = λ program stated m r keeps.
     let below : c.args.slot < length w.slots.items = omega (arith, w.sized) in
     let holds = slot_holds program _ m c.args.slot c.index.result.now r below c.index.ensures in (
       m,
-      rw c.in-Err.ensures.fault (in_session program w.session m _ _ _ r.session (search rules) (turns_short program m c.args.slot (attempt_at m c.args.slot) c.in-Begun.plan c.in-Begun.reads.entries (is_begun program c.index.result.now _ c.in-Begun.plan c.in-Begun.reads holds c.in-Begun.is))),
+      rw c.in-Err.ensures.fault (in_session program w.session m _ _ _ r.session (search rules) (turns_short program m c.args.slot (slot_at m c.args.slot) c.in-Begun.plan c.in-Begun.reads.entries (is_begun program c.index.result.now _ c.in-Begun.plan c.in-Begun.reads holds c.in-Begun.is))),
       record { numbers = r.numbers; slots = r.slots; session = r.session; durable = r.durable; doubtful = r.doubtful; failures = r.failures; device = r.device },
     )

@@ -1,0 +1,4 @@
+mod Listing
+mod Playing
+mod Showing
+mod Writing

@@ -1,0 +1,26 @@
+use Rattle.std.proofs.Common.{◌≡◌, ◌++◌, ◌∷◌, [], List, ◌∙◌, ap, sym, subst, append_assoc, arith}
+use Rattle.std.proofs.lemmas.Grind.{common_steps}
+use Rattle.tmem_cli.specs.Printed.{PlaysEntries}
+use Rattle.tmem_script.specs.declared.script.Entry.{Entry}
+use Rattle.tmem_cli.proofs.Playing.{PlaysEntries-more}
+use Rattle.tmem_cli.proofs.play.play_entries.Goals as goal
+
+pub loop-entry-preserved : goal.loop-entry-preserved
+loop-entry-preserved g c =
+    let so = c.loop-entry.invariant in
+    let taken : c.loop-entry.entry-iterator.rest.items ≡ c.in-Some.entry ∷ c.next.new.self.rest.items = c.in-Some.ensures.steps.0 in
+    let parts : (c.loop-entry.yielded ++ c.in-Some.entry ∷ []) ++ c.next.new.self.rest.items ≡ c.args.entries.items =
+    append_assoc c.loop-entry.yielded (c.in-Some.entry ∷ []) c.next.new.self.rest.items ∙ ap (λ (es : List Entry). c.loop-entry.yielded ++ es) (sym taken) ∙ so.parts in
+    record {
+      numbers = c.play_entry.ensures.numbers ∙ so.numbers;
+      steps = c.play_entry.ensures.steps ∙ so.steps;
+      table = c.play_entry.ensures.table ∙ so.table;
+      parts = parts;
+      played = PlaysEntries-more c.args.world.now c.loop-entry.world c.play_entry.new.world _ _ _ c.loop-entry.yielded c.in-Some.entry so.numbers so.steps so.table so.played c.in_ok-play_entry.ensures.played;
+    }
+
+pub returns-clause-played : goal.returns-clause-played
+returns-clause-played g c =
+    let so = c.loop-entry.invariant in
+    let all : c.loop-entry.yielded ≡ c.args.entries.items = grind (arith, common_steps, so.parts) in
+    subst (λ (es : List Entry). PlaysEntries c.args.world.now (g.W.Write.contents c.args.out.now) es c.loop-entry.world (g.W.Write.contents c.loop-entry.out)) all so.played

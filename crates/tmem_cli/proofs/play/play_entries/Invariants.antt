@@ -1,0 +1,13 @@
+use Rattle.std.proofs.Common.{◌≡◌, ◌++◌}
+use Rattle.tmem_world.specs.Represents.{numbers_of, steps_of, held_table}
+use Rattle.tmem_cli.specs.Printed.{PlaysEntries}
+use Rattle.tmem_cli.proofs.play.play_entries.Given as goal
+
+abbrev pub invariant-loop-entry : goal.invariant-loop-entry
+invariant-loop-entry g l = record {
+  numbers : numbers_of l.world ≡ numbers_of l.fn.world;
+  steps : steps_of l.world ≡ steps_of l.fn.world;
+  table : held_table l.world ≡ held_table l.fn.world;
+  parts : l.yielded ++ l.entry-iterator.rest.items ≡ l.fn.entries.items;
+  played : PlaysEntries l.fn.world (g.W.Write.contents l.fn.out) l.yielded l.world (g.W.Write.contents l.out);
+}

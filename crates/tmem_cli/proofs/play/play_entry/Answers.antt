@@ -1,0 +1,29 @@
+use Rattle.std.proofs.Common.{ℕ, refl, sym, ap, subst, ◌∷◌, []}
+use Rattle.std.specs.Prelude.{OnOk}
+use Rattle.std.proofs.lemmas.Result.{on_ok_weaker}
+use Rattle.tmem_script.specs.Lines.{line_of}
+use Rattle.tmem_script.specs.declared.script.Entry.{Entry}
+use Rattle.tmem_script.specs.declared.script.Entry.TheVariants.{Event, Show}
+use Rattle.tmem_world.specs.WorldModel.{present}
+use Rattle.tmem_world.specs.Represents.{setting_of}
+use Rattle.tmem_cli.specs.Printed.{line, shown, PlaysEntries}
+use Rattle.tmem_cli.proofs.Playing.{Prints-one, rests}
+use Rattle.tmem_cli.proofs.play.play_entry.Goals as goal
+
+pub returns-in-Event-clause-played : goal.returns-in-Event-clause-played
+returns-in-Event-clause-played g c =
+    subst (λ (e : Entry). OnOk c.print_line.result (PlaysEntries c.args.world.now (g.W.Write.contents c.args.out.now) (e ∷ []) c.step.new.self (g.W.Write.contents c.print_line.new.out))) (sym c.in-Event.is)
+    (on_ok_weaker c.print_line.result
+    (λ wrote program means m at.
+    let next = c.step.ensures.step program means m at (rests _ c.in-Event.playable.event tt) in
+    (next.0, line (line_of c.step.result), Prints-one (setting_of c.args.world.now program) (Event c.in-Event.playable) (line (line_of c.step.result)) m next.0 (c.step.result, next.1, refl), next.2, wrote))
+    c.print_line.ensures.line)
+
+pub returns-in-Show-clause-played : goal.returns-in-Show-clause-played
+returns-in-Show-clause-played g c =
+    subst (λ (e : Entry). OnOk c.print_state.result (PlaysEntries c.args.world.now (g.W.Write.contents c.args.out.now) (e ∷ []) c.args.world.now (g.W.Write.contents c.print_state.new.out))) (sym c.in-Show.is)
+    (on_ok_weaker c.print_state.result
+    (λ wrote program means m at.
+    let text = line (shown c.args.vars m.session (present program m)) in
+    (m, text, Prints-one (setting_of c.args.world.now program) Show text m m (ap (λ (v : ℕ). line (shown v m.session (present program m))) (sym c.requires), refl), at, wrote program m at))
+    c.print_state.ensures.shown)

@@ -1,0 +1,80 @@
+-- What the program prints for the entries of a script.
+use Rattle.std.specs.Prelude.{◌≡◌, ⊤, ℕ, List, [], ◌∷◌, ◌++◌, Option, codes, filter, map}
+use Rattle.std.specs.List.{join_with_byte, range_with_len}
+use Rattle.std.specs.Fmt.{decimal, signed_decimal}
+use Rattle.std.specs.Io.KnownBytes.{Appends}
+use Rattle.tmem_disk.specs.Fault.{text_of}
+use Rattle.tmem_disk.specs.Name.{has_name}
+use Rattle.tmem_disk.specs.declared.fault.Fault.TheVariants as fault
+use Rattle.tmem_record.specs.State.{State, first_state}
+use Rattle.tmem_invariants.specs.Meanings.{value_of}
+use Rattle.tmem_core.specs.Program.{Program}
+use Rattle.tmem_event.specs.declared.event.Reply.{Reply}
+use Rattle.tmem_event.specs.declared.event.Reply.TheVariants as reply
+use Rattle.tmem_script.specs.Lines.{line_of}
+use Rattle.tmem_script.specs.declared.failure.Failure.{Failure}
+use Rattle.tmem_script.specs.declared.failure.Failure.TheVariants as failure
+use Rattle.tmem_script.specs.declared.script.Entry.{Entry}
+use Rattle.tmem_script.specs.declared.script.Entry.TheVariants as entry
+use Rattle.tmem_world.specs.WorldModel.{Setting, WorldModel, SessionStatus, Gone, Allows, present, opening}
+use Rattle.tmem_world.specs.declared.world.World.{World}
+use Rattle.tmem_world.specs.Represents.{Represents, Means, setting_of}
+use Rattle.tmem_cli.specs.Builtin.{builtin_setting}
+
+-- a text with its line break
+abbrev pub line : List ℕ → List ℕ
+line text = text ++ 10 ∷ []
+
+-- texts with a comma between any two
+abbrev pub listed : List (List ℕ) → List ℕ
+listed texts = join_with_byte 44 texts
+
+-- the names that can be registered, ascending
+abbrev pub all_names : List (List ℕ)
+all_names = codes "nonneg" ∷ codes "ordered" ∷ codes "sum" ∷ []
+
+-- those of them that are registered
+abbrev pub registered : State → List (List ℕ)
+registered state = filter (λ name. has_name state.names name) all_names
+
+-- the values of the variables, in order
+abbrev pub values_text : ℕ → State → List (List ℕ)
+values_text vars state = map (λ var. signed_decimal (value_of state.values var)) (range_with_len 0 vars)
+
+-- a state: how many transactions were accepted, the names that are registered, and the values
+abbrev pub state_text : ℕ → State → List ℕ
+state_text vars state =
+    codes "state count=" ++ decimal state.count ++ codes " names=" ++ listed (registered state) ++ codes " values=" ++ listed (values_text vars state)
+
+-- the present state, or where no session stands the refusal of all that needs one
+abbrev pub shown : ℕ → SessionStatus → State → List ℕ
+shown vars Gone state = text_of fault.Closed
+shown vars _ state = state_text vars state
+
+-- At this point of a run the entry may be answered by this text, and leads to that point: an event by the line of a reply that is allowed, `show` by the line of the present state.
+abbrev pub Answers : Setting → WorldModel → Entry → List ℕ → WorldModel → Type 0
+Answers set m (entry.Event it) text m' = (reply : Reply) × Allows set m it.event reply m' × (text ≡ line (line_of reply))
+Answers set m entry.Show text m' = (text ≡ line (shown set.vars m.session (present set.program m))) × (m' ≡ m)
+
+-- The entries may be answered by this text, one after another.
+abbrev pub Prints : Setting → WorldModel → List Entry → List ℕ → WorldModel → Type 0
+Prints set m [] text m' = (text ≡ []) × (m' ≡ m)
+Prints set m (e ∷ es) text m' =
+    (mid : WorldModel) × (first : List ℕ) × (rest : List ℕ) × Answers set m e first mid × Prints set mid es rest m' × (text ≡ first ++ rest)
+
+-- Whatever the closures mean, by their statement: from each point of a run that the old world is at, the entries may be answered by what was written meanwhile, and the new world is at the point that they lead to.
+abbrev pub PlaysEntries : {D T S : Type 0} {d t s : _} → World D T S d t s → Option (List ℕ) → List Entry → World D T S d t s → Option (List ℕ) → Type 0
+PlaysEntries old before entries new after =
+    (program : Program) → Means old program → (m : WorldModel) → Represents program old m
+    → (m' : WorldModel) × (text : List ℕ) × Prints (setting_of old program) m entries text m' × Represents program new m' × Appends before after text
+
+-- A whole script: the line of the opening of an empty store, and then what its entries may be answered by from there.
+abbrev pub PlaysScript : ℕ → List Entry → Option (List ℕ) → Option (List ℕ) → Type 0
+PlaysScript vars entries before after =
+    (m' : WorldModel) × (text : List ℕ) × Prints (builtin_setting vars) (opening (first_state vars) 0 0) entries text m' × Appends before after (line (line_of (reply.Opened 0)) ++ text)
+
+-- Why a script that was read is not played to its end: the output failed, or memory, the device, its format or its opening was refused.
+abbrev pub StopsPlaying : Failure → Type 0
+StopsPlaying failure.Output = ⊤
+StopsPlaying (failure.Refused fault) = ⊤
+StopsPlaying _ = ⊥

@@ -1,0 +1,175 @@
+-- The formatted content: how it is written, and what it stands for.
+use Rattle.std.proofs.Common.{◌≡◌, ◌<◌, ◌≤◌, ◌+◌, ◌*◌, ◌-◌, ℕ, zero, suc, pos, Option, Some, List, [], ◌++◌, length, take, drop, replicate, flat_map, refl, sym, ◌∙◌, ap, subst, arith, append_assoc, length-append, rules}
+use Rattle.std.specs.Prelude.{slice_get, FitsSigned, Result, Ok, Err, OnOk}
+use Rattle.std.specs.Int.{w64}
+use Rattle.std.proofs.lemmas.List.{take_at, drop_at, drop-drop, length-replicate, replicate-append-replicate}
+use Rattle.std.proofs.lemmas.List.Elements.{All-replicate}
+use Rattle.byteorder.specs.Endian.{little_bytes}
+use Rattle.tmem_disk.specs.Disk.{DeviceView, LeavesOnly, IsSynced, ReadsAs, SameOutside, overwritten}
+use Rattle.tmem_gate.specs.Gate.{IsClosed, IsOpenOver}
+use Rattle.tmem_record.specs.State.{first_state}
+use Rattle.tmem_record.specs.Spelling.{number_bytes, value_bytes, names_bytes}
+use Rattle.tmem_journal.specs.Layout.{IsLayout, pages_of, image_place, slot_place, end_place}
+use Rattle.tmem_journal.specs.ImageSpelling.{block_body, names_body, pages_body, image_body, IsImage}
+use Rattle.tmem_journal.specs.Formatted.{open_cell, formatted}
+use Rattle.tmem_journal.specs.Stands.{StandsFor}
+use Rattle.tmem_journal.proofs.SlotRanges.{slice_get-take, slice_get-drop, slice_get-replicate, get_before}
+use Rattle.tmem_journal.proofs.Lengths.{length-little_bytes, length-block_body, length-image_body}
+use Rattle.tmem_journal.proofs.Overwriting.{two_parts}
+use Rattle.tmem_journal.proofs.Appending.{stands_unused, closed_along}
+use Rattle.tmem_journal.proofs.Recovering.{leaves_seen}
+use Rattle.tmem_record.proofs.Laws.{AreRegistered-nil}
+
+zero_fits : FitsSigned w64 (pos 0)
+zero_fits = search rules
+
+zero_values : (n : ℕ) → flat_map value_bytes (replicate n (pos 0)) ≡ replicate (8 * n) 0
+unfolding value_bytes number_bytes
+zero_values zero = refl
+zero_values (suc n) =
+    let e : 8 * suc n ≡ 8 + 8 * n = omega arith in
+    ap (λ (l : List ℕ). replicate 8 0 ++ l) (zero_values n) ∙ replicate-append-replicate 8 (8 * n) 0 ∙ ap (λ (k : ℕ). replicate k 0) (sym e)
+
+-- no names are zeros
+zero_names : names_body [] ≡ replicate 2031 0
+unfolding names_body names_bytes
+zero_names = replicate-append-replicate 1 2030 0
+
+zero_header : (n : ℕ) → names_body [] ++ replicate n 0 ≡ replicate (2031 + n) 0
+zero_header n = ap (λ (l : List ℕ). l ++ replicate n 0) zero_names ∙ replicate-append-replicate 2031 n 0
+
+-- the first image is its generation, and zeros
+pub first_image : (vars : ℕ) → image_body vars 1 (first_state vars) ≡ little_bytes 8 1 ++ replicate (2039 + 512 * pages_of vars) 0
+unfolding image_body pages_body number_bytes
+first_image vars =
+    let room : 8 * vars ≤ 512 * pages_of vars = omega arith in
+    let whole : 8 * vars + (512 * pages_of vars - 8 * vars) ≡ 512 * pages_of vars = omega arith in
+    let pages = ap (λ (l : List ℕ). l ++ replicate (512 * pages_of vars - 8 * vars) 0) (zero_values vars) ∙ replicate-append-replicate (8 * vars) (512 * pages_of vars - 8 * vars) 0 ∙ ap (λ (k : ℕ). replicate k 0) whole in
+    let header = ap (λ (l : List ℕ). names_body [] ++ l) pages ∙ zero_header (512 * pages_of vars) in
+    let total : 8 + (2031 + 512 * pages_of vars) ≡ 2039 + 512 * pages_of vars = omega arith in
+    ap (λ (l : List ℕ). little_bytes 8 1 ++ l) (ap (λ (l : List ℕ). replicate 8 0 ++ l) header ∙ replicate-append-replicate 8 (2031 + 512 * pages_of vars) 0 ∙ ap (λ (k : ℕ). replicate k 0) total)
+
+-- a place that holds 0 is a closed gate
+pub closed_at_zero : (at : ℕ) (c : List ℕ) → slice_get c at ≡ Some 0 → IsClosed at c
+closed_at_zero at c is = record { not_open = λ open_now. apart (sym is ∙ open_now) }
+  where
+    blank : Option ℕ
+    blank = Some 0
+
+    apart : blank ≡ Some 0xA5 → ⊥
+    apart e = cc
+
+-- the first state fits an image
+first_fits : (vars : ℕ) → IsImage vars (first_state vars)
+first_fits vars = record { count = omega arith; names = AreRegistered-nil; values = length-replicate vars (pos 0); numbers = All-replicate (FitsSigned w64) vars (pos 0) zero_fits }
+
+-- a byte behind the front
+get_behind : (front xs : List ℕ) (at i : ℕ) → length front ≡ at → slice_get (front ++ xs) (at + i) ≡ slice_get xs i
+get_behind front xs at i long = sym (slice_get-drop (front ++ xs) at i) ∙ ap (λ (l : List ℕ). slice_get l i) (drop_at front xs at long)
+
+-- a cell that stands open
+cell_at : (front body rest : List ℕ) (at : ℕ) → length front ≡ at → IsOpenOver at body (front ++ (open_cell body ++ rest))
+cell_at front body rest at long = record {
+  gate = let e : at ≡ at + 0 = omega arith in ap (λ (k : ℕ). slice_get (front ++ (open_cell body ++ rest)) k) e ∙ get_behind front (open_cell body ++ rest) at 0 long;
+  body =
+      let e : at + 1 + length body - (at + 1) ≡ length body = omega arith in
+      ap (λ (k : ℕ). take k (drop (at + 1) (front ++ (open_cell body ++ rest)))) e
+      ∙ ap (take (length body)) (sym (drop-drop 1 at (front ++ (open_cell body ++ rest))) ∙ ap (drop 1) (drop_at front (open_cell body ++ rest) at long))
+      ∙ take_at body rest (length body) refl;
+}
+
+-- and one of zeros, which is closed
+closed_at : (front rest : List ℕ) (n i : ℕ) → length front ≤ i → i < length front + n → IsClosed i (front ++ (replicate n 0 ++ rest))
+closed_at front rest n i from to = closed_at_zero i (front ++ (replicate n 0 ++ rest)) zero_there
+  where
+    j : ℕ
+    j = i - length front
+
+    zero_there : slice_get (front ++ (replicate n 0 ++ rest)) i ≡ Some 0
+    zero_there =
+        let e : i ≡ length front + j = omega arith in
+        ap (λ (k : ℕ). slice_get (front ++ (replicate n 0 ++ rest)) k) e ∙ get_behind front (replicate n 0 ++ rest) (length front) j refl
+        ∙ sym (slice_get-take (replicate n 0 ++ rest) n j (omega arith)) ∙ ap (λ (l : List ℕ). slice_get l j) (take_at (replicate n 0) rest n (length-replicate n 0)) ∙ slice_get-replicate n j 0 (omega arith)
+
+-- the formatted content stands for the first state, whatever follows it
+module _ (vars slots : ℕ) (rest : List ℕ) where
+  abbrev first_cell : List ℕ
+  first_cell = open_cell (block_body vars slots)
+
+  abbrev second_cell : List ℕ
+  second_cell = open_cell (image_body vars 1 (first_state vars))
+
+  abbrev blank : ℕ
+  blank = end_place vars slots - image_place vars 1
+
+  abbrev content : List ℕ
+  content = first_cell ++ (second_cell ++ (replicate blank 0 ++ rest))
+
+  content_is : formatted vars slots ++ rest ≡ content
+  unfolding formatted
+  content_is = append_assoc first_cell (second_cell ++ replicate blank 0) rest ∙ ap (λ (l : List ℕ). first_cell ++ l) (append_assoc second_cell (replicate blank 0) rest)
+
+  first_long : length first_cell ≡ 512
+  first_long = omega (arith, length-block_body vars slots)
+
+  second_long : length second_cell ≡ 2048 + 512 * pages_of vars
+  second_long = omega (arith, length-image_body vars 1 (first_state vars) AreRegistered-nil (length-replicate vars (pos 0)))
+
+  -- from image copy 1 on
+  closed_behind : (i : ℕ) → image_place vars 1 ≤ i → i < end_place vars slots → IsClosed i content
+  closed_behind i from to =
+      let front : length (first_cell ++ second_cell) ≡ image_place vars 1 = omega (arith, first_long, second_long, length-append first_cell second_cell) in
+      subst (λ (l : List ℕ). IsClosed i l) (append_assoc first_cell second_cell (replicate blank 0 ++ rest)) (closed_at (first_cell ++ second_cell) rest blank i (omega (arith, front)) (omega (arith, front)))
+
+  pub formatted_stands : IsLayout vars slots → StandsFor vars slots 0 (first_state vars) (formatted vars slots ++ rest)
+  formatted_stands layout = subst (λ (l : List ℕ). StandsFor vars slots 0 (first_state vars) l) (sym content_is) (stands_unused (record {
+    block = cell_at [] (block_body vars slots) (second_cell ++ (replicate blank 0 ++ rest)) 0 refl;
+    copy_0 = cell_at first_cell (image_body vars 1 (first_state vars)) (replicate blank 0 ++ rest) (image_place vars 0) (first_long ∙ omega arith);
+    fits = first_fits vars;
+    copy_1 = closed_behind (image_place vars 1) (omega arith) (omega (arith, layout.some_slots));
+    slot_0 = closed_behind (slot_place vars 0) (omega arith) (omega (arith, layout.some_slots));
+    behind = λ k one below. closed_behind (slot_place vars k) (omega arith) (omega (arith, below));
+  }))
+
+-- it is the two cells that are put, and zeros
+formatted_is : (vars slots : ℕ) → 1 ≤ slots → (rest : List ℕ) → formatted vars slots ++ rest ≡ open_cell (block_body vars slots) ++ (open_cell (little_bytes 8 1) ++ (replicate (end_place vars slots - (512 + 9)) 0 ++ rest))
+formatted_is vars slots some rest =
+    let left : ℕ = 2039 + 512 * pages_of vars in
+    let blank : ℕ = end_place vars slots - image_place vars 1 in
+    let generation : List ℕ = open_cell (little_bytes 8 1) in
+    let all : left + blank ≡ end_place vars slots - (512 + 9) = omega arith in
+    content_is vars slots rest
+    ∙ ap (λ (l : List ℕ). open_cell (block_body vars slots) ++ (open_cell l ++ (replicate blank 0 ++ rest))) (first_image vars)
+    ∙ ap (λ (l : List ℕ). open_cell (block_body vars slots) ++ l) (append_assoc generation (replicate left 0) (replicate blank 0 ++ rest)
+    ∙ ap (λ (l : List ℕ). generation ++ l) (sym (append_assoc (replicate left 0) (replicate blank 0) rest) ∙ ap (λ (l : List ℕ). l ++ rest) (replicate-append-replicate left blank 0 ∙ ap (λ (k : ℕ). replicate k 0) all)))
+
+-- zeros, over which an image's generation was put and then block 0
+pub all_written : (vars slots e at : ℕ) (gen numbers old zeroed with_image whole : List ℕ) → 1 ≤ slots → e ≡ end_place vars slots → at ≡ 512 → gen ≡ little_bytes 8 1 → numbers ≡ block_body vars slots
+    → zeroed ≡ replicate e 0 ++ drop e old → with_image ≡ overwritten zeroed at (open_cell gen) → whole ≡ overwritten with_image 0 (open_cell numbers) → whole ≡ formatted vars slots ++ drop (end_place vars slots) old
+all_written vars slots e at gen numbers old zeroed with_image whole some end place generation block zeros image_is block_is =
+    let first : length (open_cell numbers) ≡ 512 = omega (arith, ap length block, length-block_body vars slots) in
+    let second : length (open_cell gen) ≡ 9 = omega (arith, ap length generation, length-little_bytes 8 1) in
+    two_parts e 512 9 (open_cell numbers) (open_cell gen) (drop e old) zeroed with_image whole first second (omega (arith, end)) zeros (image_is ∙ ap (λ (k : ℕ). overwritten zeroed k (open_cell gen)) place) block_is
+    ∙ ap (λ (l : List ℕ). open_cell l ++ (open_cell gen ++ (replicate (e - (512 + 9)) 0 ++ drop e old))) block
+    ∙ ap (λ (l : List ℕ). open_cell (block_body vars slots) ++ (open_cell l ++ (replicate (e - (512 + 9)) 0 ++ drop e old))) generation
+    ∙ ap (λ (k : ℕ). open_cell (block_body vars slots) ++ (open_cell (little_bytes 8 1) ++ (replicate (k - (512 + 9)) 0 ++ drop k old))) end
+    ∙ sym (formatted_is vars slots some (drop (end_place vars slots) old))
+
+-- a stop leaves what a read gives, and that stands for the first state
+pub formatted_device : (vars slots : ℕ) → IsLayout vars slots → (d : DeviceView) (rest : List ℕ) → ReadsAs d (formatted vars slots ++ rest) → IsSynced d → LeavesOnly d (StandsFor vars slots 0 (first_state vars))
+formatted_device vars slots layout d rest reads synced = leaves_seen synced (λ k. subst (λ (l : List ℕ). StandsFor vars slots 0 (first_state vars) l) (sym (reads k)) (formatted_stands vars slots rest layout))
+
+-- what facts of a success give
+pub on_ok : {T E A B : Type 0} → (A → B) → (r : Result T E) → OnOk r A → OnOk r B
+on_ok f (Ok x) a = f a
+on_ok f (Err e) a = tt
+
+pub on_ok_2 : {T E A B C : Type 0} → (A → B → C) → (r : Result T E) → OnOk r A → OnOk r B → OnOk r C
+on_ok_2 f (Ok x) a b = f a b
+on_ok_2 f (Err e) a b = tt
+
+-- block 0 stays closed while the image is put
+pub block_closed : (e at n : ℕ) (rest zeroed with_image : List ℕ) → 1 ≤ e → 1 ≤ at → zeroed ≡ replicate e 0 ++ rest → SameOutside at n zeroed with_image → IsClosed 0 with_image
+block_closed e at n rest zeroed with_image some behind zeros same =
+    let closed = subst (λ (l : List ℕ). IsClosed 0 l) (sym zeros) (closed_at [] rest e 0 (omega arith) (omega arith)) in
+    closed_along (get_before same 0 (omega arith)) closed

@@ -1,0 +1,13 @@
+-- The content of a device once it is formatted.
+use Rattle.std.specs.Prelude.{ℕ, ◌-◌, List, ◌∷◌, ◌++◌, replicate}
+use Rattle.tmem_record.specs.State.{first_state}
+use Rattle.tmem_journal.specs.Layout.{image_place, end_place}
+use Rattle.tmem_journal.specs.ImageSpelling.{block_body, image_body}
+
+-- an open gate, and what stands behind it
+abbrev pub open_cell : List ℕ → List ℕ
+open_cell body = 0xA5 ∷ body
+
+-- Block 0 with these numbers, image copy 0 of generation 1 with the first state, and 0 from image copy 1 to the end.
+unfoldable pub formatted : ℕ → ℕ → List ℕ
+formatted vars slots = open_cell (block_body vars slots) ++ (open_cell (image_body vars 1 (first_state vars)) ++ replicate (end_place vars slots - image_place vars 1) 0)

@@ -1,0 +1,62 @@
+// Writes the content of an empty store.
+ghost use Rattle.std.specs.Prelude.{◌≡◌, ◌⊎◌, ◌≤◌, ◌*◌, ◌++◌, drop, replicate, OnOk, IfErr, IsErrOf};
+ghost use Rattle.tmem_disk.specs.Disk.{LeavesOnly, ReadsAs, IsSynced};
+ghost use Rattle.tmem_record.specs.State.{first_state};
+ghost use Rattle.tmem_journal.specs.Layout.{end_place};
+ghost use Rattle.tmem_journal.specs.Formatted.{formatted};
+ghost use Rattle.tmem_journal.specs.Stands.{StandsFor};
+ghost use Rattle.tmem_journal.specs.Looks.{WritesWithin};
+ghost use Rattle.tmem_journal.specs.Calls.{Uses, FitsOn};
+
+use crate::block::spell_block;
+use crate::calls::{put_cell, sync, write};
+use crate::layout::Layout;
+use tmem_disk::{Disk, Fault};
+
+// How many bytes are erased by one write at the most.
+const PIECE: usize = 16384;
+
+/// Formats a device for so many variables and log slots: no transaction, every variable 0. Refused by `Geometry`, before
+/// anything is written, where a number is out of its limits or the device is too small; by `Device` where a call of the
+/// device fails, which leaves no store: format it again.
+pub fn format<D: Disk>(disk: &mut D, vars: u16, slots: u16) -> Result<(), Fault>
+    ensures uses { Uses (D.view disk.old) (D.view disk.new) result }
+    ensures fits { OnOk result (FitsOn vars slots (D.view disk.old).capacity) }
+    ensures geometry { IsErrOf result Fault.Geometry → ¬ FitsOn vars slots (D.view disk.old).capacity }
+    ensures untouched { IsErrOf result Fault.Geometry → disk.new ≡ disk.old }
+    ensures errors { IfErr result (λ f. (f ≡ Fault.Geometry) ⊎ (f ≡ Fault.Device)) }
+    ensures stands { OnOk result (LeavesOnly (D.view disk.new) (StandsFor vars slots 0 (first_state vars))) }
+
+    // After `Ok` a read gives exactly this, and so does a stop. Nothing behind the end is written, whatever is answered.
+    ensures written { OnOk result (ReadsAs (D.view disk.new) (formatted vars slots ++ drop (end_place vars slots) (D.view disk.old).seen)) }
+    ensures durable { OnOk result (IsSynced (D.view disk.new)) }
+    ensures elsewhere { WritesWithin 0 (end_place vars slots) (D.view disk.old) (D.view disk.new) }
+{
+    let layout = Layout::new(vars, slots)?;
+    let end = layout.end();
+    if disk.size() < end {
+        return Err(Fault::Geometry);
+    }
+    erase(disk, end)?;
+    put_cell(disk, layout.image(0), &1u64.to_le_bytes())?;
+    put_cell(disk, 0, &spell_block(vars, slots))
+}
+
+// Writes zeros up to a place, in large pieces, and syncs.
+fn erase<D: Disk>(disk: &mut D, end: u64) -> Result<(), Fault>
+    requires { end ≤ (D.view disk.old).capacity }
+    ensures uses { Uses (D.view disk.old) (D.view disk.new) result }
+    ensures zeros { OnOk result (ReadsAs (D.view disk.new) (replicate end 0 ++ drop end (D.view disk.old).seen)) }
+    ensures elsewhere { WritesWithin 0 end (D.view disk.old) (D.view disk.new) }
+    ensures synced { OnOk result (IsSynced (D.view disk.new)) }
+    ensures err { IfErr result (λ f. f ≡ Fault.Device) }
+{
+    let zeros = [0; PIECE];
+    let pieces = end / PIECE as u64;
+    for piece in 0..pieces {
+        write(disk, PIECE as u64 * piece, &zeros)?;
+    }
+    let rest = (end % PIECE as u64) as usize;
+    write(disk, PIECE as u64 * pieces, &zeros[..rest])?;
+    sync(disk)
+}

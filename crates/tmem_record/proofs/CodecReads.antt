@@ -1,0 +1,428 @@
+-- What was read so far, one after another, and that nothing else is spelled there.
+use Rattle.std.proofs.Common.{◌≡◌, ◌<◌, ◌≤◌, ◌+◌, ◌-◌, ◌^◌, ◌==◌, ℕ, suc, ℤ, Bool, true, false, cond, nat_eq, ◌&&◌, List, [], ◌∷◌, ◌++◌, length, take, drop, flat_map, Some, is_some, IsNone, bytes_eq, refl, sym, ◌∙◌, ap, subst, arith, append_assoc, length-append, inl, inr}
+use Rattle.std.specs.Prelude.{All, FitsSigned, Any, Option, None, IfNone, IsTrue, ◌↔◌}
+use Rattle.std.specs.Int.{w64, cast_signed, cast_unsigned}
+use Rattle.std.proofs.lemmas.Bool.{cases_lt, false≢true}
+use Rattle.std.proofs.lemmas.Bool.Decides.{nat_tests}
+use Rattle.std.proofs.lemmas.Int.{of_z-to_z}
+use Rattle.std.proofs.lemmas.List.{append-nil, length_push, length-map, get_or-map, get_or_at, get_or_append_left, take-append-drop, take_rest, take_at, length-take-le, nil_from_length}
+use Rattle.std.proofs.lemmas.List.Concat.{flat_map-append}
+use Rattle.std.proofs.lemmas.List.Elements.{All-push, All-nil}
+use Rattle.std.proofs.lemmas.List.Folds.{Any-from_list_any}
+use Rattle.std.proofs.lemmas.List.Sums.{sum_by-append, sum_by-cons, sum_by_push}
+use Rattle.std.specs.Str.{IsUtf8}
+use Rattle.std.proofs.lemmas.Str.{IsUtf8-from_ascii}
+use Rattle.std.proofs.lemmas.Str.Ascii.{IsAscii-from_all}
+use Rattle.std.proofs.lemmas.Slice.Eq.{bytes_eq-Decides}
+use Rattle.byteorder.specs.Endian.{little_bytes, little_number}
+use Rattle.byteorder.specs.Numbers.{little_from-lt}
+use Rattle.tmem_disk.specs.Name.{IsName}
+use Rattle.tmem_record.specs.State.{Effect, AreWrites, AreChecks, is_empty, variables, look, with_write, has_name, with_name}
+use Rattle.tmem_record.specs.Prefix.{IsPrefix}
+use Rattle.tmem_record.specs.Loggable.{IsLoggable}
+use Rattle.tmem_record.specs.Batch.{record_length, records_length, IsBatch}
+use Rattle.tmem_record.specs.Spelling.{number_bytes, value_bytes, write_bytes, name_bytes, writes_bytes, names_bytes, record_bytes, batch_bytes, SpellsBatch}
+use Rattle.tmem_record.proofs.PrefixLaws.{IsPrefix-append, IsPrefix-rest}
+use Rattle.tmem_record.proofs.NamesLaws.{AreChecks-push}
+use Rattle.tmem_record.proofs.WritesLaws.{is_some-look, AreWrites-push}
+use Rattle.tmem_record.proofs.SpellingLaws.{IsBytes, take-spelled, Delimits, IsWriteWithin, AreWritesWithin, each_write, writes_within, same_cons, length-number_bytes, length-write_bytes, delimits_number, delimits_write, delimits_name, delimits_writes, delimits_names, delimits_record, batch_parts, head_of}
+
+-- what holds anyway holds where nothing is answered
+pub or_none : {X : Type 0} {P : Type 0} (o : Option X) → P → IfNone o P
+or_none None holds = holds
+or_none (Some x) holds = tt
+
+-- a number and what follows it
+pub number_front : (n x : ℕ) (bytes : List ℕ) → IsBytes bytes → n ≤ length bytes → x ≡ little_number n bytes → bytes ≡ number_bytes n x ++ take (length bytes - n) (drop n bytes)
+unfolding number_bytes
+number_front n x bytes each room is =
+    sym (take-append-drop n bytes) ∙ ap (λ (l : List ℕ). l ++ drop n bytes) (take-spelled n bytes each room ∙ ap (little_bytes n) (sym is)) ∙ ap (λ (l : List ℕ). little_bytes n x ++ l) (sym (take_rest bytes n))
+
+pub value_front : (z : ℤ) (bytes : List ℕ) → IsBytes bytes → 8 ≤ length bytes → z ≡ cast_signed w64 (little_number 8 bytes) → bytes ≡ value_bytes z ++ take (length bytes - 8) (drop 8 bytes)
+unfolding value_bytes
+value_front z bytes each room is =
+    let fits = little_from-lt 0 8 bytes each in
+    number_front 8 (cast_unsigned w64 z) bytes each room (ap (cast_unsigned w64) is ∙ of_z-to_z w64 (little_number 8 bytes) fits)
+
+-- a write from its two parts
+pub write_front : (bytes behind rest : List ℕ) (var : ℕ) (value : ℤ) → bytes ≡ number_bytes 2 var ++ behind → behind ≡ value_bytes value ++ rest → bytes ≡ write_bytes (var, value) ++ rest
+unfolding write_bytes
+write_front bytes behind rest var value first second =
+    first ∙ ap (λ (l : List ℕ). number_bytes 2 var ++ l) second ∙ sym (append_assoc (number_bytes 2 var) (value_bytes value) rest)
+
+-- where a variable that does not exist stands first, no write is spelled there
+pub no_such_variable : (vars var : ℕ) (bytes behind : List ℕ) → bytes ≡ number_bytes 2 var ++ behind → var < 2 ^ 16 → vars ≤ var → (w : ℕ × ℤ) (s : List ℕ) → w.0 < vars → bytes ≡ write_bytes w ++ s → ⊥
+unfolding write_bytes
+no_such_variable vars var bytes behind parts fits beyond w s within same =
+    let first = delimits_number 2 var w.0 behind (value_bytes w.1 ++ s) fits (omega (arith, within)) (sym parts ∙ same ∙ append_assoc (number_bytes 2 w.0) (value_bytes w.1) s) in
+    absurd (omega (arith, first.0, within))
+
+pub no_room_for_write : (bytes rest : List ℕ) (w : ℕ × ℤ) → length bytes < 10 → bytes ≡ write_bytes w ++ rest → ⊥
+no_room_for_write bytes rest w short same = absurd (omega (arith, ap length same, length-append (write_bytes w) rest, length-write_bytes w))
+
+-- what holds of a list holds of an element amidst it
+middle : {X : Type 0} (P : X → Type 0) (xs zs : List X) (z : X) → All P (xs ++ z ∷ zs) → P z
+middle P xs zs z all = subst P (get_or_at xs z zs z (length xs) refl) (all (length xs) z (omega (arith, length-append xs (z ∷ zs))))
+
+-- so many were read, and this is left
+pub record HasRead {X : Type 0} (V : List X → Type 0) (f : X → List ℕ) (i : ℕ) (xs : List X) (bytes rest : List ℕ) : Type 0 where
+  pub valid : V xs
+  pub counted : length xs ≡ i
+  pub left : bytes ≡ flat_map f xs ++ rest
+
+pub read_none : {X : Type 0} (V : List X → Type 0) (f : X → List ℕ) (bytes : List ℕ) → V [] → HasRead V f 0 [] bytes bytes
+read_none V f bytes valid = record { valid = valid; counted = refl; left = refl }
+
+pub read_more : {X : Type 0} (V : List X → Type 0) (f : X → List ℕ) (i : ℕ) (xs : List X) (x : X) (bytes rest next : List ℕ) → HasRead V f i xs bytes rest → V (xs ++ x ∷ []) → rest ≡ f x ++ next → HasRead V f (i + 1) (xs ++ x ∷ []) bytes next
+read_more V f i xs x bytes rest next read valid same = record {
+  valid = valid;
+  counted = length_push xs x ∙ ap (λ (n : ℕ). n + 1) read.counted;
+  left =
+      read.left ∙ ap (λ (l : List ℕ). flat_map f xs ++ l) same ∙ sym (append_assoc (flat_map f xs) (f x) next)
+      ∙ ap (λ (l : List ℕ). l ++ next) (ap (λ (l : List ℕ). flat_map f xs ++ l) (sym (append-nil (f x))) ∙ sym (flat_map-append f xs (x ∷ [])));
+}
+
+-- a longer list that is spelled there goes on from what was read
+goes_on : {X : Type 0} (P : X → Type 0) (f : X → List ℕ) → Delimits P f → (xs os : List X) (r s : List ℕ) → All P xs → All P os → length xs < length os → flat_map f xs ++ r ≡ flat_map f os ++ s
+    → (z : X) × (zs : List X) × (os ≡ xs ++ z ∷ zs) × (r ≡ f z ++ (flat_map f zs ++ s))
+goes_on P f one [] [] r s ps qs less same = absurd (omega arith)
+goes_on P f one [] (o ∷ os) r s ps qs less same = (o, os, refl, same ∙ append_assoc (f o) (flat_map f os) s)
+goes_on P f one (x ∷ xs) [] r s ps qs less same = absurd (omega arith)
+goes_on P f one (x ∷ xs) (o ∷ os) r s ps qs less same =
+    let grouped : f x ++ (flat_map f xs ++ r) ≡ f o ++ (flat_map f os ++ s) = sym (append_assoc (f x) (flat_map f xs) r) ∙ same ∙ append_assoc (f o) (flat_map f os) s in
+    let first = one x o (flat_map f xs ++ r) (flat_map f os ++ s) (ps 0 x (omega arith)) (qs 0 o (omega arith)) grouped in
+    let rest = goes_on P f one xs os r s (λ k d below. ps (suc k) d (omega arith)) (λ k d below. qs (suc k) d (omega arith)) (omega arith) first.1 in
+    let whole : o ∷ os ≡ x ∷ (xs ++ rest.0 ∷ rest.1) = ap (λ l. o ∷ l) rest.2 ∙ ap (λ v. v ∷ (xs ++ rest.0 ∷ rest.1)) (sym first.0) in
+    (rest.0, rest.1, whole, rest.3)
+
+module _ {X : Type 0} (V : List X → Type 0) (P : X → Type 0) (f : X → List ℕ) (each : (xs : List X) → V xs → All P xs) (one : Delimits P f) (i count : ℕ) (xs : List X) (bytes rest : List ℕ) (read : HasRead V f i xs bytes rest) (less : i < count) where
+  following : (os : List X) (s : List ℕ) → length os ≡ count → V os → bytes ≡ flat_map f os ++ s → (z : X) × (zs : List X) × (os ≡ xs ++ z ∷ zs) × (rest ≡ f z ++ (flat_map f zs ++ s))
+  following os s counted valid same =
+      goes_on P f one xs os rest s (each xs read.valid) (each os valid) (omega (arith, read.counted, counted)) (sym read.left ∙ same)
+
+  -- where none is spelled next, no list of so many is
+  pub none_next : ((z : X) (t : List ℕ) → P z → rest ≡ f z ++ t → ⊥) → (os : List X) (s : List ℕ) → length os ≡ count → V os → bytes ≡ flat_map f os ++ s → ⊥
+  none_next none os s counted valid same =
+      let more = following os s counted valid same in
+      none more.0 (flat_map f more.1 ++ s) (middle P xs more.1 more.0 (subst (All P) more.2 (each os valid))) more.3
+
+  -- where one is spelled next, it stands in each list of so many
+  pub one_next : (x : X) (next : List ℕ) → P x → rest ≡ f x ++ next → (os : List X) (s : List ℕ) → length os ≡ count → V os → bytes ≡ flat_map f os ++ s → (zs : List X) × (os ≡ xs ++ x ∷ zs)
+  one_next x next is here os s counted valid same =
+      let more = following os s counted valid same in
+      let same_one = one more.0 x (flat_map f more.1 ++ s) next (middle P xs more.1 more.0 (subst (All P) more.2 (each os valid))) is (sym more.3 ∙ here) in
+      (more.1, more.2 ∙ ap (λ z. xs ++ z ∷ more.1) same_one.0)
+
+-- writes
+
+pub no_writes : (vars : ℕ) → AreWritesWithin vars []
+no_writes vars = record {
+  are_writes = record { few = omega arith; distinct = λ i j d before below. absurd (omega (arith, below)); fits = All-nil (λ (w : ℕ × ℤ). FitsSigned w64 w.1) };
+  within = All-nil (λ (w : ℕ × ℤ). w.0 < vars);
+}
+
+-- a variable that is not written joins the writes at their end
+with_write_new : (ws : List (ℕ × ℤ)) (var : ℕ) (value : ℤ) → IsNone (look ws var) → with_write ws var value ≡ ws ++ (var, value) ∷ []
+with_write_new [] var value new = refl
+with_write_new (w ∷ ws) var value new = by (nat_eq var w.0) (with_write_new ws var value) new
+  where
+    by : (b : Bool) → (IsNone (look ws var) → with_write ws var value ≡ ws ++ (var, value) ∷ []) → IsNone (cond b (Some w.1) (look ws var)) → cond b ((var, value) ∷ ws) (w ∷ with_write ws var value) ≡ w ∷ (ws ++ (var, value) ∷ [])
+    by true rest written = cc
+    by false rest new = ap (λ (l : List (ℕ × ℤ)). w ∷ l) (rest new)
+
+-- a variable that is written stands in one of the writes
+written_there : (ws : List (ℕ × ℤ)) (var : ℕ) → is_some (look ws var) ≡ true → Any (λ (u : ℕ × ℤ). u.0 ≡ var) ws
+written_there ws var written =
+    let any = Any-from_list_any (λ (u : ℕ × ℤ). var == u.0) ws (sym (is_some-look ws var) ∙ written) in
+    (any.0, any.1, any.2, any.3, sym (grind (arith, nat_tests, any.4)))
+
+not_twice : (ws zs : List (ℕ × ℤ)) (w : ℕ × ℤ) → AreWrites (ws ++ w ∷ zs) → is_some (look ws w.0) ≡ true → ⊥
+not_twice ws zs w are written =
+    let any = written_there ws w.0 written in
+    let var : ℕ × ℤ → ℕ = λ u. u.0 in
+    let all : List (ℕ × ℤ) = ws ++ w ∷ zs in
+    let long = length-append ws (w ∷ zs) in
+    let mapped : length (variables all) ≡ length all = length-map all var in
+    let first = get_or-map var all any.0 any.1 0 (omega (arith, any.2, long)) in
+    let second = get_or-map var all (length ws) w 0 (omega (arith, long)) in
+    let is_first = ap var (get_or_append_left ws (w ∷ zs) any.1 any.0 any.2 ∙ any.3) ∙ any.4 in
+    let is_second = ap var (get_or_at ws w zs w (length ws) refl) in
+    are.distinct any.0 (length ws) 0 any.2 (omega (arith, mapped, long)) (first ∙ is_first ∙ sym is_second ∙ sym second)
+
+-- so many writes were read
+abbrev pub ReadWrites : ℕ → ℕ → List (ℕ × ℤ) → List ℕ → List ℕ → Type 0
+ReadWrites vars i ws bytes rest = HasRead (AreWritesWithin vars) write_bytes i ws bytes rest
+
+pub write_more : (vars i : ℕ) (ws : List (ℕ × ℤ)) (w : ℕ × ℤ) (bytes rest next : List ℕ) → ReadWrites vars i ws bytes rest → i < 64 → IsWriteWithin vars w → IsNone (look ws w.0) → rest ≡ write_bytes w ++ next → ReadWrites vars (i + 1) (with_write ws w.0 w.1) bytes next
+write_more vars i ws w bytes rest next read room is new same =
+    subst (λ (l : List (ℕ × ℤ)). ReadWrites vars (i + 1) l bytes next) (sym (with_write_new ws w.0 w.1 new))
+    (read_more (AreWritesWithin vars) write_bytes i ws w bytes rest next read (record {
+      are_writes = AreWrites-push ws w.0 w.1 new (omega (arith, read.counted)) is.fits read.valid.are_writes;
+      within = All-push (λ (u : ℕ × ℤ). u.0 < vars) ws w read.valid.within is.within;
+    }) same)
+
+-- the writes behind their count
+module _ (vars count : ℕ) (few : vars ≤ 2 ^ 16) (bytes behind : List ℕ) (parts : bytes ≡ count ∷ behind) where
+  split_writes : (os : List (ℕ × ℤ)) (s : List ℕ) → bytes ≡ writes_bytes os ++ s → (length os ≡ count) × (behind ≡ flat_map write_bytes os ++ s)
+  unfolding writes_bytes
+  split_writes os s same =
+      let cells = same_cons count (length os) behind (flat_map write_bytes os ++ s) (sym parts ∙ same) in
+      (sym cells.0, cells.1)
+
+  pub writes_found : (i : ℕ) (ws : List (ℕ × ℤ)) (rest : List ℕ) → ReadWrites vars i ws behind rest → count ≡ i → bytes ≡ writes_bytes ws ++ rest
+  unfolding writes_bytes
+  writes_found i ws rest read all = parts ∙ ap (λ (l : List ℕ). count ∷ l) read.left ∙ ap (λ (n : ℕ). n ∷ (flat_map write_bytes ws ++ rest)) (all ∙ sym read.counted)
+
+  pub too_many_writes : 64 < count → (os : List (ℕ × ℤ)) (s : List ℕ) → AreWritesWithin vars os → bytes ≡ writes_bytes os ++ s → ⊥
+  too_many_writes more os s are same = let split = split_writes os s same in absurd (omega (arith, split.0, are.are_writes.few))
+
+  pub no_write_next : (i : ℕ) (ws : List (ℕ × ℤ)) (rest : List ℕ) → ReadWrites vars i ws behind rest → i < count → ((w : ℕ × ℤ) (t : List ℕ) → IsWriteWithin vars w → rest ≡ write_bytes w ++ t → ⊥)
+      → (os : List (ℕ × ℤ)) (s : List ℕ) → AreWritesWithin vars os → bytes ≡ writes_bytes os ++ s → ⊥
+  no_write_next i ws rest read less none os s are same =
+      let split = split_writes os s same in
+      none_next (AreWritesWithin vars) (IsWriteWithin vars) write_bytes (each_write vars) (delimits_write vars few) i count ws behind rest read less none os s split.0 are split.1
+
+  pub written_twice : (i : ℕ) (ws : List (ℕ × ℤ)) (w : ℕ × ℤ) (rest next : List ℕ) → ReadWrites vars i ws behind rest → i < count → IsWriteWithin vars w → rest ≡ write_bytes w ++ next → is_some (look ws w.0) ≡ true
+      → (os : List (ℕ × ℤ)) (s : List ℕ) → AreWritesWithin vars os → bytes ≡ writes_bytes os ++ s → ⊥
+  written_twice i ws w rest next read less is here written os s are same =
+      let split = split_writes os s same in
+      let more = one_next (AreWritesWithin vars) (IsWriteWithin vars) write_bytes (each_write vars) (delimits_write vars few) i count ws behind rest read less w next is here os s split.0 are split.1 in
+      not_twice ws more.0 w (subst AreWrites more.1 are.are_writes) written
+
+-- the same of writes that are well formed, and of variables that exist
+pub of_writes : (vars : ℕ) (bytes : List ℕ) → ((ws : List (ℕ × ℤ)) (rest : List ℕ) → AreWritesWithin vars ws → bytes ≡ writes_bytes ws ++ rest → ⊥)
+    → (ws : List (ℕ × ℤ)) (rest : List ℕ) → AreWrites ws → All (λ (w : ℕ × ℤ). w.0 < vars) ws → bytes ≡ writes_bytes ws ++ rest → ⊥
+of_writes vars bytes none ws rest are within same = none ws rest (record { are_writes = are; within = within }) same
+
+pub nothing_of_writes : (vars : ℕ) (bytes : List ℕ) → bytes ≡ [] → (ws : List (ℕ × ℤ)) (rest : List ℕ) → AreWritesWithin vars ws → bytes ≡ writes_bytes ws ++ rest → ⊥
+unfolding writes_bytes
+nothing_of_writes vars bytes none ws rest are same = absurd (omega (arith, ap length none, ap length same))
+
+-- names
+
+pub no_names : AreChecks []
+no_names = record { few = omega arith; names = All-nil IsName; distinct = λ i j d before below. absurd (omega (arith, below)) }
+
+with_name_new : (ns : List (List ℕ)) (name : List ℕ) → has_name ns name ≡ false → with_name ns name ≡ ns ++ name ∷ []
+with_name_new ns name new = by (has_name ns name) new
+  where
+    by : (b : Bool) → b ≡ false → cond b ns (ns ++ name ∷ []) ≡ ns ++ name ∷ []
+    by true is = cc
+    by false is = refl
+
+not_checked_twice : (ns zs : List (List ℕ)) (name : List ℕ) → AreChecks (ns ++ name ∷ zs) → has_name ns name ≡ true → ⊥
+not_checked_twice ns zs name are there =
+    let any = Any-from_list_any (λ (n : List ℕ). bytes_eq n name) ns there in
+    let long = length-append ns (name ∷ zs) in
+    let first = get_or_append_left ns (name ∷ zs) any.1 any.0 any.2 ∙ any.3 ∙ (bytes_eq-Decides any.1 name).0 any.4 in
+    let second = get_or_at ns name zs any.1 (length ns) refl in
+    are.distinct any.0 (length ns) any.1 any.2 (omega (arith, long)) (first ∙ sym second)
+
+abbrev pub ReadNames : ℕ → List (List ℕ) → List ℕ → List ℕ → Type 0
+ReadNames i ns bytes rest = HasRead AreChecks name_bytes i ns bytes rest
+
+each_name : (ns : List (List ℕ)) → AreChecks ns → All IsName ns
+each_name ns are = are.names
+
+pub name_more : (i : ℕ) (ns : List (List ℕ)) (name bytes rest next : List ℕ) → ReadNames i ns bytes rest → i < 8 → IsName name → has_name ns name ≡ false → rest ≡ name_bytes name ++ next → ReadNames (i + 1) (with_name ns name) bytes next
+name_more i ns name bytes rest next read room is new same =
+    subst (λ (l : List (List ℕ)). ReadNames (i + 1) l bytes next) (sym (with_name_new ns name new))
+    (read_more AreChecks name_bytes i ns name bytes rest next read (AreChecks-push ns name new (omega (arith, read.counted)) is read.valid) same)
+
+-- the names behind their count
+module _ (count : ℕ) (bytes behind : List ℕ) (parts : bytes ≡ count ∷ behind) where
+  split_names : (os : List (List ℕ)) (s : List ℕ) → bytes ≡ names_bytes os ++ s → (length os ≡ count) × (behind ≡ flat_map name_bytes os ++ s)
+  unfolding names_bytes
+  split_names os s same =
+      let cells = same_cons count (length os) behind (flat_map name_bytes os ++ s) (sym parts ∙ same) in
+      (sym cells.0, cells.1)
+
+  pub names_found : (i : ℕ) (ns : List (List ℕ)) (rest : List ℕ) → ReadNames i ns behind rest → count ≡ i → bytes ≡ names_bytes ns ++ rest
+  unfolding names_bytes
+  names_found i ns rest read all = parts ∙ ap (λ (l : List ℕ). count ∷ l) read.left ∙ ap (λ (n : ℕ). n ∷ (flat_map name_bytes ns ++ rest)) (all ∙ sym read.counted)
+
+  pub too_many_names : 8 < count → (os : List (List ℕ)) (s : List ℕ) → AreChecks os → bytes ≡ names_bytes os ++ s → ⊥
+  too_many_names more os s are same = let split = split_names os s same in absurd (omega (arith, split.0, are.few))
+
+  pub no_name_next : (i : ℕ) (ns : List (List ℕ)) (rest : List ℕ) → ReadNames i ns behind rest → i < count → ((name t : List ℕ) → IsName name → rest ≡ name_bytes name ++ t → ⊥)
+      → (os : List (List ℕ)) (s : List ℕ) → AreChecks os → bytes ≡ names_bytes os ++ s → ⊥
+  no_name_next i ns rest read less none os s are same =
+      let split = split_names os s same in
+      none_next AreChecks IsName name_bytes each_name delimits_name i count ns behind rest read less none os s split.0 are split.1
+
+  pub checked_twice : (i : ℕ) (ns : List (List ℕ)) (name rest next : List ℕ) → ReadNames i ns behind rest → i < count → IsName name → rest ≡ name_bytes name ++ next → has_name ns name ≡ true
+      → (os : List (List ℕ)) (s : List ℕ) → AreChecks os → bytes ≡ names_bytes os ++ s → ⊥
+  checked_twice i ns name rest next read less is here there os s are same =
+      let split = split_names os s same in
+      let more = one_next AreChecks IsName name_bytes each_name delimits_name i count ns behind rest read less name next is here os s split.0 are split.1 in
+      not_checked_twice ns more.0 name (subst AreChecks more.1 are) there
+
+pub nothing_of_names : (bytes : List ℕ) → bytes ≡ [] → (ns : List (List ℕ)) (rest : List ℕ) → AreChecks ns → bytes ≡ names_bytes ns ++ rest → ⊥
+unfolding names_bytes
+nothing_of_names bytes none ns rest are same = absurd (omega (arith, ap length none, ap length same))
+
+-- one name: its length, and as many letters
+pub name_front : (bytes behind letters rest : List ℕ) (n : ℕ) → bytes ≡ n ∷ behind → n ≤ length behind → letters ≡ take n behind → rest ≡ drop n behind → bytes ≡ name_bytes letters ++ rest
+unfolding name_bytes
+name_front bytes behind letters rest n parts room is rest_is =
+    let long : length letters ≡ n = ap length is ∙ length-take-le n behind room in
+    parts ∙ ap (λ (l : List ℕ). n ∷ l) (sym (take-append-drop n behind) ∙ ap (λ (l : List ℕ). l ++ drop n behind) (sym is) ∙ ap (λ (l : List ℕ). letters ++ l) (sym rest_is)) ∙ ap (λ (k : ℕ). k ∷ (letters ++ rest)) (sym long)
+
+-- each name that is spelled there has these letters
+pub letters_of : (bytes behind : List ℕ) (n : ℕ) (name s : List ℕ) → bytes ≡ n ∷ behind → bytes ≡ name_bytes name ++ s → (length name ≡ n) × (n ≤ length behind) × (take n behind ≡ name)
+unfolding name_bytes
+letters_of bytes behind n name s parts same =
+    let cells = same_cons n (length name) behind (name ++ s) (sym parts ∙ same) in
+    (sym cells.0, omega (arith, cells.0, ap length cells.1, length-append name s), ap (take n) cells.1 ∙ take_at name s n (sym cells.0))
+
+-- where these are no name, none is spelled there
+pub no_name_there : (bytes behind letters : List ℕ) (n : ℕ) → bytes ≡ n ∷ behind → letters ≡ take n behind → (IsName letters → ⊥) → (name s : List ℕ) → IsName name → bytes ≡ name_bytes name ++ s → ⊥
+no_name_there bytes behind letters n parts is not name s is_name same =
+    let spelled = letters_of bytes behind n name s parts same in
+    not (subst IsName (sym (is ∙ spelled.2)) is_name)
+
+pub no_room_for_name : (bytes behind : List ℕ) (n : ℕ) → bytes ≡ n ∷ behind → length behind < n → (name s : List ℕ) → IsName name → bytes ≡ name_bytes name ++ s → ⊥
+no_room_for_name bytes behind n parts short name s is_name same = absurd (omega (arith, (letters_of bytes behind n name s parts same).1))
+
+-- a name is a text
+pub name_is_text : (name : List ℕ) → IsName name → IsUtf8 name
+name_is_text name is = IsUtf8-from_ascii name (IsAscii-from_all name (λ k d below. let letter = is.letters k d below in omega arith))
+
+pub nothing_of_name : (bytes : List ℕ) → bytes ≡ [] → (name s : List ℕ) → IsName name → bytes ≡ name_bytes name ++ s → ⊥
+unfolding name_bytes
+nothing_of_name bytes none name s is same = absurd (omega (arith, ap length none, ap length same))
+
+-- a record: its writes, and then its names
+module _ (vars : ℕ) (few : vars ≤ 2 ^ 16) (bytes : List ℕ) where
+  pub record_found : (e : Effect) (behind rest : List ℕ) → bytes ≡ writes_bytes e.writes ++ behind → behind ≡ names_bytes e.names ++ rest → bytes ≡ record_bytes e ++ rest
+  unfolding record_bytes
+  record_found e behind rest first second =
+      first ∙ ap (λ (l : List ℕ). writes_bytes e.writes ++ l) second ∙ sym (append_assoc (writes_bytes e.writes) (names_bytes e.names) rest)
+
+  split_record : (e : Effect) (s : List ℕ) → bytes ≡ record_bytes e ++ s → bytes ≡ writes_bytes e.writes ++ (names_bytes e.names ++ s)
+  unfolding record_bytes
+  split_record e s same = same ∙ append_assoc (writes_bytes e.writes) (names_bytes e.names) s
+
+  pub no_writes_there : ((ws : List (ℕ × ℤ)) (t : List ℕ) → AreWrites ws → All (λ (w : ℕ × ℤ). w.0 < vars) ws → bytes ≡ writes_bytes ws ++ t → ⊥) → (e : Effect) (s : List ℕ) → IsLoggable vars e → bytes ≡ record_bytes e ++ s → ⊥
+  no_writes_there none e s is same = none e.writes (names_bytes e.names ++ s) is.effect.writes is.effect.within (split_record e s same)
+
+  pub no_names_there : (ws : List (ℕ × ℤ)) (behind : List ℕ) → AreWritesWithin vars ws → bytes ≡ writes_bytes ws ++ behind → ((ns : List (List ℕ)) (t : List ℕ) → AreChecks ns → behind ≡ names_bytes ns ++ t → ⊥)
+      → (e : Effect) (s : List ℕ) → IsLoggable vars e → bytes ≡ record_bytes e ++ s → ⊥
+  no_names_there ws behind are here none e s is same =
+      let writes = delimits_writes vars few ws e.writes behind (names_bytes e.names ++ s) are (writes_within vars e is.effect) (sym here ∙ split_record e s same) in
+      none e.names s is.effect.names writes.1
+
+  pub nothing_there : (d : Effect) (rest : List ℕ) → AreWritesWithin vars d.writes → AreChecks d.names → is_empty d ≡ true → bytes ≡ record_bytes d ++ rest → (e : Effect) (s : List ℕ) → IsLoggable vars e → bytes ≡ record_bytes e ++ s → ⊥
+  nothing_there d rest writes names empty here e s is same =
+      let first = delimits_writes vars few d.writes e.writes (names_bytes d.names ++ rest) (names_bytes e.names ++ s) writes (writes_within vars e is.effect) (sym (split_record d rest here) ∙ split_record e s same) in
+      let second = delimits_names d.names e.names rest s names is.effect.names first.1 in
+      let one : is_empty d ≡ is_empty e = ap (λ (ws : List (ℕ × ℤ)). (length ws == 0) && (length d.names == 0)) first.0 ∙ ap (λ (ns : List (List ℕ)). (length e.writes == 0) && (length ns == 0)) second.0 in
+      false≢true (sym is.not_empty ∙ sym one ∙ empty)
+
+-- records
+
+-- effects that fit a batch together: as many as were read so far
+pub record FitTogether (vars : ℕ) (es : List Effect) : Type 0 where
+  pub each : All (IsLoggable vars) es
+  pub fits : records_length es ≤ 4077
+
+fit_of : (vars : ℕ) (es : List Effect) → IsBatch vars es → FitTogether vars es
+fit_of vars es is = record { each = is.each; fits = is.fits }
+
+abbrev pub ReadRecords : ℕ → ℕ → List Effect → List ℕ → List ℕ → Type 0
+ReadRecords vars i es bytes rest = HasRead (FitTogether vars) record_bytes i es bytes rest
+
+each_record : (vars : ℕ) (es : List Effect) → FitTogether vars es → All (IsLoggable vars) es
+each_record vars es fit = fit.each
+
+pub no_records : (vars : ℕ) → FitTogether vars []
+no_records vars = record { each = All-nil (IsLoggable vars); fits = omega arith }
+
+pub record_more : (vars i : ℕ) (es : List Effect) (e : Effect) (bytes rest next : List ℕ) → ReadRecords vars i es bytes rest → IsLoggable vars e → records_length es + record_length e ≤ 4077 → rest ≡ record_bytes e ++ next → ReadRecords vars (i + 1) (es ++ e ∷ []) bytes next
+record_more vars i es e bytes rest next read is room same =
+    read_more (FitTogether vars) record_bytes i es e bytes rest next read (record {
+      each = All-push (IsLoggable vars) es e read.valid.each is;
+      fits = omega (arith, sum_by_push record_length es e);
+    }) same
+
+-- all that were counted are a batch
+pub IsBatch-read : (vars i : ℕ) (es : List Effect) (bytes rest : List ℕ) → ReadRecords vars i es bytes rest → 1 ≤ i → i ≤ 64 → IsBatch vars es
+IsBatch-read vars i es bytes rest read some few = record { some = omega (arith, read.counted, some); few = omega (arith, read.counted, few); each = read.valid.each; fits = read.valid.fits }
+
+-- what does not fit, where there are few enough, is too long
+pub does_not_fit : (fits : Bool) (m n : ℕ) → (IsTrue fits ↔ ((m < 64) × (n ≤ 4077))) → fits ≡ false → m < 64 → 4077 < n
+does_not_fit fits m n iff not few =
+    elim (cases_lt 4077 n) [
+      | inl more ↦ more
+      | inr less ↦ absurd (false≢true (sym not ∙ iff.1 (few, less)))
+    ]
+
+module _ (vars count : ℕ) (few : vars ≤ 2 ^ 16) (bytes : List ℕ) (i : ℕ) (es : List Effect) (rest : List ℕ) (read : ReadRecords vars i es bytes rest) (less : i < count) where
+  pub no_record_next : ((e : Effect) (t : List ℕ) → IsLoggable vars e → rest ≡ record_bytes e ++ t → ⊥) → (os : List Effect) (s : List ℕ) → length os ≡ count → IsBatch vars os → bytes ≡ flat_map record_bytes os ++ s → ⊥
+  no_record_next none os s counted fit same =
+      none_next (FitTogether vars) (IsLoggable vars) record_bytes (each_record vars) (delimits_record vars few) i count es bytes rest read less none os s counted (fit_of vars os fit) same
+
+  pub too_long : (e : Effect) (next : List ℕ) → IsLoggable vars e → rest ≡ record_bytes e ++ next → 4077 < records_length es + record_length e → (os : List Effect) (s : List ℕ) → length os ≡ count → IsBatch vars os → bytes ≡ flat_map record_bytes os ++ s → ⊥
+  too_long e next is here long os s counted fit same =
+      let more = one_next (FitTogether vars) (IsLoggable vars) record_bytes (each_record vars) (delimits_record vars few) i count es bytes rest read less e next is here os s counted (fit_of vars os fit) same in
+      let whole : records_length os ≡ records_length es + (record_length e + records_length more.0) = ap records_length more.1 ∙ sum_by-append record_length es (e ∷ more.0) ∙ ap (λ (n : ℕ). records_length es + n) (sum_by-cons record_length e more.0) in
+      absurd (omega (arith, whole, fit.fits))
+
+-- a batch: its head, and then its records
+module _ (vars g f n : ℕ) (bytes b8 b16 behind : List ℕ) (fits_g : g < 2 ^ 64) (fits_f : f < 2 ^ 64) (fits_n : n < 2 ^ 16) (first : bytes ≡ number_bytes 8 g ++ b8) (second : b8 ≡ number_bytes 8 f ++ b16) (third : b16 ≡ number_bytes 2 n ++ behind) where
+  head_there : bytes ≡ number_bytes 8 g ++ (number_bytes 8 f ++ (number_bytes 2 n ++ behind))
+  head_there = first ∙ ap (λ (l : List ℕ). number_bytes 8 g ++ l) (second ∙ ap (λ (l : List ℕ). number_bytes 8 f ++ l) third)
+
+  pub batch_found : (es : List Effect) (rest : List ℕ) → length es ≡ n → behind ≡ flat_map record_bytes es ++ rest → bytes ≡ batch_bytes g f es ++ rest
+  batch_found es rest counted same =
+      head_there ∙ ap (λ (l : List ℕ). number_bytes 8 g ++ (number_bytes 8 f ++ (number_bytes 2 n ++ l))) same
+      ∙ ap (λ (k : ℕ). number_bytes 8 g ++ (number_bytes 8 f ++ (number_bytes 2 k ++ (flat_map record_bytes es ++ rest)))) (sym counted)
+      ∙ sym (batch_parts g f es rest)
+
+  split_batch : (g' f' : ℕ) (es : List Effect) (s : List ℕ) → g' < 2 ^ 64 → f' < 2 ^ 64 → IsBatch vars es → bytes ≡ batch_bytes g' f' es ++ s → (n ≡ length es) × (behind ≡ flat_map record_bytes es ++ s)
+  split_batch g' f' es s fits_g' fits_f' is same =
+      let parts = head_of g f n g' f' (length es) behind (flat_map record_bytes es ++ s) fits_g fits_f fits_n fits_g' fits_f' (omega (arith, is.few)) (sym head_there ∙ same ∙ batch_parts g' f' es s) in
+      (parts.2, parts.3)
+
+  pub no_such_count : ((1 ≤ n → n ≤ 64 → ⊥)) → (g' f' : ℕ) (es : List Effect) (s : List ℕ) → g' < 2 ^ 64 → f' < 2 ^ 64 → IsBatch vars es → bytes ≡ batch_bytes g' f' es ++ s → ⊥
+  no_such_count none g' f' es s fits_g' fits_f' is same =
+      let split = split_batch g' f' es s fits_g' fits_f' is same in
+      none (omega (arith, split.0, is.some)) (omega (arith, split.0, is.few))
+
+  pub no_records_there : ((es : List Effect) (t : List ℕ) → length es ≡ n → IsBatch vars es → behind ≡ flat_map record_bytes es ++ t → ⊥)
+      → (g' f' : ℕ) (es : List Effect) (s : List ℕ) → g' < 2 ^ 64 → f' < 2 ^ 64 → IsBatch vars es → bytes ≡ batch_bytes g' f' es ++ s → ⊥
+  no_records_there none g' f' es s fits_g' fits_f' is same =
+      let split = split_batch g' f' es s fits_g' fits_f' is same in
+      none es s (sym split.0) is split.1
+
+pub no_room_for_head : (bytes : List ℕ) (g f : ℕ) (es : List Effect) (s : List ℕ) → length bytes < 18 → bytes ≡ batch_bytes g f es ++ s → ⊥
+no_room_for_head bytes g f es s short same =
+    let records : List ℕ = flat_map record_bytes es ++ s in
+    absurd (omega (arith, ap length (same ∙ batch_parts g f es s), length-append (number_bytes 8 g) (number_bytes 8 f ++ (number_bytes 2 (length es) ++ records)), length-append (number_bytes 8 f) (number_bytes 2 (length es) ++ records), length-append (number_bytes 2 (length es)) records, length-number_bytes 8 g, length-number_bytes 8 f, length-number_bytes 2 (length es)))
+
+-- what was found in front of the rest is spelled by the bytes in front of it
+pub front_spells : (vars g f len : ℕ) (es : List Effect) (bytes rest : List ℕ) → g < 2 ^ 64 → f < 2 ^ 64 → IsBatch vars es → bytes ≡ batch_bytes g f es ++ rest → len + length rest ≡ length bytes → SpellsBatch vars g f es (take len bytes)
+front_spells vars g f len es bytes rest fits_g fits_f is same long = record {
+  generation_fits = fits_g;
+  first_fits = fits_f;
+  batch = is;
+  spelled = ap (take len) same ∙ take_at (batch_bytes g f es) rest len (omega (arith, ap length same, length-append (batch_bytes g f es) rest, long));
+}
+
+-- where no batch is spelled in front of a rest, no beginning of the bytes spells one
+pub no_beginning : (vars : ℕ) (bytes : List ℕ) → ((g f : ℕ) (es : List Effect) (s : List ℕ) → g < 2 ^ 64 → f < 2 ^ 64 → IsBatch vars es → bytes ≡ batch_bytes g f es ++ s → ⊥) → (g f n : ℕ) (es : List Effect) → SpellsBatch vars g f es (take n bytes) → ⊥
+no_beginning vars bytes none g f n es spells =
+    none g f es (drop n bytes) spells.generation_fits spells.first_fits spells.batch (sym (take-append-drop n bytes) ∙ ap (λ (l : List ℕ). l ++ drop n bytes) spells.spelled)
+
+-- a head alone
+pub head_alone : (g f n : ℕ) (bytes b8 b16 rest : List ℕ) → bytes ≡ number_bytes 8 g ++ b8 → b8 ≡ number_bytes 8 f ++ b16 → b16 ≡ number_bytes 2 n ++ rest → length rest ≡ 0 → bytes ≡ number_bytes 8 g ++ (number_bytes 8 f ++ number_bytes 2 n)
+head_alone g f n bytes b8 b16 rest first second third none =
+    let last = third ∙ ap (λ (l : List ℕ). number_bytes 2 n ++ l) (nil_from_length rest none) ∙ append-nil (number_bytes 2 n) in
+    first ∙ ap (λ (l : List ℕ). number_bytes 8 g ++ l) (second ∙ ap (λ (l : List ℕ). number_bytes 8 f ++ l) last)
+
+-- a name at the front begins the bytes
+pub name_begins : (name bytes rest : List ℕ) → bytes ≡ name_bytes name ++ rest → IsPrefix (name_bytes name) bytes
+name_begins name bytes rest same = subst (λ (l : List ℕ). IsPrefix (name_bytes name) l) (sym same) (IsPrefix-append (name_bytes name) rest)
+
+pub no_name_begins : (bytes : List ℕ) → ((name rest : List ℕ) → IsName name → bytes ≡ name_bytes name ++ rest → ⊥) → (name : List ℕ) → IsName name → IsPrefix (name_bytes name) bytes → ⊥
+no_name_begins bytes none name is begins = none name (drop (length (name_bytes name)) bytes) is (IsPrefix-rest (name_bytes name) bytes begins)

@@ -1,0 +1,4 @@
+mod ArrayForms
+mod EventForms
+mod Levels
+mod Members

@@ -1,0 +1,102 @@
+//! Two accounts on a device: money is moved under an invariant, made durable, and found again.
+#![tactic(auto)]
+
+ghost use Rattle.std.specs.Prelude.{◌≡◌, length, IfOk};
+ghost use Rattle.tmem_transfer.specs.Accounts.{add_up_to_zero};
+ghost use Rattle.tmem_world.specs.Represents.{numbers_of, HoldsSession};
+
+use std::alloc::Global;
+use tmem_disk::{Disk, Fault, Name, SimDisk};
+use tmem_invariants::{Invariant, Invariants, Table};
+use tmem_tree::{Steps, StoredSteps, Tx};
+use tmem_world::{Event, Layout, Reply, Settled, World, format};
+
+fn main(rt: HostRuntime) -> Result<(), Fault> {
+    let alloc = rt.alloc();
+    let balanced = Box::new(
+        alloc,
+        |accounts: &[i64]| -> bool
+            requires { length accounts.now ≡ 2 }
+            ensures { result ≡ add_up_to_zero accounts.now }
+        { accounts[0] as i128 + accounts[1] as i128 == 0 },
+    )?;
+    let balanced = Invariant::new(Name::new("balanced")?, vec![in alloc; 0, 1]?, balanced)?;
+    let table = Table::of(vec![in alloc; balanced]?, 2)?;
+    let (lost, found) = transfer(alloc, table, Steps::of(Vec::new(alloc))?)?;
+    let _ = println!(rt;
+        "a loss is accepted: {lost}\nfound: {} and {}",
+        found.0, found.1
+    );
+    Ok(())
+}
+
+/// Moves 30 from account 0 to account 1 of a new store, tries to lose it, and opens the store again. Answers whether the
+/// loss was accepted, and what the accounts have then.
+fn transfer<T: Invariants + Drop, S: StoredSteps + Drop>(
+    alloc: Global,
+    table: T,
+    steps: S,
+) -> Result<(bool, (i64, i64)), Fault>
+    requires { T.vars table ≡ 2 }
+{
+    let mut world = new_store(alloc, table, steps)?;
+    let (from, to) = (write(alloc, 0, -30)?, write(alloc, 1, 30)?);
+    let name = Name::new("balanced")?;
+    commit(
+        &mut world,
+        Tx::Seq(vec![in alloc; from, to, Tx::Check { name }]?),
+    );
+    let lost = commit(&mut world, write(alloc, 1, 0)?);
+    world.step(Event::Flush);
+    world.step(Event::Reopen);
+    if !world.is_open() {
+        return Err(Fault::Closed);
+    }
+    Ok((lost, accounts(&world)))
+}
+
+/// A store of two variables on a device in memory.
+fn new_store<T: Invariants + Drop, S: StoredSteps + Drop>(
+    alloc: Global,
+    table: T,
+    steps: S,
+) -> Result<World<SimDisk, T, S>, Fault>
+    requires { T.vars table ≡ 2 }
+    ensures { IfOk result (λ world. (numbers_of world).vars ≡ 2) }
+{
+    let mut disk = SimDisk::new(alloc, Layout::new(2, 2)?.end())?;
+    format(&mut disk, 2, 2)?;
+    let opened = World::open(alloc, disk, 2, 2, table, steps);
+    match opened {
+        Ok(world) => Ok(world),
+        Err(refused) => Err(refused.0),
+    }
+}
+
+/// A transaction that gives a variable a number.
+fn write(alloc: Global, var: u16, number: i64) -> Result<Tx, Fault> {
+    Ok(Tx::Seq(vec![in alloc; Tx::Put { reg: 0, number }, Tx::Write { var, reg: 0 }]?))
+}
+
+/// Begins a transaction that reads nothing, evaluates it and settles it. Answers whether it was accepted.
+fn commit<D: Disk, T: Invariants + Drop, S: StoredSteps + Drop>(
+    world: &mut World<D, T, S>,
+    tx: Tx,
+) -> bool
+    ensures { numbers_of world.new ≡ numbers_of world.old }
+{
+    world.step(Event::Begin { slot: 0, tx });
+    world.step(Event::Turn { slot: 0 });
+    let settled = world.step(Event::Settle { slot: 0 });
+    matches!(settled, Reply::Settled(Settled::Committed { .. }))
+}
+
+/// What the two accounts have.
+fn accounts<D: Disk, T: Invariants + Drop, S: StoredSteps + Drop>(
+    world: &World<D, T, S>,
+) -> (i64, i64)
+    requires open { HoldsSession world.now }
+    requires two { (numbers_of world.now).vars ≡ 2 }
+{
+    (world.value(0), world.value(1))
+}

@@ -1,0 +1,18 @@
+use Rattle.std.proofs.Common.{◌≡◌, ◌+◌, ◌≤◌, drop}
+use Rattle.std.specs.Prelude.{◌↔◌}
+use Rattle.tmem_tree.specs.Limits.{depth, count, is_node, is_write, is_check}
+use Rattle.tmem_tree.specs.Plans.{is_bad}
+use Rattle.tmem_tree.proofs.Laws.{depth_in, count_in}
+use Rattle.tmem_tree.proofs.budget.+pay.Given as goal
+
+abbrev pub invariant-loop-t : goal.invariant-loop-t
+invariant-loop-t g l =
+    let bad = is_bad (g.S.StoredSteps.arities l.steps) l.vars l.names in
+    let rest = drop l.t-index l.t-items in
+    record {
+      shallow : (depth l.tx ≤ l.most) ↔ (depth_in rest + 1 ≤ l.most);
+      nodes : l.left.nodes + count is_node l.tx ≡ l.fn.budget.nodes + count_in is_node rest;
+      writes : l.left.writes + count is_write l.tx ≡ l.fn.budget.writes + count_in is_write rest;
+      checks : l.left.checks + count is_check l.tx ≡ l.fn.budget.checks + count_in is_check rest;
+      good : count bad l.tx ≡ count_in bad rest;
+    }
