@@ -1,4 +1,5 @@
 pub mod Fills
+pub mod Hull
 pub mod Laws
 pub mod Marks
 pub mod AsStr

@@ -3,6 +3,7 @@
 //! the refusals of the whole workspace and the names of its invariants.
 #![tactic(auto)]
 
+mod buffer;
 mod disk;
 mod failures;
 mod fault;

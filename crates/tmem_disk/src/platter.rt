@@ -1,6 +1,11 @@
-// What a device in memory could have left at each past moment. It takes no memory: its values are seen by clauses alone.
-ghost use Rattle.std.specs.Prelude.{◌≡◌, [], ◌∷◌, ◌++◌};
+// What is on the disk of a device in memory, and what it could have left at each past moment. The past takes no memory:
+// its values are seen by clauses alone.
+ghost use Rattle.std.specs.Prelude.{◌≡◌, ◌<◌, ◌≤◌, ◌+◌, ℕ, [], ◌∷◌, ◌++◌, true, false, length, replicate, slice_index_or, IfOk};
+ghost use Rattle.tmem_disk.specs.Disk.{overwritten};
+ghost use Rattle.tmem_disk.specs.Sim.{LeftBy};
 
+use crate::buffer::{overwrite, set_marks};
+use std::alloc::{AllocError, Global};
 use std::snapshot::Snapshot;
 
 /// What is on the disk: the bytes as at the last sync, and a mark for each byte that was written since.
@@ -8,6 +13,72 @@ use std::snapshot::Snapshot;
 pub(crate) struct Platter {
     pub(crate) synced: Vec<u8>,
     pub(crate) marks: Vec<bool>,
+    // All marked places are in the range from `first` on and below `end`, so a sync need not look at others.
+    first: usize,
+    end: usize,
+    ghost ordered: { first ≤ end },
+    ghost within: { end ≤ length marks.items },
+    ghost before: { (i : ℕ) → i < first → slice_index_or marks.items i false ≡ false },
+    ghost behind: { (i : ℕ) → end ≤ i → slice_index_or marks.items i false ≡ false },
+}
+
+impl Platter {
+    /// So many zeros, none of them marked.
+    pub(crate) fn new(alloc: Global, len: usize) -> Result<Platter, AllocError>
+        ensures synced { IfOk result (λ platter. platter.synced.items ≡ replicate len 0) }
+        ensures marks { IfOk result (λ platter. platter.marks.items ≡ replicate len false) }
+    {
+        Ok(Platter {
+            synced: vec![in alloc; 0; len]?,
+            marks: vec![in alloc; false; len]?,
+            first: 0,
+            end: 0,
+        })
+    }
+
+    /// Marks so many bytes from a place on as written.
+    pub(crate) fn mark(&mut self, from: usize, count: usize)
+        requires { from + count ≤ length self.old.marks.items }
+        ensures marks { self.new.marks.items ≡ overwritten self.old.marks.items from (replicate count true) }
+        ensures synced { self.new.synced.items ≡ self.old.synced.items }
+    {
+        set_marks(&mut self.marks, from, count, true);
+        let end = from + count;
+        if self.first == self.end {
+            self.first = from;
+            self.end = end;
+        } else {
+            self.first = self.first.min(from);
+            self.end = self.end.max(end);
+        }
+    }
+
+    /// Makes these bytes the synced ones, with no mark. They differ from those at marked places alone.
+    pub(crate) fn sync(&mut self, present: &[u8])
+        requires long { length self.old.marks.items ≡ length present.now }
+        requires agrees { LeftBy self.old.synced.items self.old.marks.items present.now }
+        ensures synced { self.new.synced.items ≡ present.now }
+        ensures marks { self.new.marks.items ≡ replicate (length present.now) false }
+    {
+        self.sync_range(self.first, self.end, present);
+    }
+
+    // The same, looking only at a range that holds all marks.
+    fn sync_range(&mut self, low: usize, high: usize, present: &[u8])
+        requires ordered { low ≤ high }
+        requires inside { high ≤ length present.now }
+        requires before { (i : ℕ) → i < low → slice_index_or self.old.marks.items i false ≡ false }
+        requires behind { (i : ℕ) → high ≤ i → slice_index_or self.old.marks.items i false ≡ false }
+        requires long { length self.old.marks.items ≡ length present.now }
+        requires agrees { LeftBy self.old.synced.items self.old.marks.items present.now }
+        ensures synced { self.new.synced.items ≡ present.now }
+        ensures marks { self.new.marks.items ≡ replicate (length present.now) false }
+    {
+        overwrite(&mut self.synced, low, &present[low..high]);
+        set_marks(&mut self.marks, low, high - low, false);
+        self.first = 0;
+        self.end = 0;
+    }
 }
 
 /// The platter at each past moment.

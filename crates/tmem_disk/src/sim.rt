@@ -5,6 +5,7 @@ ghost use Rattle.tmem_disk.specs.Start.{IsNewDevice};
 ghost use Rattle.tmem_disk.specs.Power.{IsStopped, fill_of, running, arming, restarted, reading, writing, syncing, after, Fails};
 ghost use Rattle.tmem_disk.specs.Sim.{LeftBy, blank, written, synced_with, filled, stamped};
 
+use crate::buffer::overwrite;
 use crate::failures::Failures;
 use crate::platter::{PastMoments, Platter};
 use crate::power::{ArmedStop, Power};
@@ -39,10 +40,7 @@ impl SimDisk {
         let len = size as usize;
         Ok(SimDisk {
             present: vec![in alloc; 0; len]?,
-            platter: Platter {
-                synced: vec![in alloc; 0; len]?,
-                marks: vec![in alloc; false; len]?,
-            },
+            platter: Platter::new(alloc, len)?,
             failures: Failures {
                 count: 0,
                 last: None,
@@ -102,7 +100,7 @@ impl SimDisk {
         ensures time { Elapses (view_of self.old) (view_of self.new) (view_of self.new).may_leave }
     {
         self.past = PastMoments::with(&self.past, &self.platter);
-        mark(&mut self.platter.marks, from, bytes.len());
+        self.platter.mark(from, bytes.len());
         overwrite(&mut self.present, from, bytes);
     }
 
@@ -115,25 +113,8 @@ impl SimDisk {
         ensures time { Elapses (view_of self.old) (view_of self.new) (view_of self.new).may_leave }
     {
         self.past = PastMoments::with(&self.past, &self.platter);
-        self.platter.synced.copy_from_slice(&self.present);
-        self.platter.marks.fill(false);
+        self.platter.sync(&self.present);
     }
-}
-
-// Writes over the bytes from a place on.
-fn overwrite(buffer: &mut Vec<u8>, from: usize, bytes: &[u8])
-    requires { from + length bytes.now ≤ length buffer.old.items }
-    ensures { buffer.new.items ≡ overwritten buffer.old.items from bytes.now }
-{
-    buffer[from..from + bytes.len()].copy_from_slice(bytes);
-}
-
-// Marks so many bytes from a place on as written.
-fn mark(marks: &mut Vec<bool>, from: usize, count: usize)
-    requires { from + count ≤ length marks.old.items }
-    ensures { marks.new.items ≡ overwritten marks.old.items from (replicate count true) }
-{
-    marks[from..from + count].fill(true);
 }
 
 // Gives the marked bytes their fill.

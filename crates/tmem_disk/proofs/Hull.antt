@@ -1,0 +1,65 @@
+-- What a sync leaves that looks only at a range: it is enough that nothing outside the range is marked.
+use Rattle.std.proofs.Common.{◌≡◌, ⊎_elim, ℕ, ◌+◌, ◌-◌, ◌<◌, ◌≤◌, Bool, true, false, List, length, drop, get_or, replicate, sym, ◌∙◌, ap, arith, length-drop}
+use Rattle.std.specs.Prelude.{slice_range}
+use Rattle.std.proofs.lemmas.List.{length-take-le, get_or-take, get_or-drop, get_or-replicate, get_or_default, length-replicate, same_lists}
+use Rattle.std.proofs.lemmas.Bool.{cases_lt}
+use Rattle.tmem_disk.specs.Disk.{overwritten}
+use Rattle.tmem_disk.specs.Sim.{LeftBy}
+use Rattle.tmem_disk.proofs.Ranges.{length-overwritten, get_or-below, get_or-within, get_or-above}
+
+module _ (low high : ℕ) (marks : List Bool) (ordered : low ≤ high) (inside : high ≤ length marks) (before : (i : ℕ) → i < low → get_or marks i false ≡ false) (behind : (i : ℕ) → high ≤ i → get_or marks i false ≡ false) where
+  -- the bytes outside the range are those as at the last sync
+  pub synced_over : (synced present : List ℕ) → length marks ≡ length present → LeftBy synced marks present → overwritten synced low (slice_range present low high) ≡ present
+  synced_over synced present long agrees = same_lists (overwritten synced low range) present (length-overwritten synced low range fits ∙ sym agrees.size) same
+    where
+      range : List ℕ
+      range = slice_range present low high
+
+      range_long : length range ≡ high - low
+      range_long = length-take-le (high - low) (drop low present) (omega (arith, length-drop low present))
+
+      fits : low + length range ≤ length synced
+      fits = omega (arith, range_long, agrees.size)
+
+      kept : (i d : ℕ) → i < length synced → get_or marks i false ≡ false → get_or synced i d ≡ get_or present i d
+      kept i d below none =
+          let unmarked : get_or marks i true ≡ false = get_or_default marks i true false (omega (arith, agrees.size)) ∙ none in
+          get_or_default synced i d 0 below ∙ sym (agrees.stays i unmarked) ∙ get_or_default present i 0 d (omega (arith, agrees.size))
+
+      same : (i d : ℕ) → i < length (overwritten synced low range) → get_or (overwritten synced low range) i d ≡ get_or present i d
+      same i d below =
+          let here : i < length synced = omega (arith, length-overwritten synced low range fits) in
+          ⊎_elim
+          (λ under. get_or-below synced low range fits i d under ∙ kept i d here (before i under))
+          (λ from. ⊎_elim
+          (λ to.
+          let place : low + (i - low) ≡ i = omega arith in
+          get_or-within synced low range fits i d from (omega (arith, range_long)) ∙ get_or-take (high - low) (drop low present) (i - low) d (omega arith) ∙ get_or-drop low present (i - low) d ∙ ap (λ (k : ℕ). get_or present k d) place)
+          (λ over. get_or-above synced low range fits i d (omega (arith, range_long)) ∙ kept i d here (behind i over))
+          (cases_lt i high))
+          (cases_lt i low)
+
+  -- and once the marks of the range are cleared, none is left
+  pub cleared : (n : ℕ) → length marks ≡ n → overwritten marks low (replicate (high - low) false) ≡ replicate n false
+  cleared n long = same_lists (overwritten marks low none) (replicate n false) (length-overwritten marks low none fits ∙ long ∙ sym (length-replicate n false)) same
+    where
+      none : List Bool
+      none = replicate (high - low) false
+
+      none_long : length none ≡ high - low
+      none_long = length-replicate (high - low) false
+
+      fits : low + length none ≤ length marks
+      fits = omega (arith, none_long)
+
+      same : (i : ℕ) (d : Bool) → i < length (overwritten marks low none) → get_or (overwritten marks low none) i d ≡ get_or (replicate n false) i d
+      same i d below =
+          let here : i < length marks = omega (arith, length-overwritten marks low none fits) in
+          let unmarked : get_or (replicate n false) i d ≡ false = get_or-replicate n i false d (omega arith) in
+          ⊎_elim
+          (λ under. get_or-below marks low none fits i d under ∙ get_or_default marks i d false here ∙ before i under ∙ sym unmarked)
+          (λ from. ⊎_elim
+          (λ to. get_or-within marks low none fits i d from (omega (arith, none_long)) ∙ get_or-replicate (high - low) (i - low) false d (omega arith) ∙ sym unmarked)
+          (λ over. get_or-above marks low none fits i d (omega (arith, none_long)) ∙ get_or_default marks i d false here ∙ behind i over ∙ sym unmarked)
+          (cases_lt i high))
+          (cases_lt i low)
