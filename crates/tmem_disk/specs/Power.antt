@@ -1,4 +1,4 @@
--- Whether a device in memory runs, and at which of its calls it stops.
+-- Whether a device in memory runs, and at which of its calls it stops, as at a crash.
 use Rattle.std.specs.Prelude.{ℕ, zero, suc, Option, Some, None, IsSome}
 use Rattle.tmem_disk.specs.declared.power.Fill.{Fill}
 use Rattle.tmem_disk.specs.declared.power.ArmedStop.{ArmedStop}

@@ -1,4 +1,4 @@
--- The bytes of a device in memory, and what a stop leaves of them.
+-- The bytes of a device in memory, and what a stop (a crash) leaves of them.
 use Rattle.std.specs.Prelude.{◌≡◌, ◌⊎◌, ⊤, ℕ, Bool, true, false, Option, Some, None, if◌then◌else◌, List, [], ◌∷◌, length, drop, replicate, slice_index, slice_index_or}
 use mathlib.Core.Logic.{inl, inr}
 use Rattle.tmem_disk.specs.Disk.{DeviceView, overwritten}

@@ -31,7 +31,7 @@ is_device_of disk = record {
   only_now = λ c k left. left_now (moments_of disk.past) disk.platter.synced.items disk.platter.marks.items c left;
 }
 
--- what a write leaves: nothing changes where the device was stopped before
+-- what a write leaves: nothing changes where the device was stopped before (had crashed, and not been restarted)
 abbrev pub bytes_after_write : Power → ℕ → List ℕ → Bytes → Bytes
 bytes_after_write power at bytes b = unless_stopped power.stopped b (written at bytes b)
 

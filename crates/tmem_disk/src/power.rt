@@ -1,8 +1,8 @@
-// Whether a device in memory runs, and at which of its calls it stops.
+// Whether a device in memory runs, and at which of its calls it stops, as at a crash.
 ghost use Rattle.std.specs.Prelude.{◌≡◌, ◌↔◌, Some, IsTrue};
 ghost use Rattle.tmem_disk.specs.Power.{IsStopped, writing, after, restarted};
 
-/// What a stop makes of the bytes that were written since the last successful sync.
+/// What a stop (a crash of the device) makes of the bytes that were written since the last successful sync.
 #[derive(Clone, Copy, Debug, PartialEq, Eq)]
 pub enum Fill {
     /// As at that sync.

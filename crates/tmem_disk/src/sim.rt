@@ -1,4 +1,4 @@
-// A device in memory that can be stopped at a chosen write.
+// A device in memory that can be stopped at a chosen write, as by a crash.
 ghost use Rattle.std.specs.Prelude.{◌≡◌, ◌<◌, ◌≤◌, ◌+◌, ◌^◌, ◌↔◌, true, length, replicate, slice_range, IsTrue, IsErr, IfOk, IfSome, OnOk, OnErr, IsOkUnless};
 ghost use Rattle.tmem_disk.specs.Disk.{IsCall, SameDevice, overwritten, ReadsAs, SameSeenOutside, Rewritten, LeavesOnly, LeavesEach, StillLeaves, IsSynced, Elapses};
 ghost use Rattle.tmem_disk.specs.Start.{IsNewDevice};
@@ -12,8 +12,8 @@ use crate::power::{ArmedStop, Power};
 use crate::{DeviceFault, Disk, Fault, Fill};
 use std::alloc::Global;
 
-/// Bytes in memory. It keeps the disk model, and no call but `new` takes memory. A call fails where the device stands
-/// at a stop, and a write also where it meets the stop that is armed.
+/// Bytes in memory. It keeps the disk model, and no call but `new` takes memory. A stop is a crash that can be armed for
+/// a chosen write: a call fails where the device stands at a stop, and a write also where it meets the stop that is armed.
 #[derive(Drop)]
 pub struct SimDisk {
     present: Vec<u8>,
