@@ -59,6 +59,7 @@ impl Platter {
         requires agrees { LeftBy self.old.synced.items self.old.marks.items present.now }
         ensures synced { self.new.synced.items ≡ present.now }
         ensures marks { self.new.marks.items ≡ replicate (length present.now) false }
+        ensures clean { self.new.first ≡ self.new.end }
     {
         self.sync_range(self.first, self.end, present);
     }
@@ -73,6 +74,7 @@ impl Platter {
         requires agrees { LeftBy self.old.synced.items self.old.marks.items present.now }
         ensures synced { self.new.synced.items ≡ present.now }
         ensures marks { self.new.marks.items ≡ replicate (length present.now) false }
+        ensures clean { self.new.first ≡ self.new.end }
     {
         overwrite(&mut self.synced, low, &present[low..high]);
         set_marks(&mut self.marks, low, high - low, false);

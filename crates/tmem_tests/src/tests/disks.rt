@@ -1,8 +1,9 @@
 //! A second device, names and the texts of refusals.
-ghost use Rattle.std.specs.Prelude.{◌≤◌};
+ghost use Rattle.std.specs.Prelude.{◌≡◌, ◌≤◌};
+ghost use Rattle.tmem_disk.specs.SimParts.{view_of};
 
 use std::test::Fail;
-use tmem_disk::{Cause, DeviceFault, Disk, Fault, Name, SimDisk};
+use tmem_disk::{Cause, DeviceFault, Disk, Fault, Fill, Name, SimDisk};
 
 // A device round another, which counts the writes that it passes on.
 #[derive(Drop)]
@@ -55,6 +56,40 @@ fn another_device_meets_the_trait(rt: HostRuntime) -> Result<(), Fail> {
     assert_eq!(rt; disk.size(), 3);
     assert_eq!(rt; twice(&mut disk, 7), Ok([7]));
     assert_eq!(rt; disk.writes, 2);
+    Ok(())
+}
+
+// Syncs two ranges that are far apart, writes the first place of the one and the last of the other again, and stops at a
+// third write. What is left then.
+fn left_behind_two_ranges(disk: &mut SimDisk, fill: Fill) -> Result<[u8; 16], DeviceFault>
+    requires { (view_of disk.old).capacity ≡ 16 }
+{
+    disk.write_at(16, &[])?;
+    disk.write_at(2, &[1, 1, 1])?;
+    disk.write_at(8, &[])?;
+    disk.write_at(12, &[2, 2])?;
+    disk.sync()?;
+    disk.write_at(2, &[3])?;
+    disk.write_at(13, &[4])?;
+    disk.stop_at_write(0, fill);
+    let _ = disk.write_at(7, &[5]);
+    if disk.is_stopped() {
+        disk.restart();
+    }
+    let mut seen = [0; 16];
+    disk.read(0, &mut seen)?;
+    Ok(seen)
+}
+
+#[test]
+fn a_sync_keeps_both_of_two_ranges_up_to_their_last_places(rt: HostRuntime) -> Result<(), Fail> {
+    let old = [0, 0, 1, 1, 1, 0, 0, 0, 0, 0, 0, 0, 2, 2, 0, 0];
+    let new = [0, 0, 3, 1, 1, 0, 0, 5, 0, 0, 0, 0, 2, 4, 0, 0];
+    let torn = [0, 0, 9, 1, 1, 0, 0, 9, 0, 0, 0, 0, 2, 9, 0, 0];
+    for (fill, want) in [(Fill::Old, old), (Fill::New, new), (Fill::Byte(9), torn)] {
+        let mut disk = SimDisk::new(rt.alloc(), 16)?;
+        assert_eq!(rt; left_behind_two_ranges(&mut disk, fill), Ok(want));
+    }
     Ok(())
 }
 
