@@ -7,9 +7,9 @@ use Rattle.serde_json.specs.declared.value.Value.{Value}
 use Rattle.tmem_event.specs.declared.event.Event.{Event}
 use Rattle.tmem_event.specs.declared.event.Event.TheVariants as event
 use Rattle.tmem_tree.specs.declared.tx.Tx.{Tx}
-use Rattle.tmem_script.specs.TxForms.{natural, array_of, tagged, tx_form, TxInRange}
+use Rattle.tmem_forms.specs.TxForms.{natural, array_of, tagged, tx_form, TxInRange}
 use Rattle.tmem_script.specs.Scripts.{event_form, IsEvent}
-use Rattle.tmem_script.proofs.Levels.{key_of, apart, width}
+use Rattle.tmem_forms.proofs.Laws.{key_of, apart, width}
 
 -- no event has this form
 abbrev pub NoEvent : Data → Type 0

@@ -1,4 +1,2 @@
-mod ArrayForms
 mod EventForms
-mod Levels
 mod Members

@@ -7,7 +7,7 @@ use Rattle.serde_json.specs.Find.{as_object}
 use Rattle.serde_json.specs.View.{view, members_view}
 use Rattle.serde_json.specs.declared.value.Value.{Value, Object}
 use Rattle.tmem_script.specs.Scripts.{IsScript, EntryInRange, entry_form}
-use Rattle.tmem_script.specs.TxForms.{natural, array_of, tagged, IsShort}
+use Rattle.tmem_forms.specs.TxForms.{natural, array_of, tagged, IsShort}
 use Rattle.tmem_script.specs.declared.script.Entry.{Entry}
 
 -- an object's members as a list

@@ -1,5 +1,7 @@
 -- Why a script was not read.
 use Rattle.std.specs.Prelude.{⊤}
+use Rattle.tmem_forms.specs.declared.error.FormError.{FormError}
+use Rattle.tmem_forms.specs.declared.error.FormError.TheVariants as form
 use Rattle.tmem_script.specs.declared.script.ScriptError.{ScriptError}
 use Rattle.tmem_script.specs.declared.script.ScriptError.TheVariants.{Memory, Unreadable, NoScript}
 
@@ -9,8 +11,7 @@ IsWanting (Memory e) = ⊤
 IsWanting Unreadable = ⊥
 IsWanting NoScript = ⊥
 
--- where nothing but the script is at fault, this holds; a reader of a value never fails to read its text
-abbrev pub Refuses : ScriptError → Type 0 → Type 0
-Refuses (Memory e) P = Unit {0}
-Refuses Unreadable P = ⊥
-Refuses NoScript P = P
+-- what a script is refused by where its value was not read
+abbrev pub refusal_of : FormError → ScriptError
+refusal_of (form.Memory e) = Memory e
+refusal_of form.NoForm = NoScript

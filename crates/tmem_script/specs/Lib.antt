@@ -2,4 +2,3 @@ pub mod Errors
 pub mod Lines
 pub mod Scripts
 pub mod Statuses
-pub mod TxForms

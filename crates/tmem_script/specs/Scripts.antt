@@ -5,7 +5,7 @@ use Rattle.serde_json.specs.Read.{read}
 use Rattle.tmem_event.specs.Events.{NamesSlot}
 use Rattle.tmem_event.specs.declared.event.Event.{Event}
 use Rattle.tmem_event.specs.declared.event.Event.TheVariants as event
-use Rattle.tmem_script.specs.TxForms.{natural, array_of, tagged, tx_form, TxInRange, IsShort}
+use Rattle.tmem_forms.specs.TxForms.{natural, array_of, tagged, tx_form, TxInRange, IsShort}
 use Rattle.tmem_script.specs.declared.script.Entry.{Entry}
 use Rattle.tmem_script.specs.declared.script.Entry.TheVariants as entry
 

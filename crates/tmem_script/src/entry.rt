@@ -1,25 +1,26 @@
 //! The entries of a script, from their JSON form.
 ghost use Rattle.std.specs.Prelude.{◌≡◌, List, map, All, IfOk, IfErr};
 ghost use Rattle.serde_json.specs.View.{view};
-ghost use Rattle.tmem_script.specs.Errors.{Refuses};
+ghost use Rattle.tmem_forms.specs.Errors.{Refuses};
 ghost use Rattle.tmem_script.specs.Scripts.{IsEntry, EntryInRange, entry_form};
-ghost use Rattle.tmem_script.specs.TxForms.{array_of};
+ghost use Rattle.tmem_forms.specs.TxForms.{array_of};
 ghost use Rattle.tmem_script.specs.declared.script.Entry.{Entry};
 
 use crate::event::event_of;
-use crate::script::{Entry, Playable, ScriptError};
+use crate::script::{Entry, Playable};
 use serde_json::Value;
 use std::alloc::Global;
+use tmem_forms::FormError;
 
 /// Reads an array of entries.
-pub(crate) fn entries_of(alloc: Global, value: Value) -> Result<Vec<Entry>, ScriptError>
+pub(crate) fn entries_of(alloc: Global, value: Value) -> Result<Vec<Entry>, FormError>
     ensures ok { IfOk result (λ entries. view value ≡ array_of (map entry_form entries.items)) }
     ensures in_range { IfOk result (λ entries. All EntryInRange entries.items) }
     ensures refused { IfErr result (λ e. Refuses e ((entries : List Entry) → All EntryInRange entries
         → ¬ (view value ≡ array_of (map entry_form entries)))) }
 {
     let Value::Array(items) = value else {
-        return Err(ScriptError::NoScript);
+        return Err(FormError::NoForm);
     };
     let mut entries = Vec::with_capacity(alloc, items.len())?;
     for item in &items {
@@ -28,7 +29,7 @@ pub(crate) fn entries_of(alloc: Global, value: Value) -> Result<Vec<Entry>, Scri
     Ok(entries)
 }
 
-fn entry_of(alloc: Global, value: &Value) -> Result<Entry, ScriptError>
+fn entry_of(alloc: Global, value: &Value) -> Result<Entry, FormError>
     ensures ok { IfOk result (λ entry. IsEntry entry (view value.now)) }
     ensures refused { IfErr result (λ e. Refuses e ((entry : Entry) → ¬ IsEntry entry (view value.now))) }
 {

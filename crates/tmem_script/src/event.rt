@@ -3,37 +3,35 @@ ghost use Rattle.std.specs.Prelude.{◌≡◌, ◌<◌, ℕ, codes, IfOk, IfErr}
 ghost use Rattle.serde_json.specs.Data.{string};
 ghost use Rattle.serde_json.specs.View.{view};
 ghost use Rattle.tmem_event.specs.declared.event.Event.{Event};
-ghost use Rattle.tmem_script.specs.Errors.{Refuses};
+ghost use Rattle.tmem_forms.specs.Errors.{Refuses};
 ghost use Rattle.tmem_script.specs.Scripts.{IsEvent};
-ghost use Rattle.tmem_script.specs.TxForms.{natural, tagged};
+ghost use Rattle.tmem_forms.specs.TxForms.{natural, tagged};
 
-use crate::json::{byte_of, pair_of};
-use crate::script::ScriptError;
-use crate::tx::tx_of;
 use serde_json::Value;
 use std::alloc::Global;
 use tmem_event::{ATTEMPTS, Event};
+use tmem_forms::{FormError, byte_of, pair_of, tx_of};
 
 /// Reads an event: a word such as `"flush"`, or an object with one member such as `{"turn":0}`. Its
 /// attempt slot is one that a world has.
-pub(crate) fn event_of(alloc: Global, value: &Value) -> Result<Event, ScriptError>
+pub(crate) fn event_of(alloc: Global, value: &Value) -> Result<Event, FormError>
     ensures ok { IfOk result (λ event. IsEvent event (view value.now)) }
     ensures refused { IfErr result (λ e. Refuses e ((event : Event) → ¬ IsEvent event (view value.now))) }
 {
     if let Some(word) = value.as_str() {
         return event_of_word(word);
     }
-    let members = value.as_object().ok_or(ScriptError::NoScript)?;
+    let members = value.as_object().ok_or(FormError::NoForm)?;
     if members.len() != 1 {
-        return Err(ScriptError::NoScript);
+        return Err(FormError::NoForm);
     }
     match members.first_key_value() {
         Some((key, body)) => event_of_member(alloc, key.as_str(), body),
-        None => Err(ScriptError::NoScript),
+        None => Err(FormError::NoForm),
     }
 }
 
-fn event_of_word(word: &str) -> Result<Event, ScriptError>
+fn event_of_word(word: &str) -> Result<Event, FormError>
     ensures ok { IfOk result (λ event. IsEvent event (string word.now)) }
     ensures refused { IfErr result (λ e. Refuses e ((event : Event) → ¬ IsEvent event (string word.now))) }
 {
@@ -41,11 +39,11 @@ fn event_of_word(word: &str) -> Result<Event, ScriptError>
         "flush" => Ok(Event::Flush),
         "look" => Ok(Event::Look),
         "reopen" => Ok(Event::Reopen),
-        _ => Err(ScriptError::NoScript),
+        _ => Err(FormError::NoForm),
     }
 }
 
-fn event_of_member(alloc: Global, key: &str, body: &Value) -> Result<Event, ScriptError>
+fn event_of_member(alloc: Global, key: &str, body: &Value) -> Result<Event, FormError>
     ensures ok { IfOk result (λ event. IsEvent event (tagged key.now (view body.now))) }
     ensures refused { IfErr result (λ e. Refuses e ((event : Event) → ¬ IsEvent event (tagged key.now (view body.now)))) }
 {
@@ -59,11 +57,11 @@ fn event_of_member(alloc: Global, key: &str, body: &Value) -> Result<Event, Scri
             let slot = slot_of(body)?;
             Ok(Event::Settle { slot })
         }
-        _ => Err(ScriptError::NoScript),
+        _ => Err(FormError::NoForm),
     }
 }
 
-fn begin_of(alloc: Global, body: &Value) -> Result<Event, ScriptError>
+fn begin_of(alloc: Global, body: &Value) -> Result<Event, FormError>
     ensures ok { IfOk result (λ event. IsEvent event (tagged (codes "begin") (view body.now))) }
     ensures refused { IfErr result (λ e. Refuses e ((event : Event) → ¬ IsEvent event (tagged (codes "begin") (view body.now)))) }
 {
@@ -73,14 +71,14 @@ fn begin_of(alloc: Global, body: &Value) -> Result<Event, ScriptError>
     Ok(Event::Begin { slot, tx })
 }
 
-fn slot_of(value: &Value) -> Result<u8, ScriptError>
+fn slot_of(value: &Value) -> Result<u8, FormError>
     ensures ok { IfOk result (λ slot. view value.now ≡ natural slot) }
     ensures below { IfOk result (λ slot. slot < 16) }
     ensures refused { IfErr result (λ e. Refuses e ((slot : ℕ) → slot < 16 → ¬ (view value.now ≡ natural slot))) }
 {
     let slot = byte_of(value)?;
     if slot as usize >= ATTEMPTS {
-        return Err(ScriptError::NoScript);
+        return Err(FormError::NoForm);
     }
     Ok(slot)
 }

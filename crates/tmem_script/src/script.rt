@@ -1,15 +1,18 @@
 //! Scripts: the numbers of a device, and what is to be done on it.
-ghost use Rattle.std.specs.Prelude.{◌≡◌, IfOk};
+ghost use Rattle.std.specs.Prelude.{◌≡◌, IfOk, IfErr};
+ghost use Rattle.serde_json.specs.Data.{Data, Members, member};
+ghost use Rattle.serde_json.specs.View.{view, members_view};
 ghost use Rattle.tmem_event.specs.Events.{NamesSlot};
+ghost use Rattle.tmem_forms.specs.Errors.{Refuses};
 
 use crate::entry::entries_of;
-use crate::json::{next_of, short_of};
-use serde_json::Value;
-use std::alloc::{AllocError, AllocFailed, Global};
+use serde_json::{Map, Value};
+use std::alloc::{AllocError, Global};
 use std::io;
 use thiserror::Error;
 use tmem_disk::Fault;
 use tmem_event::Event;
+use tmem_forms::{FormError, short_of};
 
 /// A script that was read and checked whole.
 #[derive(Drop)]
@@ -45,25 +48,17 @@ pub enum ScriptError {
     NoScript,
 }
 
-impl From<AllocError> for ScriptError {
-    ghost use Rattle.std.specs.Prelude.{◌≡◌, alloc_error};
-    ghost use Rattle.tmem_script.specs.declared.script.ScriptError.TheVariants.{Memory};
+impl From<FormError> for ScriptError {
+    ghost use Rattle.std.specs.Prelude.{◌≡◌};
+    ghost use Rattle.tmem_script.specs.Errors.{refusal_of};
 
-    ghost from_gives = { λ _ e. e ≡ Memory alloc_error };
+    ghost from_gives = { λ error e. e ≡ refusal_of error };
 
-    fn from(_: AllocError) -> ScriptError {
-        ScriptError::Memory(AllocError)
-    }
-}
-
-impl<T: Drop> From<AllocFailed<T>> for ScriptError {
-    ghost use Rattle.std.specs.Prelude.{◌≡◌, alloc_error};
-    ghost use Rattle.tmem_script.specs.declared.script.ScriptError.TheVariants.{Memory};
-
-    ghost from_gives = { λ _ e. e ≡ Memory alloc_error };
-
-    fn from(_: AllocFailed<T>) -> ScriptError {
-        ScriptError::Memory(AllocError)
+    fn from(error: FormError) -> ScriptError {
+        match error {
+            FormError::Memory(error) => ScriptError::Memory(error),
+            FormError::NoForm => ScriptError::NoScript,
+        }
     }
 }
 
@@ -106,7 +101,8 @@ impl From<serde_json::Error> for ScriptError {
 impl Script {
     ghost use Rattle.std.specs.Prelude.{◌⊎◌, ℕ, List, Err, IfErr};
     ghost use Rattle.serde_json.specs.View.{view};
-    ghost use Rattle.tmem_script.specs.Errors.{IsWanting, Refuses};
+    ghost use Rattle.tmem_forms.specs.Errors.{Refuses};
+    ghost use Rattle.tmem_script.specs.Errors.{IsWanting};
     ghost use Rattle.tmem_script.specs.Scripts.{IsScript, IsScriptText};
     ghost use Rattle.tmem_script.specs.declared.script.Entry.{Entry};
     ghost use Rattle.tmem_script.specs.declared.script.ScriptError.TheVariants.{NoScript};
@@ -121,22 +117,23 @@ impl Script {
         ensures refused { IfErr result (λ e. (e ≡ NoScript) ⊎ IsWanting e) }
     {
         let value = Value::from_slice(alloc, text)?;
-        Script::from_value(alloc, value)
+        let script = Script::from_value(alloc, value)?;
+        Ok(script)
     }
 
-    fn from_value(alloc: Global, value: Value) -> Result<Script, ScriptError>
+    fn from_value(alloc: Global, value: Value) -> Result<Script, FormError>
         ensures ok { IfOk result (λ script. IsScript script.vars script.slots script.entries.items (view value)) }
         ensures refused { IfErr result (λ e. Refuses e ((vars slots : ℕ) (entries : List Entry)
             → ¬ IsScript vars slots entries (view value))) }
     {
         let Value::Object(mut members) = value else {
-            return Err(ScriptError::NoScript);
+            return Err(FormError::NoForm);
         };
         let events = next_of(&mut members, "events")?;
         let slots = next_of(&mut members, "slots")?;
         let vars = next_of(&mut members, "vars")?;
         if members.len() != 0 {
-            return Err(ScriptError::NoScript);
+            return Err(FormError::NoForm);
         }
         let vars = short_of(&vars)?;
         let slots = short_of(&slots)?;
@@ -147,4 +144,20 @@ impl Script {
             entries,
         })
     }
+}
+
+// Takes the first of an object's members, which stand in the order of their keys, out of it. It has to have this key.
+fn next_of(members: &mut Map<String, Value>, key: &str) -> Result<Value, FormError>
+    ensures ok { IfOk result (λ value.
+        members_view members.old.entries ≡ member key.now (view value) (members_view members.new.entries)) }
+    ensures refused { IfErr result (λ e. Refuses e ((d : Data) (ms : Members)
+        → ¬ (members_view members.old.entries ≡ member key.now d ms))) }
+{
+    let Some((name, value)) = members.pop_first() else {
+        return Err(FormError::NoForm);
+    };
+    if name.as_str() != key {
+        return Err(FormError::NoForm);
+    }
+    Ok(value)
 }

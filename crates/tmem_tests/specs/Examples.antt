@@ -1,6 +1,8 @@
 -- What the tests' own tables and steps mean.
-use Rattle.std.specs.Prelude.{ℕ, ◌<◌, ◌≤◌, ℤ, pos, Bool, true, List, [], All, int_le, slice_index_or}
-use Rattle.std.proofs.Math.Nat.{not-suc-le-zero}
+use Rattle.std.specs.Prelude.{◌≢◌, ℕ, ◌<◌, ◌≤◌, ℤ, pos, Bool, true, List, [], ◌∷◌, All, int_le, slice_index_or}
+use Rattle.std.proofs.Common.{lit≤, not-suc-le-zero}
+use Rattle.std.proofs.lemmas.List.Kept.{AllPairs-cons}
+use Rattle.std.proofs.lemmas.List.Elements.{All-cons, All-nil}
 use Rattle.tmem_tree.specs.declared.step.StepAnswer.{StepAnswer}
 use Rattle.tmem_tree.specs.declared.step.StepAnswer.TheVariants.{Value}
 use Rattle.tmem_builtins.specs.Steps.{first}
@@ -15,12 +17,13 @@ first_of args = Value (first args)
 abbrev pub is_last_not_negative : List ℤ → Bool
 is_last_not_negative values = int_le (pos 0) (slice_index_or values 15 (pos 0))
 
--- for a table of no name it makes no difference
-abbrev pub nothing_meant : Meanings
-nothing_meant = record { footprint = λ name. []; test = λ name values. true }
+-- each name is of an invariant that is always true
+abbrev pub all_true : Meanings
+all_true = record { footprint = λ name. []; test = λ name values. true }
 
-pub none_twice : AreDistinct {X = List ℕ} []
-none_twice i j d before within = absurd (not-suc-le-zero within)
+-- what stands alone stands once
+pub alone : (name : List ℕ) → AreDistinct (name ∷ [])
+alone name = AllPairs-cons (λ (x y : List ℕ). x ≢ y) name [] (All-nil (λ (other : List ℕ). name ≢ other)) (λ i j d before within. absurd (not-suc-le-zero within))
 
-pub none_large : All (λ n. n ≤ 4) []
-none_large k d within = absurd (not-suc-le-zero within)
+pub none_large : All (λ n. n ≤ 4) (0 ∷ [])
+none_large = All-cons (λ n. n ≤ 4) 0 [] (lit≤ tt) (All-nil (λ n. n ≤ 4))

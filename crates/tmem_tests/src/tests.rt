@@ -30,12 +30,17 @@ fn write(alloc: Global, var: u16, number: i64) -> Result<Tx, AllocError> {
     Ok(Tx::Seq(vec![in alloc; Tx::Put { reg: 0, number }, Tx::Write { var, reg: 0 }]?))
 }
 
+/// A device of so many variables and slots that holds nothing yet.
+fn formatted(alloc: Global, vars: u16, slots: u16) -> Result<SimDisk, Fault> {
+    let layout = Layout::new(vars, slots)?;
+    let mut disk = SimDisk::new(alloc, layout.end())?;
+    format(&mut disk, vars, slots)?;
+    Ok(disk)
+}
+
 /// A device of four variables and four slots that holds nothing yet.
 fn fresh(alloc: Global) -> Result<SimDisk, Fault> {
-    let layout = Layout::new(4, 4)?;
-    let mut disk = SimDisk::new(alloc, layout.end())?;
-    format(&mut disk, 4, 4)?;
-    Ok(disk)
+    formatted(alloc, 4, 4)
 }
 
 /// A world over a device of four variables and four slots.
@@ -65,11 +70,7 @@ fn refusal<T: Invariants + Drop, S: StoredSteps + Drop>(
 ) -> Option<(Fault, SimDisk)>
     requires { T.vars table ≡ vars }
 {
-    let opened = World::open(alloc, disk, vars, 4, table, steps);
-    match opened {
-        Ok(_) => None,
-        Err(refusal) => Some(refusal),
-    }
+    World::open(alloc, disk, vars, 4, table, steps).err()
 }
 
 /// Begins a transaction that reads nothing on slot 0, evaluates it and settles it.

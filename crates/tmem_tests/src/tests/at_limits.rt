@@ -4,26 +4,24 @@ ghost use Rattle.std.specs.Prelude.{◌≡◌, All, IfOk};
 ghost use Rattle.tmem_event.specs.Events.{NamesSlot};
 ghost use Rattle.tmem_world.specs.Represents.{numbers_of, HoldsSession};
 
-use super::no_closures::{NoInvariants, NoSteps};
-use super::{commit, committed, write};
+use super::no_closures::{AlwaysRetries, AlwaysTrue};
+use super::{commit, committed, formatted, write};
 use std::alloc::{AllocError, Global};
 use std::process::Abort;
 use std::test::Fail;
 use tmem_disk::{Fault, SimDisk};
 use tmem_tree::Tx;
-use tmem_world::{Event, Layout, Reply, Settled, World, format};
+use tmem_world::{Event, Reply, Settled, World};
 
 /// What these tests play on.
-type Plain = World<SimDisk, NoInvariants, NoSteps>;
+type Plain = World<SimDisk, AlwaysTrue, AlwaysRetries>;
 
 /// Over a fresh device of so many variables and 64 slots.
 fn plain(alloc: Global, vars: u16) -> Result<Plain, Fault>
     ensures { IfOk result (λ world. ((numbers_of world).vars ≡ vars) × HoldsSession world) }
 {
-    let layout = Layout::new(vars, 64)?;
-    let mut disk = SimDisk::new(alloc, layout.end())?;
-    format(&mut disk, vars, 64)?;
-    let opened = World::open(alloc, disk, vars, 64, NoInvariants { vars }, NoSteps);
+    let disk = formatted(alloc, vars, 64)?;
+    let opened = World::open(alloc, disk, vars, 64, AlwaysTrue { vars }, AlwaysRetries);
     match opened {
         Ok(world) => Ok(world),
         Err(refusal) => Err(refusal.0),

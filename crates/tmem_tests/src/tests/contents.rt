@@ -1,5 +1,5 @@
 //! What a content is refused by.
-use super::no_closures::{NoInvariants, NoSteps};
+use super::no_closures::{AlwaysRetries, AlwaysTrue};
 use super::{fresh, refusal};
 use std::alloc::Global;
 use std::process::Abort;
@@ -15,7 +15,7 @@ fn refuses(
     vars: u16,
     want: Option<Fault>,
 ) -> Result<(), Fail> {
-    let had = refusal(alloc, disk, vars, NoInvariants { vars }, NoSteps);
+    let had = refusal(alloc, disk, vars, AlwaysTrue { vars }, AlwaysRetries);
     assert_eq!(rt; had.map(|refusal| refusal.0), want);
     Ok(())
 }

@@ -1,5 +1,5 @@
 //! The bytes on a device.
-use super::no_closures::{NoInvariants, NoSteps};
+use super::no_closures::{AlwaysRetries, AlwaysTrue};
 use super::{commit, fresh, opened, write};
 use std::alloc::Global;
 use std::test::Fail;
@@ -9,7 +9,7 @@ use tmem_world::{Event, Reply};
 /// A device on which the first write was made durable.
 fn written(alloc: Global, disk: SimDisk) -> Result<SimDisk, Fail> {
     let tx = write(alloc, 0, 5)?;
-    let mut world = opened(alloc, disk, NoInvariants { vars: 4 }, NoSteps)?;
+    let mut world = opened(alloc, disk, AlwaysTrue { vars: 4 }, AlwaysRetries)?;
     let _ = commit(&mut world, tx);
     match world.step(Event::Flush) {
         Reply::Durable(1) => Ok(world.into_disk()),

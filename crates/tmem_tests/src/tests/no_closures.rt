@@ -1,25 +1,29 @@
-//! A table of no invariant and a program of no stored step: what a test uses that needs no closure.
-ghost use Rattle.std.specs.Prelude.{[]};
+//! A table of one invariant that is always true, and a program of one step that always retries: what a test uses that
+//! needs no closure. Each method of theirs can be called, which it could not where there were none.
+ghost use Rattle.std.specs.Prelude.{◌≡◌, ◌∷◌, [], ℕ, ℤ, List, true, codes};
 
 use tmem_disk::Name;
 use tmem_invariants::Invariants;
 use tmem_tree::{StepAnswer, StoredSteps};
 
-/// No invariant, over so many variables.
+/// The name of that invariant.
+const ALWAYS: &str = "always";
+
+/// One invariant that is always true, over so many variables.
 #[derive(Drop)]
-pub(super) struct NoInvariants {
+pub(super) struct AlwaysTrue {
     pub vars: u16,
 }
 
-impl Invariants for NoInvariants {
-    ghost names = { λ _. [] };
+impl Invariants for AlwaysTrue {
+    ghost names = { λ _. codes "always" ∷ [] };
 
     ghost vars = { λ table. table.vars };
 
-    ghost is_stated = { λ _ _. Unit {0} };
+    ghost is_stated = { λ _ m. (values : List ℤ) → m.test (codes "always") values ≡ true };
 
     fn len(&self) -> usize {
-        0
+        1
     }
 
     fn vars(&self) -> u16 {
@@ -27,15 +31,24 @@ impl Invariants for NoInvariants {
     }
 
     fn name(&self, _place: usize) -> Name {
-        unreachable!()
+        Name::new(ALWAYS).unwrap()
     }
 
-    fn place(&self, _name: &Name) -> Option<usize> {
-        None
+    fn place(&self, name: &Name) -> Option<usize> {
+        if ALWAYS == name.as_str() {
+            Some(0)
+        } else {
+            None
+        }
     }
 
     fn missing(&self, registered: &[Name]) -> Option<Name> {
-        registered.first().copied()
+        for name in registered {
+            if ALWAYS != name.as_str() {
+                return Some(*name);
+            }
+        }
+        None
     }
 
     fn test_all(&self, _values: &[i64], _registered: &[Name], _proposed: &[Name]) -> Option<usize> {
@@ -52,44 +65,45 @@ impl Invariants for NoInvariants {
         None
     }
 
-    ghost use Rattle.std.proofs.Common.{lit≤};
-    ghost use Rattle.tmem_tests.specs.Examples.{nothing_meant, none_twice};
+    ghost use Rattle.std.proofs.Common.{lit≤, refl};
+    ghost use Rattle.tmem_tests.specs.Examples.{all_true, alone};
 
     ghost few = { λ _. lit≤ tt };
 
-    ghost distinct = { λ _. none_twice };
+    ghost distinct = { λ _. alone (codes "always") };
 
-    ghost has_meanings = { λ _. ∣ (nothing_meant, tt) ∣₁ };
+    ghost has_meanings = { λ _. ∣ (all_true, λ _. refl) ∣₁ };
 }
 
-/// No stored step.
+/// One stored step, of no argument, that always retries.
 #[derive(Drop)]
-pub(super) struct NoSteps;
+pub(super) struct AlwaysRetries;
 
-impl StoredSteps for NoSteps {
-    ghost arities = { λ _. [] };
+impl StoredSteps for AlwaysRetries {
+    ghost use Rattle.tmem_tree.specs.declared.step.StepAnswer.TheVariants.{Retry};
 
-    ghost is_stated = { λ _ _. Unit {0} };
+    ghost arities = { λ _. 0 ∷ [] };
+
+    ghost is_stated = { λ _ m. (index : ℕ) (args : List ℤ) → m index args ≡ Retry };
 
     fn len(&self) -> usize {
-        0
+        1
     }
 
     fn arity(&self, _index: usize) -> usize {
-        unreachable!()
+        0
     }
 
     fn answer(&self, _index: usize, _args: &[i64]) -> StepAnswer {
-        unreachable!()
+        StepAnswer::Retry
     }
 
-    ghost use Rattle.std.proofs.Common.{lit≤};
-    ghost use Rattle.tmem_tree.specs.declared.step.StepAnswer.TheVariants.{Retry};
+    ghost use Rattle.std.proofs.Common.{lit≤, refl};
     ghost use Rattle.tmem_tests.specs.Examples.{none_large};
 
     ghost few = { λ _. lit≤ tt };
 
     ghost small = { λ _. none_large };
 
-    ghost has_meanings = { λ _. ∣ ((λ _ _. Retry), tt) ∣₁ };
+    ghost has_meanings = { λ _. ∣ ((λ _ _. Retry), λ _ _. refl) ∣₁ };
 }

@@ -2,7 +2,7 @@
 ghost use Rattle.std.specs.Prelude.{All, IfOk};
 ghost use Rattle.tmem_event.specs.Events.{NamesSlot};
 
-use super::no_closures::{NoInvariants, NoSteps};
+use super::no_closures::{AlwaysRetries, AlwaysTrue};
 use super::{commit, committed, fresh, opened, write};
 use std::alloc::{AllocError, Global};
 use std::test::Fail;
@@ -29,7 +29,7 @@ fn first_write(alloc: Global) -> Result<Vec<Event>, AllocError>
 fn a_played_list_is_answered_as_its_steps(rt: HostRuntime) -> Result<(), Fail> {
     let alloc = rt.alloc();
     let events = first_write(alloc)?;
-    let mut world = opened(alloc, fresh(alloc)?, NoInvariants { vars: 4 }, NoSteps)?;
+    let mut world = opened(alloc, fresh(alloc)?, AlwaysTrue { vars: 4 }, AlwaysRetries)?;
     let replies = world.play(events)?;
     let want = [
         Reply::Begun,
@@ -50,7 +50,7 @@ fn torn(alloc: Global, k: u64, byte: u8) -> Result<(Reply, SimDisk), Fail> {
     let tx = write(alloc, 0, 5)?;
     let mut disk = fresh(alloc)?;
     disk.stop_at_write(k, Fill::Byte(byte));
-    let mut world = opened(alloc, disk, NoInvariants { vars: 4 }, NoSteps)?;
+    let mut world = opened(alloc, disk, AlwaysTrue { vars: 4 }, AlwaysRetries)?;
     let _ = commit(&mut world, tx);
     let flushed = world.step(Event::Flush);
     let mut disk = world.into_disk();
@@ -63,7 +63,7 @@ fn torn(alloc: Global, k: u64, byte: u8) -> Result<(Reply, SimDisk), Fail> {
 
 /// How many transactions a device is found to hold.
 fn found_on(alloc: Global, disk: SimDisk) -> Result<u64, Fail> {
-    let world = opened(alloc, disk, NoInvariants { vars: 4 }, NoSteps)?;
+    let world = opened(alloc, disk, AlwaysTrue { vars: 4 }, AlwaysRetries)?;
     Ok(world.count())
 }
 

@@ -4,8 +4,8 @@ ghost use Rattle.tmem_invariants.specs.Answers.{MayCall, HasMeaning};
 ghost use Rattle.tmem_builtins.specs.Invariants.{is_not_negative};
 ghost use Rattle.tmem_tests.specs.Examples.{is_last_not_negative};
 
-use super::no_closures::{NoInvariants, NoSteps};
-use super::{commit, committed, fresh, opened, refusal, write};
+use super::no_closures::{AlwaysRetries, AlwaysTrue};
+use super::{commit, committed, formatted, fresh, opened, refusal, write};
 use std::alloc::Global;
 use std::process::Abort;
 use std::sync::Arc;
@@ -15,7 +15,7 @@ use tmem_builtins::nonneg;
 use tmem_disk::{Fault, Name, SimDisk};
 use tmem_invariants::{Invariant, Invariants, Table, Test};
 use tmem_tree::Tx;
-use tmem_world::{Event, Layout, Reply, Settled, World, format};
+use tmem_world::{Event, Reply, Settled, World};
 
 /// The table of `nonneg` alone, over variable 0 of four.
 fn one(alloc: Global, test: Test) -> Result<Table, Fault>
@@ -42,7 +42,7 @@ fn registered<T: Invariants + Drop>(
     requires { T.vars table ≡ 4 }
 {
     let check = check_nonneg()?;
-    let mut world = opened(alloc, fresh(alloc)?, table, NoSteps)?;
+    let mut world = opened(alloc, fresh(alloc)?, table, AlwaysRetries)?;
     assert!(rt; commit(&mut world, check) == committed(0, 0));
     assert!(rt; world.step(Event::Flush) == Reply::Durable(1));
     Ok(world.into_disk())
@@ -66,10 +66,12 @@ fn a_registered_name_is_missing_or_broken_at_opening(rt: HostRuntime) -> Result<
     )?;
     let name = Name::new("nonneg")?;
     let disk = registered(&rt, alloc, one(alloc, floor)?)?;
-    let (fault, disk) = refusal(alloc, disk, 4, NoInvariants { vars: 4 }, NoSteps).ok_or("opened")?;
+    let (fault, disk) = refusal(alloc, disk, 4, AlwaysTrue { vars: 4 }, AlwaysRetries).ok_or(
+        "opened",
+    )?;
     assert_eq!(rt; fault, Fault::Missing(name));
     let broken = one(alloc, never)?;
-    let (fault, _) = refusal(alloc, disk, 4, broken, NoSteps).ok_or("opened")?;
+    let (fault, _) = refusal(alloc, disk, 4, broken, AlwaysRetries).ok_or("opened")?;
     assert_eq!(rt; fault, Fault::Broken(name));
     Ok(())
 }
@@ -84,13 +86,23 @@ fn calls_where_touched<T: Invariants + Drop>(
     requires { T.vars table ≡ 4 }
 {
     let check = check_nonneg()?;
-    let (elsewhere, touching) = (write(alloc, 3, -5)?, write(alloc, 0, 5)?);
-    let mut world = opened(alloc, fresh(alloc)?, table, NoSteps)?;
+    let mut world = opened(alloc, fresh(alloc)?, table, AlwaysRetries)?;
     assert!(rt; commit(&mut world, check) == committed(0, 0));
+    calls_once_registered(rt, alloc, &mut world, calls)
+}
+
+/// The same, over a world in which `nonneg` is registered.
+fn calls_once_registered<T: Invariants + Drop>(
+    rt: &impl Abort,
+    alloc: Global,
+    world: &mut World<SimDisk, T, AlwaysRetries>,
+    calls: &AtomicU64,
+) -> Result<(), Fail> {
+    let (elsewhere, touching) = (write(alloc, 3, -5)?, write(alloc, 0, 5)?);
     let before = calls.load(Ordering::SeqCst);
-    assert!(rt; commit(&mut world, elsewhere) == committed(1, -5));
+    assert!(rt; commit(world, elsewhere) == committed(1, -5));
     assert_eq!(rt; calls.load(Ordering::SeqCst), before);
-    assert!(rt; commit(&mut world, touching) == committed(2, 5));
+    assert!(rt; commit(world, touching) == committed(2, 5));
     assert_ne!(rt; calls.load(Ordering::SeqCst), before);
     Ok(())
 }
@@ -135,7 +147,7 @@ fn eight_checks(alloc: Global, from: u8) -> Result<Tx, Fault>
 fn register_all<T: Invariants + Drop>(
     rt: &impl Abort,
     alloc: Global,
-    world: &mut World<SimDisk, T, NoSteps>,
+    world: &mut World<SimDisk, T, AlwaysRetries>,
 ) -> Result<(), Fail> {
     for number in 0..8u8 {
         let checks = eight_checks(alloc, 8 * number)?;
@@ -148,8 +160,19 @@ fn register_all<T: Invariants + Drop>(
     Ok(())
 }
 
-/// Over 16 variables, registers 64 invariants. A write of -1 to the last variable is refused by the first of them, and
-/// one of 5 is committed.
+/// Once 64 are registered, a write of -1 to the last variable is refused by the first of them, and one of 5 is committed.
+fn keeps_last<T: Invariants + Drop>(
+    rt: &impl Abort,
+    alloc: Global,
+    world: &mut World<SimDisk, T, AlwaysRetries>,
+) -> Result<(), Fail> {
+    let (below, above) = (write(alloc, 15, -1)?, write(alloc, 15, 5)?);
+    assert!(rt; commit(world, below) == Reply::Settled(Settled::Refused(numbered(0)?)));
+    assert!(rt; commit(world, above) == committed(8, 5));
+    Ok(())
+}
+
+/// Over 16 variables, registers 64 invariants, and the last variable is kept by them.
 fn keeps_sixty_four<T: Invariants + Drop>(
     rt: &impl Abort,
     alloc: Global,
@@ -157,15 +180,12 @@ fn keeps_sixty_four<T: Invariants + Drop>(
 ) -> Result<(), Fail>
     requires { T.vars table ≡ 16 }
 {
-    let (below, above) = (write(alloc, 15, -1)?, write(alloc, 15, 5)?);
-    let layout = Layout::new(16, 4)?;
-    let mut disk = SimDisk::new(alloc, layout.end())?;
-    format(&mut disk, 16, 4)?;
-    let mut world = World::open(alloc, disk, 16, 4, table, NoSteps).map_err(|refusal| refusal.0)?;
+    let disk = formatted(alloc, 16, 4)?;
+    let mut world = World::open(alloc, disk, 16, 4, table, AlwaysRetries).map_err(
+        |refusal| refusal.0,
+    )?;
     register_all(rt, alloc, &mut world)?;
-    assert!(rt; commit(&mut world, below) == Reply::Settled(Settled::Refused(numbered(0)?)));
-    assert!(rt; commit(&mut world, above) == committed(8, 5));
-    Ok(())
+    keeps_last(rt, alloc, &mut world)
 }
 
 #[test]

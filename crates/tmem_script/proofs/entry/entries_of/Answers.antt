@@ -1,9 +1,9 @@
 use Rattle.std.proofs.Common.{◌≡◌, List, map, All}
 use Rattle.serde_json.specs.View.{view}
 use Rattle.tmem_script.specs.Scripts.{IsEntry, EntryInRange, entry_form}
-use Rattle.tmem_script.specs.TxForms.{array_of}
+use Rattle.tmem_forms.specs.TxForms.{array_of}
 use Rattle.tmem_script.specs.declared.script.Entry.{Entry}
-use Rattle.tmem_script.proofs.ArrayForms.{passed_on, no_items_at, items_of_body}
+use Rattle.tmem_forms.proofs.Laws.{passed_on, no_items_at, items_of_body}
 use Rattle.tmem_script.proofs.entry.entries_of.Goals as goal
 
 pub returns-in_err-entry_of-clause-refused : goal.returns-in_err-entry_of-clause-refused

@@ -1,9 +1,8 @@
 use Rattle.std.proofs.Common.{codes, sym, ◌∙◌}
 use Rattle.serde_json.specs.View.{view}
-use Rattle.tmem_script.specs.TxForms.{tagged}
-use Rattle.tmem_script.proofs.ArrayForms.{passed_on, two_same}
+use Rattle.tmem_forms.specs.TxForms.{tagged}
+use Rattle.tmem_forms.proofs.Laws.{NoTx, passed_on, two_same}
 use Rattle.tmem_script.proofs.EventForms.{NoEvent, no_begin}
-use Rattle.tmem_script.proofs.Levels.{NoTx}
 use Rattle.tmem_script.proofs.event.begin_of.Goals as goal
 
 pub returns-in_err-tx-clause-refused : goal.returns-in_err-tx-clause-refused

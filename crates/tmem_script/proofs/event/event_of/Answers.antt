@@ -1,9 +1,9 @@
 use Rattle.std.proofs.Common.{◌≡◌, List, ℕ, Some, IfOk, IfErr, sym, ap, ◌∙◌, subst, arith}
 use Rattle.serde_json.specs.Data.{Data}
 use Rattle.serde_json.specs.View.{view}
-use Rattle.tmem_script.specs.Errors.{Refuses}
+use Rattle.tmem_forms.specs.Errors.{Refuses}
 use Rattle.tmem_script.specs.Scripts.{IsEvent}
-use Rattle.tmem_script.specs.TxForms.{tagged}
+use Rattle.tmem_forms.specs.TxForms.{tagged}
 use Rattle.tmem_script.proofs.EventForms.{NoEvent, no_event_of_members}
 use Rattle.tmem_script.proofs.Members.{object_found, first_alone}
 use Rattle.tmem_script.proofs.event.event_of.Goals as goal

@@ -1,0 +1,3 @@
+mod ArrayForms
+pub mod Laws
+mod Levels
