@@ -14,3 +14,9 @@ abbrev pub Refuses : ScriptError → Type 0 → Type 0
 Refuses (Memory e) P = Unit {0}
 Refuses Unreadable P = ⊥
 Refuses NoScript P = P
+
+-- its text was not read
+abbrev pub IsUnread : ScriptError → Type 0
+IsUnread (Memory e) = ⊤
+IsUnread Unreadable = ⊤
+IsUnread NoScript = ⊥
