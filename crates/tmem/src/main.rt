@@ -6,12 +6,18 @@ mod command_line;
 mod tests;
 
 use command_line::words_of;
+use std::io::LineWriter;
 use std::process::ExitCode;
 use tmem_cli::run_words;
 use tmem_script::{Failure, report};
 
 fn main(rt: HostRuntime) -> ExitCode {
-    let (mut input, mut out, mut err) = (rt.stdin(), rt.stdout(), rt.stderr());
+    let (mut input, mut err) = (rt.stdin(), rt.stderr());
+    let mut out = match LineWriter::new(rt.alloc(), rt.stdout()) {
+        Ok(out) => out,
+        // With no buffer, a line goes out in pieces.
+        Err(_) => LineWriter::with_capacity(rt.alloc(), 0, rt.stdout()).unwrap(),
+    };
     let status = match words_of(&rt) {
         Ok(words) => run_words(&rt, words, &mut input, &mut out, &mut err),
         Err(refusal) => report(&Failure::Words(refusal), &mut err),

@@ -1,4 +1,6 @@
 mod Listing
+mod Opening
+mod Outcomes
 mod Playing
 mod Showing
 mod Writing

@@ -1,5 +1,5 @@
 -- What the program prints for the entries of a script.
-use Rattle.std.specs.Prelude.{◌≡◌, ⊤, ℕ, List, [], ◌∷◌, ◌++◌, Option, codes, filter, map}
+use Rattle.std.specs.Prelude.{◌≡◌, ◌⊎◌, ℕ, List, [], ◌∷◌, ◌++◌, Option, codes, filter, map}
 use Rattle.std.specs.List.{join_with_byte, range_with_len}
 use Rattle.std.specs.Fmt.{decimal, signed_decimal}
 use Rattle.std.specs.Io.KnownBytes.{Appends}
@@ -8,6 +8,7 @@ use Rattle.tmem_disk.specs.Name.{has_name}
 use Rattle.tmem_disk.specs.declared.fault.Fault.TheVariants as fault
 use Rattle.tmem_record.specs.State.{State, first_state}
 use Rattle.tmem_invariants.specs.Meanings.{value_of}
+use Rattle.tmem_journal.specs.Layout.{IsLayout}
 use Rattle.tmem_core.specs.Program.{Program}
 use Rattle.tmem_event.specs.declared.event.Reply.{Reply}
 use Rattle.tmem_event.specs.declared.event.Reply.TheVariants as reply
@@ -73,8 +74,10 @@ abbrev pub PlaysScript : ℕ → List Entry → Option (List ℕ) → Option (Li
 PlaysScript vars entries before after =
     (m' : WorldModel) × (text : List ℕ) × Prints (builtin_setting vars) (opening (first_state vars) 0 0) entries text m' × Appends before after (line (line_of (reply.Opened 0)) ++ text)
 
--- Why a script that was read is not played to its end: the output failed, or memory, the device, its format or its opening was refused.
-abbrev pub StopsPlaying : Failure → Type 0
-StopsPlaying failure.Output = ⊤
-StopsPlaying (failure.Refused fault) = ⊤
-StopsPlaying _ = ⊥
+-- a run was stopped: the output failed, memory was refused, or a call of the device failed
+abbrev pub IsStop : Failure → Type 0
+IsStop f = (f ≡ failure.Output) ⊎ ((f ≡ failure.Refused fault.Memory) ⊎ (f ≡ failure.Refused fault.Device))
+
+-- Why a script that was read is not played to its end: its numbers are out of limits, or it was stopped.
+abbrev pub StopsPlaying : ℕ → ℕ → Failure → Type 0
+StopsPlaying vars slots f = ((f ≡ failure.Refused fault.Geometry) × (¬ IsLayout vars slots)) ⊎ IsStop f

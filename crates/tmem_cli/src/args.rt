@@ -1,4 +1,10 @@
 //! Which words a command line may have.
+ghost use Rattle.std.specs.Prelude.{◌≡◌, false, [], IfOk, map, option_map, string_bytes, ℕ, List};
+ghost use Rattle.clap.specs.declared.builder.command.Command.TheViews.{out-Command as fields_of};
+ghost use Rattle.clap.specs.Kinds.{FailsBy};
+ghost use Rattle.clap.specs.Simple.{app_of};
+ghost use Rattle.tmem_cli.specs.CommandLine.{ReadsPlainly, command_line, run_words, why_not_run, path_in};
+
 use clap::{Arg, Command};
 use std::alloc::{AllocError, Global};
 
@@ -10,15 +16,21 @@ const VERSION: &str = "0.1.0";
 pub(crate) fn script_path<'a>(
     alloc: Global,
     words: &'a [String],
-) -> Result<Option<&'a str>, clap::Error> {
-    let matches = command(alloc)?.try_get_matches_from(words)?;
-    let Some(run) = matches.subcommand_matches("run") else {
+) -> Result<Option<&'a str>, clap::Error>
+    ensures path { IfOk result (λ path. option_map (λ text. text.now) path ≡ path_in (map string_bytes words.now)) }
+    ensures refused { FailsBy (why_not_run (map string_bytes words.now)) result }
+{
+    let command = command(alloc)?;
+    let matches = command.try_get_matches_from(words)?;
+    let Some((_, run)) = matches.subcommand() else {
         return Ok(None);
     };
     Ok(run.get_str("script"))
 }
 
-fn command<'a>(alloc: Global) -> Result<Command<'a>, AllocError> {
+fn command<'a>(alloc: Global) -> Result<Command<'a>, AllocError>
+    ensures { IfOk result (λ command. app_of command ≡ command_line) }
+{
     Command::new(alloc, "tmem")
         .bin_name("tmem")?
         .version(VERSION)
@@ -27,7 +39,10 @@ fn command<'a>(alloc: Global) -> Result<Command<'a>, AllocError> {
         .subcommand(run_command(alloc)?)
 }
 
-fn run_command<'a>(alloc: Global) -> Result<Command<'a>, AllocError> {
+fn run_command<'a>(alloc: Global) -> Result<Command<'a>, AllocError>
+    ensures app { IfOk result (λ command. app_of command ≡ record { top = run_words; subs = [] }) }
+    ensures local { IfOk result (λ command. (fields_of command).has_globals ≡ false) }
+{
     Command::new(alloc, "run")
         .about("Plays a script on a device in memory")
         .arg(
@@ -36,3 +51,8 @@ fn run_command<'a>(alloc: Global) -> Result<Command<'a>, AllocError> {
                 .help("The file with the script [default: standard input]"),
         )
 }
+
+/// How plain command lines are read. It does nothing: a caller's proof takes the law from its contract.
+pub fn reads_plainly()
+    ensures { (name : List ℕ) → ReadsPlainly name }
+{}

@@ -9,4 +9,5 @@ mod play;
 mod print;
 mod words;
 
+pub use args::reads_plainly;
 pub use words::run_words;

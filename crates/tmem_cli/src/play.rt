@@ -1,5 +1,5 @@
 //! Plays a script on a device in memory.
-ghost use Rattle.std.specs.Prelude.{◌≡◌, Some, [], ◌∷◌, IfErr, IfOk, OnOk, length};
+ghost use Rattle.std.specs.Prelude.{◌≡◌, ◌⊎◌, Some, [], ◌∷◌, IfErr, IfOk, OnOk, length};
 ghost use Rattle.tmem_builtins.specs.Invariants.{is_not_negative, add_to_hundred, are_ordered};
 ghost use Rattle.tmem_builtins.specs.Steps.{sum_of, difference_of, at_least};
 ghost use Rattle.tmem_builtins.specs.Builtins.{builtin_steps, builtin_names, builtin_tests};
@@ -9,7 +9,7 @@ ghost use Rattle.tmem_core.specs.Program.{Program};
 ghost use Rattle.tmem_script.specs.declared.failure.Failure.TheVariants.{Output, Refused};
 ghost use Rattle.tmem_world.specs.WorldModel.{opening};
 ghost use Rattle.tmem_world.specs.Represents.{Represents, Means, numbers_of, steps_of, held_table, HoldsSession};
-ghost use Rattle.tmem_cli.specs.Printed.{PlaysEntries, PlaysScript, StopsPlaying};
+ghost use Rattle.tmem_cli.specs.Printed.{PlaysEntries, PlaysScript, IsStop, StopsPlaying};
 
 use crate::print::{print_line, print_state};
 use std::alloc::Global;
@@ -17,7 +17,7 @@ use std::io::Write;
 use tmem_builtins::{add, need, nonneg, ordered, steps_of, sub, sum, table_of};
 use tmem_disk::{Fault, SimDisk};
 use tmem_invariants::Invariants;
-use tmem_journal::stands_for_one;
+use tmem_journal::{refused_stands_for_none, stands_for_one};
 use tmem_script::{Entry, Failure, ReplyLine, Script};
 use tmem_tree::{StepAnswer, StoredSteps};
 use tmem_world::{Layout, Reply, World, format};
@@ -29,7 +29,7 @@ pub(crate) fn play<W: Write>(alloc: Global, script: Script, out: &mut W) -> Resu
     ensures played { OnOk result (PlaysScript script.vars script.entries.items (W.contents out.old) (W.contents out.new)) }
     ensures fits { OnOk result (IsLayout script.vars script.slots) }
     ensures geometry { ¬ IsLayout script.vars script.slots → result ≡ Err (Refused Fault.Geometry) }
-    ensures failed { IfErr result StopsPlaying }
+    ensures failed { IfErr result (StopsPlaying script.vars script.slots) }
 {
     let layout = Layout::new(script.vars, script.slots)?;
     let at_least_zero = Box::new(
@@ -72,7 +72,7 @@ fn play_under<T: Invariants + Drop, W: Write>(
     requires names { T.names table ≡ builtin_names layout.vars }
     requires stated { T.is_stated table builtin_tests }
     ensures played { OnOk result (PlaysScript layout.vars entries.items (W.contents out.old) (W.contents out.new)) }
-    ensures failed { IfErr result StopsPlaying }
+    ensures failed { IfErr result IsStop }
 {
     let total = Box::new(
         alloc,
@@ -117,7 +117,7 @@ fn play_with<T: Invariants + Drop, S: StoredSteps + Drop, W: Write>(
     requires arities { S.arities steps ≡ 2 ∷ 2 ∷ 2 ∷ [] }
     requires steps { S.is_stated steps builtin_steps }
     ensures played { OnOk result (PlaysScript layout.vars entries.items (W.contents out.old) (W.contents out.new)) }
-    ensures failed { IfErr result StopsPlaying }
+    ensures failed { IfErr result IsStop }
 {
     let mut world = fresh_world(alloc, layout, table, steps)?;
     print_line(out, ReplyLine(Reply::Opened(world.count())))?;
@@ -168,14 +168,17 @@ fn fresh_world<T: Invariants + Drop, S: StoredSteps + Drop>(
     table: T,
     steps: S,
 ) -> Result<World<SimDisk, T, S>, Fault>
-    requires { T.vars table ≡ layout.vars }
+    requires vars { T.vars table ≡ layout.vars }
+    requires tests { T.is_stated table builtin_tests }
     ensures numbers { IfOk result (λ world. ((numbers_of world).vars ≡ layout.vars) × HoldsSession world) }
     ensures steps { IfOk result (λ world. steps_of world ≡ steps) }
     ensures table { IfOk result (λ world. held_table world ≡ Some table) }
     ensures found { IfOk result (λ world. (program : Program) → Means world program → Represents program world (opening (first_state layout.vars) 0 0)) }
+    ensures refused { IfErr result (λ fault. (fault ≡ Fault.Memory) ⊎ (fault ≡ Fault.Device)) }
 {
-    // what opening finds is the state that `format` left
+    // what opening finds is the state that `format` left, and that is not refused
     stands_for_one();
+    refused_stands_for_none();
     let mut disk = SimDisk::new(alloc, layout.end())?;
     format(&mut disk, layout.vars, layout.slots)?;
     match World::open(alloc, disk, layout.vars, layout.slots, table, steps) {

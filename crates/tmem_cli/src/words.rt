@@ -1,19 +1,25 @@
 //! What the program answers to the words of a command line.
-ghost use Rattle.std.specs.Prelude.{◌≤◌};
+ghost use Rattle.std.specs.Prelude.{◌≡◌, ◌≤◌, ℕ, List, map, option_map, string_bytes, IfErr, IfOk, IfSome, MatchResult, OnOk};
+ghost use Rattle.clap.specs.Values.{kind_of};
+ghost use Rattle.tmem_script.specs.Errors.{IsUnread};
+ghost use Rattle.tmem_script.specs.Scripts.{IsScriptText};
+ghost use Rattle.tmem_script.specs.Statuses.{status_of};
+ghost use Rattle.tmem_script.specs.declared.failure.Failure.TheVariants.{Output};
+ghost use Rattle.tmem_cli.specs.CommandLine.{AreRefused, IsRequest};
+ghost use Rattle.tmem_cli.specs.Outcomes.{IsDone, IsStopped, HasNoScript, IsWhyNotPlayed, IsWhyNotRead, MayBeRead, PlaysRead};
 
 use crate::args::script_path;
 use crate::play::play;
 use clap::error::ErrorKind;
 use std::alloc::Global;
 use std::fs;
-use std::io::{LineWriter, Read, Write};
+use std::io::{Read, Write};
 use std::rt::Files;
-use tmem_disk::Fault;
 use tmem_script::{Failure, Script, ScriptError, WordsError, report};
 
-/// Does what the words of a command line say, the program's name first, and answers the status: 0
-/// where all was done, 1 where it was refused on the way, 2 where the words were refused or memory
-/// did not suffice to read them, 3 where there was no script to play.
+/// Does what the words of a command line say, the program's name first, and answers the status: 0 where help or the
+/// version was printed, or a script was played to its end; 1 where that failed on the way; 2 where the words were refused,
+/// or memory did not suffice to read them; 3 where there was no script to play.
 pub fn run_words<R: Read, W: Write, E: Write>(
     rt: &(impl Files + AllocGlobal),
     words: Vec<String>,
@@ -21,25 +27,22 @@ pub fn run_words<R: Read, W: Write, E: Write>(
     out: &mut W,
     err: &mut E,
 ) -> u8
-    ensures { result ≤ 3 }
+    ensures done { result ≡ 0 → IsDone (map string_bytes words.items) (R.remaining input.old) (W.contents out.old) (W.contents out.new) }
+    ensures stopped { result ≡ 1 → IsStopped (map string_bytes words.items) (R.remaining input.old) }
+    ensures no_script { result ≡ 3 → HasNoScript (map string_bytes words.items) (R.remaining input.old) }
+    ensures refused { AreRefused (map string_bytes words.items) → result ≡ 2 }
+    ensures most { result ≤ 3 }
 {
-    let outcome = match script_path(rt.alloc(), words.as_slice()) {
-        Ok(path) => run(rt, path, input, out),
-        Err(refusal) if refusal.kind() == ErrorKind::OutOfMemory => {
-            Err(Failure::Words(WordsError::Memory))
-        }
-        Err(refusal) if refusal.use_stderr() => {
-            let _ = write!(err, "{refusal}");
-            return 2;
-        }
-        Err(help) => write!(out, "{help}").map_err(|_| Failure::Output),
-    };
-    conclude(outcome, err)
+    match script_path(rt.alloc(), words.as_slice()) {
+        Ok(path) => conclude(run(rt, path, input, out), err),
+        Err(refusal) => answer(&refusal, out, err),
+    }
 }
 
 /// Prints the failure of a run, if it failed, and answers the run's status.
 fn conclude<E: Write>(outcome: Result<(), Failure>, err: &mut E) -> u8
-    ensures { result ≤ 3 }
+    ensures status { MatchResult outcome (λ _. result ≡ 0) (λ failure. result ≡ status_of failure) }
+    ensures most { result ≤ 3 }
 {
     match outcome {
         Ok(()) => 0,
@@ -47,15 +50,44 @@ fn conclude<E: Write>(outcome: Result<(), Failure>, err: &mut E) -> u8
     }
 }
 
+/// Prints what the words are answered where no script is to be played: what was asked for, or what is wrong with them.
+/// Answers the status.
+fn answer<W: Write, E: Write>(refusal: &clap::Error, out: &mut W, err: &mut E) -> u8
+    ensures request { result ≤ 1 → IsRequest (kind_of refusal.now) }
+    ensures refused { ¬ IsRequest (kind_of refusal.now) → result ≡ 2 }
+    ensures most { result ≤ 2 }
+{
+    match refusal.kind() {
+        ErrorKind::DisplayHelp | ErrorKind::DisplayVersion => conclude(print(refusal, out), err),
+        ErrorKind::OutOfMemory => report(&Failure::Words(WordsError::Memory), err),
+        _ => {
+            // Where this fails too, nobody is left to tell.
+            let _ = write!(err, "{refusal}");
+            2
+        }
+    }
+}
+
+/// Prints help or the version.
+fn print<W: Write>(request: &clap::Error, out: &mut W) -> Result<(), Failure>
+    ensures { IfErr result (λ failure. failure ≡ Output) }
+{
+    write!(out, "{request}").map_err(|_| Failure::Output)?;
+    out.flush().map_err(|_| Failure::Output)
+}
+
+/// Plays the script to its end, and flushes what was printed.
 fn run<R: Read, W: Write>(
     rt: &(impl Files + AllocGlobal),
     path: Option<&str>,
     input: &mut R,
     out: &mut W,
-) -> Result<(), Failure> {
+) -> Result<(), Failure>
+    ensures played { OnOk result (PlaysRead (MayBeRead (option_map (λ text. text.now) path.entry) (R.remaining input.old)) (W.contents out.old) (W.contents out.new)) }
+    ensures failed { IfErr result (IsWhyNotPlayed (MayBeRead (option_map (λ text. text.now) path.entry) (R.remaining input.old))) }
+{
     let script = script_of(rt, path, input)?;
-    let mut out = LineWriter::new(rt.alloc(), out).map_err(|_| Fault::Memory)?;
-    play(rt.alloc(), script, &mut out)?;
+    play(rt.alloc(), script, out)?;
     out.flush().map_err(|_| Failure::Output)
 }
 
@@ -64,15 +96,35 @@ fn script_of<R: Read>(
     rt: &(impl Files + AllocGlobal),
     path: Option<&str>,
     input: &mut R,
-) -> Result<Script, ScriptError> {
-    let text = match path {
-        Some(path) => fs::read(rt, path)?,
-        None => read_all(rt.alloc(), input)?,
-    };
+) -> Result<Script, ScriptError>
+    ensures script { IfOk result (λ script. (text : List ℕ) × MayBeRead (option_map (λ text. text.now) path.entry) (R.remaining input.old) text
+        × IsScriptText script.vars script.slots script.entries.items text) }
+    ensures refused { IfErr result (IsWhyNotRead (MayBeRead (option_map (λ text. text.now) path.entry) (R.remaining input.old))) }
+{
+    let text = text_of(rt, path, input)?;
     Script::from_slice(rt.alloc(), &text)
 }
 
-fn read_all<R: Read>(alloc: Global, input: &mut R) -> Result<Vec<u8>, ScriptError> {
+/// Reads a whole file, or else all that is left of the input.
+fn text_of<R: Read>(
+    rt: &(impl Files + AllocGlobal),
+    path: Option<&str>,
+    input: &mut R,
+) -> Result<Vec<u8>, ScriptError>
+    ensures text { IfOk result (λ text. MayBeRead (option_map (λ text. text.now) path.entry) (R.remaining input.old) text.items) }
+    ensures refused { IfErr result IsUnread }
+{
+    match path {
+        Some(path) => Ok(fs::read(rt, path)?),
+        None => read_all(rt.alloc(), input),
+    }
+}
+
+/// Reads all that is left of the input.
+fn read_all<R: Read>(alloc: Global, input: &mut R) -> Result<Vec<u8>, ScriptError>
+    ensures text { IfOk result (λ text. IfSome (R.remaining input.old) (λ bytes. text.items ≡ bytes)) }
+    ensures refused { IfErr result IsUnread }
+{
     let mut text = Vec::new(alloc);
     input.read_to_end(&mut text)?;
     Ok(text)

@@ -15,3 +15,9 @@ IsWanting NoScript = ⊥
 abbrev pub refusal_of : FormError → ScriptError
 refusal_of (form.Memory e) = Memory e
 refusal_of form.NoForm = NoScript
+
+-- its text was not read
+abbrev pub IsUnread : ScriptError → Type 0
+IsUnread (Memory e) = ⊤
+IsUnread Unreadable = ⊤
+IsUnread NoScript = ⊥

@@ -1,34 +1,60 @@
 //! Why a run ends before its last line, and with which status.
-ghost use Rattle.std.specs.Prelude.{◌≡◌, ◌≤◌};
-ghost use Rattle.tmem_script.specs.Statuses.{status_of};
+ghost use Rattle.std.specs.Prelude.{◌≡◌, ◌≤◌, OnOk};
+ghost use Rattle.std.specs.Io.KnownBytes.{Appends};
+ghost use Rattle.tmem_script.specs.Statuses.{status_of, told};
 
 use crate::script::ScriptError;
 use std::io::Write;
+use std::{fmt, io};
 use thiserror::Error;
 use tmem_disk::Fault;
 
 /// Why the program did not do all that it was asked. Its text is what the user is told.
 #[derive(Debug, Drop, Error)]
 pub enum Failure {
-    #[error(transparent)]
-    Script(#[from] ScriptError),
+    Script(ScriptError),
     /// The device, its format or its opening was refused, or memory for the way there.
-    #[error(transparent)]
     Refused(Fault),
-    #[error("output failed")]
     Output,
     /// The words of the command line were not read.
-    #[error(transparent)]
-    Words(#[from] WordsError),
+    Words(WordsError),
+}
+
+impl fmt::Display for Failure {
+    ghost use Rattle.std.specs.Prelude.{Some};
+    ghost use Rattle.tmem_script.specs.Statuses.{failure_text};
+
+    ghost output = { λ failure. Some (failure_text failure) };
+
+    fn fmt<W: fmt::Write>(&self, f: &mut fmt::Formatter<W>) -> fmt::Result {
+        match self {
+            Failure::Script(error) => write!(f, "{error}"),
+            Failure::Refused(fault) => write!(f, "{fault}"),
+            Failure::Output => write!(f, "output failed"),
+            Failure::Words(error) => write!(f, "{error}"),
+        }
+    }
 }
 
 /// Why the words of the command line were not read. Its text is what the user is told.
 #[derive(Clone, Copy, Debug, PartialEq, Eq, Error)]
 pub enum WordsError {
-    #[error("the command line is not UTF-8")]
     NotText,
-    #[error("not enough memory for the command line")]
     Memory,
+}
+
+impl fmt::Display for WordsError {
+    ghost use Rattle.std.specs.Prelude.{Some};
+    ghost use Rattle.tmem_script.specs.Statuses.{words_error_text};
+
+    ghost output = { λ error. Some (words_error_text error) };
+
+    fn fmt<W: fmt::Write>(&self, f: &mut fmt::Formatter<W>) -> fmt::Result {
+        match self {
+            WordsError::NotText => write!(f, "the command line is not UTF-8"),
+            WordsError::Memory => write!(f, "not enough memory for the command line"),
+        }
+    }
 }
 
 impl From<Fault> for Failure {
@@ -39,6 +65,17 @@ impl From<Fault> for Failure {
 
     fn from(fault: Fault) -> Failure {
         Failure::Refused(fault)
+    }
+}
+
+impl From<ScriptError> for Failure {
+    ghost use Rattle.std.specs.Prelude.{◌≡◌};
+    ghost use Rattle.tmem_script.specs.declared.failure.Failure.TheVariants.{Script};
+
+    ghost from_gives = { λ error failure. failure ≡ Script error };
+
+    fn from(error: ScriptError) -> Failure {
+        Failure::Script(error)
     }
 }
 
@@ -65,6 +102,13 @@ pub fn report<E: Write>(failure: &Failure, err: &mut E) -> u8
     ensures most { result ≤ 3 }
 {
     // Where this fails too, nobody is left to tell.
-    let _ = writeln!(err, "tmem: {failure}");
+    let _ = tell(failure, err);
     failure.status()
+}
+
+// Prints what the user is told of a failure.
+fn tell<E: Write>(failure: &Failure, err: &mut E) -> io::Result<()>
+    ensures { OnOk result (Appends (E.contents err.old) (E.contents err.new) (told failure.now)) }
+{
+    writeln!(err, "tmem: {failure}")
 }

@@ -8,7 +8,7 @@ ghost use Rattle.tmem_forms.specs.Errors.{Refuses};
 use crate::entry::entries_of;
 use serde_json::{Map, Value};
 use std::alloc::{AllocError, Global};
-use std::io;
+use std::{fmt, io};
 use thiserror::Error;
 use tmem_disk::Fault;
 use tmem_event::Event;
@@ -40,12 +40,24 @@ pub struct Playable {
 /// Why a script was not read.
 #[derive(Debug, Drop, Error)]
 pub enum ScriptError {
-    #[error("{}", Fault::Memory)]
     Memory(AllocError),
-    #[error("cannot read script")]
     Unreadable,
-    #[error("bad script")]
     NoScript,
+}
+
+impl fmt::Display for ScriptError {
+    ghost use Rattle.std.specs.Prelude.{Some};
+    ghost use Rattle.tmem_script.specs.Statuses.{script_error_text};
+
+    ghost output = { λ error. Some (script_error_text error) };
+
+    fn fmt<W: fmt::Write>(&self, f: &mut fmt::Formatter<W>) -> fmt::Result {
+        match self {
+            ScriptError::Memory(_) => write!(f, "{}", Fault::Memory),
+            ScriptError::Unreadable => write!(f, "cannot read script"),
+            ScriptError::NoScript => write!(f, "bad script"),
+        }
+    }
 }
 
 impl From<FormError> for ScriptError {
@@ -67,10 +79,10 @@ impl From<io::Error> for ScriptError {
     ghost use Rattle.std.specs.IoError.{error_kind};
     ghost use Rattle.std.specs.declared.io.ErrorKind.TheVariants.{OutOfMemory};
     ghost use Rattle.tmem_script.specs.declared.script.ScriptError.TheVariants.{Unreadable};
-    ghost use Rattle.tmem_script.specs.Errors.{IsWanting};
+    ghost use Rattle.tmem_script.specs.Errors.{IsWanting, IsUnread};
 
     ghost from_gives = { λ error e. (error_kind error ≡ OutOfMemory → IsWanting e)
-        × (¬ (error_kind error ≡ OutOfMemory) → e ≡ Unreadable) };
+        × (¬ (error_kind error ≡ OutOfMemory) → e ≡ Unreadable) × IsUnread e };
 
     fn from(error: io::Error) -> ScriptError {
         if error.kind() == io::ErrorKind::OutOfMemory {

@@ -1,5 +1,6 @@
 //! Files and streams that fail.
 use super::{BAD_SCRIPT, FIRST, FIRST_OUT, run, with_name};
+use std::io::LineWriter;
 use std::test::Fail;
 use std::{fs, io};
 use tmem_cli::run_words;
@@ -66,14 +67,16 @@ impl io::Write for Noting {
 
 #[test]
 fn each_line_goes_out_by_itself(rt: HostRuntime) -> Result<(), Fail> {
-    let mut out = Noting {
+    let noting = Noting {
         text: Vec::new(rt.alloc()),
         ends: Vec::new(rt.alloc()),
     };
+    let mut out = LineWriter::new(rt.alloc(), noting)?;
     let mut err = Vec::new(rt.alloc());
     let words = with_name(rt.alloc(), &["run"])?;
     let status = run_words(&rt, words, &mut FIRST.as_bytes(), &mut out, &mut err);
     assert_eq!(rt; status, 0);
+    let out = out.get_ref();
     assert!(rt; out.text.as_slice() == FIRST_OUT.as_bytes());
     // where the seven lines end
     assert!(rt; out.ends.as_slice() == [9, 15, 21, 33, 43, 52, 88].as_slice());
