@@ -19,7 +19,7 @@ use tmem_record::{BATCH_ROOM, Batch, encode_batch};
 /// Puts a batch of one record into slot 0. `Device` where the write of its bytes failed: no crash leaves it accepted.
 /// `Unknown` where a sync or the write of the gate failed: a crash leaves it accepted or not. Nothing outside the slot is
 /// written. The buffer is for the bytes of the batch, and holds any bytes then.
-pub(crate) fn append<D: Disk>(
+pub fn append<D: Disk>(
     disk: &mut D,
     layout: Layout,
     first: u64,

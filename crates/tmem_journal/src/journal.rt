@@ -17,8 +17,8 @@ use std::snapshot::Snapshot;
 use tmem_disk::{Disk, Fault};
 use tmem_record::{Batch, State};
 
-// How many log slots are used at the most: the log holds one record.
-const LOG_SLOTS: u16 = 1;
+/// How many log slots are used at the most: the log holds one record.
+pub const LOG_SLOTS: u16 = 1;
 
 /// A device, and the state that it stands for: the accepted transactions that are durable. Once a call of the device has
 /// failed in `flush` it is closed, and writes nothing more.

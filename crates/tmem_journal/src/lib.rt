@@ -23,7 +23,9 @@ mod parts;
 mod record;
 mod recovery;
 
+pub use appending::append;
 pub use formatting::format;
-pub use journal::Journal;
+pub use journal::{Journal, LOG_SLOTS};
 pub use laws::{refused_stands_for_none, stands_for_one};
 pub use layout::Layout;
+pub use recovery::{Found, recover};

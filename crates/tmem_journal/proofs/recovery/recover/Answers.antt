@@ -1,8 +1,10 @@
 use Rattle.std.proofs.Common.{ℕ, List, None, Some, sym, ◌∙◌, subst, rules, arith}
 use Rattle.std.proofs.lemmas.Result.{err_from_is_err_and}
+use Rattle.tmem_gate.specs.Gate.{IsClosed}
 use Rattle.tmem_record.proofs.Laws.{length-written}
+use Rattle.tmem_journal.specs.Layout.{slot_place}
 use Rattle.tmem_journal.proofs.AppendedRecords.{stands_unused}
-use Rattle.tmem_journal.proofs.Recovering.{nothing_found, all_found, stands_with}
+use Rattle.tmem_journal.proofs.Recovering.{nothing_found, all_found, stands_with, leaves_seen}
 use Rattle.tmem_journal.proofs.Within.{LooksOnly-trans}
 use Rattle.tmem_journal.proofs.Refused.{why_block, why_part, block_then, no_image}
 use Rattle.tmem_journal.proofs.recovery.recover.Goals as goal
@@ -45,6 +47,11 @@ returns-in-None-clause-found g c = λ k.
     let m1 = c.found_block.ensures.uses.model m2 in
     ∣ stands_unused (all_found c.args.layout.vars c.args.layout.slots c.in_ok-state.state _ _ _ _ (c.sync.ensures.looks.seen m1) (c.found_block.ensures.looks.seen m2) (c.found_image.ensures.looks.seen m3) None (c.in_ok-found_block.ensures.found m2) (c.in_ok-state.ensures.found m3) (rw c.in-None.is at (c.in_ok-found_log.ensures.found k))) ∣₁
 
+
+pub returns-in-None-clause-closed : goal.returns-in-None-clause-closed
+returns-in-None-clause-closed g c = λ none. leaves_seen (search rules) (λ k.
+    let found = rw c.in-None.is at (c.in_ok-found_log.ensures.found k) in
+    subst (λ (seen : List ℕ). IsClosed (slot_place c.args.layout.vars 0) seen) (sym (c.found_log.ensures.looks.seen k)) found.slot_0)
 
 pub returns-in-Some-clause-found : goal.returns-in-Some-clause-found
 returns-in-Some-clause-found g c = λ k.
