@@ -12,11 +12,11 @@ use Rattle.tmem_record.specs.Spelling.{number_bytes, value_bytes, names_bytes}
 use Rattle.tmem_journal.specs.Layout.{IsLayout, pages_of, image_place, slot_place, end_place}
 use Rattle.tmem_journal.specs.ImageSpelling.{block_body, names_body, pages_body, image_body, IsImage}
 use Rattle.tmem_journal.specs.Formatted.{open_cell, formatted}
-use Rattle.tmem_journal.specs.Stands.{StandsFor}
+use Rattle.tmem_journal.specs.Stands.{HoldsState, StandsFor}
 use Rattle.tmem_journal.proofs.SlotRanges.{slice_get-take, slice_get-drop, slice_get-replicate, get_before}
 use Rattle.tmem_journal.proofs.Lengths.{length-little_bytes, length-block_body, length-image_body}
 use Rattle.tmem_journal.proofs.Overwriting.{two_parts}
-use Rattle.tmem_journal.proofs.Appending.{stands_unused, closed_along}
+use Rattle.tmem_journal.proofs.AppendedRecords.{stands_unused, closed_along}
 use Rattle.tmem_journal.proofs.Recovering.{leaves_seen}
 use Rattle.tmem_record.proofs.Laws.{AreRegistered-nil}
 
@@ -121,8 +121,8 @@ module _ (vars slots : ℕ) (rest : List ℕ) where
       let front : length (first_cell ++ second_cell) ≡ image_place vars 1 = omega (arith, first_long, second_long, length-append first_cell second_cell) in
       subst (λ (l : List ℕ). IsClosed i l) (append_assoc first_cell second_cell (replicate blank 0 ++ rest)) (closed_at (first_cell ++ second_cell) rest blank i (omega (arith, front)) (omega (arith, front)))
 
-  pub formatted_stands : IsLayout vars slots → StandsFor vars slots 0 (first_state vars) (formatted vars slots ++ rest)
-  formatted_stands layout = subst (λ (l : List ℕ). StandsFor vars slots 0 (first_state vars) l) (sym content_is) (stands_unused (record {
+  pub formatted_stands : IsLayout vars slots → HoldsState vars slots 0 (first_state vars) (formatted vars slots ++ rest)
+  formatted_stands layout = subst (λ (l : List ℕ). HoldsState vars slots 0 (first_state vars) l) (sym content_is) (stands_unused (record {
     block = cell_at [] (block_body vars slots) (second_cell ++ (replicate blank 0 ++ rest)) 0 refl;
     copy_0 = cell_at first_cell (image_body vars 1 (first_state vars)) (replicate blank 0 ++ rest) (image_place vars 0) (first_long ∙ omega arith);
     fits = first_fits vars;
@@ -157,7 +157,7 @@ all_written vars slots e at gen numbers old zeroed with_image whole some end pla
 
 -- a stop leaves what a read gives, and that stands for the first state
 pub formatted_device : (vars slots : ℕ) → IsLayout vars slots → (d : DeviceView) (rest : List ℕ) → ReadsAs d (formatted vars slots ++ rest) → IsSynced d → LeavesOnly d (StandsFor vars slots 0 (first_state vars))
-formatted_device vars slots layout d rest reads synced = leaves_seen synced (λ k. subst (λ (l : List ℕ). StandsFor vars slots 0 (first_state vars) l) (sym (reads k)) (formatted_stands vars slots rest layout))
+formatted_device vars slots layout d rest reads synced = leaves_seen synced (λ k. ∣ subst (λ (l : List ℕ). HoldsState vars slots 0 (first_state vars) l) (sym (reads k)) (formatted_stands vars slots rest layout) ∣₁)
 
 -- what facts of a success give
 pub on_ok : {T E A B : Type 0} → (A → B) → (r : Result T E) → OnOk r A → OnOk r B

@@ -1,6 +1,7 @@
-pub mod Appending
+pub mod AppendedRecords
 pub mod Batches
 pub mod Finding
+pub mod Flushed
 pub mod FormattedStands
 pub mod ImageNames
 pub mod Imaging

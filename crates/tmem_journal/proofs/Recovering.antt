@@ -7,7 +7,7 @@ use Rattle.tmem_record.specs.State.{State, apply}
 use Rattle.tmem_record.specs.declared.effect.Effect.{Effect}
 use Rattle.tmem_journal.specs.Layout.{image_place}
 use Rattle.tmem_journal.specs.ImageSpelling.{block_body, image_body}
-use Rattle.tmem_journal.specs.Stands.{Holds, StandsFor}
+use Rattle.tmem_journal.specs.Stands.{Holds, HoldsState}
 use Rattle.tmem_journal.specs.Parts.{HoldsImage, HoldsSlots}
 use Rattle.tmem_journal.proofs.Lengths.{length-image_body}
 use Rattle.tmem_journal.proofs.Imaging.{one_state}
@@ -34,11 +34,11 @@ slots_of holds = record { slot_0 = holds.slot_0; closed = record { behind = hold
 pub all_parts : (vars slots : ℕ) (s : State) (log : Option Effect) (c : List ℕ) → IsOpenOver 0 (block_body vars slots) c → HoldsImage vars s c → HoldsSlots vars slots s log c → Holds vars slots s log c
 all_parts vars slots s log c block image found = record { block = block; copy_0 = image.copy_0; fits = image.fits; copy_1 = image.copy_1; slot_0 = found.slot_0; behind = found.closed.behind }
 
-pub stands_with : (vars slots : ℕ) (s : State) (e : Effect) (c : List ℕ) → Holds vars slots s (Some e) c → StandsFor vars slots 1 (apply s e) c
+pub stands_with : (vars slots : ℕ) (s : State) (e : Effect) (c : List ℕ) → Holds vars slots s (Some e) c → HoldsState vars slots 1 (apply s e) c
 stands_with vars slots s e c holds = record { image = s; log = Some e; holds = holds; is_used = refl; is_state = refl }
 
 -- with no log a content stands for nothing
-pub no_state : (vars slots : ℕ) (found : State) (seen : List ℕ) → HoldsImage vars found seen → ((log : Option Effect) → HoldsSlots vars slots found log seen → ⊥) → (used : ℕ) (s : State) → StandsFor vars slots used s seen → ⊥
+pub no_state : (vars slots : ℕ) (found : State) (seen : List ℕ) → HoldsImage vars found seen → ((log : Option Effect) → HoldsSlots vars slots found log seen → ⊥) → (used : ℕ) (s : State) → HoldsState vars slots used s seen → ⊥
 no_state vars slots found seen image none used s stands =
     let same = one_image_state vars stands.image found seen (image_of stands.holds) image in
     none stands.log (subst (λ (i : State). HoldsSlots vars slots i stands.log seen) same (slots_of stands.holds))
@@ -55,7 +55,7 @@ module _ (vars slots : ℕ) (s : State) (seen s1 s2 s3 : List ℕ) (is1 : s1 ≡
   at_3 : s3 ≡ seen
   at_3 = is3 ∙ at_2
 
-  pub nothing_found : HoldsImage vars s s2 → ((log : Option Effect) → HoldsSlots vars slots s log s3 → ⊥) → (used : ℕ) (t : State) → StandsFor vars slots used t seen → ⊥
+  pub nothing_found : HoldsImage vars s s2 → ((log : Option Effect) → HoldsSlots vars slots s log s3 → ⊥) → (used : ℕ) (t : State) → HoldsState vars slots used t seen → ⊥
   nothing_found image none =
       no_state vars slots s seen (subst (λ (c : List ℕ). HoldsImage vars s c) at_2 image) (λ log holds. none log (subst (λ (c : List ℕ). HoldsSlots vars slots s log c) (sym at_3) holds))
 

@@ -6,7 +6,7 @@ use Rattle.tmem_record.specs.declared.effect.Effect.{Effect}
 use Rattle.tmem_record.specs.Prefix.{IsPrefix}
 use Rattle.tmem_record.specs.Spelling.{batch_bytes}
 use Rattle.tmem_journal.specs.Layout.{slot_place}
-use Rattle.tmem_journal.specs.Stands.{Holds, StandsFor, used_of, replayed}
+use Rattle.tmem_journal.specs.Stands.{Holds, HoldsState, used_of, replayed}
 use Rattle.tmem_journal.proofs.Batches.{one_record}
 use Rattle.tmem_journal.proofs.Recovering.{one_image_state, image_of}
 
@@ -27,7 +27,7 @@ module _ (vars slots : ℕ) (few : vars ≤ 2 ^ 16) (c : List ℕ) where
       (refl, ap (apply image) (one_record vars few image e f (drop (slot_place vars 0 + 1) c) one.slot_0.follows other.slot_0.follows mine theirs))
 
   -- a content stands for one state at most
-  pub one_state_at_most : (used used' : ℕ) (s s' : State) → StandsFor vars slots used s c → StandsFor vars slots used' s' c → (used ≡ used') × (s ≡ s')
+  pub one_state_at_most : (used used' : ℕ) (s s' : State) → HoldsState vars slots used s c → HoldsState vars slots used' s' c → (used ≡ used') × (s ≡ s')
   one_state_at_most used used' s s' one other =
       let image = one_image_state vars one.image other.image c (image_of one.holds) (image_of other.holds) in
       let same = by_logs other.image one.log other.log (subst (λ (i : State). Holds vars slots i one.log c) image one.holds) other.holds in

@@ -1,7 +1,8 @@
 -- How what calls leave alone joins.
 use Rattle.std.proofs.Common.{◌≡◌, inl, inr, ⊎_elim, ◌≤◌, ◌+◌, ℕ, List, take, refl, sym, ◌∙◌, ap, subst, arith}
 use Rattle.std.proofs.lemmas.List.{take-take}
-use Rattle.tmem_disk.specs.Disk.{DeviceView, IsDevice, LeavesOnly, AtEachMoment, Elapses, SameOutside, SameSeenOutside, Rewritten}
+use Rattle.tmem_disk.specs.Disk.{DeviceView, IsDevice, ReadsAs, LeavesOnly, AtEachMoment, Elapses, SameOutside, SameSeenOutside, Rewritten}
+use Rattle.tmem_disk.proofs.Laws.{Elapses-trans}
 use Rattle.tmem_journal.specs.Looks.{LooksOnly, WritesWithin}
 use Rattle.tmem_journal.proofs.Spelled.{drop_further}
 
@@ -46,9 +47,29 @@ module _ (at n : ℕ) (old new : DeviceView) (device : IsDevice old) (model : ne
 pub by_moment : (at n : ℕ) (old new : DeviceView) → IsDevice new → SameSeenOutside at n old new → AtEachMoment old new (Rewritten at n old) → Elapses old new (Rewritten at n old) → WritesWithin at n old new
 by_moment at n old new device seen during time = record { seen = seen; stop = record { each = λ k c left. during.each k c (device.counts_now old.moment c k (time.later k) left) }; any_moment = during; time = time }
 
+-- no time goes by without a call
+no_time : (d : DeviceView) (P : List ℕ → Type 0) → Elapses d d P
+no_time d P = record { later = λ k. omega arith; nothing_else = λ k t c since left. inl left; keeps = λ k t c since left. left }
+
+-- no call at all
+pub LooksOnly-refl : (d : DeviceView) → LooksOnly d d
+LooksOnly-refl d = record { seen = λ k. refl; stop = record { each = λ k c left. left }; time = no_time d d.may_leave }
+
+-- a call that changes nothing
+pub looks : (old new : DeviceView) → ReadsAs new old.seen → LeavesOnly new old.may_leave → Elapses old new new.may_leave → LooksOnly old new
+looks old new seen stop time = record { seen = seen; stop = stop; time = Elapses-more old new new.may_leave old.may_leave stop.each time }
+
+-- two of them
+pub LooksOnly-trans : (old mid new : DeviceView) → (new.keeps_model → mid.keeps_model) → LooksOnly old mid → LooksOnly mid new → LooksOnly old new
+LooksOnly-trans old mid new model first second = record {
+  seen = λ k. second.seen k ∙ first.seen (model k);
+  stop = record { each = λ k c left. first.stop.each (model k) c (second.stop.each k c left) };
+  time = Elapses-trans old mid new old.may_leave model first.time (Elapses-more mid new mid.may_leave old.may_leave (λ k. first.stop.each (model k)) second.time);
+}
+
 -- no call at all
 pub WritesWithin-refl : (at n : ℕ) (d : DeviceView) → IsDevice d → WritesWithin at n d d
-WritesWithin-refl at n d device = by_look at n d d device (λ k. k) (record { seen = λ k. refl; stop = record { each = λ k c left. left } }) (record { later = λ k. omega arith; nothing_else = λ k t c since left. inl left; keeps = λ k t c since left. left })
+WritesWithin-refl at n d device = by_look at n d d device (λ k. k) (LooksOnly-refl d) (no_time d d.may_leave)
 
 -- over a wider range
 pub WritesWithin-wider : (at n at' n' : ℕ) → at' ≤ at → at + n ≤ at' + n' → (old new : DeviceView) → WritesWithin at n old new → WritesWithin at' n' old new

@@ -1,4 +1,6 @@
 pub mod Calls
+pub mod Held
+pub mod Journals
 pub mod Formatted
 pub mod Laws
 pub mod Layout

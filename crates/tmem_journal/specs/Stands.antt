@@ -1,5 +1,5 @@
 -- Which state the content of a device stands for.
-use Rattle.std.specs.Prelude.{◌≡◌, ◌<◌, ◌≤◌, ℕ, ◌+◌, ◌^◌, List, [], ◌∷◌, length, Option, Some, None}
+use Rattle.std.specs.Prelude.{◌≡◌, ◌<◌, ◌≤◌, ◌⊎◌, ℕ, ◌+◌, ◌^◌, List, [], ◌∷◌, length, Option, Some, None}
 use Rattle.tmem_gate.specs.Gate.{IsClosed, IsOpenOver}
 use Rattle.tmem_record.specs.State.{State, apply, with_names}
 use Rattle.tmem_record.specs.Loggable.{IsLoggable}
@@ -43,10 +43,19 @@ abbrev pub replayed : State → Option Effect → State
 replayed image None = image
 replayed image (Some e) = apply image e
 
--- The content stands for this state, with so many log slots used.
-pub record StandsFor (vars slots used : ℕ) (s : State) (c : List ℕ) : Type 0 where
+-- The content holds an image and a log that make this state, with so many log slots used.
+pub record HoldsState (vars slots used : ℕ) (s : State) (c : List ℕ) : Type 0 where
   pub image : State
   pub log : Option Effect
   pub holds : Holds vars slots image log c
   pub is_used : used_of log ≡ used
   pub is_state : replayed image log ≡ s
+
+-- The content stands for this state, with so many log slots used. Between the bars stands that there is such an image and
+-- log: so it is one fact, which a type may keep.
+abbrev pub StandsFor : ℕ → ℕ → ℕ → State → List ℕ → Type 0
+StandsFor vars slots used s c = ∥ HoldsState vars slots used s c ∥₁
+
+-- the content stands for one of two states, with any number of log slots used
+abbrev pub StandsForEither : ℕ → ℕ → State → State → List ℕ → Type 0
+StandsForEither vars slots s t c = ∥ ((used : ℕ) × (HoldsState vars slots used s c ⊎ HoldsState vars slots used t c)) ∥₁

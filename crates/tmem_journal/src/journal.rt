@@ -1,105 +1,190 @@
-// Recovery, and one record more.
-ghost use Rattle.std.specs.Prelude.{Some, [], ◌≡◌, ◌⊎◌, ◌<◌, ◌≤◌, ◌+◌, ◌^◌, ◌∷◌, ℕ, length, All, IfOk, OnOk, IfErr, IsErrOf};
-ghost use Rattle.tmem_disk.specs.Disk.{LeavesOnly, ReadsAs, SameSeenOutside, IsSynced, AtEachMoment, Rewritten};
-ghost use Rattle.tmem_gate.specs.Gate.{IsClosed, HasBody};
-ghost use Rattle.tmem_record.specs.State.{State as StateOf, with_names};
-ghost use Rattle.tmem_record.specs.declared.effect.Effect.{Effect as EffectOf};
+// The journal: a device, and the state that it stands for.
+ghost use Rattle.std.specs.Prelude.{◌≡◌, ◌≤◌, ◌<◌, ◌^◌, ◌⊎◌, [], false, length, All, IfOk, IfErr};
+ghost use Rattle.tmem_disk.specs.Disk.{LeavesOnly, AtEachMoment};
+ghost use Rattle.tmem_record.specs.State.{State as StateOf, fold};
 ghost use Rattle.tmem_record.specs.Loggable.{IsLoggable};
-ghost use Rattle.tmem_record.specs.Spelling.{batch_bytes};
-ghost use Rattle.tmem_journal.specs.Layout.{slot_place, end_place};
-ghost use Rattle.tmem_journal.specs.Stands.{StandsFor};
-ghost use Rattle.tmem_journal.specs.Calls.{Uses, StandsForEither, Appended};
-ghost use Rattle.tmem_journal.specs.Refusals.{IsWhy, IsRefusedBy};
+ghost use Rattle.tmem_journal.specs.Layout.{end_place};
+ghost use Rattle.tmem_journal.specs.Stands.{StandsFor, StandsForEither};
+ghost use Rattle.tmem_journal.specs.Calls.{Uses, FitsOn, effects_in, doubted, fault_alone};
+ghost use Rattle.tmem_journal.specs.Looks.{LooksOnly};
 
-use crate::calls::sync;
+use crate::appending::append;
+use crate::buffer::Buffer;
 use crate::layout::Layout;
-use crate::parts::{found_block, found_image, found_log};
+use crate::recovery::recover;
 use std::alloc::Global;
-use tmem_disk::{DeviceFault, Disk, Fault};
-use tmem_gate::{open_gate, put_body};
-use tmem_record::{BATCH_ROOM, Batch, State, encode_batch};
+use std::snapshot::Snapshot;
+use tmem_disk::{Disk, Fault};
+use tmem_record::{Batch, State};
 
 /// How many log slots are used at the most: the log holds one record.
 pub const LOG_SLOTS: u16 = 1;
 
-/// What recovery found: the state, and how many log slots are used.
+/// A device, and the state that it stands for: the accepted transactions that are durable. Once a call of the device has
+/// failed in `flush` it is closed, and writes nothing more.
 #[derive(Drop)]
-pub struct Found {
-    pub state: State,
-    pub used: u16,
+pub struct Journal<D: Disk> {
+    disk: D,
+    layout: Layout,
+    state: State,
+    // how many log slots are used
+    used: u16,
+    is_closed: bool,
+    buffer: Buffer,
+
+    // the batch whose flush had an unknown outcome: for clauses alone, it takes no memory
+    doubt: Option<Snapshot<Batch>>,
+
+    /// The device has room for the layout.
+    pub ghost room: { end_place layout.vars layout.slots ≤ (D.view disk).capacity },
+
+    /// The state has a value for each variable.
+    pub ghost sized: { length state.values ≡ layout.vars },
+
+    /// The log holds one record at the most.
+    pub ghost few: { used ≤ 1 },
+
+    /// While it is open, no outcome is unknown.
+    pub ghost certain: { is_closed ≡ false → effects_in doubt ≡ [] },
+
+    /// Every crash leaves a content that stands for this state, or for the one with the doubtful batch.
+    pub ghost stands: { LeavesOnly (D.view disk) (StandsForEither layout.vars layout.slots state (fold state (effects_in doubt))) },
+
+    /// While it is open, one that stands for this state, with these slots used.
+    pub ghost sure: { is_closed ≡ false → LeavesOnly (D.view disk) (StandsFor layout.vars layout.slots used state) },
 }
 
-/// Finds the state that a device stands for. Refused by `NotFormatted` where block 0 is closed or lacks its magic; by
-/// `Geometry` where the device was formatted for other numbers; else by `Damaged` where it stands for no state; by
-/// `Memory`; and by `Device` where a call of the device fails. It writes nothing.
-pub fn recover<D: Disk>(alloc: Global, disk: &mut D, layout: Layout) -> Result<Found, Fault>
-    requires { end_place layout.vars layout.slots ≤ (D.view disk.old).capacity }
-    ensures uses { Uses (D.view disk.old) (D.view disk.new) result }
-    ensures found { (D.view disk.new).keeps_model → IfOk result (λ f. StandsFor layout.vars layout.slots f.used f.state (D.view disk.old).seen) }
-    ensures refused { IfErr result (IsWhy (λ f. (D.view disk.new).keeps_model → IsRefusedBy layout.vars layout.slots (D.view disk.old).seen f)) }
-    ensures seen { ReadsAs (D.view disk.new) (D.view disk.old).seen }
-    ensures stop { LeavesOnly (D.view disk.new) (D.view disk.old).may_leave }
-    ensures synced { OnOk result (IsSynced (D.view disk.new)) }
-    ensures sized { IfOk result (λ f. (length f.state.values ≡ layout.vars) × (f.used ≤ 1)) }
-    ensures closed { IfOk result (λ f. f.used ≡ 0 → LeavesOnly (D.view disk.new) (IsClosed (slot_place layout.vars 0))) }
-{
-    sync(disk)?;
-    found_block(disk, layout)?;
-    let mut state = found_image(alloc, disk, layout)?;
-    match found_log(alloc, disk, layout, &state)? {
-        None => Ok(Found { state, used: 0 }),
-        Some(effect) => {
-            state.accept(&effect);
-            Ok(Found { state, used: 1 })
+impl<D: Disk> Journal<D> {
+    ghost use Rattle.tmem_journal.specs.Held.{disk_of, device_of, device_after, layout_of, state_of, doubtful_of, used_slots_of, is_closed_of, MayBe};
+    ghost use Rattle.tmem_journal.specs.Journals.{Flushes, FindsEither, IsOpeningRefused};
+
+    /// Recovers the state that a device of these numbers stands for. Refused by `Geometry` where the numbers are out of
+    /// limits, the device is smaller than their layout, or it was formatted for others; by `NotFormatted` where block 0 is
+    /// closed or lacks its magic; else by `Damaged` where its content stands for no state; by `Memory`; by `Device` where a
+    /// call of the device fails. The device is handed back with the refusal. Nothing is written.
+    pub fn open(
+        alloc: Global,
+        mut disk: D,
+        vars: u16,
+        slots: u16,
+    ) -> Result<Journal<D>, (Fault, D)>
+        ensures uses { Uses (D.view disk) (device_after result) (fault_alone result) }
+        ensures looks { LooksOnly (D.view disk) (device_after result) }
+        ensures any_moment { AtEachMoment (D.view disk) (device_after result) (D.view disk).may_leave }
+        ensures fits { IfOk result (λ j. ((layout_of j).vars ≡ vars) × ((layout_of j).slots ≡ slots) × FitsOn vars slots (D.view disk).capacity) }
+        ensures fresh { IfOk result (λ j. (is_closed_of j ≡ false) × (doubtful_of j ≡ state_of j)) }
+        ensures found { IfOk result (λ j. (device_of j).keeps_model → StandsFor vars slots (used_slots_of j) (state_of j) (D.view disk).seen) }
+        ensures refused { IfErr result (λ e. IsOpeningRefused (D.view disk) vars slots e.0 (D.view e.1)) }
+
+        // Where every crash left one of two states, that one is found, unless memory or the device fails.
+        ensures either { (s t : StateOf) → FitsOn vars slots (D.view disk).capacity → LeavesOnly (D.view disk) (StandsForEither vars slots s t)
+            → (device_after result).keeps_model → FindsEither result s t }
+    {
+        let layout = match Layout::new(vars, slots) {
+            Ok(layout) => layout,
+            Err(fault) => return Err((fault, disk)),
+        };
+        if disk.size() < layout.end() {
+            return Err((Fault::Geometry, disk));
+        }
+        let buffer = match Buffer::zeroed(alloc) {
+            Ok(buffer) => buffer,
+            Err(_) => return Err((Fault::Memory, disk)),
+        };
+        match recover(alloc, &mut disk, layout) {
+            Ok(found) => Ok(Journal {
+                disk,
+                layout,
+                state: found.state,
+                used: found.used,
+                is_closed: false,
+                buffer,
+                doubt: None,
+            }),
+            Err(fault) => Err((fault, disk)),
+        }
+    }
+
+    /// The numbers of variables and log slots.
+    pub fn layout(&self) -> Layout
+        ensures { result ≡ layout_of self.now }
+    {
+        self.layout
+    }
+
+    /// The state after every transaction that is known durable.
+    pub fn state(&self) -> &State
+        ensures { result.now ≡ state_of self.now }
+    {
+        &self.state
+    }
+
+    /// How many transactions are known durable.
+    pub fn count(&self) -> u64
+        ensures { result ≡ (state_of self.now).count }
+    {
+        self.state.count()
+    }
+
+    /// Whether a failure of the device closed it.
+    pub fn is_closed(&self) -> bool
+        ensures { result ≡ is_closed_of self.now }
+    {
+        self.is_closed
+    }
+
+    /// The device.
+    pub fn into_disk(self) -> D
+        ensures { result ≡ disk_of self }
+    {
+        let Journal { disk, .. } = self;
+        disk
+    }
+
+    /// Makes a batch of one record durable, and answers how many transactions are durable then. Refused by `Closed` once
+    /// a call of the device has failed; by `LogFull` where every log slot is used; by `Device` where the write of the
+    /// batch failed: no crash leaves it; and by `Unknown` where a sync or the write of a gate failed: a crash leaves it or
+    /// not. After these two the journal is closed.
+    pub fn flush(&mut self, batch: &Batch) -> Result<u64, Fault>
+        requires one { length batch.now ≡ 1 }
+        requires loggable { All (IsLoggable (layout_of self.old).vars) batch.now }
+        requires countable { (fold (state_of self.old) batch.now).count < 2 ^ 64 }
+        requires room { length (fold (state_of self.old) batch.now).names ≤ 64 }
+        ensures uses { Uses (device_of self.old) (device_of self.new) result }
+        ensures layout { layout_of self.new ≡ layout_of self.old }
+        ensures flushed { Flushes self.old batch.now result self.new }
+
+        // A crash at any moment of the call leaves what the journal before it allows, or the one after it.
+        ensures any_moment { AtEachMoment (device_of self.old) (device_of self.new) (λ c. ∥ MayBe self.old c ⊎ MayBe self.new c ∥₁) }
+    {
+        if self.is_closed {
+            return Err(Fault::Closed);
+        }
+        if self.used == LOG_SLOTS {
+            return Err(Fault::LogFull);
+        }
+        let first = self.state.count();
+        match append(&mut self.disk, self.layout, first, batch, &mut self.buffer.bytes) {
+            Ok(()) => {
+                self.state.accept(&batch.effects()[0]);
+                self.used = LOG_SLOTS;
+                Ok(first + 1)
+            }
+            Err(fault) => {
+                self.is_closed = true;
+                self.doubt = in_doubt(&fault, batch);
+                Err(fault)
+            }
         }
     }
 }
 
-/// Puts a batch of one record into slot 0. `Device` where the write of its bytes failed: no crash leaves it accepted.
-/// `Unknown` where a sync or the write of the gate failed: a crash leaves it accepted or not. Nothing outside the slot is
-/// written. The buffer is for the bytes of the batch, and holds any bytes then.
-pub fn append<D: Disk>(
-    disk: &mut D,
-    layout: Layout,
-    first: u64,
-    batch: &Batch,
-    buffer: &mut [u8],
-) -> Result<(), Fault>
-    requires room { end_place layout.vars layout.slots ≤ (D.view disk.old).capacity }
-    requires closed { LeavesOnly (D.view disk.old) (IsClosed (slot_place layout.vars 0)) }
-    requires one { length batch.now ≡ 1 }
-    requires accepted { All (IsLoggable layout.vars) batch.now }
-    requires number { first + 1 < 2 ^ 64 }
-    requires buffer { BATCH_ROOM ≤ length buffer.old }
-    ensures uses { Uses (D.view disk.old) (D.view disk.new) result }
-    ensures errors { IfErr result (λ f. (f ≡ Fault.Device) ⊎ (f ≡ Fault.Unknown)) }
-
-    // At `Device` a write failed, and not that of the gate. At `Unknown` the bytes of the batch were written before.
-    ensures write_failed { IsErrOf result Fault.Device → (D.view disk.new).last_fault ≡ Some DeviceFault.Write }
-    ensures gate_untouched { IsErrOf result Fault.Device →
-        SameSeenOutside (slot_place layout.vars 0 + 1) BATCH_ROOM (D.view disk.old) (D.view disk.new) }
-    ensures body_written { IsErrOf result Fault.Unknown → (D.view disk.new).keeps_model →
-        HasBody (slot_place layout.vars 0) (batch_bytes 1 first batch.now) (D.view disk.new).seen }
-
-    // Nothing outside slot 0 changes.
-    ensures seen_elsewhere { SameSeenOutside (slot_place layout.vars 0) 4096 (D.view disk.old) (D.view disk.new) }
-    ensures elsewhere { AtEachMoment (D.view disk.old) (D.view disk.new)
-        (Rewritten (slot_place layout.vars 0) 4096 (D.view disk.old)) }
-
-    ensures stands { (s : StateOf) (e : EffectOf) → batch.now ≡ e ∷ [] → s.count ≡ first → length (with_names s.names e.names) ≤ 64 → LeavesOnly (D.view disk.old) (StandsFor layout.vars layout.slots 0 s)
-        → Appended layout.vars layout.slots s e (D.view disk.new) result }
-    ensures any_moment { (s : StateOf) (e : EffectOf) → batch.now ≡ e ∷ [] → s.count ≡ first → length (with_names s.names e.names) ≤ 64 → LeavesOnly (D.view disk.old) (StandsFor layout.vars layout.slots 0 s)
-        → AtEachMoment (D.view disk.old) (D.view disk.new) (StandsForEither layout.vars layout.slots s e) }
+// The batch, where a flush that failed so may have made it durable.
+fn in_doubt(fault: &Fault, batch: &Batch) -> Option<Snapshot<Batch>>
+    ensures { effects_in result ≡ doubted fault.now batch.now }
 {
-    let len = encode_batch(batch, 1, first, buffer);
-    let at = layout.slot(0);
-    match put_body(disk, at, &buffer[..len]) {
-        Ok(()) => {}
-        Err(DeviceFault::Write) => return Err(Fault::Device),
-        Err(_) => return Err(Fault::Unknown),
-    }
-    match open_gate(disk, at) {
-        Ok(()) => Ok(()),
-        Err(_) => Err(Fault::Unknown),
+    match fault {
+        Fault::Unknown => Some(Snapshot::of(batch)),
+        _ => None,
     }
 }

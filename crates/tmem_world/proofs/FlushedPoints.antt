@@ -2,6 +2,7 @@
 use Rattle.std.proofs.Common.{◌≡◌, inl, inr, ⊎_elim, ℕ, suc, ◌+◌, ◌-◌, ◌<◌, ◌≤◌, Bool, true, false, nat_eq, List, [], ◌∷◌, length, take, drop, refl, sym, ◌∙◌, ap, subst, arith, Option, Some}
 use Rattle.std.specs.Prelude.{◌≢◌, Result, Ok, Err, MatchBool}
 use Rattle.std.specs.List.{AllZip}
+use Rattle.std.proofs.Math.Logic.{∥∥₁_elim, ∥∥₁_map, ∥∥₁_prop}
 use Rattle.std.proofs.lemmas.Bool.Decides.{nat_tests}
 use Rattle.tmem_disk.specs.Disk.{DeviceView, LeavesOnly, after_fault}
 use Rattle.tmem_disk.specs.declared.fault.Fault.{Fault}
@@ -18,7 +19,7 @@ use Rattle.tmem_core.specs.Program.{Program}
 use Rattle.tmem_core.specs.Held.{state_of, waiting_of, durable_of, is_shut_of}
 use Rattle.tmem_core.specs.Verdict.{serial_state, serial_effects}
 use Rattle.tmem_core.proofs.Laws.{count-committed}
-use Rattle.tmem_journal.specs.Stands.{StandsFor}
+use Rattle.tmem_journal.specs.Stands.{HoldsState, StandsFor}
 use Rattle.tmem_journal.specs.Calls.{Uses, Appended}
 use Rattle.tmem_world.specs.Sessions.{Flushes, ClosesBy, durable_after, doubtful_number, LeftByFlush}
 use Rattle.tmem_world.specs.WorldModel.{WorldModel, SessionStatus, Open, Closed, present, cut, AllowsFlush, AllowsFlushOfOne}
@@ -110,8 +111,8 @@ is_writing program vars slots m o e rest old numbers is running free waits devic
       record {
         count = omega (arith, count-committed program m.opened (take k m.accepted) (committed-take program k m.opened m.accepted numbers.each), length-take k m.accepted le, numbers.opened);
         left = record {
-          each = λ keeps c left. ⊎_elim (λ (now : P m.used m.durable c). subst (λ (u : ℕ). P u m.durable c) used now)
-              (λ (then : P (m.used + (m.doubtful - m.durable)) m.doubtful c). subst (λ (u : ℕ). P u m.durable c) also (subst (λ (n : ℕ). P (m.used + (m.doubtful - m.durable)) n c) certain then)) (device.each keeps c left);
+          each = λ keeps c left. ∥∥₁_elim (device.each keeps c left) ∥∥₁_prop (λ either. ⊎_elim (λ (now : P m.used m.durable c). subst (λ (u : ℕ). P u m.durable c) used now)
+              (λ (then : P (m.used + (m.doubtful - m.durable)) m.doubtful c). subst (λ (u : ℕ). P u m.durable c) also (subst (λ (n : ℕ). P (m.used + (m.doubtful - m.durable)) n c) certain then)) either);
         };
         room = omega (arith, ap (λ (x : State). length x.names) next.state, length-names-take-le program (suc k) m.opened m.accepted, ap (λ (x : State). length x.names) is.state, o.core.registered.few);
         after = ap (λ (j : ℕ). serial_state program m.opened (take j m.accepted)) more ∙ next.state;
@@ -196,7 +197,7 @@ module _ {D T S : Type 0} {d t z : _} (program : Program) (w w' : World D T S d 
             durable = durable;
             doubtful = doubtful;
             failures = failures ∙ r.failures;
-            device = leaves m' _ (left_by (Ok tt) left) (λ c it. inl (with_it (m.used + 1) n c (omega (arith, free)) next it));
+            device = leaves m' _ (left_by (Ok tt) left) (λ c it. ∣ inl (with_it (m.used + 1) n c (omega (arith, free)) next it) ∣₁);
           },
         )
 
@@ -220,7 +221,7 @@ module _ {D T S : Type 0} {d t z : _} (program : Program) (w w' : World D T S d 
             durable = durable ∙ r.durable;
             doubtful = doubtful ∙ r.doubtful;
             failures = failures ∙ ap after_fault r.failures;
-            device = leaves m' _ (left_by (Err fault.Device) left) (λ c it. inl (without m.used m.durable c free refl it));
+            device = leaves m' _ (left_by (Err fault.Device) left) (λ c it. ∣ inl (without m.used m.durable c free refl it) ∣₁);
           },
         )
 
@@ -244,9 +245,9 @@ module _ {D T S : Type 0} {d t z : _} (program : Program) (w w' : World D T S d 
             durable = durable ∙ r.durable;
             doubtful = doubtful ∙ ap (λ (n : ℕ). n + 1) r.durable;
             failures = failures ∙ ap after_fault r.failures;
-            device = leaves m' _ (left_by (Err fault.Unknown) left) (λ c either. ⊎_elim
-                (λ (it : StandsFor w.layout.vars w.layout.slots 0 (cut program m m.durable) c). inl (without m.used m.durable c free refl it))
-                (λ (it : StandsFor w.layout.vars w.layout.slots 1 (apply (cut program m m.durable) e) c). inr (with_it (m.used + (m.durable + 1 - m.durable)) (m.durable + 1) c (omega (arith, free)) refl it)) either);
+            device = leaves m' _ (left_by (Err fault.Unknown) left) (λ c either. ∥∥₁_map either (λ held. ⊎_elim
+                (λ (it : HoldsState w.layout.vars w.layout.slots 0 (cut program m m.durable) c). inl (without m.used m.durable c free refl ∣ it ∣₁))
+                (λ (it : HoldsState w.layout.vars w.layout.slots 1 (apply (cut program m m.durable) e) c). inr (with_it (m.used + (m.durable + 1 - m.durable)) (m.durable + 1) c (omega (arith, free)) refl ∣ it ∣₁)) held));
           },
         )
 

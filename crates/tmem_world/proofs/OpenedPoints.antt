@@ -70,7 +70,7 @@ module _ {D T S : Type 0} {d t z : _} (program : Program) (w : World D T S d t z
     doubtful = doubtful;
     failures = same;
     device = record {
-      each = λ k c left. inl (subst (λ (b : List ℕ). StandsFor w.layout.vars w.layout.slots s.used (cut program (opening (state_of s.core) s.used failures) (state_of s.core).count) b) (sym (synced k c left ∙ reads k))
-          (subst (λ (t : State). StandsFor w.layout.vars w.layout.slots s.used t seen) (sym cut_here) (stands k)));
+      each = λ k c left. ∣ inl (subst (λ (b : List ℕ). StandsFor w.layout.vars w.layout.slots s.used (cut program (opening (state_of s.core) s.used failures) (state_of s.core).count) b) (sym (synced k c left ∙ reads k))
+          (subst (λ (t : State). StandsFor w.layout.vars w.layout.slots s.used t seen) (sym cut_here) (stands k))) ∣₁;
     };
   }

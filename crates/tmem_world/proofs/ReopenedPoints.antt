@@ -2,6 +2,9 @@
 use Rattle.std.proofs.Common.{◌≡◌, ◌⊎◌, inl, inr, ⊎_elim, ℕ, ◌+◌, ◌-◌, ◌<◌, ◌≤◌, ◌^◌, false, List, [], length, take, refl, sym, ◌∙◌, ap, subst, arith, Option, Some, None}
 use Rattle.std.specs.Prelude.{Err, All}
 use Rattle.std.specs.List.{AllZip}
+use Rattle.std.proofs.Math.Logic.{∥∥₁_elim}
+use Rattle.std.proofs.Props.{props}
+use Rattle.std.proofs.lemmas.Bool.{cases_eq}
 use Rattle.tmem_disk.specs.Disk.{IsDevice, LeavesOnly, ReadsAs, IsSynced, after_fault}
 use Rattle.tmem_disk.specs.declared.fault.Fault.{Fault}
 use Rattle.tmem_disk.specs.declared.fault.Fault.TheVariants as fault
@@ -54,11 +57,11 @@ module _ {D T S : Type 0} {d t z : _} (program : Program) (w w' : World D T S d 
   some_state : (f : Fault) → (d.view w.disk).keeps_model → RefusedBy f → ⊥
   some_state f k by =
       let none : (used : ℕ) (s : State) → ¬ StandsFor w.layout.vars w.layout.slots used s (d.view w.disk).seen = λ used s. refused_stands_for_none w.layout.vars w.layout.slots used s (d.view w.disk).seen f w.layout.fits (by keeps) in
-      ⊎_elim (λ (it : StandsFor w.layout.vars w.layout.slots m.used (cut program m m.durable) (d.view w.disk).seen). none _ _ it) (λ it. none _ _ it) (reads_at k)
+      ∥∥₁_elim (reads_at k) (hlevel props) (λ either. ⊎_elim (λ (it : StandsFor w.layout.vars w.layout.slots m.used (cut program m m.durable) (d.view w.disk).seen). none _ _ it) (λ it. none _ _ it) either)
 
   -- and that is sound
   sound_state : (f : Fault) → (d.view w.disk).keeps_model → StandsForUnsound f → ⊥
-  sound_state f k un = ⊎_elim at_durable at_doubtful (reads_at k)
+  sound_state f k un = ∥∥₁_elim (reads_at k) (hlevel props) (⊎_elim at_durable at_doubtful)
     where
       sound_at : (n : ℕ) → m.opened.count ≤ n → n ≤ m.opened.count + length m.accepted → un.1 ≡ cut program m n → ⊥
       sound_at n low high same = un.3 (subst (λ (x : State). IsSound program.tests program.names x.names x.values) (sym same) (r.numbers.sound n low high))
@@ -122,23 +125,55 @@ module _ {D T S : Type 0} {d t z : _} (program : Program) (w w' : World D T S d 
           doubtful = doubtful ∙ counted;
           failures = failures ∙ r.failures;
           device = record {
-            each = λ k' c left. inl (subst (λ (l : Layout). StandsFor l.vars l.slots (m.used + (n - m.durable)) (cut program (found_at m n) n) c) (sym layout)
-                (subst (λ (b : List ℕ). StandsFor w.layout.vars w.layout.slots (m.used + (n - m.durable)) (cut program (found_at m n) n) b) (sym (synced k' c left ∙ seen k')) here));
+            each = λ k' c left. ∣ inl (subst (λ (l : Layout). StandsFor l.vars l.slots (m.used + (n - m.durable)) (cut program (found_at m n) n) c) (sym layout)
+                (subst (λ (b : List ℕ). StandsFor w.layout.vars w.layout.slots (m.used + (n - m.durable)) (cut program (found_at m n) n) b) (sym (synced k' c left ∙ seen k')) here)) ∣₁;
           };
         } in
         subst (λ (x : ℕ). (m' : WorldModel) × AllowsReopen m (reply.Opened x) m' × Represents program w' m') (sym counted) (found_at m n, (which, refl), point)
 
+    -- the count of the order cut at a number of the run
+    count_at : (n : ℕ) → m.opened.count ≤ n → n ≤ m.opened.count + length m.accepted → (cut program m n).count ≡ n
+    count_at n low high =
+        let k = n - m.opened.count in
+        omega (arith, low, high, count-committed program m.opened (take k m.accepted) (committed-take program k m.opened m.accepted r.numbers.each), length-take k m.accepted (omega (arith, high)))
+
+    at_durable : (cut program m m.durable).count ≡ m.durable
+    at_durable = count_at m.durable r.numbers.opened (omega (arith, r.numbers.durable, r.numbers.doubtful))
+
+    at_doubtful : (cut program m m.doubtful).count ≡ m.doubtful
+    at_doubtful = count_at m.doubtful (omega (arith, r.numbers.opened, r.numbers.durable)) r.numbers.doubtful
+
+    -- it is the one of the two that its count says
+    abbrev IsFound : ℕ → Type 0
+    IsFound n = (s.used ≡ m.used + (n - m.durable)) × (state_of s.core ≡ cut program m n)
+
+    is_one : StandsFor w.layout.vars w.layout.slots m.used (cut program m m.durable) (d.view w.disk).seen → (s.used ≡ m.used) × (state_of s.core ≡ cut program m m.durable)
+    is_one it = stands_for_one w.layout.vars w.layout.slots s.used m.used (state_of s.core) (cut program m m.durable) (d.view w.disk).seen few_vars stands it
+
+    is_other : StandsFor w.layout.vars w.layout.slots (m.used + (m.doubtful - m.durable)) (cut program m m.doubtful) (d.view w.disk).seen → IsFound m.doubtful
+    is_other it = stands_for_one w.layout.vars w.layout.slots s.used (m.used + (m.doubtful - m.durable)) (state_of s.core) (cut program m m.doubtful) (d.view w.disk).seen few_vars stands it
+
+    by_durable : (d.view w.disk).keeps_model → (state_of s.core).count ≡ m.durable → IsFound m.durable
+    by_durable k same = ∥∥₁_elim (reads_at k) (hlevel props) (⊎_elim
+        (λ one. let it = is_one one in (omega (arith, it.0), it.1))
+        (λ other.
+        let it = is_other other in
+        let less : m.doubtful ≡ m.durable = omega (arith, same, ap (λ (x : State). x.count) it.1, at_doubtful) in
+        (omega (arith, it.0, less), it.1 ∙ ap (cut program m) less)))
+
+    by_doubtful : (d.view w.disk).keeps_model → ((state_of s.core).count ≡ m.durable → ⊥) → IsFound m.doubtful
+    by_doubtful k differ = ∥∥₁_elim (reads_at k) (hlevel props) (⊎_elim
+        (λ one. absurd (differ (ap (λ (x : State). x.count) (is_one one).1 ∙ at_durable)))
+        is_other)
+
     -- opening found a state of the run
     pub found : ((d.view w'.disk).keeps_model → (d.view w.disk).keeps_model) → (n : ℕ) → n ≡ (state_of s.core).count → (m' : WorldModel) × AllowsReopen m (reply.Opened n) m' × Represents program w' m'
     found model n is =
-        subst (λ (x : ℕ). (m' : WorldModel) × AllowsReopen m (reply.Opened x) m' × Represents program w' m') (sym is) (⊎_elim at_durable at_doubtful (reads_at (model keeps)))
-      where
-        at_durable : StandsFor w.layout.vars w.layout.slots m.used (cut program m m.durable) (d.view w.disk).seen → (m' : WorldModel) × AllowsReopen m (reply.Opened (state_of s.core).count) m' × Represents program w' m'
-        at_durable it =
-            let one = stands_for_one w.layout.vars w.layout.slots s.used m.used (state_of s.core) (cut program m m.durable) (d.view w.disk).seen few_vars stands it in
-            found_as m.durable (inl refl) r.numbers.opened (omega (arith, r.numbers.durable, r.numbers.doubtful)) (omega (arith, one.0)) one.1
-
-        at_doubtful : StandsFor w.layout.vars w.layout.slots (m.used + (m.doubtful - m.durable)) (cut program m m.doubtful) (d.view w.disk).seen → (m' : WorldModel) × AllowsReopen m (reply.Opened (state_of s.core).count) m' × Represents program w' m'
-        at_doubtful it =
-            let one = stands_for_one w.layout.vars w.layout.slots s.used (m.used + (m.doubtful - m.durable)) (state_of s.core) (cut program m m.doubtful) (d.view w.disk).seen few_vars stands it in
-            found_as m.doubtful (inr refl) (omega (arith, r.numbers.opened, r.numbers.durable)) r.numbers.doubtful one.0 one.1
+        subst (λ (x : ℕ). (m' : WorldModel) × AllowsReopen m (reply.Opened x) m' × Represents program w' m') (sym is) (⊎_elim
+        (λ (same : (state_of s.core).count ≡ m.durable).
+        let it = by_durable (model keeps) same in
+        found_as m.durable (inl refl) r.numbers.opened (omega (arith, r.numbers.durable, r.numbers.doubtful)) it.0 it.1)
+        (λ differ.
+        let it = by_doubtful (model keeps) differ in
+        found_as m.doubtful (inr refl) (omega (arith, r.numbers.opened, r.numbers.durable)) r.numbers.doubtful it.0 it.1)
+        (cases_eq (state_of s.core).count m.durable))

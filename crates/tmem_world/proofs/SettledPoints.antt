@@ -106,7 +106,7 @@ module _ (program : Program) where
         let within : m.doubtful - m.opened.count ≤ length m.accepted = omega (arith, r.numbers.doubtful) in
         let below : m.durable - m.opened.count ≤ length m.accepted = omega (arith, r.numbers.doubtful, r.numbers.durable) in
         let cuts : (n : ℕ) → n - m.opened.count ≤ length m.accepted → cut program m n ≡ cut program (accepting m k plan) n = λ n le. ap (serial_state program m.opened) (sym (take-append (n - m.opened.count) m.accepted plan le)) in
-        let P : State → State → List ℕ → Type 0 = λ s t c. StandsFor w'.layout.vars w'.layout.slots m.used s c ⊎ StandsFor w'.layout.vars w'.layout.slots (m.used + (m.doubtful - m.durable)) t c in
+        let P : State → State → List ℕ → Type 0 = λ s t c. ∥ StandsFor w'.layout.vars w'.layout.slots m.used s c ⊎ StandsFor w'.layout.vars w'.layout.slots (m.used + (m.doubtful - m.durable)) t c ∥₁ in
         record {
           numbers = record {
             opened = r.numbers.opened;

@@ -91,7 +91,7 @@ pub record IsNumbered (program : Program) (m : WorldModel) : Type 0 where
 -- the content stands for the serial order cut at the durable number, or at the doubtful one
 abbrev pub StandsCut : Program → ℕ → ℕ → WorldModel → List ℕ → Type 0
 StandsCut program vars slots m c =
-    StandsFor vars slots m.used (cut program m m.durable) c ⊎ StandsFor vars slots (m.used + (m.doubtful - m.durable)) (cut program m m.doubtful) c
+    ∥ StandsFor vars slots m.used (cut program m m.durable) c ⊎ StandsFor vars slots (m.used + (m.doubtful - m.durable)) (cut program m m.doubtful) c ∥₁
 
 -- The world is at this point of a run, and every stop of its device leaves the serial order cut at the durable number or at the doubtful one.
 pub record Represents {D T S : Type 0} {d t s : _} (program : Program) (w : World D T S d t s) (m : WorldModel) : Type 0 where

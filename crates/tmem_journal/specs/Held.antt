@@ -1,0 +1,46 @@
+-- What a journal holds.
+use Rattle.std.specs.Prelude.{ℕ, Bool, List, Result, Ok, Err}
+use Rattle.tmem_disk.specs.Disk.{DeviceView}
+use Rattle.tmem_disk.specs.declared.fault.Fault.{Fault}
+use Rattle.tmem_record.specs.State.{State, fold}
+use Rattle.tmem_journal.specs.Calls.{effects_in}
+use Rattle.tmem_journal.specs.Stands.{StandsForEither}
+use Rattle.tmem_journal.specs.declared.layout.Layout.{Layout}
+use Rattle.tmem_journal.specs.declared.journal.Journal.{Journal}
+
+-- its device
+abbrev pub disk_of : {D : Type 0} {d : _} → Journal D d → D
+disk_of j = j.disk
+
+-- its device, as contracts see it
+abbrev pub device_of : {D : Type 0} {d : _} → Journal D d → DeviceView
+device_of {d = d} j = d.view j.disk
+
+-- its numbers of variables and log slots
+abbrev pub layout_of : {D : Type 0} {d : _} → Journal D d → Layout
+layout_of j = j.layout
+
+-- the state that is known durable
+abbrev pub state_of : {D : Type 0} {d : _} → Journal D d → State
+state_of j = j.state
+
+-- the state that may be durable in its place, after a flush with an unknown outcome
+abbrev pub doubtful_of : {D : Type 0} {d : _} → Journal D d → State
+doubtful_of j = fold j.state (effects_in j.doubt)
+
+-- how many log slots are used
+abbrev pub used_slots_of : {D : Type 0} {d : _} → Journal D d → ℕ
+used_slots_of j = j.used
+
+-- whether a failure closed it
+abbrev pub is_closed_of : {D : Type 0} {d : _} → Journal D d → Bool
+is_closed_of j = j.is_closed
+
+-- the content is one that a crash may leave, as far as the journal knows
+abbrev pub MayBe : {D : Type 0} {d : _} → Journal D d → List ℕ → Type 0
+MayBe j c = StandsForEither j.layout.vars j.layout.slots j.state (fold j.state (effects_in j.doubt)) c
+
+-- the device after opening, whatever its answer
+abbrev pub device_after : {D : Type 0} {d : _} → Result (Journal D d) (Fault × D) → DeviceView
+device_after {d = d} (Ok j) = d.view j.disk
+device_after {d = d} (Err e) = d.view e.1

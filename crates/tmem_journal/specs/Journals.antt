@@ -1,0 +1,38 @@
+-- What the calls of a journal do.
+use Rattle.std.specs.Prelude.{◌≡◌, ◌⊎◌, ◌+◌, ℕ, Bool, true, false, List, Some, Result, Ok, Err}
+use Rattle.tmem_disk.specs.Disk.{DeviceView}
+use Rattle.tmem_disk.specs.declared.disk.DeviceFault.TheVariants.{Write}
+use Rattle.tmem_disk.specs.declared.fault.Fault.{Fault}
+use Rattle.tmem_disk.specs.declared.fault.Fault.TheVariants as fault
+use Rattle.tmem_record.specs.State.{State, fold}
+use Rattle.tmem_record.specs.declared.effect.Effect.{Effect}
+use Rattle.tmem_journal.specs.Calls.{FitsOn}
+use Rattle.tmem_journal.specs.Held.{device_of, state_of, doubtful_of, used_slots_of, is_closed_of}
+use Rattle.tmem_journal.specs.Refusals.{IsWhy, IsRefusedBy}
+use Rattle.tmem_journal.specs.declared.journal.Journal.{Journal}
+
+-- s is known durable, and t may be in its place; whether it is closed
+pub record IsAt {D : Type 0} {d : _} (j : Journal D d) (s t : State) (shut : Bool) : Type 0 where
+  pub state : state_of j ≡ s
+  pub doubtful : doubtful_of j ≡ t
+  pub closed : is_closed_of j ≡ shut
+
+-- What a flush of these effects did. At Device the last call that failed was a write.
+abbrev pub Flushes : {D : Type 0} {d : _} → Journal D d → List Effect → Result ℕ Fault → Journal D d → Type 0
+Flushes old es (Ok n) new =
+    (is_closed_of old ≡ false) × (n ≡ (fold (state_of old) es).count) × (used_slots_of new ≡ used_slots_of old + 1) × IsAt new (fold (state_of old) es) (fold (state_of old) es) false
+Flushes old es (Err fault.Device) new = (is_closed_of old ≡ false) × ((device_of new).last_fault ≡ Some Write) × IsAt new (state_of old) (state_of old) true
+Flushes old es (Err fault.Unknown) new = (is_closed_of old ≡ false) × IsAt new (state_of old) (fold (state_of old) es) true
+Flushes old es (Err fault.Closed) new = (is_closed_of old ≡ true) × (new ≡ old)
+Flushes old es (Err fault.LogFull) new = (is_closed_of old ≡ false) × (used_slots_of old ≡ 1) × (new ≡ old)
+Flushes old es (Err _) new = ⊥
+
+-- one of two states is found, or memory or the device failed
+abbrev pub FindsEither : {D : Type 0} {d : _} → Result (Journal D d) (Fault × D) → State → State → Type 0
+FindsEither (Ok j) s t = ∥ (state_of j ≡ s) ⊎ (state_of j ≡ t) ∥₁
+FindsEither (Err e) s t = (e.0 ≡ fault.Memory) ⊎ (e.0 ≡ fault.Device)
+
+-- Why opening was refused: by Geometry where the numbers do not fit the device; else memory or the device, or what its content is refused by.
+pub record IsOpeningRefused (old : DeviceView) (vars slots : ℕ) (f : Fault) (new : DeviceView) : Type 0 where
+  pub numbers : ¬ FitsOn vars slots old.capacity → f ≡ fault.Geometry
+  pub why : IsWhy (λ g. new.keeps_model → FitsOn vars slots old.capacity → IsRefusedBy vars slots old.seen g) f
