@@ -6,7 +6,7 @@ use Rattle.std.proofs.lemmas.List.Elements.{All-head, All-tail, All-cons, All-ni
 use Rattle.serde_json.proofs.Views.{members_len-members_view, view-Object}
 use Rattle.serde_json.specs.View.{view}
 use Rattle.serde_json.specs.declared.value.Value.{Value, Object}
-use Rattle.serde_json.specs.Data.{Data, string, object, member}
+use Rattle.serde_json.specs.Data.{Data, string}
 use Rattle.tmem_builtins.specs.Steps.{step_names}
 use Rattle.tmem_disk.specs.Name.{IsName}
 use Rattle.tmem_tree.specs.declared.tx.Tx.{Tx}

@@ -1,9 +1,10 @@
-//! Why a value was not read.
+//! What a value is refused by.
 use std::alloc::{AllocError, AllocFailed};
 
 /// Why a value was not read.
 #[derive(Debug, Drop)]
 pub enum FormError {
+    /// Memory did not suffice.
     Memory(AllocError),
     /// The value is the form of nothing that was asked for.
     NoForm,

@@ -23,7 +23,7 @@ pub fn pair_of(value: &Value) -> Result<(&Value, &Value), FormError>
 }
 
 /// The three items of an array of three.
-pub fn triple_of(value: &Value) -> Result<(&Value, &Value, &Value), FormError>
+pub(crate) fn triple_of(value: &Value) -> Result<(&Value, &Value, &Value), FormError>
     ensures ok { IfOk result (λ triple.
         view value.now ≡ array_of (view triple.0.now ∷ view triple.1.now ∷ view triple.2.now ∷ [])) }
     ensures refused { IfErr result (λ e. Refuses e ((x y z : Data) → ¬ (view value.now ≡ array_of (x ∷ y ∷ z ∷ [])))) }
@@ -58,7 +58,7 @@ pub fn byte_of(value: &Value) -> Result<u8, FormError>
 }
 
 /// A whole number of 64 bits with a sign, written without a point or an exponent.
-pub fn integer_of(value: &Value) -> Result<i64, FormError>
+pub(crate) fn integer_of(value: &Value) -> Result<i64, FormError>
     ensures ok { IfOk result (λ n. view value.now ≡ integer n) }
     ensures in_range { IfOk result (λ n. FitsSigned w64 n) }
     ensures refused { IfErr result (λ e. Refuses e ((n : ℤ) → FitsSigned w64 n → ¬ (view value.now ≡ integer n))) }
@@ -68,7 +68,7 @@ pub fn integer_of(value: &Value) -> Result<i64, FormError>
 }
 
 /// An array of registers, in their order.
-pub fn registers_of(alloc: Global, value: &Value) -> Result<Vec<u8>, FormError>
+pub(crate) fn registers_of(alloc: Global, value: &Value) -> Result<Vec<u8>, FormError>
     ensures ok { IfOk result (λ registers. view value.now ≡ array_of (map natural registers.items)) }
     ensures in_range { IfOk result (λ registers. All IsByte registers.items) }
     ensures refused { IfErr result (λ e. Refuses e ((registers : List ℕ) → All IsByte registers

@@ -9,8 +9,8 @@ ghost use Rattle.tmem_builtins.specs.Steps.{step_names};
 ghost use Rattle.tmem_disk.specs.Name.{IsName};
 ghost use Rattle.tmem_tree.specs.declared.tx.Tx.{Tx};
 
-use crate::pieces::{byte_of, integer_of, pair_of, registers_of, short_of, triple_of};
 use crate::error::FormError;
+use crate::pieces::{byte_of, integer_of, pair_of, registers_of, short_of, triple_of};
 use serde_json::Value;
 use std::alloc::Global;
 use tmem_builtins::index_of;
