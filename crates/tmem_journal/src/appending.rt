@@ -18,7 +18,7 @@ use tmem_record::{BATCH_ROOM, Batch, encode_batch};
 
 /// Puts a batch of one record into slot 0. `Device` where the write of its bytes failed: no crash leaves it accepted.
 /// `Unknown` where a sync or the write of the gate failed: a crash leaves it accepted or not. Nothing outside the slot is
-/// written. The buffer is for the bytes of the batch, and holds any bytes then.
+/// written. The buffer has `BATCH_ROOM` bytes or more. The batch is spelled there; afterwards it may hold anything.
 pub fn append<D: Disk>(
     disk: &mut D,
     layout: Layout,
