@@ -30,7 +30,7 @@ pub record FitsOn (vars slots capacity : ℕ) : Type 0 where
 abbrev pub BeforeOrAfter : ℕ → ℕ → State → Effect → List ℕ → Type 0
 BeforeOrAfter vars slots s e c = ∥ HoldsState vars slots 0 s c ⊎ HoldsState vars slots 1 (apply s e) c ∥₁
 
--- What a stop leaves once a record was appended: after Ok the state with it, after a refused write the state without it, and where a sync or the opening of the gate failed either.
+-- What a stop (a crash) leaves once a record was appended: after Ok the state with it, after a refused write the state without it, and where a sync or the opening of the gate failed either.
 abbrev pub Appended : ℕ → ℕ → State → Effect → DeviceView → Result (Unit {0}) Fault → Type 0
 Appended vars slots s e d (Ok _) = LeavesOnly d (StandsFor vars slots 1 (apply s e))
 Appended vars slots s e d (Err Device) = LeavesOnly d (StandsFor vars slots 0 s)

@@ -2,7 +2,7 @@
 use Rattle.std.specs.Prelude.{ℕ}
 use Rattle.tmem_disk.specs.Disk.{DeviceView, ReadsAs, SameSeenOutside, LeavesOnly, AtEachMoment, Elapses, Rewritten}
 
--- A read gives what it gave before, and a stop leaves no more than before, at any moment.
+-- A read gives what it gave before, and a stop (a crash) leaves no more than before, at any moment.
 pub record LooksOnly (old new : DeviceView) : Type 0 where
   pub seen : ReadsAs new old.seen
   pub stop : LeavesOnly new old.may_leave

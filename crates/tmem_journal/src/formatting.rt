@@ -27,7 +27,7 @@ pub fn format<D: Disk>(disk: &mut D, vars: u16, slots: u16) -> Result<(), Fault>
     ensures errors { IfErr result (λ f. (f ≡ Fault.Geometry) ⊎ (f ≡ Fault.Device)) }
     ensures stands { OnOk result (LeavesOnly (D.view disk.new) (StandsFor vars slots 0 (first_state vars))) }
 
-    // After `Ok` a read gives exactly this, and so does a stop. Nothing behind the end is written, whatever is answered.
+    // After `Ok` a read gives exactly this, and so does a stop (a crash). Nothing behind the end is written, whatever is answered.
     ensures written { OnOk result (ReadsAs (D.view disk.new) (formatted vars slots ++ drop (end_place vars slots) (D.view disk.old).seen)) }
     ensures durable { OnOk result (IsSynced (D.view disk.new)) }
     ensures elsewhere { WritesWithin 0 (end_place vars slots) (D.view disk.old) (D.view disk.new) }
