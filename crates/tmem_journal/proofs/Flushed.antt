@@ -50,24 +50,30 @@ sure_unused {vars = vars} {slots = slots} {used = used} {s = s} {d = d} few othe
 module _ {old new : DeviceView} {vars slots : ℕ} (s : State) (e : Effect) where
   -- once it is durable
   pub moments_ok : (t s' t' : State) → s' ≡ apply s e → AtEachMoment old new (BeforeOrAfter vars slots s e) → AtEachMoment old new (λ c. ∥ StandsForEither vars slots s t c ⊎ StandsForEither vars slots s' t' c ∥₁)
-  moments_ok t s' t' is during = record { each = λ k c left. ∥∥₁_map (during.each k c left) (λ either. ⊎_elim
-      (λ (held : HoldsState vars slots 0 s c). inl ∣ (0, inl held) ∣₁)
-      (λ (held : HoldsState vars slots 1 (apply s e) c). inr ∣ (1, inl (subst (λ (x : State). HoldsState vars slots 1 x c) (sym is) held)) ∣₁) either) }
+  moments_ok t s' t' is during = record {
+    each = λ k c left. ∥∥₁_map (during.each k c left) (λ either. ⊎_elim
+        (λ (held : HoldsState vars slots 0 s c). inl ∣ (0, inl held) ∣₁)
+        (λ (held : HoldsState vars slots 1 (apply s e) c). inr ∣ (1, inl (subst (λ (x : State). HoldsState vars slots 1 x c) (sym is) held)) ∣₁) either);
+  }
 
   -- where the flush failed
   pub moments_err : (t t' : State) (f : Fault) → (f ≡ Device) ⊎ (f ≡ Unknown) → t' ≡ fold s (doubted f (e ∷ [])) → AtEachMoment old new (Meanwhile vars slots s e (Err f)) → AtEachMoment old new (λ c. ∥ StandsForEither vars slots s t c ⊎ StandsForEither vars slots s t' c ∥₁)
   moments_err t t' Device which is during = record { each = λ k c left. ∥∥₁_map (during.each k c left) (λ held. inl ∣ (0, inl held) ∣₁) }
-  moments_err t t' Unknown which is during = record { each = λ k c left. ∥∥₁_map (during.each k c left) (λ either. ⊎_elim
-      (λ (held : HoldsState vars slots 0 s c). inl ∣ (0, inl held) ∣₁)
-      (λ (held : HoldsState vars slots 1 (apply s e) c). inr ∣ (1, inr (subst (λ (x : State). HoldsState vars slots 1 x c) (sym is) held)) ∣₁) either) }
+  moments_err t t' Unknown which is during = record {
+    each = λ k c left. ∥∥₁_map (during.each k c left) (λ either. ⊎_elim
+        (λ (held : HoldsState vars slots 0 s c). inl ∣ (0, inl held) ∣₁)
+        (λ (held : HoldsState vars slots 1 (apply s e) c). inr ∣ (1, inr (subst (λ (x : State). HoldsState vars slots 1 x c) (sym is) held)) ∣₁) either);
+  }
   moments_err t t' _ which is during = absurd (⊎_elim (λ a. cc) (λ b. cc) which)
 
 -- what a flush that failed leaves
 pub sure_err : {new : DeviceView} {vars slots : ℕ} (s : State) (e : Effect) (t' : State) (f : Fault) → (f ≡ Device) ⊎ (f ≡ Unknown) → t' ≡ fold s (doubted f (e ∷ [])) → Appended vars slots s e new (Err f) → LeavesOnly new (StandsForEither vars slots s t')
 sure_err s e t' Device which is left = sure_either t' left
-sure_err {vars = vars} {slots = slots} s e t' Unknown which is left = record { each = λ k c may. ∥∥₁_map (left.each k c may) (λ either. ⊎_elim
-    (λ held. (0, inl held))
-    (λ held. (1, inr (subst (λ (x : State). HoldsState vars slots 1 x c) (sym is) held))) either) }
+sure_err {vars = vars} {slots = slots} s e t' Unknown which is left = record {
+  each = λ k c may. ∥∥₁_map (left.each k c may) (λ either. ⊎_elim
+      (λ held. (0, inl held))
+      (λ held. (1, inr (subst (λ (x : State). HoldsState vars slots 1 x c) (sym is) held))) either);
+}
 sure_err s e t' _ which is left = absurd (⊎_elim (λ a. cc) (λ b. cc) which)
 
 -- where every crash left one of two states, and a content stands for a state, it is one of them

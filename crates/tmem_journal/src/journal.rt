@@ -62,12 +62,7 @@ impl<D: Disk> Journal<D> {
     /// limits, the device is smaller than their layout, or it was formatted for others; by `NotFormatted` where block 0 is
     /// closed or lacks its magic; else by `Damaged` where its content stands for no state; by `Memory`; by `Device` where a
     /// call of the device fails. The device is handed back with the refusal. Nothing is written.
-    pub fn open(
-        alloc: Global,
-        mut disk: D,
-        vars: u16,
-        slots: u16,
-    ) -> Result<Journal<D>, (Fault, D)>
+    pub fn open(alloc: Global, mut disk: D, vars: u16, slots: u16) -> Result<Journal<D>, (Fault, D)>
         ensures uses { Uses (D.view disk) (device_after result) (fault_alone result) }
         ensures looks { LooksOnly (D.view disk) (device_after result) }
         ensures any_moment { AtEachMoment (D.view disk) (device_after result) (D.view disk).may_leave }
@@ -142,7 +137,7 @@ impl<D: Disk> Journal<D> {
     }
 
     /// Makes a batch of one record durable, and answers how many transactions are durable then. Refused by `Closed` once
-    /// a call of the device has failed; by `LogFull` where every log slot is used; by `Device` where the write of the
+    /// a call of the device has failed; by `LogFull` where the log has its one record; by `Device` where the write of the
     /// batch failed: no crash leaves it; and by `Unknown` where a sync or the write of a gate failed: a crash leaves it or
     /// not. After these two the journal is closed.
     pub fn flush(&mut self, batch: &Batch) -> Result<u64, Fault>
@@ -164,7 +159,13 @@ impl<D: Disk> Journal<D> {
             return Err(Fault::LogFull);
         }
         let first = self.state.count();
-        match append(&mut self.disk, self.layout, first, batch, &mut self.buffer.bytes) {
+        match append(
+            &mut self.disk,
+            self.layout,
+            first,
+            batch,
+            &mut self.buffer.bytes,
+        ) {
             Ok(()) => {
                 self.state.accept(&batch.effects()[0]);
                 self.used = LOG_SLOTS;

@@ -47,7 +47,6 @@ returns-in-None-clause-found g c = λ k.
     let m1 = c.found_block.ensures.uses.model m2 in
     ∣ stands_unused (all_found c.args.layout.vars c.args.layout.slots c.in_ok-state.state _ _ _ _ (c.sync.ensures.looks.seen m1) (c.found_block.ensures.looks.seen m2) (c.found_image.ensures.looks.seen m3) None (c.in_ok-found_block.ensures.found m2) (c.in_ok-state.ensures.found m3) (rw c.in-None.is at (c.in_ok-found_log.ensures.found k))) ∣₁
 
-
 pub returns-in-None-clause-closed : goal.returns-in-None-clause-closed
 returns-in-None-clause-closed g c = λ none. leaves_seen (search rules) (λ k.
     let found = rw c.in-None.is at (c.in_ok-found_log.ensures.found k) in

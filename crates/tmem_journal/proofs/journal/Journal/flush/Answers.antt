@@ -13,9 +13,6 @@ use Rattle.tmem_journal.proofs.journal.Journal.flush.Goals as goal
 pub append-requires-clause-number : goal.append-requires-clause-number
 append-requires-clause-number g c = omega (arith, c.count-first.ensures, c.requires.countable, count_one c.args.self.now.state c.args.batch.now c.requires.one)
 
-
-
-
 pub invariant_of-self-in-Ok-clause-sized : goal.invariant_of-self-in-Ok-clause-sized
 invariant_of-self-in-Ok-clause-sized g c = ap (λ (x : State). length x.values) c.accept.ensures ∙ length-written c.args.self.now.state.values c.index-effects-0.result.writes ∙ c.args.self.now.sized
 
