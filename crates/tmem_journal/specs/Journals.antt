@@ -1,5 +1,5 @@
 -- What the calls of a journal do.
-use Rattle.std.specs.Prelude.{◌≡◌, ◌⊎◌, ◌+◌, ℕ, Bool, true, false, List, Some, Result, Ok, Err}
+use Rattle.std.specs.Prelude.{◌≡◌, ◌<◌, ◌⊎◌, ◌+◌, ℕ, Bool, true, false, List, Some, Result, Ok, Err}
 use Rattle.tmem_disk.specs.Disk.{DeviceView}
 use Rattle.tmem_disk.specs.declared.disk.DeviceFault.TheVariants.{Write}
 use Rattle.tmem_disk.specs.declared.fault.Fault.{Fault}
@@ -10,21 +10,27 @@ use Rattle.tmem_journal.specs.Calls.{FitsOn}
 use Rattle.tmem_journal.specs.Held.{device_of, state_of, doubtful_of, used_slots_of, is_closed_of}
 use Rattle.tmem_journal.specs.Refusals.{IsWhy, IsRefusedBy}
 use Rattle.tmem_journal.specs.declared.journal.Journal.{Journal}
+use Rattle.tmem_journal.specs.declared.journal.TheConstants.{LOG_SLOTS}
 
--- s is known durable, and t may be in its place; whether it is closed
-pub record IsAt {D : Type 0} {d : _} (j : Journal D d) (s t : State) (shut : Bool) : Type 0 where
+-- s is known durable, and t may be in its place; how many log slots are used; whether it is closed
+pub record IsAt {D : Type 0} {d : _} (j : Journal D d) (s t : State) (used : ℕ) (shut : Bool) : Type 0 where
   pub state : state_of j ≡ s
   pub doubtful : doubtful_of j ≡ t
+  pub used_slots : used_slots_of j ≡ used
   pub closed : is_closed_of j ≡ shut
+
+-- it is open, and a log slot is left
+pub record HasSlot {D : Type 0} {d : _} (j : Journal D d) : Type 0 where
+  pub running : is_closed_of j ≡ false
+  pub left : used_slots_of j < LOG_SLOTS
 
 -- What a flush of these effects did. At Device the last call that failed was a write.
 abbrev pub Flushes : {D : Type 0} {d : _} → Journal D d → List Effect → Result ℕ Fault → Journal D d → Type 0
-Flushes old es (Ok n) new =
-    (is_closed_of old ≡ false) × (n ≡ (fold (state_of old) es).count) × (used_slots_of new ≡ used_slots_of old + 1) × IsAt new (fold (state_of old) es) (fold (state_of old) es) false
-Flushes old es (Err fault.Device) new = (is_closed_of old ≡ false) × ((device_of new).last_fault ≡ Some Write) × IsAt new (state_of old) (state_of old) true
-Flushes old es (Err fault.Unknown) new = (is_closed_of old ≡ false) × IsAt new (state_of old) (fold (state_of old) es) true
+Flushes old es (Ok n) new = HasSlot old × (n ≡ (fold (state_of old) es).count) × IsAt new (fold (state_of old) es) (fold (state_of old) es) (used_slots_of old + 1) false
+Flushes old es (Err fault.Device) new = HasSlot old × ((device_of new).last_fault ≡ Some Write) × IsAt new (state_of old) (state_of old) (used_slots_of old) true
+Flushes old es (Err fault.Unknown) new = HasSlot old × IsAt new (state_of old) (fold (state_of old) es) (used_slots_of old) true
 Flushes old es (Err fault.Closed) new = (is_closed_of old ≡ true) × (new ≡ old)
-Flushes old es (Err fault.LogFull) new = (is_closed_of old ≡ false) × (used_slots_of old ≡ 1) × (new ≡ old)
+Flushes old es (Err fault.LogFull) new = (is_closed_of old ≡ false) × (used_slots_of old ≡ LOG_SLOTS) × (new ≡ old)
 Flushes old es (Err _) new = ⊥
 
 -- one of two states is found, or memory or the device failed

@@ -1,7 +1,10 @@
 -- What replies tell of the device.
-use Rattle.std.proofs.Common.{◌≡◌, ℕ, ⊎_elim, refl, ◌∙◌, ap, arith}
+use Rattle.std.proofs.Common.{◌≡◌, ℕ, inl, inr, refl, ◌∙◌, ap, arith}
 use Rattle.std.specs.Prelude.{Result, Ok, Err, IfErr}
-use Rattle.tmem_disk.specs.Disk.{DeviceView}
+use Rattle.tmem_record.proofs.Laws.{count-fold}
+use Rattle.tmem_journal.specs.Held.{disk_of, state_of}
+use Rattle.tmem_journal.specs.Journals as journals
+use Rattle.tmem_journal.specs.declared.journal.Journal as owner
 use Rattle.tmem_disk.specs.declared.fault.Fault.{Fault}
 use Rattle.tmem_disk.specs.declared.fault.Fault.TheVariants as fault
 use Rattle.tmem_tree.specs.declared.settled.Settled.{Settled}
@@ -18,17 +21,18 @@ use Rattle.tmem_world.specs.Replies.{reply_of, failures_by, FlushedNothing}
 use Rattle.tmem_world.proofs.FlushedPoints.{flush_reply}
 
 -- a flush that is answered as one without a write made none
-pub flush_still : {T : Type 0} {t : _} (vars slots : ℕ) (o o' : core.Session T t) (old new : DeviceView) (same : Type 0) (answer : Result ℕ Fault) → Flushes vars slots o old answer o' new same → FlushedNothing (durable_of o.core) (flush_reply answer) → same
-flush_still vars slots o o' old new same (Ok n) it none =
-    ⊎_elim (λ so. so.4) (λ wrote. absurd (omega (arith, wrote.0, none))) it
-flush_still vars slots o o' old new same (Err f) it none = refused f it none
+pub flush_still : {D T : Type 0} {d t : _} (o o' : core.Session D T d t) (answer : Result ℕ Fault) → Flushes o answer o' → FlushedNothing (durable_of o.core) (flush_reply answer) → disk_of o'.journal ≡ disk_of o.journal
+flush_still {D} {T} {d} {t} o o' answer (inl it) none = ap (λ (x : core.Session D T d t). disk_of x.journal) it.same
+flush_still {D} {T} {d} {t} o o' answer (inr (inl it)) none = ap (λ (x : core.Session D T d t). disk_of x.journal) it.same
+flush_still {D} {T} {d} {t} o o' answer (inr (inr it)) none = handed answer it.journal none
   where
-    refused : (f : Fault) → Flushes vars slots o old (Err f) o' new same → FlushedNothing (durable_of o.core) (reply.Fault f) → same
-    refused fault.Closed so still = so.2
-    refused fault.LogFull so still = so.4
-    refused fault.Device so still = absurd still
-    refused fault.Unknown so still = absurd still
-    refused _ so still = absurd so
+    handed : (x : Result ℕ Fault) → journals.Flushes o.journal it.oldest x o'.journal → FlushedNothing (durable_of o.core) (flush_reply x) → disk_of o'.journal ≡ disk_of o.journal
+    handed (Ok n) so still = absurd (omega (arith, so.1, count-fold (state_of o.journal) it.oldest, o.known, it.some, still))
+    handed (Err fault.Closed) so still = ap (λ (j : owner.Journal D d). disk_of j) so.1
+    handed (Err fault.LogFull) so still = ap (λ (j : owner.Journal D d). disk_of j) so.2
+    handed (Err fault.Device) so still = absurd still
+    handed (Err fault.Unknown) so still = absurd still
+    handed (Err _) so still = absurd so
 
 -- what an attempt is refused for counts no failed call
 refusal_counts : (n : ℕ) (f : Fault) → IsRefusal f → failures_by (reply.Fault f) n ≡ n
@@ -44,7 +48,7 @@ answer_counts n (Ok settled) is = refl
 answer_counts n (Err f) is = refusal_counts n f is
 
 -- settling asks nothing of the device
-pub settle_failures : {T : Type 0} {t : _} (o o' : core.Session T t) (s s' : Slot) (r : Reply) (n : ℕ) → Settles o s r o' s' → failures_by r n ≡ n
+pub settle_failures : {D T : Type 0} {d t : _} (o o' : core.Session D T d t) (s s' : Slot) (r : Reply) (n : ℕ) → Settles o s r o' s' → failures_by r n ≡ n
 settle_failures o o' slot.Empty s' r n it = ap (λ (x : Reply). failures_by x n) it.0
 settle_failures o o' (slot.Begun plan reads) s' r n it = ap (λ (x : Reply). failures_by x n) it.0
 settle_failures o o' (slot.Ended a) s' r n it = ap (λ (x : Reply). failures_by x n) it.1.reply ∙ answer_counts n it.0 it.1.refused

@@ -11,6 +11,7 @@ use Rattle.tmem_tree.specs.declared.settled.Settled.{Settled}
 use Rattle.tmem_tree.specs.declared.settled.Settled.TheVariants.{Committed, Seen, Retry, Aborted, Refused}
 use Rattle.tmem_core.specs.Verdict.{map_of, verdict}
 use Rattle.tmem_core.specs.SettleAnswer.{judged}
+use Rattle.tmem_journal.specs.declared.journal.TheConstants.{LOG_SLOTS}
 use Rattle.tmem_event.specs.declared.event.Event.{Event}
 use Rattle.tmem_event.specs.declared.event.Event.TheVariants as event
 use Rattle.tmem_event.specs.declared.event.Reply.{Reply}
@@ -18,7 +19,7 @@ use Rattle.tmem_event.specs.declared.event.Reply.TheVariants as reply
 use Rattle.tmem_world.specs.Replies.{reply_of, failures_by, failures_by_all, acknowledged, IsAcknowledged}
 use Rattle.tmem_world.specs.Represents.{RestsOn}
 use Rattle.tmem_world.specs.AnyDevice.{AllowsOnAnyDevice, RunOnAnyDevice}
-use Rattle.tmem_world.specs.WorldModel.{WorldModel, SlotModel, NoTransaction, Begun, Ended, SessionStatus, Open, Closed, Gone, Setting, present, slot_at, overridden, goes_on, AllowsBegin, AllowsTurn, is_closed, settled_by, settle_result, AllowsFlushOfOne, AllowsFlush, AllowsReopen, InSession, Allows, Run}
+use Rattle.tmem_world.specs.WorldModel.{WorldModel, SlotModel, NoTransaction, Begun, Ended, SessionStatus, Open, Closed, Gone, Setting, present, slot_at, overridden, goes_on, AllowsBegin, AllowsTurn, is_closed, settled_by, settle_result, AllowsFlushOfSome, AllowsFlush, AllowsReopen, InSession, Allows, Run}
 
 -- The reply acknowledges no more than is durable in the run after it, and nothing durable is lost.
 pub record KeepsDurable (m : WorldModel) (r : Reply) (m' : WorldModel) : Type 0 where
@@ -80,17 +81,17 @@ settles program (Ended plan reads) m slot =
     let answer = judged (is_closed m.session) (present program m) m.durable reads (verdict program plan (present program m)) in
     keeps_none m (reply_of answer) (settled_by answer m slot plan) (reply_of-acknowledged answer) (settled_by-durable answer m slot plan)
 
-flushes_one : (m : WorldModel) (r : Reply) (m' : WorldModel) → AllowsFlushOfOne m r m' → KeepsDurable m r m'
-flushes_one m (reply.Durable n) m' is =
+flushes_some : (program : Program) (m : WorldModel) (r : Reply) (m' : WorldModel) → AllowsFlushOfSome program m r m' → KeepsDurable m r m'
+flushes_some program m (reply.Durable n) m' is =
     let now : m'.durable ≡ n = ap (λ (x : WorldModel). x.durable) is.1 in
-    record { acknowledged = omega (arith, now); durable = omega (arith, now, is.0) }
-flushes_one m (reply.Fault f) m' is = keeps_none m (reply.Fault f) m' refl (same f is)
+    record { acknowledged = omega (arith, now); durable = omega (arith, now, is.0.more) }
+flushes_some program m (reply.Fault f) m' is = keeps_none m (reply.Fault f) m' refl (same f is)
   where
-    same : (f : Fault) → AllowsFlushOfOne m (reply.Fault f) m' → m'.durable ≡ m.durable
+    same : (f : Fault) → AllowsFlushOfSome program m (reply.Fault f) m' → m'.durable ≡ m.durable
     same fault.Device so = ap (λ (x : WorldModel). x.durable) so
-    same fault.Unknown so = ap (λ (x : WorldModel). x.durable) so
+    same fault.Unknown so = ap (λ (x : WorldModel). x.durable) so.2
     same _ so = absurd so
-flushes_one m _ m' is = absurd is
+flushes_some program m _ m' is = absurd is
 
 -- what holds of both holds of the one that is chosen
 either_of : (b : Bool) (P Q R : Type 0) → (P → R) → (Q → R) → MatchBool b P Q → R
@@ -100,13 +101,13 @@ either_of false P Q R one other is = other is
 flushes_in : (program : Program) (s : SessionStatus) (m : WorldModel) (r : Reply) (m' : WorldModel) → AllowsFlush program s m r m' → KeepsDurable m r m'
 flushes_in program Open m r m' is =
     either_of (nat_eq m.durable (present program m).count) _ _ (KeepsDurable m r m') (λ so. keeps_same m r (reply.Durable m.durable) m' (omega arith) so)
-    (λ so. either_of (nat_eq m.used 1) _ _ (KeepsDurable m r m') (λ full. keeps_same m r (reply.Fault fault.LogFull) m' (omega arith) full) (λ one. flushes_one m r m' one) so) is
+    (λ so. either_of (nat_eq m.used LOG_SLOTS) _ _ (KeepsDurable m r m') (λ full. keeps_same m r (reply.Fault fault.LogFull) m' (omega arith) full) (λ some. flushes_some program m r m' some) so) is
 flushes_in program Closed m r m' is = keeps_same m r (reply.Fault fault.Closed) m' (omega arith) is
 flushes_in program Gone m r m' is = keeps_same m r (reply.Fault fault.Closed) m' (omega arith) is
 
 reopens : (m : WorldModel) (r : Reply) (m' : WorldModel) → m.durable ≤ m.doubtful → AllowsReopen m r m' → KeepsDurable m r m'
 reopens m (reply.Opened n) m' below is =
-    let now : m'.durable ≡ n = ap (λ (x : WorldModel). x.durable) is.1 in
+    let now : m'.durable ≡ n = ap (λ (x : WorldModel). x.durable) is.1.1 in
     let found : m.durable ≤ n = ⊎_elim (λ (same : n ≡ m.durable). omega (arith, same)) (λ same. omega (arith, same, below)) is.0 in
     record { acknowledged = omega (arith, now); durable = omega (arith, now, found) }
 reopens m (reply.Fault f) m' below is = keeps_none m (reply.Fault f) m' refl (same f is)

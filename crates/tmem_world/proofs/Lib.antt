@@ -1,9 +1,9 @@
 pub mod AnyDevicePoints
-pub mod BeginSession
 pub mod CallsNoDevice
 pub mod DroppedPoints
 pub mod FlushedPoints
 pub mod HeldTables
+pub mod TakenBatches
 pub mod Laws
 pub mod OpenedPoints
 pub mod Points

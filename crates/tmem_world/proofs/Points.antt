@@ -1,11 +1,12 @@
 -- How a world goes from one point of a run to the next.
-use Rattle.std.proofs.Common.{◌≡◌, inl, inr, ℕ, ℤ, zero, suc, ◌<◌, Bool, true, false, List, [], ◌∷◌, ◌++◌, length, get_or, refl, sym, ◌∙◌, ap, subst, arith, Option, Some, None}
-use Rattle.std.specs.Prelude.{slice_set, is_none, nat_eq}
+use Rattle.std.proofs.Common.{◌≡◌, ◌⊎◌, ⊎_elim, inl, inr, ℕ, ℤ, zero, suc, ◌<◌, Bool, true, false, List, [], ◌∷◌, ◌++◌, length, get_or, refl, sym, ◌∙◌, ap, subst, arith, Option, Some, None}
+use Rattle.std.specs.Prelude.{slice_set, IsSome, nat_eq}
+use Rattle.std.proofs.Math.Logic.{∥∥₁_map}
 use Rattle.std.proofs.lemmas.List.{set-get_or}
 use Rattle.indexmap.proofs.CallerLemmas.{insert_entry-new}
 use Rattle.std.specs.List.{AllZip}
 use Rattle.std.proofs.Common.{HashMap, BuildHasherDefault, FoldHasher}
-use Rattle.tmem_disk.specs.Disk.{LeavesOnly}
+use Rattle.tmem_disk.specs.Disk.{IsDevice, LeavesOnly, AtEachMoment}
 use Rattle.tmem_tree.specs.declared.tx.Tx.{Tx}
 use Rattle.tmem_core.specs.Program.{Program}
 use Rattle.tmem_tree.specs.Visited.{visited}
@@ -21,11 +22,18 @@ use Rattle.tmem_tentative.specs.declared.attempt.Attempt as attempt
 use Rattle.tmem_world.specs.declared.session.Slot.{Slot}
 use Rattle.tmem_world.specs.declared.session.Slot.TheVariants as slot
 use Rattle.tmem_world.specs.declared.session.Session as core
+use Rattle.tmem_world.specs.declared.held.Held.{Held}
+use Rattle.tmem_world.specs.declared.held.Held.TheVariants.{With, Without}
+use Rattle.std.proofs.lemmas.Bool.{false≢true}
+use Rattle.tmem_world.specs.Parts.{what, disk_in, layout_in, table_in, IsWith}
+use Rattle.tmem_record.specs.State.{State}
+use Rattle.tmem_journal.specs.Held as journal
+use Rattle.tmem_journal.specs.Stands.{StandsForEither}
 use Rattle.tmem_journal.specs.declared.layout.Layout.{Layout}
 use Rattle.tmem_world.specs.declared.world.World.{World}
-use Rattle.tmem_world.specs.WorldModel.{WorldModel, SlotModel, NoTransaction, Begun, Ended, SessionStatus, InSession, AllowsTurn, value_or, overridden, goes_on, present, holding, slot_at}
+use Rattle.tmem_world.specs.WorldModel.{WorldModel, SlotModel, NoTransaction, Begun, Ended, SessionStatus, InSession, AllowsTurn, value_or, overridden, goes_on, present, cut, holding, slot_at}
 use Rattle.tmem_world.specs.SettleSlot.{Joins, Keeps}
-use Rattle.tmem_world.specs.Represents.{SlotIs, HasSession, Represents, StandsCut, session_of}
+use Rattle.tmem_world.specs.Represents.{SlotIs, SessionIs, HasSession, IsNumbered, Represents, EachMoment, StandsCut, session_of, held_of, device_of, view_of, held_table}
 
 pub AllZip-set : {A B : Type 0} (R : A → B → Type 0) (xs : List A) (ys : List B) (k : ℕ) (x : A) (y : B) → AllZip R xs ys → R x y → AllZip R (slice_set xs k x) (slice_set ys k y)
 AllZip-set R [] [] k x y each here = tt
@@ -34,32 +42,132 @@ AllZip-set R (a ∷ xs) [] k x y each here = absurd each
 AllZip-set R (a ∷ xs) (b ∷ ys) zero x y each here = (here, each.1)
 AllZip-set R (a ∷ xs) (b ∷ ys) (suc k) x y each here = (each.0, AllZip-set R xs ys k x y each.1 here)
 
+-- what is there, where it is known
+pub held_is : {A : Type 0} (o : Option A) (here : IsSome o) (x : A) → o ≡ Some x → what o here ≡ x
+held_is (Some y) here x is = cc
+held_is None here x is = cc
+
+-- what is there does not depend on how that is known
+pub what_is_there : {A : Type 0} (o : Option A) (here here' : IsSome o) → what o here' ≡ what o here
+what_is_there (Some x) here here' = refl
+what_is_there None here here' = absurd (false≢true here)
+
+-- the same is there
+pub same_what : {A : Type 0} (o o' : Option A) (here : IsSome o) (here' : IsSome o') → o' ≡ o → what o' here' ≡ what o here
+same_what {A = A} o o' here here' is = subst (λ (x : Option A). (h : IsSome x) → what o' here' ≡ what x h) is (λ h. what_is_there o' h here') here
+
 -- where there is a session, an event is answered as in a session
-pub in_session : {T : Type 0} {t : _} (program : Program) (o : Option (core.Session T t)) (m : WorldModel) (r : Reply) (m' : WorldModel) (allowed : Type 0) → HasSession program o m → is_none o ≡ false → allowed → InSession m.session m r m' allowed
-in_session program None m r m' allowed has some it = cc
-in_session program (Some s) m r m' allowed has some it = by_state (is_shut_of s.core) has.session
+pub in_session : {D T : Type 0} {d t : _} (program : Program) (h : Held D T d t) (m : WorldModel) (r : Reply) (m' : WorldModel) (allowed : Type 0) → HasSession program h m → IsWith h → allowed → InSession m.session m r m' allowed
+in_session program (Without left) m r m' allowed has some it = absurd some
+in_session program (With o) m r m' allowed has some it = by_state (is_shut_of o.core) has.status
   where
     by_state : (b : Bool) → m.session ≡ session_of b → InSession m.session m r m' allowed
     by_state true is = subst (λ (z : SessionStatus). InSession z m r m' allowed) (sym is) it
     by_state false is = subst (λ (z : SessionStatus). InSession z m r m' allowed) (sym is) it
 
+-- a world with a session holds one
+pub is_with : {D T : Type 0} {d t : _} (h : Held D T d t) (o : core.Session D T d t) → h ≡ With o → IsWith h
+is_with (With other) o is = tt
+is_with (Without left) o is = cc
+
+module _ {D T S : Type 0} {d t s : _} (program : Program) (w : World D T S d t s) (m : WorldModel) (o : core.Session D T d t) (here : held_of w ≡ With o) (is : SessionIs program o m) where
+  -- what the journal of a session allows is the serial order cut where it may be
+  pub may_be : (c : List ℕ) → journal.MayBe o.journal c → StandsCut program w.layout.vars w.layout.slots m c
+  may_be c it =
+      let vars : (journal.layout_of o.journal).vars ≡ w.layout.vars = sym (ap (λ (h : Held D T d t). (layout_in h).vars) here) ∙ w.same_vars in
+      let slots : (journal.layout_of o.journal).slots ≡ w.layout.slots = sym (ap (λ (h : Held D T d t). (layout_in h).slots) here) ∙ w.same_slots in
+      subst (λ (v : ℕ). StandsForEither v w.layout.slots (cut program m m.durable) (cut program m m.doubtful) c) vars
+      (subst (λ (n : ℕ). StandsForEither (journal.layout_of o.journal).vars n (cut program m m.durable) (cut program m m.doubtful) c) slots
+      (subst (λ (x : State). StandsForEither (journal.layout_of o.journal).vars (journal.layout_of o.journal).slots x (cut program m m.doubtful) c) is.durable
+      (subst (λ (x : State). StandsForEither (journal.layout_of o.journal).vars (journal.layout_of o.journal).slots (journal.state_of o.journal) x c) is.doubtful it)))
+
+  -- so every crash leaves that
+  pub stands_in : LeavesOnly (view_of w) (StandsCut program w.layout.vars w.layout.slots m)
+  stands_in = subst (λ (h : Held D T d t). LeavesOnly (d.view (disk_in h)) (StandsCut program w.layout.vars w.layout.slots m)) (sym here) (record { each = λ keeps c left. may_be c (o.journal.stands.each keeps c left) })
+
+  -- a world with this session is at the point
+  pub in_point : IsNumbered program m → AllZip (SlotIs program) w.slots.items m.slots → (journal.device_of o.journal).failures ≡ m.failures → Represents program w m
+  in_point numbers slots failures = record {
+    numbers = numbers;
+    slots = slots;
+    session = subst (λ (h : Held D T d t). HasSession program h m) (sym here) is;
+    failures = ap (λ (h : Held D T d t). (d.view (disk_in h)).failures) here ∙ failures;
+    device = stands_in;
+  }
+
+module _ {D T S : Type 0} {d t s : _} (program : Program) (w : World D T S d t s) (m : WorldModel) (o : core.Session D T d t) (here : held_of w ≡ With o) (r : Represents program w m) where
+  -- the session of a point
+  pub session_at : SessionIs program o m
+  session_at = subst (λ (h : Held D T d t). HasSession program h m) here r.session
+
+  pub failures_at : (journal.device_of o.journal).failures ≡ m.failures
+  failures_at = sym (ap (λ (h : Held D T d t). (d.view (disk_in h)).failures) here) ∙ r.failures
+
+module _ {D T S : Type 0} {d t s : _} (w w' : World D T S d t s) (layout : w'.layout ≡ w.layout) where
+  -- a session's journal at each moment of a flush
+  pub flush_moments : (o o' : core.Session D T d t) → held_of w ≡ With o → held_of w' ≡ With o' → AtEachMoment (journal.device_of o.journal) (journal.device_of o'.journal) (λ c. ∥ journal.MayBe o.journal c ⊎ journal.MayBe o'.journal c ∥₁) → EachMoment w w'
+  flush_moments o o' before after during = λ program m m' r r'.
+      let P : List ℕ → Type 0 = λ c. ∥ StandsCut program w.layout.vars w.layout.slots m c ⊎ StandsCut program w.layout.vars w.layout.slots m' c ∥₁ in
+      let then : (c : List ℕ) → journal.MayBe o'.journal c → StandsCut program w.layout.vars w.layout.slots m' c =
+      λ c it. subst (λ (l : Layout). StandsCut program l.vars l.slots m' c) layout (may_be program w' m' o' after (session_at program w' m' o' after r') c it) in
+      let both : AtEachMoment (journal.device_of o.journal) (journal.device_of o'.journal) P = record {
+        each = λ k c left. ∥∥₁_map (during.each k c left) (λ either. ⊎_elim
+            (λ (it : journal.MayBe o.journal c). inl (may_be program w m o before (session_at program w m o before r) c it))
+            (λ (it : journal.MayBe o'.journal c). inr (then c it)) either);
+      } in
+      subst (λ (h : Held D T d t). AtEachMoment (d.view (disk_in h)) (view_of w') P) (sym before)
+      (subst (λ (h : Held D T d t). AtEachMoment (journal.device_of o.journal) (d.view (disk_in h)) P) (sym after) both)
+
+  -- an event without a call of the device
+  pub still_moments : IsDevice (view_of w) → device_of w' ≡ device_of w → EachMoment w w'
+  still_moments device same = λ program m m' r r'.
+      subst (λ (x : D). AtEachMoment (view_of w) (d.view x) (λ c. ∥ StandsCut program w.layout.vars w.layout.slots m c ⊎ StandsCut program w.layout.vars w.layout.slots m' c ∥₁)) (sym same)
+      (record { each = λ k c left. ∣ inl (r.device.each k c (device.only_now c k left)) ∣₁ })
+
+  -- an event that writes nothing
+  pub looking_moments : ((view_of w').keeps_model → (view_of w).keeps_model) → AtEachMoment (view_of w) (view_of w') (view_of w).may_leave → EachMoment w w'
+  looking_moments model during = λ program m m' r r'. record { each = λ k c left. ∣ inl (r.device.each (model k) c (during.each k c left)) ∣₁ }
+
 module _ {D T S : Type 0} {d t s : _} (program : Program) (w w' : World D T S d t s) (m : WorldModel) where
   -- one attempt changes, and nothing else
-  pub with_slot : (k : ℕ) (x : Slot) (a : SlotModel) → Represents program w m → SlotIs program x a → w'.slots.items ≡ slice_set w.slots.items k x → w'.session ≡ w.session → w'.durable ≡ w.durable → w'.doubtful ≡ w.doubtful → w'.disk ≡ w.disk → w'.layout ≡ w.layout
-      → Represents program w' (holding m k a)
-  with_slot k x a r here slots session durable doubtful disk layout = record {
+  pub with_slot : (k : ℕ) (x : Slot) (a : SlotModel) → Represents program w m → SlotIs program x a → w'.slots.items ≡ slice_set w.slots.items k x → w'.held ≡ w.held → w'.layout ≡ w.layout → Represents program w' (holding m k a)
+  with_slot k x a r here slots kept_held layout = record {
     numbers = record { opened = r.numbers.opened; durable = r.numbers.durable; doubtful = r.numbers.doubtful; each = r.numbers.each; sound = r.numbers.sound };
     slots = subst (λ (l : List Slot). AllZip (SlotIs program) l (slice_set m.slots k a)) (sym slots) (AllZip-set (SlotIs program) w.slots.items m.slots k x a r.slots here);
-    session = subst (λ (o : Option (core.Session T t)). HasSession program o (holding m k a)) (sym session) (kept w.session r.session);
-    durable = durable ∙ r.durable;
-    doubtful = doubtful ∙ r.doubtful;
-    failures = ap (λ (y : D). (d.view y).failures) disk ∙ r.failures;
-    device = subst (λ (y : D). LeavesOnly (d.view y) (StandsCut program w'.layout.vars w'.layout.slots m)) (sym disk) (subst (λ (l : Layout). LeavesOnly (d.view w.disk) (StandsCut program l.vars l.slots m)) (sym layout) r.device);
+    session = subst (λ (h : Held D T d t). HasSession program h (holding m k a)) (sym held) (kept (held_of w) r.session);
+    failures = ap (λ (h : Held D T d t). (d.view (disk_in h)).failures) held ∙ r.failures;
+    device = subst (λ (h : Held D T d t). LeavesOnly (d.view (disk_in h)) (StandsCut program w'.layout.vars w'.layout.slots m)) (sym held) (subst (λ (l : Layout). LeavesOnly (view_of w) (StandsCut program l.vars l.slots m)) (sym layout) r.device);
   }
     where
-      kept : (o : Option (core.Session T t)) → HasSession program o m → HasSession program o (holding m k a)
-      kept None has = has
-      kept (Some o) has = record { state = has.state; durable = has.durable; waiting = has.waiting; used = has.used; session = has.session; certain = has.certain }
+      held : held_of w' ≡ held_of w
+      held = same_what w.held w'.held w.here w'.here kept_held
+
+      kept : (h : Held D T d t) → HasSession program h m → HasSession program h (holding m k a)
+      kept (Without left) has = has
+      kept (With o) has = record { state = has.state; number = has.number; waiting = has.waiting; durable = has.durable; doubtful = has.doubtful; used = has.used; status = has.status; certain = has.certain }
+
+module _ {D T S : Type 0} {d t s : _} (w w' : World D T S d t s) (same : w'.held ≡ w.held) where
+  pub held_stays : held_of w' ≡ held_of w
+  held_stays = same_what w.held w'.held w.here w'.here same
+
+  pub device_stays : device_of w' ≡ device_of w
+  device_stays = ap (λ (h : Held D T d t). disk_in h) held_stays
+
+  pub table_stays : held_table w' ≡ held_table w
+  table_stays = ap (λ (h : Held D T d t). table_in h) held_stays
+
+  pub failures_stay : (view_of w').failures ≡ (view_of w).failures
+  failures_stay = ap (λ (x : D). (d.view x).failures) device_stays
+
+  -- where nothing changes
+  pub same_point : (program : Program) (m : WorldModel) → Represents program w m → w'.slots.items ≡ w.slots.items → w'.layout ≡ w.layout → Represents program w' m
+  same_point program m r slots layout = record {
+    numbers = r.numbers;
+    slots = subst (λ (l : List Slot). AllZip (SlotIs program) l m.slots) (sym slots) r.slots;
+    session = subst (λ (h : Held D T d t). HasSession program h m) (sym held_stays) r.session;
+    failures = failures_stay ∙ r.failures;
+    device = subst (λ (x : D). LeavesOnly (d.view x) (StandsCut program w'.layout.vars w'.layout.slots m)) (sym device_stays) (subst (λ (l : Layout). LeavesOnly (view_of w) (StandsCut program l.vars l.slots m)) (sym layout) r.device);
+  }
 
 pub AllZip-at : {A B : Type 0} (R : A → B → Type 0) (xs : List A) (ys : List B) (k : ℕ) (d : A) (e : B) → AllZip R xs ys → k < length xs → R (get_or xs k d) (get_or ys k e)
 AllZip-at R [] ys k d e each below = absurd (omega arith)

@@ -1,179 +1,284 @@
 -- The point of a run after the device was opened again.
-use Rattle.std.proofs.Common.{◌≡◌, ◌⊎◌, inl, inr, ⊎_elim, ℕ, ◌+◌, ◌-◌, ◌<◌, ◌≤◌, ◌^◌, false, List, [], length, take, refl, sym, ◌∙◌, ap, subst, arith, Option, Some, None}
-use Rattle.std.specs.Prelude.{Err, All}
-use Rattle.std.specs.List.{AllZip}
+use Rattle.std.proofs.Common.{◌≡◌, ◌⊎◌, inl, inr, ⊎_elim, ℕ, ◌+◌, ◌-◌, ◌≤◌, false, List, [], length, take, refl, sym, ◌∙◌, ap, subst, arith}
+use Rattle.std.specs.Prelude.{All, Some, Result, Ok, Err}
 use Rattle.std.proofs.Math.Logic.{∥∥₁_elim}
 use Rattle.std.proofs.Props.{props}
 use Rattle.std.proofs.lemmas.Bool.{cases_eq}
-use Rattle.tmem_disk.specs.Disk.{IsDevice, LeavesOnly, ReadsAs, IsSynced, after_fault}
+use Rattle.tmem_disk.specs.Disk.{DeviceView, LeavesOnly, ReadsAs, AtEachMoment, after_fault}
 use Rattle.tmem_disk.specs.declared.fault.Fault.{Fault}
 use Rattle.tmem_disk.specs.declared.fault.Fault.TheVariants as fault
 use Rattle.tmem_event.specs.declared.event.Reply.TheVariants as reply
-use Rattle.tmem_journal.specs.declared.layout.Layout.{Layout}
 use Rattle.tmem_world.specs.declared.session.Slot.{Slot}
 use Rattle.tmem_world.specs.declared.session.Slot.TheVariants as slot
 use Rattle.tmem_world.specs.declared.session.Session as core
+use Rattle.tmem_world.specs.declared.held.Held.{Held}
+use Rattle.tmem_world.specs.declared.held.Held.TheVariants.{With}
 use Rattle.tmem_world.specs.declared.world.World.{World}
 use Rattle.tmem_record.specs.State.{State}
 use Rattle.tmem_invariants.specs.Meanings.{IsSound}
 use Rattle.tmem_core.specs.Program.{Program}
-use Rattle.tmem_core.specs.Held.{state_of, waiting_of, durable_of, is_shut_of}
+use Rattle.tmem_core.specs.Held.{state_of, waiting_of, is_shut_of}
 use Rattle.tmem_core.specs.Verdict.{serial_state}
 use Rattle.tmem_core.proofs.Laws.{count-committed}
-use Rattle.tmem_journal.specs.Stands.{StandsFor}
 use Rattle.tmem_journal.specs.Calls.{Uses, failures_after}
-use Rattle.tmem_journal.specs.Laws.{StandsForOne, RefusedStandsForNone}
+use Rattle.tmem_journal.specs.Calls.{FitsOn}
+use Rattle.tmem_journal.specs.Layout.{end_place}
+use Rattle.tmem_journal.specs.Looks.{LooksOnly}
+use Rattle.tmem_journal.specs.Stands.{StandsFor, StandsForEither}
 use Rattle.tmem_journal.specs.Refusals.{IsRefusedBy}
-use Rattle.tmem_world.specs.SessionRefusals.{IsWhyNot}
+use Rattle.tmem_journal.specs.Journals.{IsOpeningRefused}
+use Rattle.tmem_core.specs.Opening.{opening_fault}
+use Rattle.tmem_journal.specs.Held as journal
+use Rattle.tmem_journal.specs.declared.journal.Journal as owner
+use Rattle.tmem_world.specs.SessionRefusals.{IsWhyNoSession}
+use Rattle.tmem_world.specs.Parts.{disk_in, layout_in, table_in, IsWith}
+use Rattle.tmem_world.specs.AnyDevice.{dropped_by, FindsUnsound, ReopeningRefused}
 use Rattle.tmem_world.specs.WorldModel.{WorldModel, no_transactions, Open, cut, dropped, AllowsReopen}
-use Rattle.tmem_world.specs.Represents.{SlotIs, HasSession, Represents, StandsCut, session_of}
+use Rattle.tmem_world.specs.Represents.{Represents, Means, EachMoment, StandsCut, held_of, held_table, device_of, view_of, session_of}
 use Rattle.tmem_world.proofs.DroppedPoints.{no_slots_held, gone}
+use Rattle.tmem_world.proofs.Points.{in_point, looking_moments}
+use Rattle.tmem_world.proofs.OpenedPoints.{why_journal, why_session}
 use Rattle.tmem_world.proofs.Serial.{committed-take, length-take, take-again, take-shorter, none_waits}
 
--- the point of the run where n transactions were found
-abbrev found_at : WorldModel → ℕ → WorldModel
-found_at m n = record m { accepted = take (n - m.opened.count) m.accepted; durable = n; doubtful = n; used = m.used + (n - m.durable); slots = no_transactions; session = Open }
+-- the point of the run where n transactions were found, and so many log slots are used
+abbrev found_at : WorldModel → ℕ → ℕ → WorldModel
+found_at m n used = record m { accepted = take (n - m.opened.count) m.accepted; durable = n; doubtful = n; used = used; slots = no_transactions; session = Open }
 
-module _ {D T S : Type 0} {d t z : _} (program : Program) (w w' : World D T S d t z) (m : WorldModel) (r : Represents program w m) (device : IsDevice (d.view w.disk)) (keeps : (d.view w'.disk).keeps_model) (layout : w'.layout ≡ w.layout)
-    (emptied : All (λ (s : Slot). s ≡ slot.Empty) w'.slots.items) (sized : length w'.slots.items ≡ 16) (seen : ReadsAs (d.view w'.disk) (d.view w.disk).seen) (stop : LeavesOnly (d.view w'.disk) (d.view w.disk).may_leave)
-    (stands_for_one : StandsForOne) (refused_stands_for_none : RefusedStandsForNone) where
-  slots_held : AllZip (SlotIs program) w'.slots.items no_transactions
-  slots_held = no_slots_held program w'.slots.items sized emptied
+-- what a session is refused for is no failed call
+no_device : (U : Type 0) (f : Fault) → IsWhyNoSession U f → (n : ℕ) → n ≡ failures_after f n
+no_device U fault.Memory why n = refl
+no_device U (fault.Missing name) why n = refl
+no_device U (fault.Broken name) why n = refl
+no_device U _ why n = absurd why
 
-  few_vars : w.layout.vars ≤ 2 ^ 16
-  few_vars = let fits : w.layout.vars ≤ 1024 = w.layout.fits.vars_fit in omega arith
+-- a sound state lacks nothing
+only_memory : (U : Type 0) (f : Fault) → (U → ⊥) → IsWhyNoSession U f → f ≡ fault.Memory
+only_memory U fault.Memory sound why = refl
+only_memory U (fault.Missing name) sound why = absurd (sound why)
+only_memory U (fault.Broken name) sound why = absurd (sound why)
+only_memory U _ sound why = absurd why
 
-  -- what is read stands for the order cut at the durable number or at the doubtful one
-  reads_at : (d.view w.disk).keeps_model → StandsCut program w.layout.vars w.layout.slots m (d.view w.disk).seen
-  reads_at k = r.device.each k (d.view w.disk).seen (device.seen_may_stay k)
+module _ {D T S : Type 0} {d t z : _} (program : Program) (w w' : World D T S d t z) (m : WorldModel) (r : Represents program w m) (layout : w'.layout ≡ w.layout)
+    (emptied : All (λ (s : Slot). s ≡ slot.Empty) w'.slots.items) (sized : length w'.slots.items ≡ 16) where
+  -- the count of the order cut at a number of the run
+  count_at : (n : ℕ) → m.opened.count ≤ n → n ≤ m.opened.count + length m.accepted → (cut program m n).count ≡ n
+  count_at n low high =
+      let k = n - m.opened.count in
+      omega (arith, low, high, count-committed program m.opened (take k m.accepted) (committed-take program k m.opened m.accepted r.numbers.each), length-take k m.accepted (omega (arith, high)))
 
-  abbrev RefusedBy : Fault → Type 0
-  RefusedBy f = (d.view w'.disk).keeps_model → IsRefusedBy w.layout.vars w.layout.slots (d.view w.disk).seen f
+  durable_within : m.durable ≤ m.opened.count + length m.accepted
+  durable_within = omega (arith, r.numbers.durable, r.numbers.doubtful)
 
-  abbrev StandsForUnsound : Fault → Type 0
-  StandsForUnsound f = (used : ℕ) × (s : State) × ((d.view w'.disk).keeps_model → StandsFor w.layout.vars w.layout.slots used s (d.view w.disk).seen) × (¬ IsSound program.tests program.names s.names s.values)
+  doubtful_from : m.opened.count ≤ m.doubtful
+  doubtful_from = omega (arith, r.numbers.opened, r.numbers.durable)
 
-  -- it stands for some state
-  some_state : (f : Fault) → (d.view w.disk).keeps_model → RefusedBy f → ⊥
-  some_state f k by =
-      let none : (used : ℕ) (s : State) → ¬ StandsFor w.layout.vars w.layout.slots used s (d.view w.disk).seen = λ used s. refused_stands_for_none w.layout.vars w.layout.slots used s (d.view w.disk).seen f w.layout.fits (by keeps) in
-      ∥∥₁_elim (reads_at k) (hlevel props) (λ either. ⊎_elim (λ (it : StandsFor w.layout.vars w.layout.slots m.used (cut program m m.durable) (d.view w.disk).seen). none _ _ it) (λ it. none _ _ it) either)
-
-  -- and that is sound
-  sound_state : (f : Fault) → (d.view w.disk).keeps_model → StandsForUnsound f → ⊥
-  sound_state f k un = ∥∥₁_elim (reads_at k) (hlevel props) (⊎_elim at_durable at_doubtful)
-    where
-      sound_at : (n : ℕ) → m.opened.count ≤ n → n ≤ m.opened.count + length m.accepted → un.1 ≡ cut program m n → ⊥
-      sound_at n low high same = un.3 (subst (λ (x : State). IsSound program.tests program.names x.names x.values) (sym same) (r.numbers.sound n low high))
-
-      at_durable : StandsFor w.layout.vars w.layout.slots m.used (cut program m m.durable) (d.view w.disk).seen → ⊥
-      at_durable it = sound_at m.durable r.numbers.opened (omega (arith, r.numbers.durable, r.numbers.doubtful)) (stands_for_one w.layout.vars w.layout.slots un.0 m.used un.1 (cut program m m.durable) (d.view w.disk).seen few_vars (un.2 keeps) it).1
-
-      at_doubtful : StandsFor w.layout.vars w.layout.slots (m.used + (m.doubtful - m.durable)) (cut program m m.doubtful) (d.view w.disk).seen → ⊥
-      at_doubtful it = sound_at m.doubtful (omega (arith, r.numbers.opened, r.numbers.durable)) r.numbers.doubtful (stands_for_one w.layout.vars w.layout.slots un.0 (m.used + (m.doubtful - m.durable)) un.1 (cut program m m.doubtful) (d.view w.disk).seen few_vars (un.2 keeps) it).1
-
-  not_refused : (f : Fault) → ((d.view w'.disk).keeps_model → (d.view w.disk).keeps_model) → IsWhyNot RefusedBy (StandsForUnsound f) f → (f ≡ fault.Memory) ⊎ (f ≡ fault.Device)
-  not_refused fault.Memory model why = inl refl
-  not_refused fault.Device model why = inr refl
-  not_refused fault.NotFormatted model why = absurd (some_state fault.NotFormatted (model keeps) why)
-  not_refused fault.Damaged model why = absurd (some_state fault.Damaged (model keeps) why)
-  not_refused fault.Geometry model why = absurd (some_state fault.Geometry (model keeps) why)
-  not_refused (fault.Missing name) model why = absurd (sound_state (fault.Missing name) (model keeps) why)
-  not_refused (fault.Broken name) model why = absurd (sound_state (fault.Broken name) (model keeps) why)
-  not_refused _ model why = absurd why
-
-  -- opening refused
-  pub refused : (f : Fault) → Uses {T = Unit {0}} (d.view w.disk) (d.view w'.disk) (Err f) → IsWhyNot RefusedBy (StandsForUnsound f) f
-      → w'.session ≡ None → w'.durable ≡ w.durable → w'.doubtful ≡ w.doubtful → (m' : WorldModel) × AllowsReopen m (reply.Fault f) m' × Represents program w' m'
-  refused f uses why none durable doubtful = ⊎_elim by_memory by_device (not_refused f uses.model why)
+  -- opening was refused by want of memory, or since a call of the device failed
+  pub refused : LeavesOnly (view_of w') (view_of w).may_leave → ((view_of w').keeps_model → (view_of w).keeps_model) → (IsWith (held_of w') → ⊥) → (f : Fault) → (f ≡ fault.Memory) ⊎ (f ≡ fault.Device) → (view_of w').failures ≡ failures_after f (view_of w).failures
+      → (m' : WorldModel) × AllowsReopen m (reply.Fault f) m' × Represents program w' m'
+  refused stop model none f which failures = ⊎_elim by_memory by_device which
     where
       by_memory : f ≡ fault.Memory → (m' : WorldModel) × AllowsReopen m (reply.Fault f) m' × Represents program w' m'
       by_memory is =
-          let failures : (d.view w'.disk).failures ≡ failures_after fault.Memory (d.view w.disk).failures = subst (λ (x : Fault). (d.view w'.disk).failures ≡ failures_after x (d.view w.disk).failures) is uses.failures in
-          subst (λ (x : Fault). (m' : WorldModel) × AllowsReopen m (reply.Fault x) m' × Represents program w' m') (sym is) (dropped m, refl, gone program w w' m r layout emptied sized stop uses.model none durable doubtful m.failures (failures ∙ r.failures))
+          let same : (view_of w').failures ≡ (view_of w).failures = subst (λ (x : Fault). (view_of w').failures ≡ failures_after x (view_of w).failures) is failures in
+          subst (λ (x : Fault). (m' : WorldModel) × AllowsReopen m (reply.Fault x) m' × Represents program w' m') (sym is) (dropped m, refl, gone program w w' m r layout emptied sized stop model none m.failures (same ∙ r.failures))
 
       by_device : f ≡ fault.Device → (m' : WorldModel) × AllowsReopen m (reply.Fault f) m' × Represents program w' m'
       by_device is =
-          let failures : (d.view w'.disk).failures ≡ failures_after fault.Device (d.view w.disk).failures = subst (λ (x : Fault). (d.view w'.disk).failures ≡ failures_after x (d.view w.disk).failures) is uses.failures in
-          subst (λ (x : Fault). (m' : WorldModel) × AllowsReopen m (reply.Fault x) m' × Represents program w' m') (sym is) (record (dropped m) { failures = after_fault m.failures }, refl, gone program w w' m r layout emptied sized stop uses.model none durable doubtful (after_fault m.failures) (failures ∙ ap after_fault r.failures))
+          let more : (view_of w').failures ≡ after_fault (view_of w).failures = subst (λ (x : Fault). (view_of w').failures ≡ failures_after x (view_of w).failures) is failures in
+          subst (λ (x : Fault). (m' : WorldModel) × AllowsReopen m (reply.Fault x) m' × Represents program w' m') (sym is)
+          (record (dropped m) { failures = after_fault m.failures }, refl, gone program w w' m r layout emptied sized stop model none (after_fault m.failures) (more ∙ ap after_fault r.failures))
 
-  module _ (s : core.Session T t) (some : w'.session ≡ Some s) (durable : w'.durable ≡ (state_of s.core).count) (doubtful : w'.doubtful ≡ (state_of s.core).count) (stands : StandsFor w.layout.vars w.layout.slots s.used (state_of s.core) (d.view w.disk).seen)
-      (fresh : waiting_of s.core ≡ []) (all : durable_of s.core ≡ (state_of s.core).count) (running : is_shut_of s.core ≡ false) (failures : (d.view w'.disk).failures ≡ (d.view w.disk).failures) (synced : IsSynced (d.view w'.disk)) where
-    found_as : (n : ℕ) → (n ≡ m.durable) ⊎ (n ≡ m.doubtful) → m.opened.count ≤ n → n ≤ m.opened.count + length m.accepted → s.used ≡ m.used + (n - m.durable) → (state_of s.core) ≡ cut program m n → (m' : WorldModel) × AllowsReopen m (reply.Opened (state_of s.core).count) m' × Represents program w' m'
-    found_as n which low high used state =
-        let k = n - m.opened.count in
-        let le : k ≤ length m.accepted = omega arith in
-        let counted : (state_of s.core).count ≡ n = omega (arith, ap (λ (x : State). x.count) state, count-committed program m.opened (take k m.accepted) (committed-take program k m.opened m.accepted r.numbers.each), length-take k m.accepted le) in
-        let again : cut program m n ≡ cut program (found_at m n) n = ap (serial_state program m.opened) (sym (take-again k m.accepted)) in
-        let here : StandsFor w.layout.vars w.layout.slots (m.used + (n - m.durable)) (cut program (found_at m n) n) (d.view w.disk).seen =
-        subst (λ (u : ℕ). StandsFor w.layout.vars w.layout.slots u (cut program (found_at m n) n) (d.view w.disk).seen) used (subst (λ (t : State). StandsFor w.layout.vars w.layout.slots s.used t (d.view w.disk).seen) (state ∙ again) stands) in
-        let sound_cut : (j : ℕ) → m.opened.count ≤ j → j ≤ m.opened.count + length (take k m.accepted) → IsSound program.tests program.names (cut program (found_at m n) j).names (cut program (found_at m n) j).values =
-        λ j from to. subst (λ (x : State). IsSound program.tests program.names x.names x.values) (ap (serial_state program m.opened) (sym (take-shorter (j - m.opened.count) k m.accepted (omega (arith, to, length-take k m.accepted le)))))
-        (r.numbers.sound j from (omega (arith, to, le, length-take k m.accepted le))) in
-        let point : Represents program w' (found_at m n) = record {
-          numbers = record { opened = low; durable = omega arith; doubtful = omega (arith, length-take k m.accepted le); each = committed-take program k m.opened m.accepted r.numbers.each; sound = sound_cut };
-          slots = slots_held;
-          session = subst (λ (o : Option (core.Session T t)). HasSession program o (found_at m n)) (sym some) (record {
-            state = state;
-            durable = all ∙ counted;
-            waiting = fresh ∙ sym (none_waits program k m.opened m.accepted r.numbers.each);
-            used = used;
-            session = ap session_of (sym running);
-            certain = λ yes. refl;
-          });
-          durable = durable ∙ counted;
-          doubtful = doubtful ∙ counted;
-          failures = failures ∙ r.failures;
-          device = record {
-            each = λ k' c left. ∣ inl (subst (λ (l : Layout). StandsFor l.vars l.slots (m.used + (n - m.durable)) (cut program (found_at m n) n) c) (sym layout)
-                (subst (λ (b : List ℕ). StandsFor w.layout.vars w.layout.slots (m.used + (n - m.durable)) (cut program (found_at m n) n) b) (sym (synced k' c left ∙ seen k')) here)) ∣₁;
-          };
-        } in
-        subst (λ (x : ℕ). (m' : WorldModel) × AllowsReopen m (reply.Opened x) m' × Represents program w' m') (sym counted) (found_at m n, (which, refl), point)
+  module _ (s : State) (either : ∥ (s ≡ cut program m m.durable) ⊎ (s ≡ cut program m m.doubtful) ∥₁) where
+    -- the state that was found is sound
+    sound_state : (¬ IsSound program.tests program.names s.names s.values) → ⊥
+    sound_state un = ∥∥₁_elim either (hlevel props) (⊎_elim
+        (λ (is : s ≡ cut program m m.durable). sound_at m.durable r.numbers.opened durable_within is)
+        (λ (is : s ≡ cut program m m.doubtful). sound_at m.doubtful doubtful_from r.numbers.doubtful is))
+      where
+        sound_at : (n : ℕ) → m.opened.count ≤ n → n ≤ m.opened.count + length m.accepted → s ≡ cut program m n → ⊥
+        sound_at n low high same = un (subst (λ (x : State). IsSound program.tests program.names x.names x.values) (sym same) (r.numbers.sound n low high))
 
-    -- the count of the order cut at a number of the run
-    count_at : (n : ℕ) → m.opened.count ≤ n → n ≤ m.opened.count + length m.accepted → (cut program m n).count ≡ n
-    count_at n low high =
-        let k = n - m.opened.count in
-        omega (arith, low, high, count-committed program m.opened (take k m.accepted) (committed-take program k m.opened m.accepted r.numbers.each), length-take k m.accepted (omega (arith, high)))
-
-    at_durable : (cut program m m.durable).count ≡ m.durable
-    at_durable = count_at m.durable r.numbers.opened (omega (arith, r.numbers.durable, r.numbers.doubtful))
-
-    at_doubtful : (cut program m m.doubtful).count ≡ m.doubtful
-    at_doubtful = count_at m.doubtful (omega (arith, r.numbers.opened, r.numbers.durable)) r.numbers.doubtful
+    -- so no session was refused by an invariant
+    pub by_memory : (U : Type 0) (f : Fault) → (U → ¬ IsSound program.tests program.names s.names s.values) → IsWhyNoSession U f → f ≡ fault.Memory
+    by_memory U f unsound why = only_memory U f (λ un. sound_state (unsound un)) why
 
     -- it is the one of the two that its count says
-    abbrev IsFound : ℕ → Type 0
-    IsFound n = (s.used ≡ m.used + (n - m.durable)) × (state_of s.core ≡ cut program m n)
-
-    is_one : StandsFor w.layout.vars w.layout.slots m.used (cut program m m.durable) (d.view w.disk).seen → (s.used ≡ m.used) × (state_of s.core ≡ cut program m m.durable)
-    is_one it = stands_for_one w.layout.vars w.layout.slots s.used m.used (state_of s.core) (cut program m m.durable) (d.view w.disk).seen few_vars stands it
-
-    is_other : StandsFor w.layout.vars w.layout.slots (m.used + (m.doubtful - m.durable)) (cut program m m.doubtful) (d.view w.disk).seen → IsFound m.doubtful
-    is_other it = stands_for_one w.layout.vars w.layout.slots s.used (m.used + (m.doubtful - m.durable)) (state_of s.core) (cut program m m.doubtful) (d.view w.disk).seen few_vars stands it
-
-    by_durable : (d.view w.disk).keeps_model → (state_of s.core).count ≡ m.durable → IsFound m.durable
-    by_durable k same = ∥∥₁_elim (reads_at k) (hlevel props) (⊎_elim
-        (λ one. let it = is_one one in (omega (arith, it.0), it.1))
+    by_durable : s.count ≡ m.durable → s ≡ cut program m m.durable
+    by_durable same = ∥∥₁_elim either (hlevel props) (⊎_elim
+        (λ one. one)
         (λ other.
-        let it = is_other other in
-        let less : m.doubtful ≡ m.durable = omega (arith, same, ap (λ (x : State). x.count) it.1, at_doubtful) in
-        (omega (arith, it.0, less), it.1 ∙ ap (cut program m) less)))
+        let less : m.doubtful ≡ m.durable = omega (arith, same, ap (λ (x : State). x.count) other, count_at m.doubtful doubtful_from r.numbers.doubtful) in
+        other ∙ ap (cut program m) less))
 
-    by_doubtful : (d.view w.disk).keeps_model → ((state_of s.core).count ≡ m.durable → ⊥) → IsFound m.doubtful
-    by_doubtful k differ = ∥∥₁_elim (reads_at k) (hlevel props) (⊎_elim
-        (λ one. absurd (differ (ap (λ (x : State). x.count) (is_one one).1 ∙ at_durable)))
-        is_other)
+    by_doubtful : (s.count ≡ m.durable → ⊥) → s ≡ cut program m m.doubtful
+    by_doubtful differ = ∥∥₁_elim either (hlevel props) (⊎_elim
+        (λ (one : s ≡ cut program m m.durable). absurd (differ (ap (λ (x : State). x.count) one ∙ count_at m.durable r.numbers.opened durable_within)))
+        (λ other. other))
+
+  module _ (o : core.Session D T d t) (j : owner.Journal D d) (some : held_of w' ≡ With o) (kept : o.journal ≡ j) (state : state_of o.core ≡ journal.state_of j) (fresh : waiting_of o.core ≡ []) (sure : journal.doubtful_of j ≡ journal.state_of j) (running : is_shut_of o.core ≡ false)
+      (failures : (journal.device_of j).failures ≡ (view_of w).failures) where
+    found_as : (n : ℕ) → (n ≡ m.durable) ⊎ (n ≡ m.doubtful) → m.opened.count ≤ n → n ≤ m.opened.count + length m.accepted → journal.state_of j ≡ cut program m n → (m' : WorldModel) × AllowsReopen m (reply.Opened (journal.state_of j).count) m' × Represents program w' m'
+    found_as n which low high is =
+        let k = n - m.opened.count in
+        let le : k ≤ length m.accepted = omega (arith, high) in
+        let counted : (journal.state_of j).count ≡ n = ap (λ (x : State). x.count) is ∙ count_at n low high in
+        let m' = found_at m n (journal.used_slots_of j) in
+        let here : journal.state_of j ≡ cut program m' n = is ∙ ap (serial_state program m.opened) (sym (take-again k m.accepted)) in
+        let sound_cut : (i : ℕ) → m.opened.count ≤ i → i ≤ m.opened.count + length (take k m.accepted) → IsSound program.tests program.names (cut program m' i).names (cut program m' i).values =
+        λ i from to. subst (λ (x : State). IsSound program.tests program.names x.names x.values) (ap (serial_state program m.opened) (sym (take-shorter (i - m.opened.count) k m.accepted (omega (arith, to, length-take k m.accepted le)))))
+        (r.numbers.sound i from (omega (arith, to, le, length-take k m.accepted le))) in
+        let point : Represents program w' m' = in_point program w' m' o some (record {
+          state = state ∙ is;
+          number = o.known ∙ ap (λ (x : owner.Journal D d). (journal.state_of x).count) kept ∙ counted;
+          waiting = fresh ∙ sym (none_waits program k m.opened m.accepted r.numbers.each);
+          durable = ap (λ (x : owner.Journal D d). journal.state_of x) kept ∙ here;
+          doubtful = ap (λ (x : owner.Journal D d). journal.doubtful_of x) kept ∙ sure ∙ here;
+          used = ap (λ (x : owner.Journal D d). journal.used_slots_of x) kept;
+          status = ap session_of (sym running);
+          certain = λ yes. refl;
+        })
+        (record { opened = low; durable = omega arith; doubtful = omega (arith, length-take k m.accepted le, low); each = committed-take program k m.opened m.accepted r.numbers.each; sound = sound_cut })
+        (no_slots_held program w'.slots.items sized emptied) (ap (λ (x : owner.Journal D d). (journal.device_of x).failures) kept ∙ failures ∙ r.failures) in
+        subst (λ (x : ℕ). (m' : WorldModel) × AllowsReopen m (reply.Opened x) m' × Represents program w' m') (sym counted) (m', (which, (journal.used_slots_of j, refl)), point)
 
     -- opening found a state of the run
-    pub found : ((d.view w'.disk).keeps_model → (d.view w.disk).keeps_model) → (n : ℕ) → n ≡ (state_of s.core).count → (m' : WorldModel) × AllowsReopen m (reply.Opened n) m' × Represents program w' m'
-    found model n is =
+    pub found : ∥ (journal.state_of j ≡ cut program m m.durable) ⊎ (journal.state_of j ≡ cut program m m.doubtful) ∥₁ → (n : ℕ) → n ≡ (journal.state_of j).count → (m' : WorldModel) × AllowsReopen m (reply.Opened n) m' × Represents program w' m'
+    found either n is =
         subst (λ (x : ℕ). (m' : WorldModel) × AllowsReopen m (reply.Opened x) m' × Represents program w' m') (sym is) (⊎_elim
-        (λ (same : (state_of s.core).count ≡ m.durable).
-        let it = by_durable (model keeps) same in
-        found_as m.durable (inl refl) r.numbers.opened (omega (arith, r.numbers.durable, r.numbers.doubtful)) it.0 it.1)
+        (λ (same : (journal.state_of j).count ≡ m.durable).
+        found_as m.durable (inl refl) r.numbers.opened durable_within (by_durable (journal.state_of j) either same))
         (λ differ.
-        let it = by_doubtful (model keeps) differ in
-        found_as m.doubtful (inr refl) (omega (arith, r.numbers.opened, r.numbers.durable)) r.numbers.doubtful it.0 it.1)
-        (cases_eq (state_of s.core).count m.durable))
+        found_as m.doubtful (inr refl) doubtful_from r.numbers.doubtful (by_doubtful (journal.state_of j) either differ))
+        (cases_eq (journal.state_of j).count m.durable))
+
+-- what was taken out of a world
+module _ {D T S : Type 0} {d t z : _} (w : World D T S d t z) (h : Held D T d t) (held : held_of w ≡ h) where
+  pub same_table : (table : T) → table ≡ table_in h → table ≡ held_table w
+  same_table table is = is ∙ ap (λ (x : Held D T d t). table_in x) (sym held)
+
+  module _ (disk : D) (is : disk ≡ disk_in h) where
+    disk_before : disk ≡ device_of w
+    disk_before = is ∙ ap (λ (x : Held D T d t). disk_in x) (sym held)
+
+    pub failures_before : (v : DeviceView) (n : ℕ → ℕ) → v.failures ≡ n (d.view disk).failures → v.failures ≡ n (view_of w).failures
+    failures_before v n it = it ∙ ap (λ (x : D). n (d.view x).failures) disk_before
+
+    pub seen_before : (P : List ℕ → Type 0) → P (d.view disk).seen → P (view_of w).seen
+    seen_before P it = subst (λ (x : D). P (d.view x).seen) disk_before it
+
+-- The same, by what the calls of a reopening say: the device was taken out of what the world held, and a journal opened on it.
+module _ {D T S : Type 0} {d t z : _} (w w' : World D T S d t z) (h : Held D T d t) (held : held_of w ≡ h) (disk : D) (is : disk ≡ disk_in h) (room : end_place (layout_in h).vars (layout_in h).slots ≤ (d.view disk).capacity) (layout : w'.layout ≡ w.layout)
+    (emptied : All (λ (s : Slot). s ≡ slot.Empty) w'.slots.items) (sized : length w'.slots.items ≡ 16) where
+  same_disk : disk ≡ device_of w
+  same_disk = is ∙ ap (λ (x : Held D T d t). disk_in x) (sym held)
+
+  -- the layout still fits
+  pub fits_again : FitsOn w.layout.vars w.layout.slots (d.view disk).capacity
+  fits_again = record {
+    layout = w.layout.fits;
+    room = subst (λ (v : ℕ). end_place v w.layout.slots ≤ (d.view disk).capacity) (ap (λ (x : Held D T d t). (layout_in x).vars) (sym held) ∙ w.same_vars)
+        (subst (λ (n : ℕ). end_place (layout_in h).vars n ≤ (d.view disk).capacity) (ap (λ (x : Held D T d t). (layout_in x).slots) (sym held) ∙ w.same_slots) room);
+  }
+
+  -- what the calls used
+  uses_again : (v : D) → device_of w' ≡ v → {x : Result (Unit {0}) Fault} → Uses (d.view disk) (d.view v) x → Uses (view_of w) (view_of w') x
+  uses_again v now {x} uses = subst (λ (y : D). Uses (view_of w) (d.view y) x) (sym now) (subst (λ (y : D). Uses (d.view y) (d.view v) x) same_disk uses)
+
+  -- every crash left one of two states
+  left : (program : Program) (m : WorldModel) → Represents program w m → LeavesOnly (d.view disk) (StandsCut program w.layout.vars w.layout.slots m)
+  left program m r = subst (λ (x : D). LeavesOnly (d.view x) (StandsCut program w.layout.vars w.layout.slots m)) (sym same_disk) r.device
+
+  module _ (v : D) (now : device_of w' ≡ v) (looks : LooksOnly (d.view disk) (d.view v)) (model : (d.view v).keeps_model → (d.view disk).keeps_model) where
+    pub seen_again : ReadsAs (view_of w') (view_of w).seen
+    seen_again = subst (λ (x : D). ReadsAs (d.view x) (view_of w).seen) (sym now) (subst (λ (x : D). ReadsAs (d.view v) (d.view x).seen) same_disk looks.seen)
+
+    pub stop_again : LeavesOnly (view_of w') (view_of w).may_leave
+    stop_again = subst (λ (x : D). LeavesOnly (d.view x) (view_of w).may_leave) (sym now) (subst (λ (x : D). LeavesOnly (d.view v) (d.view x).may_leave) same_disk looks.stop)
+
+    pub model_again : (view_of w').keeps_model → (view_of w).keeps_model
+    model_again = subst (λ (x : D). (d.view x).keeps_model → (view_of w).keeps_model) (sym now) (subst (λ (x : D). (d.view v).keeps_model → (d.view x).keeps_model) same_disk model)
+
+    pub reopen_moments : AtEachMoment (d.view disk) (d.view v) (d.view disk).may_leave → EachMoment w w'
+    reopen_moments during =
+        looking_moments w w' layout model_again
+        (subst (λ (x : D). AtEachMoment (view_of w) (d.view x) (view_of w).may_leave) (sym now) (subst (λ (x : D). AtEachMoment (d.view x) (d.view v) (d.view x).may_leave) same_disk during))
+
+    pub failures_again : (n : ℕ → ℕ) → (d.view v).failures ≡ n (d.view disk).failures → (view_of w').failures ≡ n (view_of w).failures
+    failures_again n it = ap (λ (x : D). (d.view x).failures) now ∙ it ∙ ap (λ (x : D). n (d.view x).failures) same_disk
+
+    module _ (none : IsWith (held_of w') → ⊥) where
+      -- the point where the session is gone
+      pub gone_again : (f : Fault) → (d.view v).failures ≡ failures_after f (d.view disk).failures → (program : Program) (m : WorldModel) → Represents program w m → Represents program w' (dropped_by f m)
+      gone_again f failures program m r = gone program w w' m r layout emptied sized stop_again model_again none (failures_after f m.failures) (failures_again (failures_after f) failures ∙ ap (failures_after f) r.failures)
+
+      -- no journal was opened
+      pub journal_refused : (f : Fault) → (d.view v).failures ≡ failures_after f (d.view disk).failures
+          → ((s s' : State) → FitsOn w.layout.vars w.layout.slots (d.view disk).capacity → LeavesOnly (d.view disk) (StandsForEither w.layout.vars w.layout.slots s s') → (d.view v).keeps_model → (f ≡ fault.Memory) ⊎ (f ≡ fault.Device))
+          → (program : Program) (m : WorldModel) → Represents program w m → (d.view v).keeps_model → (m' : WorldModel) × AllowsReopen m (reply.Fault f) m' × Represents program w' m'
+      journal_refused f failures either program m r keeps =
+          refused program w w' m r layout emptied sized stop_again model_again none f (either (cut program m m.durable) (cut program m m.doubtful) fits_again (left program m r) keeps) (failures_again (failures_after f) failures)
+
+  module _ (j : owner.Journal D d) (looks : LooksOnly (d.view disk) (journal.device_of j)) (model : (journal.device_of j).keeps_model → (d.view disk).keeps_model) (failures : (journal.device_of j).failures ≡ (d.view disk).failures)
+      (either : (s s' : State) → FitsOn w.layout.vars w.layout.slots (d.view disk).capacity → LeavesOnly (d.view disk) (StandsForEither w.layout.vars w.layout.slots s s') → (journal.device_of j).keeps_model → ∥ (journal.state_of j ≡ s) ⊎ (journal.state_of j ≡ s') ∥₁) where
+    -- a journal was opened, and no session begun over it
+    pub session_refused : (v : D) → device_of w' ≡ v → v ≡ journal.disk_of j → (IsWith (held_of w') → ⊥) → (f : Fault) (U : Type 0) → IsWhyNoSession U f
+        → (program : Program) → (U → ¬ IsSound program.tests program.names (journal.state_of j).names (journal.state_of j).values) → (m : WorldModel) → Represents program w m → (view_of w').keeps_model → (m' : WorldModel) × AllowsReopen m (reply.Fault f) m' × Represents program w' m'
+    session_refused v now back none f U why program unsound m r keeps =
+        let same : device_of w' ≡ journal.disk_of j = now ∙ back in
+        let keeps' : (journal.device_of j).keeps_model = subst (λ (x : D). (d.view x).keeps_model) same keeps in
+        let one = either (cut program m m.durable) (cut program m m.doubtful) fits_again (left program m r) keeps' in
+        let memory : f ≡ fault.Memory = by_memory program w w' m r layout emptied sized (journal.state_of j) one U f unsound why in
+        let so : (view_of w').failures ≡ (view_of w).failures = failures_again (journal.disk_of j) same looks model (λ n. n) failures in
+        refused program w w' m r layout emptied sized (stop_again (journal.disk_of j) same looks model) (model_again (journal.disk_of j) same looks model) none f (inl memory)
+        (subst (λ (x : Fault). (view_of w').failures ≡ failures_after x (view_of w).failures) (sym memory) so)
+
+    -- a session was begun over it
+    pub session_found : (o : core.Session D T d t) → held_of w' ≡ With o → o.journal ≡ j → state_of o.core ≡ journal.state_of j → waiting_of o.core ≡ [] → journal.doubtful_of j ≡ journal.state_of j → is_shut_of o.core ≡ false → (n : ℕ) → n ≡ (state_of o.core).count
+        → (program : Program) (m : WorldModel) → Represents program w m → (view_of w').keeps_model → (m' : WorldModel) × AllowsReopen m (reply.Opened n) m' × Represents program w' m'
+    session_found o some kept state fresh sure running n count program m r keeps =
+        let same : device_of w' ≡ journal.disk_of j = ap (λ (x : Held D T d t). disk_in x) some ∙ ap (λ (x : owner.Journal D d). journal.disk_of x) kept in
+        let keeps' : (journal.device_of j).keeps_model = subst (λ (x : D). (d.view x).keeps_model) same keeps in
+        found program w w' m r layout emptied sized o j some kept state fresh sure running (failures ∙ ap (λ (x : D). (d.view x).failures) same_disk)
+        (either (cut program m m.durable) (cut program m m.doubtful) fits_again (left program m r) keeps') n (count ∙ ap (λ (x : State). x.count) state)
+
+  -- why it was refused, where no journal was opened
+  pub reopening_refused : (v : D) → device_of w' ≡ v → LooksOnly (d.view disk) (d.view v) → {f : Fault} → Uses {T = Unit {0}} (d.view disk) (d.view v) (Err f) → (IsWith (held_of w') → ⊥) → IsOpeningRefused (d.view disk) w.layout.vars w.layout.slots f (d.view v) → ReopeningRefused w f w'
+  reopening_refused v now looks {f} uses none why = record {
+    refused = record {
+      uses = uses_again v now uses;
+      numbers = λ unfit. absurd (unfit (subst (λ (x : D). FitsOn w.layout.vars w.layout.slots (d.view x).capacity) same_disk fits_again));
+      why = why_journal (λ g. (d.view v).keeps_model → FitsOn w.layout.vars w.layout.slots (d.view disk).capacity → IsRefusedBy w.layout.vars w.layout.slots (d.view disk).seen g)
+          (λ g. (view_of w').keeps_model → FitsOn w.layout.vars w.layout.slots (view_of w).capacity → IsRefusedBy w.layout.vars w.layout.slots (view_of w).seen g) _ f
+          (λ g by k fits. subst (λ (x : D). IsRefusedBy w.layout.vars w.layout.slots (d.view x).seen g) same_disk (by (subst (λ (x : D). (d.view x).keeps_model) now k) fits_again)) why.why;
+      seen = seen_again v now looks uses.model;
+      stop = stop_again v now looks uses.model;
+    };
+    session = none;
+    slots = emptied;
+    point = gone_again v now looks uses.model none f uses.failures;
+  }
+
+  -- and where no session was begun over it
+  pub session_not_begun : (j : owner.Journal D d) → LooksOnly (d.view disk) (journal.device_of j) → Uses {T = Unit {0}} (d.view disk) (journal.device_of j) (Ok tt) → ((journal.device_of j).keeps_model → StandsFor w.layout.vars w.layout.slots (journal.used_slots_of j) (journal.state_of j) (d.view disk).seen)
+      → (v : D) → device_of w' ≡ v → v ≡ journal.disk_of j → (IsWith (held_of w') → ⊥) → (f : Fault) (U : Type 0) → IsWhyNoSession U f → (U → (program : Program) → Means w program → opening_fault program (journal.state_of j) ≡ Some f) → ReopeningRefused w f w'
+  session_not_begun j looks uses found v now back none f U why fault_of =
+      let same : device_of w' ≡ journal.disk_of j = now ∙ back in
+      let counts : (journal.device_of j).failures ≡ failures_after f (d.view disk).failures = uses.failures ∙ no_device U f why (d.view disk).failures in
+      let so = uses_again (journal.disk_of j) same uses in
+      record {
+        refused = record {
+          uses = record { capacity = so.capacity; model = so.model; failures = failures_again (journal.disk_of j) same looks uses.model (failures_after f) counts };
+          numbers = λ unfit. absurd (unfit (subst (λ (x : D). FitsOn w.layout.vars w.layout.slots (d.view x).capacity) same_disk fits_again));
+          why = why_session (λ g. (view_of w').keeps_model → FitsOn w.layout.vars w.layout.slots (view_of w).capacity → IsRefusedBy w.layout.vars w.layout.slots (view_of w).seen g) U (FindsUnsound w f w') f (λ un. (
+            journal.used_slots_of j,
+            journal.state_of j,
+            (λ k. subst (λ (x : D). StandsFor w.layout.vars w.layout.slots (journal.used_slots_of j) (journal.state_of j) (d.view x).seen) same_disk (found (subst (λ (x : D). (d.view x).keeps_model) same k))),
+            fault_of un,
+          )) why;
+          seen = seen_again (journal.disk_of j) same looks uses.model;
+          stop = stop_again (journal.disk_of j) same looks uses.model;
+        };
+        session = none;
+        slots = emptied;
+        point = gone_again (journal.disk_of j) same looks uses.model none f counts;
+      }

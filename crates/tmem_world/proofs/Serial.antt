@@ -114,3 +114,27 @@ module _ (program : Program) where
         state = next.state;
         waits = ap (drop (suc (suc k))) (effects-cons s t txs are.0) ∙ next.waits;
       }
+
+  -- What waits first are these effects: behind them the rest waits, and the order cut there is as much longer.
+  pub record AreNext (s : State) (txs : List Tx) (k : ℕ) (es rest : List Effect) : Type 0 where
+    pub below : k + length es ≤ length txs
+    pub state : serial_state program s (take (k + length es) txs) ≡ fold (serial_state program s (take k txs)) es
+    pub waits : drop (k + length es) (serial_effects program s txs) ≡ rest
+
+  pub are_next : (s : State) (txs : List Tx) (k : ℕ) (es rest : List Effect) → AreCommitted program s txs → k ≤ length txs → drop k (serial_effects program s txs) ≡ es ++ rest → AreNext s txs k es rest
+  are_next s txs k [] rest are le is =
+      let same : k + 0 ≡ k = omega arith in
+      record {
+        below = omega (arith, le);
+        state = ap (λ (n : ℕ). serial_state program s (take n txs)) same;
+        waits = ap (λ (n : ℕ). drop n (serial_effects program s txs)) same ∙ is;
+      }
+  are_next s txs k (e ∷ es) rest are le is =
+      let next = next_waits s txs k e (es ++ rest) are is in
+      let more = are_next s txs (suc k) es rest are (omega (arith, next.below)) next.waits in
+      let same : k + length (e ∷ es) ≡ suc k + length es = omega arith in
+      record {
+        below = omega (arith, more.below);
+        state = ap (λ (n : ℕ). serial_state program s (take n txs)) same ∙ more.state ∙ ap (λ (x : State). fold x es) next.state;
+        waits = ap (λ (n : ℕ). drop n (serial_effects program s txs)) same ∙ more.waits;
+      }

@@ -16,7 +16,7 @@ use Rattle.tmem_world.specs.declared.session.Slot.{Slot}
 use Rattle.tmem_world.specs.declared.session.Slot.TheVariants.{Empty}
 use Rattle.tmem_world.specs.declared.world.World.{World}
 use Rattle.tmem_world.specs.WorldModel.{Setting, WorldModel, Allows, opening, dropped}
-use Rattle.tmem_world.specs.Represents.{Represents, Means, HoldsSession, OpeningRefused, setting_of}
+use Rattle.tmem_world.specs.Represents.{Represents, Means, HoldsSession, OpeningRefused, setting_of, view_of}
 
 -- what an opening can be refused for
 abbrev pub IsOpeningFault : Fault → Type 0
@@ -57,23 +57,23 @@ HoldsNoTransaction w = All (λ (slot : Slot). slot ≡ Empty) w.slots.items
 
 -- the content stands for a state of which an invariant is missing or false, the one that the refusal names
 abbrev pub FindsUnsound : {D T S : Type 0} {d t s : _} → World D T S d t s → Fault → World D T S d t s → Type 0
-FindsUnsound {d = d} old f new =
-    (used : ℕ) × (s : State) × ((d.view new.disk).keeps_model → StandsFor old.layout.vars old.layout.slots used s (d.view old.disk).seen)
+FindsUnsound old f new =
+    (used : ℕ) × (s : State) × ((view_of new).keeps_model → StandsFor old.layout.vars old.layout.slots used s (view_of old).seen)
     × ((program : Program) → Means old program → opening_fault program s ≡ Some f)
 
 -- Opening again was refused, as any opening is. No session stands then, each slot is empty, and the run goes on so.
 pub record ReopeningRefused {D T S : Type 0} {d t s : _} (old : World D T S d t s) (f : Fault) (new : World D T S d t s) : Type 0 where
-  pub refused : OpeningRefused (d.view old.disk) old.layout.vars old.layout.slots (FindsUnsound old f new) f (d.view new.disk)
+  pub refused : OpeningRefused (view_of old) old.layout.vars old.layout.slots (FindsUnsound old f new) f (view_of new)
   pub session : ¬ HoldsSession new
   pub slots : HoldsNoTransaction new
   pub point : (program : Program) (m : WorldModel) → Represents program old m → Represents program new (dropped_by f m)
 
 -- What Reopen is answered, and where the world is then. After Opened it is where a run begins, at a state of that count: the one that the content stands for, where the device keeps the model.
 abbrev pub IsReopened : {D T S : Type 0} {d t s : _} → World D T S d t s → Reply → World D T S d t s → Type 0
-IsReopened {d = d} old (reply.Opened n) new =
+IsReopened old (reply.Opened n) new =
     (s : State) × (used : ℕ) × (s.count ≡ n)
-    × ((program : Program) → Means new program → Represents program new (opening s used (d.view old.disk).failures))
-    × ((d.view new.disk).keeps_model → StandsFor new.layout.vars new.layout.slots used s (d.view old.disk).seen)
+    × ((program : Program) → Means new program → Represents program new (opening s used (view_of old).failures))
+    × ((view_of new).keeps_model → StandsFor new.layout.vars new.layout.slots used s (view_of old).seen)
 IsReopened old (reply.Fault f) new = ReopeningRefused old f new
 IsReopened old _ new = ⊥
 

@@ -1,6 +1,6 @@
 pub mod AnyDevice
 pub mod Facts
-pub mod HeldTable
+pub mod Parts
 pub mod Replies
 pub mod Represents
 pub mod SessionRefusals

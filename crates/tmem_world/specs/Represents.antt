@@ -1,15 +1,14 @@
 -- When a world is at a point of a run.
-use Rattle.std.specs.Prelude.{Err, IsSome, ◌≡◌, ◌<◌, ◌≤◌, ◌⊎◌, ⊤, ◌+◌, ◌-◌, ℕ, Bool, true, false, List, length, drop, Option, Some, None}
+use Rattle.std.specs.Prelude.{Result, Ok, Err, ◌≡◌, ◌<◌, ◌≤◌, ◌⊎◌, ⊤, ◌+◌, ◌-◌, ℕ, Bool, true, false, List, length, drop}
 use Rattle.std.specs.List.{AllZip}
-use Rattle.std.specs.Option.{ForSome}
 use Rattle.tmem_invariants.specs.Meanings.{IsSound}
-use Rattle.tmem_disk.specs.Disk.{DeviceView, LeavesOnly, ReadsAs}
+use Rattle.tmem_disk.specs.Disk.{DeviceView, LeavesOnly, ReadsAs, AtEachMoment}
 use Rattle.tmem_disk.specs.declared.fault.Fault.{Fault}
 use Rattle.tmem_disk.specs.declared.fault.Fault.TheVariants.{Geometry}
 use Rattle.tmem_journal.specs.Calls.{Uses, FitsOn}
 use Rattle.tmem_journal.specs.Refusals.{IsRefusedBy}
 use Rattle.tmem_world.specs.SessionRefusals.{IsWhyNot}
-use Rattle.tmem_world.specs.HeldTable.{table_in}
+use Rattle.tmem_world.specs.Parts.{what, disk_in, table_in, IsWith}
 use Rattle.tmem_core.specs.Program.{Program}
 use Rattle.tmem_tentative.specs.Right.{IsRight}
 use Rattle.tmem_core.specs.Held.{state_of, waiting_of, durable_of, is_shut_of}
@@ -21,8 +20,11 @@ use Rattle.tmem_journal.specs.declared.layout.Layout.{Layout}
 use Rattle.tmem_world.specs.declared.session.Slot.{Slot}
 use Rattle.tmem_world.specs.declared.session.Slot.TheVariants as slot
 use Rattle.tmem_world.specs.declared.session.Session as session
+use Rattle.tmem_world.specs.declared.held.Held.{Held}
+use Rattle.tmem_world.specs.declared.held.Held.TheVariants.{With, Without}
 use Rattle.tmem_world.specs.declared.world.World.{World}
-use Rattle.tmem_journal.specs.Stands.{StandsFor}
+use Rattle.tmem_journal.specs.Stands.{StandsForEither}
+use Rattle.tmem_journal.specs.Held as journal
 use Rattle.tmem_world.specs.Replies.{IsAcknowledged}
 use Rattle.tmem_world.specs.WorldModel.{Setting, WorldModel, SlotModel, NoTransaction, Begun, Ended, SessionStatus, Open, Closed, Gone, present, cut, Allows, Run}
 
@@ -30,20 +32,32 @@ use Rattle.tmem_world.specs.WorldModel.{Setting, WorldModel, SlotModel, NoTransa
 abbrev pub numbers_of : {D T S : Type 0} {d t s : _} → World D T S d t s → Layout
 numbers_of w = w.layout
 
-abbrev pub device_of : {D T S : Type 0} {d t s : _} → World D T S d t s → D
-device_of w = w.disk
+-- what it holds: a session, or the device and the table that are left without one
+abbrev pub held_of : {D T S : Type 0} {d t s : _} → World D T S d t s → Held D T d t
+held_of w = what w.held w.here
 
--- how many transactions it knows to be durable
+abbrev pub device_of : {D T S : Type 0} {d t s : _} → World D T S d t s → D
+device_of w = disk_in (held_of w)
+
+-- its device, as contracts see it
+abbrev pub view_of : {D T S : Type 0} {d t s : _} → World D T S d t s → DeviceView
+view_of {d = d} w = d.view (device_of w)
+
+-- how many transactions a session knows to be durable
+abbrev pub durable_in : {D T : Type 0} {d t : _} → Held D T d t → ℕ
+durable_in (With o) = durable_of o.core
+durable_in (Without left) = 0
+
 abbrev pub durable_number : {D T S : Type 0} {d t s : _} → World D T S d t s → ℕ
-durable_number w = w.durable
+durable_number w = durable_in (held_of w)
 
 -- its stored steps
 abbrev pub steps_of : {D T S : Type 0} {d t s : _} → World D T S d t s → S
 steps_of w = w.steps
 
--- the table of its invariants: the session's, or the one that lies beside where no session stands
-abbrev pub held_table : {D T S : Type 0} {d t s : _} → World D T S d t s → Option T
-held_table w = table_in w.session w.table
+-- the table of its invariants
+abbrev pub held_table : {D T S : Type 0} {d t s : _} → World D T S d t s → T
+held_table w = table_in (held_of w)
 
 -- what it was opened with, where its closures mean this
 abbrev pub setting_of : {D T S : Type 0} {d t s : _} → World D T S d t s → Program → Setting
@@ -52,8 +66,8 @@ setting_of {s = s} w program = record { vars = w.layout.vars; arities = s.aritie
 -- The program says what its stored steps and its invariants mean.
 pub record Means {D T S : Type 0} {d t s : _} (w : World D T S d t s) (program : Program) : Type 0 where
   pub steps : s.is_stated w.steps program.steps
-  pub names : ForSome (held_table w) (λ table. program.names ≡ t.names table)
-  pub tests : ForSome (held_table w) (λ table. t.is_stated table program.tests)
+  pub names : program.names ≡ t.names (held_table w)
+  pub tests : t.is_stated (held_table w) program.tests
 
 -- the slot holds this attempt
 abbrev pub SlotIs : Program → Slot → SlotModel → Type 0
@@ -66,18 +80,21 @@ abbrev pub session_of : Bool → SessionStatus
 session_of true = Closed
 session_of false = Open
 
--- the core has the present state and the effects from the durable number on
-pub record SessionIs {T : Type 0} {t : _} (program : Program) (s : session.Session T t) (m : WorldModel) : Type 0 where
-  pub state : state_of s.core ≡ present program m
-  pub durable : durable_of s.core ≡ m.durable
-  pub waiting : waiting_of s.core ≡ drop (m.durable - m.opened.count) (serial_effects program m.opened m.accepted)
-  pub used : s.used ≡ m.used
-  pub session : m.session ≡ session_of (is_shut_of s.core)
-  pub certain : is_shut_of s.core ≡ false → m.doubtful ≡ m.durable
+-- The core has the present state and the effects from the durable number on, and the journal the states at the durable
+-- number and at the doubtful one.
+pub record SessionIs {D T : Type 0} {d t : _} (program : Program) (o : session.Session D T d t) (m : WorldModel) : Type 0 where
+  pub state : state_of o.core ≡ present program m
+  pub number : durable_of o.core ≡ m.durable
+  pub waiting : waiting_of o.core ≡ drop (m.durable - m.opened.count) (serial_effects program m.opened m.accepted)
+  pub durable : journal.state_of o.journal ≡ cut program m m.durable
+  pub doubtful : journal.doubtful_of o.journal ≡ cut program m m.doubtful
+  pub used : journal.used_slots_of o.journal ≡ m.used
+  pub status : m.session ≡ session_of (is_shut_of o.core)
+  pub certain : is_shut_of o.core ≡ false → m.doubtful ≡ m.durable
 
-abbrev pub HasSession : {T : Type 0} {t : _} → Program → Option (session.Session T t) → WorldModel → Type 0
-HasSession program None m = m.session ≡ Gone
-HasSession program (Some s) m = SessionIs program s m
+abbrev pub HasSession : {D T : Type 0} {d t : _} → Program → Held D T d t → WorldModel → Type 0
+HasSession program (With o) m = SessionIs program o m
+HasSession program (Without left) m = m.session ≡ Gone
 
 -- The durable number and the doubtful one are numbers of the run, and wherever its serial order is cut each registered
 -- invariant is in the table and true.
@@ -90,18 +107,21 @@ pub record IsNumbered (program : Program) (m : WorldModel) : Type 0 where
 
 -- the content stands for the serial order cut at the durable number, or at the doubtful one
 abbrev pub StandsCut : Program → ℕ → ℕ → WorldModel → List ℕ → Type 0
-StandsCut program vars slots m c =
-    ∥ StandsFor vars slots m.used (cut program m m.durable) c ⊎ StandsFor vars slots (m.used + (m.doubtful - m.durable)) (cut program m m.doubtful) c ∥₁
+StandsCut program vars slots m c = StandsForEither vars slots (cut program m m.durable) (cut program m m.doubtful) c
 
--- The world is at this point of a run, and every stop of its device leaves the serial order cut at the durable number or at the doubtful one.
+-- The world is at this point of a run, and every crash leaves on its device the serial order cut at the durable number or at the doubtful one.
 pub record Represents {D T S : Type 0} {d t s : _} (program : Program) (w : World D T S d t s) (m : WorldModel) : Type 0 where
   pub numbers : IsNumbered program m
   pub slots : AllZip (SlotIs program) w.slots.items m.slots
-  pub session : HasSession program w.session m
-  pub durable : w.durable ≡ m.durable
-  pub doubtful : w.doubtful ≡ m.doubtful
-  pub failures : (d.view w.disk).failures ≡ m.failures
-  pub device : LeavesOnly (d.view w.disk) (StandsCut program w.layout.vars w.layout.slots m)
+  pub session : HasSession program (held_of w) m
+  pub failures : (view_of w).failures ≡ m.failures
+  pub device : LeavesOnly (view_of w) (StandsCut program w.layout.vars w.layout.slots m)
+
+-- A crash at any moment of an event leaves the serial order as it was cut before the event, or as it is after it.
+abbrev pub EachMoment : {D T S : Type 0} {d t s : _} → World D T S d t s → World D T S d t s → Type 0
+EachMoment old new =
+    (program : Program) (m m' : WorldModel) → Represents program old m → Represents program new m'
+    → AtEachMoment (view_of old) (view_of new) (λ c. ∥ StandsCut program old.layout.vars old.layout.slots m c ⊎ StandsCut program old.layout.vars old.layout.slots m' c ∥₁)
 
 -- What opening finds rests on the device's premise, and no other answer does.
 abbrev pub RestsOn : Type 0 → Event → Type 0
@@ -110,21 +130,26 @@ RestsOn premise _ = ⊤
 
 -- Whatever the closures mean, by their statement: from each point of a run that the old world is at, the event may be answered so, and the new world is at the next point.
 abbrev pub IsStep : {D T S : Type 0} {d t s : _} → World D T S d t s → Event → Reply → World D T S d t s → Type 0
-IsStep {d = d} old e r new =
+IsStep old e r new =
     (program : Program) → Means old program
-    → (m : WorldModel) → Represents program old m → RestsOn ((d.view new.disk).keeps_model) e
+    → (m : WorldModel) → Represents program old m → RestsOn ((view_of new).keeps_model) e
     → (m' : WorldModel) × Allows (setting_of old program) m e r m' × Represents program new m'
 
 -- The same for a list of events, one after another. What was durable stays so, and what the replies acknowledge is durable.
 abbrev pub Plays : {D T S : Type 0} {d t s : _} → World D T S d t s → List Event → List Reply → World D T S d t s → Type 0
-Plays {d = d} old es rs new =
+Plays old es rs new =
     (program : Program) → Means old program
-    → (m : WorldModel) → Represents program old m → (d.view new.disk).keeps_model
+    → (m : WorldModel) → Represents program old m → (view_of new).keeps_model
     → (m' : WorldModel) × Run (setting_of old program) m es rs m' × Represents program new m' × (m.durable ≤ m'.durable) × ((number : ℕ) → IsAcknowledged rs number → number < m'.durable)
 
 -- a session stands, also a closed one
 abbrev pub HoldsSession : {D T S : Type 0} {d t s : _} → World D T S d t s → Type 0
-HoldsSession w = IsSome w.session
+HoldsSession w = IsWith (held_of w)
+
+-- the device after an opening, whatever its answer
+abbrev pub device_after : {D T S : Type 0} {d t s : _} → Result (World D T S d t s) (Fault × D) → DeviceView
+device_after (Ok w) = view_of w
+device_after {d = d} (Err e) = d.view e.1
 
 -- Why opening was refused, and what it left of the device: by Geometry where the numbers do not fit it; else memory or the device, or what its content is refused by; or else an invariant of the state that it stands for is missing or false.
 pub record OpeningRefused (old : DeviceView) (vars slots : ℕ) (unsound : Type 0) (f : Fault) (new : DeviceView) : Type 0 where

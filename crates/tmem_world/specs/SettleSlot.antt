@@ -55,26 +55,26 @@ pub record CoreMeans {T : Type 0} {t : _} (core : Core T t) (program : Program) 
   pub stated : t.is_stated (table_of core) program.tests
 
 -- for each plan for which the attempt is right, the answer is by its verdict, and what is accepted is its effect
-abbrev pub IsJudged : {T : Type 0} {t : _} → Session T t → Attempt → Result Settled Fault → Type 0
+abbrev pub IsJudged : {D T : Type 0} {d t : _} → Session D T d t → Attempt → Result Settled Fault → Type 0
 IsJudged old a answer =
     (program : Program) (tx : Tx) → CoreMeans old.core program → IsRight program.steps tx a
     → (answer ≡ judged (is_shut_of old.core) (state_of old.core) (durable_of old.core) a.reads.entries (verdict program tx (state_of old.core)))
     × IsAdded program tx (state_of old.core) a answer
 
 -- The session and the slot after an attempt that has ended, with the core's answer.
-pub record SettlesEnded {T : Type 0} {t : _} (old : Session T t) (a : Attempt) (answer : Result Settled Fault) (r : Reply) (new : Session T t) (after : Slot) : Type 0 where
+pub record SettlesEnded {D T : Type 0} {d t : _} (old : Session D T d t) (a : Attempt) (answer : Result Settled Fault) (r : Reply) (new : Session D T d t) (after : Slot) : Type 0 where
   pub judged : IsJudged old a answer
   pub refused : IfErr answer IsRefusal
   pub reply : r ≡ reply_of answer
   pub state : state_of new.core ≡ fold (state_of old.core) (accepted_by answer a.effect)
   pub waiting : waiting_of new.core ≡ waiting_of old.core ++ accepted_by answer a.effect
   pub durable : durable_of new.core ≡ durable_of old.core
-  pub used : new.used ≡ old.used
+  pub journal : new.journal ≡ old.journal
   pub closed : is_shut_of new.core ≡ is_shut_of old.core
   pub table : table_of new.core ≡ table_of old.core
   pub slot : after ≡ slot_after answer (Ended a)
 
-abbrev pub Settles : {T : Type 0} {t : _} → Session T t → Slot → Reply → Session T t → Slot → Type 0
+abbrev pub Settles : {D T : Type 0} {d t : _} → Session D T d t → Slot → Reply → Session D T d t → Slot → Type 0
 Settles old (Ended a) r new after = (answer : Result Settled Fault) × SettlesEnded old a answer r new after
 Settles old Empty r new after = (r ≡ reply.Idle) × (new ≡ old) × (after ≡ Empty)
 Settles old (Begun plan reads) r new after = (r ≡ reply.Idle) × (new ≡ old) × (after ≡ Begun plan reads)

@@ -1,5 +1,5 @@
 -- What a list of events may be answered.
-use Rattle.std.specs.Prelude.{◌≡◌, ◌⊎◌, ⊤, ℕ, ◌+◌, ◌-◌, ℤ, Bool, true, false, List, [], ◌∷◌, ◌++◌, Option, Some, None, Result, Ok, Err, take, replicate, nat_eq, MatchBool, slice_index_or, slice_set}
+use Rattle.std.specs.Prelude.{◌≡◌, ◌<◌, ◌≤◌, ◌⊎◌, ⊤, ℕ, ◌+◌, ◌-◌, ℤ, Bool, true, false, List, [], ◌∷◌, ◌++◌, Option, Some, None, Result, Ok, Err, take, replicate, nat_eq, MatchBool, slice_index_or, slice_set}
 use Rattle.tmem_disk.specs.Disk.{after_fault}
 use Rattle.tmem_disk.specs.declared.fault.Fault.{Fault}
 use Rattle.tmem_disk.specs.declared.fault.Fault.TheVariants as fault
@@ -14,6 +14,8 @@ use Rattle.tmem_tree.specs.declared.settled.Settled.{Settled}
 use Rattle.tmem_tree.specs.declared.settled.Settled.TheVariants.{Committed}
 use Rattle.tmem_core.specs.Verdict.{map_of, verdict, serial_state}
 use Rattle.tmem_core.specs.SettleAnswer.{judged}
+use Rattle.tmem_core.specs.declared.core_state.TheConstants.{MAX_TAKEN}
+use Rattle.tmem_journal.specs.declared.journal.TheConstants.{LOG_SLOTS}
 use Rattle.tmem_event.specs.declared.event.Event.{Event}
 use Rattle.tmem_event.specs.declared.event.Event.TheVariants as event
 use Rattle.tmem_event.specs.declared.event.Reply.{Reply}
@@ -143,31 +145,38 @@ settle_result program (Ended plan reads) m slot =
     let answer = judged (is_closed m.session) (present program m) m.durable reads (verdict program plan (present program m)) in
     (reply_of answer, settled_by answer m slot plan)
 
--- One record is made durable, or the device fails and the session is closed. After an unknown outcome the doubtful number is what the record would have reached.
-abbrev pub AllowsFlushOfOne : WorldModel → Reply → WorldModel → Type 0
-AllowsFlushOfOne m (reply.Durable n) m' =
-    (n ≡ m.durable + 1) × (m' ≡ record m { durable = n; doubtful = n; used = m.used + 1 })
-AllowsFlushOfOne m (reply.Fault fault.Device) m' = m' ≡ record m { session = Closed; failures = after_fault m.failures }
-AllowsFlushOfOne m (reply.Fault fault.Unknown) m' =
-    m' ≡ record m { session = Closed; failures = after_fault m.failures; doubtful = m.durable + 1 }
-AllowsFlushOfOne m _ m' = ⊥
+-- A batch of the oldest records that are not durable, of as many as one flush takes at the most, reaches this number.
+pub record IsBatchEnd (program : Program) (m : WorldModel) (n : ℕ) : Type 0 where
+  pub more : m.durable < n
+  pub few : n ≤ m.durable + MAX_TAKEN
+  pub accepted : n ≤ (present program m).count
+
+-- A batch is made durable, or the device fails and the session is closed. After an unknown outcome the doubtful number is what the batch would have reached.
+abbrev pub AllowsFlushOfSome : Program → WorldModel → Reply → WorldModel → Type 0
+AllowsFlushOfSome program m (reply.Durable n) m' =
+    IsBatchEnd program m n × (m' ≡ record m { durable = n; doubtful = n; used = m.used + 1 })
+AllowsFlushOfSome program m (reply.Fault fault.Device) m' = m' ≡ record m { session = Closed; failures = after_fault m.failures }
+AllowsFlushOfSome program m (reply.Fault fault.Unknown) m' =
+    (n : ℕ) × IsBatchEnd program m n × (m' ≡ record m { session = Closed; failures = after_fault m.failures; doubtful = n })
+AllowsFlushOfSome program m _ m' = ⊥
 
 abbrev pub AllowsFlush : Program → SessionStatus → WorldModel → Reply → WorldModel → Type 0
 AllowsFlush program Open m r m' =
     MatchBool (nat_eq m.durable (present program m).count)
     ((r ≡ reply.Durable m.durable) × (m' ≡ m))
-    (MatchBool (nat_eq m.used 1) ((r ≡ reply.Fault fault.LogFull) × (m' ≡ m)) (AllowsFlushOfOne m r m'))
+    (MatchBool (nat_eq m.used LOG_SLOTS) ((r ≡ reply.Fault fault.LogFull) × (m' ≡ m)) (AllowsFlushOfSome program m r m'))
 AllowsFlush program _ m r m' = (r ≡ reply.Fault fault.Closed) × (m' ≡ m)
 
 -- without a session
 abbrev pub dropped : WorldModel → WorldModel
 dropped m = record m { slots = no_transactions; session = Gone }
 
--- Opening the device again finds the durable number or the doubtful one, and keeps the transactions below it.
+-- Opening the device again finds the durable number or the doubtful one, and keeps the transactions below it. How many
+-- log slots are used is read off the device.
 abbrev pub AllowsReopen : WorldModel → Reply → WorldModel → Type 0
 AllowsReopen m (reply.Opened n) m' =
     ((n ≡ m.durable) ⊎ (n ≡ m.doubtful))
-    × (m' ≡ record m { accepted = take (n - m.opened.count) m.accepted; durable = n; doubtful = n; used = m.used + (n - m.durable); slots = no_transactions; session = Open })
+    × ((used : ℕ) × (m' ≡ record m { accepted = take (n - m.opened.count) m.accepted; durable = n; doubtful = n; used = used; slots = no_transactions; session = Open }))
 AllowsReopen m (reply.Fault fault.Memory) m' = m' ≡ dropped m
 AllowsReopen m (reply.Fault fault.Device) m' = m' ≡ record (dropped m) { failures = after_fault m.failures }
 AllowsReopen m _ m' = ⊥

@@ -1,26 +1,21 @@
-// A session over a device: the core, and how much of the log is used.
-ghost use Rattle.std.specs.Prelude.{◌≡◌, ◌+◌, ◌<◌, ◌≤◌, ◌^◌, false, [], length, Some, IfOk, IfErr, OnOk, ℕ};
-ghost use Rattle.tmem_disk.specs.Disk.{LeavesOnly, ReadsAs, IsSynced};
-ghost use Rattle.tmem_gate.specs.Gate.{IsClosed};
-ghost use Rattle.tmem_record.specs.State.{State};
+// A session: the core, and the journal that makes durable what it accepts.
+ghost use Rattle.std.specs.Prelude.{◌≡◌, ◌⊎◌, false, [], length, IfOk, IfErr};
+ghost use Rattle.tmem_disk.specs.Disk.{AtEachMoment};
+ghost use Rattle.tmem_record.specs.State.{State, fold};
 ghost use Rattle.tmem_invariants.specs.Meanings.{Meanings, IsSound};
 ghost use Rattle.tmem_core.specs.Held.{state_of, waiting_of, durable_of, is_shut_of, table_of};
 ghost use Rattle.tmem_core.specs.Opening.{opening_fault};
 ghost use Rattle.tmem_core.specs.Program.{Program};
-ghost use Rattle.tmem_journal.specs.Layout.{end_place, slot_place};
-ghost use Rattle.tmem_journal.specs.Stands.{StandsFor};
+ghost use Rattle.tmem_journal.specs.Held.{disk_of, device_of, layout_of, is_closed_of, MayBe, state_of as durable_state};
 ghost use Rattle.tmem_journal.specs.Calls.{Uses};
-ghost use Rattle.tmem_journal.specs.Refusals.{IsRefusedBy};
-ghost use Rattle.tmem_world.specs.SessionRefusals.{IsWhyNot, fault_alone};
-ghost use Rattle.tmem_world.specs.SettleSlot.{FitsCore, Settles};
+ghost use Rattle.tmem_world.specs.SessionRefusals.{IsWhyNoSession};
 
-use crate::buffer::Buffer;
 use std::alloc::Global;
 use tmem_core::Core;
 use tmem_disk::{Disk, Fault};
 use tmem_event::Reply;
 use tmem_invariants::Invariants;
-use tmem_journal::{LOG_SLOTS, Layout, append, recover};
+use tmem_journal::Journal;
 use tmem_record::Batch;
 use tmem_tentative::{Attempt, Reads};
 use tmem_tree::Plan;
@@ -34,69 +29,54 @@ pub(crate) enum Slot {
     Ended(Attempt),
 }
 
-/// What a world keeps in memory from an opening to the next one, or to a crash. The core is shut once the device has
-/// failed.
+/// What a world keeps from an opening to the next one, or to a crash. The core is shut once the journal is closed.
 #[derive(Drop)]
-pub(crate) struct Session<T: Invariants> {
+pub(crate) struct Session<D: Disk, T: Invariants> {
     pub(crate) core: Core<T>,
+    pub(crate) journal: Journal<D>,
     pub(crate) batch: Batch,
-    pub(crate) buffer: Buffer,
-    pub(crate) used: u16,
+    ghost known: { durable_of core ≡ (durable_state journal).count },
+    ghost shut: { is_shut_of core ≡ is_closed_of journal },
+    ghost over: { length (state_of core).values ≡ (layout_of journal).vars },
+    ghost waits: { fold (durable_state journal) (waiting_of core) ≡ state_of core },
 }
 
-/// Recovers the state that the device stands for, and begins a session there with this table. A refusal hands the table
-/// back. Nothing is written.
+/// Begins a session over a journal, with this table. A refusal hands device and table back.
 pub(crate) fn begin_session<D: Disk, T: Invariants + Drop>(
     alloc: Global,
-    disk: &mut D,
-    layout: Layout,
+    journal: Journal<D>,
     table: T,
-) -> Result<Session<T>, (Fault, T)>
-    requires vars { T.vars table ≡ layout.vars }
-    requires room { end_place layout.vars layout.slots ≤ (D.view disk.old).capacity }
-    ensures uses { Uses (D.view disk.old) (D.view disk.new) (fault_alone result) }
-    ensures found { (D.view disk.new).keeps_model → IfOk result (λ s. StandsFor layout.vars layout.slots s.used (state_of s.core) (D.view disk.old).seen) }
-    ensures refused { IfErr result (λ e. IsWhyNot
-        (λ f. (D.view disk.new).keeps_model → IsRefusedBy layout.vars layout.slots (D.view disk.old).seen f)
-        ((used : ℕ) × (s : State)
-        × ((D.view disk.new).keeps_model → StandsFor layout.vars layout.slots used s (D.view disk.old).seen)
-        × ((p : Program) → p.names ≡ T.names table → T.is_stated table p.tests → (opening_fault p s ≡ Some e.0) × (¬ IsSound p.tests p.names s.names s.values)))
-        e.0) }
-    ensures fresh { IfOk result (λ s. (waiting_of s.core ≡ []) × (durable_of s.core ≡ (state_of s.core).count) × (is_shut_of s.core ≡ false)) }
-    ensures sized { IfOk result (λ s. (length (state_of s.core).values ≡ layout.vars) × (s.used ≤ 1)) }
+) -> Result<Session<D, T>, (Fault, D, T)>
+    requires vars { T.vars table ≡ (layout_of journal).vars }
+    requires running { is_closed_of journal ≡ false }
+    ensures journal { IfOk result (λ s. s.journal ≡ journal) }
+    ensures state { IfOk result (λ s. state_of s.core ≡ durable_state journal) }
+    ensures fresh { IfOk result (λ s. (waiting_of s.core ≡ []) × (is_shut_of s.core ≡ false)) }
     ensures table { IfOk result (λ s. table_of s.core ≡ table) }
-    ensures back { IfErr result (λ e. e.1 ≡ table) }
     ensures sound { (m : Meanings) → T.is_stated table m → IfOk result (λ s. IsSound m (T.names table) (state_of s.core).names (state_of s.core).values) }
-    ensures seen { ReadsAs (D.view disk.new) (D.view disk.old).seen }
-    ensures stop { LeavesOnly (D.view disk.new) (D.view disk.old).may_leave }
-    ensures synced { OnOk result (IsSynced (D.view disk.new)) }
-    ensures closed { IfOk result (λ s. s.used ≡ 0 → LeavesOnly (D.view disk.new) (IsClosed (slot_place layout.vars 0))) }
+    ensures back { IfErr result (λ e. (e.1 ≡ disk_of journal) × (e.2 ≡ table)) }
+    ensures refused { IfErr result (λ e. IsWhyNoSession
+        ((p : Program) → p.names ≡ T.names table → T.is_stated table p.tests
+        → (opening_fault p (durable_state journal) ≡ Some e.0) × (¬ IsSound p.tests p.names (durable_state journal).names (durable_state journal).values))
+        e.0) }
 {
-    let found = match recover(alloc, disk, layout) {
-        Ok(found) => found,
-        Err(fault) => return Err((fault, table)),
-    };
     let batch = match Batch::new(alloc) {
         Ok(batch) => batch,
-        Err(_) => return Err((Fault::Memory, table)),
+        Err(_) => return Err((Fault::Memory, journal.into_disk(), table)),
     };
-    let buffer = match Buffer::zeroed(alloc) {
-        Ok(buffer) => buffer,
-        Err(_) => return Err((Fault::Memory, table)),
-    };
-    match Core::new(alloc, &found.state, table) {
+    match Core::new(alloc, journal.state(), table) {
         Ok(core) => Ok(Session {
             core,
+            journal,
             batch,
-            buffer,
-            used: found.used,
         }),
-        Err(refused) => Err(refused),
+        Err((fault, table)) => Err((fault, journal.into_disk(), table)),
     }
 }
 
-impl<T: Invariants + Drop> Session<T> {
-    ghost use Rattle.tmem_world.specs.Sessions.{IsCounted, IsFree, Flushes, durable_after};
+impl<D: Disk, T: Invariants + Drop> Session<D, T> {
+    ghost use Rattle.tmem_world.specs.Sessions.{Flushes};
+    ghost use Rattle.tmem_world.specs.SettleSlot.{FitsCore, Settles};
 
     /// Settles what a slot holds, which is emptied unless the answer is a refusal.
     pub(crate) fn settle_slot(&mut self, slot: &mut Slot) -> Reply
@@ -116,18 +96,13 @@ impl<T: Invariants + Drop> Session<T> {
     }
 
     /// Makes the oldest transaction that waits durable, and answers how many are durable then.
-    pub(crate) fn flush<D: Disk>(&mut self, disk: &mut D, layout: Layout) -> Result<u64, Fault>
-        requires room { end_place layout.vars layout.slots ≤ (D.view disk.old).capacity }
-        requires counted { IsCounted layout.vars self.old }
-        requires free { IsFree layout.vars self.old (D.view disk.old) }
-        ensures uses { Uses (D.view disk.old) (D.view disk.new) result }
-        ensures counted { IsCounted layout.vars self.new }
-        ensures durable { durable_of self.new.core ≡ durable_after result (durable_of self.old.core) }
-        ensures free { IsFree layout.vars self.new (D.view disk.new) }
+    pub(crate) fn flush(&mut self) -> Result<u64, Fault>
+        ensures uses { Uses (device_of self.old.journal) (device_of self.new.journal) result }
+        ensures layout { layout_of self.new.journal ≡ layout_of self.old.journal }
         ensures state { state_of self.new.core ≡ state_of self.old.core }
         ensures table { table_of self.new.core ≡ table_of self.old.core }
-        ensures number { IfErr result (λ f. f ≡ Fault.Unknown → durable_of self.old.core + 1 < 2 ^ 64) }
-        ensures flushed { Flushes layout.vars layout.slots self.old (D.view disk.old) result self.new (D.view disk.new) (disk.new ≡ disk.old) }
+        ensures flushed { Flushes self.old result self.new }
+        ensures any_moment { AtEachMoment (device_of self.old.journal) (device_of self.new.journal) (λ c. ∥ MayBe self.old.journal c ⊎ MayBe self.new.journal c ∥₁) }
     {
         if self.core.is_shut() {
             return Err(Fault::Closed);
@@ -136,20 +111,16 @@ impl<T: Invariants + Drop> Session<T> {
         if durable == self.core.count() {
             return Ok(durable);
         }
-        if self.used == LOG_SLOTS {
-            return Err(Fault::LogFull);
-        }
         self.core.take(durable, &mut self.batch);
-        match append(disk, layout, durable, &self.batch, &mut self.buffer.bytes) {
-            Ok(()) => {
-                self.core.note_durable(durable + 1);
-                self.used = LOG_SLOTS;
-                Ok(durable + 1)
-            }
-            Err(fault) => {
-                self.core.shut();
-                Err(fault)
+        let flushed = self.journal.flush(&self.batch);
+        match &flushed {
+            Ok(number) => self.core.note_durable(*number),
+            Err(_) => {
+                if self.journal.is_closed() {
+                    self.core.shut();
+                }
             }
         }
+        flushed
     }
 }

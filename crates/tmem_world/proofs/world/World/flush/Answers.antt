@@ -1,36 +1,37 @@
-use Rattle.std.proofs.Common.{◌≡◌, arith, refl, ap, sym, subst, ℕ}
-use Rattle.std.specs.Prelude.{Ok, Err, is_none}
-use Rattle.tmem_event.specs.declared.event.Reply.TheVariants as reply
-use Rattle.tmem_world.specs.Replies.{FlushedNothing}
-use Rattle.tmem_world.proofs.Points.{in_session}
+use Rattle.std.proofs.Common.{◌≡◌, refl, ◌∙◌, ap}
+use Rattle.std.specs.Prelude.{Ok, Err, Some}
+use Rattle.tmem_world.specs.declared.held.Held.TheVariants.{With}
+use Rattle.tmem_world.specs.Represents.{held_of}
+use Rattle.tmem_world.proofs.Points.{held_is, is_with, in_session, flush_moments}
 use Rattle.tmem_world.proofs.FlushedPoints.{flushes}
-use Rattle.tmem_world.proofs.CallsNoDevice.{flush_still}
 use Rattle.tmem_world.proofs.world.World.flush.Goals as goal
-
-pub doubtful_after-self-requires : goal.doubtful_after-self-requires
-doubtful_after-self-requires g c = λ unknown.
-    let known = c.args.self.now.known c.in-Some.session c.in-Some.is in
-    omega (arith, known.is, c.in-Err.ensures.number unknown)
 
 pub returns-in-Ok-clause-step : goal.returns-in-Ok-clause-step
 returns-in-Ok-clause-step g c = λ program stated m r keeps.
-    let done = flushes program _ _ m c.in-Some.session c.flush.new.self r c.in-Some.is refl refl refl c.flush.ensures.state (Ok c.in-Ok.durable) c.in-Ok.ensures.uses c.in-Ok.ensures.durable refl refl c.in-Ok.ensures.flushed in
-    (done.0, in_session program c.args.self.now.session m _ _ _ r.session (ap is_none c.in-Some.is) done.1, done.2)
+    let w = c.args.self.now in
+    let o = c.in-Some-With.session in
+    let before : held_of w ≡ With o = held_is w.held w.here (With o) (c.in-Some-With.is ∙ ap Some c.in-Some-With.field-0-is) in
+    let done = flushes program w _ m o c.flush.new.self r before refl refl c.flush.ensures.state (Ok c.in-Ok.durable) c.in-Ok.ensures.uses c.in-Ok.ensures.flushed in
+    (done.0, in_session program (held_of w) m _ _ _ r.session (is_with (held_of w) o before) done.1, done.2)
+
+pub returns-in-Ok-clause-any_moment : goal.returns-in-Ok-clause-any_moment
+returns-in-Ok-clause-any_moment g c =
+    let w = c.args.self.now in
+    let o = c.in-Some-With.session in
+    let before : held_of w ≡ With o = held_is w.held w.here (With o) (c.in-Some-With.is ∙ ap Some c.in-Some-With.field-0-is) in
+    flush_moments w _ refl o c.flush.new.self before refl c.in-Ok.ensures.any_moment
 
 pub returns-in-Err-clause-step : goal.returns-in-Err-clause-step
 returns-in-Err-clause-step g c = λ program stated m r keeps.
-    let done = flushes program _ _ m c.in-Some.session c.flush.new.self r c.in-Some.is refl refl refl c.flush.ensures.state (Err c.in-Err.fault) c.in-Err.ensures.uses c.in-Err.ensures.durable refl c.doubtful_after-self.ensures c.in-Err.ensures.flushed in
-    (done.0, in_session program c.args.self.now.session m _ _ _ r.session (ap is_none c.in-Some.is) done.1, done.2)
+    let w = c.args.self.now in
+    let o = c.in-Some-With.session in
+    let before : held_of w ≡ With o = held_is w.held w.here (With o) (c.in-Some-With.is ∙ ap Some c.in-Some-With.field-0-is) in
+    let done = flushes program w _ m o c.flush.new.self r before refl refl c.flush.ensures.state (Err c.in-Err.fault) c.in-Err.ensures.uses c.in-Err.ensures.flushed in
+    (done.0, in_session program (held_of w) m _ _ _ r.session (is_with (held_of w) o before) done.1, done.2)
 
-pub returns-in-Ok-clause-still : goal.returns-in-Ok-clause-still
-returns-in-Ok-clause-still g c = λ none.
-    flush_still _ _ c.in-Some.session c.flush.new.self _ _ (c.flush.new.disk ≡ c.args.self.now.disk) (Ok c.in-Ok.durable) c.in-Ok.ensures.flushed
-    (subst (λ (n : ℕ). FlushedNothing n (reply.Durable c.in-Ok.durable)) (sym (c.args.self.now.known c.in-Some.session c.in-Some.is).is) none)
-
-pub returns-in-Err-clause-still : goal.returns-in-Err-clause-still
-returns-in-Err-clause-still g c = λ none.
-    flush_still _ _ c.in-Some.session c.flush.new.self _ _ (c.flush.new.disk ≡ c.args.self.now.disk) (Err c.in-Err.fault) c.in-Err.ensures.flushed
-    (subst (λ (n : ℕ). FlushedNothing n (reply.Fault c.in-Err.fault)) (sym (c.args.self.now.known c.in-Some.session c.in-Some.is).is) none)
-
-pub flush-requires-clause-counted : goal.flush-requires-clause-counted
-flush-requires-clause-counted g c = c.args.self.now.counted c.in-Some.session c.in-Some.is
+pub returns-in-Err-clause-any_moment : goal.returns-in-Err-clause-any_moment
+returns-in-Err-clause-any_moment g c =
+    let w = c.args.self.now in
+    let o = c.in-Some-With.session in
+    let before : held_of w ≡ With o = held_is w.held w.here (With o) (c.in-Some-With.is ∙ ap Some c.in-Some-With.field-0-is) in
+    flush_moments w _ refl o c.flush.new.self before refl c.in-Err.ensures.any_moment

@@ -5,7 +5,7 @@ use Rattle.tmem_event.specs.declared.event.Event.{Event}
 use Rattle.tmem_event.specs.declared.event.Reply.{Reply}
 use Rattle.tmem_world.specs.WorldModel.{Setting, Run, Allows}
 use Rattle.tmem_world.specs.Replies.{failures_by, failures_by_all, IsAcknowledged}
-use Rattle.tmem_world.specs.Represents.{setting_of}
+use Rattle.tmem_world.specs.Represents.{setting_of, view_of}
 use Rattle.tmem_world.proofs.Laws.{keeps_durable, acknowledged-append, run-append, run_on_any_device-append, failures-append, rests_on}
 use Rattle.tmem_world.proofs.AnyDevicePoints.{steps}
 use Rattle.tmem_world.specs.AnyDevice.{AllowsOnAnyDevice, RunOnAnyDevice}
@@ -26,7 +26,7 @@ loop-event-preserved g c =
       steps = c.step-reply.ensures.steps ∙ so.steps;
       table = c.step-reply.ensures.table ∙ so.table;
       model = λ k. so.model (c.step-reply.ensures.model k);
-      failures = c.step-reply.ensures.failures ∙ ap (failures_by c.step-reply.result) so.failures ∙ sym (failures-append c.loop-event.replies.items c.step-reply.result (g.D.Disk.view c.args.self.now.disk).failures) ∙ ap (λ (rs : List Reply). failures_by_all rs (g.D.Disk.view c.args.self.now.disk).failures) (sym pushed);
+      failures = c.step-reply.ensures.failures ∙ ap (failures_by c.step-reply.result) so.failures ∙ sym (failures-append c.loop-event.replies.items c.step-reply.result (view_of c.args.self.now).failures) ∙ ap (λ (rs : List Reply). failures_by_all rs (view_of c.args.self.now).failures) (sym pushed);
       parts = parts;
       long = grind (arith, common_steps, one);
       room = omega (arith, so.room, c.push.ensures.capacity);

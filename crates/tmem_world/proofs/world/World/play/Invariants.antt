@@ -3,7 +3,7 @@ use Rattle.std.specs.Vec.{vec_capacity, vec_len}
 use Rattle.tmem_core.specs.Program.{Program}
 use Rattle.tmem_world.specs.WorldModel.{WorldModel, Run}
 use Rattle.tmem_world.specs.Replies.{failures_by_all, IsAcknowledged}
-use Rattle.tmem_world.specs.Represents.{Represents, Means, setting_of, held_table}
+use Rattle.tmem_world.specs.Represents.{Represents, Means, setting_of, held_table, view_of}
 use Rattle.tmem_world.specs.AnyDevice.{RunOnAnyDevice}
 use Rattle.tmem_world.proofs.world.World.play.Given as goal
 
@@ -14,11 +14,11 @@ invariant-loop-event g l = record {
   table : held_table l.self ≡ held_table l.fn.self;
   means : (program : Program) → Means l.fn.self program → Means l.self program;
   setting : (program : Program) → setting_of l.self program ≡ setting_of l.fn.self program;
-  model : (g.D.Disk.view l.self.disk).keeps_model → (g.D.Disk.view l.fn.self.disk).keeps_model;
-  failures : (g.D.Disk.view l.self.disk).failures ≡ failures_by_all l.replies.items (g.D.Disk.view l.fn.self.disk).failures;
+  model : (view_of l.self).keeps_model → (view_of l.fn.self).keeps_model;
+  failures : (view_of l.self).failures ≡ failures_by_all l.replies.items (view_of l.fn.self).failures;
   parts : l.yielded ++ l.event-iterator.rest.items ≡ l.fn.events.items;
   long : vec_len l.replies ≡ length l.yielded;
   room : length l.fn.events.items ≤ vec_capacity l.replies;
-  run : (program : Program) → Means l.fn.self program → (m : WorldModel) → Represents program l.fn.self m → (g.D.Disk.view l.self.disk).keeps_model → (m' : WorldModel) × Run (setting_of l.fn.self program) m l.yielded l.replies.items m' × Represents program l.self m' × (m.durable ≤ m'.durable) × ((number : ℕ) → IsAcknowledged l.replies.items number → number < m'.durable);
+  run : (program : Program) → Means l.fn.self program → (m : WorldModel) → Represents program l.fn.self m → (view_of l.self).keeps_model → (m' : WorldModel) × Run (setting_of l.fn.self program) m l.yielded l.replies.items m' × Represents program l.self m' × (m.durable ≤ m'.durable) × ((number : ℕ) → IsAcknowledged l.replies.items number → number < m'.durable);
   any_device : (program : Program) → Means l.fn.self program → (m : WorldModel) → Represents program l.fn.self m → (m' : WorldModel) × RunOnAnyDevice (setting_of l.fn.self program) m l.yielded l.replies.items m' × Represents program l.self m';
 }

@@ -1,0 +1,48 @@
+// What a world holds between two events.
+ghost use Rattle.std.specs.Prelude.{◌≡◌, ◌≤◌};
+ghost use Rattle.tmem_journal.specs.Layout.{end_place};
+
+use crate::session::Session;
+use tmem_disk::Disk;
+use tmem_invariants::Invariants;
+use tmem_journal::Layout;
+
+/// The device and the table, where no session stands.
+#[derive(Drop)]
+pub(crate) struct Left<D: Disk, T: Invariants> {
+    pub(crate) disk: D,
+    pub(crate) layout: Layout,
+    pub(crate) table: T,
+    ghost room: { end_place layout.vars layout.slots ≤ (D.view disk).capacity },
+    ghost over: { T.vars table ≡ layout.vars },
+}
+
+/// A session, open or closed, or what is left without one.
+#[derive(Drop)]
+pub(crate) enum Held<D: Disk, T: Invariants> {
+    With(Session<D, T>),
+    Without(Left<D, T>),
+}
+
+impl<D: Disk + Drop, T: Invariants + Drop> Held<D, T> {
+    ghost use Rattle.tmem_world.specs.Parts.{disk_in, layout_in, table_in};
+
+    /// Ends the session, if one stands, and hands out the device and the table.
+    pub(crate) fn into_parts(self) -> (D, T)
+        ensures disk { result.0 ≡ disk_in self }
+        ensures table { result.1 ≡ table_in self }
+        ensures room { end_place (layout_in self).vars (layout_in self).slots ≤ (D.view result.0).capacity }
+        ensures over { T.vars result.1 ≡ (layout_in self).vars }
+    {
+        match self {
+            Held::With(session) => {
+                let Session { core, journal, .. } = session;
+                (journal.into_disk(), core.into_table())
+            }
+            Held::Without(left) => {
+                let Left { disk, table, .. } = left;
+                (disk, table)
+            }
+        }
+    }
+}
