@@ -1,5 +1,5 @@
 -- Entries that are played one after another.
-use Rattle.std.proofs.Common.{◌≡◌, ℕ, List, [], ◌∷◌, ◌++◌, Option, Some, unwrap_or, refl, sym, ap, subst, ◌∙◌, append_assoc, append-nil}
+use Rattle.std.proofs.Common.{◌≡◌, ℕ, List, [], ◌∷◌, ◌++◌, Option, refl, sym, ap, subst, ◌∙◌, append_assoc, append-nil}
 use Rattle.std.specs.Io.KnownBytes.{Appends}
 use Rattle.tmem_builtins.specs.Builtins.{builtin_steps, builtin_names, builtin_tests}
 use Rattle.tmem_record.specs.State.{first_state}
@@ -48,8 +48,8 @@ module _ {D T S : Type 0} {d t s : _} where
   means_stay : (w w' : World D T S d t s) (program : Program) → steps_of w' ≡ steps_of w → held_table w' ≡ held_table w → Means w program → Means w' program
   means_stay w w' program steps held means = record {
     steps = subst (λ (x : S). s.is_stated x program.steps) (sym steps) means.steps;
-    names = λ x is. means.names x (sym held ∙ is);
-    tests = λ x is. means.tests x (sym held ∙ is);
+    names = means.names ∙ ap (λ (x : T). t.names x) (sym held);
+    tests = subst (λ (x : T). t.is_stated x program.tests) (sym held) means.tests;
   }
 
   same_setting : (w w' : World D T S d t s) (program : Program) → numbers_of w' ≡ numbers_of w → steps_of w' ≡ steps_of w → setting_of w' program ≡ setting_of w program
@@ -69,11 +69,11 @@ module _ {D T S : Type 0} {d t s : _} where
       (two.0, one.1 ++ two.1, Prints-more (setting_of w program) es one.1 e two.1 m one.0 two.0 one.2 answered, two.3, Appends-then before between after one.1 two.1 one.4 two.4)
 
   -- the builtin closures mean the builtin program
-  pub means_builtin : (w : World D T S d t s) (vars : ℕ) (table : T) (steps : S) → held_table w ≡ Some table → steps_of w ≡ steps → t.names table ≡ builtin_names vars → t.is_stated table builtin_tests → s.is_stated steps builtin_steps → Means w (builtin_program vars)
+  pub means_builtin : (w : World D T S d t s) (vars : ℕ) (table : T) (steps : S) → held_table w ≡ table → steps_of w ≡ steps → t.names table ≡ builtin_names vars → t.is_stated table builtin_tests → s.is_stated steps builtin_steps → Means w (builtin_program vars)
   means_builtin w vars table steps held has names tests stated = record {
     steps = subst (λ (x : S). s.is_stated x builtin_steps) (sym has) stated;
-    names = λ x is. subst (λ (y : T). builtin_names vars ≡ t.names y) (ap (λ o. unwrap_or o table) (sym held ∙ is)) (sym names);
-    tests = λ x is. subst (λ (y : T). t.is_stated y builtin_tests) (ap (λ o. unwrap_or o table) (sym held ∙ is)) tests;
+    names = sym (ap (λ (y : T). t.names y) held ∙ names);
+    tests = subst (λ (y : T). t.is_stated y builtin_tests) (sym held) tests;
   }
 
   -- the line of the opening, and then the entries

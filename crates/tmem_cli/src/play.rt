@@ -172,7 +172,7 @@ fn fresh_world<T: Invariants + Drop, S: StoredSteps + Drop>(
     requires tests { T.is_stated table builtin_tests }
     ensures numbers { IfOk result (λ world. ((numbers_of world).vars ≡ layout.vars) × HoldsSession world) }
     ensures steps { IfOk result (λ world. steps_of world ≡ steps) }
-    ensures table { IfOk result (λ world. held_table world ≡ Some table) }
+    ensures table { IfOk result (λ world. held_table world ≡ table) }
     ensures found { IfOk result (λ world. (program : Program) → Means world program → Represents program world (opening (first_state layout.vars) 0 0)) }
     ensures refused { IfErr result (λ fault. (fault ≡ Fault.Memory) ⊎ (fault ≡ Fault.Device)) }
 {

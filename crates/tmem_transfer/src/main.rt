@@ -79,7 +79,7 @@ fn write(alloc: Global, var: u16, number: i64) -> Result<Tx, Fault> {
 }
 
 /// Begins a transaction that reads nothing, evaluates it and settles it. Answers whether it was accepted.
-fn commit<D: Disk, T: Invariants + Drop, S: StoredSteps + Drop>(
+fn commit<D: Disk + Drop, T: Invariants + Drop, S: StoredSteps + Drop>(
     world: &mut World<D, T, S>,
     tx: Tx,
 ) -> bool
@@ -92,7 +92,7 @@ fn commit<D: Disk, T: Invariants + Drop, S: StoredSteps + Drop>(
 }
 
 /// What the two accounts have.
-fn accounts<D: Disk, T: Invariants + Drop, S: StoredSteps + Drop>(
+fn accounts<D: Disk + Drop, T: Invariants + Drop, S: StoredSteps + Drop>(
     world: &World<D, T, S>,
 ) -> (i64, i64)
     requires open { HoldsSession world.now }
