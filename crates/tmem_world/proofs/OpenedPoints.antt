@@ -1,6 +1,8 @@
 -- Where a run begins.
-use Rattle.std.proofs.Common.{◌≡◌, ℕ, ◌-◌, List, [], length, refl, sym, ◌∙◌, ap, subst, arith, drop, take, false, zero, suc}
+use Rattle.std.proofs.Common.{◌≡◌, ◌⊎◌, ⊎_elim, ℕ, ◌-◌, List, [], length, refl, sym, ◌∙◌, ap, subst, arith, drop, take, false, zero, suc}
 use Rattle.std.specs.Prelude.{All}
+use Rattle.std.proofs.Math.Logic.{∥∥₁_elim}
+use Rattle.std.proofs.Props.{props}
 use Rattle.tmem_disk.specs.declared.fault.Fault.{Fault}
 use Rattle.tmem_disk.specs.declared.fault.Fault.TheVariants as fault
 use Rattle.tmem_world.specs.declared.session.Slot.{Slot}
@@ -42,6 +44,19 @@ why_session P U V fault.Memory so why = tt
 why_session P U V (fault.Missing name) so why = so why
 why_session P U V (fault.Broken name) so why = so why
 why_session P U V _ so why = absurd why
+
+-- a sound state lacks nothing
+pub only_memory : (U : Type 0) (f : Fault) → (U → ⊥) → IsWhyNoSession U f → f ≡ fault.Memory
+only_memory U fault.Memory sound why = refl
+only_memory U (fault.Missing name) sound why = absurd (sound why)
+only_memory U (fault.Broken name) sound why = absurd (sound why)
+only_memory U _ sound why = absurd why
+
+-- one of two sound states is sound
+pub sound_either : (program : Program) (s a b : State) → ∥ (s ≡ a) ⊎ (s ≡ b) ∥₁ → IsSound program.tests program.names a.names a.values → IsSound program.tests program.names b.names b.values → (¬ IsSound program.tests program.names s.names s.values) → ⊥
+sound_either program s a b either one other un = ∥∥₁_elim either (hlevel props) (⊎_elim
+    (λ (is : s ≡ a). un (subst (λ (x : State). IsSound program.tests program.names x.names x.values) (sym is) one))
+    (λ (is : s ≡ b). un (subst (λ (x : State). IsSound program.tests program.names x.names x.values) (sym is) other)))
 
 nothing_taken : (n : ℕ) → take n (none_of Tx) ≡ none_of Tx
 nothing_taken zero = refl

@@ -37,7 +37,7 @@ use Rattle.tmem_world.specs.WorldModel.{WorldModel, no_transactions, Open, cut, 
 use Rattle.tmem_world.specs.Represents.{Represents, Means, EachMoment, StandsCut, held_of, held_table, device_of, view_of, session_of}
 use Rattle.tmem_world.proofs.DroppedPoints.{no_slots_held, gone}
 use Rattle.tmem_world.proofs.Points.{in_point, looking_moments}
-use Rattle.tmem_world.proofs.OpenedPoints.{why_journal, why_session}
+use Rattle.tmem_world.proofs.OpenedPoints.{why_journal, why_session, only_memory, sound_either}
 use Rattle.tmem_world.proofs.Serial.{committed-take, length-take, take-again, take-shorter, none_waits}
 
 -- the point of the run where n transactions were found, and so many log slots are used
@@ -50,13 +50,6 @@ no_device U fault.Memory why n = refl
 no_device U (fault.Missing name) why n = refl
 no_device U (fault.Broken name) why n = refl
 no_device U _ why n = absurd why
-
--- a sound state lacks nothing
-only_memory : (U : Type 0) (f : Fault) → (U → ⊥) → IsWhyNoSession U f → f ≡ fault.Memory
-only_memory U fault.Memory sound why = refl
-only_memory U (fault.Missing name) sound why = absurd (sound why)
-only_memory U (fault.Broken name) sound why = absurd (sound why)
-only_memory U _ sound why = absurd why
 
 module _ {D T S : Type 0} {d t z : _} (program : Program) (w w' : World D T S d t z) (m : WorldModel) (r : Represents program w m) (layout : w'.layout ≡ w.layout)
     (emptied : All (λ (s : Slot). s ≡ slot.Empty) w'.slots.items) (sized : length w'.slots.items ≡ 16) where
@@ -91,12 +84,7 @@ module _ {D T S : Type 0} {d t z : _} (program : Program) (w w' : World D T S d 
   module _ (s : State) (either : ∥ (s ≡ cut program m m.durable) ⊎ (s ≡ cut program m m.doubtful) ∥₁) where
     -- the state that was found is sound
     sound_state : (¬ IsSound program.tests program.names s.names s.values) → ⊥
-    sound_state un = ∥∥₁_elim either (hlevel props) (⊎_elim
-        (λ (is : s ≡ cut program m m.durable). sound_at m.durable r.numbers.opened durable_within is)
-        (λ (is : s ≡ cut program m m.doubtful). sound_at m.doubtful doubtful_from r.numbers.doubtful is))
-      where
-        sound_at : (n : ℕ) → m.opened.count ≤ n → n ≤ m.opened.count + length m.accepted → s ≡ cut program m n → ⊥
-        sound_at n low high same = un (subst (λ (x : State). IsSound program.tests program.names x.names x.values) (sym same) (r.numbers.sound n low high))
+    sound_state = sound_either program s (cut program m m.durable) (cut program m m.doubtful) either (r.numbers.sound m.durable r.numbers.opened durable_within) (r.numbers.sound m.doubtful doubtful_from r.numbers.doubtful)
 
     -- so no session was refused by an invariant
     pub by_memory : (U : Type 0) (f : Fault) → (U → ¬ IsSound program.tests program.names s.names s.values) → IsWhyNoSession U f → f ≡ fault.Memory

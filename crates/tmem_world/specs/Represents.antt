@@ -4,7 +4,8 @@ use Rattle.std.specs.List.{AllZip}
 use Rattle.tmem_invariants.specs.Meanings.{IsSound}
 use Rattle.tmem_disk.specs.Disk.{DeviceView, LeavesOnly, ReadsAs, AtEachMoment}
 use Rattle.tmem_disk.specs.declared.fault.Fault.{Fault}
-use Rattle.tmem_disk.specs.declared.fault.Fault.TheVariants.{Geometry}
+use Rattle.tmem_disk.specs.declared.fault.Fault.TheVariants.{Memory, Device, Geometry}
+use Rattle.tmem_record.specs.State.{State}
 use Rattle.tmem_journal.specs.Calls.{Uses, FitsOn}
 use Rattle.tmem_journal.specs.Refusals.{IsRefusedBy}
 use Rattle.tmem_world.specs.SessionRefusals.{IsWhyNot}
@@ -26,7 +27,7 @@ use Rattle.tmem_world.specs.declared.world.World.{World}
 use Rattle.tmem_journal.specs.Stands.{StandsForEither}
 use Rattle.tmem_journal.specs.Held as journal
 use Rattle.tmem_world.specs.Replies.{IsAcknowledged}
-use Rattle.tmem_world.specs.WorldModel.{Setting, WorldModel, SlotModel, NoTransaction, Begun, Ended, SessionStatus, Open, Closed, Gone, present, cut, Allows, Run}
+use Rattle.tmem_world.specs.WorldModel.{Setting, WorldModel, SlotModel, NoTransaction, Begun, Ended, SessionStatus, Open, Closed, Gone, opening, present, cut, Allows, Run}
 
 -- its numbers of variables and log slots
 abbrev pub numbers_of : {D T S : Type 0} {d t s : _} → World D T S d t s → Layout
@@ -150,6 +151,11 @@ HoldsSession w = IsWith (held_of w)
 abbrev pub device_after : {D T S : Type 0} {d t s : _} → Result (World D T S d t s) (Fault × D) → DeviceView
 device_after (Ok w) = view_of w
 device_after {d = d} (Err e) = d.view e.1
+
+-- Opening found one of two states, and a run begins there; or memory or the device failed.
+abbrev pub OpensEither : {D T S : Type 0} {d t s : _} → Program → Result (World D T S d t s) (Fault × D) → ℕ → State → State → Type 0
+OpensEither program (Ok w) failures a b = (found : State) × (used : ℕ) × ∥ (found ≡ a) ⊎ (found ≡ b) ∥₁ × Represents program w (opening found used failures)
+OpensEither program (Err e) failures a b = (e.0 ≡ Memory) ⊎ (e.0 ≡ Device)
 
 -- Why opening was refused, and what it left of the device: by Geometry where the numbers do not fit it; else memory or the device, or what its content is refused by; or else an invariant of the state that it stands for is missing or false.
 pub record OpeningRefused (old : DeviceView) (vars slots : ℕ) (unsound : Type 0) (f : Fault) (new : DeviceView) : Type 0 where

@@ -1,12 +1,13 @@
 // One thread plays a list of events over a core and a journal.
 ghost use Rattle.std.specs.Prelude.{◌≡◌, ◌<◌, ◌≤◌, ◌+◌, ◌^◌, ◌⊎◌, ◌↔◌, ℕ, true, false, Some, None, [], length, All, IsTrue, IsSome, IfOk, IfErr, OnOk, replicate, slice_index_or, pos};
 ghost use Rattle.std.proofs.Props.{props};
-ghost use Rattle.tmem_disk.specs.Disk.{AtEachMoment};
+ghost use Rattle.tmem_disk.specs.Disk.{LeavesOnly, AtEachMoment};
 ghost use Rattle.tmem_record.specs.State.{State};
 ghost use Rattle.tmem_record.specs.Names.{has_name};
+ghost use Rattle.tmem_invariants.specs.Meanings.{IsSound};
 ghost use Rattle.tmem_core.specs.Opening.{opening_fault};
 ghost use Rattle.tmem_core.specs.Program.{Program};
-ghost use Rattle.tmem_journal.specs.Stands.{StandsFor};
+ghost use Rattle.tmem_journal.specs.Stands.{StandsFor, StandsForEither};
 ghost use Rattle.tmem_journal.specs.Calls.{FitsOn};
 ghost use Rattle.tmem_world.specs.Parts.{what, layout_in, table_in};
 ghost use Rattle.tmem_world.specs.SettleSlot.{FitsSlot, Joins, Keeps};
@@ -44,7 +45,7 @@ pub struct World<D: Disk, T: Invariants, S: StoredSteps> {
 }
 
 impl<D: Disk + Drop, T: Invariants + Drop, S: StoredSteps + Drop> World<D, T, S> {
-    ghost use Rattle.tmem_world.specs.Represents.{Represents, Means, IsStep, Plays, EachMoment, HoldsSession, OpeningRefused, numbers_of, device_of, view_of, device_after, steps_of, held_table, setting_of, durable_number};
+    ghost use Rattle.tmem_world.specs.Represents.{Represents, Means, IsStep, Plays, EachMoment, HoldsSession, OpeningRefused, OpensEither, numbers_of, device_of, view_of, device_after, steps_of, held_table, setting_of, durable_number};
     ghost use Rattle.tmem_world.specs.AnyDevice.{Reopens, IsReopened, PlaysOnAnyDevice};
     ghost use Rattle.tmem_world.specs.Replies.{failures_by, failures_by_all, FlushedNothing, CallsNoDevice};
 
@@ -74,6 +75,13 @@ impl<D: Disk + Drop, T: Invariants + Drop, S: StoredSteps + Drop> World<D, T, S>
             ((used : ℕ) × (s : State) × ((D.view e.1).keeps_model → StandsFor vars slots used s (D.view disk).seen)
             × ((p : Program) → p.names ≡ T.names table → T.is_stated table p.tests → opening_fault p s ≡ Some e.0))
             e.0 (D.view e.1)) }
+
+        // Where every crash left one of two states, and both are sound, one of them is found, unless memory or the device
+        // fails.
+        ensures recovers { (program : Program) (a b : State) → S.is_stated steps program.steps → program.names ≡ T.names table → T.is_stated table program.tests
+            → IsSound program.tests program.names a.names a.values → IsSound program.tests program.names b.names b.values
+            → FitsOn vars slots (D.view disk).capacity → LeavesOnly (D.view disk) (StandsForEither vars slots a b)
+            → (device_after result).keeps_model → OpensEither program result (D.view disk).failures a b }
 
         // A crash at any moment of the opening leaves what it might have left before.
         ensures any_moment { AtEachMoment (D.view disk) (device_after result) (D.view disk).may_leave }

@@ -1,4 +1,4 @@
-use Rattle.std.proofs.Common.{◌≡◌, refl, sym, ◌∙◌, ap, subst}
+use Rattle.std.proofs.Common.{◌≡◌, inl, refl, sym, ◌∙◌, ap, subst}
 use Rattle.tmem_disk.specs.declared.fault.Fault.{Fault}
 use Rattle.tmem_invariants.specs.Meanings.{IsSound}
 use Rattle.tmem_core.specs.Held.{state_of}
@@ -6,7 +6,7 @@ use Rattle.tmem_journal.specs.Calls.{FitsOn}
 use Rattle.tmem_journal.specs.Held as journal
 use Rattle.tmem_journal.specs.Refusals.{IsRefusedBy}
 use Rattle.tmem_journal.specs.Stands.{StandsFor}
-use Rattle.tmem_world.proofs.OpenedPoints.{opens, why_journal}
+use Rattle.tmem_world.proofs.OpenedPoints.{opens, why_journal, only_memory, sound_either}
 use Rattle.tmem_world.proofs.HeldTables.{core_means}
 use Rattle.tmem_world.proofs.world.World.open.Goals as goal
 
@@ -39,3 +39,23 @@ returns-in-Ok-begin_session-clause-found g c =
           (subst (λ ns. IsSound program.tests ns (state_of o.core).names (state_of o.core).values) (sym names) (so.sound program.tests tests)),
       λ k. opened.found (subst (λ x. (journal.device_of x).keeps_model) so.journal k),
     )
+
+pub returns-in-Ok-begin_session-clause-recovers : goal.returns-in-Ok-begin_session-clause-recovers
+returns-in-Ok-begin_session-clause-recovers g c = λ program a b steps names tests sound_a sound_b fits left keeps.
+    let j = c.in-Ok.journal in
+    let opened = c.in-Ok.ensures in
+    let o = c.in-Ok-begin_session.session in
+    let so = c.in-Ok-begin_session.ensures in (
+      journal.state_of j,
+      journal.used_slots_of j,
+      opened.either a b fits left (subst (λ x. (journal.device_of x).keeps_model) so.journal keeps),
+      opens program _ o j (g.D.Disk.view c.args.disk).failures refl so.journal so.fresh.0 so.fresh.1 so.state opened.fresh.1 c.in-Ok-empty_slots.ensures.len c.in-Ok-empty_slots.ensures.emptied opened.uses.failures
+          (subst (λ ns. IsSound program.tests ns (state_of o.core).names (state_of o.core).values) (sym names) (so.sound program.tests tests)),
+    )
+
+pub returns-in-Err-begin_session-clause-recovers : goal.returns-in-Err-begin_session-clause-recovers
+returns-in-Err-begin_session-clause-recovers g c = λ program a b steps names tests sound_a sound_b fits left keeps.
+    let opened = c.in-Ok.ensures in
+    let so = c.in-Err-begin_session.ensures in
+    let either = opened.either a b fits left (subst (λ x. (g.D.Disk.view x).keeps_model) so.back.0 keeps) in
+    inl (only_memory _ _ (λ un. sound_either program (journal.state_of c.in-Ok.journal) a b either sound_a sound_b (un program names tests).1) so.refused)
