@@ -5,7 +5,7 @@ ghost use Rattle.tmem_script.specs.Errors.{IsUnread};
 ghost use Rattle.tmem_script.specs.Scripts.{IsScriptText};
 ghost use Rattle.tmem_script.specs.Statuses.{status_of};
 ghost use Rattle.tmem_script.specs.declared.failure.Failure.TheVariants.{Output};
-ghost use Rattle.tmem_cli.specs.CommandLine.{AreRefused, IsRequest, path_in};
+ghost use Rattle.tmem_cli.specs.CommandLine.{AreRefused, AsksToPlay, IsRequest, path_in};
 ghost use Rattle.tmem_cli.specs.Outcomes.{IsDone, IsStopped, HasNoScript, IsWhyNotPlayed, IsWhyNotRead, MayBeRead, PlaysRead};
 
 use crate::args::script_path;
@@ -34,9 +34,11 @@ pub fn run_words<R: Read, W: Write, E: Write>(
     ensures most { result ≤ 3 }
 
     // Nothing is told where all was done, and nothing is printed where the words were refused or there was no script. The
-    // input is left alone where the words were refused, and where they give the path of a script.
+    // input is left alone where no script was asked for, where the words were not read, and where they give the path of a
+    // script.
     ensures untold { result ≡ 0 → err.new ≡ err.old }
     ensures unprinted { 2 ≤ result → out.new ≡ out.old }
+    ensures unasked { ¬ AsksToPlay (map string_bytes words.items) → input.new ≡ input.old }
     ensures unread { result ≡ 2 → input.new ≡ input.old }
     ensures other_file { IsSome (path_in (map string_bytes words.items)) → input.new ≡ input.old }
 {
