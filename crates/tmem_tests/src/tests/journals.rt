@@ -175,3 +175,27 @@ fn a_damaged_image_or_log_is_refused(rt: HostRuntime) -> Result<(), Fail> {
     }
     Ok(())
 }
+
+/// A device on which formatting stopped at a write of it, started again.
+fn half_formatted(alloc: Global, k: u64, fill: Fill) -> Result<SimDisk, Fail> {
+    let mut disk = SimDisk::new(alloc, Layout::new(4, 2)?.end())?;
+    disk.stop_at_write(k, fill);
+    if format(&mut disk, 4, 2) != Err(Fault::Device) || !disk.is_stopped() {
+        return Err(Fail::new("it did not stop"));
+    }
+    disk.restart();
+    Ok(disk)
+}
+
+#[test]
+fn block_0_is_opened_last(rt: HostRuntime) -> Result<(), Fail> {
+    let alloc = rt.alloc();
+    // the zeros, the image, its gate, block 0 and its gate
+    for k in 0..5 {
+        let disk = half_formatted(alloc, k, Fill::Old)?;
+        assert_eq!(rt; refused(alloc, disk, 4)?.0, Fault::NotFormatted);
+    }
+    let whole = half_formatted(alloc, 4, Fill::New)?;
+    assert_eq!(rt; opened(alloc, whole)?.count(), 0);
+    Ok(())
+}
