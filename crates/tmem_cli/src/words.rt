@@ -1,11 +1,11 @@
 //! What the program answers to the words of a command line.
-ghost use Rattle.std.specs.Prelude.{◌≡◌, ◌≤◌, ℕ, List, map, option_map, string_bytes, IfErr, IfOk, IfSome, MatchResult, OnOk};
+ghost use Rattle.std.specs.Prelude.{◌≡◌, ◌≤◌, ℕ, List, map, option_map, string_bytes, IfErr, IfOk, IfSome, IsSome, MatchResult, OnOk};
 ghost use Rattle.clap.specs.Values.{kind_of};
 ghost use Rattle.tmem_script.specs.Errors.{IsUnread};
 ghost use Rattle.tmem_script.specs.Scripts.{IsScriptText};
 ghost use Rattle.tmem_script.specs.Statuses.{status_of};
 ghost use Rattle.tmem_script.specs.declared.failure.Failure.TheVariants.{Output};
-ghost use Rattle.tmem_cli.specs.CommandLine.{AreRefused, IsRequest};
+ghost use Rattle.tmem_cli.specs.CommandLine.{AreRefused, AsksToPlay, IsRequest, path_in};
 ghost use Rattle.tmem_cli.specs.Outcomes.{IsDone, IsStopped, HasNoScript, IsWhyNotPlayed, IsWhyNotRead, MayBeRead, PlaysRead};
 
 use crate::args::script_path;
@@ -32,6 +32,15 @@ pub fn run_words<R: Read, W: Write, E: Write>(
     ensures no_script { result ≡ 3 → HasNoScript (map string_bytes words.items) (R.remaining input.old) }
     ensures refused { AreRefused (map string_bytes words.items) → result ≡ 2 }
     ensures most { result ≤ 3 }
+
+    // Nothing is told where all was done, and nothing is printed where the words were refused or there was no script. The
+    // input is left alone where no script was asked for, where the words were not read, and where they give the path of a
+    // script.
+    ensures untold { result ≡ 0 → err.new ≡ err.old }
+    ensures unprinted { 2 ≤ result → out.new ≡ out.old }
+    ensures unasked { ¬ AsksToPlay (map string_bytes words.items) → input.new ≡ input.old }
+    ensures unread { result ≡ 2 → input.new ≡ input.old }
+    ensures other_file { IsSome (path_in (map string_bytes words.items)) → input.new ≡ input.old }
 {
     match script_path(rt.alloc(), words.as_slice()) {
         Ok(path) => conclude(run(rt, path, input, out), err),
@@ -43,6 +52,7 @@ pub fn run_words<R: Read, W: Write, E: Write>(
 fn conclude<E: Write>(outcome: Result<(), Failure>, err: &mut E) -> u8
     ensures status { MatchResult outcome (λ _. result ≡ 0) (λ failure. result ≡ status_of failure) }
     ensures most { result ≤ 3 }
+    ensures untold { OnOk outcome (err.new ≡ err.old) }
 {
     match outcome {
         Ok(()) => 0,
@@ -56,6 +66,8 @@ fn answer<W: Write, E: Write>(refusal: &clap::Error, out: &mut W, err: &mut E) -
     ensures request { result ≤ 1 → IsRequest (kind_of refusal.now) }
     ensures refused { ¬ IsRequest (kind_of refusal.now) → result ≡ 2 }
     ensures most { result ≤ 2 }
+    ensures untold { result ≡ 0 → err.new ≡ err.old }
+    ensures unprinted { result ≡ 2 → out.new ≡ out.old }
 {
     match refusal.kind() {
         ErrorKind::DisplayHelp | ErrorKind::DisplayVersion => conclude(print(refusal, out), err),
@@ -85,6 +97,8 @@ fn run<R: Read, W: Write>(
 ) -> Result<(), Failure>
     ensures played { OnOk result (PlaysRead (MayBeRead (option_map (λ text. text.now) path.entry) (R.remaining input.old)) (W.contents out.old) (W.contents out.new)) }
     ensures failed { IfErr result (IsWhyNotPlayed (MayBeRead (option_map (λ text. text.now) path.entry) (R.remaining input.old))) }
+    ensures unprinted { IfErr result (λ failure. status_of failure ≡ 3 → out.new ≡ out.old) }
+    ensures other_file { IsSome path.entry → input.new ≡ input.old }
 {
     let script = script_of(rt, path, input)?;
     play(rt.alloc(), script, out)?;
@@ -100,6 +114,7 @@ fn script_of<R: Read>(
     ensures script { IfOk result (λ script. (text : List ℕ) × MayBeRead (option_map (λ text. text.now) path.entry) (R.remaining input.old) text
         × IsScriptText script.vars script.slots script.entries.items text) }
     ensures refused { IfErr result (IsWhyNotRead (MayBeRead (option_map (λ text. text.now) path.entry) (R.remaining input.old))) }
+    ensures other_file { IsSome path.entry → input.new ≡ input.old }
 {
     let text = text_of(rt, path, input)?;
     Script::from_slice(rt.alloc(), &text)
@@ -113,6 +128,7 @@ fn text_of<R: Read>(
 ) -> Result<Vec<u8>, ScriptError>
     ensures text { IfOk result (λ text. MayBeRead (option_map (λ text. text.now) path.entry) (R.remaining input.old) text.items) }
     ensures refused { IfErr result IsUnread }
+    ensures other_file { IsSome path.entry → input.new ≡ input.old }
 {
     match path {
         Some(path) => Ok(fs::read(rt, path)?),

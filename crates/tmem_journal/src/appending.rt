@@ -1,6 +1,6 @@
 // One record more.
-ghost use Rattle.std.specs.Prelude.{Some, [], ◌≡◌, ◌⊎◌, ◌<◌, ◌≤◌, ◌+◌, ◌^◌, ◌∷◌, length, All, IfErr, IsErrOf};
-ghost use Rattle.tmem_disk.specs.Disk.{LeavesOnly, SameSeenOutside, AtEachMoment};
+ghost use Rattle.std.specs.Prelude.{Some, [], ◌≡◌, ◌⊎◌, ◌<◌, ◌≤◌, ◌+◌, ◌^◌, ◌∷◌, length, All, IfErr, IfSome, IsErrOf};
+ghost use Rattle.tmem_disk.specs.Disk.{LeavesOnly, SameSeenOutside, AtEachMoment, IsWriteOrSync};
 ghost use Rattle.tmem_gate.specs.Gate.{IsClosed, HasBody};
 ghost use Rattle.tmem_record.specs.State.{State as StateOf, with_names};
 ghost use Rattle.tmem_record.specs.declared.effect.Effect.{Effect as EffectOf};
@@ -35,10 +35,12 @@ pub fn append<D: Disk>(
     ensures uses { Uses (D.view disk.old) (D.view disk.new) result }
     ensures errors { IfErr result (λ f. (f ≡ Fault.Device) ⊎ (f ≡ Fault.Unknown)) }
 
-    // At `Device` a write failed, and not that of the gate. At `Unknown` the bytes of the batch were written before.
+    // At `Device` a write failed, and not that of the gate. At `Unknown` a write or a sync failed, and the bytes of the
+    // batch were written before.
     ensures write_failed { IsErrOf result Fault.Device → (D.view disk.new).last_fault ≡ Some DeviceFault.Write }
     ensures gate_untouched { IsErrOf result Fault.Device →
         SameSeenOutside (slot_place layout.vars 0 + 1) BATCH_ROOM (D.view disk.old) (D.view disk.new) }
+    ensures gate_failed { IsErrOf result Fault.Unknown → IfSome (D.view disk.new).last_fault IsWriteOrSync }
     ensures body_written { IsErrOf result Fault.Unknown → (D.view disk.new).keeps_model →
         HasBody (slot_place layout.vars 0) (batch_bytes 1 first batch.now) (D.view disk.new).seen }
 

@@ -18,11 +18,12 @@ const PIECE: usize = 16384;
 
 /// Formats a device for so many variables and log slots: no transaction, every variable 0. Refused by `Geometry`, before
 /// anything is written, where a number is out of its limits or the device is too small; by `Device` where a call of the
-/// device fails, which leaves no store: format it again.
+/// device fails, which may leave anything in the layout, an old store too: format it again.
 pub fn format<D: Disk>(disk: &mut D, vars: u16, slots: u16) -> Result<(), Fault>
     ensures uses { Uses (D.view disk.old) (D.view disk.new) result }
     ensures fits { OnOk result (FitsOn vars slots (D.view disk.old).capacity) }
     ensures geometry { IsErrOf result Fault.Geometry → ¬ FitsOn vars slots (D.view disk.old).capacity }
+    ensures unfit { ¬ FitsOn vars slots (D.view disk.old).capacity → IsErrOf result Fault.Geometry }
     ensures untouched { IsErrOf result Fault.Geometry → disk.new ≡ disk.old }
     ensures errors { IfErr result (λ f. (f ≡ Fault.Geometry) ⊎ (f ≡ Fault.Device)) }
     ensures stands { OnOk result (LeavesOnly (D.view disk.new) (StandsFor vars slots 0 (first_state vars))) }

@@ -1,12 +1,15 @@
 // The journal: a device, and the state that it stands for.
-ghost use Rattle.std.specs.Prelude.{◌≡◌, ◌≤◌, ◌<◌, ◌^◌, ◌⊎◌, [], false, length, All, IfOk, IfErr};
-ghost use Rattle.tmem_disk.specs.Disk.{LeavesOnly, AtEachMoment};
+ghost use Rattle.std.specs.Prelude.{◌≡◌, ◌≤◌, ◌<◌, ◌+◌, ◌^◌, ◌⊎◌, [], false, length, All, IfOk, IfErr, IfSome, IsErrOf};
+ghost use Rattle.tmem_disk.specs.Disk.{LeavesOnly, AtEachMoment, SameSeenOutside, IsWriteOrSync};
+ghost use Rattle.tmem_gate.specs.Gate.{HasBody};
 ghost use Rattle.tmem_record.specs.State.{State as StateOf, fold};
 ghost use Rattle.tmem_record.specs.Loggable.{IsLoggable};
-ghost use Rattle.tmem_journal.specs.Layout.{end_place};
+ghost use Rattle.tmem_record.specs.Spelling.{batch_bytes};
+ghost use Rattle.tmem_record.specs.declared.codec.TheConstants.{BATCH_ROOM};
+ghost use Rattle.tmem_journal.specs.Layout.{slot_place, end_place};
 ghost use Rattle.tmem_journal.specs.Stands.{StandsFor, StandsForEither};
 ghost use Rattle.tmem_journal.specs.Calls.{Uses, FitsOn, effects_in, doubted, fault_alone};
-ghost use Rattle.tmem_journal.specs.Looks.{LooksOnly};
+ghost use Rattle.tmem_journal.specs.Looks.{LooksOnly, WritesWithin};
 
 use crate::appending::append;
 use crate::buffer::Buffer;
@@ -70,6 +73,9 @@ impl<D: Disk> Journal<D> {
         ensures fresh { IfOk result (λ j. (is_closed_of j ≡ false) × (doubtful_of j ≡ state_of j)) }
         ensures found { IfOk result (λ j. (device_of j).keeps_model → StandsFor vars slots (used_slots_of j) (state_of j) (D.view disk).seen) }
         ensures refused { IfErr result (λ e. IsOpeningRefused (D.view disk) vars slots e.0 (D.view e.1)) }
+
+        // Where the numbers do not fit the device, no call of it is made: the one that was handed in is handed back.
+        ensures untouched { ¬ FitsOn vars slots (D.view disk).capacity → IfErr result (λ e. e.1 ≡ disk) }
 
         // Where every crash left one of two states, that one is found, unless memory or the device fails.
         ensures either { (s t : StateOf) → FitsOn vars slots (D.view disk).capacity → LeavesOnly (D.view disk) (StandsForEither vars slots s t)
@@ -148,6 +154,15 @@ impl<D: Disk> Journal<D> {
         ensures uses { Uses (device_of self.old) (device_of self.new) result }
         ensures layout { layout_of self.new ≡ layout_of self.old }
         ensures flushed { Flushes self.old batch.now result self.new }
+
+        // Nothing outside slot 0 changes. At `Device` its gate was not written. At `Unknown` a write or a sync failed, and
+        // the bytes of the batch were written before.
+        ensures elsewhere { WritesWithin (slot_place (layout_of self.old).vars 0) 4096 (device_of self.old) (device_of self.new) }
+        ensures gate_untouched { IsErrOf result Fault.Device →
+            SameSeenOutside (slot_place (layout_of self.old).vars 0 + 1) BATCH_ROOM (device_of self.old) (device_of self.new) }
+        ensures gate_failed { IsErrOf result Fault.Unknown → IfSome (device_of self.new).last_fault IsWriteOrSync }
+        ensures body_written { IsErrOf result Fault.Unknown → (device_of self.new).keeps_model →
+            HasBody (slot_place (layout_of self.old).vars 0) (batch_bytes 1 (state_of self.old).count batch.now) (device_of self.new).seen }
 
         // A crash at any moment of the call leaves what the journal before it allows, or the one after it.
         ensures any_moment { AtEachMoment (device_of self.old) (device_of self.new) (λ c. ∥ MayBe self.old c ⊎ MayBe self.new c ∥₁) }

@@ -7,6 +7,7 @@ mod batches;
 mod contents;
 mod devices;
 mod disks;
+mod journals;
 mod limits;
 mod no_closures;
 mod plays;

@@ -37,6 +37,7 @@ returns-in-Err g c =
       errors = search rules;
       write_failed = λ e. cc;
       gate_untouched = λ e. cc;
+      gate_failed = search rules;
       body_written = λ is k. subst (λ (l : List ℕ). HasBody (slot_place c.args.layout.vars 0) l (g.D.Disk.view c.put_body.new.disk).seen) c.encode_batch-len.ensures.bytes
           (body_written (g.D.Disk.view c.args.disk.now) (g.D.Disk.view c.put_body.new.disk) (slot_place c.args.layout.vars 0) (take c.encode_batch-len.result c.encode_batch-len.new.into) short (g.met.D.Disk.is_device c.args.disk.now) c.put_body.ensures.call.model (omega arith) (rw c.slot-at.ensures at (c.put_body.ensures.unsynced (search rules))) k);
       elsewhere =

@@ -1,0 +1,201 @@
+//! A journal by itself: what it flushes, what is found again, and what a stop inside a flush leaves.
+use std::alloc::Global;
+use std::test::Fail;
+use tmem_disk::{Disk, Fault, Fill, SimDisk};
+use tmem_journal::{Journal, Layout, format};
+use tmem_record::{Batch, Effect};
+
+/// A device of four variables and two slots that holds nothing yet.
+fn empty(alloc: Global) -> Result<SimDisk, Fault> {
+    let layout = Layout::new(4, 2)?;
+    let mut disk = SimDisk::new(alloc, layout.end())?;
+    format(&mut disk, 4, 2)?;
+    Ok(disk)
+}
+
+/// The journal of a device of four variables and two slots.
+fn opened(alloc: Global, disk: SimDisk) -> Result<Journal<SimDisk>, Fault> {
+    Journal::open(alloc, disk, 4, 2).map_err(|refusal| refusal.0)
+}
+
+/// Flushes a batch of one record, which writes a number to variable 0.
+fn flush(
+    alloc: Global,
+    journal: &mut Journal<SimDisk>,
+    number: i64,
+) -> Result<Result<u64, Fault>, Fail> {
+    let mut effect = Effect::new();
+    effect.writes.put(0, number);
+    let has_room = journal.state().has_room_for(effect.names.as_slice());
+    let mut batch = Batch::new(alloc)?;
+    if effect.is_empty() || !batch.push(&effect) || !has_room || journal.count() == u64::MAX {
+        return Err(Fail::new("no batch for the journal"));
+    }
+    Ok(journal.flush(&batch))
+}
+
+/// The number that is known durable in variable 0.
+fn first_value(journal: &Journal<SimDisk>) -> Option<i64> {
+    journal.state().values().first().copied()
+}
+
+#[test]
+fn a_flushed_batch_is_found_again(rt: HostRuntime) -> Result<(), Fail> {
+    let alloc = rt.alloc();
+    let mut journal = opened(alloc, empty(alloc)?)?;
+    assert_eq!(rt; (journal.layout().vars, journal.layout().slots), (4, 2));
+    assert_eq!(rt; (journal.count(), first_value(&journal)), (0, Some(0)));
+    assert_eq!(rt; flush(alloc, &mut journal, 5)?, Ok(1));
+    assert_eq!(rt; (journal.count(), first_value(&journal)), (1, Some(5)));
+    let mut journal = opened(alloc, journal.into_disk())?;
+    assert_eq!(rt; (journal.count(), first_value(&journal)), (1, Some(5)));
+    assert_eq!(rt; flush(alloc, &mut journal, 6)?, Err(Fault::LogFull));
+    assert_eq!(rt; (journal.count(), first_value(&journal)), (1, Some(5)));
+    assert!(rt; !journal.is_closed());
+    Ok(())
+}
+
+#[test]
+fn a_second_batch_finds_the_log_full(rt: HostRuntime) -> Result<(), Fail> {
+    let alloc = rt.alloc();
+    let mut journal = opened(alloc, empty(alloc)?)?;
+    assert_eq!(rt; flush(alloc, &mut journal, 5)?, Ok(1));
+    assert_eq!(rt; flush(alloc, &mut journal, 6)?, Err(Fault::LogFull));
+    assert_eq!(rt; (journal.count(), first_value(&journal)), (1, Some(5)));
+    assert!(rt; !journal.is_closed());
+    Ok(())
+}
+
+/// What a flush answers over a device that stops at a write of it, what the next flush answers, and how many
+/// transactions are found once the device is started again.
+fn stopped(
+    alloc: Global,
+    k: u64,
+    byte: u8,
+) -> Result<(Result<u64, Fault>, Result<u64, Fault>, u64), Fail> {
+    let mut disk = empty(alloc)?;
+    disk.stop_at_write(k, Fill::Byte(byte));
+    let mut journal = opened(alloc, disk)?;
+    let first = flush(alloc, &mut journal, 5)?;
+    if !journal.is_closed() || journal.count() != 0 {
+        return Err(Fail::new("it goes on after a failure"));
+    }
+    let second = flush(alloc, &mut journal, 6)?;
+    let mut disk = journal.into_disk();
+    if !disk.is_stopped() {
+        return Err(Fail::new("it did not stop"));
+    }
+    disk.restart();
+    Ok((first, second, opened(alloc, disk)?.count()))
+}
+
+#[test]
+fn a_stop_inside_a_flush_leaves_the_state_before_or_after_it(rt: HostRuntime) -> Result<(), Fail> {
+    let alloc = rt.alloc();
+    // the bytes of the batch behind a closed gate, and the gate with both outcomes
+    let rows = [
+        (0, 0xA5, Fault::Device, 0),
+        (1, 0xA5, Fault::Unknown, 1),
+        (1, 0x37, Fault::Unknown, 0),
+    ];
+    for (k, byte, fault, count) in rows {
+        let had = stopped(alloc, k, byte)?;
+        assert_eq!(rt; had, (Err(fault), Err(Fault::Closed), count));
+    }
+    Ok(())
+}
+
+/// What opening a device for so many variables and two slots is refused by, and the device.
+fn refused(alloc: Global, disk: SimDisk, vars: u16) -> Result<(Fault, SimDisk), Fail> {
+    let refusal = Journal::open(alloc, disk, vars, 2).err();
+    Ok(refusal.ok_or("it was opened")?)
+}
+
+#[test]
+fn a_refused_device_is_handed_back(rt: HostRuntime) -> Result<(), Fail> {
+    let alloc = rt.alloc();
+    let (fault, blank) = refused(alloc, SimDisk::new(alloc, 20000)?, 4)?;
+    assert_eq!(rt; fault, Fault::NotFormatted);
+    let (fault, _) = refused(alloc, blank, 1024)?;
+    assert_eq!(rt; fault, Fault::Geometry);
+    let (fault, disk) = refused(alloc, empty(alloc)?, 0)?;
+    assert_eq!(rt; fault, Fault::Geometry);
+    let (fault, disk) = refused(alloc, disk, 5)?;
+    assert_eq!(rt; fault, Fault::Geometry);
+    assert_eq!(rt; opened(alloc, disk)?.count(), 0);
+    Ok(())
+}
+
+/// An empty store with one byte of it changed.
+fn changed(alloc: Global, place: u64, byte: u8) -> Result<SimDisk, Fail> {
+    let mut disk = empty(alloc)?;
+    if disk.size() <= place {
+        return Err(Fail::new("no such place"));
+    }
+    match disk.write_at(place, &[byte]) {
+        Ok(()) => Ok(disk),
+        Err(_) => Err(Fail::new("not written")),
+    }
+}
+
+#[test]
+fn a_damaged_block_is_refused(rt: HostRuntime) -> Result<(), Fail> {
+    // its gate, its magic, its version, no variable, and a byte behind its numbers
+    let rows = [
+        (0, 0, Fault::NotFormatted),
+        (1, b't', Fault::NotFormatted),
+        (5, 2, Fault::Damaged),
+        (6, 0, Fault::Damaged),
+        (10, 1, Fault::Damaged),
+    ];
+    for (place, byte, fault) in rows {
+        let disk = changed(rt.alloc(), place, byte)?;
+        assert_eq!(rt; refused(rt.alloc(), disk, 4)?.0, fault);
+    }
+    Ok(())
+}
+
+#[test]
+fn a_damaged_image_or_log_is_refused(rt: HostRuntime) -> Result<(), Fail> {
+    // image copy 0: its gate, its generation, 65 names, a byte behind them and one behind the values; the gate of image
+    // copy 1; and the gates of the two slots, which hold no batch
+    let rows = [
+        (512, 0),
+        (513, 2),
+        (529, 65),
+        (2559, 1),
+        (2592, 1),
+        (3072, 0xa5),
+        (5632, 0xa5),
+        (9728, 0xa5),
+    ];
+    for (place, byte) in rows {
+        let disk = changed(rt.alloc(), place, byte)?;
+        assert_eq!(rt; refused(rt.alloc(), disk, 4)?.0, Fault::Damaged);
+    }
+    Ok(())
+}
+
+/// A device on which formatting stopped at a write of it, started again.
+fn half_formatted(alloc: Global, k: u64, fill: Fill) -> Result<SimDisk, Fail> {
+    let mut disk = SimDisk::new(alloc, Layout::new(4, 2)?.end())?;
+    disk.stop_at_write(k, fill);
+    if format(&mut disk, 4, 2) != Err(Fault::Device) || !disk.is_stopped() {
+        return Err(Fail::new("it did not stop"));
+    }
+    disk.restart();
+    Ok(disk)
+}
+
+#[test]
+fn block_0_is_opened_last(rt: HostRuntime) -> Result<(), Fail> {
+    let alloc = rt.alloc();
+    // the zeros, the image, its gate, block 0 and its gate
+    for k in 0..5 {
+        let disk = half_formatted(alloc, k, Fill::Old)?;
+        assert_eq!(rt; refused(alloc, disk, 4)?.0, Fault::NotFormatted);
+    }
+    let whole = half_formatted(alloc, 4, Fill::New)?;
+    assert_eq!(rt; opened(alloc, whole)?.count(), 0);
+    Ok(())
+}
