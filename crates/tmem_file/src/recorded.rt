@@ -32,7 +32,7 @@ impl RecordedFile {
         requires { pos 2 <ℤ file_raw_fd file }
         ensures { IfOk result (λ found. events_of found.calls ≡ []) }
     {
-        settle(&file)?;
+        forget_copies(&file)?;
         let size = file.metadata()?.len();
         let bytes = find(&file, 0, size)?;
         Ok(RecordedFile {
@@ -122,7 +122,7 @@ impl RecordedFile {
 
 // What an earlier process wrote and could not sync may stand in the system's memory alone, where a sync that succeeds now
 // would leave it. So the system is asked to drop what it has, and what is read after that is on the disk.
-fn settle(file: &File) -> io::Result<()> {
+fn forget_copies(file: &File) -> io::Result<()> {
     file.sync_all()?;
     match libc::posix_fadvise(file.as_raw_fd(), 0, 0, libc::POSIX_FADV_DONTNEED) {
         0 => Ok(()),
