@@ -2,7 +2,7 @@
 use Rattle.std.proofs.Common.{◌≡◌, ⊎_elim, ℕ, ◌+◌, ◌≤◌, List, ◌∷◌, length, sym, subst}
 use Rattle.tmem_disk.specs.Disk.{SameOutside}
 use Rattle.tmem_disk.proofs.Laws.{SameOutside-overwritten, SameOutside-refl}
-use Rattle.tmem_file.specs.Record.{Event, holds, tore, synced, seen_after, has_lost, LeftAfter, reach}
+use Rattle.tmem_file.specs.Record.{Event, holds, synced, seen_after, has_lost, LeftAfter, reach}
 use Rattle.tmem_file.specs.Recorded.{Spoils}
 use Rattle.tmem_file.specs.Held.{seen_long, seen_stays, from_case}
 

@@ -1,5 +1,5 @@
 -- What a contract sees of a file.
-use Rattle.std.specs.Prelude.{◌≡◌, ◌⊎◌, ℕ, ◌+◌, ◌≤◌, Option, List, [], ◌∷◌, length}
+use Rattle.std.specs.Prelude.{ℕ, Option, List, length}
 use Rattle.tmem_disk.specs.Disk.{DeviceView, IsDevice}
 use Rattle.tmem_disk.specs.declared.disk.DeviceFault.{DeviceFault}
 use Rattle.tmem_file.specs.Record.{Event, seen_after, LeftAfter, LeftSince, Agrees}

@@ -1,5 +1,5 @@
 -- What every record of calls keeps to, so that a file is a device whatever its calls were.
-use Rattle.std.specs.Prelude.{◌≡◌, ◌⊎◌, ℕ, ◌+◌, ◌≤◌, Bool, true, false, List, [], ◌∷◌, length}
+use Rattle.std.specs.Prelude.{◌≡◌, ℕ, ◌+◌, ◌≤◌, Bool, true, false, List, [], ◌∷◌, length}
 use Rattle.std.proofs.Common.{inl, ⊎_elim, refl, sym, ◌∙◌, ap, subst}
 use Rattle.std.proofs.Math.Nat.{le_trans, le-max_left, le-max_right, not-suc-le_self}
 use Rattle.tmem_disk.proofs.Laws.{SameOutside-overwritten, SameOutside-refl}

@@ -1,5 +1,5 @@
 -- Files as they are opened and placed.
-use Rattle.std.specs.Prelude.{◌≡◌, ℕ, None}
+use Rattle.std.specs.Prelude.{◌≡◌, None}
 use Rattle.tmem_disk.specs.Disk.{DeviceView, IsSynced, ReadsAs, LeavesOnly, Elapses}
 
 -- nothing is left to sync, no call has failed, and nothing that the file gave disagrees

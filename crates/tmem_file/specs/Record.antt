@@ -1,6 +1,6 @@
 -- What a run knows of a file: the bytes that it gave when it was opened, and what its calls did since. What it holds, what
 -- a stop (a crash) may leave of it, and whether its answers agree, are read off that.
-use Rattle.std.specs.Prelude.{◌≡◌, ◌⊎◌, ⊤, ℕ, ◌+◌, ◌≤◌, max, Bool, true, false, List, [], ◌∷◌, length, slice_range}
+use Rattle.std.specs.Prelude.{◌≡◌, ◌⊎◌, ⊤, ℕ, ◌+◌, ◌≤◌, max, Bool, true, false, ◌||◌, List, [], ◌∷◌, length, slice_range}
 use Rattle.tmem_disk.specs.Disk.{overwritten, SameOutside}
 
 -- What came of a call.
@@ -27,14 +27,18 @@ seen_after start (tore at n ∷ earlier) = seen_after start earlier
 seen_after start (synced ∷ earlier) = seen_after start earlier
 seen_after start (lost ∷ earlier) = seen_after start earlier
 
--- whether a sync has failed
+-- what it holds is not known for sure after it
+abbrev pub is_loss : Event → Bool
+is_loss (gave at bytes) = false
+is_loss (holds at bytes) = false
+is_loss (tore at n) = true
+is_loss synced = false
+is_loss lost = true
+
+-- and so it is after one such event
 abbrev pub has_lost : List Event → Bool
 has_lost [] = false
-has_lost (gave at bytes ∷ earlier) = has_lost earlier
-has_lost (holds at bytes ∷ earlier) = has_lost earlier
-has_lost (tore at n ∷ earlier) = has_lost earlier
-has_lost (synced ∷ earlier) = has_lost earlier
-has_lost (lost ∷ earlier) = true
+has_lost (event ∷ earlier) = is_loss event || has_lost earlier
 
 -- one fact or another
 abbrev pub by_case : Bool → Type 0 → Type 0 → Type 0
@@ -42,7 +46,7 @@ by_case true P Q = P
 by_case false P Q = Q
 
 -- What a stop may leave: at first anything as long as the file, after a sync what a read gives, and then anything in the
--- ranges written since. A sync that succeeds after one that failed promises nothing.
+-- ranges written since. Once it is not known for sure what the file holds, a sync promises nothing.
 abbrev pub LeftAfter : List ℕ → List Event → List ℕ → Type 0
 LeftAfter start [] c = length c ≡ length start
 LeftAfter start (gave at bytes ∷ earlier) c = LeftAfter start earlier c

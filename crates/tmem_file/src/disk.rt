@@ -2,7 +2,7 @@
 ghost use Rattle.std.specs.Prelude.{◌≡◌, ◌<◌, ◌≤◌, ◌+◌, ◌^◌, [], None, Some, length, slice_range, IfOk, IsOkUnless, OnOk, OnErr};
 ghost use Rattle.tmem_disk.specs.Disk.{IsCall, Elapses, overwritten, ReadsAs, SameSeenOutside, LeavesOnly, LeavesEach, StillLeaves, IsSynced, Rewritten, after_fault};
 ghost use Rattle.tmem_disk.specs.Start.{IsNewDevice};
-ghost use Rattle.tmem_file.specs.Record.{has_lost, reach};
+ghost use Rattle.tmem_file.specs.Record.{reach};
 ghost use Rattle.tmem_file.specs.Recorded.{start_of, events_of};
 ghost use Rattle.tmem_file.specs.Opening.{IsOpened};
 
@@ -12,15 +12,14 @@ use std::fs::{File, Files};
 use tmem_disk::{DeviceFault, Disk, Fault};
 
 /// A file that this process alone has open as a device. It keeps the disk model as long as each read gives what the record
-/// of its calls says that the file holds. Once a sync has failed, each later one fails too: the system may have dropped the
-/// bytes that it could not write, and a later sync would succeed without them.
+/// of its calls says that the file holds. Once a sync has failed, each later one fails too, since the system may have
+/// dropped the bytes that it could not write; and so it is once a write has failed in a range that cannot be read then.
+/// To go on, open the file anew.
 #[derive(Drop)]
 pub struct FileDisk {
     file: RecordedFile,
     failures: u64,
     last_fault: Option<DeviceFault>,
-    sync_failed: bool,
-    ghost lost: { has_lost (events_of file.calls) ≡ sync_failed },
     ghost within: { reach (events_of file.calls) ≤ length (start_of file.calls) },
     ghost counted: { failures < 2 ^ 64 },
 }
@@ -70,7 +69,6 @@ impl FileDisk {
             file,
             failures: 0,
             last_fault: None,
-            sync_failed: false,
         })
     }
 
@@ -113,8 +111,7 @@ impl Disk for FileDisk {
     }
 
     fn sync(&mut self) -> Result<(), DeviceFault> {
-        if self.sync_failed || self.file.sync().is_err() {
-            self.sync_failed = true;
+        if self.file.sync().is_err() {
             self.note(DeviceFault::Sync);
             return Err(DeviceFault::Sync);
         }

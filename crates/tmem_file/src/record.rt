@@ -1,5 +1,6 @@
 // The calls of a file, with what came of each. It takes no memory: its values are seen by clauses alone.
 ghost use Rattle.std.specs.Prelude.{◌≡◌, ◌∷◌, ◌++◌};
+ghost use Rattle.tmem_file.specs.Record.{is_loss};
 ghost use Rattle.tmem_file.specs.Recorded.{bytes_of, event_of, start_of, events_of};
 
 use std::snapshot::Snapshot;
@@ -37,6 +38,15 @@ pub(crate) enum Call {
     Synced,
     /// A sync failed.
     Lost,
+}
+
+impl Call {
+    /// Is it not known for sure what the file holds after it?
+    pub(crate) fn is_loss(&self) -> bool
+        ensures { result ≡ is_loss (event_of self.now) }
+    {
+        matches!(self, Call::Tore(_, _) | Call::Lost)
+    }
 }
 
 /// What a file gave when it was opened, and what came of its calls since.

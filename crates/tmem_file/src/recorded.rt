@@ -1,14 +1,14 @@
 // The calls of the system that read, write and sync a file, each beside what it puts on record. No contract of the system's
 // calls says which bytes they move, so that each call here is the one that it records has to be read.
-ghost use Rattle.std.specs.Prelude.{◌≡◌, ◌+◌, ◌≤◌, ◌<◌, ◌^◌, pos, List, [], ◌∷◌, length, replicate, IfOk, OnOk, OnErr};
+ghost use Rattle.std.specs.Prelude.{◌≡◌, false, ◌+◌, ◌≤◌, ◌<◌, ◌^◌, pos, List, [], ◌∷◌, length, replicate, IfOk, OnOk, OnErr};
 ghost use Rattle.std.specs.Int.Signed.{◌<ℤ◌};
 ghost use Rattle.std.specs.Fd.{file_raw_fd};
-ghost use Rattle.tmem_file.specs.Record.{Event, gave, holds, synced, lost};
+ghost use Rattle.tmem_file.specs.Record.{Event, gave, holds, synced, lost, has_lost};
 ghost use Rattle.tmem_file.specs.Recorded.{bytes_of, event_of, start_of, events_of, Spoils};
 
 use crate::record::{Bytes, Call, Calls};
 use std::fs::File;
-use std::io;
+use std::io::{self, ErrorKind};
 use std::os::fd::AsRawFd;
 use std::os::unix::fs::FileExt;
 
@@ -21,8 +21,11 @@ pub(crate) struct RecordedFile {
     file: File,
     size: u64,
     pub(crate) calls: Calls,
+    // It is no longer known for sure what the file holds.
+    unsure: bool,
     ghost long: { length (start_of calls) ≡ size },
     ghost fits: { length (start_of calls) < 2 ^ 64 },
+    ghost doubt: { has_lost (events_of calls) ≡ unsure },
     ghost number: { pos 2 <ℤ file_raw_fd file },
 }
 
@@ -39,6 +42,7 @@ impl RecordedFile {
             file,
             size,
             calls: Calls::Start(bytes),
+            unsure: false,
         })
     }
 
@@ -53,6 +57,7 @@ impl RecordedFile {
             file,
             size,
             calls: Calls::Start(bytes),
+            unsure: false,
         })
     }
 
@@ -70,7 +75,7 @@ impl RecordedFile {
         ensures same { OnErr result (events_of self.new.calls ≡ events_of self.old.calls) }
     {
         self.file.read_exact_at(into, at)?;
-        self.calls = self.calls.with(&Call::Gave(at, Bytes::Empty.and(into)));
+        self.note(&Call::Gave(at, Bytes::Empty.and(into)));
         Ok(())
     }
 
@@ -83,11 +88,11 @@ impl RecordedFile {
     {
         match self.file.write_all_at(bytes, at) {
             Ok(()) => {
-                self.calls = self.calls.with(&Call::Holds(at, Bytes::Empty.and(bytes)));
+                self.note(&Call::Holds(at, Bytes::Empty.and(bytes)));
                 Ok(())
             }
             Err(error) => {
-                self.calls = self.calls.with(&self.look(at, bytes.len() as u64));
+                self.note(&self.look(at, bytes.len() as u64));
                 Err(error)
             }
         }
@@ -104,19 +109,34 @@ impl RecordedFile {
         }
     }
 
-    /// Has the system put on the disk what was written.
+    /// Has the system put on the disk what was written. After one that failed each later one fails too: the system may have
+    /// dropped the bytes that it could not write, and would then succeed without them. So it does after a write that left
+    /// nobody knows what.
     pub(crate) fn sync(&mut self) -> io::Result<()>
         ensures start { start_of self.new.calls ≡ start_of self.old.calls }
+        ensures sure { OnOk result (has_lost (events_of self.old.calls) ≡ false) }
         ensures synced { OnOk result (events_of self.new.calls ≡ synced ∷ events_of self.old.calls) }
         ensures lost { OnErr result (events_of self.new.calls ≡ lost ∷ events_of self.old.calls) }
     {
-        let outcome = self.file.sync_data();
-        let call = match outcome {
-            Ok(()) => Call::Synced,
-            Err(_) => Call::Lost,
+        let outcome = if self.unsure {
+            Err(io::Error::from(ErrorKind::InvalidData))
+        } else {
+            self.file.sync_data()
         };
-        self.calls = self.calls.with(&call);
+        match outcome {
+            Ok(()) => self.note(&Call::Synced),
+            Err(_) => self.note(&Call::Lost),
+        }
         outcome
+    }
+
+    // Puts a call on record.
+    fn note(&mut self, call: &Call)
+        ensures start { start_of self.new.calls ≡ start_of self.old.calls }
+        ensures events { events_of self.new.calls ≡ event_of call.now ∷ events_of self.old.calls }
+    {
+        self.unsure = call.is_loss() || self.unsure;
+        self.calls = self.calls.with(call);
     }
 }
 

@@ -1,4 +1,4 @@
-use Rattle.std.proofs.Common.{rules, ◌≡◌, ◌≤◌, ◌++◌, ℕ, List, replicate, take, ◌∙◌, ap, arith}
+use Rattle.std.proofs.Common.{rules, ◌≤◌, ◌++◌, ℕ, List, replicate, take, ◌∙◌, ap}
 use Rattle.std.proofs.lemmas.List.{take-replicate, replicate-append-replicate}
 use Rattle.tmem_file.proofs.recorded.fill.Goals as goal
 
