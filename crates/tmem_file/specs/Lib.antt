@@ -1,0 +1,5 @@
+pub mod FileView
+pub mod Held
+pub mod Opening
+pub mod Record
+pub mod Recorded

@@ -1,0 +1,83 @@
+-- What a run knows of a file: the bytes that it gave when it was opened, and what its calls did since. What it holds, what
+-- a stop (a crash) may leave of it, and whether its answers agree, are read off that.
+use Rattle.std.specs.Prelude.{◌≡◌, ◌⊎◌, ⊤, ℕ, ◌+◌, ◌≤◌, max, Bool, true, false, ◌||◌, List, [], ◌∷◌, length, slice_range}
+use Rattle.tmem_disk.specs.Disk.{overwritten, SameOutside}
+
+-- What came of a call.
+pub data Event : Type 0 where
+  -- a read gave these bytes from a place on
+  gave : ℕ → List ℕ → Event
+  -- these bytes stand from a place on, after a write
+  holds : ℕ → List ℕ → Event
+  -- a write of so many bytes from a place on failed, and what stands there could not be read
+  tore : ℕ → ℕ → Event
+  -- a sync succeeded
+  synced : Event
+  -- a sync failed
+  lost : Event
+
+-- The events stand with the newest first.
+
+-- the bytes that a read gives
+abbrev pub seen_after : List ℕ → List Event → List ℕ
+seen_after start [] = start
+seen_after start (gave at bytes ∷ earlier) = seen_after start earlier
+seen_after start (holds at bytes ∷ earlier) = overwritten (seen_after start earlier) at bytes
+seen_after start (tore at n ∷ earlier) = seen_after start earlier
+seen_after start (synced ∷ earlier) = seen_after start earlier
+seen_after start (lost ∷ earlier) = seen_after start earlier
+
+-- what it holds is not known for sure after it
+abbrev pub is_loss : Event → Bool
+is_loss (gave at bytes) = false
+is_loss (holds at bytes) = false
+is_loss (tore at n) = true
+is_loss synced = false
+is_loss lost = true
+
+-- and so it is after one such event
+abbrev pub has_lost : List Event → Bool
+has_lost [] = false
+has_lost (event ∷ earlier) = is_loss event || has_lost earlier
+
+-- one fact or another
+abbrev pub by_case : Bool → Type 0 → Type 0 → Type 0
+by_case true P Q = P
+by_case false P Q = Q
+
+-- What a stop may leave: at first anything as long as the file, after a sync what a read gives, and then anything in the
+-- ranges written since. Once it is not known for sure what the file holds, a sync promises nothing.
+abbrev pub LeftAfter : List ℕ → List Event → List ℕ → Type 0
+LeftAfter start [] c = length c ≡ length start
+LeftAfter start (gave at bytes ∷ earlier) c = LeftAfter start earlier c
+LeftAfter start (holds at bytes ∷ earlier) c = (b : List ℕ) × LeftAfter start earlier b × SameOutside at (length bytes) b c
+LeftAfter start (tore at n ∷ earlier) c = (b : List ℕ) × LeftAfter start earlier b × SameOutside at n b c
+LeftAfter start (synced ∷ earlier) c = by_case (has_lost earlier) (LeftAfter start earlier c) (c ≡ seen_after start earlier)
+LeftAfter start (lost ∷ earlier) c = LeftAfter start earlier c
+
+-- what a stop now may leave, or might have left after t events or more
+abbrev pub LeftSince : List ℕ → List Event → ℕ → List ℕ → Type 0
+LeftSince start [] t c = LeftAfter start [] c
+LeftSince start (event ∷ earlier) t c = LeftAfter start (event ∷ earlier) c ⊎ ((t ≤ length earlier) × LeftSince start earlier t c)
+
+-- each read gave the bytes that the file held by then
+abbrev pub Agrees : List ℕ → List Event → Type 0
+Agrees start [] = ⊤
+Agrees start (gave at bytes ∷ earlier) = Agrees start earlier × (bytes ≡ slice_range (seen_after start earlier) at (at + length bytes))
+Agrees start (holds at bytes ∷ earlier) = Agrees start earlier
+Agrees start (tore at n ∷ earlier) = Agrees start earlier
+Agrees start (synced ∷ earlier) = Agrees start earlier
+Agrees start (lost ∷ earlier) = Agrees start earlier
+
+-- where the range of a call ends
+abbrev pub end_of : Event → ℕ
+end_of (gave at bytes) = at + length bytes
+end_of (holds at bytes) = at + length bytes
+end_of (tore at n) = at + n
+end_of synced = 0
+end_of lost = 0
+
+-- the farthest end of a range
+abbrev pub reach : List Event → ℕ
+reach [] = 0
+reach (event ∷ earlier) = max (end_of event) (reach earlier)

@@ -1,0 +1,120 @@
+// A file as a device.
+ghost use Rattle.std.specs.Prelude.{◌≡◌, ◌<◌, ◌≤◌, ◌+◌, ◌^◌, [], None, Some, length, slice_range, IfOk, IsOkUnless, OnOk, OnErr};
+ghost use Rattle.tmem_disk.specs.Disk.{IsCall, Elapses, overwritten, ReadsAs, SameSeenOutside, LeavesOnly, LeavesEach, StillLeaves, IsSynced, Rewritten, after_fault};
+ghost use Rattle.tmem_disk.specs.Start.{IsNewDevice};
+ghost use Rattle.tmem_file.specs.Record.{reach};
+ghost use Rattle.tmem_file.specs.Recorded.{start_of, events_of};
+ghost use Rattle.tmem_file.specs.Opening.{IsOpened};
+
+use crate::naming::{lock, open_regular};
+use crate::recorded::RecordedFile;
+use std::fs::{File, Files};
+use tmem_disk::{DeviceFault, Disk, Fault};
+
+/// A file that this process alone has open as a device. It keeps the disk model as long as each read gives what the record
+/// of its calls says that the file holds. Once a sync has failed, each later one fails too, since the system may have
+/// dropped the bytes that it could not write; and so it is once a write has failed in a range that cannot be read then.
+/// To go on, open the file anew.
+#[derive(Drop)]
+pub struct FileDisk {
+    file: RecordedFile,
+    failures: u64,
+    last_fault: Option<DeviceFault>,
+    ghost within: { reach (events_of file.calls) ≤ length (start_of file.calls) },
+    ghost counted: { failures < 2 ^ 64 },
+}
+
+impl FileDisk {
+    ghost use Rattle.tmem_file.specs.FileView.{view_of};
+
+    /// Opens a file that is there, of any size, and locks it for as long as the device lives. It is synced and read once as a
+    /// whole. Refused by `Device` where it is missing, is no regular file, may not be read and written, or is open as a
+    /// device already, and where a call fails.
+    pub fn open<R: Files<File = File>>(rt: &R, path: &str) -> Result<FileDisk, Fault>
+        ensures opened { IfOk result (λ disk. IsOpened (view_of disk)) }
+        ensures refused { IsOkUnless result Fault.Device }
+    {
+        match open_regular(rt, path)
+            .and_then(lock)
+            .and_then(RecordedFile::found)
+        {
+            Ok(found) => FileDisk::settle(found),
+            Err(_) => Err(Fault::Device),
+        }
+    }
+
+    /// An empty file, after so many zeros were written into it and synced.
+    pub(crate) fn blank(file: File, size: u64) -> Result<FileDisk, Fault>
+        ensures made { IfOk result (λ disk. IsNewDevice size (view_of disk)) }
+        ensures refused { IsOkUnless result Fault.Device }
+    {
+        match lock(file).and_then(|file| RecordedFile::zeros(file, size)) {
+            Ok(zeros) => FileDisk::settle(zeros),
+            Err(_) => Err(Fault::Device),
+        }
+    }
+
+    // A device of which nothing is left to sync.
+    fn settle(mut file: RecordedFile) -> Result<FileDisk, Fault>
+        requires { events_of file.calls ≡ [] }
+        ensures opened { IfOk result (λ disk. IsOpened (view_of disk)) }
+        ensures seen { IfOk result (λ disk. (view_of disk).seen ≡ start_of file.calls) }
+        ensures capacity { IfOk result (λ disk. (view_of disk).capacity ≡ length (start_of file.calls)) }
+        ensures refused { IsOkUnless result Fault.Device }
+    {
+        if file.sync().is_err() {
+            return Err(Fault::Device);
+        }
+        Ok(FileDisk {
+            file,
+            failures: 0,
+            last_fault: None,
+        })
+    }
+
+    // One failed call more. A count at the greatest number stays there.
+    fn note(&mut self, fault: DeviceFault)
+        ensures count { self.new.failures ≡ after_fault self.old.failures }
+        ensures last { self.new.last_fault ≡ Some fault }
+        ensures calls { self.new.file ≡ self.old.file }
+    {
+        self.failures = self.failures.saturating_add(1);
+        self.last_fault = Some(fault);
+    }
+}
+
+impl Disk for FileDisk {
+    ghost use Rattle.tmem_file.specs.FileView.{view_of, is_device_of};
+
+    ghost view = { view_of };
+
+    ghost is_device = { is_device_of };
+
+    fn size(&self) -> u64 {
+        self.file.size()
+    }
+
+    fn read(&mut self, at: u64, into: &mut [u8]) -> Result<(), DeviceFault> {
+        if self.file.read(at, into).is_err() {
+            self.note(DeviceFault::Read);
+            return Err(DeviceFault::Read);
+        }
+        Ok(())
+    }
+
+    fn write_at(&mut self, at: u64, bytes: &[u8]) -> Result<(), DeviceFault> {
+        if self.file.write(at, bytes).is_err() {
+            self.note(DeviceFault::Write);
+            return Err(DeviceFault::Write);
+        }
+        Ok(())
+    }
+
+    fn sync(&mut self) -> Result<(), DeviceFault> {
+        if self.file.sync().is_err() {
+            self.note(DeviceFault::Sync);
+            return Err(DeviceFault::Sync);
+        }
+        Ok(())
+    }
+}

@@ -1,0 +1,79 @@
+// The calls of the system that open, lock and make files.
+ghost use Rattle.std.specs.Prelude.{◌≡◌, ◌⊎◌, pos, IfOk, IfErr};
+ghost use Rattle.std.specs.Int.Signed.{◌<ℤ◌};
+ghost use Rattle.std.specs.Fd.{file_raw_fd};
+
+use std::fs::{self, File, Files, OpenOptions};
+use std::io::{self, ErrorKind};
+use std::os::fd::AsRawFd;
+use std::path::Path;
+use tmem_disk::Fault;
+
+// The number of standard error, the last of the standard streams.
+const LAST_STREAM: i32 = 2;
+
+// So many files that were left over of one name are passed over.
+const MOST_LEFT_OVER: u32 = 1000;
+
+/// Opens a regular file. A link to one is followed. Nothing else is opened, since to open a device file may already do
+/// something.
+pub(crate) fn open_regular<R: Files<File = File>>(rt: &R, path: &str) -> io::Result<File> {
+    if !fs::metadata(rt, path)?.is_file() {
+        return Err(io::Error::from(ErrorKind::InvalidInput));
+    }
+    OpenOptions::new().read(true).write(true).open(rt, path)
+}
+
+/// Makes a file that was not there, beside a name, and answers its own name too.
+pub(crate) fn make_beside<R: Files<File = File> + AllocGlobal>(
+    rt: &R,
+    path: &str,
+) -> Result<(File, String), Fault>
+    ensures { IfErr result (λ fault. (fault ≡ Fault.Memory) ⊎ (fault ≡ Fault.Device)) }
+{
+    for number in 0..MOST_LEFT_OVER {
+        let name = format!(in rt.alloc(); "{path}.new{number}")?;
+        match File::create_new(rt, name.as_str()) {
+            Ok(file) => return Ok((file, name)),
+            Err(error) if error.kind() == ErrorKind::AlreadyExists => {}
+            Err(_) => return Err(Fault::Device),
+        }
+    }
+    Err(Fault::Device)
+}
+
+/// Opens the folder of a name.
+pub(crate) fn open_folder<R: Files<File = File>>(rt: &R, path: &str) -> io::Result<File> {
+    match Path::new(path).parent() {
+        Some(folder) if !folder.as_os_str().is_empty() => File::open(rt, folder),
+        _ => File::open(rt, "."),
+    }
+}
+
+/// Locks an open regular file, under a number that is none of the standard streams'. The lock lasts until the file is closed.
+pub(crate) fn lock(file: File) -> io::Result<File>
+    ensures number { IfOk result (λ file. pos 2 <ℤ file_raw_fd file) }
+{
+    let file = above_streams(file)?;
+    file.try_lock()?;
+    if !file.metadata()?.is_file() {
+        return Err(io::Error::from(ErrorKind::InvalidInput));
+    }
+    Ok(file)
+}
+
+// Where a standard stream is closed, the next file that is opened gets its number, and what is printed would land in it. A
+// second handle gets a number above.
+fn above_streams(file: File) -> io::Result<File>
+    ensures number { IfOk result (λ file. pos 2 <ℤ file_raw_fd file) }
+{
+    if file.as_raw_fd() > LAST_STREAM {
+        return Ok(file);
+    }
+    let higher = file.try_clone()?;
+    if higher.as_raw_fd() > LAST_STREAM {
+        Ok(higher)
+    } else {
+        Err(io::Error::from(ErrorKind::Unsupported))
+    }
+}
