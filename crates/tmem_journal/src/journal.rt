@@ -3,19 +3,18 @@ ghost use Rattle.std.specs.Prelude.{◌≡◌, ◌≤◌, ◌<◌, ◌^◌, ◌�
 ghost use Rattle.tmem_disk.specs.Disk.{LeavesOnly, AtEachMoment};
 ghost use Rattle.tmem_record.specs.State.{State as StateOf, fold};
 ghost use Rattle.tmem_record.specs.Loggable.{IsLoggable};
-ghost use Rattle.tmem_journal.specs.Layout.{end_place};
+ghost use Rattle.tmem_record.specs.Layout.{end_place};
 ghost use Rattle.tmem_journal.specs.Stands.{StandsFor, StandsForEither};
 ghost use Rattle.tmem_journal.specs.Calls.{Uses, FitsOn, effects_in, doubted, fault_alone};
 ghost use Rattle.tmem_journal.specs.Looks.{LooksOnly};
 
 use crate::appending::append;
 use crate::buffer::Buffer;
-use crate::layout::Layout;
 use crate::recovery::recover;
 use std::alloc::Global;
 use std::snapshot::Snapshot;
 use tmem_disk::{Disk, Fault};
-use tmem_record::{Batch, State};
+use tmem_record::{Batch, Layout, State};
 
 /// How many log slots are used at the most: the log holds one record.
 pub const LOG_SLOTS: u16 = 1;

@@ -21,7 +21,7 @@ use Rattle.tmem_tentative.specs.declared.attempt.Attempt as attempt
 use Rattle.tmem_world.specs.declared.session.Slot.{Slot}
 use Rattle.tmem_world.specs.declared.session.Slot.TheVariants as slot
 use Rattle.tmem_world.specs.declared.session.Session as core
-use Rattle.tmem_journal.specs.declared.layout.Layout.{Layout}
+use Rattle.tmem_record.specs.declared.layout.Layout.{Layout}
 use Rattle.tmem_world.specs.declared.world.World.{World}
 use Rattle.tmem_world.specs.WorldModel.{WorldModel, SlotModel, NoTransaction, Begun, Ended, SessionStatus, InSession, AllowsTurn, value_or, overridden, goes_on, present, holding, slot_at}
 use Rattle.tmem_world.specs.SettleSlot.{Joins, Keeps}

@@ -22,7 +22,7 @@ use Rattle.tmem_core.specs.Verdict.{verdict, accepted_of, state_after, serial_st
 use Rattle.tmem_core.proofs.Laws.{serial_state-push, AreCommitted-push}
 use Rattle.tmem_event.specs.declared.event.Reply.{Reply}
 use Rattle.tmem_event.specs.declared.event.Reply.TheVariants as reply
-use Rattle.tmem_journal.specs.declared.layout.Layout.{Layout}
+use Rattle.tmem_record.specs.declared.layout.Layout.{Layout}
 use Rattle.tmem_world.specs.declared.session.Slot.{Slot}
 use Rattle.tmem_world.specs.declared.session.Slot.TheVariants as slot
 use Rattle.tmem_world.specs.declared.session.Session as core

@@ -8,7 +8,7 @@ use Rattle.tmem_world.specs.declared.session.Session.{Session}
 use Rattle.tmem_record.specs.State.{State, with_names}
 use Rattle.tmem_record.specs.declared.effect.Effect.{Effect}
 use Rattle.tmem_core.specs.Held.{state_of, waiting_of, durable_of, is_shut_of}
-use Rattle.tmem_journal.specs.Layout.{slot_place}
+use Rattle.tmem_record.specs.Layout.{slot_place}
 use Rattle.tmem_journal.specs.Stands.{StandsFor}
 use Rattle.tmem_journal.specs.Calls.{Appended}
 

@@ -7,7 +7,7 @@ ghost use Rattle.tmem_invariants.specs.Meanings.{Meanings, IsSound};
 ghost use Rattle.tmem_core.specs.Held.{state_of, waiting_of, durable_of, is_shut_of, table_of};
 ghost use Rattle.tmem_core.specs.Opening.{opening_fault};
 ghost use Rattle.tmem_core.specs.Program.{Program};
-ghost use Rattle.tmem_journal.specs.Layout.{end_place, slot_place};
+ghost use Rattle.tmem_record.specs.Layout.{end_place, slot_place};
 ghost use Rattle.tmem_journal.specs.Stands.{StandsFor};
 ghost use Rattle.tmem_journal.specs.Calls.{Uses};
 ghost use Rattle.tmem_journal.specs.Refusals.{IsRefusedBy};

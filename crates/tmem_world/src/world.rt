@@ -8,7 +8,7 @@ ghost use Rattle.tmem_record.specs.Names.{has_name};
 ghost use Rattle.tmem_core.specs.Held.{state_of, waiting_of, durable_of, table_of};
 ghost use Rattle.tmem_core.specs.Opening.{opening_fault};
 ghost use Rattle.tmem_core.specs.Program.{Program};
-ghost use Rattle.tmem_journal.specs.Layout.{end_place};
+ghost use Rattle.tmem_record.specs.Layout.{end_place};
 ghost use Rattle.tmem_journal.specs.Stands.{StandsFor};
 ghost use Rattle.tmem_journal.specs.Calls.{Uses, FitsOn};
 ghost use Rattle.tmem_world.specs.SessionRefusals.{IsWhyNot};
