@@ -1,0 +1,4 @@
+pub mod Appended
+pub mod Logs
+pub mod OneLog
+pub mod Putting

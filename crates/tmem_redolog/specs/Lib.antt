@@ -1,0 +1,4 @@
+pub mod Appends
+pub mod Laws
+pub mod Log
+pub mod Slots
