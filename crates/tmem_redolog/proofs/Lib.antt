@@ -1,4 +1,5 @@
 pub mod Appended
+pub mod Closing
 pub mod Logs
 pub mod OneLog
 pub mod Putting

@@ -77,19 +77,19 @@ HoldsBatches-push vars generation slot first (b ∷ batches) es c held last =
     one : slot + suc (length batches) ≡ slot + 1 + length batches
     one = omega arith
 
--- what is written in one slot alone
-module _ (vars used : ℕ) (b c : List ℕ) (same : SameOutside (slot_place vars used) 4096 b c) where
-  -- the batches in front of it stay
-  pub held_before : (generation slot first : ℕ) (batches : List (List Effect)) → slot + length batches ≤ used → HoldsBatches vars generation slot first batches b → HoldsBatches vars generation slot first batches c
-  held_before generation slot first [] fits held = tt
-  held_before generation slot first (es ∷ batches) fits held =
-      let short = length-batch_bytes-le vars generation first es held.0.batch in
-      let place : slot_place vars slot + 1 + length (batch_bytes generation first es) ≤ slot_place vars used = omega (arith, short, fits) in (
-        record { batch = held.0.batch; cell = open_before (slot_place vars used) 4096 (slot_place vars slot) (batch_bytes generation first es) b c same place held.0.cell },
-        held_before generation (slot + 1) (first + length es) batches (omega arith) held.1,
-      )
+-- batches in front of what is written stay
+pub held_before : (vars used n : ℕ) (b c : List ℕ) → SameOutside (slot_place vars used) n b c → (generation slot first : ℕ) (batches : List (List Effect)) → slot + length batches ≤ used
+    → HoldsBatches vars generation slot first batches b → HoldsBatches vars generation slot first batches c
+held_before vars used n b c same generation slot first [] fits held = tt
+held_before vars used n b c same generation slot first (es ∷ batches) fits held =
+    let short = length-batch_bytes-le vars generation first es held.0.batch in
+    let place : slot_place vars slot + 1 + length (batch_bytes generation first es) ≤ slot_place vars used = omega (arith, short, fits) in (
+      record { batch = held.0.batch; cell = open_before (slot_place vars used) n (slot_place vars slot) (batch_bytes generation first es) b c same place held.0.cell },
+      held_before vars used n b c same generation (slot + 1) (first + length es) batches (omega arith) held.1,
+    )
 
-  -- and each slot behind it
+-- and so does each slot behind the one that is written
+module _ (vars used : ℕ) (b c : List ℕ) (same : SameOutside (slot_place vars used) 4096 b c) where
   pub stale_behind : (generation k : ℕ) → used < k → IsStale generation (slot_place vars k) b → IsStale generation (slot_place vars k) c
   stale_behind generation k above stale =
       let place : slot_place vars used + 4096 ≤ slot_place vars k = omega arith in
@@ -115,7 +115,7 @@ without p n short b c left =
       log = λ image batches follows holds. record {
         generation_fits = holds.generation_fits;
         fits = holds.fits;
-        held = held_before p.vars p.slot b c same p.generation 0 image.count batches (omega (arith, follows.used)) holds.held;
+        held = held_before p.vars p.slot 4096 b c same p.generation 0 image.count batches (omega (arith, follows.used)) holds.held;
         behind = λ k above below. ⊎_elim
             (λ here. inl (subst (λ (j : ℕ). IsClosed (slot_place p.vars j) c) here left.gate))
             (λ more. stale_behind p.vars p.slot b c same p.generation k more (holds.behind k above below))
@@ -140,7 +140,7 @@ with_batch p room is number b c left =
             generation_fits = holds.generation_fits;
             fits = omega (arith, long, room);
             held = HoldsBatches-push p.vars p.generation 0 image.count batches p.batch c
-                (held_before p.vars p.slot b c same p.generation 0 image.count batches (omega (arith, follows.used)) holds.held)
+                (held_before p.vars p.slot 4096 b c same p.generation 0 image.count batches (omega (arith, follows.used)) holds.held)
                 (subst (λ (n : ℕ). HoldsBatch p.vars p.generation (0 + length batches) n p.batch c) next (subst (λ (k : ℕ). HoldsBatch p.vars p.generation k p.first p.batch c) here last));
             behind = λ k above below. stale_behind p.vars p.slot b c same p.generation k (omega (arith, long, above)) (holds.behind k (omega (arith, long, above, follows.used)) below);
             within = subst IsWithin (sym (replayed-push image batches p.batch)) (record {

@@ -1,4 +1,5 @@
 pub mod Appends
+pub mod Closes
 pub mod Laws
 pub mod Log
 pub mod Slots
