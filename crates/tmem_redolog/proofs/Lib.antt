@@ -3,3 +3,5 @@ pub mod Closing
 pub mod Logs
 pub mod OneLog
 pub mod Putting
+pub mod Replaying
+pub mod Scanned

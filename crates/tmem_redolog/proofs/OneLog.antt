@@ -9,7 +9,8 @@ use Rattle.tmem_record.specs.Spelling.{number_bytes, batch_bytes, SpellsBatch}
 use Rattle.tmem_record.specs.State.{State, fold}
 use Rattle.tmem_record.specs.declared.effect.Effect.{Effect}
 use Rattle.tmem_record.proofs.Laws.{one_spelling, delimits_number, length-number_bytes, count-fold, length-names-fold-le}
-use Rattle.tmem_redolog.specs.Log.{HoldsBatch, HoldsBatches, HoldsLog, IsStale, IsWithin, replayed}
+use Rattle.tmem_redolog.specs.Log.{HoldsBatch, HoldsBatches, HoldsLog, IsStale, replayed}
+use Rattle.tmem_redolog.specs.Scans.{HoldsFrom}
 use Rattle.tmem_redolog.specs.Laws.{OneLog}
 use Rattle.tmem_redolog.proofs.Logs.{length-batch_bytes}
 
@@ -36,7 +37,14 @@ one_number x y bytes fits_x fits_y first second =
     let same : number_bytes 8 x ≡ number_bytes 8 y = sym first ∙ ap (λ (n : ℕ). take n bytes) (length-number_bytes 8 x ∙ sym (length-number_bytes 8 y)) ∙ second in
     (delimits_number 8 x y [] [] (omega (arith, fits_x)) (omega (arith, fits_y)) (ap (λ (l : List ℕ). l ++ []) same)).0
 
--- a slot that begins with a batch of a generation is not stale
+-- a slot of a generation is not stale
+pub not_stale_number : (generation at : ℕ) (c : List ℕ) → generation < 2 ^ 64 → IsOpenOver at (number_bytes 8 generation) c → IsStale generation at c → ⊥
+not_stale_number generation at c fits cell (inl closed) = closed.not_open cell.gate
+not_stale_number generation at c fits cell (inr it) =
+    let same = one_number it.0 generation (drop (at + 1) c) (omega (arith, it.1, fits)) fits (begins at (number_bytes 8 it.0) c it.2) (begins at (number_bytes 8 generation) c cell) in
+    omega (arith, same, it.1)
+
+-- nor is one that begins with a batch of it
 pub not_stale : (generation first at : ℕ) (es : List Effect) (c : List ℕ) → generation < 2 ^ 64 → IsOpenOver at (batch_bytes generation first es) c → IsStale generation at c → ⊥
 not_stale generation first at es c fits cell (inl closed) = closed.not_open cell.gate
 not_stale generation first at es c fits cell (inr it) =
@@ -63,13 +71,6 @@ count-le s (es ∷ batches) = omega (arith, count-fold s es, count-le (fold s es
 pub names-le : (s : State) (batches : List (List Effect)) → length s.names ≤ length (replayed s batches).names
 names-le s [] = omega arith
 names-le s (es ∷ batches) = omega (arith, length-names-fold-le s es, names-le (fold s es) batches)
-
--- The slots from one on hold these batches over a state, and each slot behind them is stale.
-pub record HoldsFrom (vars slots generation slot : ℕ) (s : State) (rest : List (List Effect)) (c : List ℕ) : Type 0 where
-  pub fits : slot + length rest ≤ slots
-  pub held : HoldsBatches vars generation slot s.count rest c
-  pub behind : (k : ℕ) → slot + length rest ≤ k → k < slots → IsStale generation (slot_place vars k) c
-  pub within : IsWithin (replayed s rest)
 
 -- the log is what the slots from the first one on hold
 pub from_first : {vars slots generation : ℕ} {image : State} {batches : List (List Effect)} {c : List ℕ} → HoldsLog vars slots generation image batches c → HoldsFrom vars slots generation 0 image batches c

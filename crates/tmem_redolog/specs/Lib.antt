@@ -2,4 +2,5 @@ pub mod Appends
 pub mod Closes
 pub mod Laws
 pub mod Log
+pub mod Scans
 pub mod Slots
