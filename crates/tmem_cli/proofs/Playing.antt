@@ -3,7 +3,7 @@ use Rattle.std.proofs.Common.{◌≡◌, ℕ, List, [], ◌∷◌, ◌++◌, Opt
 use Rattle.std.specs.Io.KnownBytes.{Appends}
 use Rattle.tmem_builtins.specs.Builtins.{builtin_steps, builtin_names, builtin_tests}
 use Rattle.tmem_record.specs.State.{first_state}
-use Rattle.tmem_journal.specs.declared.layout.Layout.{Layout}
+use Rattle.tmem_record.specs.declared.layout.Layout.{Layout}
 use Rattle.tmem_core.specs.Program.{Program}
 use Rattle.tmem_event.specs.declared.event.Reply.TheVariants.{Opened}
 use Rattle.tmem_script.specs.Lines.{line_of}

@@ -2,7 +2,7 @@
 use Rattle.std.specs.Prelude.{◌≡◌, ◌⊎◌, ⊤, ℕ, List, Option, Some, None}
 use Rattle.clap.specs.Walk.{Text}
 use Rattle.tmem_disk.specs.declared.fault.Fault.TheVariants as fault
-use Rattle.tmem_journal.specs.Layout.{IsLayout}
+use Rattle.tmem_record.specs.Layout.{IsLayout}
 use Rattle.tmem_script.specs.Scripts.{IsScriptText}
 use Rattle.tmem_script.specs.Statuses.{status_of}
 use Rattle.tmem_script.specs.declared.failure.Failure.{Failure}

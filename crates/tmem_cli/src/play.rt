@@ -4,7 +4,7 @@ ghost use Rattle.tmem_builtins.specs.Invariants.{is_not_negative, add_to_hundred
 ghost use Rattle.tmem_builtins.specs.Steps.{sum_of, difference_of, at_least};
 ghost use Rattle.tmem_builtins.specs.Builtins.{builtin_steps, builtin_names, builtin_tests};
 ghost use Rattle.tmem_record.specs.State.{first_state};
-ghost use Rattle.tmem_journal.specs.Layout.{IsLayout};
+ghost use Rattle.tmem_record.specs.Layout.{IsLayout};
 ghost use Rattle.tmem_core.specs.Program.{Program};
 ghost use Rattle.tmem_script.specs.declared.failure.Failure.TheVariants.{Output, Refused};
 ghost use Rattle.tmem_world.specs.WorldModel.{opening};

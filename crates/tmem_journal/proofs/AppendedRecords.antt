@@ -8,7 +8,7 @@ use Rattle.tmem_disk.proofs.Laws.{SameOutside-trans, SameOutside-wider, slice_ra
 use Rattle.tmem_gate.specs.Gate.{IsOpenAt, IsClosed, HasBody, IsClosedOver, IsOpenOver}
 use Rattle.tmem_record.specs.State.{State, apply}
 use Rattle.tmem_record.specs.declared.effect.Effect.{Effect}
-use Rattle.tmem_journal.specs.Layout.{image_place, slot_place}
+use Rattle.tmem_record.specs.Layout.{image_place, slot_place}
 use Rattle.tmem_record.specs.Spelling.{batch_bytes}
 use Rattle.tmem_journal.specs.ImageSpelling.{block_body, image_body}
 use Rattle.tmem_journal.specs.Stands.{FollowsOn, Holds, HoldsLog, HoldsState, StandsFor, used_of, replayed}

@@ -10,7 +10,7 @@ use Rattle.tmem_record.specs.State.{State}
 use Rattle.tmem_record.specs.declared.effect.Effect.{Effect}
 use Rattle.tmem_record.specs.Prefix.{IsPrefix}
 use Rattle.tmem_record.specs.Spelling.{batch_bytes}
-use Rattle.tmem_journal.specs.Layout.{image_place, slot_place, image_size}
+use Rattle.tmem_record.specs.Layout.{image_place, slot_place, image_size}
 use Rattle.tmem_journal.specs.ImageSpelling.{image_body}
 use Rattle.tmem_journal.specs.Stands.{FollowsOn}
 use Rattle.tmem_journal.specs.Parts.{IsWhyPart, HoldsImage, ClosedBehind, HoldsSlots}

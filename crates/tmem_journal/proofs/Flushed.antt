@@ -10,7 +10,7 @@ use Rattle.tmem_record.specs.State.{State, apply, fold, with_names}
 use Rattle.tmem_record.specs.declared.effect.Effect.{Effect}
 use Rattle.tmem_journal.specs.Stands.{HoldsState, StandsFor, StandsForEither}
 use Rattle.tmem_journal.specs.Calls.{Appended, BeforeOrAfter, Meanwhile, doubted}
-use Rattle.tmem_journal.specs.Layout.{IsLayout}
+use Rattle.tmem_record.specs.Layout.{IsLayout}
 use Rattle.tmem_journal.specs.Refusals.{IsRefusedBy, IsWhy}
 use Rattle.tmem_journal.proofs.Unique.{one_state_at_most}
 use Rattle.tmem_journal.proofs.Refused.{none_where_refused}

@@ -9,7 +9,7 @@ use Rattle.tmem_disk.specs.Disk.{DeviceView, LeavesOnly, IsSynced, ReadsAs, Same
 use Rattle.tmem_gate.specs.Gate.{IsClosed, IsOpenOver}
 use Rattle.tmem_record.specs.State.{first_state}
 use Rattle.tmem_record.specs.Spelling.{number_bytes, value_bytes, names_bytes}
-use Rattle.tmem_journal.specs.Layout.{IsLayout, pages_of, image_place, slot_place, end_place}
+use Rattle.tmem_record.specs.Layout.{IsLayout, pages_of, image_place, slot_place, end_place}
 use Rattle.tmem_journal.specs.ImageSpelling.{block_body, names_body, pages_body, image_body, IsImage}
 use Rattle.tmem_journal.specs.Formatted.{open_cell, formatted}
 use Rattle.tmem_journal.specs.Stands.{HoldsState, StandsFor}

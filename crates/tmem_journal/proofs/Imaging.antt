@@ -6,7 +6,7 @@ use Rattle.tmem_record.specs.Names.{AreRegistered}
 use Rattle.tmem_record.specs.Spelling.{number_bytes, value_bytes, names_bytes}
 use Rattle.tmem_record.specs.State.{State}
 use Rattle.tmem_record.proofs.Laws.{length-number_bytes, same_parts, delimits_number, delimits_value, delimits_registered, delimits_all}
-use Rattle.tmem_journal.specs.Layout.{pages_of, image_size}
+use Rattle.tmem_record.specs.Layout.{pages_of, image_size}
 use Rattle.tmem_journal.specs.ImageSpelling.{names_body, pages_body, image_body, IsImage}
 use Rattle.tmem_journal.specs.StandsAt.{StandsAt, AreValues, zero_bytes, values_bytes, IsFramed}
 use Rattle.tmem_journal.proofs.Lengths.{length-names_body, length-image_body}

@@ -12,7 +12,7 @@ use Rattle.tmem_record.specs.State.{State}
 use Rattle.tmem_record.specs.declared.effect.Effect.{Effect}
 use Rattle.tmem_record.specs.Spelling.{number_bytes, value_bytes, write_bytes, name_bytes, writes_bytes, names_bytes, record_bytes, batch_bytes}
 use Rattle.tmem_record.proofs.Laws.{length-number_bytes, length-value_bytes, length-write_bytes}
-use Rattle.tmem_journal.specs.Layout.{pages_of}
+use Rattle.tmem_record.specs.Layout.{pages_of}
 use Rattle.tmem_journal.specs.ImageSpelling.{block_body, names_body, pages_body, image_body}
 
 pub length-little_bytes : (n x : ℕ) → length (little_bytes n x) ≡ n

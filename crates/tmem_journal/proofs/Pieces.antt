@@ -7,7 +7,7 @@ use Rattle.tmem_disk.specs.declared.fault.Fault.{Fault}
 use Rattle.tmem_disk.specs.declared.fault.Fault.TheVariants.{Damaged}
 use Rattle.tmem_gate.specs.Gate.{IsOpenAt, IsClosed}
 use Rattle.tmem_record.specs.State.{State}
-use Rattle.tmem_journal.specs.Layout.{image_size, image_place, slot_place}
+use Rattle.tmem_record.specs.Layout.{image_size, image_place, slot_place}
 use Rattle.tmem_journal.specs.ImageSpelling.{image_body, IsImage}
 use Rattle.tmem_journal.specs.Parts.{HoldsImage, ClosedBehind}
 use Rattle.tmem_journal.proofs.Lengths.{length-image_body}

@@ -5,7 +5,7 @@ use Rattle.tmem_disk.specs.Disk.{DeviceView, LeavesOnly, IsSynced}
 use Rattle.tmem_gate.specs.Gate.{IsOpenOver}
 use Rattle.tmem_record.specs.State.{State, apply}
 use Rattle.tmem_record.specs.declared.effect.Effect.{Effect}
-use Rattle.tmem_journal.specs.Layout.{image_place}
+use Rattle.tmem_record.specs.Layout.{image_place}
 use Rattle.tmem_journal.specs.ImageSpelling.{block_body, image_body}
 use Rattle.tmem_journal.specs.Stands.{Holds, HoldsState}
 use Rattle.tmem_journal.specs.Parts.{HoldsImage, HoldsSlots}

@@ -12,7 +12,7 @@ use Rattle.tmem_record.specs.State.{State}
 use Rattle.tmem_record.specs.Prefix.{IsPrefix}
 use Rattle.tmem_record.specs.Spelling.{number_bytes}
 use Rattle.tmem_record.proofs.Laws.{number-spelled}
-use Rattle.tmem_journal.specs.Layout.{IsLayout}
+use Rattle.tmem_record.specs.Layout.{IsLayout}
 use Rattle.tmem_journal.specs.ImageSpelling.{block_body}
 use Rattle.tmem_journal.specs.Stands.{HoldsState}
 use Rattle.tmem_journal.specs.StandsAt.{StandsAt}

@@ -5,7 +5,7 @@ use Rattle.tmem_record.specs.State.{State, apply}
 use Rattle.tmem_record.specs.declared.effect.Effect.{Effect}
 use Rattle.tmem_record.specs.Prefix.{IsPrefix}
 use Rattle.tmem_record.specs.Spelling.{batch_bytes}
-use Rattle.tmem_journal.specs.Layout.{slot_place}
+use Rattle.tmem_record.specs.Layout.{slot_place}
 use Rattle.tmem_journal.specs.Stands.{Holds, HoldsState, used_of, replayed}
 use Rattle.tmem_journal.proofs.Batches.{one_record}
 use Rattle.tmem_journal.proofs.Recovering.{one_image_state, image_of}

@@ -6,7 +6,7 @@ use Rattle.tmem_disk.specs.declared.fault.Fault.{Fault}
 use Rattle.tmem_disk.specs.declared.fault.Fault.TheVariants.{Device, Unknown}
 use Rattle.tmem_record.specs.State.{State, apply}
 use Rattle.tmem_record.specs.declared.effect.Effect.{Effect}
-use Rattle.tmem_journal.specs.Layout.{IsLayout, end_place}
+use Rattle.tmem_record.specs.Layout.{IsLayout, end_place}
 use Rattle.tmem_journal.specs.Stands.{HoldsState, StandsFor}
 
 -- how many calls of the device have failed, once this is answered

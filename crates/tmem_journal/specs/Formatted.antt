@@ -1,7 +1,7 @@
 -- The content of a device once it is formatted.
 use Rattle.std.specs.Prelude.{ℕ, ◌-◌, List, ◌∷◌, ◌++◌, replicate}
 use Rattle.tmem_record.specs.State.{first_state}
-use Rattle.tmem_journal.specs.Layout.{image_place, end_place}
+use Rattle.tmem_record.specs.Layout.{image_place, end_place}
 use Rattle.tmem_journal.specs.ImageSpelling.{block_body, image_body}
 
 -- an open gate, and what stands behind it

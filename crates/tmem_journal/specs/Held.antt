@@ -5,7 +5,7 @@ use Rattle.tmem_disk.specs.declared.fault.Fault.{Fault}
 use Rattle.tmem_record.specs.State.{State, fold}
 use Rattle.tmem_journal.specs.Calls.{effects_in}
 use Rattle.tmem_journal.specs.Stands.{StandsForEither}
-use Rattle.tmem_journal.specs.declared.layout.Layout.{Layout}
+use Rattle.tmem_record.specs.declared.layout.Layout.{Layout}
 use Rattle.tmem_journal.specs.declared.journal.Journal.{Journal}
 
 -- its device

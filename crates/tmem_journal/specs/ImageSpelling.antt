@@ -5,7 +5,7 @@ use Rattle.byteorder.specs.Endian.{little_bytes}
 use Rattle.tmem_record.specs.Names.{AreRegistered}
 use Rattle.tmem_record.specs.Spelling.{number_bytes, value_bytes, names_bytes}
 use Rattle.tmem_record.specs.State.{State}
-use Rattle.tmem_journal.specs.Layout.{pages_of}
+use Rattle.tmem_record.specs.Layout.{pages_of}
 
 -- the magic, the version, the two numbers, and 0 up to byte 512
 unfoldable pub block_body : ℕ → ℕ → List ℕ

@@ -3,7 +3,6 @@ pub mod Held
 pub mod Journals
 pub mod Formatted
 pub mod Laws
-pub mod Layout
 pub mod Looks
 pub mod Parts
 pub mod StandsAt

@@ -6,7 +6,7 @@ use Rattle.tmem_gate.specs.Gate.{IsClosed, IsOpenOver}
 use Rattle.tmem_record.specs.State.{State}
 use Rattle.tmem_record.specs.declared.effect.Effect.{Effect}
 use Rattle.tmem_record.specs.Prefix.{IsPrefix}
-use Rattle.tmem_journal.specs.Layout.{IsLayout, image_place, slot_place}
+use Rattle.tmem_record.specs.Layout.{IsLayout, image_place, slot_place}
 use Rattle.tmem_journal.specs.ImageSpelling.{block_body, image_body, IsImage}
 use Rattle.tmem_journal.specs.Stands.{HoldsLog}
 use Rattle.tmem_journal.specs.Refusals.{HasMagic, IsOfOthers}

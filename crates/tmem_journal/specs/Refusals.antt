@@ -4,7 +4,7 @@ use Rattle.tmem_disk.specs.declared.fault.Fault.{Fault}
 use Rattle.tmem_disk.specs.declared.fault.Fault.TheVariants.{Memory, Device, NotFormatted, Damaged, Geometry}
 use Rattle.tmem_gate.specs.Gate.{IsOpenOver}
 use Rattle.tmem_record.specs.State.{State}
-use Rattle.tmem_journal.specs.Layout.{IsLayout}
+use Rattle.tmem_record.specs.Layout.{IsLayout}
 use Rattle.tmem_journal.specs.ImageSpelling.{block_body}
 use Rattle.tmem_journal.specs.Stands.{StandsFor}
 

@@ -5,7 +5,7 @@ use Rattle.tmem_record.specs.State.{State, apply, with_names}
 use Rattle.tmem_record.specs.Loggable.{IsLoggable}
 use Rattle.tmem_record.specs.Spelling.{batch_bytes}
 use Rattle.tmem_record.specs.declared.effect.Effect.{Effect}
-use Rattle.tmem_journal.specs.Layout.{image_place, slot_place}
+use Rattle.tmem_record.specs.Layout.{image_place, slot_place}
 use Rattle.tmem_journal.specs.ImageSpelling.{block_body, image_body, IsImage}
 
 -- a record that may follow on an image: a greater count is left, and there is room for its names beside the image's

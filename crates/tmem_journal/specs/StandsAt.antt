@@ -1,7 +1,7 @@
 -- What bytes spell from a place on.
 use Rattle.std.specs.Prelude.{◌≡◌, ◌+◌, ◌*◌, ◌-◌, ℕ, ℤ, List, length, take, drop, flat_map, replicate}
 use Rattle.tmem_record.specs.Spelling.{number_bytes, value_bytes}
-use Rattle.tmem_journal.specs.Layout.{pages_of}
+use Rattle.tmem_record.specs.Layout.{pages_of}
 pub use Rattle.tmem_journal.specs.ImageSpelling.{AreValues}
 
 -- these stand in the bytes from that place on

@@ -6,15 +6,14 @@ ghost use Rattle.tmem_record.specs.State.{State as StateOf, with_names};
 ghost use Rattle.tmem_record.specs.declared.effect.Effect.{Effect as EffectOf};
 ghost use Rattle.tmem_record.specs.Loggable.{IsLoggable};
 ghost use Rattle.tmem_record.specs.Spelling.{batch_bytes};
-ghost use Rattle.tmem_journal.specs.Layout.{slot_place, end_place};
+ghost use Rattle.tmem_record.specs.Layout.{slot_place, end_place};
 ghost use Rattle.tmem_journal.specs.Stands.{StandsFor};
 ghost use Rattle.tmem_journal.specs.Calls.{Uses, Appended, Meanwhile};
 ghost use Rattle.tmem_journal.specs.Looks.{WritesWithin};
 
-use crate::layout::Layout;
 use tmem_disk::{DeviceFault, Disk, Fault};
 use tmem_gate::{open_gate, put_body};
-use tmem_record::{BATCH_ROOM, Batch, encode_batch};
+use tmem_record::{BATCH_ROOM, Batch, Layout, encode_batch};
 
 /// Puts a batch of one record into slot 0. `Device` where the write of its bytes failed: no crash leaves it accepted.
 /// `Unknown` where a sync or the write of the gate failed: a crash leaves it accepted or not. Nothing outside the slot is

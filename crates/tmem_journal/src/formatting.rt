@@ -2,7 +2,7 @@
 ghost use Rattle.std.specs.Prelude.{◌≡◌, ◌⊎◌, ◌≤◌, ◌*◌, ◌++◌, drop, replicate, OnOk, IfErr, IsErrOf};
 ghost use Rattle.tmem_disk.specs.Disk.{LeavesOnly, ReadsAs, IsSynced};
 ghost use Rattle.tmem_record.specs.State.{first_state};
-ghost use Rattle.tmem_journal.specs.Layout.{end_place};
+ghost use Rattle.tmem_record.specs.Layout.{end_place};
 ghost use Rattle.tmem_journal.specs.Formatted.{formatted};
 ghost use Rattle.tmem_journal.specs.Stands.{StandsFor};
 ghost use Rattle.tmem_journal.specs.Looks.{WritesWithin};
@@ -10,8 +10,8 @@ ghost use Rattle.tmem_journal.specs.Calls.{Uses, FitsOn};
 
 use crate::block::spell_block;
 use crate::calls::{put_cell, sync, write};
-use crate::layout::Layout;
 use tmem_disk::{Disk, Fault};
+use tmem_record::Layout;
 
 // How many bytes are erased by one write at the most.
 const PIECE: usize = 16384;

@@ -2,7 +2,7 @@
 ghost use Rattle.std.specs.Prelude.{◌≡◌, ◌≤◌, ◌<◌, ◌+◌, ◌*◌, ◌↔◌, ℕ, List, length, IfOk, IfSome, IfNone, IsTrue};
 ghost use Rattle.tmem_record.specs.Names.{AreRegistered};
 ghost use Rattle.tmem_record.specs.State.{State as StateOf};
-ghost use Rattle.tmem_journal.specs.Layout.{image_size};
+ghost use Rattle.tmem_record.specs.Layout.{image_size};
 ghost use Rattle.tmem_journal.specs.ImageSpelling.{names_body, image_body, IsImage};
 ghost use Rattle.tmem_journal.specs.StandsAt.{StandsAt, AreValues, values_bytes, IsFramed};
 

@@ -6,19 +6,18 @@ ghost use Rattle.tmem_record.specs.State.{State as StateOf, fold};
 ghost use Rattle.tmem_record.specs.Loggable.{IsLoggable};
 ghost use Rattle.tmem_record.specs.Spelling.{batch_bytes};
 ghost use Rattle.tmem_record.specs.declared.codec.TheConstants.{BATCH_ROOM};
-ghost use Rattle.tmem_journal.specs.Layout.{slot_place, end_place};
+ghost use Rattle.tmem_record.specs.Layout.{slot_place, end_place};
 ghost use Rattle.tmem_journal.specs.Stands.{StandsFor, StandsForEither};
 ghost use Rattle.tmem_journal.specs.Calls.{Uses, FitsOn, effects_in, doubted, fault_alone};
 ghost use Rattle.tmem_journal.specs.Looks.{LooksOnly, WritesWithin};
 
 use crate::appending::append;
 use crate::buffer::Buffer;
-use crate::layout::Layout;
 use crate::recovery::recover;
 use std::alloc::Global;
 use std::snapshot::Snapshot;
 use tmem_disk::{Disk, Fault};
-use tmem_record::{Batch, State};
+use tmem_record::{Batch, Layout, State};
 
 /// How many log slots are used at the most: the log holds one record.
 pub const LOG_SLOTS: u16 = 1;

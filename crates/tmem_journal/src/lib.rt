@@ -4,9 +4,9 @@
 //! device and knows the state that it stands for: `open` recovers it, and `flush` makes a batch durable. A stop (a crash: a
 //! power cut or a kill) at any moment of `flush` leaves the state before the batch or the state after it.
 //!
-//! `recovery` finds the state, over `parts`, which finds block 0, the image and the log; `appending` logs a batch. `layout`
-//! has the places of the parts; `block`, `image` and `record` read and write their bytes, over `bytes`; `calls` makes the
-//! calls of the device. `laws` states what holds of every content.
+//! `recovery` finds the state, over `parts`, which finds block 0, the image and the log; `appending` logs a batch. `block`,
+//! `image` and `record` read and write their bytes, over `bytes`; `calls` makes the calls of the device. `laws` states what
+//! holds of every content.
 #![tactic(auto)]
 
 mod appending;
@@ -18,7 +18,6 @@ mod formatting;
 mod image;
 mod journal;
 mod laws;
-mod layout;
 mod parts;
 mod record;
 mod recovery;
@@ -27,5 +26,5 @@ pub use appending::append;
 pub use formatting::format;
 pub use journal::{Journal, LOG_SLOTS};
 pub use laws::{refused_stands_for_none, stands_for_one};
-pub use layout::Layout;
 pub use recovery::{Found, recover};
+pub use tmem_record::Layout;

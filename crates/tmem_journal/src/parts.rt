@@ -3,7 +3,7 @@ ghost use Rattle.std.specs.Prelude.{◌≡◌, ◌<◌, ◌≤◌, ◌*◌, ◌�
 ghost use Rattle.tmem_gate.specs.Gate.{IsClosed, IsOpenOver};
 ghost use Rattle.tmem_record.specs.State.{State as StateOf};
 ghost use Rattle.tmem_record.specs.declared.effect.Effect.{Effect as EffectOf};
-ghost use Rattle.tmem_journal.specs.Layout.{end_place};
+ghost use Rattle.tmem_record.specs.Layout.{end_place};
 ghost use Rattle.tmem_journal.specs.ImageSpelling.{block_body, IsImage};
 ghost use Rattle.tmem_journal.specs.Stands.{FollowsOn};
 ghost use Rattle.tmem_journal.specs.Calls.{Uses};
@@ -15,11 +15,10 @@ use crate::block::read_block;
 use crate::bytes::is_open;
 use crate::calls::{read, read_piece};
 use crate::image::read_image;
-use crate::layout::{BLOCK_SIZE, Layout, SLOT_SIZE};
 use crate::record::read_record;
 use std::alloc::Global;
 use tmem_disk::{Disk, Fault};
-use tmem_record::{Effect, State};
+use tmem_record::{BLOCK_SIZE, Effect, Layout, SLOT_SIZE, State};
 
 // Checks that block 0 is open, and of this layout.
 pub(crate) fn found_block<D: Disk>(disk: &mut D, layout: Layout) -> Result<(), Fault>

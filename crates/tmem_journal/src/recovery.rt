@@ -2,18 +2,17 @@
 ghost use Rattle.std.specs.Prelude.{◌≡◌, ◌≤◌, length, IfOk, OnOk, IfErr};
 ghost use Rattle.tmem_disk.specs.Disk.{LeavesOnly, IsSynced};
 ghost use Rattle.tmem_gate.specs.Gate.{IsClosed};
-ghost use Rattle.tmem_journal.specs.Layout.{slot_place, end_place};
+ghost use Rattle.tmem_record.specs.Layout.{slot_place, end_place};
 ghost use Rattle.tmem_journal.specs.Stands.{StandsFor};
 ghost use Rattle.tmem_journal.specs.Calls.{Uses};
 ghost use Rattle.tmem_journal.specs.Looks.{LooksOnly};
 ghost use Rattle.tmem_journal.specs.Refusals.{IsWhy, IsRefusedBy};
 
 use crate::calls::sync;
-use crate::layout::Layout;
 use crate::parts::{found_block, found_image, found_log};
 use std::alloc::Global;
 use tmem_disk::{Disk, Fault};
-use tmem_record::State;
+use tmem_record::{Layout, State};
 
 /// What recovery found: the state, and how many log slots are used.
 #[derive(Drop)]

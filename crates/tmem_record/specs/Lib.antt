@@ -1,3 +1,4 @@
+pub mod Layout
 pub mod Loggable
 pub mod Batch
 pub mod Prefix

@@ -1,11 +1,13 @@
 //! What core and journal exchange: an effect is what one transaction changes, a state is what all accepted transactions
 //! made, and a batch is a list of effects that fits one slot of the log. An effect is held in place. A state and a batch
 //! take memory when they are made, and none after that. A batch has one spelling in bytes, which is written and read here.
+//! `Layout` has the places of the parts of a device.
 #![tactic(auto)]
 
 mod batch;
 mod codec;
 mod effect;
+mod layout;
 mod name_set;
 mod names;
 mod state;
@@ -17,6 +19,7 @@ pub use codec::{
     read_head, read_name, read_name_set, write_name,
 };
 pub use effect::Effect;
+pub use layout::{BLOCK_SIZE, LEAST_SLOTS, Layout, MOST_SLOTS, MOST_VARS, SLOT_SIZE};
 pub use name_set::{MAX_NAMES, NameSet};
 pub use names::{MAX_CHECKS, Names};
 pub use state::State;

@@ -4,7 +4,7 @@ use Rattle.std.specs.Prelude.{All, replicate}
 use Rattle.std.specs.List.{AllZip}
 use Rattle.tmem_disk.specs.Disk.{LeavesOnly}
 use Rattle.tmem_core.specs.Program.{Program}
-use Rattle.tmem_journal.specs.declared.layout.Layout.{Layout}
+use Rattle.tmem_record.specs.declared.layout.Layout.{Layout}
 use Rattle.tmem_world.specs.declared.session.Slot.{Slot}
 use Rattle.tmem_world.specs.declared.session.Slot.TheVariants as slot
 use Rattle.tmem_world.specs.declared.held.Held.{Held}

@@ -29,7 +29,7 @@ use Rattle.tmem_world.specs.Parts.{what, disk_in, layout_in, table_in, IsWith}
 use Rattle.tmem_record.specs.State.{State}
 use Rattle.tmem_journal.specs.Held as journal
 use Rattle.tmem_journal.specs.Stands.{StandsForEither}
-use Rattle.tmem_journal.specs.declared.layout.Layout.{Layout}
+use Rattle.tmem_record.specs.declared.layout.Layout.{Layout}
 use Rattle.tmem_world.specs.declared.world.World.{World}
 use Rattle.tmem_world.specs.WorldModel.{WorldModel, SlotModel, NoTransaction, Begun, Ended, SessionStatus, InSession, AllowsTurn, value_or, overridden, goes_on, present, cut, holding, slot_at}
 use Rattle.tmem_world.specs.SettleSlot.{Joins, Keeps}

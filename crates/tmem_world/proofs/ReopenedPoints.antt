@@ -22,7 +22,7 @@ use Rattle.tmem_core.specs.Verdict.{serial_state}
 use Rattle.tmem_core.proofs.Laws.{count-committed}
 use Rattle.tmem_journal.specs.Calls.{Uses, failures_after}
 use Rattle.tmem_journal.specs.Calls.{FitsOn}
-use Rattle.tmem_journal.specs.Layout.{end_place}
+use Rattle.tmem_record.specs.Layout.{end_place}
 use Rattle.tmem_journal.specs.Looks.{LooksOnly}
 use Rattle.tmem_journal.specs.Stands.{StandsFor, StandsForEither}
 use Rattle.tmem_journal.specs.Refusals.{IsRefusedBy}

@@ -3,7 +3,7 @@ use Rattle.std.specs.Prelude.{Option, Some, None, IsSome}
 use Rattle.std.proofs.lemmas.Bool.{false≢true}
 use Rattle.tmem_core.specs.Held.{table_of}
 use Rattle.tmem_journal.specs.Held.{disk_of, layout_of}
-use Rattle.tmem_journal.specs.declared.layout.Layout.{Layout}
+use Rattle.tmem_record.specs.declared.layout.Layout.{Layout}
 use Rattle.tmem_world.specs.declared.held.Held.{Held}
 use Rattle.tmem_world.specs.declared.held.Held.TheVariants.{With, Without}
 

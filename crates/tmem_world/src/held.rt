@@ -1,6 +1,6 @@
 // What a world holds between two events.
 ghost use Rattle.std.specs.Prelude.{◌≡◌, ◌≤◌};
-ghost use Rattle.tmem_journal.specs.Layout.{end_place};
+ghost use Rattle.tmem_record.specs.Layout.{end_place};
 
 use crate::session::Session;
 use tmem_disk::Disk;

@@ -1,6 +1,6 @@
 use Rattle.std.proofs.Common.{rules, subst, ℕ, ◌+◌, ◌≤◌, List, length, take, arith, length-take}
 use Rattle.tmem_gate.specs.Gate.{HasBody}
-use Rattle.tmem_journal.specs.Layout.{slot_place}
+use Rattle.tmem_record.specs.Layout.{slot_place}
 use Rattle.tmem_journal.proofs.Batches.{follows_next, spelled_next}
 use Rattle.tmem_journal.proofs.AppendedRecords.{gate_untouched, body_written, body_alone, gate_too, while_put, while_opened, once_opened, once_open, at_the_end, or_after, or_after_now}
 use Rattle.tmem_journal.proofs.appending.append.Goals as goal

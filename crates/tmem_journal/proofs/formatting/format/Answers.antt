@@ -1,5 +1,5 @@
 use Rattle.std.proofs.Common.{◌≡◌, ◌+◌, ◌≤◌, length, ap, arith, rules}
-use Rattle.tmem_journal.specs.Layout.{IsLayout, end_place}
+use Rattle.tmem_record.specs.Layout.{IsLayout, end_place}
 use Rattle.tmem_journal.proofs.Lengths.{length-block_body}
 use Rattle.tmem_journal.proofs.FormattedStands.{all_written, formatted_device, block_closed, on_ok, on_ok_2}
 use Rattle.tmem_journal.proofs.Recovering.{leaves_seen}

@@ -2,7 +2,7 @@ use Rattle.std.proofs.Common.{ℕ, List, None, Some, sym, ◌∙◌, subst, rule
 use Rattle.std.proofs.lemmas.Result.{err_from_is_err_and}
 use Rattle.tmem_gate.specs.Gate.{IsClosed}
 use Rattle.tmem_record.proofs.Laws.{length-written}
-use Rattle.tmem_journal.specs.Layout.{slot_place}
+use Rattle.tmem_record.specs.Layout.{slot_place}
 use Rattle.tmem_journal.proofs.AppendedRecords.{stands_unused}
 use Rattle.tmem_journal.proofs.Recovering.{nothing_found, all_found, stands_with, leaves_seen}
 use Rattle.tmem_journal.proofs.Within.{LooksOnly-trans}

@@ -3,7 +3,7 @@ use Rattle.std.proofs.lemmas.Bool.{false≢true}
 use Rattle.tmem_disk.specs.Disk.{LeavesOnly}
 use Rattle.tmem_disk.specs.declared.fault.Fault.{Fault}
 use Rattle.tmem_disk.proofs.Laws.{seen-left, LeavesOnly-synced, AtEachMoment-elapsed}
-use Rattle.tmem_journal.specs.Layout.{IsLayout}
+use Rattle.tmem_record.specs.Layout.{IsLayout}
 use Rattle.tmem_journal.specs.Stands.{StandsFor, StandsForEither}
 use Rattle.tmem_journal.specs.Calls.{FitsOn}
 use Rattle.tmem_journal.specs.Refusals.{IsRefusedBy}

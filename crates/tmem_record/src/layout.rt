@@ -1,30 +1,32 @@
 // The parts of a device, and their places.
 ghost use Rattle.std.specs.Prelude.{◌≡◌, ◌↔◌, ◌≤◌, IsOk, IfOk, IfErr};
-ghost use Rattle.tmem_journal.specs.Layout.{IsLayout, pages_of, image_size, image_place, slot_place, end_place};
+ghost use Rattle.tmem_record.specs.Layout.{IsLayout, pages_of, image_size, image_place, slot_place, end_place};
 
 use tmem_disk::Fault;
 
 /// The greatest number of variables.
-pub(crate) const MOST_VARS: u16 = 1024;
+pub const MOST_VARS: u16 = 1024;
 
 /// The least number of log slots.
-pub(crate) const LEAST_SLOTS: u16 = 2;
+pub const LEAST_SLOTS: u16 = 2;
 
 /// The greatest number of log slots.
-pub(crate) const MOST_SLOTS: u16 = 64;
+pub const MOST_SLOTS: u16 = 64;
 
 /// How long block 0 is.
-pub(crate) const BLOCK_SIZE: usize = 512;
+pub const BLOCK_SIZE: usize = 512;
 
 /// How long a log slot is.
-pub(crate) const SLOT_SIZE: usize = 4096;
+pub const SLOT_SIZE: usize = 4096;
 
 /// How many variables and log slots a device has, within the limits. Places and sizes are in bytes.
 #[derive(Clone, Copy, Debug, PartialEq, Eq)]
 pub struct Layout {
     pub vars: u16,
     pub slots: u16,
-    ghost fits: { IsLayout vars slots },
+
+    /// The numbers are within the limits.
+    pub ghost fits: { IsLayout vars slots },
 }
 
 impl Layout {
@@ -44,21 +46,21 @@ impl Layout {
     }
 
     /// How many pages an image has.
-    pub(crate) fn pages(self) -> u64
+    pub fn pages(self) -> u64
         ensures { result ≡ pages_of self.vars }
     {
         (self.vars as u64 + 63) / 64
     }
 
     /// How long an image copy is, with its gate.
-    pub(crate) fn image_size(self) -> u64
+    pub fn image_size(self) -> u64
         ensures { result ≡ image_size self.vars }
     {
         2048 + 512 * self.pages()
     }
 
     /// Where an image copy begins.
-    pub(crate) fn image(self, copy: u16) -> u64
+    pub fn image(self, copy: u16) -> u64
         requires { copy ≤ 1 }
         ensures { result ≡ image_place self.vars copy }
     {
@@ -66,7 +68,7 @@ impl Layout {
     }
 
     /// Where a log slot begins.
-    pub(crate) fn slot(self, k: u16) -> u64
+    pub fn slot(self, k: u16) -> u64
         ensures { result ≡ slot_place self.vars k }
     {
         512 + 2 * self.image_size() + 4096 * k as u64

@@ -1,0 +1,7 @@
+pub mod Appended
+pub mod Closing
+pub mod Logs
+pub mod OneLog
+pub mod Putting
+pub mod Replaying
+pub mod Scanned

@@ -1,0 +1,151 @@
+-- Laws of logs: what they hold, how they grow, and what stays of them outside a range that is written over.
+use Rattle.std.proofs.Common.{◌≡◌, ◌⊎◌, inl, inr, ⊎_elim, ℤ, ℕ, suc, ◌+◌, ◌*◌, ◌<◌, ◌≤◌, ◌^◌, List, [], ◌∷◌, ◌++◌, length, flat_map, refl, sym, ◌∙◌, ap, subst, arith, length-append}
+use Rattle.std.specs.Prelude.{sum_by}
+use Rattle.std.proofs.lemmas.Bool.{cases_lt}
+use Rattle.std.proofs.lemmas.List.Sums.{sum_by-cons}
+use Rattle.tmem_disk.proofs.Laws.{SameOutside-wider}
+use Rattle.tmem_disk.specs.Disk.{SameOutside}
+use Rattle.tmem_gate.specs.Gate.{IsClosed}
+use Rattle.tmem_gate.proofs.Laws.{closed_after, open_before, open_after}
+use Rattle.tmem_record.specs.Batch.{record_length, records_length, IsBatch}
+use Rattle.tmem_record.specs.Layout.{slot_place}
+use Rattle.tmem_record.specs.Spelling.{number_bytes, write_bytes, name_bytes, writes_bytes, names_bytes, record_bytes, batch_bytes}
+use Rattle.tmem_record.specs.State.{State, fold}
+use Rattle.tmem_record.specs.declared.effect.Effect.{Effect}
+use Rattle.tmem_record.proofs.Laws.{count-fold, length-number_bytes, length-write_bytes}
+use Rattle.tmem_redolog.specs.Log.{HoldsBatch, HoldsBatches, IsStale, IsWithin, replayed}
+use Rattle.tmem_redolog.specs.Appends.{Placed, Without, With}
+use Rattle.tmem_redolog.specs.Slots.{LeftClosed, LeftOpen}
+
+-- how many bytes a batch has
+
+length-writes : (ws : List (ℕ × ℤ)) → length (flat_map write_bytes ws) ≡ 10 * length ws
+length-writes [] = refl
+length-writes (w ∷ ws) = omega (arith, length-append (write_bytes w) (flat_map write_bytes ws), length-write_bytes w, length-writes ws)
+
+length-names : (ns : List (List ℕ)) → length (flat_map name_bytes ns) ≡ sum_by (λ n. 1 + length n) ns
+unfolding name_bytes
+length-names [] = refl
+length-names (n ∷ ns) = omega (arith, length-append (length n ∷ n) (flat_map name_bytes ns), length-names ns, sum_by-cons (λ (m : List ℕ). 1 + length m) n ns)
+
+length-record : (e : Effect) → length (record_bytes e) ≡ record_length e
+unfolding record_bytes writes_bytes names_bytes
+length-record e = omega (arith, length-append (length e.writes ∷ flat_map write_bytes e.writes) (length e.names ∷ flat_map name_bytes e.names), length-writes e.writes, length-names e.names)
+
+length-records : (es : List Effect) → length (flat_map record_bytes es) ≡ records_length es
+length-records [] = refl
+length-records (e ∷ es) = omega (arith, length-append (record_bytes e) (flat_map record_bytes es), length-record e, length-records es, sum_by-cons record_length e es)
+
+pub length-batch_bytes : (generation first : ℕ) (es : List Effect) → length (batch_bytes generation first es) ≡ 18 + records_length es
+unfolding batch_bytes
+length-batch_bytes generation first es =
+    omega (arith, length-append (number_bytes 8 generation) behind_8, length-append (number_bytes 8 first) behind_16, length-append (number_bytes 2 (length es)) (flat_map record_bytes es), length-number_bytes 8 generation, length-number_bytes 8 first, length-number_bytes 2 (length es), length-records es)
+  where
+    behind_16 : List ℕ
+    behind_16 = number_bytes 2 (length es) ++ flat_map record_bytes es
+
+    behind_8 : List ℕ
+    behind_8 = number_bytes 8 first ++ behind_16
+
+-- it fits behind the gate of a slot
+pub length-batch_bytes-le : (vars generation first : ℕ) (es : List Effect) → IsBatch vars es → length (batch_bytes generation first es) ≤ 4095
+length-batch_bytes-le vars generation first es is = omega (arith, length-batch_bytes generation first es, is.fits)
+
+-- the number behind those of these batches
+abbrev pub next_number : ℕ → List (List Effect) → ℕ
+next_number first [] = first
+next_number first (es ∷ batches) = next_number (first + length es) batches
+
+pub count-replayed : (s : State) (batches : List (List Effect)) → (replayed s batches).count ≡ next_number s.count batches
+count-replayed s [] = refl
+count-replayed s (es ∷ batches) = count-replayed (fold s es) batches ∙ ap (λ (n : ℕ). next_number n batches) (count-fold s es)
+
+-- one batch more
+pub replayed-push : (s : State) (batches : List (List Effect)) (es : List Effect) → replayed s (batches ++ es ∷ []) ≡ fold (replayed s batches) es
+replayed-push s [] es = refl
+replayed-push s (b ∷ batches) es = replayed-push (fold s b) batches es
+
+pub HoldsBatches-push : (vars generation slot first : ℕ) (batches : List (List Effect)) (es : List Effect) (c : List ℕ) → HoldsBatches vars generation slot first batches c
+    → HoldsBatch vars generation (slot + length batches) (next_number first batches) es c → HoldsBatches vars generation slot first (batches ++ es ∷ []) c
+HoldsBatches-push vars generation slot first [] es c held last = (subst (λ (k : ℕ). HoldsBatch vars generation k first es c) none last, tt)
+  where
+    none : slot + 0 ≡ slot
+    none = omega arith
+HoldsBatches-push vars generation slot first (b ∷ batches) es c held last =
+    (held.0, HoldsBatches-push vars generation (slot + 1) (first + length b) batches es c held.1 (subst (λ (k : ℕ). HoldsBatch vars generation k (next_number (first + length b) batches) es c) one last))
+  where
+    one : slot + suc (length batches) ≡ slot + 1 + length batches
+    one = omega arith
+
+-- batches in front of what is written stay
+pub held_before : (vars used n : ℕ) (b c : List ℕ) → SameOutside (slot_place vars used) n b c → (generation slot first : ℕ) (batches : List (List Effect)) → slot + length batches ≤ used
+    → HoldsBatches vars generation slot first batches b → HoldsBatches vars generation slot first batches c
+held_before vars used n b c same generation slot first [] fits held = tt
+held_before vars used n b c same generation slot first (es ∷ batches) fits held =
+    let short = length-batch_bytes-le vars generation first es held.0.batch in
+    let place : slot_place vars slot + 1 + length (batch_bytes generation first es) ≤ slot_place vars used = omega (arith, short, fits) in (
+      record { batch = held.0.batch; cell = open_before (slot_place vars used) n (slot_place vars slot) (batch_bytes generation first es) b c same place held.0.cell },
+      held_before vars used n b c same generation (slot + 1) (first + length es) batches (omega arith) held.1,
+    )
+
+-- and so does each slot behind the one that is written
+module _ (vars used : ℕ) (b c : List ℕ) (same : SameOutside (slot_place vars used) 4096 b c) where
+  pub stale_behind : (generation k : ℕ) → used < k → IsStale generation (slot_place vars k) b → IsStale generation (slot_place vars k) c
+  stale_behind generation k above stale =
+      let place : slot_place vars used + 4096 ≤ slot_place vars k = omega arith in
+      ⊎_elim
+      (λ closed. inl (closed_after (slot_place vars used) 4096 (slot_place vars k) b c same place closed))
+      (λ it. inr (it.0, it.1, open_after (slot_place vars used) 4096 (slot_place vars k) (number_bytes 8 it.0) b c same place it.2))
+      stale
+
+  pub closed_behind : (k : ℕ) → used < k → IsClosed (slot_place vars k) b → IsClosed (slot_place vars k) c
+  closed_behind k above closed =
+      let place : slot_place vars used + 4096 ≤ slot_place vars k = omega arith in
+      closed_after (slot_place vars used) 4096 (slot_place vars k) b c same place closed
+
+here_or_behind : (used k : ℕ) → used ≤ k → (used ≡ k) ⊎ (used < k)
+here_or_behind used k le = ⊎_elim (λ below. inr below) (λ not_below. inl (omega (arith, not_below))) (cases_lt used k)
+
+-- a closed slot behind the log adds nothing to it
+pub without : (p : Placed) (n : ℕ) → n ≤ 4095 → (b c : List ℕ) → LeftClosed (slot_place p.vars p.slot) n b c → Without p b c
+without p n short b c left =
+    let same = SameOutside-wider (slot_place p.vars p.slot) (1 + n) (slot_place p.vars p.slot) 4096 b c (omega arith) (omega arith) left.elsewhere in
+    record {
+      elsewhere = same;
+      log = λ image batches follows holds. record {
+        generation_fits = holds.generation_fits;
+        fits = holds.fits;
+        held = held_before p.vars p.slot 4096 b c same p.generation 0 image.count batches (omega (arith, follows.used)) holds.held;
+        behind = λ k above below. ⊎_elim
+            (λ here. inl (subst (λ (j : ℕ). IsClosed (slot_place p.vars j) c) here left.gate))
+            (λ more. stale_behind p.vars p.slot b c same p.generation k more (holds.behind k above below))
+            (here_or_behind p.slot k (omega (arith, follows.used)));
+        within = holds.within;
+      };
+    }
+
+-- an open one has the batch that goes last
+pub with_batch : (p : Placed) → p.slot < p.slots → IsBatch p.vars p.batch → p.first + length p.batch < 2 ^ 64 → (b c : List ℕ) → LeftOpen (slot_place p.vars p.slot) (batch_bytes p.generation p.first p.batch) b c → With p b c
+with_batch p room is number b c left =
+    let bytes = batch_bytes p.generation p.first p.batch in
+    let same = SameOutside-wider (slot_place p.vars p.slot) (1 + length bytes) (slot_place p.vars p.slot) 4096 b c (omega arith) (omega (arith, length-batch_bytes-le p.vars p.generation p.first p.batch is)) left.elsewhere in
+    record {
+      elsewhere = same;
+      log = λ image batches follows holds.
+          let long : length (batches ++ p.batch ∷ []) ≡ p.slot + 1 = omega (arith, length-append batches (p.batch ∷ []), follows.used) in
+          let next : p.first ≡ next_number image.count batches = sym follows.number ∙ count-replayed image batches in
+          let here : p.slot ≡ 0 + length batches = omega (arith, follows.used) in
+          let last : HoldsBatch p.vars p.generation p.slot p.first p.batch c = record { batch = is; cell = left.cell } in
+          record {
+            generation_fits = holds.generation_fits;
+            fits = omega (arith, long, room);
+            held = HoldsBatches-push p.vars p.generation 0 image.count batches p.batch c
+                (held_before p.vars p.slot 4096 b c same p.generation 0 image.count batches (omega (arith, follows.used)) holds.held)
+                (subst (λ (n : ℕ). HoldsBatch p.vars p.generation (0 + length batches) n p.batch c) next (subst (λ (k : ℕ). HoldsBatch p.vars p.generation k p.first p.batch c) here last));
+            behind = λ k above below. stale_behind p.vars p.slot b c same p.generation k (omega (arith, long, above)) (holds.behind k (omega (arith, long, above, follows.used)) below);
+            within = subst IsWithin (sym (replayed-push image batches p.batch)) (record {
+              count = omega (arith, count-fold (replayed image batches) p.batch, follows.number, number);
+              names = follows.room;
+            });
+          };
+    }

@@ -1,0 +1,6 @@
+pub mod Appends
+pub mod Closes
+pub mod Laws
+pub mod Log
+pub mod Scans
+pub mod Slots

@@ -1,0 +1,70 @@
+// One batch more.
+ghost use Rattle.std.specs.Prelude.{Some, ◌≡◌, ◌↔◌, ◌<◌, ◌≤◌, ◌+◌, ◌^◌, ℕ, length, OnOk, OnErr, IfErr, IsErrOf};
+ghost use Rattle.tmem_disk.specs.Disk.{SameSeenOutside, AtEachMoment};
+ghost use Rattle.tmem_gate.specs.Calls.{Uses, WritesWithin};
+ghost use Rattle.tmem_gate.specs.Gate.{StandsClosed, HasBody};
+ghost use Rattle.tmem_record.specs.Batch.{IsBatch};
+ghost use Rattle.tmem_record.specs.Layout.{slot_place, end_place};
+ghost use Rattle.tmem_record.specs.Spelling.{batch_bytes};
+ghost use Rattle.tmem_redolog.specs.Appends.{placed, Appended, Meanwhile, IsAppendFault};
+
+use crate::log::Log;
+use crate::slot::put_slot;
+use tmem_disk::{DeviceFault, Disk, Fault};
+use tmem_record::{BATCH_ROOM, Batch, Layout, SLOT_SIZE, encode_batch};
+
+/// Puts a batch last in the log, into the first slot behind it, whose gate stands closed. `LogFull` where every slot is
+/// used; nothing changes then. `Device` where the write of the batch failed: no crash leaves it in the log. `Unknown` where
+/// a sync or the write of the gate failed: a crash leaves it in the log or not. After a refusal the log's numbers stay.
+/// Nothing outside the slot is written. The batch is spelled in the buffer, which may hold anything afterwards.
+pub fn append<D: Disk>(
+    disk: &mut D,
+    layout: Layout,
+    log: &mut Log,
+    first: u64,
+    batch: &Batch,
+    buffer: &mut [u8],
+) -> Result<(), Fault>
+    requires room { end_place layout.vars layout.slots ≤ (D.view disk.old).capacity }
+    requires used { log.old.used ≤ layout.slots }
+    requires closed { log.old.used < layout.slots → StandsClosed (slot_place layout.vars log.old.used) (D.view disk.old) }
+    requires batch { IsBatch layout.vars batch.now }
+    requires number { first + length batch.now < 2 ^ 64 }
+    requires buffer { BATCH_ROOM ≤ length buffer.old }
+    ensures uses { Uses (D.view disk.old) (D.view disk.new) result }
+    ensures errors { IfErr result IsAppendFault }
+
+    // Every slot is used: the one cause of `LogFull`.
+    ensures full { IsErrOf result Fault.LogFull ↔ (log.old.used ≡ layout.slots) }
+    ensures untouched { IsErrOf result Fault.LogFull → disk.new ≡ disk.old }
+
+    // At `Device` a write failed, and not that of the gate. At `Unknown` the bytes of the batch were written before.
+    ensures write_failed { IsErrOf result Fault.Device → (D.view disk.new).last_fault ≡ Some DeviceFault.Write }
+    ensures gate_untouched { IsErrOf result Fault.Device →
+        SameSeenOutside (slot_place layout.vars log.old.used + 1) BATCH_ROOM (D.view disk.old) (D.view disk.new) }
+    ensures body_written { IsErrOf result Fault.Unknown → (D.view disk.new).keeps_model →
+        HasBody (slot_place layout.vars log.old.used) (batch_bytes log.old.generation first batch.now) (D.view disk.new).seen }
+
+    // Nothing outside the slot changes, and each closed slot behind it stays closed.
+    ensures elsewhere { WritesWithin (slot_place layout.vars log.old.used) SLOT_SIZE (D.view disk.old) (D.view disk.new) }
+    ensures behind { (k : ℕ) → log.old.used < k → StandsClosed (slot_place layout.vars k) (D.view disk.old)
+        → StandsClosed (slot_place layout.vars k) (D.view disk.new) }
+
+    // A stop leaves what one might have left before, with the batch or without it in each log that it follows on.
+    ensures stands { Appended (placed layout log.old first batch.now) (D.view disk.old) (D.view disk.new) result }
+    ensures any_moment { AtEachMoment (D.view disk.old) (D.view disk.new)
+        (Meanwhile (placed layout log.old first batch.now) (D.view disk.old) result) }
+    ensures generation { log.new.generation ≡ log.old.generation }
+    ensures next { OnOk result (log.new.used ≡ log.old.used + 1) }
+    ensures stays { OnErr result (log.new ≡ log.old) }
+{
+    if log.used == layout.slots {
+        return Err(Fault::LogFull);
+    }
+    let len = encode_batch(batch, log.generation, first, buffer);
+    let put = put_slot(disk, layout.slot(log.used), &buffer[..len]);
+    if put.is_ok() {
+        log.used += 1;
+    }
+    put
+}

@@ -1,0 +1,106 @@
+// The batch of one slot, and what it makes of a state.
+ghost use Rattle.std.specs.Prelude.{◌≡◌, ◌⊎◌, ◌↔◌, ◌<◌, ◌≤◌, ◌^◌, ℕ, List, length, All, IsTrue, OnOk, IfErr};
+ghost use Rattle.std.specs.Bool.{OnTrue};
+ghost use Rattle.tmem_gate.specs.Gate.{IsOpenAt, HasBody, IsOpenOver};
+ghost use Rattle.tmem_record.specs.Spelling.{number_bytes};
+ghost use Rattle.tmem_record.specs.State.{apply, fold};
+ghost use Rattle.tmem_record.specs.declared.effect.Effect.{Effect as EffectOf};
+ghost use Rattle.tmem_redolog.specs.Log.{IsStale, IsWithin};
+ghost use Rattle.tmem_redolog.specs.Scans.{IsWhyNone, Replays, MayReplay};
+
+use std::alloc::Global;
+use tmem_disk::Fault;
+use tmem_gate::GATE_OPEN;
+use tmem_record::{Effect, HEAD_BYTES, State, decode_batch, read_head};
+
+// Whether the gate of a slot is open.
+fn is_open(slot: &[u8]) -> bool
+    requires { length slot.now ≡ 4096 }
+    ensures { IsTrue result ↔ IsOpenAt 0 slot.now }
+{
+    slot[0] == GATE_OPEN
+}
+
+// The number behind the gate of a slot.
+fn generation_in(slot: &[u8]) -> u64
+    requires { length slot.now ≡ 4096 }
+    ensures stands { HasBody 0 (number_bytes 8 result) slot.now }
+    ensures fits { result < 2 ^ 64 }
+{
+    let mut head = [0; HEAD_BYTES];
+    head.copy_from_slice(&slot[1..=HEAD_BYTES]);
+    read_head(&head).0
+}
+
+/// Whether a slot is open and of this generation.
+pub(crate) fn carries(slot: &[u8], generation: u64) -> bool
+    requires { length slot.now ≡ 4096 }
+    ensures { IsTrue result ↔ IsOpenOver 0 (number_bytes 8 generation) slot.now }
+{
+    is_open(slot) && generation_in(slot) == generation
+}
+
+/// Whether a slot is closed or of a lesser generation.
+pub(crate) fn is_stale(slot: &[u8], generation: u64) -> bool
+    requires { length slot.now ≡ 4096 }
+    ensures { IsTrue result ↔ IsStale generation 0 slot.now }
+{
+    !is_open(slot) || generation_in(slot) < generation
+}
+
+/// Replays the batch that an open slot begins with: it has this generation, and its first number is the count of the
+/// state. `Damaged` where there is none, or where its effects take the state past the limits; and `Memory`. After a refusal
+/// the state is of no use.
+pub(crate) fn replay_slot(
+    alloc: Global,
+    slot: &[u8],
+    vars: u16,
+    generation: u64,
+    state: &mut State,
+) -> Result<(), Fault>
+    requires long { length slot.now ≡ 4096 }
+    requires open { IsOpenAt 0 slot.now }
+    requires sized { length state.old.values ≡ vars }
+    ensures errors { IfErr result (λ f. (f ≡ Fault.Memory) ⊎ (f ≡ Fault.Damaged)) }
+    ensures replayed { OnOk result (Replays vars generation state.old slot.now state.new) }
+    ensures refused { IfErr result (IsWhyNone ((es : List EffectOf) → MayReplay vars generation state.old slot.now es → ⊥)) }
+{
+    let Some(batch) = decode_batch(alloc, &slot[1..], vars)? else {
+        return Err(Fault::Damaged);
+    };
+    if batch.generation != generation || batch.first != state.count() {
+        return Err(Fault::Damaged);
+    }
+    if !accept_all(state, batch.effects.effects()) {
+        return Err(Fault::Damaged);
+    }
+    Ok(())
+}
+
+// Accepts effects one after another, as long as the state stays within the limits, and answers whether it took all.
+fn accept_all(state: &mut State, effects: &[Effect]) -> bool
+    requires some { 1 ≤ length effects.now }
+    requires within { All (λ e. All (λ w. w.0 < length state.old.values) e.writes) effects.now }
+    ensures accepted { IsTrue result ↔ IsWithin (fold state.old effects.now) }
+    ensures state { OnTrue result (state.new ≡ fold state.old effects.now) }
+{
+    for effect in effects {
+        if !accept_one(state, effect) {
+            return false;
+        }
+    }
+    true
+}
+
+// Accepts an effect where the state stays within the limits then, and answers whether it did.
+fn accept_one(state: &mut State, effect: &Effect) -> bool
+    requires { All (λ w. w.0 < length state.old.values) effect.now.writes }
+    ensures accepted { IsTrue result ↔ IsWithin (apply state.old effect.now) }
+    ensures state { OnTrue result (state.new ≡ apply state.old effect.now) }
+{
+    if state.count() == u64::MAX || !state.has_room_for(effect.names.as_slice()) {
+        return false;
+    }
+    state.accept(effect);
+    true
+}

@@ -1,0 +1,111 @@
+// Reads the log of a device.
+ghost use Rattle.std.specs.Prelude.{◌≡◌, ◌⊎◌, ◌↔◌, ◌<◌, ◌≤◌, ◌+◌, ◌*◌, ℕ, List, length, IsTrue, IfOk, OnOk, IfErr};
+ghost use Rattle.tmem_gate.specs.Calls.{Uses, LooksOnly};
+ghost use Rattle.tmem_gate.specs.Gate.{IsOpenOver};
+ghost use Rattle.tmem_record.specs.Layout.{slot_place, end_place};
+ghost use Rattle.tmem_record.specs.Spelling.{number_bytes};
+ghost use Rattle.tmem_record.specs.declared.effect.Effect.{Effect as EffectOf};
+ghost use Rattle.tmem_redolog.specs.Log.{HoldsLog, IsStale, IsWithin};
+ghost use Rattle.tmem_redolog.specs.Scans.{FindsLog, IsWhyNone, IsLogOf, slot_bytes, HoldsFrom, Reached};
+
+use crate::log::Log;
+use crate::reading::read_piece;
+use crate::replay::{carries, is_stale, replay_slot};
+use std::alloc::Global;
+use tmem_disk::{Disk, Fault};
+use tmem_record::{Layout, SLOT_SIZE, State};
+
+/// Reads the log over an image of this generation, and brings the image's state to the state after it. The log is read in
+/// one piece. `Damaged` where the device holds no log over that image; `Memory`; and `Device` where the read failed. After
+/// a refusal the state is of no use.
+pub fn scan<D: Disk>(
+    alloc: Global,
+    disk: &mut D,
+    layout: Layout,
+    generation: u64,
+    state: &mut State,
+) -> Result<Log, Fault>
+    requires room { end_place layout.vars layout.slots ≤ (D.view disk.old).capacity }
+    requires sized { length state.old.values ≡ layout.vars }
+    ensures uses { Uses (D.view disk.old) (D.view disk.new) result }
+    ensures looks { LooksOnly (D.view disk.old) (D.view disk.new) }
+    ensures generation { IfOk result (λ log. log.generation ≡ generation) }
+    ensures few { IfOk result (λ log. log.used ≤ layout.slots) }
+    ensures sized { OnOk result (length state.new.values ≡ layout.vars) }
+    ensures found { (D.view disk.new).keeps_model →
+        IfOk result (λ log. FindsLog layout.vars layout.slots generation state.old log.used state.new (D.view disk.old).seen) }
+    ensures refused { IfErr result (IsWhyNone ((D.view disk.new).keeps_model → (batches : List (List EffectOf)) →
+        HoldsLog layout.vars layout.slots generation state.old batches (D.view disk.old).seen → ⊥)) }
+{
+    let len = SLOT_SIZE * layout.slots as usize;
+    let log = read_piece(alloc, disk, layout.slot(0), len)?;
+    let bytes: &[u8] = &log;
+    let used = replay(alloc, bytes, layout, generation, state)?;
+    if !are_stale(bytes, used, layout.slots, generation) {
+        return Err(Fault::Damaged);
+    }
+    Ok(Log { generation, used })
+}
+
+// The bytes of a slot, in those of all slots.
+fn slot_of(log: &[u8], k: u16) -> &[u8]
+    requires { 4096 * k + 4096 ≤ length log.now }
+    ensures bytes { result.now ≡ slot_bytes log.now k }
+    ensures long { length result.now ≡ 4096 }
+{
+    let at = SLOT_SIZE * k as usize;
+    &log[at..at + SLOT_SIZE]
+}
+
+// Replays the slots from the first one on, as long as they are open and of this generation, and answers how many there
+// are. `Damaged` where one of them cannot be replayed; and `Memory`.
+fn replay(
+    alloc: Global,
+    log: &[u8],
+    layout: Layout,
+    generation: u64,
+    state: &mut State,
+) -> Result<u16, Fault>
+    requires long { length log.now ≡ 4096 * layout.slots }
+    requires sized { length state.old.values ≡ layout.vars }
+    ensures errors { IfErr result (λ f. (f ≡ Fault.Memory) ⊎ (f ≡ Fault.Damaged)) }
+    ensures few { IfOk result (λ used. used ≤ layout.slots) }
+    ensures sized { OnOk result (length state.new.values ≡ layout.vars) }
+    ensures within { OnOk result (IsWithin state.new) }
+    ensures reached { IfOk result (λ used. (c : List ℕ) → IsLogOf layout.vars layout.slots log.now c →
+        Reached layout.vars layout.slots generation state.old used state.new c) }
+    ensures ends { IfOk result (λ used. used < layout.slots → IsOpenOver 0 (number_bytes 8 generation) (slot_bytes log.now used) → ⊥) }
+    ensures refused { IfErr result (IsWhyNone ((c : List ℕ) → IsLogOf layout.vars layout.slots log.now c → (batches : List (List EffectOf)) →
+        HoldsFrom layout.vars layout.slots generation 0 state.old batches c → ⊥)) }
+{
+    is_within(state);
+    for k in 0..layout.slots {
+        let slot = slot_of(log, k);
+        if !carries(slot, generation) {
+            return Ok(k);
+        }
+        replay_slot(alloc, slot, layout.vars, generation, state)?;
+    }
+    Ok(layout.slots)
+}
+
+// A state is within the limits. It does nothing: a caller takes the fact from its contract.
+fn is_within(state: &State)
+    ensures { IsWithin state.now }
+{
+    let _ = state.count();
+    let _ = state.names();
+}
+
+// Whether each slot from one on is closed or of a lesser generation.
+fn are_stale(log: &[u8], from: u16, slots: u16, generation: u64) -> bool
+    requires { length log.now ≡ 4096 * slots }
+    ensures { IsTrue result ↔ ((k : ℕ) → from ≤ k → k < slots → IsStale generation 0 (slot_bytes log.now k)) }
+{
+    for k in from..slots {
+        if !is_stale(slot_of(log, k), generation) {
+            return false;
+        }
+    }
+    true
+}
