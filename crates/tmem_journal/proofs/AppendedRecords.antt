@@ -14,7 +14,7 @@ use Rattle.tmem_journal.specs.ImageSpelling.{block_body, image_body}
 use Rattle.tmem_journal.specs.Stands.{FollowsOn, Holds, HoldsLog, HoldsState, StandsFor, used_of, replayed}
 use Rattle.tmem_journal.specs.Calls.{BeforeOrAfter}
 use Rattle.tmem_journal.proofs.SlotRanges.{get_before, get_after, range_before, range_after}
-use Rattle.tmem_journal.specs.Looks.{WritesWithin}
+use Rattle.tmem_gate.specs.Calls.{WritesWithin}
 use Rattle.tmem_journal.proofs.Lengths.{length-block_body, length-image_body}
 use Rattle.tmem_journal.proofs.Within.{by_moment, of_cell, WritesWithin-wider}
 

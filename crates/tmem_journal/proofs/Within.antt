@@ -3,7 +3,7 @@ use Rattle.std.proofs.Common.{◌≡◌, inl, inr, ⊎_elim, ◌≤◌, ◌+◌,
 use Rattle.std.proofs.lemmas.List.{take-take}
 use Rattle.tmem_disk.specs.Disk.{DeviceView, IsDevice, ReadsAs, LeavesOnly, AtEachMoment, Elapses, SameOutside, SameSeenOutside, Rewritten}
 use Rattle.tmem_disk.proofs.Laws.{Elapses-trans}
-use Rattle.tmem_journal.specs.Looks.{LooksOnly, WritesWithin}
+use Rattle.tmem_gate.specs.Calls.{LooksOnly, WritesWithin}
 use Rattle.tmem_journal.proofs.Spelled.{drop_further}
 
 same_front : (m n : ℕ) (a b : List ℕ) → m ≤ n → take n a ≡ take n b → take m a ≡ take m b

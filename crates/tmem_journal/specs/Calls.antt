@@ -1,25 +1,13 @@
--- What a call over a device keeps, and what it answers.
+-- What the calls of a journal answer.
 use Rattle.std.specs.Prelude.{◌≡◌, ◌≤◌, ℕ, List, [], ◌⊎◌, Option, Some, None, Result, Ok, Err, MatchResult}
 use Rattle.std.specs.declared.snapshot.Snapshot.{Snapshot}
-use Rattle.tmem_disk.specs.Disk.{DeviceView, LeavesOnly, after_fault}
+use Rattle.tmem_disk.specs.Disk.{DeviceView, LeavesOnly}
 use Rattle.tmem_disk.specs.declared.fault.Fault.{Fault}
 use Rattle.tmem_disk.specs.declared.fault.Fault.TheVariants.{Device, Unknown}
 use Rattle.tmem_record.specs.State.{State, apply}
 use Rattle.tmem_record.specs.declared.effect.Effect.{Effect}
 use Rattle.tmem_record.specs.Layout.{IsLayout, end_place}
 use Rattle.tmem_journal.specs.Stands.{HoldsState, StandsFor}
-
--- how many calls of the device have failed, once this is answered
-abbrev pub failures_after : Fault → ℕ → ℕ
-failures_after Device n = after_fault n
-failures_after Unknown n = after_fault n
-failures_after _ n = n
-
--- The device keeps its size, its premise is not restored, and a fault of it is answered exactly where one of its calls failed.
-pub record Uses {T : Type 0} (old new : DeviceView) (result : Result T Fault) : Type 0 where
-  pub capacity : new.capacity ≡ old.capacity
-  pub model : new.keeps_model → old.keeps_model
-  pub failures : MatchResult result (λ _. new.failures ≡ old.failures) (λ f. new.failures ≡ failures_after f old.failures)
 
 -- the numbers are within the limits, and the device holds their layout
 pub record FitsOn (vars slots capacity : ℕ) : Type 0 where

@@ -3,7 +3,6 @@ pub mod Held
 pub mod Journals
 pub mod Formatted
 pub mod Laws
-pub mod Looks
 pub mod Parts
 pub mod StandsAt
 pub mod Refusals

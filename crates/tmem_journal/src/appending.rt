@@ -8,8 +8,8 @@ ghost use Rattle.tmem_record.specs.Loggable.{IsLoggable};
 ghost use Rattle.tmem_record.specs.Spelling.{batch_bytes};
 ghost use Rattle.tmem_record.specs.Layout.{slot_place, end_place};
 ghost use Rattle.tmem_journal.specs.Stands.{StandsFor};
-ghost use Rattle.tmem_journal.specs.Calls.{Uses, Appended, Meanwhile};
-ghost use Rattle.tmem_journal.specs.Looks.{WritesWithin};
+ghost use Rattle.tmem_gate.specs.Calls.{Uses, WritesWithin};
+ghost use Rattle.tmem_journal.specs.Calls.{Appended, Meanwhile};
 
 use tmem_disk::{DeviceFault, Disk, Fault};
 use tmem_gate::{open_gate, put_body};
@@ -18,7 +18,7 @@ use tmem_record::{BATCH_ROOM, Batch, Layout, encode_batch};
 /// Puts a batch of one record into slot 0. `Device` where the write of its bytes failed: no crash leaves it accepted.
 /// `Unknown` where a sync or the write of the gate failed: a crash leaves it accepted or not. Nothing outside the slot is
 /// written. The buffer has `BATCH_ROOM` bytes or more. The batch is spelled there; afterwards it may hold anything.
-pub fn append<D: Disk>(
+pub(crate) fn append<D: Disk>(
     disk: &mut D,
     layout: Layout,
     first: u64,

@@ -2,9 +2,8 @@
 ghost use Rattle.std.specs.Prelude.{◌≡◌, ◌⊎◌, ◌≤◌, ◌+◌, length, slice_range, IfOk, OnOk, IfErr};
 ghost use Rattle.tmem_disk.specs.Disk.{LeavesOnly, Elapses, IsSynced, ReadsAs, overwritten};
 ghost use Rattle.tmem_gate.specs.Gate.{IsClosed};
-ghost use Rattle.tmem_journal.specs.Calls.{Uses};
+ghost use Rattle.tmem_gate.specs.Calls.{Uses, LooksOnly, WritesWithin};
 ghost use Rattle.tmem_journal.specs.Formatted.{open_cell};
-ghost use Rattle.tmem_journal.specs.Looks.{LooksOnly, WritesWithin};
 
 use std::alloc::Global;
 use tmem_disk::{Disk, Fault};

@@ -5,8 +5,8 @@ ghost use Rattle.tmem_record.specs.State.{first_state};
 ghost use Rattle.tmem_record.specs.Layout.{end_place};
 ghost use Rattle.tmem_journal.specs.Formatted.{formatted};
 ghost use Rattle.tmem_journal.specs.Stands.{StandsFor};
-ghost use Rattle.tmem_journal.specs.Looks.{WritesWithin};
-ghost use Rattle.tmem_journal.specs.Calls.{Uses, FitsOn};
+ghost use Rattle.tmem_gate.specs.Calls.{WritesWithin, Uses};
+ghost use Rattle.tmem_journal.specs.Calls.{FitsOn};
 
 use crate::block::spell_block;
 use crate::calls::{put_cell, sync, write};

@@ -8,8 +8,8 @@ ghost use Rattle.tmem_record.specs.Spelling.{batch_bytes};
 ghost use Rattle.tmem_record.specs.declared.codec.TheConstants.{BATCH_ROOM};
 ghost use Rattle.tmem_record.specs.Layout.{slot_place, end_place};
 ghost use Rattle.tmem_journal.specs.Stands.{StandsFor, StandsForEither};
-ghost use Rattle.tmem_journal.specs.Calls.{Uses, FitsOn, effects_in, doubted, fault_alone};
-ghost use Rattle.tmem_journal.specs.Looks.{LooksOnly, WritesWithin};
+ghost use Rattle.tmem_gate.specs.Calls.{Uses, LooksOnly, WritesWithin};
+ghost use Rattle.tmem_journal.specs.Calls.{FitsOn, effects_in, doubted, fault_alone};
 
 use crate::appending::append;
 use crate::buffer::Buffer;

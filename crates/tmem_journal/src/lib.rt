@@ -22,9 +22,7 @@ mod parts;
 mod record;
 mod recovery;
 
-pub use appending::append;
 pub use formatting::format;
 pub use journal::{Journal, LOG_SLOTS};
 pub use laws::{refused_stands_for_none, stands_for_one};
-pub use recovery::{Found, recover};
 pub use tmem_record::Layout;

@@ -6,9 +6,8 @@ ghost use Rattle.tmem_record.specs.declared.effect.Effect.{Effect as EffectOf};
 ghost use Rattle.tmem_record.specs.Layout.{end_place};
 ghost use Rattle.tmem_journal.specs.ImageSpelling.{block_body, IsImage};
 ghost use Rattle.tmem_journal.specs.Stands.{FollowsOn};
-ghost use Rattle.tmem_journal.specs.Calls.{Uses};
+ghost use Rattle.tmem_gate.specs.Calls.{Uses, LooksOnly};
 ghost use Rattle.tmem_journal.specs.Refusals.{IsWhy};
-ghost use Rattle.tmem_journal.specs.Looks.{LooksOnly};
 ghost use Rattle.tmem_journal.specs.Parts.{IsBlockBy, IsWhyPart, HoldsImage, HoldsSlots};
 
 use crate::block::read_block;

@@ -4,8 +4,7 @@ ghost use Rattle.tmem_disk.specs.Disk.{LeavesOnly, IsSynced};
 ghost use Rattle.tmem_gate.specs.Gate.{IsClosed};
 ghost use Rattle.tmem_record.specs.Layout.{slot_place, end_place};
 ghost use Rattle.tmem_journal.specs.Stands.{StandsFor};
-ghost use Rattle.tmem_journal.specs.Calls.{Uses};
-ghost use Rattle.tmem_journal.specs.Looks.{LooksOnly};
+ghost use Rattle.tmem_gate.specs.Calls.{Uses, LooksOnly};
 ghost use Rattle.tmem_journal.specs.Refusals.{IsWhy, IsRefusedBy};
 
 use crate::calls::sync;
@@ -16,15 +15,15 @@ use tmem_record::{Layout, State};
 
 /// What recovery found: the state, and how many log slots are used.
 #[derive(Drop)]
-pub struct Found {
-    pub state: State,
-    pub used: u16,
+pub(crate) struct Found {
+    pub(crate) state: State,
+    pub(crate) used: u16,
 }
 
 /// Finds the state that a device stands for. Refused by `NotFormatted` where block 0 is closed or lacks its magic; by
 /// `Geometry` where the device was formatted for other numbers; else by `Damaged` where it stands for no state; by
 /// `Memory`; and by `Device` where a call of the device fails. It writes nothing.
-pub fn recover<D: Disk>(alloc: Global, disk: &mut D, layout: Layout) -> Result<Found, Fault>
+pub(crate) fn recover<D: Disk>(alloc: Global, disk: &mut D, layout: Layout) -> Result<Found, Fault>
     requires { end_place layout.vars layout.slots ≤ (D.view disk.old).capacity }
     ensures uses { Uses (D.view disk.old) (D.view disk.new) result }
     ensures found { (D.view disk.new).keeps_model → IfOk result (λ f. StandsFor layout.vars layout.slots f.used f.state (D.view disk.old).seen) }

@@ -20,7 +20,7 @@ use Rattle.tmem_core.specs.Held.{state_of, waiting_of, durable_of, is_shut_of}
 use Rattle.tmem_core.specs.Verdict.{serial_state, serial_effects}
 use Rattle.tmem_core.specs.declared.core_state.TheConstants.{MAX_TAKEN}
 use Rattle.tmem_core.proofs.Laws.{count-committed}
-use Rattle.tmem_journal.specs.Calls.{Uses}
+use Rattle.tmem_gate.specs.Calls.{Uses}
 use Rattle.tmem_journal.specs.Held as journal
 use Rattle.tmem_journal.specs.Journals as journals
 use Rattle.tmem_journal.specs.declared.journal.Journal as owner

@@ -20,10 +20,9 @@ use Rattle.tmem_core.specs.Program.{Program}
 use Rattle.tmem_core.specs.Held.{state_of, waiting_of, is_shut_of}
 use Rattle.tmem_core.specs.Verdict.{serial_state}
 use Rattle.tmem_core.proofs.Laws.{count-committed}
-use Rattle.tmem_journal.specs.Calls.{Uses, failures_after}
+use Rattle.tmem_gate.specs.Calls.{Uses, failures_after, LooksOnly}
 use Rattle.tmem_journal.specs.Calls.{FitsOn}
 use Rattle.tmem_record.specs.Layout.{end_place}
-use Rattle.tmem_journal.specs.Looks.{LooksOnly}
 use Rattle.tmem_journal.specs.Stands.{StandsFor, StandsForEither}
 use Rattle.tmem_journal.specs.Refusals.{IsRefusedBy}
 use Rattle.tmem_journal.specs.Journals.{IsOpeningRefused}

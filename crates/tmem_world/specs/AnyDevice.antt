@@ -10,7 +10,7 @@ use Rattle.tmem_event.specs.declared.event.Reply.TheVariants as reply
 use Rattle.tmem_record.specs.State.{State}
 use Rattle.tmem_core.specs.Opening.{opening_fault}
 use Rattle.tmem_core.specs.Program.{Program}
-use Rattle.tmem_journal.specs.Calls.{failures_after}
+use Rattle.tmem_gate.specs.Calls.{failures_after}
 use Rattle.tmem_journal.specs.Stands.{StandsFor}
 use Rattle.tmem_world.specs.declared.session.Slot.{Slot}
 use Rattle.tmem_world.specs.declared.session.Slot.TheVariants.{Empty}

@@ -7,7 +7,7 @@ use Rattle.tmem_event.specs.declared.event.Event.{Event}
 use Rattle.tmem_event.specs.declared.event.Event.TheVariants as event
 use Rattle.tmem_event.specs.declared.event.Reply.{Reply}
 use Rattle.tmem_event.specs.declared.event.Reply.TheVariants as reply
-use Rattle.tmem_journal.specs.Calls.{failures_after}
+use Rattle.tmem_gate.specs.Calls.{failures_after}
 
 -- an answer to a transaction that has ended, as a reply
 abbrev pub reply_of : Result Settled Fault → Reply

@@ -6,7 +6,8 @@ use Rattle.tmem_disk.specs.Disk.{DeviceView, LeavesOnly, ReadsAs, AtEachMoment}
 use Rattle.tmem_disk.specs.declared.fault.Fault.{Fault}
 use Rattle.tmem_disk.specs.declared.fault.Fault.TheVariants.{Memory, Device, Geometry}
 use Rattle.tmem_record.specs.State.{State}
-use Rattle.tmem_journal.specs.Calls.{Uses, FitsOn}
+use Rattle.tmem_gate.specs.Calls.{Uses}
+use Rattle.tmem_journal.specs.Calls.{FitsOn}
 use Rattle.tmem_journal.specs.Refusals.{IsRefusedBy}
 use Rattle.tmem_world.specs.SessionRefusals.{IsWhyNot}
 use Rattle.tmem_world.specs.Parts.{what, disk_in, table_in, IsWith}

@@ -7,7 +7,7 @@ ghost use Rattle.tmem_core.specs.Held.{state_of, waiting_of, durable_of, is_shut
 ghost use Rattle.tmem_core.specs.Opening.{opening_fault};
 ghost use Rattle.tmem_core.specs.Program.{Program};
 ghost use Rattle.tmem_journal.specs.Held.{disk_of, device_of, layout_of, is_closed_of, MayBe, state_of as durable_state};
-ghost use Rattle.tmem_journal.specs.Calls.{Uses};
+ghost use Rattle.tmem_gate.specs.Calls.{Uses};
 ghost use Rattle.tmem_world.specs.SessionRefusals.{IsWhyNoSession};
 
 use std::alloc::Global;

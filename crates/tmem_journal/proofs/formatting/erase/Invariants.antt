@@ -1,6 +1,6 @@
 use Rattle.std.proofs.Common.{◌≡◌, ◌*◌, ◌++◌, drop, replicate}
 use Rattle.tmem_disk.specs.Disk.{ReadsAs}
-use Rattle.tmem_journal.specs.Looks.{WritesWithin}
+use Rattle.tmem_gate.specs.Calls.{WritesWithin}
 use Rattle.tmem_journal.proofs.formatting.erase.Given as goal
 
 abbrev pub invariant-loop-piece : goal.invariant-loop-piece

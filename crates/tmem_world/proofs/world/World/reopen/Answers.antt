@@ -4,7 +4,8 @@ use Rattle.tmem_invariants.specs.Meanings.{IsSound}
 use Rattle.tmem_core.specs.Held.{state_of}
 use Rattle.tmem_core.specs.Opening.{opening_fault}
 use Rattle.tmem_core.specs.Program.{Program}
-use Rattle.tmem_journal.specs.Calls.{FitsOn, failures_after}
+use Rattle.tmem_gate.specs.Calls.{failures_after}
+use Rattle.tmem_journal.specs.Calls.{FitsOn}
 use Rattle.tmem_journal.specs.Held as journal
 use Rattle.tmem_journal.specs.Refusals.{IsRefusedBy}
 use Rattle.tmem_journal.specs.Stands.{StandsFor}
