@@ -1,9 +1,11 @@
+ghost use Rattle.std.specs.Prelude.{◌≡◌, ◌+◌, ◌≤◌, length};
+
 use crate::{FileDisk, NewFile};
 use std::io::ErrorKind;
 use std::path::PathBuf;
 use std::test::Fail;
 use std::{env, fs};
-use tmem_disk::{Disk, Fault};
+use tmem_disk::{DeviceFault, Disk, Fault};
 
 const SIZE: u64 = 10_000;
 
@@ -32,6 +34,15 @@ fn files_in(rt: &HostRuntime, folder: &PathBuf) -> Result<u64, Fail> {
     Ok(count)
 }
 
+// Writes and syncs, as whoever knows only a device does.
+fn put<D: Disk>(disk: &mut D, at: u64, bytes: &[u8]) -> Result<(), DeviceFault>
+    requires { at + length bytes.now ≤ (D.view disk.old).capacity }
+    ensures { (D.view disk.new).capacity ≡ (D.view disk.old).capacity }
+{
+    disk.write_at(at, bytes)?;
+    disk.sync()
+}
+
 #[test]
 fn a_placed_file_is_read_by_the_next_opening(rt: HostRuntime) -> Result<(), Fail> {
     let folder = make_folder(&rt)?;
@@ -41,7 +52,7 @@ fn a_placed_file_is_read_by_the_next_opening(rt: HostRuntime) -> Result<(), Fail
     let mut back = [1u8; 6];
     new.disk.read(SIZE - 6, &mut back)?;
     assert_eq!(rt; back, [0; 6]);
-    new.disk.write_at(4094, b"abcd")?;
+    put(&mut new.disk, 4094, b"abcd")?;
     // Until it is placed, another may be made.
     let other = NewFile::create(&rt, path.as_str(), 1)?;
     assert_eq!(rt; files_in(&rt, &folder)?, 2);
