@@ -1,5 +1,6 @@
 pub mod Appended
 pub mod Closing
+pub mod Laws
 pub mod Logs
 pub mod OneLog
 pub mod Putting

@@ -16,7 +16,8 @@ use tmem_record::{BATCH_ROOM, Batch, Layout, SLOT_SIZE, encode_batch};
 /// Puts a batch last in the log, into the first slot behind it, whose gate stands closed. `LogFull` where every slot is
 /// used; nothing changes then. `Device` where the write of the batch failed: no crash leaves it in the log. `Unknown` where
 /// a sync or the write of the gate failed: a crash leaves it in the log or not. After a refusal the log's numbers stay.
-/// Nothing outside the slot is written. The batch is spelled in the buffer, which may hold anything afterwards.
+/// Nothing outside the slot is written. The buffer has `BATCH_ROOM` bytes or more. The batch is spelled there; afterwards it
+/// may hold anything.
 pub fn append<D: Disk>(
     disk: &mut D,
     layout: Layout,

@@ -6,16 +6,16 @@
 #![tactic(auto)]
 
 mod appending;
-mod laws;
 mod log;
 mod reading;
 mod replay;
 mod scanning;
 mod slot;
 mod stale;
+mod unique;
 
 pub use appending::append;
-pub use laws::one_log;
 pub use log::Log;
 pub use scanning::scan;
 pub use stale::close_stale;
+pub use unique::one_log;

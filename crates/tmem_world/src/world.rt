@@ -118,7 +118,7 @@ impl<D: Disk + Drop, T: Invariants + Drop, S: StoredSteps + Drop> World<D, T, S>
         ensures step { IsStep self.old event result self.new }
         ensures reopened { Reopens self.old event result self.new }
 
-        // A crash at any moment of the event leaves the serial order, cut where it may be.
+        // A crash at any moment of the event leaves the serial order, cut as before the event or as after it.
         ensures any_moment { EachMoment self.old self.new }
 
         ensures failures { (view_of self.new).failures ≡ failures_by result (view_of self.old).failures }
