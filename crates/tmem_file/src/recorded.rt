@@ -9,7 +9,6 @@ ghost use Rattle.tmem_file.specs.Recorded.{bytes_of, event_of, start_of, events_
 use crate::record::{Bytes, Call, Calls};
 use std::fs::File;
 use std::io::{self, ErrorKind};
-use std::os::fd::AsRawFd;
 use std::os::unix::fs::FileExt;
 
 // So many bytes of a file are read or written at once as it is opened or made.
@@ -35,7 +34,7 @@ impl RecordedFile {
         requires { pos 2 <ℤ file_raw_fd file }
         ensures { IfOk result (λ found. events_of found.calls ≡ []) }
     {
-        forget_copies(&file)?;
+        file.sync_all()?;
         let size = file.metadata()?.len();
         let bytes = find(&file, 0, size)?;
         Ok(RecordedFile {
@@ -137,16 +136,6 @@ impl RecordedFile {
     {
         self.unsure = call.is_loss() || self.unsure;
         self.calls = self.calls.with(call);
-    }
-}
-
-// What an earlier process wrote and could not sync may stand in the system's memory alone, where a sync that succeeds now
-// would leave it. So the system is asked to drop what it has, and what is read after that is on the disk.
-fn forget_copies(file: &File) -> io::Result<()> {
-    file.sync_all()?;
-    match libc::posix_fadvise(file.as_raw_fd(), 0, 0, libc::POSIX_FADV_DONTNEED) {
-        0 => Ok(()),
-        error => Err(io::Error::from_raw_os_error(error)),
     }
 }
 
