@@ -1,6 +1,7 @@
 //! The program as its user sees it: words and input go in, and a status and two texts come out.
 
 mod scripts;
+mod stores;
 mod streams;
 mod words;
 

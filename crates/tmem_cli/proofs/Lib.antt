@@ -3,4 +3,5 @@ mod Opening
 mod Outcomes
 mod Playing
 mod Showing
+mod Stored
 mod Writing

@@ -6,6 +6,8 @@ use Rattle.clap.specs.Kinds.{Kinds, IsAmong, HasKind}
 use Rattle.clap.specs.Values.{kind_of}
 use Rattle.clap.specs.declared.error.Error.{Error}
 use Rattle.clap.specs.declared.error.kind.ErrorKind.{ErrorKind}
+use Rattle.tmem_record.specs.State.{State, first_state}
+use Rattle.tmem_world.specs.WorldModel.{WorldModel}
 use Rattle.tmem_script.specs.Errors.{IsUnread}
 use Rattle.tmem_script.specs.Statuses.{status_of}
 use Rattle.tmem_script.specs.declared.failure.Failure.{Failure}
@@ -14,8 +16,9 @@ use Rattle.tmem_script.specs.declared.script.Entry.{Entry}
 use Rattle.tmem_script.specs.declared.script.ScriptError.{ScriptError}
 use Rattle.tmem_script.specs.declared.script.ScriptError.TheVariants.{Memory, Unreadable, NoScript}
 use Rattle.tmem_cli.specs.CommandLine.{IsRequest, HasRequest}
-use Rattle.tmem_cli.specs.Outcomes.{MayBeRead, IsNoScript, IsWhyNotRead}
-use Rattle.tmem_cli.specs.Printed.{PlaysScript}
+use Rattle.tmem_cli.specs.Outcomes.{MayBeRead, IsNoScript, IsWhyNotRead, PlaysRead, FailsWith}
+use Rattle.tmem_cli.specs.Printed.{PlaysFrom}
+use Rattle.tmem_cli.specs.Stored.{PlaysWhere}
 use Rattle.tmem_cli.proofs.Writing.{Appends-keeps}
 
 -- all that was left of the input was read
@@ -36,8 +39,44 @@ refused_text IsRead Unreadable text is none = tt
 refused_text IsRead NoScript text is none = (text, is, none refl)
 
 -- what is flushed stays
-pub PlaysScript-keeps : (vars : ℕ) (entries : List Entry) (before mid after : Option (List ℕ)) → PlaysScript vars entries before mid → Keeps mid after → PlaysScript vars entries before after
-PlaysScript-keeps vars entries before mid after so kept = (so.0, so.1, so.2, Appends-keeps before mid after _ so.3 kept)
+pub PlaysFrom-keeps : (vars slots : ℕ) (found : State) (used : ℕ) (entries : List Entry) (end : WorldModel) (before mid after : Option (List ℕ)) → PlaysFrom vars slots found used entries end before mid → Keeps mid after → PlaysFrom vars slots found used entries end before after
+PlaysFrom-keeps vars slots found used entries end before mid after so kept = record { text = so.text; prints = so.prints; appends = Appends-keeps before mid after _ so.appends kept }
+
+pub PlaysWhere-keeps : (disk : Option (List ℕ)) (vars slots : ℕ) (entries : List Entry) (before mid after : Option (List ℕ)) → PlaysWhere disk vars slots entries before mid → Keeps mid after → PlaysWhere disk vars slots entries before after
+PlaysWhere-keeps None vars slots entries before mid after so kept = (so.0, PlaysFrom-keeps vars slots (first_state vars) 0 entries so.0 before mid after so.1 kept)
+PlaysWhere-keeps (Some path) vars slots entries before mid after so kept = (
+  so.0,
+  so.1,
+  (
+    so.2.0,
+    λ premise.
+        let it = (so.2.1 premise).1 in (
+          (so.2.1 premise).0,
+          record {
+            found = it.found;
+            used = it.used;
+            stands = it.stands;
+            end = it.end;
+            played = PlaysFrom-keeps vars slots it.found it.used entries it.end before mid after it.played kept;
+            left = it.left;
+          },
+        ),
+  ),
+)
+
+-- the same of words that ask for the same
+pub PlaysRead-along : (left p q d e before after : Option (List ℕ)) → p ≡ q → d ≡ e → PlaysRead (MayBeRead p left) d before after → PlaysRead (MayBeRead q left) e before after
+PlaysRead-along left p q d e before after path disk so =
+    subst (λ (x : Option (List ℕ)). PlaysRead (MayBeRead q left) x before after) disk (subst (λ (x : Option (List ℕ)). PlaysRead (MayBeRead x left) d before after) path so)
+
+pub FailsWith-along : (status : ℕ) (left p q d e : Option (List ℕ)) → p ≡ q → d ≡ e → FailsWith status (MayBeRead p left) d → FailsWith status (MayBeRead q left) e
+FailsWith-along status left p q d e path disk so =
+    subst (λ (x : Option (List ℕ)). FailsWith status (MayBeRead q left) x) disk (subst (λ (x : Option (List ℕ)). FailsWith status (MayBeRead x left) d) path so)
+
+-- what holds in any case does after Ok
+pub ok_of : {T E P : Type 0} (r : Result T E) → P → OnOk r P
+ok_of (Ok x) so = so
+ok_of (Err e) so = tt
 
 -- no failure has the status 0
 not_done : (f : Failure) → status_of f ≡ 0 → ⊥

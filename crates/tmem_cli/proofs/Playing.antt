@@ -2,7 +2,8 @@
 use Rattle.std.proofs.Common.{◌≡◌, ℕ, List, [], ◌∷◌, ◌++◌, Option, refl, sym, ap, subst, ◌∙◌, append_assoc, append-nil}
 use Rattle.std.specs.Io.KnownBytes.{Appends}
 use Rattle.tmem_builtins.specs.Builtins.{builtin_steps, builtin_names, builtin_tests}
-use Rattle.tmem_record.specs.State.{first_state}
+use Rattle.tmem_disk.specs.Disk.{DeviceView, LeavesOnly}
+use Rattle.tmem_record.specs.State.{State}
 use Rattle.tmem_record.specs.declared.layout.Layout.{Layout}
 use Rattle.tmem_core.specs.Program.{Program}
 use Rattle.tmem_event.specs.declared.event.Reply.TheVariants.{Opened}
@@ -12,9 +13,11 @@ use Rattle.tmem_event.specs.declared.event.Event.TheVariants as event
 use Rattle.tmem_script.specs.declared.script.Entry.{Entry}
 use Rattle.tmem_world.specs.declared.world.World.{World}
 use Rattle.tmem_world.specs.WorldModel.{Setting, WorldModel, opening}
-use Rattle.tmem_world.specs.Represents.{RestsOn, Represents, Means, setting_of, numbers_of, steps_of, held_table}
+use Rattle.tmem_journal.specs.Stands.{StandsFor}
+use Rattle.tmem_world.specs.Represents.{RestsOn, Represents, Means, StandsCut, setting_of, numbers_of, steps_of, held_table, view_of}
 use Rattle.tmem_cli.specs.Builtin.{builtin_program, builtin_setting}
-use Rattle.tmem_cli.specs.Printed.{line, Answers, Prints, PlaysEntries, PlaysScript}
+use Rattle.tmem_cli.specs.Printed.{line, Answers, Prints, PlaysEntries, PlaysFrom}
+use Rattle.tmem_cli.specs.Stored.{PlaysOn}
 use Rattle.tmem_cli.proofs.Writing.{Appends-then, Appends-nil}
 
 -- one entry
@@ -54,17 +57,17 @@ module _ {D T S : Type 0} {d t s : _} where
 
   same_setting : (w w' : World D T S d t s) (program : Program) → numbers_of w' ≡ numbers_of w → steps_of w' ≡ steps_of w → setting_of w' program ≡ setting_of w program
   same_setting w w' program numbers steps =
-      ap (λ (l : Layout). record { vars = l.vars; arities = s.arities w'.steps; program = program }) numbers ∙ ap (λ (x : S). record { vars = w.layout.vars; arities = s.arities x; program = program }) steps
+      ap (λ (l : Layout). record { vars = l.vars; slots = l.slots; arities = s.arities w'.steps; program = program }) numbers ∙ ap (λ (x : S). record { vars = w.layout.vars; slots = w.layout.slots; arities = s.arities x; program = program }) steps
 
   -- nothing was played yet
   pub PlaysEntries-nil : (w : World D T S d t s) (before : Option (List ℕ)) → PlaysEntries w before [] w before
-  PlaysEntries-nil w before program means m at = (m, [], (refl, refl), at, Appends-nil before)
+  PlaysEntries-nil w before program means m at premise = (m, [], (refl, refl), at, Appends-nil before)
 
   -- one entry more
-  pub PlaysEntries-more : (w mid new : World D T S d t s) (before between after : Option (List ℕ)) (es : List Entry) (e : Entry) → numbers_of mid ≡ numbers_of w → steps_of mid ≡ steps_of w → held_table mid ≡ held_table w → PlaysEntries w before es mid between → PlaysEntries mid between (e ∷ []) new after → PlaysEntries w before (es ++ e ∷ []) new after
-  PlaysEntries-more w mid new before between after es e numbers steps table so now program means m at =
-      let one = so program means m at in
-      let two = now program (means_stay w mid program steps table means) one.0 one.3 in
+  pub PlaysEntries-more : (w mid new : World D T S d t s) (before between after : Option (List ℕ)) (es : List Entry) (e : Entry) → numbers_of mid ≡ numbers_of w → steps_of mid ≡ steps_of w → held_table mid ≡ held_table w → ((view_of new).keeps_model → (view_of mid).keeps_model) → PlaysEntries w before es mid between → PlaysEntries mid between (e ∷ []) new after → PlaysEntries w before (es ++ e ∷ []) new after
+  PlaysEntries-more w mid new before between after es e numbers steps table kept so now program means m at premise =
+      let one = so program means m at (kept premise) in
+      let two = now program (means_stay w mid program steps table means) one.0 one.3 premise in
       let answered = subst (λ (x : Setting). Answers x one.0 e two.1 two.0) (same_setting w mid program numbers steps) (Answers-of_one (setting_of mid program) e two.1 one.0 two.0 two.2) in
       (two.0, one.1 ++ two.1, Prints-more (setting_of w program) es one.1 e two.1 m one.0 two.0 one.2 answered, two.3, Appends-then before between after one.1 two.1 one.4 two.4)
 
@@ -77,13 +80,37 @@ module _ {D T S : Type 0} {d t s : _} where
   }
 
   -- the line of the opening, and then the entries
-  pub PlaysScript-of : (w new : World D T S d t s) (vars : ℕ) (before between after : Option (List ℕ)) (es : List Entry) (count : ℕ) → Means w (builtin_program vars) → setting_of w (builtin_program vars) ≡ builtin_setting vars → Represents (builtin_program vars) w (opening (first_state vars) 0 0) → count ≡ 0 → Appends before between (line (line_of (Opened count))) → PlaysEntries w between es new after → PlaysScript vars es before after
-  PlaysScript-of w new vars before between after es count means set at none opened so =
-      let it = so (builtin_program vars) means (opening (first_state vars) 0 0) at in
-      let first = subst (λ (n : ℕ). Appends before between (line (line_of (Opened n)))) none opened in
-      (it.0, it.1, subst (λ (x : Setting). Prints x (opening (first_state vars) 0 0) es it.1 it.0) set it.2, Appends-then before between after (line (line_of (Opened 0))) it.1 first it.4)
+  pub PlaysFrom-of : (w new : World D T S d t s) (vars slots used count : ℕ) (found : State) (before between after : Option (List ℕ)) (es : List Entry) → Means w (builtin_program vars) → setting_of w (builtin_program vars) ≡ builtin_setting vars slots → Represents (builtin_program vars) w (opening found used 0) → count ≡ found.count → Appends before between (line (line_of (Opened count))) → PlaysEntries w between es new after → (view_of new).keeps_model
+      → (end : WorldModel) × PlaysFrom vars slots found used es end before after × Represents (builtin_program vars) new end
+  PlaysFrom-of w new vars slots used count found before between after es means set at is opened so premise =
+      let it = so (builtin_program vars) means (opening found used 0) at premise in
+      let first = subst (λ (n : ℕ). Appends before between (line (line_of (Opened n)))) is opened in (
+        it.0,
+        record {
+          text = it.1;
+          prints = subst (λ (x : Setting). Prints x (opening found used 0) es it.1 it.0) set it.2;
+          appends = Appends-then before between after (line (line_of (Opened found.count))) it.1 first it.4;
+        },
+        it.3,
+      )
 
-  -- a store of so many variables is opened with the builtin setting
-  pub setting_builtin : (w : World D T S d t s) (vars : ℕ) (steps : S) → w.layout.vars ≡ vars → steps_of w ≡ steps → s.arities steps ≡ 2 ∷ 2 ∷ 2 ∷ [] → setting_of w (builtin_program vars) ≡ builtin_setting vars
-  setting_builtin w vars steps over has arities =
-      ap (λ (n : ℕ). record { vars = n; arities = s.arities w.steps; program = builtin_program vars }) over ∙ ap (λ (ns : List ℕ). record { vars = vars; arities = ns; program = builtin_program vars }) (ap (λ (x : S). s.arities x) has ∙ arities)
+  -- a script was played on the device of a world that was opened on another
+  pub PlaysOn-of : (old : DeviceView) (w new : World D T S d t s) (vars slots used count : ℕ) (found : State) (before between after : Option (List ℕ)) (es : List Entry) → (numbers_of new).vars ≡ vars → (numbers_of new).slots ≡ slots → StandsFor vars slots used found old.seen → Means w (builtin_program vars) → setting_of w (builtin_program vars) ≡ builtin_setting vars slots → Represents (builtin_program vars) w (opening found used 0) → count ≡ found.count → Appends before between (line (line_of (Opened count))) → PlaysEntries w between es new after → (view_of new).keeps_model
+      → PlaysOn vars slots es old (view_of new) before after
+  PlaysOn-of old w new vars slots used count found before between after es over log stands means set at is opened so premise =
+      let it = PlaysFrom-of w new vars slots used count found before between after es means set at is opened so premise in
+      record {
+        found = found;
+        used = used;
+        stands = stands;
+        end = it.0;
+        played = it.1;
+        left = subst (λ (v : ℕ). LeavesOnly (view_of new) (StandsCut (builtin_program vars) v slots it.0)) over
+            (subst (λ (k : ℕ). LeavesOnly (view_of new) (StandsCut (builtin_program vars) (numbers_of new).vars k it.0)) log it.2.device);
+      }
+
+  -- a store of so many variables and log slots is opened with the builtin setting
+  pub setting_builtin : (w : World D T S d t s) (vars slots : ℕ) (steps : S) → w.layout.vars ≡ vars → w.layout.slots ≡ slots → steps_of w ≡ steps → s.arities steps ≡ 2 ∷ 2 ∷ 2 ∷ [] → setting_of w (builtin_program vars) ≡ builtin_setting vars slots
+  setting_builtin w vars slots steps over logged has arities =
+      ap (λ (n : ℕ). record { vars = n; slots = w.layout.slots; arities = s.arities w.steps; program = builtin_program vars }) over
+      ∙ ap (λ (n : ℕ). record { vars = vars; slots = n; arities = s.arities w.steps; program = builtin_program vars }) logged ∙ ap (λ (ns : List ℕ). record { vars = vars; slots = slots; arities = ns; program = builtin_program vars }) (ap (λ (x : S). s.arities x) has ∙ arities)

@@ -8,6 +8,6 @@ use Rattle.tmem_world.specs.WorldModel.{Setting}
 abbrev pub builtin_program : ℕ → Program
 builtin_program vars = record { steps = builtin_steps; names = builtin_names vars; tests = builtin_tests }
 
--- the same with the numbers of variables and of each step's arguments
-abbrev pub builtin_setting : ℕ → Setting
-builtin_setting vars = record { vars = vars; arities = 2 ∷ 2 ∷ 2 ∷ []; program = builtin_program vars }
+-- the same with the numbers of variables, of log slots and of each step's arguments
+abbrev pub builtin_setting : ℕ → ℕ → Setting
+builtin_setting vars slots = record { vars = vars; slots = slots; arities = 2 ∷ 2 ∷ 2 ∷ []; program = builtin_program vars }

@@ -1,7 +1,6 @@
 -- What became of a command line, as its status says.
 use Rattle.std.specs.Prelude.{◌≡◌, ◌⊎◌, ⊤, ℕ, List, Option, Some, None}
 use Rattle.clap.specs.Walk.{Text}
-use Rattle.tmem_disk.specs.declared.fault.Fault.TheVariants as fault
 use Rattle.tmem_record.specs.Layout.{IsLayout}
 use Rattle.tmem_script.specs.Scripts.{IsScriptText}
 use Rattle.tmem_script.specs.Statuses.{status_of}
@@ -10,8 +9,8 @@ use Rattle.tmem_script.specs.declared.failure.Failure.TheVariants as failure
 use Rattle.tmem_script.specs.declared.script.Entry.{Entry}
 use Rattle.tmem_script.specs.declared.script.ScriptError.{ScriptError}
 use Rattle.tmem_script.specs.declared.script.ScriptError.TheVariants as error
-use Rattle.tmem_cli.specs.CommandLine.{AsksToPlay, AsksForHelp, path_in}
-use Rattle.tmem_cli.specs.Printed.{PlaysScript, IsStop}
+use Rattle.tmem_cli.specs.CommandLine.{AsksToPlay, AsksForHelp, path_in, disk_in}
+use Rattle.tmem_cli.specs.Stored.{PlaysWhere, StopsPlaying}
 
 -- A text that may have been read: from the input what was left there, where that is known, and from a file any.
 abbrev pub MayBeRead : Option Text → Option (List ℕ) → List ℕ → Type 0
@@ -20,25 +19,25 @@ MayBeRead None (Some bytes) text = text ≡ bytes
 MayBeRead (Some path) left text = ⊤
 
 -- the text is that of a script whose numbers are within the limits, and the script was played to its end
-pub record PlaysText (text : List ℕ) (before after : Option (List ℕ)) : Type 0 where
+pub record PlaysText (disk : Option Text) (text : List ℕ) (before after : Option (List ℕ)) : Type 0 where
   pub vars : ℕ
   pub slots : ℕ
   pub entries : List Entry
   pub script : IsScriptText vars slots entries text
   pub layout : IsLayout vars slots
-  pub played : PlaysScript vars entries before after
+  pub played : PlaysWhere disk vars slots entries before after
 
 -- a text that may have been read was played
-abbrev pub PlaysRead : (List ℕ → Type 0) → Option (List ℕ) → Option (List ℕ) → Type 0
-PlaysRead IsRead before after = (text : List ℕ) × IsRead text × PlaysText text before after
+abbrev pub PlaysRead : (List ℕ → Type 0) → Option Text → Option (List ℕ) → Option (List ℕ) → Type 0
+PlaysRead IsRead disk before after = (text : List ℕ) × IsRead text × PlaysText disk text before after
 
 -- the text is that of no script
 abbrev pub IsNoScript : List ℕ → Type 0
 IsNoScript text = (vars slots : ℕ) (entries : List Entry) → ¬ IsScriptText vars slots entries text
 
--- the text is that of a script whose numbers are out of limits
-abbrev pub IsOutOfLimits : List ℕ → Type 0
-IsOutOfLimits text = (vars : ℕ) × (slots : ℕ) × (entries : List Entry) × IsScriptText vars slots entries text × (¬ IsLayout vars slots)
+-- the text is that of a script, which was not played to its end for this reason
+abbrev pub StopsText : Option Text → List ℕ → Failure → Type 0
+StopsText disk text f = (vars : ℕ) × (slots : ℕ) × (entries : List Entry) × IsScriptText vars slots entries text × StopsPlaying disk vars slots f
 
 -- Why no script was read: memory was refused, reading failed, or what was read is none.
 abbrev pub IsWhyNotRead : (List ℕ → Type 0) → ScriptError → Type 0
@@ -46,24 +45,23 @@ IsWhyNotRead IsRead (error.Memory e) = ⊤
 IsWhyNotRead IsRead error.Unreadable = ⊤
 IsWhyNotRead IsRead error.NoScript = (text : List ℕ) × IsRead text × IsNoScript text
 
--- Why a script was not played to its end: it was not read, its numbers are out of limits, or it was stopped.
-abbrev pub IsWhyNotPlayed : (List ℕ → Type 0) → Failure → Type 0
-IsWhyNotPlayed IsRead f =
-    ((e : ScriptError) × (f ≡ failure.Script e) × IsWhyNotRead IsRead e)
-    ⊎ (((f ≡ failure.Refused fault.Geometry) × ((text : List ℕ) × IsRead text × IsOutOfLimits text)) ⊎ IsStop f)
+-- Why a script was not played to its end: it was not read, or it was stopped once it was.
+abbrev pub IsWhyNotPlayed : (List ℕ → Type 0) → Option Text → Failure → Type 0
+IsWhyNotPlayed IsRead disk f =
+    ((e : ScriptError) × (f ≡ failure.Script e) × IsWhyNotRead IsRead e) ⊎ ((text : List ℕ) × IsRead text × StopsText disk text f)
 
 -- a failure of this status is why
-abbrev pub FailsWith : ℕ → (List ℕ → Type 0) → Type 0
-FailsWith status IsRead = (f : Failure) × (status_of f ≡ status) × IsWhyNotPlayed IsRead f
+abbrev pub FailsWith : ℕ → (List ℕ → Type 0) → Option Text → Type 0
+FailsWith status IsRead disk = (f : Failure) × (status_of f ≡ status) × IsWhyNotPlayed IsRead disk f
 
 -- Status 0: help or the version was asked for, or a script was, and it was played to its end.
 abbrev pub IsDone : List Text → Option (List ℕ) → Option (List ℕ) → Option (List ℕ) → Type 0
-IsDone words left before after = AsksForHelp words ⊎ (AsksToPlay words × PlaysRead (MayBeRead (path_in words) left) before after)
+IsDone words left before after = AsksForHelp words ⊎ (AsksToPlay words × PlaysRead (MayBeRead (path_in words) left) (disk_in words) before after)
 
 -- Status 1: the same was asked for, and it failed on the way.
 abbrev pub IsStopped : List Text → Option (List ℕ) → Type 0
-IsStopped words left = AsksForHelp words ⊎ (AsksToPlay words × FailsWith 1 (MayBeRead (path_in words) left))
+IsStopped words left = AsksForHelp words ⊎ (AsksToPlay words × FailsWith 1 (MayBeRead (path_in words) left) (disk_in words))
 
 -- Status 3: a script was asked for, and there was none.
 abbrev pub HasNoScript : List Text → Option (List ℕ) → Type 0
-HasNoScript words left = AsksToPlay words × FailsWith 3 (MayBeRead (path_in words) left)
+HasNoScript words left = AsksToPlay words × FailsWith 3 (MayBeRead (path_in words) left) (disk_in words)

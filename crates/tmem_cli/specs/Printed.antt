@@ -8,7 +8,6 @@ use Rattle.tmem_disk.specs.Name.{has_name}
 use Rattle.tmem_disk.specs.declared.fault.Fault.TheVariants as fault
 use Rattle.tmem_record.specs.State.{State, first_state}
 use Rattle.tmem_invariants.specs.Meanings.{value_of}
-use Rattle.tmem_record.specs.Layout.{IsLayout}
 use Rattle.tmem_core.specs.Program.{Program}
 use Rattle.tmem_event.specs.declared.event.Reply.{Reply}
 use Rattle.tmem_event.specs.declared.event.Reply.TheVariants as reply
@@ -19,7 +18,7 @@ use Rattle.tmem_script.specs.declared.script.Entry.{Entry}
 use Rattle.tmem_script.specs.declared.script.Entry.TheVariants as entry
 use Rattle.tmem_world.specs.WorldModel.{Setting, WorldModel, SessionStatus, Gone, Allows, present, opening}
 use Rattle.tmem_world.specs.declared.world.World.{World}
-use Rattle.tmem_world.specs.Represents.{Represents, Means, setting_of}
+use Rattle.tmem_world.specs.Represents.{Represents, Means, setting_of, view_of}
 use Rattle.tmem_cli.specs.Builtin.{builtin_setting}
 
 -- a text with its line break
@@ -63,21 +62,22 @@ Prints set m [] text m' = (text ≡ []) × (m' ≡ m)
 Prints set m (e ∷ es) text m' =
     (mid : WorldModel) × (first : List ℕ) × (rest : List ℕ) × Answers set m e first mid × Prints set mid es rest m' × (text ≡ first ++ rest)
 
--- Whatever the closures mean, by their statement: from each point of a run that the old world is at, the entries may be answered by what was written meanwhile, and the new world is at the point that they lead to.
+-- Whatever the closures mean, by their statement: from each point of a run that the old world is at, the entries may be answered by what was written meanwhile, and the new world is at the point that they lead to. It rests on the disk model, since an entry may open the device again.
 abbrev pub PlaysEntries : {D T S : Type 0} {d t s : _} → World D T S d t s → Option (List ℕ) → List Entry → World D T S d t s → Option (List ℕ) → Type 0
 PlaysEntries old before entries new after =
-    (program : Program) → Means old program → (m : WorldModel) → Represents program old m
+    (program : Program) → Means old program → (m : WorldModel) → Represents program old m → (view_of new).keeps_model
     → (m' : WorldModel) × (text : List ℕ) × Prints (setting_of old program) m entries text m' × Represents program new m' × Appends before after text
 
--- A whole script: the line of the opening of an empty store, and then what its entries may be answered by from there.
-abbrev pub PlaysScript : ℕ → List Entry → Option (List ℕ) → Option (List ℕ) → Type 0
-PlaysScript vars entries before after =
-    (m' : WorldModel) × (text : List ℕ) × Prints (builtin_setting vars) (opening (first_state vars) 0 0) entries text m' × Appends before after (line (line_of (reply.Opened 0)) ++ text)
+-- A whole script on a store that was opened in this state, with so many log slots used: the line of the opening, and then what its entries may be answered by from there, up to that point.
+pub record PlaysFrom (vars slots : ℕ) (found : State) (used : ℕ) (entries : List Entry) (end : WorldModel) (before after : Option (List ℕ)) : Type 0 where
+  pub text : List ℕ
+  pub prints : Prints (builtin_setting vars slots) (opening found used 0) entries text end
+  pub appends : Appends before after (line (line_of (reply.Opened found.count)) ++ text)
+
+-- A whole script on an empty store.
+abbrev pub PlaysScript : ℕ → ℕ → List Entry → Option (List ℕ) → Option (List ℕ) → Type 0
+PlaysScript vars slots entries before after = (end : WorldModel) × PlaysFrom vars slots (first_state vars) 0 entries end before after
 
 -- a run was stopped: the output failed, memory was refused, or a call of the device failed
 abbrev pub IsStop : Failure → Type 0
 IsStop f = (f ≡ failure.Output) ⊎ ((f ≡ failure.Refused fault.Memory) ⊎ (f ≡ failure.Refused fault.Device))
-
--- Why a script that was read is not played to its end: its numbers are out of limits, or it was stopped.
-abbrev pub StopsPlaying : ℕ → ℕ → Failure → Type 0
-StopsPlaying vars slots f = ((f ≡ failure.Refused fault.Geometry) × (¬ IsLayout vars slots)) ⊎ IsStop f

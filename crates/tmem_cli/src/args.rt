@@ -3,7 +3,7 @@ ghost use Rattle.std.specs.Prelude.{◌≡◌, false, [], IfOk, map, option_map,
 ghost use Rattle.clap.specs.declared.builder.command.Command.TheViews.{out-Command as fields_of};
 ghost use Rattle.clap.specs.Kinds.{FailsBy};
 ghost use Rattle.clap.specs.Simple.{app_of};
-ghost use Rattle.tmem_cli.specs.CommandLine.{ReadsPlainly, command_line, run_words, why_not_run, path_in};
+ghost use Rattle.tmem_cli.specs.CommandLine.{ReadsPlainly, command_line, run_words, why_not_run, path_in, disk_in};
 
 use clap::{Arg, Command};
 use std::alloc::{AllocError, Global};
@@ -11,21 +11,34 @@ use std::alloc::{AllocError, Global};
 // What `--version` prints behind the program's name.
 const VERSION: &str = "0.1.0";
 
-/// The path of the script to run, or none for standard input. Refused with what is to be told of the
-/// words: help or the version where it was asked for, else what is wrong with them.
-pub(crate) fn script_path<'a>(
-    alloc: Global,
-    words: &'a [String],
-) -> Result<Option<&'a str>, clap::Error>
-    ensures path { IfOk result (λ path. option_map (λ text. text.now) path ≡ path_in (map string_bytes words.now)) }
+/// The files that a command line names.
+#[derive(Clone, Copy)]
+pub(crate) struct Paths<'a> {
+    /// The script, or none for standard input.
+    pub(crate) script: Option<&'a str>,
+    /// The store, or none for a device in memory.
+    pub(crate) disk: Option<&'a str>,
+}
+
+/// The files of the run that is asked for. Refused with what is to be told of the words: help or the version where it was
+/// asked for, else what is wrong with them.
+pub(crate) fn paths_of<'a>(alloc: Global, words: &'a [String]) -> Result<Paths<'a>, clap::Error>
+    ensures script { IfOk result (λ paths. option_map (λ text. text.now) paths.script ≡ path_in (map string_bytes words.now)) }
+    ensures disk { IfOk result (λ paths. option_map (λ text. text.now) paths.disk ≡ disk_in (map string_bytes words.now)) }
     ensures refused { FailsBy (why_not_run (map string_bytes words.now)) result }
 {
     let command = command(alloc)?;
     let matches = command.try_get_matches_from(words)?;
     let Some((_, run)) = matches.subcommand() else {
-        return Ok(None);
+        return Ok(Paths {
+            script: None,
+            disk: None,
+        });
     };
-    Ok(run.get_str("script"))
+    Ok(Paths {
+        script: run.get_str("script"),
+        disk: run.get_str("disk"),
+    })
 }
 
 fn command<'a>(alloc: Global) -> Result<Command<'a>, AllocError>
@@ -44,11 +57,16 @@ fn run_command<'a>(alloc: Global) -> Result<Command<'a>, AllocError>
     ensures local { IfOk result (λ command. (fields_of command).has_globals ≡ false) }
 {
     Command::new(alloc, "run")
-        .about("Plays a script on a device in memory")
+        .about("Plays a script on a store in a file or in memory")
         .arg(
             Arg::new(alloc, "script")
                 .value_name("SCRIPT")
                 .help("The file with the script [default: standard input]"),
+        )?
+        .arg(
+            Arg::new(alloc, "disk").long("disk").value_name("PATH").help(
+                "The file of the store, made if it is missing [default: a device in memory]",
+            ),
         )
 }
 

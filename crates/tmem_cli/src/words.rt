@@ -8,20 +8,19 @@ ghost use Rattle.tmem_script.specs.declared.failure.Failure.TheVariants.{Output}
 ghost use Rattle.tmem_cli.specs.CommandLine.{AreRefused, AsksToPlay, IsRequest, path_in};
 ghost use Rattle.tmem_cli.specs.Outcomes.{IsDone, IsStopped, HasNoScript, IsWhyNotPlayed, IsWhyNotRead, MayBeRead, PlaysRead};
 
-use crate::args::script_path;
+use crate::args::{Paths, paths_of};
 use crate::play::play;
 use clap::error::ErrorKind;
 use std::alloc::Global;
-use std::fs;
+use std::fs::{self, File, Files};
 use std::io::{Read, Write};
-use std::rt::Files;
 use tmem_script::{Failure, Script, ScriptError, WordsError, report};
 
 /// Does what the words of a command line say, the program's name first, and answers the status: 0 where help or the
 /// version was printed, or a script was played to its end; 1 where that failed on the way; 2 where the words were refused,
 /// or memory did not suffice to read them; 3 where there was no script to play.
 pub fn run_words<R: Read, W: Write, E: Write>(
-    rt: &(impl Files + AllocGlobal),
+    rt: &(impl Files<File = File> + AllocGlobal),
     words: Vec<String>,
     input: &mut R,
     out: &mut W,
@@ -42,8 +41,8 @@ pub fn run_words<R: Read, W: Write, E: Write>(
     ensures unread { result ≡ 2 → input.new ≡ input.old }
     ensures other_file { IsSome (path_in (map string_bytes words.items)) → input.new ≡ input.old }
 {
-    match script_path(rt.alloc(), words.as_slice()) {
-        Ok(path) => conclude(run(rt, path, input, out), err),
+    match paths_of(rt.alloc(), words.as_slice()) {
+        Ok(paths) => conclude(run(rt, paths, input, out), err),
         Err(refusal) => answer(&refusal, out, err),
     }
 }
@@ -90,24 +89,24 @@ fn print<W: Write>(request: &clap::Error, out: &mut W) -> Result<(), Failure>
 
 /// Plays the script to its end, and flushes what was printed.
 fn run<R: Read, W: Write>(
-    rt: &(impl Files + AllocGlobal),
-    path: Option<&str>,
+    rt: &(impl Files<File = File> + AllocGlobal),
+    paths: Paths,
     input: &mut R,
     out: &mut W,
 ) -> Result<(), Failure>
-    ensures played { OnOk result (PlaysRead (MayBeRead (option_map (λ text. text.now) path.entry) (R.remaining input.old)) (W.contents out.old) (W.contents out.new)) }
-    ensures failed { IfErr result (IsWhyNotPlayed (MayBeRead (option_map (λ text. text.now) path.entry) (R.remaining input.old))) }
+    ensures played { OnOk result (PlaysRead (MayBeRead (option_map (λ text. text.now) paths.entry.script) (R.remaining input.old)) (option_map (λ text. text.now) paths.entry.disk) (W.contents out.old) (W.contents out.new)) }
+    ensures failed { IfErr result (IsWhyNotPlayed (MayBeRead (option_map (λ text. text.now) paths.entry.script) (R.remaining input.old)) (option_map (λ text. text.now) paths.entry.disk)) }
     ensures unprinted { IfErr result (λ failure. status_of failure ≡ 3 → out.new ≡ out.old) }
-    ensures other_file { IsSome path.entry → input.new ≡ input.old }
+    ensures other_file { IsSome paths.entry.script → input.new ≡ input.old }
 {
-    let script = script_of(rt, path, input)?;
-    play(rt.alloc(), script, out)?;
+    let script = script_of(rt, paths.script, input)?;
+    play(rt, script, paths.disk, out)?;
     out.flush().map_err(|_| Failure::Output)
 }
 
 /// Reads the script to play, from its file or else from the input.
 fn script_of<R: Read>(
-    rt: &(impl Files + AllocGlobal),
+    rt: &(impl Files<File = File> + AllocGlobal),
     path: Option<&str>,
     input: &mut R,
 ) -> Result<Script, ScriptError>
@@ -122,7 +121,7 @@ fn script_of<R: Read>(
 
 /// Reads a whole file, or else all that is left of the input.
 fn text_of<R: Read>(
-    rt: &(impl Files + AllocGlobal),
+    rt: &(impl Files<File = File> + AllocGlobal),
     path: Option<&str>,
     input: &mut R,
 ) -> Result<Vec<u8>, ScriptError>

@@ -6,4 +6,5 @@ pub mod Places
 pub mod Present
 pub mod Windows
 pub mod SettleAnswers
+pub mod Taken
 pub mod Trials

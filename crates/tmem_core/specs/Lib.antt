@@ -3,4 +3,5 @@ pub mod Held
 pub mod Opening
 pub mod Program
 pub mod SettleAnswer
+pub mod Taking
 pub mod Verdict

@@ -1,5 +1,5 @@
 // The core.
-ghost use Rattle.std.specs.Prelude.{◌≡◌, ◌≢◌, ◌≤◌, ◌<◌, ◌+◌, ◌-◌, true, false, [], ◌++◌, length, drop, take, slice_get, Some, All, IsTrue, IfOk, IfErr};
+ghost use Rattle.std.specs.Prelude.{◌≡◌, ◌≢◌, ◌≤◌, ◌<◌, ◌↔◌, ◌+◌, ◌-◌, true, false, [], ◌++◌, length, drop, slice_get, Some, All, IsTrue, IfOk, IfErr};
 ghost use Rattle.std.specs.Map.{keys_of};
 ghost use Rattle.std.proofs.Props.{props};
 ghost use Rattle.tmem_record.specs.Names.{has_name, with_names, AreRegistered, AreRegistered-prop};
@@ -12,6 +12,7 @@ ghost use Rattle.tmem_tentative.specs.Right.{IsRight};
 ghost use Rattle.tmem_core.specs.SettleAnswer.{is_stale};
 ghost use Rattle.tmem_record.specs.Loggable.{IsLoggable, IsLoggable-prop};
 ghost use Rattle.tmem_core.specs.History.{IsFolded, effects_of};
+ghost use Rattle.tmem_core.specs.Taking.{IsTaken, HasRoom};
 
 use crate::history::History;
 use crate::trial::first_false;
@@ -20,12 +21,9 @@ use std::alloc::{AllocError, Global};
 use std::snapshot::Snapshot;
 use tmem_disk::{Fault, Name};
 use tmem_invariants::Invariants;
-use tmem_record::{Batch, Effect, MAX_WRITES, State};
+use tmem_record::{BATCH_BYTES, Batch, Effect, MAX_RECORD_BYTES, MAX_RECORDS, MAX_WRITES, State};
 use tmem_tentative::{Attempt, Ending, Reads};
 use tmem_tree::{REGISTERS, Settled};
-
-/// How many records one `take` puts into a batch, at the most.
-pub const MAX_TAKEN: usize = 1;
 
 /// The present state, and the effects that are accepted and not known durable. Contracts speak of its parts by the words
 /// of `specs/Held`.
@@ -289,16 +287,30 @@ impl<T: Invariants + Drop> Core<T> {
         Ok(Settled::Committed { number, registers })
     }
 
-    /// Empties the batch and puts in what waits from this number on, `MAX_TAKEN` records at the most.
+    /// Empties the batch and puts in what waits from this number on: each next record as long as the batch has fewer than 64
+    /// and the longest record would still fit. So the first one is always taken.
     pub fn take(&self, from: u64, batch: &mut Batch)
         requires known { durable_of self.now ≤ from }
         requires accepted { from ≤ (state_of self.now).count }
-        ensures { batch.new ≡ take MAX_TAKEN (drop (from - durable_of self.now) (waiting_of self.now)) }
+        ensures taken { IsTaken (drop (from - durable_of self.now) (waiting_of self.now)) batch.new }
+
+        // The rest is what waits once these are known durable.
+        ensures rest { drop (from - durable_of self.now) (waiting_of self.now)
+            ≡ batch.new ++ drop (from + length batch.new - durable_of self.now) (waiting_of self.now) }
+        ensures reached { from + length batch.new ≤ (state_of self.now).count }
+
+        // What a log takes: some effects but where none waits, 64 at the most, and each loggable.
+        ensures some { from < (state_of self.now).count → 1 ≤ length batch.new }
+        ensures few { length batch.new ≤ 64 }
+        ensures each { All (IsLoggable (length (state_of self.now).values)) batch.new }
     {
         batch.clear();
-        if from < self.state.count() {
-            let effect = self.waiting.get((from - self.durable) as usize);
-            let _ = batch.push(effect);
+        let first = (from - self.durable) as usize;
+        for index in first..self.waiting.len() {
+            if !has_room(batch) {
+                return;
+            }
+            let _ = batch.push(self.waiting.get(index));
         }
     }
 
@@ -316,6 +328,13 @@ impl<T: Invariants + Drop> Core<T> {
         self.waiting.drop_oldest((number - self.durable) as usize);
         self.durable = number;
     }
+}
+
+// Whether a batch has room for any record.
+fn has_room(batch: &Batch) -> bool
+    ensures { IsTrue result ↔ HasRoom batch.now }
+{
+    batch.len() < MAX_RECORDS && batch.used() + MAX_RECORD_BYTES <= BATCH_BYTES
 }
 
 // The state in memory of its own, and room for all that may wait.

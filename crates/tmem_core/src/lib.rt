@@ -10,6 +10,6 @@ mod history;
 mod trial;
 mod waiting;
 
-pub use core_state::{Core, MAX_TAKEN};
+pub use core_state::Core;
 pub use tmem_tree::Settled;
 pub use waiting::MAX_WAITING;

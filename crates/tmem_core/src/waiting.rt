@@ -44,6 +44,13 @@ impl Waiting {
         })
     }
 
+    /// How many effects wait.
+    pub(crate) fn len(&self) -> usize
+        ensures { result ≡ length self.now }
+    {
+        self.len
+    }
+
     /// The effect that waits behind so many others.
     pub(crate) fn get(&self, index: usize) -> &Effect
         requires { index < length self.now }

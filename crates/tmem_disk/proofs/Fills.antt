@@ -1,14 +1,7 @@
 -- What a stop (a crash) makes of the marked bytes.
 use Rattle.std.proofs.Common.{◌≡◌, ℕ, zero, suc, ◌<◌, Bool, true, false, cond, List, [], ◌∷◌, length, take, set, get_or, refl, sym, ◌∙◌, ap, arith}
-use Rattle.std.specs.Prelude.{Option, Some, None, IsSome}
 use Rattle.std.proofs.lemmas.Bool.{false≢true}
-use Rattle.tmem_disk.specs.declared.power.Fill.{Fill}
-use Rattle.tmem_disk.specs.Sim.{Bytes, LeftBy, stamped, unless_stopped}
-
--- what runs goes on
-pub unless_stopped-runs : (stopped : Option Fill) (before after : Bytes) → ¬ IsSome stopped → unless_stopped stopped before after ≡ after
-unless_stopped-runs None before after runs = refl
-unless_stopped-runs (Some fill) before after runs = absurd (runs (search))
+use Rattle.tmem_disk.specs.Sim.{LeftBy, stamped}
 
 stamped-nil : (byte : ℕ) (bytes : List ℕ) → stamped byte bytes [] ≡ bytes
 stamped-nil byte [] = refl

@@ -5,3 +5,4 @@ pub mod Marks
 pub mod AsStr
 pub mod Past
 pub mod Ranges
+pub mod Writing

@@ -6,29 +6,6 @@ use Rattle.tmem_disk.specs.Disk.{overwritten, SameOutside}
 use Rattle.tmem_disk.specs.Sim.{LeftBy}
 use Rattle.tmem_disk.proofs.Ranges.{length-overwritten, get_or-below, get_or-within, get_or-above, take-overwritten, drop-overwritten}
 
--- the written range is marked, and all else agrees as before
-pub agrees_after : (synced : List ℕ) (marks : List Bool) (present : List ℕ) (at : ℕ) (bytes : List ℕ) → length marks ≡ length present → at + length bytes ≤ length present → LeftBy synced marks present
-    → LeftBy synced (overwritten marks at (replicate (length bytes) true)) (overwritten present at bytes)
-agrees_after synced marks present at bytes same fits agrees = record {
-  size = length-overwritten present at bytes fits ∙ agrees.size;
-  stays = λ i unmarked. ⊎_elim
-      (λ below. get_or-below present at bytes fits i 0 below ∙ agrees.stays i (sym (get_or-below marks at trues within i true below) ∙ unmarked))
-      (λ from. ⊎_elim
-      (λ to. absurd (false≢true (sym unmarked ∙ get_or-within marks at trues within i true from (omega (arith, long)) ∙ get_or-replicate (length bytes) (i - at) true true (omega arith))))
-      (λ above. get_or-above present at bytes fits i 0 above ∙ agrees.stays i (sym (get_or-above marks at trues within i true (omega (arith, long))) ∙ unmarked))
-      (cases_lt i (at + length bytes)))
-      (cases_lt i at);
-}
-  where
-    trues : List Bool
-    trues = replicate (length bytes) true
-
-    long : length trues ≡ length bytes
-    long = length-replicate (length bytes) true
-
-    within : at + length trues ≤ length marks
-    within = omega (arith, long)
-
 -- what may be left after a write might have been left before it, with anything in the range
 pub left_after : (synced : List ℕ) (marks : List Bool) (at n : ℕ) → length marks ≡ length synced → at + n ≤ length synced → (c : List ℕ) → LeftBy synced (overwritten marks at (replicate n true)) c → (b : List ℕ) × LeftBy synced marks b × SameOutside at n b c
 left_after synced marks at n same fits c left = (before, earlier, step)

@@ -1,5 +1,6 @@
 pub mod Disk
 pub mod Distinct
+pub mod Failing
 pub mod Fault
 pub mod Moments
 pub mod Name

@@ -1,5 +1,8 @@
--- Whether a device in memory runs, and at which of its calls it stops, as at a crash.
-use Rattle.std.specs.Prelude.{ℕ, zero, suc, Option, Some, None, IsSome}
+-- Whether a device in memory runs, and at which of its calls it stops, as at a crash, or fails.
+use Rattle.std.specs.Prelude.{◌⊎◌, ℕ, zero, suc, Bool, ◌&&◌, Option, Some, None, is_none, IsTrue, IsSome}
+use Rattle.tmem_disk.specs.Failing.{none_armed, armed_for, armed_with, is_next, armed_after}
+use Rattle.tmem_disk.specs.declared.disk.DeviceFault.{DeviceFault}
+use Rattle.tmem_disk.specs.declared.disk.DeviceFault.TheVariants.{Read, Write, Sync}
 use Rattle.tmem_disk.specs.declared.power.Fill.{Fill}
 use Rattle.tmem_disk.specs.declared.power.ArmedStop.{ArmedStop}
 use Rattle.tmem_disk.specs.declared.power.ArmedStop.TheVariants.{AtWrite}
@@ -15,15 +18,23 @@ fill_of power = power.stopped
 
 -- it runs, and nothing is armed
 abbrev pub running : Power
-running = record { stopped = None; armed = None }
+running = record { stopped = None; armed = None; failing = none_armed }
 
 -- with this stop to come, in the place of any other that was to come
 abbrev pub arming : ArmedStop → Power → Power
-arming plan power = record { stopped = power.stopped; armed = Some plan }
+arming plan power = record { stopped = power.stopped; armed = Some plan; failing = power.failing }
+
+-- with a failure to come at the call of this kind behind so many more of it, in the place of any other of that kind
+abbrev pub arming_failure : DeviceFault → ℕ → Power → Power
+arming_failure kind before power = record { stopped = power.stopped; armed = power.armed; failing = armed_with kind (Some before) power.failing }
+
+-- at a stop with this fill, and what was armed still to come
+abbrev pub stopped_with : Fill → Power → Power
+stopped_with fill power = record { stopped = Some fill; armed = power.armed; failing = power.failing }
 
 -- it runs again, with what was armed still to come
 abbrev pub restarted : Power → Power
-restarted power = record { stopped = None; armed = power.armed }
+restarted power = record { stopped = None; armed = power.armed; failing = power.failing }
 
 -- A call of a device: a read, a write from a place on, or a sync.
 pub data Call : Type 0 where
@@ -31,23 +42,47 @@ pub data Call : Type 0 where
   writing : ℕ → Call
   syncing : Call
 
--- what runs meets its stop at a write
-abbrev pub met_by_write : Option ArmedStop → Power
-met_by_write None = running
-met_by_write (Some (AtWrite zero fill)) = record { stopped = Some fill; armed = None }
-met_by_write (Some (AtWrite (suc more) fill)) = record { stopped = None; armed = Some (AtWrite more fill) }
+-- the kind of a call, by the fault that it answers where it fails
+abbrev pub kind_of : Call → DeviceFault
+kind_of reading = Read
+kind_of (writing at) = Write
+kind_of syncing = Sync
 
--- what is stopped stays so, whatever is armed
-abbrev pub after_write : Option Fill → Option ArmedStop → Power
-after_write (Some fill) armed = record { stopped = Some fill; armed = armed }
-after_write None armed = met_by_write armed
+-- the fill of the stop that a write meets
+abbrev pub met_by_write : Option ArmedStop → Option Fill
+met_by_write None = None
+met_by_write (Some (AtWrite zero fill)) = Some fill
+met_by_write (Some (AtWrite (suc more) fill)) = None
 
--- after a call: a write may meet the stop that is armed
+-- the stop that is still to come after a write
+abbrev pub left_by_write : Option ArmedStop → Option ArmedStop
+left_by_write None = None
+left_by_write (Some (AtWrite zero fill)) = None
+left_by_write (Some (AtWrite (suc more) fill)) = Some (AtWrite more fill)
+
+-- What runs counts each call, also one that fails, and may meet a stop at a write.
+abbrev pub after_running : Call → Power → Power
+after_running reading power = record { stopped = None; armed = power.armed; failing = armed_after Read power.failing }
+after_running (writing at) power = record { stopped = met_by_write power.armed; armed = left_by_write power.armed; failing = armed_after Write power.failing }
+after_running syncing power = record { stopped = None; armed = power.armed; failing = armed_after Sync power.failing }
+
+-- a call at a stopped device changes nothing
+abbrev pub unless_stopped : {A : Type 0} → Option Fill → A → A → A
+unless_stopped (Some fill) before after = before
+unless_stopped None before after = after
+
+-- after a call
 abbrev pub after : Call → Power → Power
-after reading power = power
-after (writing at) power = after_write power.stopped power.armed
-after syncing power = power
+after call power = unless_stopped power.stopped power (after_running call power)
 
--- a call fails where the device stands at a stop after it
+-- a write of a device that runs is armed to fail and meets no stop, which would win
+abbrev pub only_fails : Power → Bool
+only_fails power = is_next power.failing.write && is_none (met_by_write power.armed)
+
+-- it is the call of its kind that is armed to fail
+abbrev pub IsArmed : Call → Power → Type 0
+IsArmed call power = IsTrue (is_next (armed_for (kind_of call) power.failing))
+
+-- a call fails where the device stands at a stop after it, or where it is armed to fail
 abbrev pub Fails : Call → Power → Type 0
-Fails call power = IsStopped (after call power)
+Fails call power = IsStopped (after call power) ⊎ IsArmed call power

@@ -1,5 +1,5 @@
 -- The bytes of a device in memory, and what a stop (a crash) leaves of them.
-use Rattle.std.specs.Prelude.{◌≡◌, ◌⊎◌, ⊤, ℕ, Bool, true, false, Option, Some, None, if◌then◌else◌, List, [], ◌∷◌, length, drop, replicate, slice_index, slice_index_or}
+use Rattle.std.specs.Prelude.{◌≡◌, ◌⊎◌, ⊤, ℕ, Bool, true, false, Option, if◌then◌else◌, List, [], ◌∷◌, length, drop, replicate, slice_index, slice_index_or}
 use mathlib.Core.Logic.{inl, inr}
 use Rattle.tmem_disk.specs.Disk.{DeviceView, overwritten}
 use Rattle.tmem_disk.specs.declared.disk.DeviceFault.{DeviceFault}
@@ -20,6 +20,10 @@ blank size = record { present = replicate size 0; synced = replicate size 0; mar
 abbrev pub written : ℕ → List ℕ → Bytes → Bytes
 written at bytes b = record { present = overwritten b.present at bytes; synced = b.synced; marks = overwritten b.marks at (replicate (length bytes) true) }
 
+-- with a range of n places marked, and its bytes as they were
+abbrev pub touched : ℕ → ℕ → Bytes → Bytes
+touched at n b = record { present = b.present; synced = b.synced; marks = overwritten b.marks at (replicate n true) }
+
 -- with these as the bytes that a read gives and as the synced ones, and no mark
 abbrev pub synced_with : List ℕ → Bytes
 synced_with bytes = record { present = bytes; synced = bytes; marks = replicate (length bytes) false }
@@ -35,11 +39,6 @@ abbrev pub filled : Fill → Bytes → List ℕ
 filled Old b = b.synced
 filled New b = b.present
 filled (Byte byte) b = stamped byte b.present b.marks
-
--- a call at a stopped device changes no byte
-abbrev pub unless_stopped : Option Fill → Bytes → Bytes → Bytes
-unless_stopped (Some fill) before after = before
-unless_stopped None before after = after
 
 -- a stop leaves the bytes as at the last sync, and anything in the marked places
 pub record LeftBy (synced : List ℕ) (marks : List Bool) (c : List ℕ) : Type 0 where

@@ -1,7 +1,9 @@
 -- What the clauses of a device in memory see of it, beside what they see of every device.
-use Rattle.std.specs.Prelude.{ℕ, List}
+use Rattle.std.specs.Prelude.{ℕ, if◌then◌else◌, List, length}
 use Rattle.std.proofs.Common.{inl, refl, sym, ◌∙◌}
-use Rattle.tmem_disk.specs.Sim.{Bytes, written, synced_with, unless_stopped, memory_view, left_now}
+use Rattle.tmem_disk.specs.Sim.{Bytes, written, touched, synced_with, memory_view, left_now}
+use Rattle.tmem_disk.specs.Failing.{is_next}
+use Rattle.tmem_disk.specs.Power.{only_fails, unless_stopped}
 use Rattle.tmem_disk.specs.Disk.{DeviceView, IsDevice}
 use Rattle.tmem_disk.specs.Moments.{moments_of}
 use Rattle.tmem_disk.specs.declared.power.Power.{Power}
@@ -31,10 +33,11 @@ is_device_of disk = record {
   only_now = λ c k left. left_now (moments_of disk.past) disk.platter.synced.items disk.platter.marks.items c left;
 }
 
--- what a write leaves: nothing changes where the device was stopped before (had crashed, and not been restarted)
+-- What a write leaves. Nothing changes where the device was stopped before (had crashed, and not been restarted). A write
+-- that fails with no stop changes no byte that a read gives, and its range counts as written.
 abbrev pub bytes_after_write : Power → ℕ → List ℕ → Bytes → Bytes
-bytes_after_write power at bytes b = unless_stopped power.stopped b (written at bytes b)
+bytes_after_write power at bytes b = unless_stopped power.stopped b (if only_fails power then touched at (length bytes) b else written at bytes b)
 
--- what a sync leaves: nothing changes where the device is stopped
+-- what a sync leaves: nothing changes where the device is stopped, or the sync is armed to fail
 abbrev pub bytes_after_sync : Power → Bytes → Bytes
-bytes_after_sync power b = unless_stopped power.stopped b (synced_with b.present)
+bytes_after_sync power b = unless_stopped power.stopped b (if is_next power.failing.sync then b else synced_with b.present)

@@ -13,25 +13,30 @@ use thiserror::Error;
 pub enum Fault {
     /// Memory that the call asked for was really refused. It may come in place of any other answer of such a call.
     Memory,
-    /// A call of the device failed, in formatting or opening at any point, else before anything could become durable.
+    /// A call of the device failed: any call, in formatting, in opening or in making a file; in a flush or a checkpoint
+    /// a read, or a write other than one that opens a gate. After a flush no record of the batch is durable.
     Device,
-    /// The journal or the core was closed by an earlier failure.
+    /// The journal or the core was closed before, by a failure of the device or by whoever holds it, or there is no
+    /// session.
     Closed,
-    /// A sync failed, or the write that opens a gate: the state is there after reopening or it is not.
+    /// In a flush or a checkpoint a sync failed, or the write that opens a gate. After a flush, reopening finds the
+    /// state with the whole batch or without it.
     Unknown,
     /// As many accepted transactions as may wait are not known durable.
     Full,
-    /// Every slot of the log is used, until a checkpoint empties it.
+    /// Every slot of the log is used.
     LogFull,
     /// A value that was read is no longer the present one.
     Conflict,
-    /// The device does not begin as a formatted one does.
+    /// The device does not begin as a formatted one does: the gate of its first block is closed, or its letters are
+    /// others.
     NotFormatted,
     /// What stands on the device is nothing that the format allows.
     Damaged,
-    /// This invariant is registered on the device, and the table that was handed in lacks it.
+    /// This invariant is registered on the device, and the table that was handed in lacks it. Of several it is the
+    /// first by its bytes.
     Missing(Name),
-    /// This registered invariant is false of the state on the device.
+    /// This registered invariant is false of the state on the device. Of several it is the first in the table's order.
     Broken(Name),
     /// A transaction is outside the limits of a plan, for this cause.
     BadPlan(Cause),

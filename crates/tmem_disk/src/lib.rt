@@ -1,6 +1,7 @@
 //! The device that everything stands on: what a read of it gives, what a stop (a crash: a power cut or a kill) at any
-//! moment may leave of it, and when its calls fail. `SimDisk` is such a device in memory, which can be stopped at a
-//! chosen write. Beside them are the refusals of the whole workspace and the names of its invariants.
+//! moment may leave of it, and when its calls fail. `SimDisk` is such a device in memory, which can be stopped, and
+//! whose calls can be made to fail, at chosen ones. Beside them are the refusals of the whole workspace and the names of
+//! its invariants.
 #![tactic(auto)]
 
 mod buffer;

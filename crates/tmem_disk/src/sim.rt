@@ -1,9 +1,9 @@
-// A device in memory that can be stopped at a chosen write, as by a crash.
+// A device in memory that can be stopped, as by a crash, and whose calls can be made to fail, at chosen ones.
 ghost use Rattle.std.specs.Prelude.{◌≡◌, ◌<◌, ◌≤◌, ◌+◌, ◌^◌, ◌↔◌, true, length, replicate, slice_range, IsTrue, IsErr, IfOk, IfSome, OnOk, OnErr, IsOkUnless};
 ghost use Rattle.tmem_disk.specs.Disk.{IsCall, SameDevice, overwritten, ReadsAs, SameSeenOutside, Rewritten, LeavesOnly, LeavesEach, StillLeaves, IsSynced, Elapses};
 ghost use Rattle.tmem_disk.specs.Start.{IsNewDevice};
-ghost use Rattle.tmem_disk.specs.Power.{IsStopped, fill_of, running, arming, restarted, reading, writing, syncing, after, Fails};
-ghost use Rattle.tmem_disk.specs.Sim.{LeftBy, blank, written, synced_with, filled, stamped};
+ghost use Rattle.tmem_disk.specs.Power.{IsStopped, fill_of, running, arming, arming_failure, stopped_with, restarted, reading, writing, syncing, after, Fails};
+ghost use Rattle.tmem_disk.specs.Sim.{LeftBy, blank, written, touched, synced_with, filled, stamped};
 
 use crate::buffer::overwrite;
 use crate::failures::Failures;
@@ -12,8 +12,12 @@ use crate::power::{ArmedStop, Power};
 use crate::{DeviceFault, Disk, Fault, Fill};
 use std::alloc::Global;
 
-/// Bytes in memory. It keeps the disk model, and no call but `new` takes memory. A stop is a crash that can be armed for
-/// a chosen write: a call fails where the device stands at a stop, and a write also where it meets the stop that is armed.
+/// Bytes in memory. It keeps the disk model, and no call but `new` takes memory.
+///
+/// A stop is a crash, now or armed for a chosen write: that write and all later calls fail until `restart`. A failure is
+/// armed for a chosen call, which fails once, and the device runs on. A call fails in no other case. While the device
+/// runs, each call counts, also one that fails; while it stands at a stop, none does, so what is armed stays armed over
+/// `restart`. Where a write meets both, the stop wins, and the failure is spent.
 #[derive(Drop)]
 pub struct SimDisk {
     present: Vec<u8>,
@@ -30,7 +34,7 @@ pub struct SimDisk {
 impl SimDisk {
     ghost use Rattle.tmem_disk.specs.SimParts.{view_of, power_of, bytes_of};
 
-    /// A device of this many zeros, with nothing left to sync and no stop armed. `Memory` is its one refusal.
+    /// A device of this many zeros, with nothing left to sync and nothing armed. `Memory` is its one refusal.
     pub fn new(alloc: Global, size: u64) -> Result<SimDisk, Fault>
         ensures made { IfOk result (λ disk. IsNewDevice size (view_of disk)) }
         ensures bytes { IfOk result (λ disk. bytes_of disk ≡ blank size) }
@@ -45,10 +49,7 @@ impl SimDisk {
                 count: 0,
                 last: None,
             },
-            power: Power {
-                stopped: None,
-                armed: None,
-            },
+            power: Power::running(),
             past: PastMoments::Start,
         })
     }
@@ -64,6 +65,48 @@ impl SimDisk {
         self.power.armed = Some(ArmedStop::AtWrite(k, fill));
     }
 
+    /// Stops the device now: all calls fail until `restart`, at which the bytes written since the last successful sync
+    /// take the fill. At a stopped device the fill takes the place of the one that it was stopped with. A stop that is
+    /// armed stays armed.
+    pub fn stop_now(&mut self, fill: Fill)
+        ensures same { SameDevice (view_of self.old) (view_of self.new) }
+        ensures bytes { bytes_of self.new ≡ bytes_of self.old }
+        ensures power { power_of self.new ≡ stopped_with fill (power_of self.old) }
+    {
+        self.power.stopped = Some(fill);
+    }
+
+    /// Lets read number `k` from now fail, where 0 is the next. It takes the place of a read that was to fail before. At
+    /// a stopped device it counts from the restart.
+    pub fn fail_read(&mut self, k: u64)
+        ensures same { SameDevice (view_of self.old) (view_of self.new) }
+        ensures bytes { bytes_of self.new ≡ bytes_of self.old }
+        ensures power { power_of self.new ≡ arming_failure DeviceFault.Read k (power_of self.old) }
+    {
+        self.power.failing.read = Some(k);
+    }
+
+    /// Lets write number `k` from now fail, where 0 is the next: it changes no byte that a read gives, and its range
+    /// counts as written. It takes the place of a write that was to fail before. At a stopped device it counts from the
+    /// restart.
+    pub fn fail_write(&mut self, k: u64)
+        ensures same { SameDevice (view_of self.old) (view_of self.new) }
+        ensures bytes { bytes_of self.new ≡ bytes_of self.old }
+        ensures power { power_of self.new ≡ arming_failure DeviceFault.Write k (power_of self.old) }
+    {
+        self.power.failing.write = Some(k);
+    }
+
+    /// Lets sync number `k` from now fail, where 0 is the next: it syncs nothing. It takes the place of a sync that was
+    /// to fail before. At a stopped device it counts from the restart.
+    pub fn fail_sync(&mut self, k: u64)
+        ensures same { SameDevice (view_of self.old) (view_of self.new) }
+        ensures bytes { bytes_of self.new ≡ bytes_of self.old }
+        ensures power { power_of self.new ≡ arming_failure DeviceFault.Sync k (power_of self.old) }
+    {
+        self.power.failing.sync = Some(k);
+    }
+
     /// Whether it stands at a stop.
     pub fn is_stopped(&self) -> bool
         ensures { IsTrue result ↔ IsStopped (power_of self.now) }
@@ -72,7 +115,7 @@ impl SimDisk {
     }
 
     /// Starts a stopped device again. The bytes that the stop left are the synced ones then, and nothing counts as
-    /// written. What was armed meanwhile stays armed.
+    /// written. What is armed stays armed.
     pub fn restart(&mut self)
         requires { IsStopped (power_of self.old) }
         ensures left { (view_of self.old).may_leave (view_of self.new).seen }
@@ -99,9 +142,21 @@ impl SimDisk {
         ensures stop { LeavesEach (view_of self.new) (Rewritten from (length bytes.now) (view_of self.old)) }
         ensures time { Elapses (view_of self.old) (view_of self.new) (view_of self.new).may_leave }
     {
-        self.past = PastMoments::with(&self.past, &self.platter);
-        self.platter.mark(from, bytes.len());
+        self.touch(from, bytes.len());
         overwrite(&mut self.present, from, bytes);
+    }
+
+    // Marks a range as written, and changes no byte that a read gives.
+    fn touch(&mut self, from: usize, count: usize)
+        requires { from + count ≤ length self.old.present.items }
+        ensures bytes { bytes_of self.new ≡ touched from count (bytes_of self.old) }
+        ensures failures { self.new.failures ≡ self.old.failures }
+        ensures power { self.new.power ≡ self.old.power }
+        ensures stop { LeavesEach (view_of self.new) (Rewritten from count (view_of self.old)) }
+        ensures time { Elapses (view_of self.old) (view_of self.new) (view_of self.new).may_leave }
+    {
+        self.past = PastMoments::with(&self.past, &self.platter);
+        self.platter.mark(from, count);
     }
 
     // Makes the bytes that a read gives the synced ones, with no mark.
@@ -167,7 +222,7 @@ impl Disk for SimDisk {
         ensures power { power_of self.new ≡ after reading (power_of self.old) }
         ensures unchanged { bytes_of self.new ≡ bytes_of self.old }
     {
-        if self.power.is_stopped() {
+        if self.power.fails_at_read() {
             self.failures.note(DeviceFault::Read);
             return Err(DeviceFault::Read);
         }
@@ -193,8 +248,13 @@ impl Disk for SimDisk {
             self.failures.note(DeviceFault::Write);
             return Err(DeviceFault::Write);
         }
+        if self.power.only_fails_at_write(at) {
+            self.touch(at as usize, bytes.len());
+            self.failures.note(DeviceFault::Write);
+            return Err(DeviceFault::Write);
+        }
         self.store(at as usize, bytes);
-        if self.power.stops_at_write(at) {
+        if self.power.is_stopped() {
             self.failures.note(DeviceFault::Write);
             return Err(DeviceFault::Write);
         }
@@ -212,7 +272,7 @@ impl Disk for SimDisk {
         ensures power { power_of self.new ≡ after syncing (power_of self.old) }
         ensures synced { bytes_of self.new ≡ bytes_after_sync (power_of self.old) (bytes_of self.old) }
     {
-        if self.power.is_stopped() {
+        if self.power.fails_at_sync() {
             self.failures.note(DeviceFault::Sync);
             return Err(DeviceFault::Sync);
         }

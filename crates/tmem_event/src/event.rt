@@ -17,7 +17,7 @@ pub enum Event {
     /// Settles the slot's attempt once it has ended. Refused with `Closed`, `Conflict`, `Full`, `Spent`; the slot keeps
     /// it then.
     Settle { slot: u8 },
-    /// Makes the oldest accepted transaction that waits durable. Refused with `Closed`, `LogFull`, `Device`, `Unknown`.
+    /// Makes the oldest accepted transactions that wait durable, up to 64. Refused with `Closed`, `LogFull`, `Device`, `Unknown`.
     Flush,
     /// Asks how many accepted transactions are known durable. Refused with `Closed`.
     Look,

@@ -1,80 +1,70 @@
--- What a crash leaves of a journal's device, while a batch of one record is made durable.
-use Rattle.std.proofs.Common.{◌≡◌, ◌⊎◌, inl, inr, ⊎_elim, ℕ, ◌+◌, ◌≤◌, ◌<◌, ◌^◌, List, [], ◌∷◌, length, get_or, refl, sym, ◌∙◌, ap, subst, arith}
-use Rattle.std.specs.Prelude.{Err}
+-- What a crash leaves of a journal's device, while a batch is made durable; and what opening finds of it.
+use Rattle.std.proofs.Common.{◌≡◌, ◌⊎◌, inl, inr, ⊎_elim, ℕ, ◌+◌, ◌≤◌, ◌^◌, List, length, refl, sym, ap, subst}
+use Rattle.std.specs.Prelude.{Err, IsErrOf, ◌↔◌}
 use Rattle.std.proofs.Math.Logic.{∥∥₁_map, ∥∥₁_elim, ∥∥₁_prop}
 use Rattle.std.proofs.Props.{props}
 use Rattle.tmem_disk.specs.Disk.{DeviceView, LeavesOnly, AtEachMoment}
 use Rattle.tmem_disk.specs.declared.fault.Fault.{Fault}
-use Rattle.tmem_disk.specs.declared.fault.Fault.TheVariants.{Memory, Device, Unknown, NotFormatted, Damaged, Geometry}
-use Rattle.tmem_record.specs.State.{State, apply, fold, with_names}
-use Rattle.tmem_record.specs.declared.effect.Effect.{Effect}
-use Rattle.tmem_journal.specs.Stands.{HoldsState, StandsFor, StandsForEither}
-use Rattle.tmem_journal.specs.Calls.{Appended, BeforeOrAfter, Meanwhile, doubted}
+use Rattle.tmem_disk.specs.declared.fault.Fault.TheVariants.{Memory, Device, Unknown, LogFull, NotFormatted, Damaged, Geometry}
+use Rattle.tmem_record.specs.State.{State, fold}
 use Rattle.tmem_record.specs.Layout.{IsLayout}
+use Rattle.tmem_redolog.specs.Appends.{Placed, Without, With, Either, Appended, Meanwhile, IsAppendFault}
+use Rattle.tmem_redolog.specs.Slots.{MadeBy}
+use Rattle.tmem_journal.specs.Stands.{HoldsState, StandsFor, StandsForEither}
+use Rattle.tmem_journal.specs.Calls.{doubted}
 use Rattle.tmem_journal.specs.Refusals.{IsRefusedBy, IsWhy}
+use Rattle.tmem_journal.proofs.Logged.{state_without, state_with}
 use Rattle.tmem_journal.proofs.Unique.{one_state_at_most}
 use Rattle.tmem_journal.proofs.Refused.{none_where_refused}
-
--- a batch of one record adds one to the count
-pub count_one : (s : State) (es : List Effect) → length es ≡ 1 → (fold s es).count ≡ s.count + 1
-count_one s [] long = absurd (omega (arith, long))
-count_one s (e ∷ []) long = refl
-count_one s (e ∷ f ∷ es) long = absurd (omega (arith, long))
-
--- and has room for its names where the state after it has
-pub room_one : (s : State) (es : List Effect) (e : Effect) → es ≡ e ∷ [] → length (fold s es).names ≤ 64 → length (with_names s.names e.names) ≤ 64
-room_one s es e is room = subst (λ (l : List Effect). length (fold s l).names ≤ 64) is room
-
--- its one record
-pub the_one : (es : List Effect) (e : Effect) → length es ≡ 1 → e ≡ get_or es 0 e → es ≡ e ∷ []
-the_one [] e long is = absurd (omega (arith, long))
-the_one (f ∷ []) e long is = ap (λ (x : Effect). x ∷ []) (sym is)
-the_one (f ∷ g ∷ es) e long is = absurd (omega (arith, long))
-
--- what holds with its one record holds with it
-pub by_one : (P : List Effect → Type 0) (es : List Effect) → length es ≡ 1 → ((e : Effect) → es ≡ e ∷ [] → P (e ∷ [])) → P es
-by_one P [] long from = absurd (omega (arith, long))
-by_one P (e ∷ []) long from = from e refl
-by_one P (e ∷ f ∷ es) long from = absurd (omega (arith, long))
 
 -- a content that stands for one state stands for one of two
 pub sure_either : {vars slots used : ℕ} {s : State} (t : State) {d : DeviceView} → LeavesOnly d (StandsFor vars slots used s) → LeavesOnly d (StandsForEither vars slots s t)
 sure_either {used = used} t sure = record { each = λ k c left. ∥∥₁_map (sure.each k c left) (λ held. (used, inl held)) }
 
--- no slot is used, unless the one is
-pub sure_unused : {vars slots used : ℕ} {s : State} {d : DeviceView} → used ≤ 1 → (used ≡ 1 → ⊥) → LeavesOnly d (StandsFor vars slots used s) → LeavesOnly d (StandsFor vars slots 0 s)
-sure_unused {vars = vars} {slots = slots} {used = used} {s = s} {d = d} few other sure =
-    let none : used ≡ 0 = omega (arith, few, other) in
-    subst (λ (u : ℕ). LeavesOnly d (StandsFor vars slots u s)) none sure
+-- where a slot is left, no append answers that none is
+pub full_is_not : (f : Fault) (used slots : ℕ) → (used ≡ slots → ⊥) → IsErrOf {T = Unit {0}} (Err f) LogFull ↔ (used ≡ slots) → f ≡ LogFull → ⊥
+full_is_not f used slots other full is = other (full.0 (ap (λ (e : Fault). Err e) is))
 
-module _ {old new : DeviceView} {vars slots : ℕ} (s : State) (e : Effect) where
+-- a batch that goes into the first slot behind the log, where every crash left this state before
+module _ (old new : DeviceView) (p : Placed) (generation : p.generation ≡ 1) (s : State) (count : s.count ≡ p.first) (room : length (fold s p.batch).names ≤ 64)
+    (model : new.keeps_model → old.keeps_model) (sure : LeavesOnly old (StandsFor p.vars p.slots p.slot s)) where
+  without : old.keeps_model → (c : List ℕ) → MadeBy (Without p) old c → StandsFor p.vars p.slots p.slot s c
+  without k c from = ∥∥₁_map (sure.each k from.0 from.1) (λ held. state_without p generation s count room from.0 c held from.2)
+
+  with : old.keeps_model → (c : List ℕ) → MadeBy (With p) old c → StandsFor p.vars p.slots (p.slot + 1) (fold s p.batch) c
+  with k c from = ∥∥₁_map (sure.each k from.0 from.1) (λ held. state_with p generation s count room from.0 c held from.2)
+
+  either : old.keeps_model → (t : State) → t ≡ fold s p.batch → (c : List ℕ) → MadeBy (Either p) old c → StandsForEither p.vars p.slots s t c
+  either k t is c from = ∥∥₁_map (sure.each k from.0 from.1) (λ held. ⊎_elim
+      (λ no. (p.slot, inl (state_without p generation s count room from.0 c held no)))
+      (λ yes. (p.slot + 1, inr (subst (λ (x : State). HoldsState p.vars p.slots (p.slot + 1) x c) (sym is) (state_with p generation s count room from.0 c held yes)))) from.2)
+
   -- once it is durable
-  pub moments_ok : (t s' t' : State) → s' ≡ apply s e → AtEachMoment old new (BeforeOrAfter vars slots s e) → AtEachMoment old new (λ c. ∥ StandsForEither vars slots s t c ⊎ StandsForEither vars slots s' t' c ∥₁)
-  moments_ok t s' t' is during = record {
-    each = λ k c left. ∥∥₁_map (during.each k c left) (λ either. ⊎_elim
-        (λ (held : HoldsState vars slots 0 s c). inl ∣ (0, inl held) ∣₁)
-        (λ (held : HoldsState vars slots 1 (apply s e) c). inr ∣ (1, inl (subst (λ (x : State). HoldsState vars slots 1 x c) (sym is) held)) ∣₁) either);
-  }
+  pub sure_ok : (t : State) → t ≡ fold s p.batch → LeavesOnly new (MadeBy (With p) old) → LeavesOnly new (StandsFor p.vars p.slots (p.slot + 1) t)
+  sure_ok t is left = record { each = λ k c may. subst (λ (x : State). StandsFor p.vars p.slots (p.slot + 1) x c) (sym is) (with (model k) c (left.each k c may)) }
 
   -- where the flush failed
-  pub moments_err : (t t' : State) (f : Fault) → (f ≡ Device) ⊎ (f ≡ Unknown) → t' ≡ fold s (doubted f (e ∷ [])) → AtEachMoment old new (Meanwhile vars slots s e (Err f)) → AtEachMoment old new (λ c. ∥ StandsForEither vars slots s t c ⊎ StandsForEither vars slots s t' c ∥₁)
-  moments_err t t' Device which is during = record { each = λ k c left. ∥∥₁_map (during.each k c left) (λ held. inl ∣ (0, inl held) ∣₁) }
-  moments_err t t' Unknown which is during = record {
-    each = λ k c left. ∥∥₁_map (during.each k c left) (λ either. ⊎_elim
-        (λ (held : HoldsState vars slots 0 s c). inl ∣ (0, inl held) ∣₁)
-        (λ (held : HoldsState vars slots 1 (apply s e) c). inr ∣ (1, inr (subst (λ (x : State). HoldsState vars slots 1 x c) (sym is) held)) ∣₁) either);
-  }
-  moments_err t t' _ which is during = absurd (⊎_elim (λ a. cc) (λ b. cc) which)
+  pub sure_err : (t : State) (f : Fault) → IsAppendFault f → (f ≡ LogFull → ⊥) → t ≡ fold s (doubted f p.batch) → Appended p old new (Err f) → LeavesOnly new (StandsForEither p.vars p.slots s t)
+  sure_err t LogFull which other is left = absurd (other refl)
+  sure_err t Device which other is left = record { each = λ k c may. ∥∥₁_map (without (model k) c (left.each k c may)) (λ held. (p.slot, inl held)) }
+  sure_err t Unknown which other is left = record { each = λ k c may. either (model k) t is c (left.each k c may) }
+  sure_err t _ which other is left = absurd left
 
--- what a flush that failed leaves
-pub sure_err : {new : DeviceView} {vars slots : ℕ} (s : State) (e : Effect) (t' : State) (f : Fault) → (f ≡ Device) ⊎ (f ≡ Unknown) → t' ≡ fold s (doubted f (e ∷ [])) → Appended vars slots s e new (Err f) → LeavesOnly new (StandsForEither vars slots s t')
-sure_err s e t' Device which is left = sure_either t' left
-sure_err {vars = vars} {slots = slots} s e t' Unknown which is left = record {
-  each = λ k c may. ∥∥₁_map (left.each k c may) (λ either. ⊎_elim
-      (λ held. (0, inl held))
-      (λ held. (1, inr (subst (λ (x : State). HoldsState vars slots 1 x c) (sym is) held))) either);
-}
-sure_err s e t' _ which is left = absurd (⊎_elim (λ a. cc) (λ b. cc) which)
+  -- while it is made durable
+  pub moments_ok : (t t' t'' : State) → t ≡ fold s p.batch → AtEachMoment old new (MadeBy (Either p) old) → AtEachMoment old new (λ c. ∥ StandsForEither p.vars p.slots s t' c ⊎ StandsForEither p.vars p.slots t t'' c ∥₁)
+  moments_ok t t' t'' is during = record {
+    each = λ k c left.
+        let from = during.each k c left in
+        ∥∥₁_map (sure.each (model k) from.0 from.1) (λ held. ⊎_elim
+        (λ no. inl ∣ (p.slot, inl (state_without p generation s count room from.0 c held no)) ∣₁)
+        (λ yes. inr ∣ (p.slot + 1, inl (subst (λ (x : State). HoldsState p.vars p.slots (p.slot + 1) x c) (sym is) (state_with p generation s count room from.0 c held yes))) ∣₁) from.2);
+  }
+
+  pub moments_err : (t t' : State) (f : Fault) → IsAppendFault f → (f ≡ LogFull → ⊥) → t ≡ fold s (doubted f p.batch) → AtEachMoment old new (Meanwhile p old (Err f)) → AtEachMoment old new (λ c. ∥ StandsForEither p.vars p.slots s t' c ⊎ StandsForEither p.vars p.slots s t c ∥₁)
+  moments_err t t' LogFull which other is during = absurd (other refl)
+  moments_err t t' Device which other is during = record { each = λ k c left. ∣ inr (∥∥₁_map (without (model k) c (during.each k c left)) (λ held. (p.slot, inl held))) ∣₁ }
+  moments_err t t' Unknown which other is during = record { each = λ k c left. ∣ inr (either (model k) t is c (during.each k c left)) ∣₁ }
+  moments_err t t' _ which other is during = absurd (⊎_elim (λ a. cc) (λ b. ⊎_elim (λ x. cc) (λ y. cc) b) which)
 
 -- where every crash left one of two states, and a content stands for a state, it is one of them
 module _ (vars slots : ℕ) (few : vars ≤ 2 ^ 16) where

@@ -1,5 +1,5 @@
 -- The formatted content: how it is written, and what it stands for.
-use Rattle.std.proofs.Common.{◌≡◌, ◌<◌, ◌≤◌, ◌+◌, ◌*◌, ◌-◌, ℕ, zero, suc, pos, Option, Some, List, [], ◌++◌, length, take, drop, replicate, flat_map, refl, sym, ◌∙◌, ap, subst, arith, append_assoc, length-append, rules}
+use Rattle.std.proofs.Common.{◌≡◌, inl, ◌<◌, ◌≤◌, ◌+◌, ◌*◌, ◌-◌, ℕ, zero, suc, pos, Option, Some, List, [], ◌++◌, length, take, drop, replicate, flat_map, refl, sym, ◌∙◌, ap, subst, arith, append_assoc, length-append, rules}
 use Rattle.std.specs.Prelude.{slice_get, FitsSigned, Result, Ok, Err, OnOk}
 use Rattle.std.specs.Int.{w64}
 use Rattle.std.proofs.lemmas.List.{take_at, drop_at, drop-drop, length-replicate, replicate-append-replicate}
@@ -7,16 +7,18 @@ use Rattle.std.proofs.lemmas.List.Elements.{All-replicate}
 use Rattle.byteorder.specs.Endian.{little_bytes}
 use Rattle.tmem_disk.specs.Disk.{DeviceView, LeavesOnly, IsSynced, ReadsAs, SameOutside, overwritten}
 use Rattle.tmem_gate.specs.Gate.{IsClosed, IsOpenOver}
+use Rattle.tmem_gate.proofs.Laws.{closed_before}
 use Rattle.tmem_record.specs.State.{first_state}
 use Rattle.tmem_record.specs.Spelling.{number_bytes, value_bytes, names_bytes}
 use Rattle.tmem_record.specs.Layout.{IsLayout, pages_of, image_place, slot_place, end_place}
+use Rattle.tmem_redolog.specs.Log.{HoldsLog}
+use Rattle.tmem_redolog.proofs.Laws.{no_batches}
 use Rattle.tmem_journal.specs.ImageSpelling.{block_body, names_body, pages_body, image_body, IsImage}
 use Rattle.tmem_journal.specs.Formatted.{open_cell, formatted}
 use Rattle.tmem_journal.specs.Stands.{HoldsState, StandsFor}
-use Rattle.tmem_journal.proofs.SlotRanges.{slice_get-take, slice_get-drop, slice_get-replicate, get_before}
+use Rattle.tmem_journal.proofs.SlotRanges.{slice_get-take, slice_get-drop, slice_get-replicate}
 use Rattle.tmem_journal.proofs.Lengths.{length-little_bytes, length-block_body, length-image_body}
 use Rattle.tmem_journal.proofs.Overwriting.{two_parts}
-use Rattle.tmem_journal.proofs.AppendedRecords.{stands_unused, closed_along}
 use Rattle.tmem_journal.proofs.Recovering.{leaves_seen}
 use Rattle.tmem_record.proofs.Laws.{AreRegistered-nil}
 
@@ -121,15 +123,24 @@ module _ (vars slots : ℕ) (rest : List ℕ) where
       let front : length (first_cell ++ second_cell) ≡ image_place vars 1 = omega (arith, first_long, second_long, length-append first_cell second_cell) in
       subst (λ (l : List ℕ). IsClosed i l) (append_assoc first_cell second_cell (replicate blank 0 ++ rest)) (closed_at (first_cell ++ second_cell) rest blank i (omega (arith, front)) (omega (arith, front)))
 
+  -- each slot is closed, so the log is empty
+  first_log : HoldsLog vars slots 1 (first_state vars) [] content
+  first_log = no_batches vars slots 1 (first_state vars) content (omega arith) (record { count = omega arith; names = omega arith }) (λ k below. inl (closed_behind (slot_place vars k) (omega arith) (omega (arith, below))))
+
   pub formatted_stands : IsLayout vars slots → HoldsState vars slots 0 (first_state vars) (formatted vars slots ++ rest)
-  formatted_stands layout = subst (λ (l : List ℕ). HoldsState vars slots 0 (first_state vars) l) (sym content_is) (stands_unused (record {
-    block = cell_at [] (block_body vars slots) (second_cell ++ (replicate blank 0 ++ rest)) 0 refl;
-    copy_0 = cell_at first_cell (image_body vars 1 (first_state vars)) (replicate blank 0 ++ rest) (image_place vars 0) (first_long ∙ omega arith);
-    fits = first_fits vars;
-    copy_1 = closed_behind (image_place vars 1) (omega arith) (omega (arith, layout.some_slots));
-    slot_0 = closed_behind (slot_place vars 0) (omega arith) (omega (arith, layout.some_slots));
-    behind = λ k one below. closed_behind (slot_place vars k) (omega arith) (omega (arith, below));
-  }))
+  formatted_stands layout = subst (λ (l : List ℕ). HoldsState vars slots 0 (first_state vars) l) (sym content_is) (record {
+    image = first_state vars;
+    batches = [];
+    holds = record {
+      block = cell_at [] (block_body vars slots) (second_cell ++ (replicate blank 0 ++ rest)) 0 refl;
+      copy_0 = cell_at first_cell (image_body vars 1 (first_state vars)) (replicate blank 0 ++ rest) (image_place vars 0) (first_long ∙ omega arith);
+      fits = first_fits vars;
+      copy_1 = closed_behind (image_place vars 1) (omega arith) (omega (arith, layout.some_slots));
+      log = first_log;
+    };
+    is_used = refl;
+    is_state = refl;
+  })
 
 -- it is the two cells that are put, and zeros
 formatted_is : (vars slots : ℕ) → 1 ≤ slots → (rest : List ℕ) → formatted vars slots ++ rest ≡ open_cell (block_body vars slots) ++ (open_cell (little_bytes 8 1) ++ (replicate (end_place vars slots - (512 + 9)) 0 ++ rest))
@@ -172,4 +183,4 @@ on_ok_2 f (Err e) a b = tt
 pub block_closed : (e at n : ℕ) (rest zeroed with_image : List ℕ) → 1 ≤ e → 1 ≤ at → zeroed ≡ replicate e 0 ++ rest → SameOutside at n zeroed with_image → IsClosed 0 with_image
 block_closed e at n rest zeroed with_image some behind zeros same =
     let closed = subst (λ (l : List ℕ). IsClosed 0 l) (sym zeros) (closed_at [] rest e 0 (omega arith) (omega arith)) in
-    closed_along (get_before same 0 (omega arith)) closed
+    closed_before at n 0 zeroed with_image same (omega (arith, behind)) closed

@@ -1,5 +1,5 @@
 -- What is read of a content in one piece.
-use Rattle.std.proofs.Common.{◌≡◌, ◌<◌, ◌≤◌, ◌+◌, ◌*◌, ◌-◌, ℕ, Option, Some, None, List, length, take, drop, sym, ◌∙◌, ap, subst, arith}
+use Rattle.std.proofs.Common.{◌≡◌, ◌<◌, ◌≤◌, ◌+◌, ◌-◌, ℕ, Option, Some, None, List, length, take, drop, sym, ◌∙◌, ap, subst, arith}
 use Rattle.std.specs.Prelude.{slice_get, slice_range, Result, IfOk, IfSome}
 use Rattle.std.specs.Option.{ok_or}
 use Rattle.std.proofs.lemmas.List.{drop-take, take-take, drop-drop}
@@ -7,9 +7,9 @@ use Rattle.tmem_disk.specs.declared.fault.Fault.{Fault}
 use Rattle.tmem_disk.specs.declared.fault.Fault.TheVariants.{Damaged}
 use Rattle.tmem_gate.specs.Gate.{IsOpenAt, IsClosed}
 use Rattle.tmem_record.specs.State.{State}
-use Rattle.tmem_record.specs.Layout.{image_size, image_place, slot_place}
+use Rattle.tmem_record.specs.Layout.{image_size, image_place}
 use Rattle.tmem_journal.specs.ImageSpelling.{image_body, IsImage}
-use Rattle.tmem_journal.specs.Parts.{HoldsImage, ClosedBehind}
+use Rattle.tmem_journal.specs.Parts.{HoldsImage}
 use Rattle.tmem_journal.proofs.Lengths.{length-image_body}
 use Rattle.tmem_journal.proofs.SlotRanges.{slice_get-take, slice_get-drop}
 use Rattle.tmem_journal.proofs.Standing.{between_is}
@@ -59,23 +59,6 @@ module _ (vars at size : ℕ) (c bytes : List ℕ) (place : at ≡ image_place v
         fits = fits;
         copy_1 = gate_closed c bytes at (size + 1) read size (image_place vars 1) (omega (arith, place, long)) (omega arith) (record { not_open = shut });
       }
-
--- the log, with the gate of each slot
-module _ (vars slots at : ℕ) (c log : List ℕ) (some : 1 ≤ slots) (place : at ≡ slot_place vars 0) (read : log ≡ slice_range c at (at + 4096 * slots)) where
-  pub all_closed : ((k : ℕ) → 1 ≤ k → k < slots → IsClosed (4096 * k) log) → ClosedBehind vars slots c
-  all_closed closed = record { behind = λ k one below. gate_closed c log at (4096 * slots) read (4096 * k) (slot_place vars k) (omega (arith, place)) (omega (arith, below)) (closed k one below) }
-
-  pub each_closed : ClosedBehind vars slots c → (k : ℕ) → 1 ≤ k → k < slots → IsClosed (4096 * k) log
-  each_closed closed k one below = gate_stays_closed c log at (4096 * slots) read (4096 * k) (slot_place vars k) (omega (arith, place)) (omega (arith, below)) (closed.behind k one below)
-
-  pub first_open : IsOpenAt 0 log → IsOpenAt (slot_place vars 0) c
-  first_open = gate_open c log at (4096 * slots) read 0 (slot_place vars 0) (omega (arith, place)) (omega (arith, some))
-
-  pub first_closed : (IsOpenAt 0 log → ⊥) → IsClosed (slot_place vars 0) c
-  first_closed shut = gate_closed c log at (4096 * slots) read 0 (slot_place vars 0) (omega (arith, place)) (omega (arith, some)) (record { not_open = shut })
-
-  pub slot_read : take 4095 (drop 1 log) ≡ slice_range c (at + 1) (at + 1 + 4095)
-  slot_read = part_read c log at (4096 * slots) read 1 4095 (omega (arith, some))
 
 -- something read meets what is asked of it
 pub some_for : {X : Type 0} (R S : X → Type 0) → (o : Option X) (r : Result X Fault) → r ≡ ok_or o Damaged → IfSome o R → IfSome o S → (T : X → Type 0) → ((x : X) → R x → S x → T x) → IfOk r T

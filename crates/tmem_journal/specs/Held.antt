@@ -30,7 +30,7 @@ doubtful_of j = fold j.state (effects_in j.doubt)
 
 -- how many log slots are used
 abbrev pub used_slots_of : {D : Type 0} {d : _} → Journal D d → ℕ
-used_slots_of j = j.used
+used_slots_of j = j.log.used
 
 -- whether a failure closed it
 abbrev pub is_closed_of : {D : Type 0} {d : _} → Journal D d → Bool

@@ -7,10 +7,9 @@ use Rattle.tmem_disk.specs.declared.fault.Fault.TheVariants as fault
 use Rattle.tmem_record.specs.State.{State, fold}
 use Rattle.tmem_record.specs.declared.effect.Effect.{Effect}
 use Rattle.tmem_journal.specs.Calls.{FitsOn}
-use Rattle.tmem_journal.specs.Held.{device_of, state_of, doubtful_of, used_slots_of, is_closed_of}
+use Rattle.tmem_journal.specs.Held.{device_of, layout_of, state_of, doubtful_of, used_slots_of, is_closed_of}
 use Rattle.tmem_journal.specs.Refusals.{IsWhy, IsRefusedBy}
 use Rattle.tmem_journal.specs.declared.journal.Journal.{Journal}
-use Rattle.tmem_journal.specs.declared.journal.TheConstants.{LOG_SLOTS}
 
 -- s is known durable, and t may be in its place; how many log slots are used; whether it is closed
 pub record IsAt {D : Type 0} {d : _} (j : Journal D d) (s t : State) (used : ℕ) (shut : Bool) : Type 0 where
@@ -22,7 +21,7 @@ pub record IsAt {D : Type 0} {d : _} (j : Journal D d) (s t : State) (used : ℕ
 -- it is open, and a log slot is left
 pub record HasSlot {D : Type 0} {d : _} (j : Journal D d) : Type 0 where
   pub running : is_closed_of j ≡ false
-  pub left : used_slots_of j < LOG_SLOTS
+  pub left : used_slots_of j < (layout_of j).slots
 
 -- What a flush of these effects did. At Device the last call that failed was a write.
 abbrev pub Flushes : {D : Type 0} {d : _} → Journal D d → List Effect → Result ℕ Fault → Journal D d → Type 0
@@ -30,7 +29,7 @@ Flushes old es (Ok n) new = HasSlot old × (n ≡ (fold (state_of old) es).count
 Flushes old es (Err fault.Device) new = HasSlot old × ((device_of new).last_fault ≡ Some Write) × IsAt new (state_of old) (state_of old) (used_slots_of old) true
 Flushes old es (Err fault.Unknown) new = HasSlot old × IsAt new (state_of old) (fold (state_of old) es) (used_slots_of old) true
 Flushes old es (Err fault.Closed) new = (is_closed_of old ≡ true) × (new ≡ old)
-Flushes old es (Err fault.LogFull) new = (is_closed_of old ≡ false) × (used_slots_of old ≡ LOG_SLOTS) × (new ≡ old)
+Flushes old es (Err fault.LogFull) new = (is_closed_of old ≡ false) × (used_slots_of old ≡ (layout_of old).slots) × (new ≡ old)
 Flushes old es (Err _) new = ⊥
 
 -- one of two states is found, or memory or the device failed

@@ -3,6 +3,7 @@ pub mod Held
 pub mod Journals
 pub mod Formatted
 pub mod Laws
+pub mod Mended
 pub mod Parts
 pub mod StandsAt
 pub mod Refusals

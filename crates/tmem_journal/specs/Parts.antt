@@ -1,14 +1,12 @@
 -- The parts of a content, as they are found one after another.
-use Rattle.std.specs.Prelude.{◌≡◌, ◌<◌, ◌≤◌, ℕ, List, Option, codes}
+use Rattle.std.specs.Prelude.{◌≡◌, ℕ, List, codes}
 use Rattle.tmem_disk.specs.declared.fault.Fault.{Fault}
 use Rattle.tmem_disk.specs.declared.fault.Fault.TheVariants.{Memory, Device, NotFormatted, Damaged, Geometry}
 use Rattle.tmem_gate.specs.Gate.{IsClosed, IsOpenOver}
 use Rattle.tmem_record.specs.State.{State}
-use Rattle.tmem_record.specs.declared.effect.Effect.{Effect}
 use Rattle.tmem_record.specs.Prefix.{IsPrefix}
-use Rattle.tmem_record.specs.Layout.{IsLayout, image_place, slot_place}
+use Rattle.tmem_record.specs.Layout.{IsLayout, image_place}
 use Rattle.tmem_journal.specs.ImageSpelling.{block_body, image_body, IsImage}
-use Rattle.tmem_journal.specs.Stands.{HoldsLog}
 use Rattle.tmem_journal.specs.Refusals.{HasMagic, IsOfOthers}
 
 -- these bytes are those of a block 0 of other numbers
@@ -45,12 +43,3 @@ pub record HoldsImage (vars : ℕ) (s : State) (c : List ℕ) : Type 0 where
   pub copy_0 : IsOpenOver (image_place vars 0) (image_body vars 1 s) c
   pub fits : IsImage vars s
   pub copy_1 : IsClosed (image_place vars 1) c
-
--- no slot behind slot 0 is open
-pub record ClosedBehind (vars slots : ℕ) (c : List ℕ) : Type 0 where
-  pub behind : (k : ℕ) → 1 ≤ k → k < slots → IsClosed (slot_place vars k) c
-
--- slot 0 has this log over that image, and no other slot is open
-pub record HoldsSlots (vars slots : ℕ) (image : State) (log : Option Effect) (c : List ℕ) : Type 0 where
-  pub slot_0 : HoldsLog vars image log c
-  pub closed : ClosedBehind vars slots c

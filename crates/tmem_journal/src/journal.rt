@@ -1,26 +1,24 @@
 // The journal: a device, and the state that it stands for.
-ghost use Rattle.std.specs.Prelude.{◌≡◌, ◌≤◌, ◌<◌, ◌+◌, ◌^◌, ◌⊎◌, [], false, length, All, IfOk, IfErr, IfSome, IsErrOf};
+ghost use Rattle.std.specs.Prelude.{◌≡◌, ◌≢◌, ◌≤◌, ◌<◌, ◌+◌, ◌*◌, ◌^◌, ◌⊎◌, ℕ, [], false, length, All, IfOk, IfErr, IfSome, IsErrOf};
 ghost use Rattle.tmem_disk.specs.Disk.{LeavesOnly, AtEachMoment, SameSeenOutside, IsWriteOrSync};
-ghost use Rattle.tmem_gate.specs.Gate.{HasBody};
+ghost use Rattle.tmem_gate.specs.Calls.{Uses, LooksOnly, WritesWithin};
+ghost use Rattle.tmem_gate.specs.Gate.{HasBody, StandsClosed};
 ghost use Rattle.tmem_record.specs.State.{State as StateOf, fold};
-ghost use Rattle.tmem_record.specs.Loggable.{IsLoggable};
 ghost use Rattle.tmem_record.specs.Spelling.{batch_bytes};
 ghost use Rattle.tmem_record.specs.declared.codec.TheConstants.{BATCH_ROOM};
 ghost use Rattle.tmem_record.specs.Layout.{slot_place, end_place};
 ghost use Rattle.tmem_journal.specs.Stands.{StandsFor, StandsForEither};
-ghost use Rattle.tmem_gate.specs.Calls.{Uses, LooksOnly, WritesWithin};
+ghost use Rattle.tmem_journal.specs.Mended.{Mends, MendedBy, ClosedFrom};
 ghost use Rattle.tmem_journal.specs.Calls.{FitsOn, effects_in, doubted, fault_alone};
 
-use crate::appending::append;
+use crate::accepting::accept_all;
 use crate::buffer::Buffer;
 use crate::recovery::recover;
 use std::alloc::Global;
 use std::snapshot::Snapshot;
 use tmem_disk::{Disk, Fault};
 use tmem_record::{Batch, Layout, State};
-
-/// How many log slots are used at the most: the log holds one record.
-pub const LOG_SLOTS: u16 = 1;
+use tmem_redolog::{Log, append};
 
 /// A device, and the state that it stands for: the accepted transactions that are durable. Once a call of the device has
 /// failed in `flush` it is closed, and writes nothing more.
@@ -29,8 +27,8 @@ pub struct Journal<D: Disk> {
     disk: D,
     layout: Layout,
     state: State,
-    // how many log slots are used
-    used: u16,
+    // where the next batch goes
+    log: Log,
     is_closed: bool,
     buffer: Buffer,
 
@@ -43,8 +41,11 @@ pub struct Journal<D: Disk> {
     /// The state has a value for each variable.
     pub ghost sized: { length state.values ≡ layout.vars },
 
-    /// The log holds one record at the most.
-    pub ghost few: { used ≤ 1 },
+    /// The log is over an image of generation 1.
+    pub ghost generation: { log.generation ≡ 1 },
+
+    /// No more log slots are used than there are.
+    pub ghost few: { log.used ≤ layout.slots },
 
     /// While it is open, no outcome is unknown.
     pub ghost certain: { is_closed ≡ false → effects_in doubt ≡ [] },
@@ -53,7 +54,10 @@ pub struct Journal<D: Disk> {
     pub ghost stands: { LeavesOnly (D.view disk) (StandsForEither layout.vars layout.slots state (fold state (effects_in doubt))) },
 
     /// While it is open, one that stands for this state, with these slots used.
-    pub ghost sure: { is_closed ≡ false → LeavesOnly (D.view disk) (StandsFor layout.vars layout.slots used state) },
+    pub ghost sure: { is_closed ≡ false → LeavesOnly (D.view disk) (StandsFor layout.vars layout.slots log.used state) },
+
+    /// While it is open, each slot behind the log stands closed.
+    pub ghost ahead: { is_closed ≡ false → (k : ℕ) → log.used ≤ k → k < layout.slots → StandsClosed (slot_place layout.vars k) (D.view disk) },
 }
 
 impl<D: Disk> Journal<D> {
@@ -63,11 +67,10 @@ impl<D: Disk> Journal<D> {
     /// Recovers the state that a device of these numbers stands for. Refused by `Geometry` where the numbers are out of
     /// limits, the device is smaller than their layout, or it was formatted for others; by `NotFormatted` where block 0 is
     /// closed or lacks its magic; else by `Damaged` where its content stands for no state; by `Memory`; by `Device` where a
-    /// call of the device fails. The device is handed back with the refusal. Nothing is written.
+    /// call of the device fails. The device is handed back with the refusal. Gates that read open behind the log are closed,
+    /// and nothing else is written.
     pub fn open(alloc: Global, mut disk: D, vars: u16, slots: u16) -> Result<Journal<D>, (Fault, D)>
         ensures uses { Uses (D.view disk) (device_after result) (fault_alone result) }
-        ensures looks { LooksOnly (D.view disk) (device_after result) }
-        ensures any_moment { AtEachMoment (D.view disk) (device_after result) (D.view disk).may_leave }
         ensures fits { IfOk result (λ j. ((layout_of j).vars ≡ vars) × ((layout_of j).slots ≡ slots) × FitsOn vars slots (D.view disk).capacity) }
         ensures fresh { IfOk result (λ j. (is_closed_of j ≡ false) × (doubtful_of j ≡ state_of j)) }
         ensures found { IfOk result (λ j. (device_of j).keeps_model → StandsFor vars slots (used_slots_of j) (state_of j) (D.view disk).seen) }
@@ -75,6 +78,18 @@ impl<D: Disk> Journal<D> {
 
         // Where the numbers do not fit the device, no call of it is made: the one that was handed in is handed back.
         ensures untouched { ¬ FitsOn vars slots (D.view disk).capacity → IfErr result (λ e. e.1 ≡ disk) }
+
+        // A crash at any moment leaves what one might have left before, but for gates behind the log that are closed in it.
+        ensures any_moment { AtEachMoment (D.view disk) (device_after result) (MendedBy vars slots (D.view disk)) }
+        ensures seen { (device_after result).keeps_model → Mends vars slots (D.view disk).seen (device_after result).seen }
+        ensures elsewhere { WritesWithin (slot_place vars 0) (4096 * slots) (D.view disk) (device_after result) }
+
+        // Nothing is written where these gates read closed, nor where the content stands for no state, nor before a refusal
+        // other than `Device`.
+        ensures looks { (used : ℕ) (s : StateOf) → StandsFor vars slots used s (D.view disk).seen → ClosedFrom vars slots used (D.view disk).seen
+            → LooksOnly (D.view disk) (device_after result) }
+        ensures damaged_looks { ((used : ℕ) (s : StateOf) → ¬ StandsFor vars slots used s (D.view disk).seen) → LooksOnly (D.view disk) (device_after result) }
+        ensures refused_looks { IfErr result (λ e. e.0 ≢ Fault.Device → LooksOnly (D.view disk) (D.view e.1)) }
 
         // Where every crash left one of two states, that one is found, unless memory or the device fails.
         ensures either { (s t : StateOf) → FitsOn vars slots (D.view disk).capacity → LeavesOnly (D.view disk) (StandsForEither vars slots s t)
@@ -96,7 +111,7 @@ impl<D: Disk> Journal<D> {
                 disk,
                 layout,
                 state: found.state,
-                used: found.used,
+                log: found.log,
                 is_closed: false,
                 buffer,
                 doubt: None,
@@ -141,27 +156,28 @@ impl<D: Disk> Journal<D> {
         disk
     }
 
-    /// Makes a batch of one record durable, and answers how many transactions are durable then. Refused by `Closed` once
-    /// a call of the device has failed; by `LogFull` where the log has its one record; by `Device` where the write of the
-    /// batch failed: no crash leaves it; and by `Unknown` where a sync or the write of a gate failed: a crash leaves it or
-    /// not. After these two the journal is closed.
+    /// Makes a batch durable, and answers how many transactions are durable then. The batch is not empty, its effects are
+    /// over the journal's variables, and the state after them is within the limits of counts and names. Refused by `Closed`
+    /// once a call of the device has failed; by `LogFull` where every log slot is used; by `Device` where the write of the
+    /// batch failed: no crash leaves any of it; and by `Unknown` where a sync or the write of a gate failed: a crash leaves
+    /// the whole batch or none of it. After these two the journal is closed.
     pub fn flush(&mut self, batch: &Batch) -> Result<u64, Fault>
-        requires one { length batch.now ≡ 1 }
-        requires loggable { All (IsLoggable (layout_of self.old).vars) batch.now }
+        requires some { 1 ≤ length batch.now }
+        requires within { All (λ e. All (λ w. w.0 < (layout_of self.old).vars) e.writes) batch.now }
         requires countable { (fold (state_of self.old) batch.now).count < 2 ^ 64 }
         requires room { length (fold (state_of self.old) batch.now).names ≤ 64 }
         ensures uses { Uses (device_of self.old) (device_of self.new) result }
         ensures layout { layout_of self.new ≡ layout_of self.old }
         ensures flushed { Flushes self.old batch.now result self.new }
 
-        // Nothing outside slot 0 changes. At `Device` its gate was not written. At `Unknown` a write or a sync failed, and
-        // the bytes of the batch were written before.
-        ensures elsewhere { WritesWithin (slot_place (layout_of self.old).vars 0) 4096 (device_of self.old) (device_of self.new) }
+        // Nothing outside the first slot behind the log changes. At `Device` its gate was not written. At `Unknown` a write
+        // or a sync failed, and the bytes of the batch were written before.
+        ensures elsewhere { WritesWithin (slot_place (layout_of self.old).vars (used_slots_of self.old)) 4096 (device_of self.old) (device_of self.new) }
         ensures gate_untouched { IsErrOf result Fault.Device →
-            SameSeenOutside (slot_place (layout_of self.old).vars 0 + 1) BATCH_ROOM (device_of self.old) (device_of self.new) }
+            SameSeenOutside (slot_place (layout_of self.old).vars (used_slots_of self.old) + 1) BATCH_ROOM (device_of self.old) (device_of self.new) }
         ensures gate_failed { IsErrOf result Fault.Unknown → IfSome (device_of self.new).last_fault IsWriteOrSync }
         ensures body_written { IsErrOf result Fault.Unknown → (device_of self.new).keeps_model →
-            HasBody (slot_place (layout_of self.old).vars 0) (batch_bytes 1 (state_of self.old).count batch.now) (device_of self.new).seen }
+            HasBody (slot_place (layout_of self.old).vars (used_slots_of self.old)) (batch_bytes 1 (state_of self.old).count batch.now) (device_of self.new).seen }
 
         // A crash at any moment of the call leaves what the journal before it allows, or the one after it.
         ensures any_moment { AtEachMoment (device_of self.old) (device_of self.new) (λ c. ∥ MayBe self.old c ⊎ MayBe self.new c ∥₁) }
@@ -169,21 +185,22 @@ impl<D: Disk> Journal<D> {
         if self.is_closed {
             return Err(Fault::Closed);
         }
-        if self.used == LOG_SLOTS {
+        if self.log.used == self.layout.slots {
             return Err(Fault::LogFull);
         }
+        let effects = batch.effects();
         let first = self.state.count();
         match append(
             &mut self.disk,
             self.layout,
+            &mut self.log,
             first,
             batch,
             &mut self.buffer.bytes,
         ) {
             Ok(()) => {
-                self.state.accept(&batch.effects()[0]);
-                self.used = LOG_SLOTS;
-                Ok(first + 1)
+                accept_all(&mut self.state, effects);
+                Ok(self.state.count())
             }
             Err(fault) => {
                 self.is_closed = true;

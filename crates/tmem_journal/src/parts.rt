@@ -1,23 +1,20 @@
-// Reads the parts of a device: block 0, the image and the log, each by one read.
-ghost use Rattle.std.specs.Prelude.{◌≡◌, ◌<◌, ◌≤◌, ◌*◌, ◌↔◌, ℕ, length, Option, IsTrue, IfOk, OnOk, IfErr, IfSome};
-ghost use Rattle.tmem_gate.specs.Gate.{IsClosed, IsOpenOver};
+// Reads the parts of a device in front of the log: block 0 and the image, each by one read.
+ghost use Rattle.std.specs.Prelude.{◌≤◌, IfOk, OnOk, IfErr};
+ghost use Rattle.tmem_gate.specs.Gate.{IsOpenOver};
 ghost use Rattle.tmem_record.specs.State.{State as StateOf};
-ghost use Rattle.tmem_record.specs.declared.effect.Effect.{Effect as EffectOf};
 ghost use Rattle.tmem_record.specs.Layout.{end_place};
 ghost use Rattle.tmem_journal.specs.ImageSpelling.{block_body, IsImage};
-ghost use Rattle.tmem_journal.specs.Stands.{FollowsOn};
 ghost use Rattle.tmem_gate.specs.Calls.{Uses, LooksOnly};
 ghost use Rattle.tmem_journal.specs.Refusals.{IsWhy};
-ghost use Rattle.tmem_journal.specs.Parts.{IsBlockBy, IsWhyPart, HoldsImage, HoldsSlots};
+ghost use Rattle.tmem_journal.specs.Parts.{IsBlockBy, IsWhyPart, HoldsImage};
 
 use crate::block::read_block;
 use crate::bytes::is_open;
 use crate::calls::{read, read_piece};
 use crate::image::read_image;
-use crate::record::read_record;
 use std::alloc::Global;
 use tmem_disk::{Disk, Fault};
-use tmem_record::{BLOCK_SIZE, Effect, Layout, SLOT_SIZE, State};
+use tmem_record::{BLOCK_SIZE, Layout, State};
 
 // Checks that block 0 is open, and of this layout.
 pub(crate) fn found_block<D: Disk>(disk: &mut D, layout: Layout) -> Result<(), Fault>
@@ -54,45 +51,4 @@ pub(crate) fn found_image<D: Disk>(
         return Err(Fault::Damaged);
     }
     read_image(alloc, &bytes[1..size], layout.vars)?.ok_or(Fault::Damaged)
-}
-
-// Whether each slot behind slot 0 is closed, in the bytes of all slots.
-fn are_closed_behind(log: &[u8], slots: u16) -> bool
-    requires { length log.now ≡ 4096 * slots }
-    ensures { IsTrue result ↔ ((k : ℕ) → 1 ≤ k → k < slots → IsClosed (4096 * k) log.now) }
-{
-    for k in 1..slots {
-        if is_open(log, SLOT_SIZE * k as usize) {
-            return false;
-        }
-    }
-    true
-}
-
-// Reads the record of slot 0, where that is open: it has to follow on the image. Every other slot has to be closed.
-pub(crate) fn found_log<D: Disk>(
-    alloc: Global,
-    disk: &mut D,
-    layout: Layout,
-    image: &State,
-) -> Result<Option<Effect>, Fault>
-    requires { end_place layout.vars layout.slots ≤ (D.view disk.old).capacity }
-    ensures uses { Uses (D.view disk.old) (D.view disk.new) result }
-    ensures looks { LooksOnly (D.view disk.old) (D.view disk.new) }
-    ensures follows { IfOk result (λ log. IfSome log (FollowsOn layout.vars image.now)) }
-    ensures found { (D.view disk.new).keeps_model → IfOk result (λ log. HoldsSlots layout.vars layout.slots image.now log (D.view disk.old).seen) }
-    ensures refused { IfErr result (IsWhyPart ((D.view disk.new).keeps_model → (log : Option EffectOf) → HoldsSlots layout.vars layout.slots image.now log (D.view disk.old).seen → ⊥)) }
-{
-    let len = SLOT_SIZE * layout.slots as usize;
-    let log = read_piece(alloc, disk, layout.slot(0), len)?;
-    if !are_closed_behind(&log, layout.slots) {
-        return Err(Fault::Damaged);
-    }
-    if !is_open(&log, 0) {
-        return Ok(None);
-    }
-    match read_record(alloc, &log[1..SLOT_SIZE], layout.vars, image)? {
-        Some(effect) => Ok(Some(effect)),
-        None => Err(Fault::Damaged),
-    }
 }

@@ -1,46 +1,70 @@
 // Recovery: finds the state that a device stands for.
-ghost use Rattle.std.specs.Prelude.{◌≡◌, ◌≤◌, length, IfOk, OnOk, IfErr};
-ghost use Rattle.tmem_disk.specs.Disk.{LeavesOnly, IsSynced};
-ghost use Rattle.tmem_gate.specs.Gate.{IsClosed};
+ghost use Rattle.std.specs.Prelude.{◌≡◌, ◌≢◌, ◌≤◌, ◌<◌, ◌*◌, ℕ, length, IfOk, OnOk, IfErr};
+ghost use Rattle.tmem_disk.specs.Disk.{IsSynced, AtEachMoment};
+ghost use Rattle.tmem_gate.specs.Calls.{Uses, LooksOnly, WritesWithin};
+ghost use Rattle.tmem_gate.specs.Gate.{StandsClosed};
 ghost use Rattle.tmem_record.specs.Layout.{slot_place, end_place};
+ghost use Rattle.tmem_record.specs.State.{State as StateOf};
 ghost use Rattle.tmem_journal.specs.Stands.{StandsFor};
-ghost use Rattle.tmem_gate.specs.Calls.{Uses, LooksOnly};
+ghost use Rattle.tmem_journal.specs.Mended.{Mends, MendedBy, ClosedFrom};
 ghost use Rattle.tmem_journal.specs.Refusals.{IsWhy, IsRefusedBy};
 
 use crate::calls::sync;
-use crate::parts::{found_block, found_image, found_log};
+use crate::parts::{found_block, found_image};
 use std::alloc::Global;
 use tmem_disk::{Disk, Fault};
 use tmem_record::{Layout, State};
+use tmem_redolog::{Log, close_stale, scan};
 
-/// What recovery found: the state, and how many log slots are used.
+/// What recovery found: the state, and where the next batch goes.
 #[derive(Drop)]
 pub(crate) struct Found {
     pub(crate) state: State,
-    pub(crate) used: u16,
+    pub(crate) log: Log,
 }
 
-/// Finds the state that a device stands for. Refused by `NotFormatted` where block 0 is closed or lacks its magic; by
-/// `Geometry` where the device was formatted for other numbers; else by `Damaged` where it stands for no state; by
-/// `Memory`; and by `Device` where a call of the device fails. It writes nothing.
+/// Finds the state that a device stands for, and closes the gates that read open behind its log. Refused by `NotFormatted`
+/// where block 0 is closed or lacks its magic; by `Geometry` where the device was formatted for other numbers; else by
+/// `Damaged` where it stands for no state; by `Memory`; and by `Device` where a call of the device fails. Nothing else is
+/// written.
 pub(crate) fn recover<D: Disk>(alloc: Global, disk: &mut D, layout: Layout) -> Result<Found, Fault>
     requires { end_place layout.vars layout.slots ≤ (D.view disk.old).capacity }
     ensures uses { Uses (D.view disk.old) (D.view disk.new) result }
-    ensures found { (D.view disk.new).keeps_model → IfOk result (λ f. StandsFor layout.vars layout.slots f.used f.state (D.view disk.old).seen) }
+    ensures found { (D.view disk.new).keeps_model → IfOk result (λ f. StandsFor layout.vars layout.slots f.log.used f.state (D.view disk.old).seen) }
+    ensures refused { IfErr result (IsWhy (λ f. (D.view disk.new).keeps_model → IsRefusedBy layout.vars layout.slots (D.view disk.old).seen f)) }
+    ensures any_moment { AtEachMoment (D.view disk.old) (D.view disk.new) (MendedBy layout.vars layout.slots (D.view disk.old)) }
+    ensures seen { (D.view disk.new).keeps_model → Mends layout.vars layout.slots (D.view disk.old).seen (D.view disk.new).seen }
+    ensures elsewhere { WritesWithin (slot_place layout.vars 0) (4096 * layout.slots) (D.view disk.old) (D.view disk.new) }
+    ensures looks { (used : ℕ) (s : StateOf) → StandsFor layout.vars layout.slots used s (D.view disk.old).seen → ClosedFrom layout.vars layout.slots used (D.view disk.old).seen
+        → LooksOnly (D.view disk.old) (D.view disk.new) }
+    ensures damaged_looks { ((used : ℕ) (s : StateOf) → ¬ StandsFor layout.vars layout.slots used s (D.view disk.old).seen) → LooksOnly (D.view disk.old) (D.view disk.new) }
+    ensures refused_looks { IfErr result (λ f. f ≢ Fault.Device → LooksOnly (D.view disk.old) (D.view disk.new)) }
+    ensures synced { OnOk result (IsSynced (D.view disk.new)) }
+    ensures closed { IfOk result (λ f. (k : ℕ) → f.log.used ≤ k → k < layout.slots → StandsClosed (slot_place layout.vars k) (D.view disk.new)) }
+    ensures generation { IfOk result (λ f. f.log.generation ≡ 1) }
+    ensures sized { IfOk result (λ f. (length f.state.values ≡ layout.vars) × (f.log.used ≤ layout.slots)) }
+{
+    let found = look_up(alloc, disk, layout)?;
+    match close_stale(disk, layout, &found.log) {
+        Ok(()) => Ok(found),
+        Err(_) => Err(Fault::Device),
+    }
+}
+
+// Finds the state that a device stands for, once it is synced. It writes nothing.
+fn look_up<D: Disk>(alloc: Global, disk: &mut D, layout: Layout) -> Result<Found, Fault>
+    requires { end_place layout.vars layout.slots ≤ (D.view disk.old).capacity }
+    ensures uses { Uses (D.view disk.old) (D.view disk.new) result }
+    ensures found { (D.view disk.new).keeps_model → IfOk result (λ f. StandsFor layout.vars layout.slots f.log.used f.state (D.view disk.old).seen) }
     ensures refused { IfErr result (IsWhy (λ f. (D.view disk.new).keeps_model → IsRefusedBy layout.vars layout.slots (D.view disk.old).seen f)) }
     ensures looks { LooksOnly (D.view disk.old) (D.view disk.new) }
     ensures synced { OnOk result (IsSynced (D.view disk.new)) }
-    ensures closed { IfOk result (λ f. f.used ≡ 0 → LeavesOnly (D.view disk.new) (IsClosed (slot_place layout.vars 0))) }
-    ensures sized { IfOk result (λ f. (length f.state.values ≡ layout.vars) × (f.used ≤ 1)) }
+    ensures generation { IfOk result (λ f. f.log.generation ≡ 1) }
+    ensures sized { IfOk result (λ f. (length f.state.values ≡ layout.vars) × (f.log.used ≤ layout.slots)) }
 {
     sync(disk)?;
     found_block(disk, layout)?;
     let mut state = found_image(alloc, disk, layout)?;
-    match found_log(alloc, disk, layout, &state)? {
-        None => Ok(Found { state, used: 0 }),
-        Some(effect) => {
-            state.accept(&effect);
-            Ok(Found { state, used: 1 })
-        }
-    }
+    let log = scan(alloc, disk, layout, 1, &mut state)?;
+    Ok(Found { state, log })
 }

@@ -1,4 +1,4 @@
--- From what a stop leaves of a slot to what it leaves of the log.
+-- From what a crash leaves of a slot to what it leaves of the log.
 use Rattle.std.proofs.Common.{◌≡◌, ◌⊎◌, inl, inr, ⊎_elim, ℕ, ◌+◌, ◌<◌, ◌≤◌, ◌^◌, List, length, Result, Ok, Err, IfErr, refl, subst}
 use Rattle.tmem_disk.specs.Disk.{DeviceView, AtEachMoment}
 use Rattle.tmem_disk.specs.declared.fault.Fault.{Fault}

@@ -1,9 +1,9 @@
--- What a stop leaves while stale gates are closed one after another.
+-- What a crash leaves while stale gates are closed one after another.
 use Rattle.std.proofs.Common.{◌≡◌, ◌⊎◌, inl, inr, ⊎_elim, ℕ, ◌+◌, ◌<◌, ◌≤◌, Bool, true, false, List, length, refl, sym, ◌∙◌, ap, subst, arith}
 use Rattle.std.specs.Prelude.{slice_get, slice_range}
 use Rattle.std.proofs.lemmas.Bool.{cases_lt, cases_eq, false≢true}
 use Rattle.tmem_disk.specs.Disk.{DeviceView, IsDevice, ReadsAs, LeavesOnly, LeavesEach, AtEachMoment, Elapses, IsSynced, SameOutside, SameSeenOutside, Rewritten}
-use Rattle.tmem_disk.proofs.Laws.{SameOutside-refl, SameOutside-trans, SameOutside-wider, slice_get-before, slice_get-after, slice_range-before, slice_range-after, LeavesOnly-moment, LeavesOnly-each}
+use Rattle.tmem_disk.proofs.Laws.{SameOutside-refl, SameOutside-trans, SameOutside-wider, slice_get-before, slice_get-after, slice_range-before, slice_range-after, LeavesOnly-moment, LeavesOnly-each, Elapses-more, Elapses-trans}
 use Rattle.tmem_gate.specs.Calls.{LooksOnly, WritesWithin}
 use Rattle.tmem_gate.specs.Gate.{IsOpenAt, IsClosed, IsOpenOver}
 use Rattle.tmem_gate.proofs.Laws.{gate_cases, closed_along, closed_before, looks, by_look, by_moment, LooksOnly-trans, WritesWithin-wider, WritesWithin-trans}
@@ -33,6 +33,7 @@ Aside-refl vars slots from c = record {
   elsewhere = SameOutside-refl (slot_place vars from) (bytes_from from slots) c;
   closed = λ k above below is. is;
   generation = λ k above below. refl;
+  others = λ i none. refl;
   not_yet = λ k above below. refl;
 }
 
@@ -41,6 +42,7 @@ Aside-further vars slots from to more b c le aside = record {
   elsewhere = aside.elsewhere;
   closed = aside.closed;
   generation = aside.generation;
+  others = aside.others;
   not_yet = λ k above below. aside.not_yet k (omega (arith, le, above)) below;
 }
 
@@ -63,12 +65,17 @@ module _ (vars slots from k : ℕ) (low : from ≤ k) (high : k < slots) (b m c 
   still_shut j above below is (inl here) = absurd (is.not_open (subst (λ (n : ℕ). IsOpenAt (slot_place vars n) b) (sym here) open_now))
   still_shut j above below is (inr other) = closed_along (gate_of j other) (aside.closed j above below is)
 
+  at_other : (i : ℕ) → (i < slot_place vars k) ⊎ (slot_place vars k ≤ i) → (i ≡ slot_place vars k → ⊥) → slice_get c i ≡ slice_get m i
+  at_other i (inl below) other = slice_get-before (slot_place vars k) 1 m c i below same
+  at_other i (inr above) other = slice_get-after (slot_place vars k) 1 m c i (omega (arith, above, other)) same
+
   pub Aside-next : Aside vars slots from (k + 1) b c
   Aside-next = record {
     elsewhere = SameOutside-trans (slot_place vars from) (bytes_from from slots) b m c aside.elsewhere
         (SameOutside-wider (slot_place vars k) 1 (slot_place vars from) (bytes_from from slots) m c (omega (arith, low)) (omega (arith, low, high)) same);
     closed = λ j above below is. still_shut j above below is (other_slot j k);
     generation = λ j above below. behind_gate j (other_slot j k) ∙ aside.generation j above below;
+    others = λ i none. at_other i (cases_lt i (slot_place vars k)) (none k low high open_now) ∙ aside.others i none;
     not_yet = λ j above below. gate_of j (inr (omega (arith, above))) ∙ aside.not_yet j (omega (arith, above)) below;
   }
 
@@ -77,6 +84,7 @@ pub keeps : (vars slots generation used : ℕ) (b c : List ℕ) → Aside vars s
 keeps vars slots generation used b c aside = record {
   elsewhere = aside.elsewhere;
   closed = aside.closed;
+  others = aside.others;
   log = λ image batches long holds. record {
     generation_fits = holds.generation_fits;
     fits = holds.fits;
@@ -104,6 +112,7 @@ pub record Closing (vars slots from to : ℕ) (old now : DeviceView) (any : Bool
   pub model : now.keeps_model → old.keeps_model
   pub within : WritesWithin (slot_place vars from) (bytes_from from slots) old now
   pub aside : AtEachMoment old now (Aside vars slots from to old.seen)
+  pub time : Elapses old now (Aside vars slots from to old.seen)
   pub closed : now.keeps_model → ReadClosed vars from to now
   pub looks : any ≡ false → LooksOnly old now
   pub idle : now.keeps_model → ReadClosed vars from to old → any ≡ false
@@ -136,6 +145,31 @@ module _ (vars slots from k : ℕ) (low : from ≤ k) (high : k < slots) (old mi
       (λ was. Aside-further vars slots from k (k + 1) old.seen c (omega arith) (before.aside.each (model keeps) c was))
       (λ it. Aside-further vars slots from k (k + 1) old.seen c (omega arith) (left_aside (model keeps) c it))
       ((idle (shut_in (model keeps) shut)).time.nothing_else keeps old.moment c (before.within.time.later (model keeps)) left)
+
+  since_then : new.keeps_model → (t : ℕ) (c : List ℕ) → t ≤ old.moment → new.left_since t c → IsOpenAt (slot_place vars k) old.seen ⊎ IsClosed (slot_place vars k) old.seen → old.left_since t c ⊎ Aside vars slots from (k + 1) old.seen c
+  since_then keeps t c since left gate =
+      by_gate gate
+    where
+      earlier : mid.left_since t c → old.left_since t c ⊎ Aside vars slots from (k + 1) old.seen c
+      earlier was = ⊎_elim (λ long_ago. inl long_ago) (λ is. inr (Aside-further vars slots from k (k + 1) old.seen c (omega arith) is)) (before.time.nothing_else (model keeps) t c since was)
+
+      by_gate : IsOpenAt (slot_place vars k) old.seen ⊎ IsClosed (slot_place vars k) old.seen → old.left_since t c ⊎ Aside vars slots from (k + 1) old.seen c
+      by_gate (inl open_now) = let later = before.time.later (model keeps) in ⊎_elim earlier
+          (λ it. inr (Aside-next vars slots from k low high old.seen it.0 c open_now (left_aside (model keeps) it.0 it.1) it.2))
+          (within.time.nothing_else keeps t c (omega (arith, since, later)) left)
+      by_gate (inr shut) = let later = before.time.later (model keeps) in ⊎_elim earlier
+          (λ it. inr (Aside-further vars slots from k (k + 1) old.seen c (omega arith) (left_aside (model keeps) c it)))
+          ((idle (shut_in (model keeps) shut)).time.nothing_else keeps t c (omega (arith, since, later)) left)
+
+  pub time_next : Elapses old new (Aside vars slots from (k + 1) old.seen)
+  time_next = record {
+    later = λ keeps. let a = before.time.later (model keeps) in let b = within.time.later keeps in omega (arith, a, b);
+    nothing_else = λ keeps t c since left. since_then keeps t c since left (gate_cases (slot_place vars k) old.seen);
+    keeps = λ keeps t c since left. let a = before.time.later (model keeps) in within.time.keeps keeps t c (omega (arith, since, a)) (before.time.keeps (model keeps) t c since left);
+  }
+
+  pub time_after : Elapses old new (Aside vars slots from slots old.seen)
+  time_after = Elapses-more old new (Aside vars slots from (k + 1) old.seen) (Aside vars slots from slots old.seen) time_next (λ keeps c is. Aside-further vars slots from (k + 1) slots old.seen c (omega (arith, high)) is)
 
   pub aside_next : AtEachMoment old new (Aside vars slots from (k + 1) old.seen)
   aside_next = record { each = λ keeps c left. now keeps c left (gate_cases (slot_place vars k) old.seen) }
@@ -188,6 +222,22 @@ pub keeps_each : (vars slots generation used : ℕ) (old new : DeviceView) → I
 keeps_each vars slots generation used old new device model aside = record {
   each = λ k c left. (old.seen, device.seen_may_stay (model k), keeps vars slots generation used old.seen c (aside.each k c left));
 }
+
+-- at each moment of a longer time too
+pub keeps_time : (vars slots generation used : ℕ) (old new : DeviceView) → IsDevice old → (new.keeps_model → old.keeps_model) → Elapses old new (Aside vars slots used slots old.seen) → Elapses old new (MadeBy (Keeps vars slots generation used) old)
+keeps_time vars slots generation used old new device model time =
+    Elapses-more old new (Aside vars slots used slots old.seen) (MadeBy (Keeps vars slots generation used) old) time (λ k c aside. (old.seen, device.seen_may_stay (model k), keeps vars slots generation used old.seen c aside))
+
+pub time_then : (vars slots used : ℕ) (old mid new : DeviceView) → IsDevice mid → (new.keeps_model → mid.keeps_model) → (mid.keeps_model → old.moment ≤ mid.moment) → AtEachMoment old mid (Aside vars slots used slots old.seen) → Elapses old mid (Aside vars slots used slots old.seen) → Elapses mid new new.may_leave
+    → LeavesOnly new mid.may_leave → Elapses old new (Aside vars slots used slots old.seen)
+time_then vars slots used old mid new device model later aside time then stop =
+    Elapses-trans old mid new (Aside vars slots used slots old.seen) model time
+    (Elapses-more mid new new.may_leave (Aside vars slots used slots old.seen) then (λ k c left. (LeavesOnly-moment old mid _ device later aside).each (model k) c (stop.each k c left)))
+
+-- and what a read gives keeps them too
+pub keeps_seen : (vars slots generation used : ℕ) (old new : DeviceView) → IsDevice new → (new.keeps_model → old.moment ≤ new.moment) → AtEachMoment old new (Aside vars slots used slots old.seen) → new.keeps_model → Keeps vars slots generation used old.seen new.seen
+keeps_seen vars slots generation used old new device later aside k =
+    keeps vars slots generation used old.seen new.seen (aside.each k new.seen (device.counts_now old.moment new.seen k (later k) (device.seen_may_stay k)))
 
 -- over a call that leaves no more than before
 pub aside_then : (vars slots used : ℕ) (old mid new : DeviceView) → IsDevice mid → (new.keeps_model → mid.keeps_model) → (mid.keeps_model → old.moment ≤ mid.moment) → AtEachMoment old mid (Aside vars slots used slots old.seen) → Elapses mid new new.may_leave → LeavesOnly new mid.may_leave

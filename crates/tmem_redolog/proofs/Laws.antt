@@ -17,6 +17,10 @@ use Rattle.tmem_redolog.proofs.OneLog.{begins, generation_first}
 -- one batch more, how many a log has made, and what it takes nothing away from
 pub use Rattle.tmem_redolog.proofs.Logs.{replayed-push, length-batch_bytes, length-batch_bytes-le}
 pub use Rattle.tmem_redolog.proofs.OneLog.{count-le, names-le, one_log}
+-- effects one after another, within the limits
+pub use Rattle.tmem_redolog.proofs.Replaying.{fold_next, within_next, of_variables}
+-- what is said under the disk model alone
+pub use Rattle.tmem_redolog.proofs.Closing.{looks_given}
 
 -- batches set values, and make none
 pub length-values-replayed : (s : State) (batches : List (List Effect)) → length (replayed s batches).values ≡ length s.values

@@ -1,4 +1,4 @@
--- What a stop leaves of a cell while it is written.
+-- What a crash leaves of a cell while it is written.
 use Rattle.std.proofs.Common.{inl, inr, ⊎_elim, ℕ, ◌+◌, ◌≤◌, List, length, ◌∙◌, ap, arith}
 use Rattle.std.specs.Prelude.{slice_range}
 use Rattle.tmem_disk.specs.Disk.{DeviceView, IsDevice, overwritten, ReadsAs, LeavesOnly, AtEachMoment, Elapses, Rewritten}

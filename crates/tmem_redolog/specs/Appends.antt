@@ -45,7 +45,7 @@ pub record With (p : Placed) (b c : List ℕ) : Type 0 where
 abbrev pub Either : Placed → List ℕ → List ℕ → Type 0
 Either p b c = Without p b c ⊎ With p b c
 
--- What a stop leaves after an append: at Ok the log with the batch, where the write of its bytes failed the log without
+-- What a crash leaves after an append: at Ok the log with the batch, where the write of its bytes failed the log without
 -- it, where a sync or the write of the gate failed either.
 abbrev pub Appended : Placed → DeviceView → DeviceView → Result (Unit {0}) Fault → Type 0
 Appended p old new (Ok _) = LeavesOnly new (MadeBy (With p) old)
@@ -54,7 +54,7 @@ Appended p old new (Err Unknown) = LeavesOnly new (MadeBy (Either p) old)
 Appended p old new (Err LogFull) = Unit {0}
 Appended p old new (Err _) = ⊥
 
--- What a stop inside the call leaves: where the write of the batch failed, the log without it.
+-- What a crash inside the call leaves: where the write of the batch failed, the log without it.
 abbrev pub Meanwhile : Placed → DeviceView → Result (Unit {0}) Fault → List ℕ → Type 0
 Meanwhile p old (Err Device) = MadeBy (Without p) old
 Meanwhile p old (Err LogFull) = old.may_leave

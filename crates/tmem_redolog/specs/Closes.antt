@@ -1,7 +1,7 @@
 -- What closing the stale gates behind a log leaves.
-use Rattle.std.specs.Prelude.{◌≡◌, ◌<◌, ◌≤◌, ◌+◌, ◌-◌, ◌*◌, ℕ, List, length, slice_get, slice_range}
+use Rattle.std.specs.Prelude.{◌≡◌, ◌≢◌, ◌<◌, ◌≤◌, ◌+◌, ◌-◌, ◌*◌, ℕ, List, length, slice_get, slice_range}
 use Rattle.tmem_disk.specs.Disk.{DeviceView, SameOutside}
-use Rattle.tmem_gate.specs.Gate.{IsClosed}
+use Rattle.tmem_gate.specs.Gate.{IsOpenAt, IsClosed}
 use Rattle.tmem_record.specs.Layout.{slot_place}
 use Rattle.tmem_record.specs.State.{State}
 use Rattle.tmem_record.specs.declared.effect.Effect.{Effect}
@@ -11,21 +11,27 @@ use Rattle.tmem_redolog.specs.Log.{HoldsLog}
 abbrev pub bytes_from : ℕ → ℕ → ℕ
 bytes_from slot slots = 4096 * (slots - slot)
 
+-- at this place there is no gate that is open in a slot from one on
+abbrev pub IsNoOpenGate : ℕ → ℕ → ℕ → List ℕ → ℕ → Type 0
+IsNoOpenGate vars slots used c i = (k : ℕ) → used ≤ k → k < slots → IsOpenAt (slot_place vars k) c → i ≢ slot_place vars k
+
 -- the second content holds each log of the first that ends before a slot, has each slot from there on closed that the
--- first has closed, and is the same in front of those slots and behind them
+-- first has closed, and is the same in front of those slots and behind them, and in them but for their open gates
 pub record Keeps (vars slots generation used : ℕ) (b c : List ℕ) : Type 0 where
   pub elsewhere : SameOutside (slot_place vars used) (bytes_from used slots) b c
   pub closed : (k : ℕ) → used ≤ k → k < slots → IsClosed (slot_place vars k) b → IsClosed (slot_place vars k) c
+  pub others : (i : ℕ) → IsNoOpenGate vars slots used b i → slice_get c i ≡ slice_get b i
   pub log : (image : State) (batches : List (List Effect)) → length batches ≡ used → HoldsLog vars slots generation image batches b → HoldsLog vars slots generation image batches c
 
 -- the gates of the slots from one to another read closed
 abbrev pub ReadClosed : ℕ → ℕ → ℕ → DeviceView → Type 0
 ReadClosed vars from to d = (k : ℕ) → from ≤ k → k < to → IsClosed (slot_place vars k) d.seen
 
--- The second content is the first but for the gates of the slots from one to another: a closed one stays closed, and what
--- carries a generation behind each of them stays.
+-- The second content is the first but for the open gates of the slots from one to another: a closed one stays closed, and
+-- what carries a generation behind each of them stays.
 pub record Aside (vars slots from to : ℕ) (b c : List ℕ) : Type 0 where
   pub elsewhere : SameOutside (slot_place vars from) (bytes_from from slots) b c
   pub closed : (k : ℕ) → from ≤ k → k < slots → IsClosed (slot_place vars k) b → IsClosed (slot_place vars k) c
   pub generation : (k : ℕ) → from ≤ k → k < slots → slice_range c (slot_place vars k + 1) (slot_place vars k + 9) ≡ slice_range b (slot_place vars k + 1) (slot_place vars k + 9)
+  pub others : (i : ℕ) → IsNoOpenGate vars slots from b i → slice_get c i ≡ slice_get b i
   pub not_yet : (k : ℕ) → to ≤ k → k < slots → slice_get c (slot_place vars k) ≡ slice_get b (slot_place vars k)

@@ -1,11 +1,11 @@
--- What a stop (a crash) leaves of a slot that is written.
+-- What a crash leaves of a slot that is written.
 use Rattle.std.specs.Prelude.{◌⊎◌, ◌+◌, ℕ, List, length, Result, Ok, Err}
 use Rattle.tmem_disk.specs.Disk.{DeviceView, LeavesOnly, SameOutside}
 use Rattle.tmem_disk.specs.declared.fault.Fault.{Fault}
 use Rattle.tmem_disk.specs.declared.fault.Fault.TheVariants.{Device, Unknown}
 use Rattle.tmem_gate.specs.Gate.{IsClosed, IsOpenOver}
 
--- made of a content that a stop might have left before
+-- made of a content that a crash might have left before
 abbrev pub MadeBy : (List ℕ → List ℕ → Type 0) → DeviceView → List ℕ → Type 0
 MadeBy R old c = (b : List ℕ) × old.may_leave b × R b c
 

@@ -1,6 +1,6 @@
 // One batch more.
-ghost use Rattle.std.specs.Prelude.{Some, ◌≡◌, ◌↔◌, ◌<◌, ◌≤◌, ◌+◌, ◌^◌, ℕ, length, OnOk, OnErr, IfErr, IsErrOf};
-ghost use Rattle.tmem_disk.specs.Disk.{SameSeenOutside, AtEachMoment};
+ghost use Rattle.std.specs.Prelude.{Some, ◌≡◌, ◌↔◌, ◌<◌, ◌≤◌, ◌+◌, ◌^◌, ℕ, length, OnOk, OnErr, IfErr, IfSome, IsErrOf};
+ghost use Rattle.tmem_disk.specs.Disk.{SameSeenOutside, AtEachMoment, IsWriteOrSync};
 ghost use Rattle.tmem_gate.specs.Calls.{Uses, WritesWithin};
 ghost use Rattle.tmem_gate.specs.Gate.{StandsClosed, HasBody};
 ghost use Rattle.tmem_record.specs.Batch.{IsBatch};
@@ -39,10 +39,12 @@ pub fn append<D: Disk>(
     ensures full { IsErrOf result Fault.LogFull ↔ (log.old.used ≡ layout.slots) }
     ensures untouched { IsErrOf result Fault.LogFull → disk.new ≡ disk.old }
 
-    // At `Device` a write failed, and not that of the gate. At `Unknown` the bytes of the batch were written before.
+    // At `Device` a write failed, and not that of the gate. At `Unknown` a write or a sync failed, and the bytes of the
+    // batch were written before.
     ensures write_failed { IsErrOf result Fault.Device → (D.view disk.new).last_fault ≡ Some DeviceFault.Write }
     ensures gate_untouched { IsErrOf result Fault.Device →
         SameSeenOutside (slot_place layout.vars log.old.used + 1) BATCH_ROOM (D.view disk.old) (D.view disk.new) }
+    ensures gate_failed { IsErrOf result Fault.Unknown → IfSome (D.view disk.new).last_fault IsWriteOrSync }
     ensures body_written { IsErrOf result Fault.Unknown → (D.view disk.new).keeps_model →
         HasBody (slot_place layout.vars log.old.used) (batch_bytes log.old.generation first batch.now) (D.view disk.new).seen }
 
@@ -51,7 +53,7 @@ pub fn append<D: Disk>(
     ensures behind { (k : ℕ) → log.old.used < k → StandsClosed (slot_place layout.vars k) (D.view disk.old)
         → StandsClosed (slot_place layout.vars k) (D.view disk.new) }
 
-    // A stop leaves what one might have left before, with the batch or without it in each log that it follows on.
+    // A crash leaves what one might have left before, with the batch or without it in each log that it follows on.
     ensures stands { Appended (placed layout log.old first batch.now) (D.view disk.old) (D.view disk.new) result }
     ensures any_moment { AtEachMoment (D.view disk.old) (D.view disk.new)
         (Meanwhile (placed layout log.old first batch.now) (D.view disk.old) result) }

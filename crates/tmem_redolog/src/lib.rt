@@ -1,7 +1,7 @@
 //! The redo log: batches of transactions behind the open gates of the first slots of a device.
 //!
-//! `specs/Log.antt` says which log a content holds over an image of one generation. `append` puts a batch last: a stop (a
-//! crash: a power cut or a kill) at any moment leaves the log without it, or with the whole of it. `scan` reads the log and
+//! `specs/Log.antt` says which log a content holds over an image of one generation. `append` puts a batch last: a crash
+//! (a power cut or a kill) at any moment leaves the log without it, or with the whole of it. `scan` reads the log and
 //! brings the image's state to the state after it. `close_stale` closes what the log of an older generation left open.
 #![tactic(auto)]
 

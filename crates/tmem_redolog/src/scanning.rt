@@ -78,7 +78,7 @@ fn replay(
     ensures refused { IfErr result (IsWhyNone ((c : List ℕ) → IsLogOf layout.vars layout.slots log.now c → (batches : List (List EffectOf)) →
         HoldsFrom layout.vars layout.slots generation 0 state.old batches c → ⊥)) }
 {
-    is_within(state);
+    recall_limits(state);
     for k in 0..layout.slots {
         let slot = slot_of(log, k);
         if !carries(slot, generation) {
@@ -89,8 +89,8 @@ fn replay(
     Ok(layout.slots)
 }
 
-// A state is within the limits. It does nothing: a caller takes the fact from its contract.
-fn is_within(state: &State)
+// That a state is within its limits, for a caller's proof: it does nothing.
+fn recall_limits(state: &State)
     ensures { IsWithin state.now }
 {
     let _ = state.count();

@@ -1,6 +1,6 @@
 // One slot, written as a cell.
-ghost use Rattle.std.specs.Prelude.{◌≡◌, ◌⊎◌, ◌≤◌, ◌+◌, Some, length, IfErr, IsErrOf};
-ghost use Rattle.tmem_disk.specs.Disk.{SameSeenOutside, AtEachMoment};
+ghost use Rattle.std.specs.Prelude.{◌≡◌, ◌⊎◌, ◌≤◌, ◌+◌, Some, length, IfErr, IfSome, IsErrOf};
+ghost use Rattle.tmem_disk.specs.Disk.{SameSeenOutside, AtEachMoment, IsWriteOrSync};
 ghost use Rattle.tmem_gate.specs.Calls.{Uses, WritesWithin};
 ghost use Rattle.tmem_gate.specs.Gate.{StandsClosed, HasBody};
 ghost use Rattle.tmem_redolog.specs.Slots.{Put, DuringPut};
@@ -18,6 +18,7 @@ pub(crate) fn put_slot<D: Disk>(disk: &mut D, at: u64, bytes: &[u8]) -> Result<(
     ensures write_failed { IsErrOf result Fault.Device → (D.view disk.new).last_fault ≡ Some DeviceFault.Write }
     ensures gate_untouched { IsErrOf result Fault.Device →
         SameSeenOutside (at + 1) (length bytes.now) (D.view disk.old) (D.view disk.new) }
+    ensures gate_failed { IsErrOf result Fault.Unknown → IfSome (D.view disk.new).last_fault IsWriteOrSync }
     ensures body_written { IsErrOf result Fault.Unknown → (D.view disk.new).keeps_model →
         HasBody at bytes.now (D.view disk.new).seen }
     ensures elsewhere { WritesWithin at (1 + length bytes.now) (D.view disk.old) (D.view disk.new) }

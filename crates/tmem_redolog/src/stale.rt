@@ -1,6 +1,6 @@
 // Closes what the log of an older generation left open.
 ghost use Rattle.std.specs.Prelude.{◌≡◌, ◌⊎◌, ◌↔◌, ◌<◌, ◌≤◌, ℕ, false, IsTrue, IfOk, OnOk, IfErr, MatchResult};
-ghost use Rattle.tmem_disk.specs.Disk.{IsCall, AtEachMoment, LeavesOnly, IsSynced};
+ghost use Rattle.tmem_disk.specs.Disk.{IsCall, AtEachMoment, Elapses, LeavesOnly, IsSynced};
 ghost use Rattle.tmem_gate.specs.Calls.{LooksOnly, WritesWithin};
 ghost use Rattle.tmem_gate.specs.Gate.{IsOpenAt, IsClosed, StandsClosed};
 ghost use Rattle.tmem_record.specs.Layout.{slot_place, end_place};
@@ -18,13 +18,22 @@ pub fn close_stale<D: Disk>(disk: &mut D, layout: Layout, log: &Log) -> Result<(
     requires room { end_place layout.vars layout.slots ≤ (D.view disk.old).capacity }
     requires used { log.now.used ≤ layout.slots }
     requires synced { IsSynced (D.view disk.old) }
+
+    // Any call may fail. The answer is the last fault of the device.
     ensures call { IsCall (D.view disk.old) (D.view disk.new) result (λ _. Unit {0}) }
 
-    // A stop (a crash) at any moment leaves what a read gave before, with each log that ends before these slots.
+    // A crash at any moment, or one after any answer, leaves what it might have left before, but for the open gates of
+    // these slots, and with each log that ends before them.
     ensures any_moment { AtEachMoment (D.view disk.old) (D.view disk.new)
+        (MadeBy (Keeps layout.vars layout.slots log.now.generation log.now.used) (D.view disk.old)) }
+    ensures time { Elapses (D.view disk.old) (D.view disk.new)
         (MadeBy (Keeps layout.vars layout.slots log.now.generation log.now.used) (D.view disk.old)) }
     ensures stands { LeavesOnly (D.view disk.new)
         (MadeBy (Keeps layout.vars layout.slots log.now.generation log.now.used) (D.view disk.old)) }
+
+    // A read gives what it gave before, but for those gates too. Nothing outside these slots is written.
+    ensures seen { (D.view disk.new).keeps_model →
+        Keeps layout.vars layout.slots log.now.generation log.now.used (D.view disk.old).seen (D.view disk.new).seen }
     ensures elsewhere { WritesWithin (slot_place layout.vars log.now.used) (bytes_from log.now.used layout.slots)
         (D.view disk.old) (D.view disk.new) }
 
@@ -53,6 +62,8 @@ fn close_gates<D: Disk>(disk: &mut D, layout: Layout, from: u16) -> Result<bool,
     ensures call { IsCall (D.view disk.old) (D.view disk.new) result (λ f. (f ≡ DeviceFault.Read) ⊎ (f ≡ DeviceFault.Write)) }
     ensures within { WritesWithin (slot_place layout.vars from) (bytes_from from layout.slots) (D.view disk.old) (D.view disk.new) }
     ensures aside { AtEachMoment (D.view disk.old) (D.view disk.new)
+        (Aside layout.vars layout.slots from layout.slots (D.view disk.old).seen) }
+    ensures time { Elapses (D.view disk.old) (D.view disk.new)
         (Aside layout.vars layout.slots from layout.slots (D.view disk.old).seen) }
     ensures closed { (D.view disk.new).keeps_model → OnOk result (ReadClosed layout.vars from layout.slots (D.view disk.new)) }
     ensures looks { IfOk result (λ any. any ≡ false → LooksOnly (D.view disk.old) (D.view disk.new)) }

@@ -1,7 +1,8 @@
 -- The point of a run after a flush.
-use Rattle.std.proofs.Common.{◌≡◌, inl, inr, ⊎_elim, ℕ, ◌+◌, ◌-◌, ◌<◌, ◌≤◌, Bool, true, false, nat_eq, List, [], ◌∷◌, ◌++◌, length, take, drop, refl, sym, ◌∙◌, ap, subst, arith, length-append}
+use Rattle.std.proofs.Common.{◌≡◌, inl, inr, ℕ, ◌+◌, ◌-◌, ◌<◌, ◌≤◌, Bool, true, false, nat_eq, List, [], ◌++◌, length, take, drop, refl, sym, ◌∙◌, ap, subst, arith, length-append}
 use Rattle.std.specs.Prelude.{Result, Ok, Err, MatchBool}
 use Rattle.std.specs.List.{AllZip}
+use Rattle.std.proofs.Math.Seq.{take-append_seam}
 use Rattle.std.proofs.lemmas.Bool.Decides.{nat_tests}
 use Rattle.tmem_disk.specs.Disk.{after_fault}
 use Rattle.tmem_disk.specs.declared.fault.Fault.{Fault}
@@ -10,7 +11,9 @@ use Rattle.tmem_event.specs.declared.event.Reply.{Reply}
 use Rattle.tmem_event.specs.declared.event.Reply.TheVariants as reply
 use Rattle.tmem_world.specs.declared.session.Slot.{Slot}
 use Rattle.tmem_world.specs.declared.session.Session as core
+use Rattle.tmem_world.specs.declared.held.Held.{Held}
 use Rattle.tmem_world.specs.declared.held.Held.TheVariants.{With}
+use Rattle.tmem_world.specs.Parts.{layout_in}
 use Rattle.tmem_world.specs.declared.world.World.{World}
 use Rattle.tmem_record.specs.State.{State, fold}
 use Rattle.tmem_record.specs.declared.effect.Effect.{Effect}
@@ -18,15 +21,14 @@ use Rattle.tmem_record.proofs.Laws.{count-fold}
 use Rattle.tmem_core.specs.Program.{Program}
 use Rattle.tmem_core.specs.Held.{state_of, waiting_of, durable_of, is_shut_of}
 use Rattle.tmem_core.specs.Verdict.{serial_state, serial_effects}
-use Rattle.tmem_core.specs.declared.core_state.TheConstants.{MAX_TAKEN}
+use Rattle.tmem_core.specs.Taking.{IsTaken}
 use Rattle.tmem_core.proofs.Laws.{count-committed}
 use Rattle.tmem_gate.specs.Calls.{Uses}
 use Rattle.tmem_journal.specs.Held as journal
 use Rattle.tmem_journal.specs.Journals as journals
 use Rattle.tmem_journal.specs.declared.journal.Journal as owner
-use Rattle.tmem_journal.specs.declared.journal.TheConstants.{LOG_SLOTS}
 use Rattle.tmem_world.specs.Sessions.{Flushes, waiting_after}
-use Rattle.tmem_world.specs.WorldModel.{WorldModel, SessionStatus, Open, Closed, present, cut, IsBatchEnd, AllowsFlush, AllowsFlushOfSome}
+use Rattle.tmem_world.specs.WorldModel.{WorldModel, SessionStatus, Open, Closed, present, cut, not_durable, IsBatchEnd, AllowsFlush, AllowsFlushOfSome}
 use Rattle.tmem_world.specs.Represents.{SlotIs, SessionIs, IsNumbered, Represents, held_of, session_of}
 use Rattle.tmem_world.proofs.Serial.{length-drop_effects, AreNext, are_next}
 use Rattle.tmem_world.proofs.Points.{in_point, session_at, failures_at}
@@ -47,7 +49,7 @@ at_false true P Q is q = cc
 true_not_false : true ≡ false → ⊥
 true_not_false e = cc
 
-module _ {D T : Type 0} {d t : _} (program : Program) (m : WorldModel) (o : core.Session D T d t) (numbers : IsNumbered program m) (is : SessionIs program o m) (running : is_shut_of o.core ≡ false) where
+module _ {D T : Type 0} {d t : _} (program : Program) (m : WorldModel) (o : core.Session D T d t) (numbers : IsNumbered program m) (is : SessionIs program o m) (running : is_shut_of o.core ≡ false) (slots : ℕ) (over : (journal.layout_of o.journal).slots ≡ slots) where
   is_open : m.session ≡ Open
   is_open = is.status ∙ ap session_of running
 
@@ -65,23 +67,23 @@ module _ {D T : Type 0} {d t : _} (program : Program) (m : WorldModel) (o : core
   none_waits_now : waiting_of o.core ≡ [] → nat_eq m.durable (present program m).count ≡ true
   none_waits_now none = let same : m.durable ≡ (present program m).count = omega (arith, all, behind, ap length none, numbers.opened) in grind (arith, nat_tests)
 
-  log_full : 1 ≤ length (waiting_of o.core) → journal.used_slots_of o.journal ≡ LOG_SLOTS → AllowsFlush program m.session m (reply.Fault fault.LogFull) m
+  log_full : 1 ≤ length (waiting_of o.core) → journal.used_slots_of o.journal ≡ (journal.layout_of o.journal).slots → AllowsFlush program slots m.session m (reply.Fault fault.LogFull) m
   log_full some full =
-      let used : m.used ≡ LOG_SLOTS = sym is.used ∙ full in
-      let test : nat_eq m.used LOG_SLOTS ≡ true = grind (arith, nat_tests) in
-      subst (λ (z : SessionStatus). AllowsFlush program z m (reply.Fault fault.LogFull) m) (sym is_open) (at_false (nat_eq m.durable (present program m).count) _ _ (waits some) (at_true (nat_eq m.used LOG_SLOTS) _ _ test (refl, refl)))
+      let used : m.used ≡ slots = sym is.used ∙ full ∙ over in
+      let test : nat_eq m.used slots ≡ true = grind (arith, nat_tests) in
+      subst (λ (z : SessionStatus). AllowsFlush program slots z m (reply.Fault fault.LogFull) m) (sym is_open) (at_false (nat_eq m.durable (present program m).count) _ _ (waits some) (at_true (nat_eq m.used slots) _ _ test (refl, refl)))
 
-  writes_some : 1 ≤ length (waiting_of o.core) → journal.used_slots_of o.journal < LOG_SLOTS → (r : Reply) (m' : WorldModel) → AllowsFlushOfSome program m r m' → AllowsFlush program m.session m r m'
+  writes_some : 1 ≤ length (waiting_of o.core) → journal.used_slots_of o.journal < (journal.layout_of o.journal).slots → (r : Reply) (m' : WorldModel) → AllowsFlushOfSome program m r m' → AllowsFlush program slots m.session m r m'
   writes_some some left r m' by =
-      let used : m.used < LOG_SLOTS = omega (arith, left, is.used) in
-      let test : nat_eq m.used LOG_SLOTS ≡ false = grind (arith, nat_tests) in
-      subst (λ (z : SessionStatus). AllowsFlush program z m r m') (sym is_open) (at_false (nat_eq m.durable (present program m).count) _ _ (waits some) (at_false (nat_eq m.used LOG_SLOTS) _ _ test by))
+      let used : m.used < slots = omega (arith, left, is.used, over) in
+      let test : nat_eq m.used slots ≡ false = grind (arith, nat_tests) in
+      subst (λ (z : SessionStatus). AllowsFlush program slots z m r m') (sym is_open) (at_false (nat_eq m.durable (present program m).count) _ _ (waits some) (at_false (nat_eq m.used slots) _ _ test by))
 
-  nothing_waits : waiting_of o.core ≡ [] → (n : ℕ) → n ≡ m.durable → AllowsFlush program m.session m (reply.Durable n) m
+  nothing_waits : waiting_of o.core ≡ [] → (n : ℕ) → n ≡ m.durable → AllowsFlush program slots m.session m (reply.Durable n) m
   nothing_waits none n same =
-      subst (λ (z : SessionStatus). AllowsFlush program z m (reply.Durable n) m) (sym is_open) (at_true (nat_eq m.durable (present program m).count) _ _ (none_waits_now none) (ap (λ (k : ℕ). reply.Durable k) same, refl))
+      subst (λ (z : SessionStatus). AllowsFlush program slots z m (reply.Durable n) m) (sym is_open) (at_true (nat_eq m.durable (present program m).count) _ _ (none_waits_now none) (ap (λ (k : ℕ). reply.Durable k) same, refl))
 
-  module _ (es rest : List Effect) (waited : waiting_of o.core ≡ es ++ rest) (some : 1 ≤ length es) (few : length es ≤ MAX_TAKEN) where
+  module _ (es rest : List Effect) (waited : waiting_of o.core ≡ es ++ rest) (some : 1 ≤ length es) (few : length es ≤ 64) (taken : IsTaken (waiting_of o.core) es) where
     some_waits : 1 ≤ length (waiting_of o.core)
     some_waits = omega (arith, ap length waited, length-append es rest, some)
 
@@ -101,13 +103,28 @@ module _ {D T : Type 0} {d t : _} (program : Program) (m : WorldModel) (o : core
     reached : m.durable + length es ≤ m.opened.count + length m.accepted
     reached = omega (arith, next.below, numbers.opened)
 
+    -- the batch is the first of what is not durable
+    first : take ((m.durable + length es) - m.durable) (not_durable program m) ≡ es
+    first =
+        let count : (m.durable + length es) - m.durable ≡ length es = omega arith in
+        ap (λ (k : ℕ). take k (not_durable program m)) count ∙ ap (λ (l : List Effect). take (length es) l) (sym is.waiting ∙ waited) ∙ take-append_seam es rest
+
     is_end : IsBatchEnd program m (m.durable + length es)
-    is_end = record { more = omega (arith, some); few = omega (arith, few); accepted = omega (arith, all, reached) }
+    is_end = record {
+      more = omega (arith, some);
+      few = omega (arith, few);
+      accepted = omega (arith, all, reached);
+      taken = subst (λ (l : List Effect). IsTaken l (take ((m.durable + length es) - m.durable) (not_durable program m))) is.waiting (subst (λ (l : List Effect). IsTaken (waiting_of o.core) l) (sym first) taken);
+    }
 
 module _ {D T S : Type 0} {d t z : _} (program : Program) (w w' : World D T S d t z) (m : WorldModel) (o o' : core.Session D T d t) (r : Represents program w m)
     (before : held_of w ≡ With o) (after : held_of w' ≡ With o') (slots : w'.slots.items ≡ w.slots.items) (state : state_of o'.core ≡ state_of o.core) where
   abbrev Next : Reply → Type 0
-  Next x = (m' : WorldModel) × AllowsFlush program m.session m x m' × Represents program w' m'
+  Next x = (m' : WorldModel) × AllowsFlush program w.layout.slots m.session m x m' × Represents program w' m'
+
+  -- its journal has as many log slots as the layout
+  over : (journal.layout_of o.journal).slots ≡ w.layout.slots
+  over = sym (ap (λ (h : Held D T d t). (layout_in h).slots) before) ∙ w.same_slots
 
   was : SessionIs program o m
   was = session_at program w m o before r
@@ -136,7 +153,7 @@ module _ {D T S : Type 0} {d t z : _} (program : Program) (w w' : World D T S d 
     certain = λ open_now. was.certain (o.shut ∙ sym (ap (λ (j : owner.Journal D d). journal.is_closed_of j) same) ∙ sym o'.shut ∙ open_now);
   }) r.numbers same_slots (ap (λ (j : owner.Journal D d). (journal.device_of j).failures) same ∙ had)
 
-  module _ (es rest : List Effect) (running : is_shut_of o.core ≡ false) (waited : waiting_of o.core ≡ es ++ rest) (some : 1 ≤ length es) (few : length es ≤ MAX_TAKEN) where
+  module _ (es rest : List Effect) (running : is_shut_of o.core ≡ false) (waited : waiting_of o.core ≡ es ++ rest) (some : 1 ≤ length es) (few : length es ≤ 64) (taken : IsTaken (waiting_of o.core) es) where
     end : ℕ
     end = m.durable + length es
 
@@ -145,26 +162,26 @@ module _ {D T S : Type 0} {d t z : _} (program : Program) (w w' : World D T S d 
 
     -- the journal's state with the batch is the order cut behind it
     with_batch : fold (journal.state_of o.journal) es ≡ cut program m (m.durable + length es)
-    with_batch = ap (λ (s : State). fold s es) was.durable ∙ sym (cut_after program m o r.numbers was running es rest waited some few)
+    with_batch = ap (λ (s : State). fold s es) was.durable ∙ sym (cut_after program m o r.numbers was running w.layout.slots over es rest waited some few taken)
 
     wrote : (n : ℕ) → journals.Flushes o.journal es (Ok n) o'.journal → waiting_of o'.core ≡ rest → (journal.device_of o'.journal).failures ≡ (journal.device_of o.journal).failures → Next (reply.Durable n)
     wrote n it waits failures =
         let at = it.2 in
         let is : n ≡ m.durable + length es = omega (arith, it.1, count-fold (journal.state_of o.journal) es, o.known, was.number) in
-        let reach = reached program m o r.numbers was running es rest waited some few in
-        let ends : IsBatchEnd program m n = subst (λ (k : ℕ). IsBatchEnd program m k) (sym is) (is_end program m o r.numbers was running es rest waited some few) in
+        let reach = reached program m o r.numbers was running w.layout.slots over es rest waited some few taken in
+        let ends : IsBatchEnd program m n = subst (λ (k : ℕ). IsBatchEnd program m k) (sym is) (is_end program m o r.numbers was running w.layout.slots over es rest waited some few taken) in
         let m' : WorldModel = record m { durable = n; doubtful = n; used = m.used + 1 } in
         let cut_here : fold (journal.state_of o.journal) es ≡ cut program m n = with_batch ∙ ap (cut program m) (sym is) in (
           m',
-          writes_some program m o r.numbers was running (some_waits program m o r.numbers was running es rest waited some few) it.0.left (reply.Durable n) m' (ends, refl),
+          writes_some program m o r.numbers was running w.layout.slots over (some_waits program m o r.numbers was running w.layout.slots over es rest waited some few taken) it.0.left (reply.Durable n) m' (ends, refl),
           in_point program w' m' o' after (record {
             state = state ∙ was.state;
             number = o'.known ∙ ap (λ (s : State). s.count) at.state ∙ sym it.1;
-            waiting = waits ∙ sym (then_waits program m o r.numbers was running es rest waited some few) ∙ ap (λ (k : ℕ). drop (k - m.opened.count) (serial_effects program m.opened m.accepted)) (sym is);
+            waiting = waits ∙ sym (then_waits program m o r.numbers was running w.layout.slots over es rest waited some few taken) ∙ ap (λ (k : ℕ). drop (k - m.opened.count) (serial_effects program m.opened m.accepted)) (sym is);
             durable = at.state ∙ cut_here;
             doubtful = at.doubtful ∙ cut_here;
             used = at.used_slots ∙ ap (λ (u : ℕ). u + 1) was.used;
-            status = is_open program m o r.numbers was running ∙ ap session_of (sym (o'.shut ∙ at.closed));
+            status = is_open program m o r.numbers was running w.layout.slots over ∙ ap session_of (sym (o'.shut ∙ at.closed));
             certain = λ yes. refl;
           })
               (record { opened = omega (arith, r.numbers.opened, is); durable = omega arith; doubtful = omega (arith, reach, is); each = r.numbers.each; sound = r.numbers.sound })
@@ -176,7 +193,7 @@ module _ {D T S : Type 0} {d t z : _} (program : Program) (w w' : World D T S d 
         let at = it.2 in
         let m' : WorldModel = record m { session = Closed; failures = after_fault m.failures } in (
           m',
-          writes_some program m o r.numbers was running (some_waits program m o r.numbers was running es rest waited some few) it.0.left (reply.Fault fault.Device) m' refl,
+          writes_some program m o r.numbers was running w.layout.slots over (some_waits program m o r.numbers was running w.layout.slots over es rest waited some few taken) it.0.left (reply.Fault fault.Device) m' refl,
           in_point program w' m' o' after (record {
             state = state ∙ was.state;
             number = o'.known ∙ ap (λ (s : State). s.count) at.state ∙ sym o.known ∙ was.number;
@@ -196,7 +213,7 @@ module _ {D T S : Type 0} {d t z : _} (program : Program) (w w' : World D T S d 
         let at = it.1 in
         let m' : WorldModel = record m { session = Closed; failures = after_fault m.failures; doubtful = m.durable + length es } in (
           m',
-          writes_some program m o r.numbers was running (some_waits program m o r.numbers was running es rest waited some few) it.0.left (reply.Fault fault.Unknown) m' (m.durable + length es, is_end program m o r.numbers was running es rest waited some few, refl),
+          writes_some program m o r.numbers was running w.layout.slots over (some_waits program m o r.numbers was running w.layout.slots over es rest waited some few taken) it.0.left (reply.Fault fault.Unknown) m' (m.durable + length es, is_end program m o r.numbers was running w.layout.slots over es rest waited some few taken, refl),
           in_point program w' m' o' after (record {
             state = state ∙ was.state;
             number = o'.known ∙ ap (λ (s : State). s.count) at.state ∙ sym o.known ∙ was.number;
@@ -207,7 +224,7 @@ module _ {D T S : Type 0} {d t z : _} (program : Program) (w w' : World D T S d 
             status = ap session_of (sym (o'.shut ∙ at.closed));
             certain = λ yes. absurd (true_not_false (sym (o'.shut ∙ at.closed) ∙ yes));
           })
-              (record { opened = r.numbers.opened; durable = omega arith; doubtful = reached program m o r.numbers was running es rest waited some few; each = r.numbers.each; sound = r.numbers.sound })
+              (record { opened = r.numbers.opened; durable = omega arith; doubtful = reached program m o r.numbers was running w.layout.slots over es rest waited some few taken; each = r.numbers.each; sound = r.numbers.sound })
               same_slots (failures ∙ ap after_fault had),
         )
 
@@ -216,15 +233,15 @@ module _ {D T S : Type 0} {d t z : _} (program : Program) (w w' : World D T S d 
     handed (Err fault.Device) uses it waits = device_failed it waits uses.failures
     handed (Err fault.Unknown) uses it waits = outcome_unknown it waits uses.failures
     handed (Err fault.Closed) uses it waits = absurd (true_not_false (sym (o.shut ∙ it.0) ∙ running))
-    handed (Err fault.LogFull) uses it waits = (m, log_full program m o r.numbers was running (some_waits program m o r.numbers was running es rest waited some few) it.1, refused it.2 waits)
+    handed (Err fault.LogFull) uses it waits = (m, log_full program m o r.numbers was running w.layout.slots over (some_waits program m o r.numbers was running w.layout.slots over es rest waited some few taken) it.1, refused it.2 waits)
     handed (Err _) uses it waits = absurd it
 
   -- the point of the run after a flush
   pub flushes : (x : Result ℕ Fault) → Uses (journal.device_of o.journal) (journal.device_of o'.journal) x → Flushes o x o' → Next (flush_reply x)
   flushes x uses (inl it) =
       subst (λ (y : Result ℕ Fault). Next (flush_reply y)) (sym it.answered)
-      (m, subst (λ (z : SessionStatus). AllowsFlush program z m (reply.Fault fault.Closed) m) (sym (was.status ∙ ap session_of it.closed)) (refl, refl), unchanged it.same)
+      (m, subst (λ (z : SessionStatus). AllowsFlush program w.layout.slots z m (reply.Fault fault.Closed) m) (sym (was.status ∙ ap session_of it.closed)) (refl, refl), unchanged it.same)
   flushes x uses (inr (inl it)) =
       subst (λ (y : Result ℕ Fault). Next (flush_reply y)) (sym it.answered)
-      (m, nothing_waits program m o r.numbers was it.running it.none (durable_of o.core) was.number, unchanged it.same)
-  flushes x uses (inr (inr it)) = handed it.oldest it.rest it.running it.waited it.some it.few x uses it.journal it.waits
+      (m, nothing_waits program m o r.numbers was it.running w.layout.slots over it.none (durable_of o.core) was.number, unchanged it.same)
+  flushes x uses (inr (inr it)) = handed it.oldest it.rest it.running it.waited it.some it.few it.taken x uses it.journal it.waits

@@ -1,5 +1,5 @@
 -- The table of a world, and what it means.
-use Rattle.std.proofs.Common.{◌≡◌, refl, sym, ◌∙◌, ap, subst}
+use Rattle.std.proofs.Common.{◌≡◌, sym, ◌∙◌, ap, subst}
 use Rattle.tmem_core.specs.Held.{table_of}
 use Rattle.tmem_core.specs.Program.{Program}
 use Rattle.tmem_world.specs.declared.session.Session.{Session}

@@ -11,7 +11,6 @@ use Rattle.tmem_tree.specs.declared.settled.Settled.{Settled}
 use Rattle.tmem_tree.specs.declared.settled.Settled.TheVariants.{Committed, Seen, Retry, Aborted, Refused}
 use Rattle.tmem_core.specs.Verdict.{map_of, verdict}
 use Rattle.tmem_core.specs.SettleAnswer.{judged}
-use Rattle.tmem_journal.specs.declared.journal.TheConstants.{LOG_SLOTS}
 use Rattle.tmem_event.specs.declared.event.Event.{Event}
 use Rattle.tmem_event.specs.declared.event.Event.TheVariants as event
 use Rattle.tmem_event.specs.declared.event.Reply.{Reply}
@@ -98,12 +97,12 @@ either_of : (b : Bool) (P Q R : Type 0) → (P → R) → (Q → R) → MatchBoo
 either_of true P Q R one other is = one is
 either_of false P Q R one other is = other is
 
-flushes_in : (program : Program) (s : SessionStatus) (m : WorldModel) (r : Reply) (m' : WorldModel) → AllowsFlush program s m r m' → KeepsDurable m r m'
-flushes_in program Open m r m' is =
+flushes_in : (program : Program) (slots : ℕ) (s : SessionStatus) (m : WorldModel) (r : Reply) (m' : WorldModel) → AllowsFlush program slots s m r m' → KeepsDurable m r m'
+flushes_in program slots Open m r m' is =
     either_of (nat_eq m.durable (present program m).count) _ _ (KeepsDurable m r m') (λ so. keeps_same m r (reply.Durable m.durable) m' (omega arith) so)
-    (λ so. either_of (nat_eq m.used LOG_SLOTS) _ _ (KeepsDurable m r m') (λ full. keeps_same m r (reply.Fault fault.LogFull) m' (omega arith) full) (λ some. flushes_some program m r m' some) so) is
-flushes_in program Closed m r m' is = keeps_same m r (reply.Fault fault.Closed) m' (omega arith) is
-flushes_in program Gone m r m' is = keeps_same m r (reply.Fault fault.Closed) m' (omega arith) is
+    (λ so. either_of (nat_eq m.used slots) _ _ (KeepsDurable m r m') (λ full. keeps_same m r (reply.Fault fault.LogFull) m' (omega arith) full) (λ some. flushes_some program m r m' some) so) is
+flushes_in program slots Closed m r m' is = keeps_same m r (reply.Fault fault.Closed) m' (omega arith) is
+flushes_in program slots Gone m r m' is = keeps_same m r (reply.Fault fault.Closed) m' (omega arith) is
 
 reopens : (m : WorldModel) (r : Reply) (m' : WorldModel) → m.durable ≤ m.doubtful → AllowsReopen m r m' → KeepsDurable m r m'
 reopens m (reply.Opened n) m' below is =
@@ -124,7 +123,7 @@ keeps_durable set m (event.Begin slot tx) r m' below is = in_session m.session m
 keeps_durable set m (event.Turn slot) r m' below is = in_session m.session m r m' _ (turns set.program (slot_at m slot) m slot r m') is
 keeps_durable set m (event.Settle slot) r m' below is =
     in_session m.session m r m' _ (λ (so : (r, m') ≡ settle_result set.program (slot_at m slot) m slot). as_pair m r m' _ so (settles set.program (slot_at m slot) m slot)) is
-keeps_durable set m event.Flush r m' below is = in_session m.session m r m' _ (flushes_in set.program m.session m r m') is
+keeps_durable set m event.Flush r m' below is = in_session m.session m r m' _ (flushes_in set.program set.slots m.session m r m') is
 keeps_durable set m event.Look r m' below is = in_session m.session m r m' _ (keeps_same m r (reply.Looked m.durable) m' (omega arith)) is
 keeps_durable set m event.Reopen r m' below is = reopens m r m' below is
 

@@ -5,9 +5,11 @@ pub mod FlushedPoints
 pub mod HeldTables
 pub mod TakenBatches
 pub mod Laws
+pub mod Mending
 pub mod OpenedPoints
 pub mod Points
 pub mod ReopenedPoints
 pub mod Serial
 pub mod SettledPoints
 pub mod SettledSlots
+pub mod WrittenSlots

@@ -1,8 +1,9 @@
 -- Where a run begins.
-use Rattle.std.proofs.Common.{◌≡◌, ◌⊎◌, ⊎_elim, ℕ, ◌-◌, List, [], length, refl, sym, ◌∙◌, ap, subst, arith, drop, take, false, zero, suc}
-use Rattle.std.specs.Prelude.{All}
+use Rattle.std.proofs.Common.{◌≡◌, ◌≢◌, ◌⊎◌, ⊎_elim, ℕ, ◌-◌, List, [], length, refl, sym, ◌∙◌, ap, subst, arith, drop, take, false, zero, suc}
+use Rattle.std.specs.Prelude.{All, Ok}
 use Rattle.std.proofs.Math.Logic.{∥∥₁_elim}
 use Rattle.std.proofs.Props.{props}
+use Rattle.tmem_disk.specs.Disk.{DeviceView}
 use Rattle.tmem_disk.specs.declared.fault.Fault.{Fault}
 use Rattle.tmem_disk.specs.declared.fault.Fault.TheVariants as fault
 use Rattle.tmem_world.specs.declared.session.Slot.{Slot}
@@ -10,6 +11,7 @@ use Rattle.tmem_world.specs.declared.session.Slot.TheVariants as slot
 use Rattle.tmem_world.specs.declared.session.Session as core
 use Rattle.tmem_world.specs.declared.held.Held.TheVariants.{With}
 use Rattle.tmem_world.specs.declared.world.World.{World}
+use Rattle.tmem_gate.specs.Calls.{Uses, failures_after}
 use Rattle.tmem_record.specs.State.{State}
 use Rattle.tmem_record.specs.declared.effect.Effect.{Effect}
 use Rattle.tmem_tree.specs.declared.tx.Tx.{Tx}
@@ -19,11 +21,13 @@ use Rattle.tmem_core.specs.Held.{state_of, waiting_of, is_shut_of}
 use Rattle.tmem_core.specs.Verdict.{serial_state}
 use Rattle.tmem_journal.specs.Held as journal
 use Rattle.tmem_journal.specs.declared.journal.Journal as owner
-use Rattle.tmem_journal.specs.Refusals.{IsWhy}
+use Rattle.tmem_journal.specs.Calls.{FitsOn}
+use Rattle.tmem_journal.specs.Refusals.{IsWhy, IsRefusedBy}
 use Rattle.tmem_world.specs.SessionRefusals.{IsWhyNoSession, IsWhyNot}
 use Rattle.tmem_world.specs.WorldModel.{WorldModel, opening, cut}
-use Rattle.tmem_world.specs.Represents.{Represents, held_of, session_of}
+use Rattle.tmem_world.specs.Represents.{Represents, OpeningRefused, TellsOfContent, held_of, session_of}
 use Rattle.tmem_world.proofs.DroppedPoints.{no_slots_held}
+use Rattle.tmem_world.proofs.Mending.{Mending}
 use Rattle.tmem_world.proofs.Points.{in_point}
 
 abbrev none_of : (A : Type 0) → List A
@@ -44,6 +48,40 @@ why_session P U V fault.Memory so why = tt
 why_session P U V (fault.Missing name) so why = so why
 why_session P U V (fault.Broken name) so why = so why
 why_session P U V _ so why = absurd why
+
+-- a refusal that tells of the content is no failed call
+pub tells_no_device : (f : Fault) → TellsOfContent f → f ≢ fault.Device
+tells_no_device fault.NotFormatted tells = λ is. cc
+tells_no_device fault.Damaged tells = λ is. cc
+tells_no_device fault.Geometry tells = λ is. cc
+tells_no_device _ tells = absurd tells
+
+-- nor does a session's refusal tell of it
+pub session_tells_none : (U : Type 0) (f : Fault) → IsWhyNoSession U f → TellsOfContent f → ⊥
+session_tells_none U fault.Memory why tells = tells
+session_tells_none U (fault.Missing name) why tells = tells
+session_tells_none U (fault.Broken name) why tells = tells
+session_tells_none U _ why tells = why
+
+-- what a session is refused for is no failed call
+pub no_device : (U : Type 0) (f : Fault) → IsWhyNoSession U f → (n : ℕ) → n ≡ failures_after f n
+no_device U fault.Memory why n = refl
+no_device U (fault.Missing name) why n = refl
+no_device U (fault.Broken name) why n = refl
+no_device U _ why n = absurd why
+
+-- A journal was opened, and its device handed back with a refusal for want of memory or by an invariant.
+pub opened_then_refused : {D : Type 0} {d : _} (vars slots : ℕ) (old : DeviceView) (j : owner.Journal D d) (back : D) → back ≡ journal.disk_of j → (f : Fault) (unsound U : Type 0)
+    → Uses {T = Unit {0}} old (journal.device_of j) (Ok tt) → FitsOn vars slots old.capacity → Mending vars slots old (journal.device_of j) → IsWhyNoSession U f → (U → unsound) → OpeningRefused old vars slots unsound f (d.view back)
+opened_then_refused {D} {d} vars slots old j back is f unsound U uses fits mends why so = subst (λ (x : D). OpeningRefused old vars slots unsound f (d.view x)) (sym is) (record {
+  uses = record { capacity = uses.capacity; model = uses.model; failures = uses.failures ∙ no_device U f why old.failures };
+  numbers = λ unfit. absurd (unfit fits);
+  why = why_session (λ g. (journal.device_of j).keeps_model → FitsOn vars slots old.capacity → IsRefusedBy vars slots old.seen g) U unsound f so why;
+  seen = mends.seen;
+  stop = mends.stop;
+  looks = mends.looks;
+  early = λ tells. absurd (session_tells_none U f why tells);
+})
 
 -- a sound state lacks nothing
 pub only_memory : (U : Type 0) (f : Fault) → (U → ⊥) → IsWhyNoSession U f → f ≡ fault.Memory

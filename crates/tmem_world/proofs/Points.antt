@@ -28,11 +28,13 @@ use Rattle.std.proofs.lemmas.Bool.{false≢true}
 use Rattle.tmem_world.specs.Parts.{what, disk_in, layout_in, table_in, IsWith}
 use Rattle.tmem_record.specs.State.{State}
 use Rattle.tmem_journal.specs.Held as journal
+use Rattle.tmem_journal.specs.Mended.{MendedBy}
 use Rattle.tmem_journal.specs.Stands.{StandsForEither}
 use Rattle.tmem_record.specs.declared.layout.Layout.{Layout}
 use Rattle.tmem_world.specs.declared.world.World.{World}
 use Rattle.tmem_world.specs.WorldModel.{WorldModel, SlotModel, NoTransaction, Begun, Ended, SessionStatus, InSession, AllowsTurn, value_or, overridden, goes_on, present, cut, holding, slot_at}
 use Rattle.tmem_world.specs.SettleSlot.{Joins, Keeps}
+use Rattle.tmem_world.proofs.Mending.{mended_stands}
 use Rattle.tmem_world.specs.Represents.{SlotIs, SessionIs, HasSession, IsNumbered, Represents, EachMoment, StandsCut, session_of, held_of, device_of, view_of, held_table}
 
 pub AllZip-set : {A B : Type 0} (R : A → B → Type 0) (xs : List A) (ys : List B) (k : ℕ) (x : A) (y : B) → AllZip R xs ys → R x y → AllZip R (slice_set xs k x) (slice_set ys k y)
@@ -124,9 +126,10 @@ module _ {D T S : Type 0} {d t s : _} (w w' : World D T S d t s) (layout : w'.la
       subst (λ (x : D). AtEachMoment (view_of w) (d.view x) (λ c. ∥ StandsCut program w.layout.vars w.layout.slots m c ⊎ StandsCut program w.layout.vars w.layout.slots m' c ∥₁)) (sym same)
       (record { each = λ k c left. ∣ inl (r.device.each k c (device.only_now c k left)) ∣₁ })
 
-  -- an event that writes nothing
-  pub looking_moments : ((view_of w').keeps_model → (view_of w).keeps_model) → AtEachMoment (view_of w) (view_of w') (view_of w).may_leave → EachMoment w w'
-  looking_moments model during = λ program m m' r r'. record { each = λ k c left. ∣ inl (r.device.each (model k) c (during.each k c left)) ∣₁ }
+  -- an event that closes gates behind the log
+  pub mending_moments : ((view_of w').keeps_model → (view_of w).keeps_model) → AtEachMoment (view_of w) (view_of w') (MendedBy w.layout.vars w.layout.slots (view_of w)) → EachMoment w w'
+  mending_moments model during = λ program m m' r r'.
+      record { each = λ k c left. ∣ inl (mended_stands w.layout.vars w.layout.slots (cut program m m.durable) (cut program m m.doubtful) (view_of w) r.device (model k) c (during.each k c left)) ∣₁ }
 
 module _ {D T S : Type 0} {d t s : _} (program : Program) (w w' : World D T S d t s) (m : WorldModel) where
   -- one attempt changes, and nothing else

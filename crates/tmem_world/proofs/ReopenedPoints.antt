@@ -1,10 +1,10 @@
 -- The point of a run after the device was opened again.
-use Rattle.std.proofs.Common.{◌≡◌, ◌⊎◌, inl, inr, ⊎_elim, ℕ, ◌+◌, ◌-◌, ◌≤◌, false, List, [], length, take, refl, sym, ◌∙◌, ap, subst, arith}
+use Rattle.std.proofs.Common.{◌≡◌, ◌≢◌, ◌⊎◌, inl, inr, ⊎_elim, ℕ, ◌+◌, ◌-◌, ◌≤◌, false, List, [], length, take, refl, sym, ◌∙◌, ap, subst, arith}
 use Rattle.std.specs.Prelude.{All, Some, Result, Ok, Err}
 use Rattle.std.proofs.Math.Logic.{∥∥₁_elim}
 use Rattle.std.proofs.Props.{props}
 use Rattle.std.proofs.lemmas.Bool.{cases_eq}
-use Rattle.tmem_disk.specs.Disk.{DeviceView, LeavesOnly, ReadsAs, AtEachMoment, after_fault}
+use Rattle.tmem_disk.specs.Disk.{DeviceView, LeavesOnly, after_fault}
 use Rattle.tmem_disk.specs.declared.fault.Fault.{Fault}
 use Rattle.tmem_disk.specs.declared.fault.Fault.TheVariants as fault
 use Rattle.tmem_event.specs.declared.event.Reply.TheVariants as reply
@@ -26,6 +26,7 @@ use Rattle.tmem_record.specs.Layout.{end_place}
 use Rattle.tmem_journal.specs.Stands.{StandsFor, StandsForEither}
 use Rattle.tmem_journal.specs.Refusals.{IsRefusedBy}
 use Rattle.tmem_journal.specs.Journals.{IsOpeningRefused}
+use Rattle.tmem_journal.specs.Mended.{MendedBy}
 use Rattle.tmem_core.specs.Opening.{opening_fault}
 use Rattle.tmem_journal.specs.Held as journal
 use Rattle.tmem_journal.specs.declared.journal.Journal as owner
@@ -33,22 +34,16 @@ use Rattle.tmem_world.specs.SessionRefusals.{IsWhyNoSession}
 use Rattle.tmem_world.specs.Parts.{disk_in, layout_in, table_in, IsWith}
 use Rattle.tmem_world.specs.AnyDevice.{dropped_by, FindsUnsound, ReopeningRefused}
 use Rattle.tmem_world.specs.WorldModel.{WorldModel, no_transactions, Open, cut, dropped, AllowsReopen}
-use Rattle.tmem_world.specs.Represents.{Represents, Means, EachMoment, StandsCut, held_of, held_table, device_of, view_of, session_of}
+use Rattle.tmem_world.specs.Represents.{Represents, Means, EachMoment, LooksWhereClosed, StandsCut, held_of, held_table, device_of, view_of, session_of}
 use Rattle.tmem_world.proofs.DroppedPoints.{no_slots_held, gone}
-use Rattle.tmem_world.proofs.Points.{in_point, looking_moments}
-use Rattle.tmem_world.proofs.OpenedPoints.{why_journal, why_session, only_memory, sound_either}
+use Rattle.tmem_world.proofs.Mending.{Mending}
+use Rattle.tmem_world.proofs.Points.{in_point, mending_moments}
+use Rattle.tmem_world.proofs.OpenedPoints.{why_journal, why_session, only_memory, sound_either, tells_no_device, session_tells_none, no_device}
 use Rattle.tmem_world.proofs.Serial.{committed-take, length-take, take-again, take-shorter, none_waits}
 
 -- the point of the run where n transactions were found, and so many log slots are used
 abbrev found_at : WorldModel → ℕ → ℕ → WorldModel
 found_at m n used = record m { accepted = take (n - m.opened.count) m.accepted; durable = n; doubtful = n; used = used; slots = no_transactions; session = Open }
-
--- what a session is refused for is no failed call
-no_device : (U : Type 0) (f : Fault) → IsWhyNoSession U f → (n : ℕ) → n ≡ failures_after f n
-no_device U fault.Memory why n = refl
-no_device U (fault.Missing name) why n = refl
-no_device U (fault.Broken name) why n = refl
-no_device U _ why n = absurd why
 
 module _ {D T S : Type 0} {d t z : _} (program : Program) (w w' : World D T S d t z) (m : WorldModel) (r : Represents program w m) (layout : w'.layout ≡ w.layout)
     (emptied : All (λ (s : Slot). s ≡ slot.Empty) w'.slots.items) (sized : length w'.slots.items ≡ 16) where
@@ -65,7 +60,7 @@ module _ {D T S : Type 0} {d t z : _} (program : Program) (w w' : World D T S d 
   doubtful_from = omega (arith, r.numbers.opened, r.numbers.durable)
 
   -- opening was refused by want of memory, or since a call of the device failed
-  pub refused : LeavesOnly (view_of w') (view_of w).may_leave → ((view_of w').keeps_model → (view_of w).keeps_model) → (IsWith (held_of w') → ⊥) → (f : Fault) → (f ≡ fault.Memory) ⊎ (f ≡ fault.Device) → (view_of w').failures ≡ failures_after f (view_of w).failures
+  pub refused : LeavesOnly (view_of w') (MendedBy w.layout.vars w.layout.slots (view_of w)) → ((view_of w').keeps_model → (view_of w).keeps_model) → (IsWith (held_of w') → ⊥) → (f : Fault) → (f ≡ fault.Memory) ⊎ (f ≡ fault.Device) → (view_of w').failures ≡ failures_after f (view_of w).failures
       → (m' : WorldModel) × AllowsReopen m (reply.Fault f) m' × Represents program w' m'
   refused stop model none f which failures = ⊎_elim by_memory by_device which
     where
@@ -150,6 +145,9 @@ module _ {D T S : Type 0} {d t z : _} (w : World D T S d t z) (h : Held D T d t)
     pub failures_before : (v : DeviceView) (n : ℕ → ℕ) → v.failures ≡ n (d.view disk).failures → v.failures ≡ n (view_of w).failures
     failures_before v n it = it ∙ ap (λ (x : D). n (d.view x).failures) disk_before
 
+    pub looks_before : (vars slots : ℕ) (v : DeviceView) → LooksWhereClosed vars slots (d.view disk) v → LooksWhereClosed vars slots (view_of w) v
+    looks_before vars slots v it = subst (λ (x : D). LooksWhereClosed vars slots (d.view x) v) disk_before it
+
     pub seen_before : (P : List ℕ → Type 0) → P (d.view disk).seen → P (view_of w).seen
     seen_before P it = subst (λ (x : D). P (d.view x).seen) disk_before it
 
@@ -171,24 +169,24 @@ module _ {D T S : Type 0} {d t z : _} (w w' : World D T S d t z) (h : Held D T d
   uses_again : (v : D) → device_of w' ≡ v → {x : Result (Unit {0}) Fault} → Uses (d.view disk) (d.view v) x → Uses (view_of w) (view_of w') x
   uses_again v now {x} uses = subst (λ (y : D). Uses (view_of w) (d.view y) x) (sym now) (subst (λ (y : D). Uses (d.view y) (d.view v) x) same_disk uses)
 
+  -- a call that wrote nothing
+  looks_again : (v : D) → device_of w' ≡ v → LooksOnly (d.view disk) (d.view v) → LooksOnly (view_of w) (view_of w')
+  looks_again v now looks = subst (λ (x : D). LooksOnly (view_of w) (d.view x)) (sym now) (subst (λ (x : D). LooksOnly (d.view x) (d.view v)) same_disk looks)
+
   -- every crash left one of two states
   left : (program : Program) (m : WorldModel) → Represents program w m → LeavesOnly (d.view disk) (StandsCut program w.layout.vars w.layout.slots m)
   left program m r = subst (λ (x : D). LeavesOnly (d.view x) (StandsCut program w.layout.vars w.layout.slots m)) (sym same_disk) r.device
 
-  module _ (v : D) (now : device_of w' ≡ v) (looks : LooksOnly (d.view disk) (d.view v)) (model : (d.view v).keeps_model → (d.view disk).keeps_model) where
-    pub seen_again : ReadsAs (view_of w') (view_of w).seen
-    seen_again = subst (λ (x : D). ReadsAs (d.view x) (view_of w).seen) (sym now) (subst (λ (x : D). ReadsAs (d.view v) (d.view x).seen) same_disk looks.seen)
-
-    pub stop_again : LeavesOnly (view_of w') (view_of w).may_leave
-    stop_again = subst (λ (x : D). LeavesOnly (d.view x) (view_of w).may_leave) (sym now) (subst (λ (x : D). LeavesOnly (d.view v) (d.view x).may_leave) same_disk looks.stop)
+  module _ (v : D) (now : device_of w' ≡ v) (mends : Mending w.layout.vars w.layout.slots (d.view disk) (d.view v)) (model : (d.view v).keeps_model → (d.view disk).keeps_model) where
+    -- what the opening did to the device
+    pub mends_again : Mending w.layout.vars w.layout.slots (view_of w) (view_of w')
+    mends_again = subst (λ (x : D). Mending w.layout.vars w.layout.slots (view_of w) (d.view x)) (sym now) (subst (λ (x : D). Mending w.layout.vars w.layout.slots (d.view x) (d.view v)) same_disk mends)
 
     pub model_again : (view_of w').keeps_model → (view_of w).keeps_model
     model_again = subst (λ (x : D). (d.view x).keeps_model → (view_of w).keeps_model) (sym now) (subst (λ (x : D). (d.view v).keeps_model → (d.view x).keeps_model) same_disk model)
 
-    pub reopen_moments : AtEachMoment (d.view disk) (d.view v) (d.view disk).may_leave → EachMoment w w'
-    reopen_moments during =
-        looking_moments w w' layout model_again
-        (subst (λ (x : D). AtEachMoment (view_of w) (d.view x) (view_of w).may_leave) (sym now) (subst (λ (x : D). AtEachMoment (d.view x) (d.view v) (d.view x).may_leave) same_disk during))
+    pub reopen_moments : EachMoment w w'
+    reopen_moments = mending_moments w w' layout model_again mends_again.any_moment
 
     pub failures_again : (n : ℕ → ℕ) → (d.view v).failures ≡ n (d.view disk).failures → (view_of w').failures ≡ n (view_of w).failures
     failures_again n it = ap (λ (x : D). (d.view x).failures) now ∙ it ∙ ap (λ (x : D). n (d.view x).failures) same_disk
@@ -196,16 +194,16 @@ module _ {D T S : Type 0} {d t z : _} (w w' : World D T S d t z) (h : Held D T d
     module _ (none : IsWith (held_of w') → ⊥) where
       -- the point where the session is gone
       pub gone_again : (f : Fault) → (d.view v).failures ≡ failures_after f (d.view disk).failures → (program : Program) (m : WorldModel) → Represents program w m → Represents program w' (dropped_by f m)
-      gone_again f failures program m r = gone program w w' m r layout emptied sized stop_again model_again none (failures_after f m.failures) (failures_again (failures_after f) failures ∙ ap (failures_after f) r.failures)
+      gone_again f failures program m r = gone program w w' m r layout emptied sized mends_again.stop model_again none (failures_after f m.failures) (failures_again (failures_after f) failures ∙ ap (failures_after f) r.failures)
 
       -- no journal was opened
       pub journal_refused : (f : Fault) → (d.view v).failures ≡ failures_after f (d.view disk).failures
           → ((s s' : State) → FitsOn w.layout.vars w.layout.slots (d.view disk).capacity → LeavesOnly (d.view disk) (StandsForEither w.layout.vars w.layout.slots s s') → (d.view v).keeps_model → (f ≡ fault.Memory) ⊎ (f ≡ fault.Device))
           → (program : Program) (m : WorldModel) → Represents program w m → (d.view v).keeps_model → (m' : WorldModel) × AllowsReopen m (reply.Fault f) m' × Represents program w' m'
       journal_refused f failures either program m r keeps =
-          refused program w w' m r layout emptied sized stop_again model_again none f (either (cut program m m.durable) (cut program m m.doubtful) fits_again (left program m r) keeps) (failures_again (failures_after f) failures)
+          refused program w w' m r layout emptied sized mends_again.stop model_again none f (either (cut program m m.durable) (cut program m m.doubtful) fits_again (left program m r) keeps) (failures_again (failures_after f) failures)
 
-  module _ (j : owner.Journal D d) (looks : LooksOnly (d.view disk) (journal.device_of j)) (model : (journal.device_of j).keeps_model → (d.view disk).keeps_model) (failures : (journal.device_of j).failures ≡ (d.view disk).failures)
+  module _ (j : owner.Journal D d) (mends : Mending w.layout.vars w.layout.slots (d.view disk) (journal.device_of j)) (model : (journal.device_of j).keeps_model → (d.view disk).keeps_model) (failures : (journal.device_of j).failures ≡ (d.view disk).failures)
       (either : (s s' : State) → FitsOn w.layout.vars w.layout.slots (d.view disk).capacity → LeavesOnly (d.view disk) (StandsForEither w.layout.vars w.layout.slots s s') → (journal.device_of j).keeps_model → ∥ (journal.state_of j ≡ s) ⊎ (journal.state_of j ≡ s') ∥₁) where
     -- a journal was opened, and no session begun over it
     pub session_refused : (v : D) → device_of w' ≡ v → v ≡ journal.disk_of j → (IsWith (held_of w') → ⊥) → (f : Fault) (U : Type 0) → IsWhyNoSession U f
@@ -215,8 +213,8 @@ module _ {D T S : Type 0} {d t z : _} (w w' : World D T S d t z) (h : Held D T d
         let keeps' : (journal.device_of j).keeps_model = subst (λ (x : D). (d.view x).keeps_model) same keeps in
         let one = either (cut program m m.durable) (cut program m m.doubtful) fits_again (left program m r) keeps' in
         let memory : f ≡ fault.Memory = by_memory program w w' m r layout emptied sized (journal.state_of j) one U f unsound why in
-        let so : (view_of w').failures ≡ (view_of w).failures = failures_again (journal.disk_of j) same looks model (λ n. n) failures in
-        refused program w w' m r layout emptied sized (stop_again (journal.disk_of j) same looks model) (model_again (journal.disk_of j) same looks model) none f (inl memory)
+        let so : (view_of w').failures ≡ (view_of w).failures = failures_again (journal.disk_of j) same mends model (λ n. n) failures in
+        refused program w w' m r layout emptied sized (mends_again (journal.disk_of j) same mends model).stop (model_again (journal.disk_of j) same mends model) none f (inl memory)
         (subst (λ (x : Fault). (view_of w').failures ≡ failures_after x (view_of w).failures) (sym memory) so)
 
     -- a session was begun over it
@@ -229,32 +227,35 @@ module _ {D T S : Type 0} {d t z : _} (w w' : World D T S d t z) (h : Held D T d
         (either (cut program m m.durable) (cut program m m.doubtful) fits_again (left program m r) keeps') n (count ∙ ap (λ (x : State). x.count) state)
 
   -- why it was refused, where no journal was opened
-  pub reopening_refused : (v : D) → device_of w' ≡ v → LooksOnly (d.view disk) (d.view v) → {f : Fault} → Uses {T = Unit {0}} (d.view disk) (d.view v) (Err f) → (IsWith (held_of w') → ⊥) → IsOpeningRefused (d.view disk) w.layout.vars w.layout.slots f (d.view v) → ReopeningRefused w f w'
-  reopening_refused v now looks {f} uses none why = record {
+  pub reopening_refused : (v : D) → device_of w' ≡ v → Mending w.layout.vars w.layout.slots (d.view disk) (d.view v) → {f : Fault} → Uses {T = Unit {0}} (d.view disk) (d.view v) (Err f) → (IsWith (held_of w') → ⊥) → IsOpeningRefused (d.view disk) w.layout.vars w.layout.slots f (d.view v)
+      → (f ≢ fault.Device → LooksOnly (d.view disk) (d.view v)) → ReopeningRefused w f w'
+  reopening_refused v now mends {f} uses none why early = record {
     refused = record {
       uses = uses_again v now uses;
       numbers = λ unfit. absurd (unfit (subst (λ (x : D). FitsOn w.layout.vars w.layout.slots (d.view x).capacity) same_disk fits_again));
       why = why_journal (λ g. (d.view v).keeps_model → FitsOn w.layout.vars w.layout.slots (d.view disk).capacity → IsRefusedBy w.layout.vars w.layout.slots (d.view disk).seen g)
           (λ g. (view_of w').keeps_model → FitsOn w.layout.vars w.layout.slots (view_of w).capacity → IsRefusedBy w.layout.vars w.layout.slots (view_of w).seen g) _ f
           (λ g by k fits. subst (λ (x : D). IsRefusedBy w.layout.vars w.layout.slots (d.view x).seen g) same_disk (by (subst (λ (x : D). (d.view x).keeps_model) now k) fits_again)) why.why;
-      seen = seen_again v now looks uses.model;
-      stop = stop_again v now looks uses.model;
+      seen = (mends_again v now mends uses.model).seen;
+      stop = (mends_again v now mends uses.model).stop;
+      looks = (mends_again v now mends uses.model).looks;
+      early = λ tells. looks_again v now (early (tells_no_device f tells));
     };
     session = none;
     slots = emptied;
-    point = gone_again v now looks uses.model none f uses.failures;
+    point = gone_again v now mends uses.model none f uses.failures;
   }
 
   -- and where no session was begun over it
-  pub session_not_begun : (j : owner.Journal D d) → LooksOnly (d.view disk) (journal.device_of j) → Uses {T = Unit {0}} (d.view disk) (journal.device_of j) (Ok tt) → ((journal.device_of j).keeps_model → StandsFor w.layout.vars w.layout.slots (journal.used_slots_of j) (journal.state_of j) (d.view disk).seen)
+  pub session_not_begun : (j : owner.Journal D d) → Mending w.layout.vars w.layout.slots (d.view disk) (journal.device_of j) → Uses {T = Unit {0}} (d.view disk) (journal.device_of j) (Ok tt) → ((journal.device_of j).keeps_model → StandsFor w.layout.vars w.layout.slots (journal.used_slots_of j) (journal.state_of j) (d.view disk).seen)
       → (v : D) → device_of w' ≡ v → v ≡ journal.disk_of j → (IsWith (held_of w') → ⊥) → (f : Fault) (U : Type 0) → IsWhyNoSession U f → (U → (program : Program) → Means w program → opening_fault program (journal.state_of j) ≡ Some f) → ReopeningRefused w f w'
-  session_not_begun j looks uses found v now back none f U why fault_of =
+  session_not_begun j mends uses found v now back none f U why fault_of =
       let same : device_of w' ≡ journal.disk_of j = now ∙ back in
       let counts : (journal.device_of j).failures ≡ failures_after f (d.view disk).failures = uses.failures ∙ no_device U f why (d.view disk).failures in
       let so = uses_again (journal.disk_of j) same uses in
       record {
         refused = record {
-          uses = record { capacity = so.capacity; model = so.model; failures = failures_again (journal.disk_of j) same looks uses.model (failures_after f) counts };
+          uses = record { capacity = so.capacity; model = so.model; failures = failures_again (journal.disk_of j) same mends uses.model (failures_after f) counts };
           numbers = λ unfit. absurd (unfit (subst (λ (x : D). FitsOn w.layout.vars w.layout.slots (d.view x).capacity) same_disk fits_again));
           why = why_session (λ g. (view_of w').keeps_model → FitsOn w.layout.vars w.layout.slots (view_of w).capacity → IsRefusedBy w.layout.vars w.layout.slots (view_of w).seen g) U (FindsUnsound w f w') f (λ un. (
             journal.used_slots_of j,
@@ -262,10 +263,12 @@ module _ {D T S : Type 0} {d t z : _} (w w' : World D T S d t z) (h : Held D T d
             (λ k. subst (λ (x : D). StandsFor w.layout.vars w.layout.slots (journal.used_slots_of j) (journal.state_of j) (d.view x).seen) same_disk (found (subst (λ (x : D). (d.view x).keeps_model) same k))),
             fault_of un,
           )) why;
-          seen = seen_again (journal.disk_of j) same looks uses.model;
-          stop = stop_again (journal.disk_of j) same looks uses.model;
+          seen = (mends_again (journal.disk_of j) same mends uses.model).seen;
+          stop = (mends_again (journal.disk_of j) same mends uses.model).stop;
+          looks = (mends_again (journal.disk_of j) same mends uses.model).looks;
+          early = λ tells. absurd (session_tells_none U f why tells);
         };
         session = none;
         slots = emptied;
-        point = gone_again (journal.disk_of j) same looks uses.model none f counts;
+        point = gone_again (journal.disk_of j) same mends uses.model none f counts;
       }

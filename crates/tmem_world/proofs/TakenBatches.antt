@@ -1,9 +1,10 @@
 -- The oldest effects that wait, as a batch.
-use Rattle.std.proofs.Common.{◌≡◌, inr, false, ℕ, ◌+◌, ◌<◌, ◌≤◌, List, [], ◌∷◌, ◌++◌, length, take, drop, refl, sym, ◌∙◌, ap, subst, arith}
-use Rattle.std.proofs.lemmas.List.{take-append-drop}
-use Rattle.std.specs.Prelude.{Result, Err}
+use Rattle.std.proofs.Common.{◌≡◌, inr, false, ℕ, ◌+◌, ◌-◌, ◌<◌, ◌≤◌, ◌^◌, List, ◌++◌, length, drop, sym, ◌∙◌, ap, subst, arith}
+use Rattle.std.specs.Prelude.{Result}
 use Rattle.tmem_disk.specs.declared.fault.Fault.{Fault}
-use Rattle.tmem_core.specs.Held.{waiting_of, is_shut_of}
+use Rattle.tmem_core.specs.Held.{state_of, waiting_of, durable_of, is_shut_of}
+use Rattle.tmem_core.specs.Taking.{IsTaken}
+use Rattle.tmem_journal.specs.Held as journal
 use Rattle.tmem_journal.specs.Journals as journals
 use Rattle.tmem_world.specs.declared.session.Session as core
 use Rattle.tmem_world.specs.Sessions.{Flushes, waiting_after}
@@ -11,42 +12,62 @@ use Rattle.tmem_record.specs.State.{State, fold}
 use Rattle.tmem_record.specs.declared.effect.Effect.{Effect}
 use Rattle.tmem_record.proofs.Laws.{fold-append, count-fold, length-names-fold-le}
 
--- the first one of some
-pub length-take-one : (es : List Effect) → 1 ≤ length es → length (take 1 es) ≡ 1
-length-take-one [] some = absurd (omega (arith, some))
-length-take-one (e ∷ es) some = refl
-
--- so many are left behind the first ones
-pub drop-lengths : (es fs : List Effect) (n : ℕ) → n ≡ length es → drop n (es ++ fs) ≡ fs
-drop-lengths [] fs n is = subst (λ (k : ℕ). drop k fs ≡ fs) (sym is) refl
-drop-lengths (e ∷ es) fs n is = subst (λ (k : ℕ). drop k (e ∷ es ++ fs) ≡ fs) (sym is) (drop-lengths es fs (length es) refl)
-
-module _ (s : State) (n : ℕ) (es : List Effect) where
-  -- a state goes on to the same one by the first effects and then by the others
-  whole : fold (fold s (take n es)) (drop n es) ≡ fold s es
-  whole = sym (fold-append s (take n es) (drop n es)) ∙ ap (fold s) (take-append-drop n es)
-
-  -- its names are among those of the state after all
-  pub names_taken : length (fold s (take n es)).names ≤ length (fold s es).names
-  names_taken = subst (λ (x : State). length (fold s (take n es)).names ≤ length x.names) whole (length-names-fold-le (fold s (take n es)) (drop n es))
+module _ (s : State) (es rest : List Effect) where
+  -- the names of the state after the first effects are among those of the state after all
+  names_taken : length (fold s es).names ≤ length (fold s (es ++ rest)).names
+  names_taken = subst (λ (x : State). length (fold s es).names ≤ length x.names) (sym (fold-append s es rest)) (length-names-fold-le (fold s es) rest)
 
   -- and its count is no greater
-  pub count_taken : (fold s (take n es)).count ≤ (fold s es).count
-  count_taken = omega (arith, ap (λ (x : State). x.count) whole, count-fold (fold s (take n es)) (drop n es))
+  count_taken : (fold s es).count ≤ (fold s (es ++ rest)).count
+  count_taken = omega (arith, ap (λ (x : State). x.count) (fold-append s es rest), count-fold (fold s es) rest)
 
--- the oldest effect was handed to the journal, which failed: none waits less
-pub handed_in_vain : {D T : Type 0} {d t : _} (old new : core.Session D T d t) (answer : Result ℕ Fault) (f : Fault) (es : List Effect) → answer ≡ Err f → is_shut_of old.core ≡ false → 1 ≤ length (waiting_of old.core) → es ≡ take 1 (waiting_of old.core)
-    → journals.Flushes old.journal es answer new.journal → waiting_of new.core ≡ waiting_of old.core → Flushes old answer new
-handed_in_vain old new answer f es is running some taken flushed same =
-    let all = waiting_of old.core in
-    let one : length es ≡ 1 = ap length taken ∙ length-take-one all some in
-    inr (inr (record {
-      oldest = es;
-      rest = drop 1 all;
-      running = running;
-      waited = sym (ap (λ (l : List Effect). l ++ drop 1 all) taken ∙ take-append-drop 1 all);
-      some = omega (arith, one);
-      few = omega (arith, one);
-      journal = flushed;
-      waits = subst (λ (x : Result ℕ Fault). waiting_of new.core ≡ waiting_after x all (drop 1 all)) (sym is) same;
-    }))
+-- these were taken of what waits, from the durable number on
+module _ {D T : Type 0} {d t : _} (o : core.Session D T d t) (from : ℕ) (is : from ≡ durable_of o.core) (es : List Effect) (taken : drop (from - durable_of o.core) (waiting_of o.core) ≡ es ++ drop (from + length es - durable_of o.core) (waiting_of o.core)) where
+  none : from - durable_of o.core ≡ 0
+  none = omega (arith, is)
+
+  so_many : from + length es - durable_of o.core ≡ length es
+  so_many = omega (arith, is)
+
+  pub waited : waiting_of o.core ≡ es ++ drop (length es) (waiting_of o.core)
+  waited = sym (ap (λ (k : ℕ). drop k (waiting_of o.core)) none) ∙ taken ∙ ap (λ (k : ℕ). es ++ drop k (waiting_of o.core)) so_many
+
+  -- the state after all that waits is the core's
+  whole : fold (journal.state_of o.journal) (es ++ drop (length es) (waiting_of o.core)) ≡ state_of o.core
+  whole = ap (fold (journal.state_of o.journal)) (sym waited) ∙ o.waits
+
+  -- the state after the batch is within the limits, as that one is
+  pub room_taken : length (fold (journal.state_of o.journal) es).names ≤ 64
+  room_taken = omega (arith, names_taken (journal.state_of o.journal) es (drop (length es) (waiting_of o.core)), ap (λ (x : State). length x.names) whole, o.core.registered.few)
+
+  pub countable_taken : (state_of o.core).count < 2 ^ 64 → (fold (journal.state_of o.journal) es).count < 2 ^ 64
+  countable_taken fits = omega (arith, fits, count_taken (journal.state_of o.journal) es (drop (length es) (waiting_of o.core)), ap (λ (x : State). x.count) whole)
+
+  -- the rest goes on from the state after the batch
+  pub rest_waits : fold (fold (journal.state_of o.journal) es) (drop (length es) (waiting_of o.core)) ≡ state_of o.core
+  rest_waits = sym (fold-append (journal.state_of o.journal) es (drop (length es) (waiting_of o.core))) ∙ whole
+
+  -- the number behind the batch
+  pub number_taken : (fold (journal.state_of o.journal) es).count ≡ durable_of o.core + length es
+  number_taken = omega (arith, count-fold (journal.state_of o.journal) es, o.known)
+
+  -- what waits behind that number
+  pub behind : (n : ℕ) → n ≡ (fold (journal.state_of o.journal) es).count → drop (n - durable_of o.core) (waiting_of o.core) ≡ drop (length es) (waiting_of o.core)
+  behind n same =
+      let more : n - durable_of o.core ≡ length es = omega (arith, same, number_taken) in
+      ap (λ (k : ℕ). drop k (waiting_of o.core)) more
+
+  -- the journal answered so, and what waits is what an answer leaves
+  pub handed : (new : core.Session D T d t) (answer : Result ℕ Fault) → is_shut_of o.core ≡ false → 1 ≤ length es → length es ≤ 64 → IsTaken (drop (from - durable_of o.core) (waiting_of o.core)) es
+      → journals.Flushes o.journal es answer new.journal → waiting_of new.core ≡ waiting_after answer (waiting_of o.core) (drop (length es) (waiting_of o.core)) → Flushes o answer new
+  handed new answer running some few first flushed waits = inr (inr (record {
+    oldest = es;
+    rest = drop (length es) (waiting_of o.core);
+    running = running;
+    waited = waited;
+    some = some;
+    few = few;
+    taken = subst (λ (k : ℕ). IsTaken (drop k (waiting_of o.core)) es) none first;
+    journal = flushed;
+    waits = waits;
+  }))

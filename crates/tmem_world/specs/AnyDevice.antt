@@ -16,7 +16,7 @@ use Rattle.tmem_world.specs.declared.session.Slot.{Slot}
 use Rattle.tmem_world.specs.declared.session.Slot.TheVariants.{Empty}
 use Rattle.tmem_world.specs.declared.world.World.{World}
 use Rattle.tmem_world.specs.WorldModel.{Setting, WorldModel, Allows, opening, dropped}
-use Rattle.tmem_world.specs.Represents.{Represents, Means, HoldsSession, OpeningRefused, setting_of, view_of}
+use Rattle.tmem_world.specs.Represents.{Represents, Means, HoldsSession, OpeningRefused, LooksWhereClosed, setting_of, view_of}
 
 -- what an opening can be refused for
 abbrev pub IsOpeningFault : Fault → Type 0
@@ -68,12 +68,13 @@ pub record ReopeningRefused {D T S : Type 0} {d t s : _} (old : World D T S d t 
   pub slots : HoldsNoTransaction new
   pub point : (program : Program) (m : WorldModel) → Represents program old m → Represents program new (dropped_by f m)
 
--- What Reopen is answered, and where the world is then. After Opened it is where a run begins, at a state of that count: the one that the content stands for, where the device keeps the model.
+-- What Reopen is answered, and where the world is then. After Opened it is where a run begins, at a state of that count: the one that the content stands for, where the device keeps the model. Where the gates behind its log read closed, nothing was written.
 abbrev pub IsReopened : {D T S : Type 0} {d t s : _} → World D T S d t s → Reply → World D T S d t s → Type 0
 IsReopened old (reply.Opened n) new =
     (s : State) × (used : ℕ) × (s.count ≡ n)
     × ((program : Program) → Means new program → Represents program new (opening s used (view_of old).failures))
     × ((view_of new).keeps_model → StandsFor new.layout.vars new.layout.slots used s (view_of old).seen)
+    × LooksWhereClosed old.layout.vars old.layout.slots (view_of old) (view_of new)
 IsReopened old (reply.Fault f) new = ReopeningRefused old f new
 IsReopened old _ new = ⊥
 

@@ -2,11 +2,11 @@
 use Rattle.std.specs.Prelude.{Result, Ok, Err, ◌≡◌, ◌<◌, ◌≤◌, ◌⊎◌, ⊤, ◌+◌, ◌-◌, ℕ, Bool, true, false, List, length, drop}
 use Rattle.std.specs.List.{AllZip}
 use Rattle.tmem_invariants.specs.Meanings.{IsSound}
-use Rattle.tmem_disk.specs.Disk.{DeviceView, LeavesOnly, ReadsAs, AtEachMoment}
+use Rattle.tmem_disk.specs.Disk.{DeviceView, LeavesOnly, AtEachMoment}
 use Rattle.tmem_disk.specs.declared.fault.Fault.{Fault}
-use Rattle.tmem_disk.specs.declared.fault.Fault.TheVariants.{Memory, Device, Geometry}
+use Rattle.tmem_disk.specs.declared.fault.Fault.TheVariants.{Memory, Device, NotFormatted, Damaged, Geometry}
 use Rattle.tmem_record.specs.State.{State}
-use Rattle.tmem_gate.specs.Calls.{Uses}
+use Rattle.tmem_gate.specs.Calls.{Uses, LooksOnly}
 use Rattle.tmem_journal.specs.Calls.{FitsOn}
 use Rattle.tmem_journal.specs.Refusals.{IsRefusedBy}
 use Rattle.tmem_world.specs.SessionRefusals.{IsWhyNot}
@@ -25,7 +25,8 @@ use Rattle.tmem_world.specs.declared.session.Session as session
 use Rattle.tmem_world.specs.declared.held.Held.{Held}
 use Rattle.tmem_world.specs.declared.held.Held.TheVariants.{With, Without}
 use Rattle.tmem_world.specs.declared.world.World.{World}
-use Rattle.tmem_journal.specs.Stands.{StandsForEither}
+use Rattle.tmem_journal.specs.Mended.{Mends, MendedBy, ClosedFrom}
+use Rattle.tmem_journal.specs.Stands.{StandsFor, StandsForEither}
 use Rattle.tmem_journal.specs.Held as journal
 use Rattle.tmem_world.specs.Replies.{IsAcknowledged}
 use Rattle.tmem_world.specs.WorldModel.{Setting, WorldModel, SlotModel, NoTransaction, Begun, Ended, SessionStatus, Open, Closed, Gone, opening, present, cut, Allows, Run}
@@ -63,7 +64,7 @@ held_table w = table_in (held_of w)
 
 -- what it was opened with, where its closures mean this
 abbrev pub setting_of : {D T S : Type 0} {d t s : _} → World D T S d t s → Program → Setting
-setting_of {s = s} w program = record { vars = w.layout.vars; arities = s.arities w.steps; program = program }
+setting_of {s = s} w program = record { vars = w.layout.vars; slots = w.layout.slots; arities = s.arities w.steps; program = program }
 
 -- The program says what its stored steps and its invariants mean.
 pub record Means {D T S : Type 0} {d t s : _} (w : World D T S d t s) (program : Program) : Type 0 where
@@ -158,10 +159,25 @@ abbrev pub OpensEither : {D T S : Type 0} {d t s : _} → Program → Result (Wo
 OpensEither program (Ok w) failures a b = (found : State) × (used : ℕ) × ∥ (found ≡ a) ⊎ (found ≡ b) ∥₁ × Represents program w (opening found used failures)
 OpensEither program (Err e) failures a b = (e.0 ≡ Memory) ⊎ (e.0 ≡ Device)
 
+-- nothing was written, where the gates behind the log read closed
+abbrev pub LooksWhereClosed : ℕ → ℕ → DeviceView → DeviceView → Type 0
+LooksWhereClosed vars slots old new = (used : ℕ) (s : State) → StandsFor vars slots used s old.seen → ClosedFrom vars slots used old.seen → LooksOnly old new
+
+-- a refusal that tells of the numbers or of the content
+abbrev pub TellsOfContent : Fault → Type 0
+TellsOfContent NotFormatted = ⊤
+TellsOfContent Damaged = ⊤
+TellsOfContent Geometry = ⊤
+TellsOfContent _ = ⊥
+
 -- Why opening was refused, and what it left of the device: by Geometry where the numbers do not fit it; else memory or the device, or what its content is refused by; or else an invariant of the state that it stands for is missing or false.
 pub record OpeningRefused (old : DeviceView) (vars slots : ℕ) (unsound : Type 0) (f : Fault) (new : DeviceView) : Type 0 where
   pub uses : Uses {T = Unit {0}} old new (Err f)
   pub numbers : ¬ FitsOn vars slots old.capacity → f ≡ Geometry
   pub why : IsWhyNot (λ g. new.keeps_model → FitsOn vars slots old.capacity → IsRefusedBy vars slots old.seen g) unsound f
-  pub seen : ReadsAs new old.seen
-  pub stop : LeavesOnly new old.may_leave
+  -- gates that read open behind the log may be closed, and nothing else was written
+  pub seen : new.keeps_model → Mends vars slots old.seen new.seen
+  pub stop : LeavesOnly new (MendedBy vars slots old)
+  -- nothing at all where they read closed, or where the refusal tells of the content
+  pub looks : LooksWhereClosed vars slots old new
+  pub early : TellsOfContent f → LooksOnly old new

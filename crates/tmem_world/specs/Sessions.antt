@@ -4,7 +4,7 @@ use Rattle.tmem_disk.specs.declared.fault.Fault.{Fault}
 use Rattle.tmem_disk.specs.declared.fault.Fault.TheVariants.{Closed}
 use Rattle.tmem_record.specs.declared.effect.Effect.{Effect}
 use Rattle.tmem_core.specs.Held.{waiting_of, durable_of, is_shut_of}
-use Rattle.tmem_core.specs.declared.core_state.TheConstants.{MAX_TAKEN}
+use Rattle.tmem_core.specs.Taking.{IsTaken}
 use Rattle.tmem_journal.specs.Journals as journals
 use Rattle.tmem_world.specs.declared.session.Session.{Session}
 
@@ -26,14 +26,15 @@ pub record FlushedNone {D T : Type 0} {d t : _} (old : Session D T d t) (answer 
   pub none : waiting_of old.core ≡ []
   pub same : new ≡ old
 
--- the oldest effects were handed to the journal, which answered so
+-- the oldest effects, as long as any other would still fit into the batch, were handed to the journal, which answered so
 pub record FlushedOldest {D T : Type 0} {d t : _} (old : Session D T d t) (answer : Result ℕ Fault) (new : Session D T d t) : Type 0 where
   pub oldest : List Effect
   pub rest : List Effect
   pub running : is_shut_of old.core ≡ false
   pub waited : waiting_of old.core ≡ oldest ++ rest
   pub some : 1 ≤ length oldest
-  pub few : length oldest ≤ MAX_TAKEN
+  pub few : length oldest ≤ 64
+  pub taken : IsTaken (waiting_of old.core) oldest
   pub journal : journals.Flushes old.journal oldest answer new.journal
   pub waits : waiting_of new.core ≡ waiting_after answer (waiting_of old.core) rest
 

@@ -1,10 +1,11 @@
 -- What a list of events may be answered.
-use Rattle.std.specs.Prelude.{◌≡◌, ◌<◌, ◌≤◌, ◌⊎◌, ⊤, ℕ, ◌+◌, ◌-◌, ℤ, Bool, true, false, List, [], ◌∷◌, ◌++◌, Option, Some, None, Result, Ok, Err, take, replicate, nat_eq, MatchBool, slice_index_or, slice_set}
+use Rattle.std.specs.Prelude.{◌≡◌, ◌<◌, ◌≤◌, ◌⊎◌, ⊤, ℕ, ◌+◌, ◌-◌, ℤ, Bool, true, false, List, [], ◌∷◌, ◌++◌, Option, Some, None, Result, Ok, Err, take, drop, replicate, nat_eq, MatchBool, slice_index_or, slice_set}
 use Rattle.tmem_disk.specs.Disk.{after_fault}
 use Rattle.tmem_disk.specs.declared.fault.Fault.{Fault}
 use Rattle.tmem_disk.specs.declared.fault.Fault.TheVariants as fault
 use Rattle.tmem_record.specs.State.{State}
 use Rattle.tmem_record.specs.Writes.{look}
+use Rattle.tmem_record.specs.declared.effect.Effect.{Effect}
 use Rattle.tmem_tree.specs.declared.tx.Tx.{Tx}
 use Rattle.tmem_core.specs.Program.{Program}
 use Rattle.tmem_tree.specs.Plans.{BreaksNone, IsLeastBroken}
@@ -12,20 +13,20 @@ use Rattle.tmem_tree.specs.Visited.{visited}
 use Rattle.tmem_tentative.specs.Right.{first_lacking, valued}
 use Rattle.tmem_tree.specs.declared.settled.Settled.{Settled}
 use Rattle.tmem_tree.specs.declared.settled.Settled.TheVariants.{Committed}
-use Rattle.tmem_core.specs.Verdict.{map_of, verdict, serial_state}
+use Rattle.tmem_core.specs.Verdict.{map_of, verdict, serial_state, serial_effects}
 use Rattle.tmem_core.specs.SettleAnswer.{judged}
-use Rattle.tmem_core.specs.declared.core_state.TheConstants.{MAX_TAKEN}
-use Rattle.tmem_journal.specs.declared.journal.TheConstants.{LOG_SLOTS}
+use Rattle.tmem_core.specs.Taking.{IsTaken}
 use Rattle.tmem_event.specs.declared.event.Event.{Event}
 use Rattle.tmem_event.specs.declared.event.Event.TheVariants as event
 use Rattle.tmem_event.specs.declared.event.Reply.{Reply}
 use Rattle.tmem_event.specs.declared.event.Reply.TheVariants as reply
 use Rattle.tmem_world.specs.Replies.{reply_of}
 
--- What a store is opened with: how many variables it has, how many arguments each stored step takes, and what the steps
--- answer and the invariants mean.
+-- What a store is opened with: how many variables and log slots it has, how many arguments each stored step takes, and what
+-- the steps answer and the invariants mean.
 pub record Setting : Type 0 where
   pub vars : ℕ
+  pub slots : ℕ
   pub arities : List ℕ
   pub program : Program
 
@@ -145,11 +146,17 @@ settle_result program (Ended plan reads) m slot =
     let answer = judged (is_closed m.session) (present program m) m.durable reads (verdict program plan (present program m)) in
     (reply_of answer, settled_by answer m slot plan)
 
--- A batch of the oldest records that are not durable, of as many as one flush takes at the most, reaches this number.
+-- the records that are not durable, the oldest first
+abbrev pub not_durable : Program → WorldModel → List Effect
+not_durable program m = drop (m.durable - m.opened.count) (serial_effects program m.opened m.accepted)
+
+-- A batch of the oldest records that are not durable reaches this number: it takes the next record exactly while it has
+-- fewer than 64 and the longest record would still fit.
 pub record IsBatchEnd (program : Program) (m : WorldModel) (n : ℕ) : Type 0 where
   pub more : m.durable < n
-  pub few : n ≤ m.durable + MAX_TAKEN
+  pub few : n ≤ m.durable + 64
   pub accepted : n ≤ (present program m).count
+  pub taken : IsTaken (not_durable program m) (take (n - m.durable) (not_durable program m))
 
 -- A batch is made durable, or the device fails and the session is closed. After an unknown outcome the doubtful number is what the batch would have reached.
 abbrev pub AllowsFlushOfSome : Program → WorldModel → Reply → WorldModel → Type 0
@@ -160,12 +167,13 @@ AllowsFlushOfSome program m (reply.Fault fault.Unknown) m' =
     (n : ℕ) × IsBatchEnd program m n × (m' ≡ record m { session = Closed; failures = after_fault m.failures; doubtful = n })
 AllowsFlushOfSome program m _ m' = ⊥
 
-abbrev pub AllowsFlush : Program → SessionStatus → WorldModel → Reply → WorldModel → Type 0
-AllowsFlush program Open m r m' =
+-- Nothing is written where every record is durable, nor where each of so many log slots is used.
+abbrev pub AllowsFlush : Program → ℕ → SessionStatus → WorldModel → Reply → WorldModel → Type 0
+AllowsFlush program slots Open m r m' =
     MatchBool (nat_eq m.durable (present program m).count)
     ((r ≡ reply.Durable m.durable) × (m' ≡ m))
-    (MatchBool (nat_eq m.used LOG_SLOTS) ((r ≡ reply.Fault fault.LogFull) × (m' ≡ m)) (AllowsFlushOfSome program m r m'))
-AllowsFlush program _ m r m' = (r ≡ reply.Fault fault.Closed) × (m' ≡ m)
+    (MatchBool (nat_eq m.used slots) ((r ≡ reply.Fault fault.LogFull) × (m' ≡ m)) (AllowsFlushOfSome program m r m'))
+AllowsFlush program slots _ m r m' = (r ≡ reply.Fault fault.Closed) × (m' ≡ m)
 
 -- without a session
 abbrev pub dropped : WorldModel → WorldModel
@@ -191,7 +199,7 @@ abbrev pub Allows : Setting → WorldModel → Event → Reply → WorldModel �
 Allows set m (event.Begin slot tx) r m' = InSession m.session m r m' (AllowsBegin set m slot tx r m')
 Allows set m (event.Turn slot) r m' = InSession m.session m r m' (AllowsTurn set.program (slot_at m slot) m slot r m')
 Allows set m (event.Settle slot) r m' = InSession m.session m r m' ((r, m') ≡ settle_result set.program (slot_at m slot) m slot)
-Allows set m event.Flush r m' = InSession m.session m r m' (AllowsFlush set.program m.session m r m')
+Allows set m event.Flush r m' = InSession m.session m r m' (AllowsFlush set.program set.slots m.session m r m')
 Allows set m event.Look r m' = InSession m.session m r m' ((r ≡ reply.Looked m.durable) × (m' ≡ m))
 Allows set m event.Reopen r m' = AllowsReopen m r m'
 

@@ -1,5 +1,5 @@
 // A session: the core, and the journal that makes durable what it accepts.
-ghost use Rattle.std.specs.Prelude.{◌≡◌, ◌⊎◌, false, [], length, IfOk, IfErr};
+ghost use Rattle.std.specs.Prelude.{◌≡◌, ◌*◌, ◌⊎◌, false, [], length, IfOk, IfErr};
 ghost use Rattle.tmem_disk.specs.Disk.{AtEachMoment};
 ghost use Rattle.tmem_record.specs.State.{State, fold};
 ghost use Rattle.tmem_invariants.specs.Meanings.{Meanings, IsSound};
@@ -7,7 +7,8 @@ ghost use Rattle.tmem_core.specs.Held.{state_of, waiting_of, durable_of, is_shut
 ghost use Rattle.tmem_core.specs.Opening.{opening_fault};
 ghost use Rattle.tmem_core.specs.Program.{Program};
 ghost use Rattle.tmem_journal.specs.Held.{disk_of, device_of, layout_of, is_closed_of, MayBe, state_of as durable_state};
-ghost use Rattle.tmem_gate.specs.Calls.{Uses};
+ghost use Rattle.tmem_gate.specs.Calls.{Uses, WritesWithin};
+ghost use Rattle.tmem_record.specs.Layout.{slot_place};
 ghost use Rattle.tmem_world.specs.SessionRefusals.{IsWhyNoSession};
 
 use std::alloc::Global;
@@ -95,7 +96,8 @@ impl<D: Disk, T: Invariants + Drop> Session<D, T> {
         }
     }
 
-    /// Makes the oldest transaction that waits durable, and answers how many are durable then.
+    /// Makes the oldest transactions that wait durable, as long as any record would still fit into the batch, and answers
+    /// how many are durable then.
     pub(crate) fn flush(&mut self) -> Result<u64, Fault>
         ensures uses { Uses (device_of self.old.journal) (device_of self.new.journal) result }
         ensures layout { layout_of self.new.journal ≡ layout_of self.old.journal }
@@ -103,6 +105,7 @@ impl<D: Disk, T: Invariants + Drop> Session<D, T> {
         ensures table { table_of self.new.core ≡ table_of self.old.core }
         ensures flushed { Flushes self.old result self.new }
         ensures any_moment { AtEachMoment (device_of self.old.journal) (device_of self.new.journal) (λ c. ∥ MayBe self.old.journal c ⊎ MayBe self.new.journal c ∥₁) }
+        ensures elsewhere { WritesWithin (slot_place (layout_of self.old.journal).vars 0) (4096 * (layout_of self.old.journal).slots) (device_of self.old.journal) (device_of self.new.journal) }
     {
         if self.core.is_shut() {
             return Err(Fault::Closed);

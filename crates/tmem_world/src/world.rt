@@ -1,5 +1,5 @@
 // One thread plays a list of events over a core and a journal.
-ghost use Rattle.std.specs.Prelude.{◌≡◌, ◌<◌, ◌≤◌, ◌+◌, ◌^◌, ◌⊎◌, ◌↔◌, ℕ, true, false, Some, None, [], length, All, IsTrue, IsSome, IfOk, IfErr, OnOk, replicate, slice_index_or, pos};
+ghost use Rattle.std.specs.Prelude.{◌≡◌, ◌<◌, ◌≤◌, ◌+◌, ◌*◌, ◌^◌, ◌⊎◌, ◌↔◌, ℕ, true, false, Some, None, [], length, All, IsTrue, IsSome, IfOk, IfErr, OnOk, replicate, slice_index_or, pos};
 ghost use Rattle.std.proofs.Props.{props};
 ghost use Rattle.tmem_disk.specs.Disk.{LeavesOnly, AtEachMoment};
 ghost use Rattle.tmem_record.specs.State.{State};
@@ -7,6 +7,9 @@ ghost use Rattle.tmem_record.specs.Names.{has_name};
 ghost use Rattle.tmem_invariants.specs.Meanings.{IsSound};
 ghost use Rattle.tmem_core.specs.Opening.{opening_fault};
 ghost use Rattle.tmem_core.specs.Program.{Program};
+ghost use Rattle.tmem_gate.specs.Calls.{WritesWithin};
+ghost use Rattle.tmem_record.specs.Layout.{slot_place};
+ghost use Rattle.tmem_journal.specs.Mended.{Mends, MendedBy};
 ghost use Rattle.tmem_journal.specs.Stands.{StandsFor, StandsForEither};
 ghost use Rattle.tmem_journal.specs.Calls.{FitsOn};
 ghost use Rattle.tmem_world.specs.Parts.{what, layout_in, table_in};
@@ -45,7 +48,7 @@ pub struct World<D: Disk, T: Invariants, S: StoredSteps> {
 }
 
 impl<D: Disk + Drop, T: Invariants + Drop, S: StoredSteps + Drop> World<D, T, S> {
-    ghost use Rattle.tmem_world.specs.Represents.{Represents, Means, IsStep, Plays, EachMoment, HoldsSession, OpeningRefused, OpensEither, numbers_of, device_of, view_of, device_after, steps_of, held_table, setting_of, durable_number};
+    ghost use Rattle.tmem_world.specs.Represents.{Represents, Means, IsStep, Plays, EachMoment, HoldsSession, OpeningRefused, LooksWhereClosed, OpensEither, numbers_of, device_of, view_of, device_after, steps_of, held_table, setting_of, durable_number};
     ghost use Rattle.tmem_world.specs.AnyDevice.{Reopens, IsReopened, PlaysOnAnyDevice};
     ghost use Rattle.tmem_world.specs.Replies.{failures_by, failures_by_all, FlushedNothing, CallsNoDevice};
 
@@ -54,8 +57,9 @@ impl<D: Disk + Drop, T: Invariants + Drop, S: StoredSteps + Drop> World<D, T, S>
     /// their layout, or it was formatted for others; by `NotFormatted` where it lacks the open block 0 with its letters;
     /// else by `Damaged` where its content stands for no state; by `Missing` with the first registered name, by bytes,
     /// that the table lacks; by `Broken` with the first registered invariant, in the table's order, that is false; by
-    /// `Memory`; by `Device` where a call of the device failed. The device is handed back with the refusal, and nothing
-    /// was written.
+    /// `Memory`; by `Device` where a call of the device failed. The device is handed back with the refusal. Gates that read
+    /// open behind the log are closed, and nothing else is written: nothing at all before a refusal by `Geometry`,
+    /// `NotFormatted` or `Damaged`.
     pub fn open(
         alloc: Global,
         disk: D,
@@ -83,8 +87,15 @@ impl<D: Disk + Drop, T: Invariants + Drop, S: StoredSteps + Drop> World<D, T, S>
             → FitsOn vars slots (D.view disk).capacity → LeavesOnly (D.view disk) (StandsForEither vars slots a b)
             → (device_after result).keeps_model → OpensEither program result (D.view disk).failures a b }
 
-        // A crash at any moment of the opening leaves what it might have left before.
-        ensures any_moment { AtEachMoment (D.view disk) (device_after result) (D.view disk).may_leave }
+        // A crash at any moment of the opening leaves what it might have left before, but for gates behind the log that are
+        // closed in it. Nothing outside the log's slots is written, and nothing at all where these gates read closed.
+        ensures any_moment { AtEachMoment (D.view disk) (device_after result) (MendedBy vars slots (D.view disk)) }
+        ensures seen { (device_after result).keeps_model → Mends vars slots (D.view disk).seen (device_after result).seen }
+        ensures elsewhere { WritesWithin (slot_place vars 0) (4096 * slots) (D.view disk) (device_after result) }
+        ensures looks { LooksWhereClosed vars slots (D.view disk) (device_after result) }
+
+        // Where the numbers do not fit the device, no call of it is made: the one that was handed in is handed back.
+        ensures untouched { ¬ FitsOn vars slots (D.view disk).capacity → IfErr result (λ e. e.1 ≡ disk) }
     {
         let journal = match Journal::open(alloc, disk, vars, slots) {
             Ok(journal) => journal,
@@ -118,8 +129,10 @@ impl<D: Disk + Drop, T: Invariants + Drop, S: StoredSteps + Drop> World<D, T, S>
         ensures step { IsStep self.old event result self.new }
         ensures reopened { Reopens self.old event result self.new }
 
-        // A crash at any moment of the event leaves the serial order, cut as before the event or as after it.
+        // A crash at any moment of the event leaves the serial order, cut as before the event or as after it. Nothing outside
+        // the log's slots is written.
         ensures any_moment { EachMoment self.old self.new }
+        ensures elsewhere { WritesWithin (slot_place (numbers_of self.old).vars 0) (4096 * (numbers_of self.old).slots) (view_of self.old) (view_of self.new) }
 
         ensures failures { (view_of self.new).failures ≡ failures_by result (view_of self.old).failures }
         ensures still { CallsNoDevice (durable_number self.old) event result → device_of self.new ≡ device_of self.old }
@@ -145,6 +158,7 @@ impl<D: Disk + Drop, T: Invariants + Drop, S: StoredSteps + Drop> World<D, T, S>
         requires { All NamesSlot events.items }
         ensures run { IfOk result (λ replies. Plays self.old events.items replies.items self.new) }
         ensures any_device { IfOk result (λ replies. PlaysOnAnyDevice self.old events.items replies.items self.new) }
+        ensures elsewhere { WritesWithin (slot_place (numbers_of self.old).vars 0) (4096 * (numbers_of self.old).slots) (view_of self.old) (view_of self.new) }
         ensures failures { IfOk result (λ replies. (view_of self.new).failures ≡ failures_by_all replies.items (view_of self.old).failures) }
         ensures numbers { numbers_of self.new ≡ numbers_of self.old }
         ensures steps { steps_of self.new ≡ steps_of self.old }
@@ -279,10 +293,11 @@ impl<D: Disk + Drop, T: Invariants + Drop, S: StoredSteps + Drop> World<D, T, S>
         }
     }
 
-    // Makes the oldest transaction that waits durable.
+    // Makes the oldest transactions that wait durable, as long as any record would still fit into the batch.
     fn flush(&mut self) -> Reply
         ensures step { IsStep self.old Event.Flush result self.new }
         ensures any_moment { EachMoment self.old self.new }
+        ensures elsewhere { WritesWithin (slot_place self.old.layout.vars 0) (4096 * self.old.layout.slots) (view_of self.old) (view_of self.new) }
         ensures failures { (view_of self.new).failures ≡ failures_by result (view_of self.old).failures }
         ensures still { FlushedNothing (durable_number self.old) result → device_of self.new ≡ device_of self.old }
         ensures layout { self.new.layout ≡ self.old.layout }
@@ -315,6 +330,7 @@ impl<D: Disk + Drop, T: Invariants + Drop, S: StoredSteps + Drop> World<D, T, S>
         ensures step { IsStep self.old Event.Reopen result self.new }
         ensures reopened { IsReopened self.old result self.new }
         ensures any_moment { EachMoment self.old self.new }
+        ensures elsewhere { WritesWithin (slot_place self.old.layout.vars 0) (4096 * self.old.layout.slots) (view_of self.old) (view_of self.new) }
         ensures failures { (view_of self.new).failures ≡ failures_by result (view_of self.old).failures }
         ensures layout { self.new.layout ≡ self.old.layout }
         ensures steps { self.new.steps ≡ self.old.steps }

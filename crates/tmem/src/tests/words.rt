@@ -11,7 +11,7 @@ const HELP: &str = "Durable transactions, played from scripts
 Usage: tmem <COMMAND>
 
 Commands:
-  run   Plays a script on a device in memory
+  run   Plays a script on a store in a file or in memory
   help  Print this message or the help of the given subcommand(s)
 
 Options:
@@ -19,15 +19,16 @@ Options:
   -V, --version  Print version
 ";
 
-const RUN_HELP: &str = "Plays a script on a device in memory
+const RUN_HELP: &str = "Plays a script on a store in a file or in memory
 
-Usage: tmem run [SCRIPT]
+Usage: tmem run [OPTIONS] [SCRIPT]
 
 Arguments:
   [SCRIPT]  The file with the script [default: standard input]
 
 Options:
-  -h, --help  Print help
+      --disk <PATH>  The file of the store, made if it is missing [default: a device in memory]
+  -h, --help         Print help
 ";
 
 const NO_COMMAND: &str = "error: 'tmem' requires a subcommand but one was not provided
@@ -47,7 +48,7 @@ For more information, try '--help'.
 
 const TWO_SCRIPTS: &str = "error: unexpected argument 'b' found
 
-Usage: tmem run [SCRIPT]
+Usage: tmem run [OPTIONS] [SCRIPT]
 
 For more information, try '--help'.
 ";
@@ -56,7 +57,19 @@ const UNKNOWN_OPTION: &str = "error: unexpected argument '--fast' found
 
   tip: to pass '--fast' as a value, use '-- --fast'
 
-Usage: tmem run [SCRIPT]
+Usage: tmem run [OPTIONS] [SCRIPT]
+
+For more information, try '--help'.
+";
+
+const NO_PATH: &str = "error: a value is required for '--disk <PATH>' but none was supplied
+
+For more information, try '--help'.
+";
+
+const TWO_STORES: &str = "error: the argument '--disk <PATH>' cannot be used multiple times
+
+Usage: tmem run [OPTIONS] [SCRIPT]
 
 For more information, try '--help'.
 ";
@@ -97,6 +110,8 @@ fn refused_words_are_status_two(rt: HostRuntime) -> Result<(), Fail> {
         (&["play"], UNKNOWN_COMMAND),
         (&["run", "a", "b"], TWO_SCRIPTS),
         (&["run", "--fast"], UNKNOWN_OPTION),
+        (&["run", "--disk"], NO_PATH),
+        (&["run", "--disk", "a", "--disk", "b"], TWO_STORES),
     ];
     for (words, text) in table {
         run(&rt, words, FIRST.as_bytes())?.expect(format_args!("{words:?}"), 2, "", text)?;

@@ -177,14 +177,14 @@ fn looks(mut events: Vec<Event>) -> Result<Vec<Event>, AllocError>
     Ok(events)
 }
 
-/// What the event of this place is answered: each third of the first 768 commits, the next makes one durable, and all
-/// others find that one.
+/// What the event of this place is answered: each third of the first 768 commits, the next makes 64 durable, and all
+/// others find these.
 fn answered(place: usize) -> Reply {
     if place > 768 {
-        return Reply::Looked(1);
+        return Reply::Looked(64);
     }
     if place == 768 {
-        return Reply::Durable(1);
+        return Reply::Durable(64);
     }
     match place % 3 {
         0 => Reply::Begun,

@@ -2,38 +2,9 @@
 ghost use Rattle.std.specs.Prelude.{◌≡◌, ◌≤◌};
 ghost use Rattle.tmem_disk.specs.SimParts.{view_of};
 
+use super::counting::{CountDisk, made};
 use std::test::Fail;
 use tmem_disk::{Cause, DeviceFault, Disk, Fault, Fill, Name, SimDisk};
-
-// A device round another, which counts the writes that it passes on.
-#[derive(Drop)]
-struct CountDisk<D: Disk> {
-    inner: D,
-    writes: u64,
-}
-
-impl<D: Disk> Disk for CountDisk<D> {
-    ghost view = { λ d. D.view d.inner };
-
-    ghost is_device = { λ d. D.is_device d.inner };
-
-    fn size(&self) -> u64 {
-        self.inner.size()
-    }
-
-    fn read(&mut self, at: u64, into: &mut [u8]) -> Result<(), DeviceFault> {
-        self.inner.read(at, into)
-    }
-
-    fn write_at(&mut self, at: u64, bytes: &[u8]) -> Result<(), DeviceFault> {
-        self.writes = self.writes.saturating_add(1);
-        self.inner.write_at(at, bytes)
-    }
-
-    fn sync(&mut self) -> Result<(), DeviceFault> {
-        self.inner.sync()
-    }
-}
 
 // Writes a byte twice at any device that has one, and reads it back.
 fn twice<D: Disk>(disk: &mut D, byte: u8) -> Result<[u8; 1], DeviceFault>
@@ -49,13 +20,10 @@ fn twice<D: Disk>(disk: &mut D, byte: u8) -> Result<[u8; 1], DeviceFault>
 
 #[test]
 fn another_device_meets_the_trait(rt: HostRuntime) -> Result<(), Fail> {
-    let mut disk = CountDisk {
-        inner: SimDisk::new(rt.alloc(), 3)?,
-        writes: 0,
-    };
+    let mut disk = CountDisk::new(SimDisk::new(rt.alloc(), 3)?);
     assert_eq!(rt; disk.size(), 3);
     assert_eq!(rt; twice(&mut disk, 7), Ok([7]));
-    assert_eq!(rt; disk.writes, 2);
+    assert_eq!(rt; disk.calls, made(1, 2, 1));
     Ok(())
 }
 

@@ -1,4 +1,5 @@
 //! A journal by itself: what it flushes, what is found again, and what a stop inside a flush leaves.
+use super::counting::{CountDisk, made};
 use std::alloc::Global;
 use std::test::Fail;
 use tmem_disk::{Disk, Fault, Fill, SimDisk};
@@ -14,14 +15,14 @@ fn empty(alloc: Global) -> Result<SimDisk, Fault> {
 }
 
 /// The journal of a device of four variables and two slots.
-fn opened(alloc: Global, disk: SimDisk) -> Result<Journal<SimDisk>, Fault> {
+fn opened<D: Disk + Drop>(alloc: Global, disk: D) -> Result<Journal<D>, Fault> {
     Journal::open(alloc, disk, 4, 2).map_err(|refusal| refusal.0)
 }
 
 /// Flushes a batch of one record, which writes a number to variable 0.
-fn flush(
+fn flush<D: Disk>(
     alloc: Global,
-    journal: &mut Journal<SimDisk>,
+    journal: &mut Journal<D>,
     number: i64,
 ) -> Result<Result<u64, Fault>, Fail> {
     let mut effect = Effect::new();
@@ -35,7 +36,7 @@ fn flush(
 }
 
 /// The number that is known durable in variable 0.
-fn first_value(journal: &Journal<SimDisk>) -> Option<i64> {
+fn first_value<D: Disk>(journal: &Journal<D>) -> Option<i64> {
     journal.state().values().first().copied()
 }
 
@@ -49,20 +50,41 @@ fn a_flushed_batch_is_found_again(rt: HostRuntime) -> Result<(), Fail> {
     assert_eq!(rt; (journal.count(), first_value(&journal)), (1, Some(5)));
     let mut journal = opened(alloc, journal.into_disk())?;
     assert_eq!(rt; (journal.count(), first_value(&journal)), (1, Some(5)));
-    assert_eq!(rt; flush(alloc, &mut journal, 6)?, Err(Fault::LogFull));
-    assert_eq!(rt; (journal.count(), first_value(&journal)), (1, Some(5)));
+    assert_eq!(rt; flush(alloc, &mut journal, 6)?, Ok(2));
+    let journal = opened(alloc, journal.into_disk())?;
+    assert_eq!(rt; (journal.count(), first_value(&journal)), (2, Some(6)));
     assert!(rt; !journal.is_closed());
     Ok(())
 }
 
 #[test]
-fn a_second_batch_finds_the_log_full(rt: HostRuntime) -> Result<(), Fail> {
+fn a_full_log_takes_no_batch(rt: HostRuntime) -> Result<(), Fail> {
     let alloc = rt.alloc();
     let mut journal = opened(alloc, empty(alloc)?)?;
     assert_eq!(rt; flush(alloc, &mut journal, 5)?, Ok(1));
-    assert_eq!(rt; flush(alloc, &mut journal, 6)?, Err(Fault::LogFull));
-    assert_eq!(rt; (journal.count(), first_value(&journal)), (1, Some(5)));
+    assert_eq!(rt; flush(alloc, &mut journal, 6)?, Ok(2));
+    assert_eq!(rt; flush(alloc, &mut journal, 7)?, Err(Fault::LogFull));
+    assert_eq!(rt; (journal.count(), first_value(&journal)), (2, Some(6)));
     assert!(rt; !journal.is_closed());
+    let mut journal = opened(alloc, journal.into_disk())?;
+    assert_eq!(rt; flush(alloc, &mut journal, 7)?, Err(Fault::LogFull));
+    Ok(())
+}
+
+#[test]
+fn a_flush_makes_two_writes_and_two_syncs(rt: HostRuntime) -> Result<(), Fail> {
+    let alloc = rt.alloc();
+    // how often opening alone reads is its own matter
+    let reads = opened(alloc, CountDisk::new(empty(alloc)?))?
+        .into_disk()
+        .calls
+        .reads;
+    let mut journal = opened(alloc, CountDisk::new(empty(alloc)?))?;
+    assert_eq!(rt; flush(alloc, &mut journal, 5)?, Ok(1));
+    assert_eq!(rt; flush(alloc, &mut journal, 6)?, Ok(2));
+    assert_eq!(rt; flush(alloc, &mut journal, 7)?, Err(Fault::LogFull));
+    // opening syncs once, and writes nothing
+    assert_eq!(rt; journal.into_disk().calls, made(reads, 4, 5));
     Ok(())
 }
 
@@ -102,6 +124,32 @@ fn a_stop_inside_a_flush_leaves_the_state_before_or_after_it(rt: HostRuntime) ->
         let had = stopped(alloc, k, byte)?;
         assert_eq!(rt; had, (Err(fault), Err(Fault::Closed), count));
     }
+    Ok(())
+}
+
+/// How many transactions are found after a stop at the gate of a second batch.
+fn stopped_at_the_second(alloc: Global, byte: u8) -> Result<u64, Fail> {
+    let mut journal = opened(alloc, empty(alloc)?)?;
+    if flush(alloc, &mut journal, 1)? != Ok(1) {
+        return Err(Fail::new("the first batch is not durable"));
+    }
+    let mut disk = journal.into_disk();
+    disk.stop_at_write(1, Fill::Byte(byte));
+    let mut journal = opened(alloc, disk)?;
+    if flush(alloc, &mut journal, 2)? != Err(Fault::Unknown) {
+        return Err(Fail::new("it did not stop at the gate"));
+    }
+    let mut disk = journal.into_disk();
+    if disk.is_stopped() {
+        disk.restart();
+    }
+    Ok(opened(alloc, disk)?.count())
+}
+
+#[test]
+fn a_stop_at_the_gate_of_a_second_batch_leaves_the_first(rt: HostRuntime) -> Result<(), Fail> {
+    assert_eq!(rt; stopped_at_the_second(rt.alloc(), 0xA5)?, 2);
+    assert_eq!(rt; stopped_at_the_second(rt.alloc(), 0x37)?, 1);
     Ok(())
 }
 
@@ -156,9 +204,9 @@ fn a_damaged_block_is_refused(rt: HostRuntime) -> Result<(), Fail> {
 }
 
 #[test]
-fn a_damaged_image_or_log_is_refused(rt: HostRuntime) -> Result<(), Fail> {
-    // image copy 0: its gate, its generation, 65 names, a byte behind them and one behind the values; the gate of image
-    // copy 1; and the gates of the two slots, which hold no batch
+fn a_damaged_image_is_refused(rt: HostRuntime) -> Result<(), Fail> {
+    // image copy 0: its gate, its generation, 65 names, a byte behind them and one behind the values; and the gate of image
+    // copy 1
     let rows = [
         (512, 0),
         (513, 2),
@@ -166,12 +214,51 @@ fn a_damaged_image_or_log_is_refused(rt: HostRuntime) -> Result<(), Fail> {
         (2559, 1),
         (2592, 1),
         (3072, 0xa5),
-        (5632, 0xa5),
-        (9728, 0xa5),
     ];
     for (place, byte) in rows {
         let disk = changed(rt.alloc(), place, byte)?;
         assert_eq!(rt; refused(rt.alloc(), disk, 4)?.0, Fault::Damaged);
+    }
+    Ok(())
+}
+
+/// An empty store with the gate of a slot open over a generation.
+fn open_slot(alloc: Global, place: u64, generation: u8) -> Result<SimDisk, Fail> {
+    let mut disk = changed(alloc, place, 0xA5)?;
+    let behind = place.saturating_add(1);
+    if disk.size() <= behind {
+        return Err(Fail::new("no such place"));
+    }
+    match disk.write_at(behind, &[generation]) {
+        Ok(()) => Ok(disk),
+        Err(_) => Err(Fail::new("not written")),
+    }
+}
+
+#[test]
+fn an_open_slot_of_a_lesser_generation_is_closed(rt: HostRuntime) -> Result<(), Fail> {
+    let alloc = rt.alloc();
+    for place in [5632, 9728] {
+        let journal = opened(alloc, CountDisk::new(open_slot(alloc, place, 0)?))?;
+        assert_eq!(rt; journal.count(), 0);
+        let mut disk = journal.into_disk();
+        // its gate is written, and synced
+        assert_eq!(rt; (disk.calls.writes, disk.calls.syncs), (1, 2));
+        let mut gate = [0xEE];
+        assert!(rt; place < disk.size());
+        assert_eq!(rt; disk.read(place, &mut gate), Ok(()));
+        assert_eq!(rt; gate, [0]);
+    }
+    Ok(())
+}
+
+#[test]
+fn an_open_slot_of_this_generation_or_a_greater_one_is_damage(rt: HostRuntime) -> Result<(), Fail> {
+    let alloc = rt.alloc();
+    // a batch of no records, one behind an empty log, and a generation that no image has
+    for (place, generation) in [(5632, 1), (9728, 1), (5632, 2), (9728, 2)] {
+        let disk = open_slot(alloc, place, generation)?;
+        assert_eq!(rt; refused(alloc, disk, 4)?.0, Fault::Damaged);
     }
     Ok(())
 }

@@ -15,8 +15,9 @@ loop-entry-preserved g c =
       numbers = c.play_entry.ensures.numbers ∙ so.numbers;
       steps = c.play_entry.ensures.steps ∙ so.steps;
       table = c.play_entry.ensures.table ∙ so.table;
+      model = λ premise. so.model (c.play_entry.ensures.model premise);
       parts = parts;
-      played = PlaysEntries-more c.args.world.now c.loop-entry.world c.play_entry.new.world _ _ _ c.loop-entry.yielded c.in-Some.entry so.numbers so.steps so.table so.played c.in_ok-play_entry.ensures.played;
+      played = PlaysEntries-more c.args.world.now c.loop-entry.world c.play_entry.new.world _ _ _ c.loop-entry.yielded c.in-Some.entry so.numbers so.steps so.table c.play_entry.ensures.model so.played c.in_ok-play_entry.ensures.played;
     }
 
 pub returns-clause-played : goal.returns-clause-played

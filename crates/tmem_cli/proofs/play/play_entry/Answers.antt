@@ -14,8 +14,8 @@ pub returns-in-Event-clause-played : goal.returns-in-Event-clause-played
 returns-in-Event-clause-played g c =
     subst (λ (e : Entry). OnOk c.print_line.result (PlaysEntries c.args.world.now (g.W.Write.contents c.args.out.now) (e ∷ []) c.step.new.self (g.W.Write.contents c.print_line.new.out))) (sym c.in-Event.is)
     (on_ok_weaker c.print_line.result
-    (λ wrote program means m at.
-    let next = c.step.ensures.step program means m at (rests _ c.in-Event.playable.event tt) in
+    (λ wrote program means m at premise.
+    let next = c.step.ensures.step program means m at (rests _ c.in-Event.playable.event premise) in
     (next.0, line (line_of c.step.result), Prints-one (setting_of c.args.world.now program) (Event c.in-Event.playable) (line (line_of c.step.result)) m next.0 (c.step.result, next.1, refl), next.2, wrote))
     c.print_line.ensures.line)
 
@@ -23,7 +23,7 @@ pub returns-in-Show-clause-played : goal.returns-in-Show-clause-played
 returns-in-Show-clause-played g c =
     subst (λ (e : Entry). OnOk c.print_state.result (PlaysEntries c.args.world.now (g.W.Write.contents c.args.out.now) (e ∷ []) c.args.world.now (g.W.Write.contents c.print_state.new.out))) (sym c.in-Show.is)
     (on_ok_weaker c.print_state.result
-    (λ wrote program means m at.
+    (λ wrote program means m at premise.
     let text = line (shown c.args.vars m.session (present program m)) in
     (m, text, Prints-one (setting_of c.args.world.now program) Show text m m (ap (λ (v : ℕ). line (shown v m.session (present program m))) (sym c.requires), refl), at, wrote program m at))
     c.print_state.ensures.shown)

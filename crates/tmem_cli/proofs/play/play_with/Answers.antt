@@ -1,16 +1,51 @@
-use Rattle.std.proofs.lemmas.Result.{on_ok_weaker}
-use Rattle.tmem_record.specs.State.{first_state}
-use Rattle.tmem_world.specs.WorldModel.{opening}
-use Rattle.tmem_cli.specs.Builtin.{builtin_program}
-use Rattle.tmem_cli.proofs.Playing.{PlaysScript-of, means_builtin, setting_builtin}
+use Rattle.std.proofs.Common.{ℕ, List, Option, option_map, Bor, arith, inl, inr, sym, ap, subst, ◌∙◌}
+use Rattle.std.specs.Prelude.{OnOk, IfErr}
+use Rattle.std.proofs.lemmas.Result.{on_ok_weaker, IfErr-weaker}
+use Rattle.tmem_disk.specs.SimParts.{is_device_of, view_of as memory_of}
+use Rattle.tmem_script.specs.declared.failure.Failure.TheVariants.{Refused}
+use Rattle.tmem_cli.specs.Stored.{PlaysWhere, StopsWhere}
+use Rattle.tmem_cli.proofs.Stored.{PlaysScript-of, first_stops}
 use Rattle.tmem_cli.proofs.play.play_with.Goals as goal
 
-pub returns-clause-played : goal.returns-clause-played
-returns-clause-played g c =
-    let w = c.in_ok-world.world in
-    let vars = c.args.layout.vars in
-    let means = means_builtin w vars c.args.table c.args.steps c.in_ok-world.ensures.table c.in_ok-world.ensures.steps c.requires.names c.requires.tests c.requires.steps in
-    let at = c.in_ok-world.ensures.found (builtin_program vars) means in
-    on_ok_weaker c.play_entries.result
-    (λ so. PlaysScript-of w c.play_entries.new.world vars _ _ _ c.args.entries.items c.count.result means (setting_builtin w vars c.args.steps c.in_ok-world.ensures.numbers.0 c.in_ok-world.ensures.steps c.requires.arities) at (c.count.ensures (builtin_program vars) (opening (first_state vars) 0 0) at) c.in_ok-print_line.ensures.line so)
-    c.play_entries.ensures.played
+pub returns-in_ok-disk-in-None-clause-played : goal.returns-in_ok-disk-in-None-clause-played
+returns-in_ok-disk-in-None-clause-played g c =
+    let disk = c.in_ok-disk-in-None.disk in
+    let layout = c.args.layout in
+    let empty = c.in_ok-disk-in-None.ensures.stands.each tt _ ((is_device_of disk).seen_may_stay tt) in
+    subst (λ (p : Option (Bor (List ℕ))). OnOk c.play_on.result (PlaysWhere (option_map (λ (t : Bor (List ℕ)). t.now) p) layout.vars layout.slots c.args.entries.items (g.W.Write.contents c.args.out.now) (g.W.Write.contents c.play_on.new.out))) (sym c.in-None.is)
+    (on_ok_weaker c.play_on.result
+    (λ it. PlaysScript-of c.stands_for_one.ensures layout.vars layout.slots layout.fits (memory_of disk) (memory_of it.0) empty c.args.entries.items _ _ (it.1 tt).1)
+    c.play_on.ensures.played)
+
+pub returns-in_ok-disk-in-None-clause-failed : goal.returns-in_ok-disk-in-None-clause-failed
+returns-in_ok-disk-in-None-clause-failed g c =
+    let disk = c.in_ok-disk-in-None.disk in
+    let layout = c.args.layout in
+    let empty = c.in_ok-disk-in-None.ensures.stands.each tt _ ((is_device_of disk).seen_may_stay tt) in
+    subst (λ (p : Option (Bor (List ℕ))). IfErr c.play_on.result (StopsWhere (option_map (λ (t : Bor (List ℕ)). t.now) p) layout.vars layout.slots)) (sym c.in-None.is)
+    (IfErr-weaker c.play_on.result _ _
+    (λ failure why. elim why [
+      | inl output ↦ inl output
+      | inr refused ↦ elim (first_stops c.stands_for_one.ensures layout.vars layout.slots layout.fits (memory_of disk) (memory_of refused.2) empty c.refused_stands_for_none.ensures refused.0 (omega (arith, c.in_ok-disk-in-None.ensures.capacity)) tt refused.3) [
+        | inl memory ↦ inr (inl (refused.1 ∙ ap Refused memory))
+        | inr device ↦ inr (inr (refused.1 ∙ ap Refused device))
+      ]
+    ])
+    c.play_on.ensures.failed)
+
+pub returns-in_ok-disk-in-Some-clause-played : goal.returns-in_ok-disk-in-Some-clause-played
+returns-in_ok-disk-in-Some-clause-played g c =
+    let layout = c.args.layout in
+    subst (λ (p : Option (Bor (List ℕ))). OnOk c.play_on-in-Some.result (PlaysWhere (option_map (λ (t : Bor (List ℕ)). t.now) p) layout.vars layout.slots c.args.entries.items (g.W.Write.contents c.args.out.now) (g.W.Write.contents c.play_on-in-Some.new.out))) (sym c.in-Some.is)
+    (on_ok_weaker c.play_on-in-Some.result (λ it. (c.in_ok-disk-in-Some.disk, c.in_ok-disk-in-Some.ensures.device, it)) c.play_on-in-Some.ensures.played)
+
+pub returns-in_ok-disk-in-Some-clause-failed : goal.returns-in_ok-disk-in-Some-clause-failed
+returns-in_ok-disk-in-Some-clause-failed g c =
+    let layout = c.args.layout in
+    subst (λ (p : Option (Bor (List ℕ))). IfErr c.play_on-in-Some.result (StopsWhere (option_map (λ (t : Bor (List ℕ)). t.now) p) layout.vars layout.slots)) (sym c.in-Some.is)
+    (IfErr-weaker c.play_on-in-Some.result _ _
+    (λ failure why. elim why [
+      | inl output ↦ inl (inl output)
+      | inr refused ↦ inr (c.in_ok-disk-in-Some.disk, c.in_ok-disk-in-Some.ensures.device, refused)
+    ])
+    c.play_on-in-Some.ensures.failed)

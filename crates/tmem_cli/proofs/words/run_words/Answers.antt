@@ -1,8 +1,8 @@
-use Rattle.std.proofs.Common.{◌≡◌, ℕ, map, string_bytes, rules, inl, inr, ap, subst, ◌∙◌, arith}
+use Rattle.std.proofs.Common.{◌≡◌, ℕ, None, map, string_bytes, rules, inl, inr, ap, subst, ◌∙◌, arith}
 use Rattle.clap.specs.Kinds.{HasKind}
-use Rattle.tmem_cli.specs.CommandLine.{AsksToPlay, why_not_run, path_in}
-use Rattle.tmem_cli.specs.Outcomes.{MayBeRead, PlaysRead, FailsWith, IsWhyNotPlayed}
-use Rattle.tmem_cli.proofs.Outcomes.{of_done, of_failure, request_among}
+use Rattle.tmem_cli.specs.CommandLine.{AsksToPlay, why_not_run, path_in, disk_in}
+use Rattle.tmem_cli.specs.Outcomes.{IsWhyNotPlayed}
+use Rattle.tmem_cli.proofs.Outcomes.{PlaysRead-along, FailsWith-along, of_done, of_failure, request_among}
 use Rattle.tmem_cli.proofs.words.run_words.Goals as goal
 
 not_one : ◌≡◌ {A = ℕ} 0 1 → ⊥
@@ -18,24 +18,27 @@ returns-in-Ok-clause-done g c = λ none.
     let after = g.W.Write.contents c.run.new.out in
     let same : c.as_slice.result.now ≡ c.args.words.items = search rules in
     let asked = subst (λ ws. AsksToPlay (map string_bytes ws)) same c.in-Ok.ensures.refused in
-    let path = c.in-Ok.ensures.path ∙ ap (λ ws. path_in (map string_bytes ws)) same in
-    inr (asked, subst (λ p. PlaysRead (MayBeRead p left) before after) path (of_done _ (IsWhyNotPlayed (λ text. Unit {0})) c.conclude.result c.run.result c.conclude.ensures.status c.run.ensures.played none))
+    let path = c.in-Ok.ensures.script ∙ ap (λ ws. path_in (map string_bytes ws)) same in
+    let disk = c.in-Ok.ensures.disk ∙ ap (λ ws. disk_in (map string_bytes ws)) same in
+    inr (asked, PlaysRead-along left _ _ _ _ before after path disk (of_done _ (IsWhyNotPlayed (λ text. Unit {0}) None) c.conclude.result c.run.result c.conclude.ensures.status c.run.ensures.played none))
 
 pub returns-in-Ok-clause-stopped : goal.returns-in-Ok-clause-stopped
 returns-in-Ok-clause-stopped g c = λ one.
     let left = g.R.Read.remaining c.args.input.now in
     let same : c.as_slice.result.now ≡ c.args.words.items = search rules in
     let asked = subst (λ ws. AsksToPlay (map string_bytes ws)) same c.in-Ok.ensures.refused in
-    let path = c.in-Ok.ensures.path ∙ ap (λ ws. path_in (map string_bytes ws)) same in
-    inr (asked, subst (λ p. FailsWith 1 (MayBeRead p left)) path (of_failure (Unit {0}) _ c.conclude.result c.run.result 1 not_one c.conclude.ensures.status c.run.ensures.failed one))
+    let path = c.in-Ok.ensures.script ∙ ap (λ ws. path_in (map string_bytes ws)) same in
+    let disk = c.in-Ok.ensures.disk ∙ ap (λ ws. disk_in (map string_bytes ws)) same in
+    inr (asked, FailsWith-along 1 left _ _ _ _ path disk (of_failure (Unit {0}) _ c.conclude.result c.run.result 1 not_one c.conclude.ensures.status c.run.ensures.failed one))
 
 pub returns-in-Ok-clause-no_script : goal.returns-in-Ok-clause-no_script
 returns-in-Ok-clause-no_script g c = λ three.
     let left = g.R.Read.remaining c.args.input.now in
     let same : c.as_slice.result.now ≡ c.args.words.items = search rules in
     let asked = subst (λ ws. AsksToPlay (map string_bytes ws)) same c.in-Ok.ensures.refused in
-    let path = c.in-Ok.ensures.path ∙ ap (λ ws. path_in (map string_bytes ws)) same in
-    (asked, subst (λ p. FailsWith 3 (MayBeRead p left)) path (of_failure (Unit {0}) _ c.conclude.result c.run.result 3 not_three c.conclude.ensures.status c.run.ensures.failed three))
+    let path = c.in-Ok.ensures.script ∙ ap (λ ws. path_in (map string_bytes ws)) same in
+    let disk = c.in-Ok.ensures.disk ∙ ap (λ ws. disk_in (map string_bytes ws)) same in
+    (asked, FailsWith-along 3 left _ _ _ _ path disk (of_failure (Unit {0}) _ c.conclude.result c.run.result 3 not_three c.conclude.ensures.status c.run.ensures.failed three))
 
 pub returns-clause-done : goal.returns-clause-done
 returns-clause-done g c = λ none.

@@ -1,6 +1,6 @@
 use Rattle.std.proofs.Common.{◌+◌, length, arith}
 use Rattle.tmem_journal.proofs.Overwriting.{byte_in_front}
-use Rattle.tmem_journal.proofs.Within.{by_moment, of_cell, WritesWithin-wider}
+use Rattle.tmem_gate.proofs.Laws.{by_moment, of_cell, WritesWithin-wider}
 use Rattle.tmem_journal.proofs.calls.put_cell.Goals as goal
 
 pub returns-in-Err-clause-elsewhere : goal.returns-in-Err-clause-elsewhere

@@ -1,5 +1,5 @@
 use Rattle.tmem_disk.proofs.Laws.{LeavesOnly-each}
-use Rattle.tmem_journal.proofs.Within.{looks}
+use Rattle.tmem_gate.proofs.Laws.{looks}
 use Rattle.tmem_journal.proofs.calls.read.Goals as goal
 
 pub returns-in-Ok-clause-looks : goal.returns-in-Ok-clause-looks

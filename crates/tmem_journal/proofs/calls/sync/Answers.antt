@@ -1,4 +1,4 @@
-use Rattle.tmem_journal.proofs.Within.{looks}
+use Rattle.tmem_gate.proofs.Laws.{looks}
 use Rattle.tmem_journal.proofs.calls.sync.Goals as goal
 
 pub returns-in-Ok-clause-looks : goal.returns-in-Ok-clause-looks

@@ -3,7 +3,7 @@ use Rattle.std.proofs.lemmas.List.{take-replicate, length-replicate}
 use Rattle.tmem_disk.specs.Disk.{overwritten}
 use Rattle.tmem_journal.proofs.Overwriting.{zeros_more}
 use Rattle.tmem_journal.proofs.FormattedStands.{on_ok}
-use Rattle.tmem_journal.proofs.Within.{WritesWithin-wider, WritesWithin-trans, by_look}
+use Rattle.tmem_gate.proofs.Laws.{WritesWithin-wider, WritesWithin-trans, by_look}
 use Rattle.tmem_journal.proofs.formatting.erase.Goals as goal
 
 pub returns-in_err-write-clause-elsewhere : goal.returns-in_err-write-clause-elsewhere

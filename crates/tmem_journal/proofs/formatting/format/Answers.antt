@@ -3,7 +3,7 @@ use Rattle.tmem_record.specs.Layout.{IsLayout, end_place}
 use Rattle.tmem_journal.proofs.Lengths.{length-block_body}
 use Rattle.tmem_journal.proofs.FormattedStands.{all_written, formatted_device, block_closed, on_ok, on_ok_2}
 use Rattle.tmem_journal.proofs.Recovering.{leaves_seen}
-use Rattle.tmem_journal.proofs.Within.{WritesWithin-wider, WritesWithin-trans}
+use Rattle.tmem_gate.proofs.Laws.{WritesWithin-wider, WritesWithin-trans}
 use Rattle.tmem_journal.proofs.formatting.format.Goals as goal
 
 pub returns-in_err-put_cell-clause-elsewhere : goal.returns-in_err-put_cell-clause-elsewhere

@@ -11,7 +11,7 @@ use Rattle.tmem_redolog.proofs.scanning.replay.Goals as goal
 pub loop-k-init : goal.loop-k-init
 loop-k-init c = record {
   sized = c.requires.sized;
-  within = c.is_within.ensures;
+  within = c.recall_limits.ensures;
   reached = λ d is. reached_first c.args.layout.vars c.args.layout.slots c.args.generation c.args.state.now d;
 }
 

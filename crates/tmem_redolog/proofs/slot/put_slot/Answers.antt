@@ -29,6 +29,7 @@ returns-in-Err g c =
       errors = search rules;
       write_failed = λ e. cc;
       gate_untouched = λ e. cc;
+      gate_failed = λ e. search rules;
       body_written = λ is k. body_written old mid c.args.at c.args.bytes.now (g.met.D.Disk.is_device c.args.disk.now) c.put_body.ensures.call.model c.requires.room (c.put_body.ensures.unsynced (search rules)) k;
       elsewhere =
           WritesWithin-wider (c.args.at + 1) n c.args.at (1 + n) (omega arith) (omega arith) old mid

@@ -1,7 +1,7 @@
 use Rattle.std.proofs.Common.{◌≡◌, ◌⊎◌, inl, inr, ◌<◌, ◌≤◌, true, false, rules, subst, sym, arith}
 use Rattle.tmem_gate.specs.Gate.{IsClosed}
 use Rattle.tmem_gate.proofs.Laws.{LooksOnly-trans}
-use Rattle.tmem_redolog.proofs.Closing.{aside_next, aside_after, within_next, idle_next, shut_up_to, closed_next, no_gate_open, none_open_yet}
+use Rattle.tmem_redolog.proofs.Closing.{aside_next, aside_after, time_next, time_after, within_next, idle_next, shut_up_to, closed_next, no_gate_open, none_open_yet}
 use Rattle.tmem_redolog.proofs.stale.close_gates.Goals as goal
 use Rattle.tmem_redolog.proofs.stale.close_gates.Goals.{then-any, else-any}
 
@@ -26,6 +26,17 @@ returns-in_err-closed-clause-aside g c =
     let within = rw c.slot.ensures at c.close_if_open.ensures.within in
     let idle = rw c.slot.ensures at c.close_if_open.ensures.idle in
     aside_after c.args.layout.vars c.args.layout.slots c.args.from c.loop-k.k low high old mid new c.loop-k.any (g.met.D.Disk.is_device c.loop-k.disk) c.close_if_open.ensures.call.model c.loop-k.invariant within idle
+
+pub returns-in_err-closed-clause-time : goal.returns-in_err-closed-clause-time
+returns-in_err-closed-clause-time g c =
+    let old = g.D.Disk.view c.args.disk.now in
+    let mid = g.D.Disk.view c.loop-k.disk in
+    let new = g.D.Disk.view c.close_if_open.new.disk in
+    let low : c.args.from ≤ c.loop-k.k = omega arith in
+    let high : c.loop-k.k < c.args.layout.slots = omega arith in
+    let within = rw c.slot.ensures at c.close_if_open.ensures.within in
+    let idle = rw c.slot.ensures at c.close_if_open.ensures.idle in
+    time_after c.args.layout.vars c.args.layout.slots c.args.from c.loop-k.k low high old mid new c.loop-k.any (g.met.D.Disk.is_device c.loop-k.disk) c.close_if_open.ensures.call.model c.loop-k.invariant within idle
 
 pub returns-in_err-closed-clause-idle : goal.returns-in_err-closed-clause-idle
 returns-in_err-closed-clause-idle g c =
@@ -59,6 +70,7 @@ loop-k-preserved g c =
       model = search rules;
       within = within_next c.args.layout.vars c.args.layout.slots c.args.from c.loop-k.k low high old mid new c.loop-k.any (g.met.D.Disk.is_device c.loop-k.disk) c.close_if_open.ensures.call.model c.loop-k.invariant within idle;
       aside = aside_next c.args.layout.vars c.args.layout.slots c.args.from c.loop-k.k low high old mid new c.loop-k.any (g.met.D.Disk.is_device c.loop-k.disk) c.close_if_open.ensures.call.model c.loop-k.invariant within idle;
+      time = time_next c.args.layout.vars c.args.layout.slots c.args.from c.loop-k.k low high old mid new c.loop-k.any (g.met.D.Disk.is_device c.loop-k.disk) c.close_if_open.ensures.call.model c.loop-k.invariant within idle;
       closed = λ k. closed_next c.args.layout.vars c.args.layout.slots c.args.from c.loop-k.k low high old mid new c.loop-k.any (g.met.D.Disk.is_device c.loop-k.disk) c.close_if_open.ensures.call.model c.loop-k.invariant within idle k (subst (λ n. IsClosed n new.seen) c.slot.ensures (c.in_ok-closed.ensures.closed k));
       looks = λ none.
           let both = no_gate_open c.loop-k.any c.in_ok-closed.closed c.if-any.any either none in

@@ -1,14 +1,38 @@
-use Rattle.std.proofs.Common.{◌≡◌, ◌-◌, true, [], ◌∷◌, ◌++◌, arith, sym, ap, ◌∙◌}
+use Rattle.std.proofs.Common.{◌≡◌, ◌-◌, true, [], ◌∷◌, ◌++◌, length, drop, Some, arith, sym, ap, ◌∙◌}
+use Rattle.std.specs.Prelude.{slice_get}
+use Rattle.std.proofs.lemmas.Bool.{false≢true}
+use Rattle.std.proofs.lemmas.List.{length_push}
 use Rattle.tmem_record.specs.Loggable.{IsLoggable}
-use Rattle.tmem_core.proofs.Places.{take_one, All-there, record_fits}
+use Rattle.tmem_core.specs.Taking.{HasRoom}
+use Rattle.tmem_core.proofs.Places.{All-there, slice_get-drop}
+use Rattle.tmem_core.proofs.Taken.{taken_more, taken_full, rest_of}
 use Rattle.tmem_core.proofs.core_state.Core.take.Goals as goal
 
-pub returns-then-from-count : goal.returns-then-from-count
-returns-then-from-count g c =
+pub returns-then-not-has_room-clause-taken : goal.returns-then-not-has_room-clause-taken
+returns-then-not-has_room-clause-taken g c =
     let core = c.args.self.now in
-    let e = c.get-effect.result.now in
-    let is = All-there (IsLoggable _) core.waiting (c.args.from - core.durable) e core.each c.get-effect.ensures in
-    let fits = record_fits e is.effect.writes is.effect.names in
-    let pushed : c.push.result ≡ true = c.push.ensures.fits.1 (rw c.clear.ensures (omega arith, omega (arith, fits))) in
-    let new : c.push.new.self ≡ c.clear.new.self ++ e ∷ [] = rw pushed at c.push.ensures.pushed in
-    new ∙ ap (λ es. es ++ e ∷ []) c.clear.ensures ∙ sym (take_one core.waiting (c.args.from - core.durable) e c.get-effect.ensures)
+    taken_full (drop (c.args.from - core.durable) core.waiting) c.loop-index.batch c.loop-index.invariant.1 (λ room. false≢true (c.if-not-has_room.ensures.1 room))
+
+pub returns-then-not-has_room-clause-rest : goal.returns-then-not-has_room-clause-rest
+returns-then-not-has_room-clause-rest g c =
+    let core = c.args.self.now in
+    let is = taken_full (drop (c.args.from - core.durable) core.waiting) c.loop-index.batch c.loop-index.invariant.1 (λ room. false≢true (c.if-not-has_room.ensures.1 room)) in
+    rest_of core.waiting c.loop-index.batch (c.args.from - core.durable) _ is (omega (arith, c.requires.known))
+
+pub push-requires : goal.push-requires
+push-requires g c =
+    let core = c.args.self.now in
+    (All-there (IsLoggable _) core.waiting c.loop-index.index c.get.result.now core.each c.get.ensures).not_empty
+
+pub loop-index-preserved : goal.loop-index-preserved
+loop-index-preserved g c =
+    let core = c.args.self.now in
+    let batch = c.loop-index.batch in
+    let e = c.get.result.now in
+    let room : HasRoom batch = c.has_room.ensures.0 c.if-not-has_room.false in
+    let pushed : c.push.result ≡ true = c.push.ensures.room room.0 room.1 in
+    let new : c.push.new.self ≡ batch ++ e ∷ [] = rw pushed at c.push.ensures.pushed in
+    let there : slice_get (drop (c.args.from - core.durable) core.waiting) (length batch) ≡ Some e =
+    slice_get-drop core.waiting (c.args.from - core.durable) (length batch) ∙ ap (slice_get core.waiting) (sym c.loop-index.invariant.0) ∙ c.get.ensures in
+    let more = taken_more (drop (c.args.from - core.durable) core.waiting) batch c.loop-index.invariant.1 e there room in
+    rw new (omega (arith, c.loop-index.invariant.0, length_push batch e), more)

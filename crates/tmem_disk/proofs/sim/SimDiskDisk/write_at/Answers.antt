@@ -1,16 +1,32 @@
-use Rattle.std.proofs.Common.{rules, length, ◌∙◌, sym}
-use Rattle.tmem_disk.proofs.Laws.{SameOutside-refl}
-use Rattle.tmem_disk.proofs.Fills.{unless_stopped-runs}
+use Rattle.std.proofs.Common.{rules, inr, sym, ◌∙◌}
+use Rattle.tmem_disk.specs.SimParts.{view_of}
+use Rattle.tmem_disk.proofs.Laws.{LeavesOnly-each, still_leaves}
+use Rattle.tmem_disk.proofs.Writing.{bytes_after_write-runs, only_fails-IsArmed}
 use Rattle.tmem_disk.proofs.sim.SimDiskDisk.write_at.Goals as goal
 
-pub returns-then-stops_at_write-clause-stop : goal.returns-then-stops_at_write-clause-stop
-returns-then-stops_at_write-clause-stop c = record { each = λ k left is. (c.store.ensures.stop k left).0 is }
+pub returns-then-only_fails_at_write-clause-still : goal.returns-then-only_fails_at_write-clause-still
+returns-then-only_fails_at_write-clause-still c = still_leaves (view_of c.args.self.now) (view_of c.touch.new.self) _ _ c.touch.ensures.stop
 
-pub returns-then-stops_at_write-clause-still : goal.returns-then-stops_at_write-clause-still
-returns-then-stops_at_write-clause-still c = λ k left was. (c.store.ensures.stop k left).1 (left, was, SameOutside-refl c.args.at (length c.args.bytes.now) left)
+pub returns-then-only_fails_at_write-clause-fails : goal.returns-then-only_fails_at_write-clause-fails
+returns-then-only_fails_at_write-clause-fails c =
+    let is = sym c.only_fails_at_write.ensures.fails ∙ c.if-only_fails_at_write.true in
+    (λ failed. inr (only_fails-IsArmed c.args.self.now.power c.args.at is), search rules)
 
-pub returns-then-stops_at_write-clause-marked : goal.returns-then-stops_at_write-clause-marked
-returns-then-stops_at_write-clause-marked c = c.store.ensures.bytes ∙ sym (unless_stopped-runs c.args.self.now.power.stopped _ _ (search rules))
+pub returns-then-only_fails_at_write-clause-marked : goal.returns-then-only_fails_at_write-clause-marked
+returns-then-only_fails_at_write-clause-marked c =
+    let is = sym c.only_fails_at_write.ensures.fails ∙ c.if-only_fails_at_write.true in
+    c.touch.ensures.bytes ∙ sym (bytes_after_write-runs c.args.self.now.power c.args.at c.args.bytes.now _ _ (search rules) is)
+
+pub returns-then-is_stopped-2-clause-still : goal.returns-then-is_stopped-2-clause-still
+returns-then-is_stopped-2-clause-still c = still_leaves (view_of c.args.self.now) (view_of c.store.new.self) _ _ c.store.ensures.stop
+
+pub returns-then-is_stopped-2-clause-marked : goal.returns-then-is_stopped-2-clause-marked
+returns-then-is_stopped-2-clause-marked c =
+    let is = sym c.only_fails_at_write.ensures.fails ∙ c.if-only_fails_at_write.false in
+    c.store.ensures.bytes ∙ sym (bytes_after_write-runs c.args.self.now.power c.args.at c.args.bytes.now _ _ (search rules) is)
+
+pub returns-clause-stop : goal.returns-clause-stop
+returns-clause-stop c = LeavesOnly-each _ _ c.store.ensures.stop
 
 pub returns-clause-still : goal.returns-clause-still
-returns-clause-still c = λ k left was. (c.store.ensures.stop k left).1 (left, was, SameOutside-refl c.args.at (length c.args.bytes.now) left)
+returns-clause-still c = still_leaves (view_of c.args.self.now) (view_of c.store.new.self) _ _ c.store.ensures.stop

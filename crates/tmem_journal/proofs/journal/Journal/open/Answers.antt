@@ -1,10 +1,8 @@
-use Rattle.std.proofs.Common.{rules, ◌≡◌, ◌≤◌, ◌^◌, ℕ, List, sym, subst, arith, Err}
+use Rattle.std.proofs.Common.{arith}
 use Rattle.std.proofs.lemmas.Bool.{false≢true}
-use Rattle.tmem_disk.specs.Disk.{LeavesOnly}
 use Rattle.tmem_disk.specs.declared.fault.Fault.{Fault}
-use Rattle.tmem_disk.proofs.Laws.{seen-left, LeavesOnly-synced, AtEachMoment-elapsed}
+use Rattle.tmem_disk.proofs.Laws.{seen-left, LeavesOnly-synced}
 use Rattle.tmem_record.specs.Layout.{IsLayout}
-use Rattle.tmem_journal.specs.Stands.{StandsFor, StandsForEither}
 use Rattle.tmem_journal.specs.Calls.{FitsOn}
 use Rattle.tmem_journal.specs.Refusals.{IsRefusedBy}
 use Rattle.tmem_journal.proofs.Flushed.{sure_either, found_either, none_refused, wanting, why_fits}
@@ -14,13 +12,13 @@ pub invariant_of-result-clause-sure : goal.invariant_of-result-clause-sure
 invariant_of-result-clause-sure g c = λ _.
     let found = c.in-Ok-recover.found in
     let it = c.in-Ok-recover.ensures in
-    LeavesOnly-synced _ _ it.synced (λ k. subst (λ (content : List ℕ). StandsFor c.in-Ok.layout.vars c.in-Ok.layout.slots found.used found.state content) (sym (it.looks.seen k)) (it.found k))
+    LeavesOnly-synced _ _ it.synced (λ k. (it.seen k).states found.log.used found.state (it.found k))
 
 pub invariant_of-result-clause-stands : goal.invariant_of-result-clause-stands
 invariant_of-result-clause-stands g c =
     let found = c.in-Ok-recover.found in
     let it = c.in-Ok-recover.ensures in
-    sure_either _ (LeavesOnly-synced _ _ it.synced (λ k. subst (λ (content : List ℕ). StandsFor c.in-Ok.layout.vars c.in-Ok.layout.slots found.used found.state content) (sym (it.looks.seen k)) (it.found k)))
+    sure_either _ (LeavesOnly-synced _ _ it.synced (λ k. (it.seen k).states found.log.used found.state (it.found k)))
 
 pub returns-in-Err-clause-either : goal.returns-in-Err-clause-either
 returns-in-Err-clause-either g c = λ s t fits left k. absurd (false≢true (c.in-Err.ensures.ok.1 fits.layout))
@@ -29,9 +27,13 @@ pub returns-then-size-end-clause-either : goal.returns-then-size-end-clause-eith
 returns-then-size-end-clause-either g c = λ s t fits left k. absurd (omega (arith, fits.room, c.size.ensures, c.end.ensures, c.in-Ok.ensures.vars, c.in-Ok.ensures.slots, c.if-size-end.true))
 
 pub returns-in-Ok-recover-clause-any_moment : goal.returns-in-Ok-recover-clause-any_moment
-returns-in-Ok-recover-clause-any_moment g c =
-    let it = c.in-Ok-recover.ensures in
-    AtEachMoment-elapsed _ _ _ _ (g.met.D.Disk.is_device c.args.disk) it.uses.model it.looks.time (record { each = λ k content left. left }) (λ k content left. left)
+returns-in-Ok-recover-clause-any_moment g c = rw (c.in-Ok.ensures.vars, c.in-Ok.ensures.slots) at c.in-Ok-recover.ensures.any_moment
+
+pub returns-in-Ok-recover-clause-seen : goal.returns-in-Ok-recover-clause-seen
+returns-in-Ok-recover-clause-seen g c = rw (c.in-Ok.ensures.vars, c.in-Ok.ensures.slots) at c.in-Ok-recover.ensures.seen
+
+pub returns-in-Ok-recover-clause-looks : goal.returns-in-Ok-recover-clause-looks
+returns-in-Ok-recover-clause-looks g c = rw (c.in-Ok.ensures.vars, c.in-Ok.ensures.slots) at c.in-Ok-recover.ensures.looks
 
 pub returns-in-Ok-recover-clause-either : goal.returns-in-Ok-recover-clause-either
 returns-in-Ok-recover-clause-either g c = λ s t fits left k.
@@ -39,9 +41,13 @@ returns-in-Ok-recover-clause-either g c = λ s t fits left k.
     found_either c.args.vars c.args.slots (omega (arith, fits.layout.vars_fit)) _ _ s t _ (rw (c.in-Ok.ensures.vars, c.in-Ok.ensures.slots) at (it.found k)) (seen-left _ _ (g.met.D.Disk.is_device c.args.disk) left (it.uses.model k))
 
 pub returns-in-Err-recover-clause-any_moment : goal.returns-in-Err-recover-clause-any_moment
-returns-in-Err-recover-clause-any_moment g c =
-    let it = c.in-Err-recover.ensures in
-    AtEachMoment-elapsed _ _ _ _ (g.met.D.Disk.is_device c.args.disk) it.uses.model it.looks.time (record { each = λ k content left. left }) (λ k content left. left)
+returns-in-Err-recover-clause-any_moment g c = rw (c.in-Ok.ensures.vars, c.in-Ok.ensures.slots) at c.in-Err-recover.ensures.any_moment
+
+pub returns-in-Err-recover-clause-seen : goal.returns-in-Err-recover-clause-seen
+returns-in-Err-recover-clause-seen g c = rw (c.in-Ok.ensures.vars, c.in-Ok.ensures.slots) at c.in-Err-recover.ensures.seen
+
+pub returns-in-Err-recover-clause-looks : goal.returns-in-Err-recover-clause-looks
+returns-in-Err-recover-clause-looks g c = rw (c.in-Ok.ensures.vars, c.in-Ok.ensures.slots) at c.in-Err-recover.ensures.looks
 
 pub returns-in-Err-recover-clause-refused : goal.returns-in-Err-recover-clause-refused
 returns-in-Err-recover-clause-refused g c =
@@ -61,3 +67,15 @@ returns-in-Err-recover-clause-either g c = λ s t fits left k.
     let it = c.in-Err-recover.ensures in
     let P : Fault → Type 0 = λ f. (g.D.Disk.view c.recover.new.disk).keeps_model → IsRefusedBy c.args.vars c.args.slots (g.D.Disk.view c.args.disk).seen f in
     wanting c.in-Err-recover.fault P (λ f by. none_refused c.args.vars c.args.slots f s t _ fits.layout (seen-left _ _ (g.met.D.Disk.is_device c.args.disk) left (it.uses.model k)) (by k)) (rw (c.in-Ok.ensures.vars, c.in-Ok.ensures.slots) at it.refused)
+
+pub returns-in-Ok-recover-clause-elsewhere : goal.returns-in-Ok-recover-clause-elsewhere
+returns-in-Ok-recover-clause-elsewhere g c = rw (c.in-Ok.ensures.vars, c.in-Ok.ensures.slots) at c.in-Ok-recover.ensures.elsewhere
+
+pub returns-in-Err-recover-clause-elsewhere : goal.returns-in-Err-recover-clause-elsewhere
+returns-in-Err-recover-clause-elsewhere g c = rw (c.in-Ok.ensures.vars, c.in-Ok.ensures.slots) at c.in-Err-recover.ensures.elsewhere
+
+pub returns-in-Ok-recover-clause-damaged_looks : goal.returns-in-Ok-recover-clause-damaged_looks
+returns-in-Ok-recover-clause-damaged_looks g c = rw (c.in-Ok.ensures.vars, c.in-Ok.ensures.slots) at c.in-Ok-recover.ensures.damaged_looks
+
+pub returns-in-Err-recover-clause-damaged_looks : goal.returns-in-Err-recover-clause-damaged_looks
+returns-in-Err-recover-clause-damaged_looks g c = rw (c.in-Ok.ensures.vars, c.in-Ok.ensures.slots) at c.in-Err-recover.ensures.damaged_looks

@@ -1,32 +1,60 @@
-use Rattle.std.proofs.Common.{rules, refl, ◌≡◌, ◌≤◌, ◌-◌, ℕ, List, length, take, drop, sym, ◌∙◌, ap, subst, arith}
+use Rattle.std.proofs.Common.{rules, ◌≡◌, ◌∙◌, ◌<◌, ◌^◌, ℕ, length, drop, sym, ap, subst, arith}
+use Rattle.std.specs.Prelude.{Result}
+use Rattle.tmem_disk.specs.declared.fault.Fault.{Fault}
 use Rattle.tmem_record.specs.State.{State, fold}
-use Rattle.tmem_record.specs.declared.effect.Effect.{Effect}
-use Rattle.tmem_core.specs.Held.{waiting_of, durable_of}
+use Rattle.tmem_core.specs.Held.{state_of, waiting_of}
 use Rattle.tmem_journal.specs.Held as journal
-use Rattle.tmem_world.proofs.TakenBatches.{names_taken, handed_in_vain}
+use Rattle.tmem_journal.specs.Journals as journals
+use Rattle.tmem_world.specs.Sessions.{waiting_after}
+use Rattle.tmem_world.proofs.TakenBatches.{room_taken, countable_taken, rest_waits, number_taken, behind, handed}
+use Rattle.tmem_world.proofs.WrittenSlots.{in_log}
 use Rattle.tmem_world.proofs.session.Session.flush.Goals as goal
 
+pub flush-flushed-requires-clause-countable : goal.flush-flushed-requires-clause-countable
+flush-flushed-requires-clause-countable g c =
+    let o = c.args.self.now in
+    let fits : (state_of o.core).count < 2 ^ 64 = omega (arith, c.count.ensures) in
+    countable_taken o c.durable-durable.result c.durable-durable.ensures c.take.new.batch c.take.ensures.rest fits
+
 pub flush-flushed-requires-clause-room : goal.flush-flushed-requires-clause-room
-flush-flushed-requires-clause-room g c =
-    let o = c.args.self.now in
-    let durable = journal.state_of o.journal in
-    let from : c.durable-durable.result - durable_of o.core ≡ 0 = omega (arith, c.durable-durable.ensures) in
-    let taken : c.take.new.batch ≡ take 1 (waiting_of o.core) = c.take.ensures ∙ ap (λ (k : ℕ). take 1 (drop k (waiting_of o.core))) from in
-    let few : length (fold durable (take 1 (waiting_of o.core))).names ≤ 64 = omega (arith, names_taken durable 1 (waiting_of o.core), ap (λ (x : State). length x.names) o.waits, o.core.registered.few) in
-    subst (λ (es : List Effect). length (fold durable es).names ≤ 64) (sym taken) few
+flush-flushed-requires-clause-room g c = room_taken c.args.self.now c.durable-durable.result c.durable-durable.ensures c.take.new.batch c.take.ensures.rest
 
-pub returns-then-is_closed-clause-flushed : goal.returns-then-is_closed-clause-flushed
-returns-then-is_closed-clause-flushed g c =
+pub note_durable-requires-clause-known : goal.note_durable-requires-clause-known
+note_durable-requires-clause-known g c =
     let o = c.args.self.now in
-    let from : c.durable-durable.result - durable_of o.core ≡ 0 = omega (arith, c.durable-durable.ensures) in
-    let taken : c.take.new.batch ≡ take 1 (waiting_of o.core) = c.take.ensures ∙ ap (λ (k : ℕ). take 1 (drop k (waiting_of o.core))) from in
-    let some : 1 ≤ length (waiting_of o.core) = search rules in
-    handed_in_vain o _ c.flush-flushed.result _ c.take.new.batch c.in-Err.is (sym c.if-is_shut.ensures) some taken c.flush-flushed.ensures.flushed c.shut.ensures.waiting
+    let flushed = subst (λ (x : Result ℕ Fault). journals.Flushes o.journal c.take.new.batch x c.flush-flushed.new.self) c.in-Ok.is c.flush-flushed.ensures.flushed in
+    omega (arith, flushed.1, number_taken o c.durable-durable.result c.durable-durable.ensures c.take.new.batch c.take.ensures.rest)
 
-pub returns-else-is_closed-clause-flushed : goal.returns-else-is_closed-clause-flushed
-returns-else-is_closed-clause-flushed g c =
+pub note_durable-requires-clause-accepted : goal.note_durable-requires-clause-accepted
+note_durable-requires-clause-accepted g c =
     let o = c.args.self.now in
-    let from : c.durable-durable.result - durable_of o.core ≡ 0 = omega (arith, c.durable-durable.ensures) in
-    let taken : c.take.new.batch ≡ take 1 (waiting_of o.core) = c.take.ensures ∙ ap (λ (k : ℕ). take 1 (drop k (waiting_of o.core))) from in
-    let some : 1 ≤ length (waiting_of o.core) = search rules in
-    handed_in_vain o _ c.flush-flushed.result _ c.take.new.batch c.in-Err.is (sym c.if-is_shut.ensures) some taken c.flush-flushed.ensures.flushed refl
+    let flushed = subst (λ (x : Result ℕ Fault). journals.Flushes o.journal c.take.new.batch x c.flush-flushed.new.self) c.in-Ok.is c.flush-flushed.ensures.flushed in
+    omega (arith, flushed.1, number_taken o c.durable-durable.result c.durable-durable.ensures c.take.new.batch c.take.ensures.rest, c.durable-durable.ensures, c.take.ensures.reached)
+
+pub invariant_of-self-clause-waits : goal.invariant_of-self-clause-waits
+invariant_of-self-clause-waits g c =
+    let o = c.args.self.now in
+    let flushed = subst (λ (x : Result ℕ Fault). journals.Flushes o.journal c.take.new.batch x c.flush-flushed.new.self) c.in-Ok.is c.flush-flushed.ensures.flushed in
+    let left = c.note_durable.ensures.waiting ∙ behind o c.durable-durable.result c.durable-durable.ensures c.take.new.batch c.take.ensures.rest c.in-Ok.number flushed.1 in
+    ap (fold (journal.state_of c.flush-flushed.new.self)) left ∙ ap (λ (s : State). fold s (drop (length c.take.new.batch) (waiting_of o.core))) flushed.2.state ∙ rest_waits o c.durable-durable.result c.durable-durable.ensures c.take.new.batch c.take.ensures.rest ∙ sym c.note_durable.ensures.state
+
+pub returns-in-Ok-clause-flushed : goal.returns-in-Ok-clause-flushed
+returns-in-Ok-clause-flushed g c =
+    let o = c.args.self.now in
+    let es = c.take.new.batch in
+    let flushed = subst (λ (x : Result ℕ Fault). journals.Flushes o.journal es x c.flush-flushed.new.self) c.in-Ok.is c.flush-flushed.ensures.flushed in
+    let left : waiting_of c.note_durable.new.self ≡ drop (length es) (waiting_of o.core) = c.note_durable.ensures.waiting ∙ behind o c.durable-durable.result c.durable-durable.ensures es c.take.ensures.rest c.in-Ok.number flushed.1 in
+    let waits : waiting_of c.note_durable.new.self ≡ waiting_after c.flush-flushed.result (waiting_of o.core) (drop (length es) (waiting_of o.core)) = subst (λ (x : Result ℕ Fault). waiting_of c.note_durable.new.self ≡ waiting_after x (waiting_of o.core) (drop (length es) (waiting_of o.core))) (sym c.in-Ok.is) left in
+    handed o c.durable-durable.result c.durable-durable.ensures es c.take.ensures.rest _ c.flush-flushed.result (sym c.if-is_shut.ensures) (search rules) c.take.ensures.few c.take.ensures.taken c.flush-flushed.ensures.flushed waits
+
+pub returns-in-Ok-clause-elsewhere : goal.returns-in-Ok-clause-elsewhere
+returns-in-Ok-clause-elsewhere g c =
+    in_log c.args.self.now.journal c.flush-flushed.new.self (g.met.D.Disk.is_device (journal.disk_of c.args.self.now.journal)) c.take.new.batch c.flush-flushed.result c.flush-flushed.ensures.flushed c.flush-flushed.ensures.elsewhere
+
+pub returns-then-is_closed-clause-elsewhere : goal.returns-then-is_closed-clause-elsewhere
+returns-then-is_closed-clause-elsewhere g c =
+    in_log c.args.self.now.journal c.flush-flushed.new.self (g.met.D.Disk.is_device (journal.disk_of c.args.self.now.journal)) c.take.new.batch c.flush-flushed.result c.flush-flushed.ensures.flushed c.flush-flushed.ensures.elsewhere
+
+pub returns-else-is_closed-clause-elsewhere : goal.returns-else-is_closed-clause-elsewhere
+returns-else-is_closed-clause-elsewhere g c =
+    in_log c.args.self.now.journal c.flush-flushed.new.self (g.met.D.Disk.is_device (journal.disk_of c.args.self.now.journal)) c.take.new.batch c.flush-flushed.result c.flush-flushed.ensures.flushed c.flush-flushed.ensures.elsewhere

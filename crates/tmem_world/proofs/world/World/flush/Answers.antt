@@ -1,9 +1,11 @@
 use Rattle.std.proofs.Common.{◌≡◌, refl, ◌∙◌, ap}
 use Rattle.std.specs.Prelude.{Ok, Err, Some}
+use Rattle.tmem_journal.specs.Held as journal
 use Rattle.tmem_world.specs.declared.held.Held.TheVariants.{With}
 use Rattle.tmem_world.specs.Represents.{held_of}
 use Rattle.tmem_world.proofs.Points.{held_is, is_with, in_session, flush_moments}
 use Rattle.tmem_world.proofs.FlushedPoints.{flushes}
+use Rattle.tmem_world.proofs.WrittenSlots.{flush_within}
 use Rattle.tmem_world.proofs.world.World.flush.Goals as goal
 
 pub returns-in-Ok-clause-step : goal.returns-in-Ok-clause-step
@@ -35,3 +37,17 @@ returns-in-Err-clause-any_moment g c =
     let o = c.in-Some-With.session in
     let before : held_of w ≡ With o = held_is w.held w.here (With o) (c.in-Some-With.is ∙ ap Some c.in-Some-With.field-0-is) in
     flush_moments w _ refl o c.flush.new.self before refl c.in-Err.ensures.any_moment
+
+pub returns-in-Ok-clause-elsewhere : goal.returns-in-Ok-clause-elsewhere
+returns-in-Ok-clause-elsewhere g c =
+    let w = c.args.self.now in
+    let o = c.in-Some-With.session in
+    let before : held_of w ≡ With o = held_is w.held w.here (With o) (c.in-Some-With.is ∙ ap Some c.in-Some-With.field-0-is) in
+    flush_within w o (journal.device_of c.flush.new.self.journal) before c.in-Ok.ensures.elsewhere
+
+pub returns-in-Err-clause-elsewhere : goal.returns-in-Err-clause-elsewhere
+returns-in-Err-clause-elsewhere g c =
+    let w = c.args.self.now in
+    let o = c.in-Some-With.session in
+    let before : held_of w ≡ With o = held_is w.held w.here (With o) (c.in-Some-With.is ∙ ap Some c.in-Some-With.field-0-is) in
+    flush_within w o (journal.device_of c.flush.new.self.journal) before c.in-Err.ensures.elsewhere

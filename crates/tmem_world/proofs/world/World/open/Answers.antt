@@ -1,12 +1,14 @@
-use Rattle.std.proofs.Common.{◌≡◌, inl, refl, sym, ◌∙◌, ap, subst}
+use Rattle.std.proofs.Common.{inl, refl, sym, ◌∙◌, ap, subst}
 use Rattle.tmem_disk.specs.declared.fault.Fault.{Fault}
+use Rattle.tmem_disk.specs.declared.fault.Fault.TheVariants.{Memory}
+use Rattle.tmem_gate.specs.Calls.{LooksOnly}
 use Rattle.tmem_invariants.specs.Meanings.{IsSound}
 use Rattle.tmem_core.specs.Held.{state_of}
 use Rattle.tmem_journal.specs.Calls.{FitsOn}
 use Rattle.tmem_journal.specs.Held as journal
 use Rattle.tmem_journal.specs.Refusals.{IsRefusedBy}
-use Rattle.tmem_journal.specs.Stands.{StandsFor}
-use Rattle.tmem_world.proofs.OpenedPoints.{opens, why_journal, only_memory, sound_either}
+use Rattle.tmem_world.proofs.Mending.{mending}
+use Rattle.tmem_world.proofs.OpenedPoints.{opens, opened_then_refused, why_journal, only_memory, sound_either, tells_no_device}
 use Rattle.tmem_world.proofs.HeldTables.{core_means}
 use Rattle.tmem_world.proofs.world.World.open.Goals as goal
 
@@ -19,8 +21,10 @@ returns-in-Err-clause-refused g c =
       uses = record { capacity = so.uses.capacity; model = so.uses.model; failures = so.uses.failures };
       numbers = so.refused.numbers;
       why = why_journal refused_by refused_by _ c.in-Err.refused.0 (λ f by. by) so.refused.why;
-      seen = so.looks.seen;
-      stop = so.looks.stop;
+      seen = so.seen;
+      stop = (mending c.args.vars c.args.slots old (g.D.Disk.view c.in-Err.refused.1) (g.met.D.Disk.is_device c.in-Err.refused.1) so.seen so.any_moment so.elsewhere so.looks).stop;
+      looks = so.looks;
+      early = λ tells. so.refused_looks (tells_no_device c.in-Err.refused.0 tells);
     }
 
 pub returns-in-Ok-begin_session-clause-found : goal.returns-in-Ok-begin_session-clause-found
@@ -59,3 +63,35 @@ returns-in-Err-begin_session-clause-recovers g c = λ program a b steps names te
     let so = c.in-Err-begin_session.ensures in
     let either = opened.either a b fits left (subst (λ x. (g.D.Disk.view x).keeps_model) so.back.0 keeps) in
     inl (only_memory _ _ (λ un. sound_either program (journal.state_of c.in-Ok.journal) a b either sound_a sound_b (un program names tests).1) so.refused)
+
+pub returns-in-Err-empty_slots-clause-refused : goal.returns-in-Err-empty_slots-clause-refused
+returns-in-Err-empty_slots-clause-refused g c =
+    let j = c.in-Ok.journal in
+    let opened = c.in-Ok.ensures in
+    let mends = mending c.args.vars c.args.slots (g.D.Disk.view c.args.disk) (journal.device_of j) (g.met.D.Disk.is_device (journal.disk_of j)) opened.seen opened.any_moment opened.elsewhere opened.looks in
+    opened_then_refused c.args.vars c.args.slots (g.D.Disk.view c.args.disk) j c.into_disk.result c.into_disk.ensures Memory _ ⊥ opened.uses opened.fits.2 mends tt (λ none. absurd none)
+
+pub returns-in-Err-names_of-clause-refused : goal.returns-in-Err-names_of-clause-refused
+returns-in-Err-names_of-clause-refused g c =
+    let j = c.in-Ok.journal in
+    let opened = c.in-Ok.ensures in
+    let mends = mending c.args.vars c.args.slots (g.D.Disk.view c.args.disk) (journal.device_of j) (g.met.D.Disk.is_device (journal.disk_of j)) opened.seen opened.any_moment opened.elsewhere opened.looks in
+    opened_then_refused c.args.vars c.args.slots (g.D.Disk.view c.args.disk) j c.into_disk-in-Err-names_of.result c.into_disk-in-Err-names_of.ensures Memory _ ⊥ opened.uses opened.fits.2 mends tt (λ none. absurd none)
+
+pub returns-in-Err-begin_session-clause-refused : goal.returns-in-Err-begin_session-clause-refused
+returns-in-Err-begin_session-clause-refused g c =
+    let j = c.in-Ok.journal in
+    let opened = c.in-Ok.ensures in
+    let so = c.in-Err-begin_session.ensures in
+    let mends = mending c.args.vars c.args.slots (g.D.Disk.view c.args.disk) (journal.device_of j) (g.met.D.Disk.is_device (journal.disk_of j)) opened.seen opened.any_moment opened.elsewhere opened.looks in
+    opened_then_refused c.args.vars c.args.slots (g.D.Disk.view c.args.disk) j c.in-Err-begin_session.disk so.back.0 c.in-Err-begin_session.fault _ _ opened.uses opened.fits.2 mends so.refused
+    (λ un. (
+      journal.used_slots_of j,
+      journal.state_of j,
+      (λ k. opened.found (subst (λ x. (g.D.Disk.view x).keeps_model) so.back.0 k)),
+      (λ program names tests. (un program names tests).0),
+    ))
+
+pub returns-in-Err-begin_session-clause-looks : goal.returns-in-Err-begin_session-clause-looks
+returns-in-Err-begin_session-clause-looks g c = λ used s stands closed.
+    subst (λ x. LooksOnly (g.D.Disk.view c.args.disk) (g.D.Disk.view x)) (sym c.in-Err-begin_session.ensures.back.0) (c.in-Ok.ensures.looks used s stands closed)

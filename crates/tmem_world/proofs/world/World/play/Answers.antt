@@ -1,6 +1,10 @@
-use Rattle.std.proofs.Common.{◌≡◌, ⊎_elim, ◌<◌, ◌+◌, ◌++◌, ◌∷◌, [], ◌∙◌, List, length, arith, sym, ap, subst, length-append, append_assoc}
+use Rattle.std.proofs.Common.{◌≡◌, ⊎_elim, ◌<◌, ◌+◌, ◌*◌, ◌++◌, ◌∷◌, [], ◌∙◌, List, length, arith, sym, ap, subst, length-append, append_assoc}
 use Rattle.std.specs.Vec.{vec_capacity, vec_len}
 use Rattle.std.proofs.lemmas.Grind.{common_steps}
+use Rattle.tmem_record.specs.Layout.{slot_place}
+use Rattle.tmem_record.specs.declared.layout.Layout.{Layout}
+use Rattle.tmem_gate.specs.Calls.{WritesWithin}
+use Rattle.tmem_gate.proofs.Laws.{WritesWithin-trans}
 use Rattle.tmem_event.specs.declared.event.Event.{Event}
 use Rattle.tmem_event.specs.declared.event.Reply.{Reply}
 use Rattle.tmem_world.specs.WorldModel.{Setting, Run, Allows}
@@ -26,6 +30,8 @@ loop-event-preserved g c =
       steps = c.step-reply.ensures.steps ∙ so.steps;
       table = c.step-reply.ensures.table ∙ so.table;
       model = λ k. so.model (c.step-reply.ensures.model k);
+      elsewhere = WritesWithin-trans (slot_place c.args.self.now.layout.vars 0) (4096 * c.args.self.now.layout.slots) (view_of c.args.self.now) (view_of c.loop-event.self) _ c.step-reply.ensures.model so.elsewhere
+          (subst (λ (l : Layout). WritesWithin (slot_place l.vars 0) (4096 * l.slots) (view_of c.loop-event.self) (view_of c.step-reply.new.self)) so.layout c.step-reply.ensures.elsewhere);
       failures = c.step-reply.ensures.failures ∙ ap (failures_by c.step-reply.result) so.failures ∙ sym (failures-append c.loop-event.replies.items c.step-reply.result (view_of c.args.self.now).failures) ∙ ap (λ (rs : List Reply). failures_by_all rs (view_of c.args.self.now).failures) (sym pushed);
       parts = parts;
       long = grind (arith, common_steps, one);

@@ -1,5 +1,7 @@
-use Rattle.std.proofs.Common.{◌≡◌, ℕ, ◌<◌, ◌≤◌, ◌++◌, length}
+use Rattle.std.proofs.Common.{◌≡◌, ℕ, ◌*◌, ◌<◌, ◌≤◌, ◌++◌, length}
 use Rattle.std.specs.Vec.{vec_capacity, vec_len}
+use Rattle.tmem_record.specs.Layout.{slot_place}
+use Rattle.tmem_gate.specs.Calls.{WritesWithin}
 use Rattle.tmem_core.specs.Program.{Program}
 use Rattle.tmem_world.specs.WorldModel.{WorldModel, Run}
 use Rattle.tmem_world.specs.Replies.{failures_by_all, IsAcknowledged}
@@ -15,6 +17,7 @@ invariant-loop-event g l = record {
   means : (program : Program) → Means l.fn.self program → Means l.self program;
   setting : (program : Program) → setting_of l.self program ≡ setting_of l.fn.self program;
   model : (view_of l.self).keeps_model → (view_of l.fn.self).keeps_model;
+  elsewhere : WritesWithin (slot_place l.fn.self.layout.vars 0) (4096 * l.fn.self.layout.slots) (view_of l.fn.self) (view_of l.self);
   failures : (view_of l.self).failures ≡ failures_by_all l.replies.items (view_of l.fn.self).failures;
   parts : l.yielded ++ l.event-iterator.rest.items ≡ l.fn.events.items;
   long : vec_len l.replies ≡ length l.yielded;

@@ -1,0 +1,75 @@
+-- What becomes of a script that is played on a device, and on that of a file.
+use Rattle.std.specs.Prelude.{◌≡◌, ◌⊎◌, ℕ, List, Option, Some, None}
+use Rattle.tmem_disk.specs.Disk.{DeviceView, LeavesOnly}
+use Rattle.tmem_disk.specs.Start.{IsNewDevice}
+use Rattle.tmem_disk.specs.declared.fault.Fault.{Fault}
+use Rattle.tmem_disk.specs.declared.fault.Fault.TheVariants as fault
+use Rattle.tmem_record.specs.State.{State, first_state}
+use Rattle.tmem_record.specs.Layout.{IsLayout, end_place}
+use Rattle.tmem_journal.specs.Stands.{StandsFor}
+use Rattle.tmem_core.specs.Opening.{opening_fault}
+use Rattle.tmem_file.specs.FileView.{view_of}
+use Rattle.tmem_file.specs.Opening.{IsOpened, IsPlaced}
+use Rattle.tmem_file.specs.declared.disk.FileDisk.{FileDisk}
+use Rattle.tmem_script.specs.declared.failure.Failure.{Failure}
+use Rattle.tmem_script.specs.declared.failure.Failure.TheVariants as failure
+use Rattle.tmem_script.specs.declared.script.Entry.{Entry}
+use Rattle.tmem_world.specs.WorldModel.{WorldModel}
+use Rattle.tmem_world.specs.Represents.{OpeningRefused, StandsCut}
+use Rattle.tmem_cli.specs.Builtin.{builtin_program}
+use Rattle.tmem_cli.specs.Printed.{PlaysFrom, PlaysScript, IsStop}
+
+-- The content of the device stood for a state before, and the script was played from there. A crash now leaves its serial
+-- order, cut at the durable number or at the doubtful one.
+pub record PlaysOn (vars slots : ℕ) (entries : List Entry) (old new : DeviceView) (before after : Option (List ℕ)) : Type 0 where
+  pub found : State
+  pub used : ℕ
+  pub stands : StandsFor vars slots used found old.seen
+  pub end : WorldModel
+  pub played : PlaysFrom vars slots found used entries end before after
+  pub left : LeavesOnly new (StandsCut (builtin_program vars) vars slots end)
+
+-- This device became another. Under the premise of that one, the first met it too, and a script was played on it.
+abbrev pub PlaysOver : {D : Type 0} → (D → DeviceView) → ℕ → ℕ → List Entry → D → Option (List ℕ) → Option (List ℕ) → Type 0
+PlaysOver {D} view vars slots entries old before after =
+    (new : D) × ((view new).keeps_model → (view old).keeps_model × PlaysOn vars slots entries (view old) (view new) before after)
+
+-- an invariant of the state that the content stood for is missing, or false
+abbrev pub IsUnsound : ℕ → ℕ → DeviceView → DeviceView → Fault → Type 0
+IsUnsound vars slots old new f =
+    (used : ℕ) × (found : State) × (new.keeps_model → StandsFor vars slots used found old.seen) × (opening_fault (builtin_program vars) found ≡ Some f)
+
+-- this device became another, and its opening was refused by this failure's fault
+abbrev pub RefusesOver : {D : Type 0} → (D → DeviceView) → ℕ → ℕ → D → Failure → Type 0
+RefusesOver {D} view vars slots old f =
+    (g : Fault) × (f ≡ failure.Refused g) × (new : D) × OpeningRefused (view old) vars slots (IsUnsound vars slots (view old) (view new) g) g (view new)
+
+-- A file that was made: of zeros, which were formatted before it got its name.
+pub record IsMade (vars slots : ℕ) (made : FileDisk) : Type 0 where
+  pub blank : FileDisk
+  pub zeros : IsNewDevice (end_place vars slots) (view_of blank)
+  pub formatted : FileDisk
+  pub capacity : (view_of formatted).capacity ≡ (view_of blank).capacity
+  pub model : (view_of formatted).keeps_model → (view_of blank).keeps_model
+  pub stands : LeavesOnly (view_of formatted) (StandsFor vars slots 0 (first_state vars))
+  pub placed : IsPlaced (view_of formatted) (view_of made)
+
+-- a file that was there and is as it was found, or one that was made
+abbrev pub IsFoundOrMade : ℕ → ℕ → FileDisk → Type 0
+IsFoundOrMade vars slots disk = IsOpened (view_of disk) ⊎ IsMade vars slots disk
+
+-- A script was played in memory on an empty store, or with a path on the store of a file.
+abbrev pub PlaysWhere : Option (List ℕ) → ℕ → ℕ → List Entry → Option (List ℕ) → Option (List ℕ) → Type 0
+PlaysWhere None vars slots entries before after = PlaysScript vars slots entries before after
+PlaysWhere (Some path) vars slots entries before after =
+    (disk : FileDisk) × IsFoundOrMade vars slots disk × PlaysOver view_of vars slots entries disk before after
+
+-- Why it was not played to its end: it was stopped, or, with a path, the opening of the file's device was refused.
+abbrev pub StopsWhere : Option (List ℕ) → ℕ → ℕ → Failure → Type 0
+StopsWhere None vars slots f = IsStop f
+StopsWhere (Some path) vars slots f =
+    IsStop f ⊎ ((disk : FileDisk) × IsFoundOrMade vars slots disk × RefusesOver view_of vars slots disk f)
+
+-- Why a script that was read was not played to its end: its numbers are out of limits, or that.
+abbrev pub StopsPlaying : Option (List ℕ) → ℕ → ℕ → Failure → Type 0
+StopsPlaying disk vars slots f = ((f ≡ failure.Refused fault.Geometry) × (¬ IsLayout vars slots)) ⊎ (IsLayout vars slots × StopsWhere disk vars slots f)

@@ -1,0 +1,64 @@
+//! The devices that scripts are played on.
+ghost use Rattle.std.specs.Prelude.{◌≡◌, ◌⊎◌, IfErr, IfOk};
+ghost use Rattle.tmem_disk.specs.Disk.{LeavesOnly};
+ghost use Rattle.tmem_disk.specs.SimParts.{view_of as memory_of};
+ghost use Rattle.tmem_record.specs.Layout.{end_place};
+ghost use Rattle.tmem_record.specs.State.{first_state};
+ghost use Rattle.tmem_journal.specs.Stands.{StandsFor};
+ghost use Rattle.tmem_file.specs.FileView.{view_of as file_of};
+ghost use Rattle.tmem_cli.specs.Stored.{IsMade, IsFoundOrMade};
+
+use std::alloc::Global;
+use std::fs::{self, File, Files};
+use tmem_disk::{Fault, SimDisk};
+use tmem_file::{FileDisk, NewFile};
+use tmem_world::{Layout, format};
+
+/// A device in memory that was formatted: nothing accepted, every variable 0.
+pub(crate) fn device_in_memory(alloc: Global, layout: Layout) -> Result<SimDisk, Fault>
+    ensures stands { IfOk result (λ disk. LeavesOnly (memory_of disk) (StandsFor layout.vars layout.slots 0 (first_state layout.vars))) }
+    ensures capacity { IfOk result (λ disk. (memory_of disk).capacity ≡ end_place layout.vars layout.slots) }
+    ensures failures { IfOk result (λ disk. (memory_of disk).failures ≡ 0) }
+    ensures refused { IfErr result (λ fault. (fault ≡ Fault.Memory) ⊎ (fault ≡ Fault.Device)) }
+{
+    let mut disk = SimDisk::new(alloc, layout.end())?;
+    format(&mut disk, layout.vars, layout.slots)?;
+    Ok(disk)
+}
+
+/// The device of a file: opened as it is where the path is that of a file, and else made.
+pub(crate) fn device_in_file<R: Files<File = File> + AllocGlobal>(
+    rt: &R,
+    path: &str,
+    layout: Layout,
+) -> Result<FileDisk, Fault>
+    ensures device { IfOk result (IsFoundOrMade layout.vars layout.slots) }
+    ensures failures { IfOk result (λ disk. (file_of disk).failures ≡ 0) }
+    ensures refused { IfErr result (λ fault. (fault ≡ Fault.Memory) ⊎ (fault ≡ Fault.Device)) }
+{
+    match fs::exists(rt, path) {
+        Ok(true) => FileDisk::open(rt, path),
+        Ok(false) => made_file(rt, path, layout),
+        Err(_) => Err(Fault::Device),
+    }
+}
+
+// A file that gets this path once it is formatted.
+fn made_file<R: Files<File = File> + AllocGlobal>(
+    rt: &R,
+    path: &str,
+    layout: Layout,
+) -> Result<FileDisk, Fault>
+    ensures made { IfOk result (IsMade layout.vars layout.slots) }
+    ensures failures { IfOk result (λ disk. (file_of disk).failures ≡ 0) }
+    ensures refused { IfErr result (λ fault. (fault ≡ Fault.Memory) ⊎ (fault ≡ Fault.Device)) }
+{
+    let mut new = NewFile::create(rt, path, layout.end())?;
+    match format(&mut new.disk, layout.vars, layout.slots) {
+        Ok(()) => new.place(rt),
+        Err(fault) => {
+            new.discard(rt);
+            Err(fault)
+        }
+    }
+}

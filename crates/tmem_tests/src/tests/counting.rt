@@ -1,0 +1,65 @@
+//! A device that counts its calls.
+ghost use Rattle.std.specs.Prelude.{◌≡◌};
+
+use tmem_disk::{DeviceFault, Disk};
+
+/// How often each call was made.
+#[derive(Clone, Copy, Debug, PartialEq, Eq)]
+pub(super) struct Calls {
+    pub(super) reads: u64,
+    pub(super) writes: u64,
+    pub(super) syncs: u64,
+}
+
+/// So many reads, writes and syncs.
+pub(super) fn made(reads: u64, writes: u64, syncs: u64) -> Calls {
+    Calls {
+        reads,
+        writes,
+        syncs,
+    }
+}
+
+/// A device round another, which counts the calls that it passes on.
+#[derive(Drop)]
+pub(super) struct CountDisk<D: Disk> {
+    pub(super) inner: D,
+    pub(super) calls: Calls,
+}
+
+impl<D: Disk> CountDisk<D> {
+    /// A device of which no call was made.
+    pub(super) fn new(inner: D) -> CountDisk<D>
+        ensures { result.inner ≡ inner }
+    {
+        CountDisk {
+            inner,
+            calls: made(0, 0, 0),
+        }
+    }
+}
+
+impl<D: Disk> Disk for CountDisk<D> {
+    ghost view = { λ d. D.view d.inner };
+
+    ghost is_device = { λ d. D.is_device d.inner };
+
+    fn size(&self) -> u64 {
+        self.inner.size()
+    }
+
+    fn read(&mut self, at: u64, into: &mut [u8]) -> Result<(), DeviceFault> {
+        self.calls.reads = self.calls.reads.saturating_add(1);
+        self.inner.read(at, into)
+    }
+
+    fn write_at(&mut self, at: u64, bytes: &[u8]) -> Result<(), DeviceFault> {
+        self.calls.writes = self.calls.writes.saturating_add(1);
+        self.inner.write_at(at, bytes)
+    }
+
+    fn sync(&mut self) -> Result<(), DeviceFault> {
+        self.calls.syncs = self.calls.syncs.saturating_add(1);
+        self.inner.sync()
+    }
+}
