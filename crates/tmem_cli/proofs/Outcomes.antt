@@ -8,6 +8,7 @@ use Rattle.clap.specs.declared.error.Error.{Error}
 use Rattle.clap.specs.declared.error.kind.ErrorKind.{ErrorKind}
 use Rattle.tmem_record.specs.State.{State, first_state}
 use Rattle.tmem_world.specs.WorldModel.{WorldModel}
+use Rattle.tmem_journal.specs.Stands.{Position, first_position}
 use Rattle.tmem_script.specs.Errors.{IsUnread}
 use Rattle.tmem_script.specs.Statuses.{status_of}
 use Rattle.tmem_script.specs.declared.failure.Failure.{Failure}
@@ -39,11 +40,11 @@ refused_text IsRead Unreadable text is none = tt
 refused_text IsRead NoScript text is none = (text, is, none refl)
 
 -- what is flushed stays
-pub PlaysFrom-keeps : (vars slots : ℕ) (found : State) (used : ℕ) (entries : List Entry) (end : WorldModel) (before mid after : Option (List ℕ)) → PlaysFrom vars slots found used entries end before mid → Keeps mid after → PlaysFrom vars slots found used entries end before after
-PlaysFrom-keeps vars slots found used entries end before mid after so kept = record { text = so.text; prints = so.prints; appends = Appends-keeps before mid after _ so.appends kept }
+pub PlaysFrom-keeps : (vars slots : ℕ) (found : State) (position : Position) (entries : List Entry) (end : WorldModel) (before mid after : Option (List ℕ)) → PlaysFrom vars slots found position entries end before mid → Keeps mid after → PlaysFrom vars slots found position entries end before after
+PlaysFrom-keeps vars slots found position entries end before mid after so kept = record { text = so.text; prints = so.prints; appends = Appends-keeps before mid after _ so.appends kept }
 
 pub PlaysWhere-keeps : (disk : Option (List ℕ)) (vars slots : ℕ) (entries : List Entry) (before mid after : Option (List ℕ)) → PlaysWhere disk vars slots entries before mid → Keeps mid after → PlaysWhere disk vars slots entries before after
-PlaysWhere-keeps None vars slots entries before mid after so kept = (so.0, PlaysFrom-keeps vars slots (first_state vars) 0 entries so.0 before mid after so.1 kept)
+PlaysWhere-keeps None vars slots entries before mid after so kept = (so.0, PlaysFrom-keeps vars slots (first_state vars) first_position entries so.0 before mid after so.1 kept)
 PlaysWhere-keeps (Some path) vars slots entries before mid after so kept = (
   so.0,
   so.1,
@@ -54,10 +55,10 @@ PlaysWhere-keeps (Some path) vars slots entries before mid after so kept = (
           (so.2.1 premise).0,
           record {
             found = it.found;
-            used = it.used;
+            position = it.position;
             stands = it.stands;
             end = it.end;
-            played = PlaysFrom-keeps vars slots it.found it.used entries it.end before mid after it.played kept;
+            played = PlaysFrom-keeps vars slots it.found it.position entries it.end before mid after it.played kept;
             left = it.left;
           },
         ),

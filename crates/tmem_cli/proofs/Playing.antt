@@ -13,7 +13,7 @@ use Rattle.tmem_event.specs.declared.event.Event.TheVariants as event
 use Rattle.tmem_script.specs.declared.script.Entry.{Entry}
 use Rattle.tmem_world.specs.declared.world.World.{World}
 use Rattle.tmem_world.specs.WorldModel.{Setting, WorldModel, opening}
-use Rattle.tmem_journal.specs.Stands.{StandsFor}
+use Rattle.tmem_journal.specs.Stands.{Position, StandsFor}
 use Rattle.tmem_world.specs.Represents.{RestsOn, Represents, Means, StandsCut, setting_of, numbers_of, steps_of, held_table, view_of}
 use Rattle.tmem_cli.specs.Builtin.{builtin_program, builtin_setting}
 use Rattle.tmem_cli.specs.Printed.{line, Answers, Prints, PlaysEntries, PlaysFrom}
@@ -43,6 +43,7 @@ rests P (event.Begin slot tx) p = tt
 rests P (event.Turn slot) p = tt
 rests P (event.Settle slot) p = tt
 rests P event.Flush p = tt
+rests P event.Checkpoint p = tt
 rests P event.Look p = tt
 rests P event.Reopen p = p
 
@@ -80,28 +81,28 @@ module _ {D T S : Type 0} {d t s : _} where
   }
 
   -- the line of the opening, and then the entries
-  pub PlaysFrom-of : (w new : World D T S d t s) (vars slots used count : ℕ) (found : State) (before between after : Option (List ℕ)) (es : List Entry) → Means w (builtin_program vars) → setting_of w (builtin_program vars) ≡ builtin_setting vars slots → Represents (builtin_program vars) w (opening found used 0) → count ≡ found.count → Appends before between (line (line_of (Opened count))) → PlaysEntries w between es new after → (view_of new).keeps_model
-      → (end : WorldModel) × PlaysFrom vars slots found used es end before after × Represents (builtin_program vars) new end
-  PlaysFrom-of w new vars slots used count found before between after es means set at is opened so premise =
-      let it = so (builtin_program vars) means (opening found used 0) at premise in
+  pub PlaysFrom-of : (w new : World D T S d t s) (vars slots count : ℕ) (position : Position) (found : State) (before between after : Option (List ℕ)) (es : List Entry) → Means w (builtin_program vars) → setting_of w (builtin_program vars) ≡ builtin_setting vars slots → Represents (builtin_program vars) w (opening found position 0) → count ≡ found.count → Appends before between (line (line_of (Opened count))) → PlaysEntries w between es new after → (view_of new).keeps_model
+      → (end : WorldModel) × PlaysFrom vars slots found position es end before after × Represents (builtin_program vars) new end
+  PlaysFrom-of w new vars slots count position found before between after es means set at is opened so premise =
+      let it = so (builtin_program vars) means (opening found position 0) at premise in
       let first = subst (λ (n : ℕ). Appends before between (line (line_of (Opened n)))) is opened in (
         it.0,
         record {
           text = it.1;
-          prints = subst (λ (x : Setting). Prints x (opening found used 0) es it.1 it.0) set it.2;
+          prints = subst (λ (x : Setting). Prints x (opening found position 0) es it.1 it.0) set it.2;
           appends = Appends-then before between after (line (line_of (Opened found.count))) it.1 first it.4;
         },
         it.3,
       )
 
   -- a script was played on the device of a world that was opened on another
-  pub PlaysOn-of : (old : DeviceView) (w new : World D T S d t s) (vars slots used count : ℕ) (found : State) (before between after : Option (List ℕ)) (es : List Entry) → (numbers_of new).vars ≡ vars → (numbers_of new).slots ≡ slots → StandsFor vars slots used found old.seen → Means w (builtin_program vars) → setting_of w (builtin_program vars) ≡ builtin_setting vars slots → Represents (builtin_program vars) w (opening found used 0) → count ≡ found.count → Appends before between (line (line_of (Opened count))) → PlaysEntries w between es new after → (view_of new).keeps_model
+  pub PlaysOn-of : (old : DeviceView) (w new : World D T S d t s) (vars slots count : ℕ) (position : Position) (found : State) (before between after : Option (List ℕ)) (es : List Entry) → (numbers_of new).vars ≡ vars → (numbers_of new).slots ≡ slots → StandsFor vars slots position found old.seen → Means w (builtin_program vars) → setting_of w (builtin_program vars) ≡ builtin_setting vars slots → Represents (builtin_program vars) w (opening found position 0) → count ≡ found.count → Appends before between (line (line_of (Opened count))) → PlaysEntries w between es new after → (view_of new).keeps_model
       → PlaysOn vars slots es old (view_of new) before after
-  PlaysOn-of old w new vars slots used count found before between after es over log stands means set at is opened so premise =
-      let it = PlaysFrom-of w new vars slots used count found before between after es means set at is opened so premise in
+  PlaysOn-of old w new vars slots count position found before between after es over log stands means set at is opened so premise =
+      let it = PlaysFrom-of w new vars slots count position found before between after es means set at is opened so premise in
       record {
         found = found;
-        used = used;
+        position = position;
         stands = stands;
         end = it.0;
         played = it.1;

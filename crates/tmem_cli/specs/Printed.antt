@@ -16,6 +16,7 @@ use Rattle.tmem_script.specs.declared.failure.Failure.{Failure}
 use Rattle.tmem_script.specs.declared.failure.Failure.TheVariants as failure
 use Rattle.tmem_script.specs.declared.script.Entry.{Entry}
 use Rattle.tmem_script.specs.declared.script.Entry.TheVariants as entry
+use Rattle.tmem_journal.specs.Stands.{Position, first_position}
 use Rattle.tmem_world.specs.WorldModel.{Setting, WorldModel, SessionStatus, Gone, Allows, present, opening}
 use Rattle.tmem_world.specs.declared.world.World.{World}
 use Rattle.tmem_world.specs.Represents.{Represents, Means, setting_of, view_of}
@@ -68,15 +69,15 @@ PlaysEntries old before entries new after =
     (program : Program) → Means old program → (m : WorldModel) → Represents program old m → (view_of new).keeps_model
     → (m' : WorldModel) × (text : List ℕ) × Prints (setting_of old program) m entries text m' × Represents program new m' × Appends before after text
 
--- A whole script on a store that was opened in this state, with so many log slots used: the line of the opening, and then what its entries may be answered by from there, up to that point.
-pub record PlaysFrom (vars slots : ℕ) (found : State) (used : ℕ) (entries : List Entry) (end : WorldModel) (before after : Option (List ℕ)) : Type 0 where
+-- A whole script on a store that was opened in this state, at that position: the line of the opening, and then what its entries may be answered by from there, up to that point.
+pub record PlaysFrom (vars slots : ℕ) (found : State) (position : Position) (entries : List Entry) (end : WorldModel) (before after : Option (List ℕ)) : Type 0 where
   pub text : List ℕ
-  pub prints : Prints (builtin_setting vars slots) (opening found used 0) entries text end
+  pub prints : Prints (builtin_setting vars slots) (opening found position 0) entries text end
   pub appends : Appends before after (line (line_of (reply.Opened found.count)) ++ text)
 
 -- A whole script on an empty store.
 abbrev pub PlaysScript : ℕ → ℕ → List Entry → Option (List ℕ) → Option (List ℕ) → Type 0
-PlaysScript vars slots entries before after = (end : WorldModel) × PlaysFrom vars slots (first_state vars) 0 entries end before after
+PlaysScript vars slots entries before after = (end : WorldModel) × PlaysFrom vars slots (first_state vars) first_position entries end before after
 
 -- a run was stopped: the output failed, memory was refused, or a call of the device failed
 abbrev pub IsStop : Failure → Type 0

@@ -6,7 +6,7 @@ use Rattle.tmem_disk.specs.declared.fault.Fault.{Fault}
 use Rattle.tmem_disk.specs.declared.fault.Fault.TheVariants as fault
 use Rattle.tmem_record.specs.State.{State, first_state}
 use Rattle.tmem_record.specs.Layout.{IsLayout, end_place}
-use Rattle.tmem_journal.specs.Stands.{StandsFor}
+use Rattle.tmem_journal.specs.Stands.{Position, first_position, StandsFor}
 use Rattle.tmem_core.specs.Opening.{opening_fault}
 use Rattle.tmem_file.specs.FileView.{view_of}
 use Rattle.tmem_file.specs.Opening.{IsOpened, IsPlaced}
@@ -23,10 +23,10 @@ use Rattle.tmem_cli.specs.Printed.{PlaysFrom, PlaysScript, IsStop}
 -- order, cut at the durable number or at the doubtful one.
 pub record PlaysOn (vars slots : ℕ) (entries : List Entry) (old new : DeviceView) (before after : Option (List ℕ)) : Type 0 where
   pub found : State
-  pub used : ℕ
-  pub stands : StandsFor vars slots used found old.seen
+  pub position : Position
+  pub stands : StandsFor vars slots position found old.seen
   pub end : WorldModel
-  pub played : PlaysFrom vars slots found used entries end before after
+  pub played : PlaysFrom vars slots found position entries end before after
   pub left : LeavesOnly new (StandsCut (builtin_program vars) vars slots end)
 
 -- This device became another. Under the premise of that one, the first met it too, and a script was played on it.
@@ -37,7 +37,7 @@ PlaysOver {D} view vars slots entries old before after =
 -- an invariant of the state that the content stood for is missing, or false
 abbrev pub IsUnsound : ℕ → ℕ → DeviceView → DeviceView → Fault → Type 0
 IsUnsound vars slots old new f =
-    (used : ℕ) × (found : State) × (new.keeps_model → StandsFor vars slots used found old.seen) × (opening_fault (builtin_program vars) found ≡ Some f)
+    (position : Position) × (found : State) × (new.keeps_model → StandsFor vars slots position found old.seen) × (opening_fault (builtin_program vars) found ≡ Some f)
 
 -- this device became another, and its opening was refused by this failure's fault
 abbrev pub RefusesOver : {D : Type 0} → (D → DeviceView) → ℕ → ℕ → D → Failure → Type 0
@@ -51,7 +51,7 @@ pub record IsMade (vars slots : ℕ) (made : FileDisk) : Type 0 where
   pub formatted : FileDisk
   pub capacity : (view_of formatted).capacity ≡ (view_of blank).capacity
   pub model : (view_of formatted).keeps_model → (view_of blank).keeps_model
-  pub stands : LeavesOnly (view_of formatted) (StandsFor vars slots 0 (first_state vars))
+  pub stands : LeavesOnly (view_of formatted) (StandsFor vars slots first_position (first_state vars))
   pub placed : IsPlaced (view_of formatted) (view_of made)
 
 -- a file that was there and is as it was found, or one that was made

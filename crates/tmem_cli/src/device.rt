@@ -4,7 +4,7 @@ ghost use Rattle.tmem_disk.specs.Disk.{LeavesOnly};
 ghost use Rattle.tmem_disk.specs.SimParts.{view_of as memory_of};
 ghost use Rattle.tmem_record.specs.Layout.{end_place};
 ghost use Rattle.tmem_record.specs.State.{first_state};
-ghost use Rattle.tmem_journal.specs.Stands.{StandsFor};
+ghost use Rattle.tmem_journal.specs.Stands.{first_position, StandsFor};
 ghost use Rattle.tmem_file.specs.FileView.{view_of as file_of};
 ghost use Rattle.tmem_cli.specs.Stored.{IsMade, IsFoundOrMade};
 
@@ -16,7 +16,7 @@ use tmem_world::{Layout, format};
 
 /// A device in memory that was formatted: nothing accepted, every variable 0.
 pub(crate) fn device_in_memory(alloc: Global, layout: Layout) -> Result<SimDisk, Fault>
-    ensures stands { IfOk result (λ disk. LeavesOnly (memory_of disk) (StandsFor layout.vars layout.slots 0 (first_state layout.vars))) }
+    ensures stands { IfOk result (λ disk. LeavesOnly (memory_of disk) (StandsFor layout.vars layout.slots first_position (first_state layout.vars))) }
     ensures capacity { IfOk result (λ disk. (memory_of disk).capacity ≡ end_place layout.vars layout.slots) }
     ensures failures { IfOk result (λ disk. (memory_of disk).failures ≡ 0) }
     ensures refused { IfErr result (λ fault. (fault ≡ Fault.Memory) ⊎ (fault ≡ Fault.Device)) }

@@ -19,6 +19,9 @@ pub enum Event {
     Settle { slot: u8 },
     /// Makes the oldest accepted transactions that wait durable, up to 64. Refused with `Closed`, `LogFull`, `Device`, `Unknown`.
     Flush,
+    /// Writes the durable state as the next image, and frees every log slot. No transaction is durable that was not.
+    /// Refused with `Closed`, `Spent`, `Device`, `Unknown`.
+    Checkpoint,
     /// Asks how many accepted transactions are known durable. Refused with `Closed`.
     Look,
     /// Drops the session and all slots, and opens the same device again. Refused with `Memory`, `Device`,
@@ -41,6 +44,8 @@ pub enum Reply {
     Settled(Settled),
     /// So many accepted transactions are durable.
     Durable(u64),
+    /// The next image was written, and every log slot is free.
+    Checkpointed,
     /// So many accepted transactions are known durable.
     Looked(u64),
     /// The device was opened, and so many accepted transactions were found.

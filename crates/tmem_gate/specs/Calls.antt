@@ -1,8 +1,10 @@
 -- What a call over a device keeps, and what it leaves alone.
-use Rattle.std.specs.Prelude.{◌≡◌, ℕ, Result, MatchResult}
+use Rattle.std.specs.Prelude.{◌≡◌, ◌⊎◌, ℕ, List, Result, MatchResult}
 use Rattle.tmem_disk.specs.Disk.{DeviceView, ReadsAs, SameSeenOutside, LeavesOnly, AtEachMoment, Elapses, Rewritten, after_fault}
+use Rattle.tmem_disk.specs.declared.disk.DeviceFault.{DeviceFault}
+use Rattle.tmem_disk.specs.declared.disk.DeviceFault.TheVariants.{Read, Write}
 use Rattle.tmem_disk.specs.declared.fault.Fault.{Fault}
-use Rattle.tmem_disk.specs.declared.fault.Fault.TheVariants.{Device, Unknown}
+use Rattle.tmem_disk.specs.declared.fault.Fault.TheVariants.{Memory, Device, Unknown, Damaged}
 
 -- how many calls of the device have failed, once this is answered
 abbrev pub failures_after : Fault → ℕ → ℕ
@@ -29,3 +31,18 @@ pub record WritesWithin (at n : ℕ) (old new : DeviceView) : Type 0 where
   pub stop : LeavesOnly new (Rewritten at n old)
   pub any_moment : AtEachMoment old new (Rewritten at n old)
   pub time : Elapses old new (Rewritten at n old)
+
+-- made of a content that a crash might have left before
+abbrev pub MadeBy : (List ℕ → List ℕ → Type 0) → DeviceView → List ℕ → Type 0
+MadeBy R old c = (b : List ℕ) × old.may_leave b × R b c
+
+-- a fault of a call that reads and writes
+abbrev pub IsReadOrWrite : DeviceFault → Type 0
+IsReadOrWrite fault = (fault ≡ Read) ⊎ (fault ≡ Write)
+
+-- why what was looked for was not found: want of memory, a failed call of the device, or else damage, as there is none
+abbrev pub IsWhyNone : Type 0 → Fault → Type 0
+IsWhyNone none Memory = Unit {0}
+IsWhyNone none Device = Unit {0}
+IsWhyNone none Damaged = none
+IsWhyNone none _ = ⊥

@@ -1,52 +1,58 @@
 -- What a crash leaves of a journal's device, while a batch is made durable; and what opening finds of it.
-use Rattle.std.proofs.Common.{◌≡◌, ◌⊎◌, inl, inr, ⊎_elim, ℕ, ◌+◌, ◌≤◌, ◌^◌, List, length, refl, sym, ap, subst}
+use Rattle.std.proofs.Common.{◌≡◌, ◌⊎◌, inl, inr, ⊎_elim, ℕ, ◌≤◌, ◌^◌, List, length, refl, sym, ap, subst}
 use Rattle.std.specs.Prelude.{Err, IsErrOf, ◌↔◌}
 use Rattle.std.proofs.Math.Logic.{∥∥₁_map, ∥∥₁_elim, ∥∥₁_prop}
 use Rattle.std.proofs.Props.{props}
 use Rattle.tmem_disk.specs.Disk.{DeviceView, LeavesOnly, AtEachMoment}
 use Rattle.tmem_disk.specs.declared.fault.Fault.{Fault}
 use Rattle.tmem_disk.specs.declared.fault.Fault.TheVariants.{Memory, Device, Unknown, LogFull, NotFormatted, Damaged, Geometry}
+use Rattle.tmem_gate.specs.Calls.{MadeBy}
 use Rattle.tmem_record.specs.State.{State, fold}
 use Rattle.tmem_record.specs.Layout.{IsLayout}
 use Rattle.tmem_redolog.specs.Appends.{Placed, Without, With, Either, Appended, Meanwhile, IsAppendFault}
-use Rattle.tmem_redolog.specs.Slots.{MadeBy}
-use Rattle.tmem_journal.specs.Stands.{HoldsState, StandsFor, StandsForEither}
+use Rattle.tmem_journal.specs.Stands.{Position, next_slot, HoldsState, StandsFor, StandsForEither}
 use Rattle.tmem_journal.specs.Calls.{doubted}
 use Rattle.tmem_journal.specs.Refusals.{IsRefusedBy, IsWhy}
-use Rattle.tmem_journal.proofs.Logged.{state_without, state_with}
+use Rattle.tmem_journal.proofs.Logged.{position_at, state_without, state_with}
 use Rattle.tmem_journal.proofs.Unique.{one_state_at_most}
 use Rattle.tmem_journal.proofs.Refused.{none_where_refused}
 
 -- a content that stands for one state stands for one of two
-pub sure_either : {vars slots used : ℕ} {s : State} (t : State) {d : DeviceView} → LeavesOnly d (StandsFor vars slots used s) → LeavesOnly d (StandsForEither vars slots s t)
-sure_either {used = used} t sure = record { each = λ k c left. ∥∥₁_map (sure.each k c left) (λ held. (used, inl held)) }
+pub sure_either : {vars slots : ℕ} {p : Position} {s : State} (t : State) {d : DeviceView} → LeavesOnly d (StandsFor vars slots p s) → LeavesOnly d (StandsForEither vars slots s t)
+sure_either {p = p} t sure = record { each = λ k c left. ∥∥₁_map (sure.each k c left) (λ held. (p, inl held)) }
 
 -- where a slot is left, no append answers that none is
 pub full_is_not : (f : Fault) (used slots : ℕ) → (used ≡ slots → ⊥) → IsErrOf {T = Unit {0}} (Err f) LogFull ↔ (used ≡ slots) → f ≡ LogFull → ⊥
 full_is_not f used slots other full is = other (full.0 (ap (λ (e : Fault). Err e) is))
 
 -- a batch that goes into the first slot behind the log, where every crash left this state before
-module _ (old new : DeviceView) (p : Placed) (generation : p.generation ≡ 1) (s : State) (count : s.count ≡ p.first) (room : length (fold s p.batch).names ≤ 64)
-    (model : new.keeps_model → old.keeps_model) (sure : LeavesOnly old (StandsFor p.vars p.slots p.slot s)) where
-  without : old.keeps_model → (c : List ℕ) → MadeBy (Without p) old c → StandsFor p.vars p.slots p.slot s c
-  without k c from = ∥∥₁_map (sure.each k from.0 from.1) (λ held. state_without p generation s count room from.0 c held from.2)
+module _ (old new : DeviceView) (p : Placed) (copy : ℕ) (s : State) (count : s.count ≡ p.first) (room : length (fold s p.batch).names ≤ 64)
+    (model : new.keeps_model → old.keeps_model) (sure : LeavesOnly old (StandsFor p.vars p.slots (position_at copy p) s)) where
+  abbrev here : Position
+  here = position_at copy p
 
-  with : old.keeps_model → (c : List ℕ) → MadeBy (With p) old c → StandsFor p.vars p.slots (p.slot + 1) (fold s p.batch) c
-  with k c from = ∥∥₁_map (sure.each k from.0 from.1) (λ held. state_with p generation s count room from.0 c held from.2)
+  abbrev there : Position
+  there = next_slot (position_at copy p)
+
+  without : old.keeps_model → (c : List ℕ) → MadeBy (Without p) old c → StandsFor p.vars p.slots here s c
+  without k c from = ∥∥₁_map (sure.each k from.0 from.1) (λ held. state_without p copy s count room from.0 c held from.2)
+
+  with : old.keeps_model → (c : List ℕ) → MadeBy (With p) old c → StandsFor p.vars p.slots there (fold s p.batch) c
+  with k c from = ∥∥₁_map (sure.each k from.0 from.1) (λ held. state_with p copy s count room from.0 c held from.2)
 
   either : old.keeps_model → (t : State) → t ≡ fold s p.batch → (c : List ℕ) → MadeBy (Either p) old c → StandsForEither p.vars p.slots s t c
   either k t is c from = ∥∥₁_map (sure.each k from.0 from.1) (λ held. ⊎_elim
-      (λ no. (p.slot, inl (state_without p generation s count room from.0 c held no)))
-      (λ yes. (p.slot + 1, inr (subst (λ (x : State). HoldsState p.vars p.slots (p.slot + 1) x c) (sym is) (state_with p generation s count room from.0 c held yes)))) from.2)
+      (λ no. (here, inl (state_without p copy s count room from.0 c held no)))
+      (λ yes. (there, inr (subst (λ (x : State). HoldsState p.vars p.slots there x c) (sym is) (state_with p copy s count room from.0 c held yes)))) from.2)
 
   -- once it is durable
-  pub sure_ok : (t : State) → t ≡ fold s p.batch → LeavesOnly new (MadeBy (With p) old) → LeavesOnly new (StandsFor p.vars p.slots (p.slot + 1) t)
-  sure_ok t is left = record { each = λ k c may. subst (λ (x : State). StandsFor p.vars p.slots (p.slot + 1) x c) (sym is) (with (model k) c (left.each k c may)) }
+  pub sure_ok : (t : State) → t ≡ fold s p.batch → LeavesOnly new (MadeBy (With p) old) → LeavesOnly new (StandsFor p.vars p.slots there t)
+  sure_ok t is left = record { each = λ k c may. subst (λ (x : State). StandsFor p.vars p.slots there x c) (sym is) (with (model k) c (left.each k c may)) }
 
   -- where the flush failed
   pub sure_err : (t : State) (f : Fault) → IsAppendFault f → (f ≡ LogFull → ⊥) → t ≡ fold s (doubted f p.batch) → Appended p old new (Err f) → LeavesOnly new (StandsForEither p.vars p.slots s t)
   sure_err t LogFull which other is left = absurd (other refl)
-  sure_err t Device which other is left = record { each = λ k c may. ∥∥₁_map (without (model k) c (left.each k c may)) (λ held. (p.slot, inl held)) }
+  sure_err t Device which other is left = record { each = λ k c may. ∥∥₁_map (without (model k) c (left.each k c may)) (λ held. (here, inl held)) }
   sure_err t Unknown which other is left = record { each = λ k c may. either (model k) t is c (left.each k c may) }
   sure_err t _ which other is left = absurd left
 
@@ -56,22 +62,22 @@ module _ (old new : DeviceView) (p : Placed) (generation : p.generation ≡ 1) (
     each = λ k c left.
         let from = during.each k c left in
         ∥∥₁_map (sure.each (model k) from.0 from.1) (λ held. ⊎_elim
-        (λ no. inl ∣ (p.slot, inl (state_without p generation s count room from.0 c held no)) ∣₁)
-        (λ yes. inr ∣ (p.slot + 1, inl (subst (λ (x : State). HoldsState p.vars p.slots (p.slot + 1) x c) (sym is) (state_with p generation s count room from.0 c held yes))) ∣₁) from.2);
+        (λ no. inl ∣ (here, inl (state_without p copy s count room from.0 c held no)) ∣₁)
+        (λ yes. inr ∣ (there, inl (subst (λ (x : State). HoldsState p.vars p.slots there x c) (sym is) (state_with p copy s count room from.0 c held yes))) ∣₁) from.2);
   }
 
   pub moments_err : (t t' : State) (f : Fault) → IsAppendFault f → (f ≡ LogFull → ⊥) → t ≡ fold s (doubted f p.batch) → AtEachMoment old new (Meanwhile p old (Err f)) → AtEachMoment old new (λ c. ∥ StandsForEither p.vars p.slots s t' c ⊎ StandsForEither p.vars p.slots s t c ∥₁)
   moments_err t t' LogFull which other is during = absurd (other refl)
-  moments_err t t' Device which other is during = record { each = λ k c left. ∣ inr (∥∥₁_map (without (model k) c (during.each k c left)) (λ held. (p.slot, inl held))) ∣₁ }
+  moments_err t t' Device which other is during = record { each = λ k c left. ∣ inr (∥∥₁_map (without (model k) c (during.each k c left)) (λ held. (here, inl held))) ∣₁ }
   moments_err t t' Unknown which other is during = record { each = λ k c left. ∣ inr (either (model k) t is c (during.each k c left)) ∣₁ }
   moments_err t t' _ which other is during = absurd (⊎_elim (λ a. cc) (λ b. ⊎_elim (λ x. cc) (λ y. cc) b) which)
 
 -- where every crash left one of two states, and a content stands for a state, it is one of them
 module _ (vars slots : ℕ) (few : vars ≤ 2 ^ 16) where
-  pub found_either : (used : ℕ) (n s t : State) (c : List ℕ) → StandsFor vars slots used n c → StandsForEither vars slots s t c → ∥ (n ≡ s) ⊎ (n ≡ t) ∥₁
-  found_either used n s t c found either = ∥∥₁_elim found ∥∥₁_prop (λ held. ∥∥₁_map either (λ e. ⊎_elim
-      (λ (one : HoldsState vars slots e.0 s c). inl (one_state_at_most vars slots few c used e.0 n s held one).1)
-      (λ (two : HoldsState vars slots e.0 t c). inr (one_state_at_most vars slots few c used e.0 n t held two).1) e.1))
+  pub found_either : (p : Position) (n s t : State) (c : List ℕ) → StandsFor vars slots p n c → StandsForEither vars slots s t c → ∥ (n ≡ s) ⊎ (n ≡ t) ∥₁
+  found_either p n s t c found either = ∥∥₁_elim found ∥∥₁_prop (λ held. ∥∥₁_map either (λ e. ⊎_elim
+      (λ (one : HoldsState vars slots e.0 s c). inl (one_state_at_most vars slots few c p e.0 n s held one).1)
+      (λ (two : HoldsState vars slots e.0 t c). inr (one_state_at_most vars slots few c p e.0 n t held two).1) e.1))
 
 -- and it is refused by nothing
 pub none_refused : (vars slots : ℕ) (f : Fault) (s t : State) (c : List ℕ) → IsLayout vars slots → StandsForEither vars slots s t c → IsRefusedBy vars slots c f → ⊥

@@ -13,14 +13,21 @@ use Rattle.tmem_record.specs.Spelling.{number_bytes, value_bytes, names_bytes}
 use Rattle.tmem_record.specs.Layout.{IsLayout, pages_of, image_place, slot_place, end_place}
 use Rattle.tmem_redolog.specs.Log.{HoldsLog}
 use Rattle.tmem_redolog.proofs.Laws.{no_batches}
-use Rattle.tmem_journal.specs.ImageSpelling.{block_body, names_body, pages_body, image_body, IsImage}
+use Rattle.tmem_image.specs.Image.{other_copy}
+use Rattle.tmem_image.specs.Spelling.{names_body, pages_body, image_body, IsImage}
+use Rattle.tmem_image.proofs.Laws.{length-image_body}
+use Rattle.tmem_journal.specs.BlockSpelling.{block_body}
 use Rattle.tmem_journal.specs.Formatted.{open_cell, formatted}
-use Rattle.tmem_journal.specs.Stands.{HoldsState, StandsFor}
-use Rattle.tmem_journal.proofs.SlotRanges.{slice_get-take, slice_get-drop, slice_get-replicate}
-use Rattle.tmem_journal.proofs.Lengths.{length-little_bytes, length-block_body, length-image_body}
+use Rattle.tmem_journal.specs.Stands.{first_position, HoldsState, StandsFor}
+use Rattle.tmem_journal.proofs.Lengths.{length-block_body}
 use Rattle.tmem_journal.proofs.Overwriting.{two_parts}
 use Rattle.tmem_journal.proofs.Recovering.{leaves_seen}
-use Rattle.tmem_record.proofs.Laws.{AreRegistered-nil}
+use Rattle.tmem_record.proofs.Laws.{AreRegistered-nil, length-little_bytes, slice_get-take, slice_get-drop}
+
+slice_get-replicate : (n i x : ℕ) → i < n → slice_get (replicate n x) i ≡ Some x
+slice_get-replicate zero i x below = absurd (omega arith)
+slice_get-replicate (suc n) zero x below = refl
+slice_get-replicate (suc n) (suc i) x below = slice_get-replicate n i x (omega arith)
 
 zero_fits : FitsSigned w64 (pos 0)
 zero_fits = search rules
@@ -127,15 +134,19 @@ module _ (vars slots : ℕ) (rest : List ℕ) where
   first_log : HoldsLog vars slots 1 (first_state vars) [] content
   first_log = no_batches vars slots 1 (first_state vars) content (omega arith) (record { count = omega arith; names = omega arith }) (λ k below. inl (closed_behind (slot_place vars k) (omega arith) (omega (arith, below))))
 
-  pub formatted_stands : IsLayout vars slots → HoldsState vars slots 0 (first_state vars) (formatted vars slots ++ rest)
-  formatted_stands layout = subst (λ (l : List ℕ). HoldsState vars slots 0 (first_state vars) l) (sym content_is) (record {
+  pub formatted_stands : IsLayout vars slots → HoldsState vars slots first_position (first_state vars) (formatted vars slots ++ rest)
+  formatted_stands layout = subst (λ (l : List ℕ). HoldsState vars slots first_position (first_state vars) l) (sym content_is) (record {
     image = first_state vars;
     batches = [];
     holds = record {
       block = cell_at [] (block_body vars slots) (second_cell ++ (replicate blank 0 ++ rest)) 0 refl;
-      copy_0 = cell_at first_cell (image_body vars 1 (first_state vars)) (replicate blank 0 ++ rest) (image_place vars 0) (first_long ∙ omega arith);
-      fits = first_fits vars;
-      copy_1 = closed_behind (image_place vars 1) (omega arith) (omega (arith, layout.some_slots));
+      one = omega arith;
+      chosen = record {
+        number = record { some = omega arith; fits = omega arith };
+        fits = first_fits vars;
+        cell = cell_at first_cell (image_body vars 1 (first_state vars)) (replicate blank 0 ++ rest) (image_place vars 0) (first_long ∙ omega arith);
+      };
+      other = inl (closed_behind (image_place vars (other_copy 0)) (omega arith) (omega (arith, layout.some_slots)));
       log = first_log;
     };
     is_used = refl;
@@ -167,8 +178,8 @@ all_written vars slots e at gen numbers old zeroed with_image whole some end pla
     ∙ sym (formatted_is vars slots some (drop (end_place vars slots) old))
 
 -- a stop leaves what a read gives, and that stands for the first state
-pub formatted_device : (vars slots : ℕ) → IsLayout vars slots → (d : DeviceView) (rest : List ℕ) → ReadsAs d (formatted vars slots ++ rest) → IsSynced d → LeavesOnly d (StandsFor vars slots 0 (first_state vars))
-formatted_device vars slots layout d rest reads synced = leaves_seen synced (λ k. ∣ subst (λ (l : List ℕ). HoldsState vars slots 0 (first_state vars) l) (sym (reads k)) (formatted_stands vars slots rest layout) ∣₁)
+pub formatted_device : (vars slots : ℕ) → IsLayout vars slots → (d : DeviceView) (rest : List ℕ) → ReadsAs d (formatted vars slots ++ rest) → IsSynced d → LeavesOnly d (StandsFor vars slots first_position (first_state vars))
+formatted_device vars slots layout d rest reads synced = leaves_seen synced (λ k. ∣ subst (λ (l : List ℕ). HoldsState vars slots first_position (first_state vars) l) (sym (reads k)) (formatted_stands vars slots rest layout) ∣₁)
 
 -- what facts of a success give
 pub on_ok : {T E A B : Type 0} → (A → B) → (r : Result T E) → OnOk r A → OnOk r B

@@ -1,16 +1,12 @@
 pub mod Finding
 pub mod Flushed
 pub mod FormattedStands
-pub mod ImageNames
-pub mod Imaging
 pub mod Lengths
 pub mod Logged
 pub mod Overwriting
-pub mod SlotRanges
-pub mod Pieces
 pub mod Recovering
 pub mod Recovered
 pub mod Refused
+pub mod Renewed
 pub mod Spelled
-pub mod Standing
 pub mod Unique

@@ -1,19 +1,18 @@
 -- What opening leaves of a device: its log is read, and then gates behind it are closed.
-use Rattle.std.proofs.Common.{◌≡◌, ◌≤◌, ◌*◌, ◌^◌, ℕ, List, sym, ◌∙◌, subst, arith}
+use Rattle.std.proofs.Common.{◌≡◌, ◌≤◌, ◌*◌, ◌^◌, ℕ, List, sym, ◌∙◌, ap, subst, arith}
 use Rattle.std.proofs.Math.Logic.{∥∥₁_elim}
 use Rattle.std.proofs.Props.{props}
 use Rattle.tmem_disk.specs.Disk.{DeviceView, IsDevice, AtEachMoment, Elapses, IsSynced, SameOutside, Rewritten}
 use Rattle.tmem_disk.proofs.Laws.{SameOutside-refl, Rewritten-left, Elapses-more, Elapses-trans, AtEachMoment-elapsed}
-use Rattle.tmem_gate.specs.Calls.{LooksOnly, WritesWithin}
+use Rattle.tmem_gate.specs.Calls.{LooksOnly, WritesWithin, MadeBy}
 use Rattle.tmem_gate.specs.Gate.{IsClosed}
 use Rattle.tmem_gate.proofs.Laws.{by_time, LooksOnly-refl, LooksOnly-trans, WritesWithin-wider, WritesWithin-trans}
 use Rattle.tmem_record.specs.Layout.{slot_place}
 use Rattle.tmem_record.specs.State.{State}
 use Rattle.tmem_redolog.specs.Closes.{bytes_from, Keeps, ReadClosed}
-use Rattle.tmem_redolog.specs.Slots.{MadeBy}
 use Rattle.tmem_redolog.proofs.Laws.{looks_given}
 use Rattle.tmem_journal.specs.Mended.{Mends, MendedBy, ClosedFrom}
-use Rattle.tmem_journal.specs.Stands.{StandsFor}
+use Rattle.tmem_journal.specs.Stands.{Position, StandsFor}
 use Rattle.tmem_journal.proofs.Logged.{mended, Mends-refl}
 use Rattle.tmem_journal.proofs.Unique.{one_state_at_most}
 
@@ -50,35 +49,35 @@ module _ (vars slots : ℕ) (d : DeviceView) where
   still_seen = looking_seen vars slots d d (LooksOnly-refl d)
 
 -- A reading that found a state, after which the device is synced, and then a call that closes gates behind the log.
-module _ (vars slots : ℕ) (few : vars ≤ 2 ^ 16) (used : ℕ) (fits : used ≤ slots) (s : State) (old mid new : DeviceView) (looks : LooksOnly old mid) (synced : IsSynced mid) (model : mid.keeps_model → old.keeps_model)
-    (model_now : new.keeps_model → mid.keeps_model) (found : mid.keeps_model → StandsFor vars slots used s old.seen) where
-  by_keeps : mid.keeps_model → (c : List ℕ) → MadeBy (Keeps vars slots 1 used) mid c → MendedBy vars slots old c
+module _ (vars slots : ℕ) (few : vars ≤ 2 ^ 16) (p : Position) (fits : p.used ≤ slots) (s : State) (old mid new : DeviceView) (looks : LooksOnly old mid) (synced : IsSynced mid) (model : mid.keeps_model → old.keeps_model)
+    (model_now : new.keeps_model → mid.keeps_model) (found : mid.keeps_model → StandsFor vars slots p s old.seen) where
+  by_keeps : mid.keeps_model → (c : List ℕ) → MadeBy (Keeps vars slots p.generation p.used) mid c → MendedBy vars slots old c
   by_keeps k c from =
       let was : from.0 ≡ old.seen = synced k from.0 from.1 ∙ looks.seen k in
-      (from.0, looks.stop.each k from.0 from.1, mended vars slots few used fits s from.0 c (subst (λ (b : List ℕ). StandsFor vars slots used s b) (sym was) (found k)) from.2)
+      (from.0, looks.stop.each k from.0 from.1, mended vars slots few p fits s from.0 c (subst (λ (b : List ℕ). StandsFor vars slots p s b) (sym was) (found k)) from.2)
 
-  pub closing_moments : IsDevice old → Elapses mid new (MadeBy (Keeps vars slots 1 used) mid) → AtEachMoment old new (MendedBy vars slots old)
+  pub closing_moments : IsDevice old → Elapses mid new (MadeBy (Keeps vars slots p.generation p.used) mid) → AtEachMoment old new (MendedBy vars slots old)
   closing_moments device time = AtEachMoment-elapsed old new (MendedBy vars slots old) (MendedBy vars slots old) device (λ k. model (model_now k))
-      (Elapses-trans old mid new (MendedBy vars slots old) model_now (looking_time vars slots old mid looks) (Elapses-more mid new (MadeBy (Keeps vars slots 1 used) mid) (MendedBy vars slots old) time (λ k c from. by_keeps (model_now k) c from)))
+      (Elapses-trans old mid new (MendedBy vars slots old) model_now (looking_time vars slots old mid looks) (Elapses-more mid new (MadeBy (Keeps vars slots p.generation p.used) mid) (MendedBy vars slots old) time (λ k c from. by_keeps (model_now k) c from)))
       (record { each = λ k c left. unmended vars slots old c left }) (λ k c is. is)
 
-  pub closing_within : IsDevice old → WritesWithin (slot_place vars used) (bytes_from used slots) mid new → WritesWithin (slot_place vars 0) (4096 * slots) old new
+  pub closing_within : IsDevice old → WritesWithin (slot_place vars p.used) (bytes_from p.used slots) mid new → WritesWithin (slot_place vars 0) (4096 * slots) old new
   closing_within device within =
       WritesWithin-trans (slot_place vars 0) (4096 * slots) old mid new model_now (looking_within vars slots old mid looks (slot_place vars 0) (4096 * slots) device model)
-      (WritesWithin-wider (slot_place vars used) (bytes_from used slots) (slot_place vars 0) (4096 * slots) (omega arith) (omega (arith, fits)) mid new within)
+      (WritesWithin-wider (slot_place vars p.used) (bytes_from p.used slots) (slot_place vars 0) (4096 * slots) (omega arith) (omega (arith, fits)) mid new within)
 
-  pub closing_seen : (new.keeps_model → Keeps vars slots 1 used mid.seen new.seen) → new.keeps_model → Mends vars slots old.seen new.seen
+  pub closing_seen : (new.keeps_model → Keeps vars slots p.generation p.used mid.seen new.seen) → new.keeps_model → Mends vars slots old.seen new.seen
   closing_seen keeps k =
       let was = looks.seen (model_now k) in
-      mended vars slots few used fits s old.seen new.seen (found (model_now k)) (subst (λ (b : List ℕ). Keeps vars slots 1 used b new.seen) was (keeps k))
+      mended vars slots few p fits s old.seen new.seen (found (model_now k)) (subst (λ (b : List ℕ). Keeps vars slots p.generation p.used b new.seen) was (keeps k))
 
   -- what stands for no state was not found to stand for one
-  pub closing_damaged : ((n : ℕ) (t : State) → StandsFor vars slots n t old.seen → ⊥) → LooksOnly old new
-  closing_damaged none = looks_given old new (λ k. absurd (none used s (found (model_now k))))
+  pub closing_damaged : ((q : Position) (t : State) → StandsFor vars slots q t old.seen → ⊥) → LooksOnly old new
+  closing_damaged none = looks_given old new (λ k. absurd (none p s (found (model_now k))))
 
   -- with each of them closed before, nothing is written
-  pub closing_none : (ReadClosed vars used slots mid → LooksOnly mid new) → (n : ℕ) (t : State) → StandsFor vars slots n t old.seen → ClosedFrom vars slots n old.seen → LooksOnly old new
-  closing_none idle n t other closed = looks_given old new (λ k.
-      let same : used ≡ n = ∥∥₁_elim (found (model_now k)) (hlevel props) (λ held. ∥∥₁_elim other (hlevel props) (λ it. (one_state_at_most vars slots few old.seen used n s t held it).0)) in
-      let read : ReadClosed vars used slots mid = λ j above below. subst (λ (b : List ℕ). IsClosed (slot_place vars j) b) (sym (looks.seen (model_now k))) (closed j (subst (λ (m : ℕ). m ≤ j) same above) below) in
+  pub closing_none : (ReadClosed vars p.used slots mid → LooksOnly mid new) → (q : Position) (t : State) → StandsFor vars slots q t old.seen → ClosedFrom vars slots q.used old.seen → LooksOnly old new
+  closing_none idle q t other closed = looks_given old new (λ k.
+      let same : p.used ≡ q.used = ∥∥₁_elim (found (model_now k)) (hlevel props) (λ held. ∥∥₁_elim other (hlevel props) (λ it. ap (λ (x : Position). x.used) (one_state_at_most vars slots few old.seen p q s t held it).0)) in
+      let read : ReadClosed vars p.used slots mid = λ j above below. subst (λ (b : List ℕ). IsClosed (slot_place vars j) b) (sym (looks.seen (model_now k))) (closed j (subst (λ (m : ℕ). m ≤ j) same above) below) in
       LooksOnly-trans old mid new model_now looks (idle read))

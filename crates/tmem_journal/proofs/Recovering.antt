@@ -1,75 +1,93 @@
 -- The parts of a content that were found, put together.
-use Rattle.std.proofs.Common.{◌≡◌, ◌+◌, ℕ, List, length, sym, ◌∙◌, ap, subst}
-use Rattle.std.specs.Prelude.{slice_range}
+use Rattle.std.proofs.Common.{◌≡◌, ◌≤◌, ℕ, List, sym, ◌∙◌, subst}
 use Rattle.tmem_disk.specs.Disk.{DeviceView, LeavesOnly, IsSynced}
-use Rattle.tmem_disk.specs.declared.fault.Fault.{Fault}
-use Rattle.tmem_disk.specs.declared.fault.Fault.TheVariants.{Memory, Device, Damaged}
 use Rattle.tmem_gate.specs.Gate.{IsOpenOver}
+use Rattle.tmem_record.specs.Layout.{image_place}
+use Rattle.tmem_record.specs.Stale.{IsStale}
 use Rattle.tmem_record.specs.State.{State}
 use Rattle.tmem_record.specs.declared.effect.Effect.{Effect}
-use Rattle.tmem_record.specs.Layout.{image_place}
+use Rattle.tmem_image.specs.Image.{HoldsImage, ChoosesCopy, other_copy}
+use Rattle.tmem_image.proofs.Laws.{front_of_image, one_head, one_choice, one_image}
 use Rattle.tmem_redolog.specs.Log.{HoldsLog}
-use Rattle.tmem_redolog.specs.Scans.{FindsLog, IsWhyNone}
-use Rattle.tmem_journal.specs.ImageSpelling.{block_body, image_body}
-use Rattle.tmem_journal.specs.Stands.{Holds, HoldsState}
-use Rattle.tmem_journal.specs.Parts.{IsWhyPart, HoldsImage}
-use Rattle.tmem_journal.proofs.Lengths.{length-image_body}
-use Rattle.tmem_journal.proofs.Imaging.{one_state}
+use Rattle.tmem_redolog.specs.Scans.{FindsLog}
+use Rattle.tmem_redolog.specs.declared.log.Log.{Log}
+use Rattle.tmem_journal.specs.BlockSpelling.{block_body}
+use Rattle.tmem_journal.specs.Stands.{Position, position_in, Holds, HoldsState}
+use Rattle.tmem_journal.proofs.Unique.{chosen_of}
 
--- two bodies of one length behind one gate are one
-pub one_body : (at : ℕ) (a b c : List ℕ) → length a ≡ length b → IsOpenOver at a c → IsOpenOver at b c → a ≡ b
-one_body at a b c long one other = sym one.body ∙ ap (λ (n : ℕ). slice_range c (at + 1) (at + 1 + n)) long ∙ other.body
+-- the other copy is stale for the image that the chosen one holds
+other_stale : (vars copy generation : ℕ) (image : State) (c : List ℕ) → ChoosesCopy vars copy c → HoldsImage vars copy generation image c → IsStale generation (image_place vars (other_copy copy)) c
+other_stale vars copy generation image c chosen holds =
+    let head = front_of_image vars generation (image_place vars copy) image c holds.cell in
+    let same : chosen.0 ≡ generation = one_head (image_place vars copy) chosen.0 generation c chosen.1.fits holds.number.fits chosen.1.cell head in
+    subst (λ (g : ℕ). IsStale g (image_place vars (other_copy copy)) c) same chosen.1.other
 
--- two images that one copy spells have one spelling
-pub one_image : (vars : ℕ) (s t : State) (c : List ℕ) → HoldsImage vars s c → HoldsImage vars t c → image_body vars 1 s ≡ image_body vars 1 t
-one_image vars s t c one other =
-    one_body (image_place vars 0) (image_body vars 1 s) (image_body vars 1 t) c (length-image_body vars 1 s one.fits.names one.fits.values ∙ sym (length-image_body vars 1 t other.fits.names other.fits.values)) one.copy_0 other.copy_0
+-- block 0, the image of the chosen copy and a log over it make a state
+pub all_parts : (vars slots copy generation : ℕ) (image s : State) (log : Log) (c : List ℕ) → copy ≤ 1 → log.generation ≡ generation → IsOpenOver 0 (block_body vars slots) c → ChoosesCopy vars copy c → HoldsImage vars copy generation image c
+    → FindsLog vars slots generation image log.used s c → HoldsState vars slots (position_in copy log) s c
+all_parts vars slots copy generation image s log c one same block chosen holds found =
+    let all : Holds vars slots copy generation image found.batches c = record { block = block; one = one; chosen = holds; other = other_stale vars copy generation image c chosen holds; log = found.holds } in
+    record {
+      image = image;
+      batches = found.batches;
+      holds = subst (λ (g : ℕ). Holds vars slots copy g image found.batches c) (sym same) all;
+      is_used = found.is_used;
+      is_state = found.is_state;
+    }
 
--- and one state
-pub one_image_state : (vars : ℕ) (s t : State) (c : List ℕ) → HoldsImage vars s c → HoldsImage vars t c → s ≡ t
-one_image_state vars s t c one other = one_state vars s t one.fits other.fits (one_image vars s t c one other)
+-- A content stands for nothing where a part is missing, as it is read later.
+module _ (vars slots : ℕ) (c then : List ℕ) (same : then ≡ c) where
+  -- no copy is chosen
+  pub no_choice : ((copy : ℕ) → ChoosesCopy vars copy then → ⊥) → (p : Position) (s : State) → HoldsState vars slots p s c → ⊥
+  no_choice none p s stands = none p.copy (subst (λ (x : List ℕ). ChoosesCopy vars p.copy x) (sym same) (chosen_of stands.holds))
 
-pub image_of : {vars slots : ℕ} {s : State} {batches : List (List Effect)} {c : List ℕ} → Holds vars slots s batches c → HoldsImage vars s c
-image_of holds = record { copy_0 = holds.copy_0; fits = holds.fits; copy_1 = holds.copy_1 }
+  -- the chosen one holds no image
+  pub no_image : (copy : ℕ) → ChoosesCopy vars copy c → ((generation : ℕ) (s : State) → HoldsImage vars copy generation s then → ⊥) → (p : Position) (s : State) → HoldsState vars slots p s c → ⊥
+  no_image copy chosen none p s stands =
+      let one : p.copy ≡ copy = one_choice vars p.copy copy c (chosen_of stands.holds) chosen in
+      let image : HoldsImage vars copy p.generation stands.image c = subst (λ (k : ℕ). HoldsImage vars k p.generation stands.image c) one stands.holds.chosen in
+      none p.generation stands.image (subst (λ (x : List ℕ). HoldsImage vars copy p.generation stands.image x) (sym same) image)
 
--- block 0, an image and a log over it make a state
-pub all_parts : (vars slots : ℕ) (image s : State) (used : ℕ) (c : List ℕ) → IsOpenOver 0 (block_body vars slots) c → HoldsImage vars image c → FindsLog vars slots 1 image used s c → HoldsState vars slots used s c
-all_parts vars slots image s used c block copy found = record {
-  image = image;
-  batches = found.batches;
-  holds = record { block = block; copy_0 = copy.copy_0; fits = copy.fits; copy_1 = copy.copy_1; log = found.holds };
-  is_used = found.is_used;
-  is_state = found.is_state;
-}
-
--- with no log a content stands for nothing
-pub no_state : (vars slots : ℕ) (found : State) (seen : List ℕ) → HoldsImage vars found seen → ((batches : List (List Effect)) → HoldsLog vars slots 1 found batches seen → ⊥) → (used : ℕ) (s : State) → HoldsState vars slots used s seen → ⊥
-no_state vars slots found seen image none used s stands =
-    let same = one_image_state vars stands.image found seen (image_of stands.holds) image in
-    none stands.batches (subst (λ (i : State). HoldsLog vars slots 1 i stands.batches seen) same stands.holds.log)
-
--- why there is no log, as why a part was not found
-pub part_by_log : (none : Type 0) (f : Fault) → IsWhyNone none f → IsWhyPart none f
-part_by_log none Memory why = tt
-part_by_log none Device why = tt
-part_by_log none Damaged why = why
-part_by_log none _ why = absurd why
+  -- there is no log over its image
+  pub no_log : (copy generation : ℕ) (image : State) → ChoosesCopy vars copy c → HoldsImage vars copy generation image c → ((batches : List (List Effect)) → HoldsLog vars slots generation image batches then → ⊥) → (p : Position) (s : State)
+      → HoldsState vars slots p s c → ⊥
+  no_log copy generation image chosen holds none p s stands =
+      let one : p.copy ≡ copy = one_choice vars p.copy copy c (chosen_of stands.holds) chosen in
+      let other : HoldsImage vars copy p.generation stands.image c = subst (λ (k : ℕ). HoldsImage vars k p.generation stands.image c) one stands.holds.chosen in
+      let both = one_image vars copy p.generation generation stands.image image c other holds in
+      let log : HoldsLog vars slots generation stands.image stands.batches c = subst (λ (g : ℕ). HoldsLog vars slots g stands.image stands.batches c) both.0 stands.holds.log in
+      let same_image : HoldsLog vars slots generation image stands.batches c = subst (λ (i : State). HoldsLog vars slots generation i stands.batches c) both.1 log in
+      none stands.batches (subst (λ (x : List ℕ). HoldsLog vars slots generation image stands.batches x) (sym same) same_image)
 
 -- what is synced leaves what a read gives
 pub leaves_seen : {d : DeviceView} {P : List ℕ → Type 0} → IsSynced d → (d.keeps_model → P d.seen) → LeavesOnly d P
 leaves_seen {P = P} synced holds = record { each = λ k c left. subst P (sym (synced k c left)) (holds k) }
 
 -- the parts as a reader met them one after another, of one content
-module _ (vars slots : ℕ) (image : State) (seen s1 s2 s3 : List ℕ) (is1 : s1 ≡ seen) (is2 : s2 ≡ s1) (is3 : s3 ≡ s2) where
+module _ (vars slots copy : ℕ) (seen s1 s2 s3 : List ℕ) (is1 : s1 ≡ seen) (is2 : s2 ≡ s1) (is3 : s3 ≡ s2) where
   at_2 : s2 ≡ seen
   at_2 = is2 ∙ is1
 
   at_3 : s3 ≡ seen
   at_3 = is3 ∙ at_2
 
-  pub nothing_found : HoldsImage vars image s2 → ((batches : List (List Effect)) → HoldsLog vars slots 1 image batches s3 → ⊥) → (used : ℕ) (t : State) → HoldsState vars slots used t seen → ⊥
-  nothing_found copy none =
-      no_state vars slots image seen (subst (λ (c : List ℕ). HoldsImage vars image c) at_2 copy) (λ batches holds. none batches (subst (λ (c : List ℕ). HoldsLog vars slots 1 image batches c) (sym at_3) holds))
+  chosen_at : ChoosesCopy vars copy s2 → ChoosesCopy vars copy seen
+  chosen_at chosen = subst (λ (c : List ℕ). ChoosesCopy vars copy c) at_2 chosen
 
-  pub all_found : (used : ℕ) (s : State) → IsOpenOver 0 (block_body vars slots) s1 → HoldsImage vars image s2 → FindsLog vars slots 1 image used s s3 → HoldsState vars slots used s seen
-  all_found used s block copy found = all_parts vars slots image s used seen (subst (λ (c : List ℕ). IsOpenOver 0 (block_body vars slots) c) is1 block) (subst (λ (c : List ℕ). HoldsImage vars image c) at_2 copy) (subst (λ (c : List ℕ). FindsLog vars slots 1 image used s c) at_3 found)
+  pub image_missing : ChoosesCopy vars copy s2 → ((g : ℕ) (s : State) → HoldsImage vars copy g s s3 → ⊥) → (p : Position) (t : State) → HoldsState vars slots p t seen → ⊥
+  image_missing chosen none = no_image vars slots seen s3 at_3 copy (chosen_at chosen) none
+
+  module _ (s4 : List ℕ) (is4 : s4 ≡ s3) (generation : ℕ) (image : State) where
+    at_4 : s4 ≡ seen
+    at_4 = is4 ∙ at_3
+
+    image_at : HoldsImage vars copy generation image s3 → HoldsImage vars copy generation image seen
+    image_at holds = subst (λ (c : List ℕ). HoldsImage vars copy generation image c) at_3 holds
+
+    pub log_missing : ChoosesCopy vars copy s2 → HoldsImage vars copy generation image s3 → ((batches : List (List Effect)) → HoldsLog vars slots generation image batches s4 → ⊥) → (p : Position) (t : State) → HoldsState vars slots p t seen → ⊥
+    log_missing chosen holds none = no_log vars slots seen s4 at_4 copy generation image (chosen_at chosen) (image_at holds) none
+
+    pub all_found : (s : State) (log : Log) → copy ≤ 1 → log.generation ≡ generation → IsOpenOver 0 (block_body vars slots) s1 → ChoosesCopy vars copy s2 → HoldsImage vars copy generation image s3 → FindsLog vars slots generation image log.used s s4
+        → HoldsState vars slots (position_in copy log) s seen
+    all_found s log one same block chosen holds found =
+        all_parts vars slots copy generation image s log seen one same (subst (λ (c : List ℕ). IsOpenOver 0 (block_body vars slots) c) is1 block) (chosen_at chosen) (image_at holds) (subst (λ (c : List ℕ). FindsLog vars slots generation image log.used s c) at_4 found)

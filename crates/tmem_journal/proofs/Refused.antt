@@ -7,19 +7,20 @@ use Rattle.std.proofs.Props.{props}
 use Rattle.byteorder.specs.Endian.{little_bytes, little_number}
 use Rattle.tmem_disk.specs.declared.fault.Fault.{Fault}
 use Rattle.tmem_disk.specs.declared.fault.Fault.TheVariants.{Memory, Device, NotFormatted, Damaged, Geometry}
+use Rattle.tmem_gate.specs.Calls.{IsWhyNone}
 use Rattle.tmem_gate.specs.Gate.{IsOpenAt, IsOpenOver}
 use Rattle.tmem_record.specs.State.{State}
 use Rattle.tmem_record.specs.Prefix.{IsPrefix}
 use Rattle.tmem_record.specs.Spelling.{number_bytes}
 use Rattle.tmem_record.proofs.Laws.{number-spelled}
 use Rattle.tmem_record.specs.Layout.{IsLayout}
-use Rattle.tmem_journal.specs.ImageSpelling.{block_body}
-use Rattle.tmem_journal.specs.Stands.{HoldsState}
-use Rattle.tmem_journal.specs.StandsAt.{StandsAt}
+use Rattle.tmem_record.specs.StandsAt.{StandsAt}
+use Rattle.tmem_journal.specs.BlockSpelling.{block_body}
+use Rattle.tmem_journal.specs.Stands.{Position, HoldsState}
 use Rattle.tmem_journal.specs.Refusals.{HasMagic, IsOfOthers, IsRefusedBy, IsWhy}
-use Rattle.tmem_journal.specs.Parts.{IsBlockFault, IsBlockBy, IsWhyPart, HoldsImage}
+use Rattle.tmem_journal.specs.Parts.{IsBlockFault, IsBlockBy}
 use Rattle.tmem_journal.proofs.Lengths.{length-block_body}
-use Rattle.tmem_journal.proofs.Recovering.{one_body, image_of}
+use Rattle.tmem_image.proofs.Laws.{one_body}
 use Rattle.tmem_journal.proofs.Finding.{front_of}
 
 -- the numbers that stand in a block 0
@@ -106,16 +107,16 @@ of_no_others vars slots layout c cell other =
 
 module _ (vars slots : ℕ) (layout : IsLayout vars slots) (c : List ℕ) where
   -- a content that is refused stands for no state
-  pub none_where_refused : (f : Fault) → IsRefusedBy vars slots c f → (used : ℕ) (s : State) → HoldsState vars slots used s c → ⊥
-  none_where_refused NotFormatted is used s stands = is (letters_of vars slots c stands.holds.block)
-  none_where_refused Geometry is used s stands = of_no_others vars slots layout c stands.holds.block is
-  none_where_refused Damaged is used s stands = is.2 used s ∣ stands ∣₁
-  none_where_refused _ is used s stands = absurd is
+  pub none_where_refused : (f : Fault) → IsRefusedBy vars slots c f → (p : Position) (s : State) → HoldsState vars slots p s c → ⊥
+  none_where_refused NotFormatted is p s stands = is (letters_of vars slots c stands.holds.block)
+  none_where_refused Geometry is p s stands = of_no_others vars slots layout c stands.holds.block is
+  none_where_refused Damaged is p s stands = is.2 p s ∣ stands ∣₁
+  none_where_refused _ is p s stands = absurd is
 
   by_block : (f : Fault) → IsBlockBy vars slots c f → IsRefusedBy vars slots c f
   by_block NotFormatted is = is
   by_block Geometry is = is
-  by_block Damaged is = (is.0, (λ other. is.1 other.their_vars other.their_slots other.layout other.block), λ used s stands. ∥∥₁_elim stands (hlevel props) (λ held. is.1 vars slots layout held.holds.block))
+  by_block Damaged is = (is.0, (λ other. is.1 other.their_vars other.their_slots other.layout other.block), λ p s stands. ∥∥₁_elim stands (hlevel props) (λ held. is.1 vars slots layout held.holds.block))
   by_block _ is = absurd is
 
   -- what block 0 is refused by, as it is read later, the content is
@@ -132,16 +133,12 @@ module _ (vars slots : ℕ) (layout : IsLayout vars slots) (c : List ℕ) where
     why_block _ why = absurd why
 
   -- where block 0 is that of these numbers, all else is damage
-  pub why_part : (J none : Type 0) (f : Fault) → (J → IsOpenOver 0 (block_body vars slots) c) → (none → J → (used : ℕ) (s : State) → HoldsState vars slots used s c → ⊥) → IsWhyPart none f → IsWhy (λ g. J → IsRefusedBy vars slots c g) f
+  pub why_part : (J none : Type 0) (f : Fault) → (J → IsOpenOver 0 (block_body vars slots) c) → (none → J → (p : Position) (s : State) → HoldsState vars slots p s c → ⊥) → IsWhyNone none f → IsWhy (λ g. J → IsRefusedBy vars slots c g) f
   why_part J none Memory block from why = tt
   why_part J none Device block from why = tt
-  why_part J none Damaged block from why = λ j. (letters_of vars slots c (block j), of_no_others vars slots layout c (block j), λ used s stands. ∥∥₁_elim stands (hlevel props) (from why j used s))
+  why_part J none Damaged block from why = λ j. (letters_of vars slots c (block j), of_no_others vars slots layout c (block j), λ p s stands. ∥∥₁_elim stands (hlevel props) (from why j p s))
   why_part J none _ block from why = absurd why
 
 -- block 0 as it is read later
 pub block_then : (vars slots : ℕ) (c then : List ℕ) → then ≡ c → IsOpenOver 0 (block_body vars slots) then → IsOpenOver 0 (block_body vars slots) c
 block_then vars slots c then same cell = subst (λ (x : List ℕ). IsOpenOver 0 (block_body vars slots) x) same cell
-
--- without an image, as it is read later, a content stands for nothing
-pub no_image : (vars slots : ℕ) (c then : List ℕ) → then ≡ c → ((s : State) → HoldsImage vars s then → ⊥) → (used : ℕ) (s : State) → HoldsState vars slots used s c → ⊥
-no_image vars slots c then same none used s stands = none stands.image (subst (λ (x : List ℕ). HoldsImage vars stands.image x) (sym same) (image_of stands.holds))

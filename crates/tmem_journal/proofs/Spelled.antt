@@ -2,7 +2,7 @@
 use Rattle.std.proofs.Common.{◌≡◌, ◌≤◌, ◌+◌, ◌-◌, ℕ, List, [], ◌∷◌, ◌++◌, take, drop, replicate, codes, sym, ◌∙◌, ap, arith, append_assoc}
 use Rattle.std.proofs.lemmas.List.{take-append-drop, drop-replicate, drop-drop}
 use Rattle.byteorder.specs.Endian.{little_bytes}
-use Rattle.tmem_journal.specs.ImageSpelling.{block_body}
+use Rattle.tmem_journal.specs.BlockSpelling.{block_body}
 
 -- block 0 from its parts, in front of zeros
 pub block_is : (vars slots : ℕ) (whole : List ℕ) (at : ℕ) (b0 b1 b2 v s : List ℕ) → b0 ≡ codes "TMEM" → b1 ≡ b0 ++ 1 ∷ [] → b2 ≡ b1 ++ v → take at whole ≡ b2 ++ s → drop at whole ≡ replicate 502 0

@@ -2,7 +2,8 @@
 use Rattle.std.specs.Prelude.{ℕ, ◌-◌, List, ◌∷◌, ◌++◌, replicate}
 use Rattle.tmem_record.specs.State.{first_state}
 use Rattle.tmem_record.specs.Layout.{image_place, end_place}
-use Rattle.tmem_journal.specs.ImageSpelling.{block_body, image_body}
+use Rattle.tmem_image.specs.Spelling.{image_body}
+use Rattle.tmem_journal.specs.BlockSpelling.{block_body}
 
 -- an open gate, and what stands behind it
 abbrev pub open_cell : List ℕ → List ℕ

@@ -4,7 +4,7 @@ use Rattle.tmem_disk.specs.Disk.{DeviceView}
 use Rattle.tmem_disk.specs.declared.fault.Fault.{Fault}
 use Rattle.tmem_record.specs.State.{State, fold}
 use Rattle.tmem_journal.specs.Calls.{effects_in}
-use Rattle.tmem_journal.specs.Stands.{StandsForEither}
+use Rattle.tmem_journal.specs.Stands.{Position, position_in, StandsForEither}
 use Rattle.tmem_record.specs.declared.layout.Layout.{Layout}
 use Rattle.tmem_journal.specs.declared.journal.Journal.{Journal}
 
@@ -28,9 +28,9 @@ state_of j = j.state
 abbrev pub doubtful_of : {D : Type 0} {d : _} → Journal D d → State
 doubtful_of j = fold j.state (effects_in j.doubt)
 
--- how many log slots are used
-abbrev pub used_slots_of : {D : Type 0} {d : _} → Journal D d → ℕ
-used_slots_of j = j.log.used
+-- its image copy and that copy's generation, and how many log slots are used
+abbrev pub position_of : {D : Type 0} {d : _} → Journal D d → Position
+position_of j = position_in j.copy j.log
 
 -- whether a failure closed it
 abbrev pub is_closed_of : {D : Type 0} {d : _} → Journal D d → Bool

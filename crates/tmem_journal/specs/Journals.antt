@@ -1,36 +1,57 @@
 -- What the calls of a journal do.
-use Rattle.std.specs.Prelude.{◌≡◌, ◌<◌, ◌⊎◌, ◌+◌, ℕ, Bool, true, false, List, Some, Result, Ok, Err}
-use Rattle.tmem_disk.specs.Disk.{DeviceView}
+use Rattle.std.specs.Prelude.{◌≡◌, ◌<◌, ◌⊎◌, ◌+◌, ◌^◌, ℕ, Bool, true, false, List, Some, Result, Ok, Err, IfSome}
+use Rattle.tmem_disk.specs.Disk.{DeviceView, IsWriteOrSync}
 use Rattle.tmem_disk.specs.declared.disk.DeviceFault.TheVariants.{Write}
 use Rattle.tmem_disk.specs.declared.fault.Fault.{Fault}
 use Rattle.tmem_disk.specs.declared.fault.Fault.TheVariants as fault
+use Rattle.tmem_gate.specs.Calls.{IsReadOrWrite}
 use Rattle.tmem_record.specs.State.{State, fold}
 use Rattle.tmem_record.specs.declared.effect.Effect.{Effect}
 use Rattle.tmem_journal.specs.Calls.{FitsOn}
-use Rattle.tmem_journal.specs.Held.{device_of, layout_of, state_of, doubtful_of, used_slots_of, is_closed_of}
+use Rattle.tmem_journal.specs.Held.{device_of, layout_of, state_of, doubtful_of, position_of, is_closed_of}
 use Rattle.tmem_journal.specs.Refusals.{IsWhy, IsRefusedBy}
+use Rattle.tmem_journal.specs.Stands.{Position, next_slot, next_image}
 use Rattle.tmem_journal.specs.declared.journal.Journal.{Journal}
 
--- s is known durable, and t may be in its place; how many log slots are used; whether it is closed
-pub record IsAt {D : Type 0} {d : _} (j : Journal D d) (s t : State) (used : ℕ) (shut : Bool) : Type 0 where
+-- s is known durable, and t may be in its place; at which position; whether it is closed
+pub record IsAt {D : Type 0} {d : _} (j : Journal D d) (s t : State) (p : Position) (shut : Bool) : Type 0 where
   pub state : state_of j ≡ s
   pub doubtful : doubtful_of j ≡ t
-  pub used_slots : used_slots_of j ≡ used
+  pub position : position_of j ≡ p
   pub closed : is_closed_of j ≡ shut
 
 -- it is open, and a log slot is left
 pub record HasSlot {D : Type 0} {d : _} (j : Journal D d) : Type 0 where
   pub running : is_closed_of j ≡ false
-  pub left : used_slots_of j < (layout_of j).slots
+  pub left : (position_of j).used < (layout_of j).slots
 
 -- What a flush of these effects did. At Device the last call that failed was a write.
 abbrev pub Flushes : {D : Type 0} {d : _} → Journal D d → List Effect → Result ℕ Fault → Journal D d → Type 0
-Flushes old es (Ok n) new = HasSlot old × (n ≡ (fold (state_of old) es).count) × IsAt new (fold (state_of old) es) (fold (state_of old) es) (used_slots_of old + 1) false
-Flushes old es (Err fault.Device) new = HasSlot old × ((device_of new).last_fault ≡ Some Write) × IsAt new (state_of old) (state_of old) (used_slots_of old) true
-Flushes old es (Err fault.Unknown) new = HasSlot old × IsAt new (state_of old) (fold (state_of old) es) (used_slots_of old) true
+Flushes old es (Ok n) new = HasSlot old × (n ≡ (fold (state_of old) es).count) × IsAt new (fold (state_of old) es) (fold (state_of old) es) (next_slot (position_of old)) false
+Flushes old es (Err fault.Device) new = HasSlot old × ((device_of new).last_fault ≡ Some Write) × IsAt new (state_of old) (state_of old) (position_of old) true
+Flushes old es (Err fault.Unknown) new = HasSlot old × IsAt new (state_of old) (fold (state_of old) es) (position_of old) true
 Flushes old es (Err fault.Closed) new = (is_closed_of old ≡ true) × (new ≡ old)
-Flushes old es (Err fault.LogFull) new = (is_closed_of old ≡ false) × (used_slots_of old ≡ (layout_of old).slots) × (new ≡ old)
+Flushes old es (Err fault.LogFull) new = (is_closed_of old ≡ false) × ((position_of old).used ≡ (layout_of old).slots) × (new ≡ old)
 Flushes old es (Err _) new = ⊥
+
+-- a generation follows on that of its image
+abbrev pub IsBelowLast : {D : Type 0} {d : _} → Journal D d → Type 0
+IsBelowLast j = (position_of j).generation + 1 < 2 ^ 64
+
+-- it is open, and a generation is left
+pub record HasGeneration {D : Type 0} {d : _} (j : Journal D d) : Type 0 where
+  pub running : is_closed_of j ≡ false
+  pub left : IsBelowLast j
+
+-- What a checkpoint did. No state changes, and none is doubtful. At Device the last call that failed was a read or a write, at
+-- Unknown a write or a sync.
+abbrev pub Checkpoints : {D : Type 0} {d : _} → Journal D d → Result (Unit {0}) Fault → Journal D d → Type 0
+Checkpoints old (Ok _) new = HasGeneration old × IsAt new (state_of old) (state_of old) (next_image (position_of old)) false
+Checkpoints old (Err fault.Device) new = HasGeneration old × IfSome (device_of new).last_fault IsReadOrWrite × IsAt new (state_of old) (state_of old) (position_of old) true
+Checkpoints old (Err fault.Unknown) new = HasGeneration old × IfSome (device_of new).last_fault IsWriteOrSync × IsAt new (state_of old) (state_of old) (position_of old) true
+Checkpoints old (Err fault.Closed) new = (is_closed_of old ≡ true) × (new ≡ old)
+Checkpoints old (Err fault.Spent) new = (is_closed_of old ≡ false) × ((position_of old).generation + 1 ≡ 2 ^ 64) × (new ≡ old)
+Checkpoints old (Err _) new = ⊥
 
 -- one of two states is found, or memory or the device failed
 abbrev pub FindsEither : {D : Type 0} {d : _} → Result (Journal D d) (Fault × D) → State → State → Type 0

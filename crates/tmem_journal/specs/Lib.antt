@@ -1,3 +1,4 @@
+pub mod BlockSpelling
 pub mod Calls
 pub mod Held
 pub mod Journals
@@ -5,7 +6,5 @@ pub mod Formatted
 pub mod Laws
 pub mod Mended
 pub mod Parts
-pub mod StandsAt
 pub mod Refusals
-pub mod ImageSpelling
 pub mod Stands

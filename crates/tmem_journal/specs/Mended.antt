@@ -4,16 +4,16 @@ use Rattle.tmem_disk.specs.Disk.{DeviceView, SameOutside}
 use Rattle.tmem_gate.specs.Gate.{IsOpenAt, IsClosed}
 use Rattle.tmem_record.specs.Layout.{slot_place}
 use Rattle.tmem_record.specs.State.{State}
-use Rattle.tmem_journal.specs.Stands.{StandsFor}
+use Rattle.tmem_journal.specs.Stands.{Position, StandsFor}
 
 -- at this place there is no open gate of a log slot
 abbrev pub IsNoOpenGate : ℕ → ℕ → List ℕ → ℕ → Type 0
 IsNoOpenGate vars slots c i = (k : ℕ) → k < slots → IsOpenAt (slot_place vars k) c → i ≢ slot_place vars k
 
 -- The second content is the first, or has gates closed that were open behind its log: whatever state the first stands for,
--- the second stands for, with the same slots used. No byte but those of open gates of log slots changes.
+-- the second stands for, at the same position. No byte but those of open gates of log slots changes.
 pub record Mends (vars slots : ℕ) (b c : List ℕ) : Type 0 where
-  pub states : (used : ℕ) (s : State) → StandsFor vars slots used s b → StandsFor vars slots used s c
+  pub states : (p : Position) (s : State) → StandsFor vars slots p s b → StandsFor vars slots p s c
   pub closed : (k : ℕ) → k < slots → IsClosed (slot_place vars k) b → IsClosed (slot_place vars k) c
   pub others : (i : ℕ) → IsNoOpenGate vars slots b i → slice_get c i ≡ slice_get b i
   pub elsewhere : SameOutside (slot_place vars 0) (4096 * slots) b c

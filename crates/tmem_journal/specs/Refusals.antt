@@ -5,8 +5,8 @@ use Rattle.tmem_disk.specs.declared.fault.Fault.TheVariants.{Memory, Device, Not
 use Rattle.tmem_gate.specs.Gate.{IsOpenOver}
 use Rattle.tmem_record.specs.State.{State}
 use Rattle.tmem_record.specs.Layout.{IsLayout}
-use Rattle.tmem_journal.specs.ImageSpelling.{block_body}
-use Rattle.tmem_journal.specs.Stands.{StandsFor}
+use Rattle.tmem_journal.specs.BlockSpelling.{block_body}
+use Rattle.tmem_journal.specs.Stands.{Position, StandsFor}
 
 -- block 0 is open, and begins with the magic
 abbrev pub HasMagic : List ℕ → Type 0
@@ -24,7 +24,7 @@ pub record IsOfOthers (vars slots : ℕ) (c : List ℕ) : Type 0 where
 abbrev pub IsRefusedBy : ℕ → ℕ → List ℕ → Fault → Type 0
 IsRefusedBy vars slots c NotFormatted = ¬ HasMagic c
 IsRefusedBy vars slots c Geometry = IsOfOthers vars slots c
-IsRefusedBy vars slots c Damaged = HasMagic c × (¬ IsOfOthers vars slots c) × ((used : ℕ) (s : State) → StandsFor vars slots used s c → ⊥)
+IsRefusedBy vars slots c Damaged = HasMagic c × (¬ IsOfOthers vars slots c) × ((p : Position) (s : State) → StandsFor vars slots p s c → ⊥)
 IsRefusedBy vars slots c _ = ⊥
 
 -- Why a content was not opened: want of memory, a failed call of the device, or one of these three.

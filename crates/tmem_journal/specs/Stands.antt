@@ -1,34 +1,63 @@
--- Which state the content of a device stands for.
-use Rattle.std.specs.Prelude.{◌≡◌, ◌⊎◌, ℕ, List, length}
-use Rattle.tmem_gate.specs.Gate.{IsClosed, IsOpenOver}
+-- Which state the content of a device stands for, and at which position.
+use Rattle.std.specs.Prelude.{◌≡◌, ◌⊎◌, ◌+◌, ◌≤◌, ℕ, List, length}
+use Rattle.tmem_gate.specs.Gate.{IsOpenOver}
+use Rattle.tmem_record.specs.Stale.{IsStale}
 use Rattle.tmem_record.specs.State.{State}
 use Rattle.tmem_record.specs.declared.effect.Effect.{Effect}
 use Rattle.tmem_record.specs.Layout.{image_place}
+use Rattle.tmem_image.specs.Image.{HoldsImage, other_copy}
 use Rattle.tmem_redolog.specs.Log.{HoldsLog, replayed}
-use Rattle.tmem_journal.specs.ImageSpelling.{block_body, image_body, IsImage}
+use Rattle.tmem_redolog.specs.declared.log.Log.{Log}
+use Rattle.tmem_journal.specs.BlockSpelling.{block_body}
 
--- Block 0 spells these numbers, image copy 0 spells this image and is of generation 1, image copy 1 is closed, and the log
--- over that image has these batches.
-pub record Holds (vars slots : ℕ) (image : State) (batches : List (List Effect)) (c : List ℕ) : Type 0 where
+-- Which image copy is chosen, of which generation, and how many log slots are used behind it.
+pub record Position : Type 0 where
+  pub copy : ℕ
+  pub generation : ℕ
+  pub used : ℕ
+
+-- that of a new store
+abbrev pub first_position : Position
+first_position = record { copy = 0; generation = 1; used = 0 }
+
+-- the end of a log over that image copy
+abbrev pub position_in : ℕ → Log → Position
+position_in copy log = record { copy = copy; generation = log.generation; used = log.used }
+
+-- with a log slot more
+abbrev pub next_slot : Position → Position
+next_slot p = record { copy = p.copy; generation = p.generation; used = p.used + 1 }
+
+-- with the next image, in the other copy, and an empty log
+abbrev pub next_image : Position → Position
+next_image p = record { copy = other_copy p.copy; generation = p.generation + 1; used = 0 }
+
+-- Block 0 spells these numbers, this image copy spells this image of that generation, the other copy is closed or of a
+-- lesser generation, and the log over that image has these batches.
+pub record Holds (vars slots copy generation : ℕ) (image : State) (batches : List (List Effect)) (c : List ℕ) : Type 0 where
   pub block : IsOpenOver 0 (block_body vars slots) c
-  pub copy_0 : IsOpenOver (image_place vars 0) (image_body vars 1 image) c
-  pub fits : IsImage vars image
-  pub copy_1 : IsClosed (image_place vars 1) c
-  pub log : HoldsLog vars slots 1 image batches c
+  pub one : copy ≤ 1
+  pub chosen : HoldsImage vars copy generation image c
+  pub other : IsStale generation (image_place vars (other_copy copy)) c
+  pub log : HoldsLog vars slots generation image batches c
 
 -- The content holds an image and a log that make this state. Each batch of the log takes one slot: so many are used.
-pub record HoldsState (vars slots used : ℕ) (s : State) (c : List ℕ) : Type 0 where
+pub record HoldsState (vars slots : ℕ) (p : Position) (s : State) (c : List ℕ) : Type 0 where
   pub image : State
   pub batches : List (List Effect)
-  pub holds : Holds vars slots image batches c
-  pub is_used : length batches ≡ used
+  pub holds : Holds vars slots p.copy p.generation image batches c
+  pub is_used : length batches ≡ p.used
   pub is_state : replayed image batches ≡ s
 
--- The content stands for this state, with so many log slots used. Between the bars stands that there is such an image and
--- log: so it is one fact, which a type may keep.
-abbrev pub StandsFor : ℕ → ℕ → ℕ → State → List ℕ → Type 0
-StandsFor vars slots used s c = ∥ HoldsState vars slots used s c ∥₁
+-- The content stands for this state, at that position. Between the bars stands that there is such an image and log: so it
+-- is one fact, which a type may keep.
+abbrev pub StandsFor : ℕ → ℕ → Position → State → List ℕ → Type 0
+StandsFor vars slots p s c = ∥ HoldsState vars slots p s c ∥₁
 
--- the content stands for one of two states, with any number of log slots used
+-- the content stands for this state, at any position
+abbrev pub StandsForState : ℕ → ℕ → State → List ℕ → Type 0
+StandsForState vars slots s c = ∥ ((p : Position) × HoldsState vars slots p s c) ∥₁
+
+-- the content stands for one of two states, at any position
 abbrev pub StandsForEither : ℕ → ℕ → State → State → List ℕ → Type 0
-StandsForEither vars slots s t c = ∥ ((used : ℕ) × (HoldsState vars slots used s c ⊎ HoldsState vars slots used t c)) ∥₁
+StandsForEither vars slots s t c = ∥ ((p : Position) × (HoldsState vars slots p s c ⊎ HoldsState vars slots p t c)) ∥₁

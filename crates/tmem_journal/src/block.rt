@@ -1,12 +1,12 @@
 // Block 0: the magic, the version, and the numbers of variables and log slots.
 ghost use Rattle.std.specs.Prelude.{◌≡◌, ℕ, length, OnOk, IfErr, IfSome, IfNone};
 ghost use Rattle.tmem_record.specs.Layout.{IsLayout};
-ghost use Rattle.tmem_journal.specs.ImageSpelling.{block_body};
+ghost use Rattle.tmem_journal.specs.BlockSpelling.{block_body};
 ghost use Rattle.tmem_journal.specs.Parts.{IsBlockFault};
 
-use crate::bytes::{put, short_at};
 use tmem_disk::Fault;
 use tmem_record::Layout;
+use tmem_record::bytes::{put, short_at};
 
 const VERSION: u8 = 1;
 

@@ -4,13 +4,14 @@ ghost use Rattle.tmem_disk.specs.Disk.{LeavesOnly, ReadsAs, IsSynced};
 ghost use Rattle.tmem_record.specs.State.{first_state};
 ghost use Rattle.tmem_record.specs.Layout.{end_place};
 ghost use Rattle.tmem_journal.specs.Formatted.{formatted};
-ghost use Rattle.tmem_journal.specs.Stands.{StandsFor};
+ghost use Rattle.tmem_journal.specs.Stands.{first_position, StandsFor};
 ghost use Rattle.tmem_gate.specs.Calls.{WritesWithin, Uses};
 ghost use Rattle.tmem_journal.specs.Calls.{FitsOn};
 
 use crate::block::spell_block;
-use crate::calls::{put_cell, sync, write};
+use crate::calls::put_cell;
 use tmem_disk::{Disk, Fault};
+use tmem_gate::device::{sync, write};
 use tmem_record::Layout;
 
 // How many bytes are erased by one write at the most.
@@ -26,7 +27,7 @@ pub fn format<D: Disk>(disk: &mut D, vars: u16, slots: u16) -> Result<(), Fault>
     ensures unfit { ¬ FitsOn vars slots (D.view disk.old).capacity → IsErrOf result Fault.Geometry }
     ensures untouched { IsErrOf result Fault.Geometry → disk.new ≡ disk.old }
     ensures errors { IfErr result (λ f. (f ≡ Fault.Geometry) ⊎ (f ≡ Fault.Device)) }
-    ensures stands { OnOk result (LeavesOnly (D.view disk.new) (StandsFor vars slots 0 (first_state vars))) }
+    ensures stands { OnOk result (LeavesOnly (D.view disk.new) (StandsFor vars slots first_position (first_state vars))) }
 
     // After `Ok` a read gives exactly this, and so does a stop (a crash). Nothing behind the end is written, whatever is answered.
     ensures written { OnOk result (ReadsAs (D.view disk.new) (formatted vars slots ++ drop (end_place vars slots) (D.view disk.old).seen)) }

@@ -1,19 +1,21 @@
 // The journal: a device, and the state that it stands for.
 ghost use Rattle.std.specs.Prelude.{◌≡◌, ◌≢◌, ◌≤◌, ◌<◌, ◌+◌, ◌*◌, ◌^◌, ◌⊎◌, ℕ, [], false, length, All, IfOk, IfErr, IfSome, IsErrOf};
-ghost use Rattle.tmem_disk.specs.Disk.{LeavesOnly, AtEachMoment, SameSeenOutside, IsWriteOrSync};
+ghost use Rattle.tmem_disk.specs.Disk.{LeavesOnly, AtEachMoment, SameSeenOutside, IsSynced, IsWriteOrSync};
 ghost use Rattle.tmem_gate.specs.Calls.{Uses, LooksOnly, WritesWithin};
 ghost use Rattle.tmem_gate.specs.Gate.{HasBody, StandsClosed};
 ghost use Rattle.tmem_record.specs.State.{State as StateOf, fold};
 ghost use Rattle.tmem_record.specs.Spelling.{batch_bytes};
 ghost use Rattle.tmem_record.specs.declared.codec.TheConstants.{BATCH_ROOM};
-ghost use Rattle.tmem_record.specs.Layout.{slot_place, end_place};
-ghost use Rattle.tmem_journal.specs.Stands.{StandsFor, StandsForEither};
+ghost use Rattle.tmem_record.specs.Layout.{image_place, image_size, slot_place, end_place};
+ghost use Rattle.tmem_image.specs.Image.{IsGeneration};
+ghost use Rattle.tmem_journal.specs.Stands.{Position, position_in, StandsFor, StandsForState, StandsForEither};
 ghost use Rattle.tmem_journal.specs.Mended.{Mends, MendedBy, ClosedFrom};
 ghost use Rattle.tmem_journal.specs.Calls.{FitsOn, effects_in, doubted, fault_alone};
 
 use crate::accepting::accept_all;
 use crate::buffer::Buffer;
 use crate::recovery::recover;
+use crate::renewing::renew;
 use std::alloc::Global;
 use std::snapshot::Snapshot;
 use tmem_disk::{Disk, Fault};
@@ -21,12 +23,14 @@ use tmem_record::{Batch, Layout, State};
 use tmem_redolog::{Log, append};
 
 /// A device, and the state that it stands for: the accepted transactions that are durable. Once a call of the device has
-/// failed in `flush` it is closed, and writes nothing more.
+/// failed in `flush` or in `checkpoint` it is closed, and writes nothing more.
 #[derive(Drop)]
 pub struct Journal<D: Disk> {
     disk: D,
     layout: Layout,
     state: State,
+    // which image copy is chosen
+    copy: u8,
     // where the next batch goes
     log: Log,
     is_closed: bool,
@@ -41,8 +45,11 @@ pub struct Journal<D: Disk> {
     /// The state has a value for each variable.
     pub ghost sized: { length state.values ≡ layout.vars },
 
-    /// The log is over an image of generation 1.
-    pub ghost generation: { log.generation ≡ 1 },
+    /// There are two image copies.
+    pub ghost one: { copy ≤ 1 },
+
+    /// The generation of the chosen image, and of its log, is one that an image may have.
+    pub ghost number: { IsGeneration log.generation },
 
     /// No more log slots are used than there are.
     pub ghost few: { log.used ≤ layout.slots },
@@ -53,16 +60,19 @@ pub struct Journal<D: Disk> {
     /// Every crash leaves a content that stands for this state, or for the one with the doubtful batch.
     pub ghost stands: { LeavesOnly (D.view disk) (StandsForEither layout.vars layout.slots state (fold state (effects_in doubt))) },
 
-    /// While it is open, one that stands for this state, with these slots used.
-    pub ghost sure: { is_closed ≡ false → LeavesOnly (D.view disk) (StandsFor layout.vars layout.slots log.used state) },
+    /// While it is open, one that stands for this state, at its position.
+    pub ghost sure: { is_closed ≡ false → LeavesOnly (D.view disk) (StandsFor layout.vars layout.slots (position_in copy log) state) },
+
+    /// While it is open, every write is synced.
+    pub ghost synced: { is_closed ≡ false → IsSynced (D.view disk) },
 
     /// While it is open, each slot behind the log stands closed.
     pub ghost ahead: { is_closed ≡ false → (k : ℕ) → log.used ≤ k → k < layout.slots → StandsClosed (slot_place layout.vars k) (D.view disk) },
 }
 
 impl<D: Disk> Journal<D> {
-    ghost use Rattle.tmem_journal.specs.Held.{disk_of, device_of, device_after, layout_of, state_of, doubtful_of, used_slots_of, is_closed_of, MayBe};
-    ghost use Rattle.tmem_journal.specs.Journals.{Flushes, FindsEither, IsOpeningRefused};
+    ghost use Rattle.tmem_journal.specs.Held.{disk_of, device_of, device_after, layout_of, state_of, doubtful_of, position_of, is_closed_of, MayBe};
+    ghost use Rattle.tmem_journal.specs.Journals.{Flushes, Checkpoints, FindsEither, IsOpeningRefused};
 
     /// Recovers the state that a device of these numbers stands for. Refused by `Geometry` where the numbers are out of
     /// limits, the device is smaller than their layout, or it was formatted for others; by `NotFormatted` where block 0 is
@@ -73,7 +83,7 @@ impl<D: Disk> Journal<D> {
         ensures uses { Uses (D.view disk) (device_after result) (fault_alone result) }
         ensures fits { IfOk result (λ j. ((layout_of j).vars ≡ vars) × ((layout_of j).slots ≡ slots) × FitsOn vars slots (D.view disk).capacity) }
         ensures fresh { IfOk result (λ j. (is_closed_of j ≡ false) × (doubtful_of j ≡ state_of j)) }
-        ensures found { IfOk result (λ j. (device_of j).keeps_model → StandsFor vars slots (used_slots_of j) (state_of j) (D.view disk).seen) }
+        ensures found { IfOk result (λ j. (device_of j).keeps_model → StandsFor vars slots (position_of j) (state_of j) (D.view disk).seen) }
         ensures refused { IfErr result (λ e. IsOpeningRefused (D.view disk) vars slots e.0 (D.view e.1)) }
 
         // Where the numbers do not fit the device, no call of it is made: the one that was handed in is handed back.
@@ -86,9 +96,9 @@ impl<D: Disk> Journal<D> {
 
         // Nothing is written where these gates read closed, nor where the content stands for no state, nor before a refusal
         // other than `Device`.
-        ensures looks { (used : ℕ) (s : StateOf) → StandsFor vars slots used s (D.view disk).seen → ClosedFrom vars slots used (D.view disk).seen
+        ensures looks { (p : Position) (s : StateOf) → StandsFor vars slots p s (D.view disk).seen → ClosedFrom vars slots p.used (D.view disk).seen
             → LooksOnly (D.view disk) (device_after result) }
-        ensures damaged_looks { ((used : ℕ) (s : StateOf) → ¬ StandsFor vars slots used s (D.view disk).seen) → LooksOnly (D.view disk) (device_after result) }
+        ensures damaged_looks { ((p : Position) (s : StateOf) → ¬ StandsFor vars slots p s (D.view disk).seen) → LooksOnly (D.view disk) (device_after result) }
         ensures refused_looks { IfErr result (λ e. e.0 ≢ Fault.Device → LooksOnly (D.view disk) (D.view e.1)) }
 
         // Where every crash left one of two states, that one is found, unless memory or the device fails.
@@ -111,6 +121,7 @@ impl<D: Disk> Journal<D> {
                 disk,
                 layout,
                 state: found.state,
+                copy: found.copy,
                 log: found.log,
                 is_closed: false,
                 buffer,
@@ -172,12 +183,12 @@ impl<D: Disk> Journal<D> {
 
         // Nothing outside the first slot behind the log changes. At `Device` its gate was not written. At `Unknown` a write
         // or a sync failed, and the bytes of the batch were written before.
-        ensures elsewhere { WritesWithin (slot_place (layout_of self.old).vars (used_slots_of self.old)) 4096 (device_of self.old) (device_of self.new) }
+        ensures elsewhere { WritesWithin (slot_place (layout_of self.old).vars (position_of self.old).used) 4096 (device_of self.old) (device_of self.new) }
         ensures gate_untouched { IsErrOf result Fault.Device →
-            SameSeenOutside (slot_place (layout_of self.old).vars (used_slots_of self.old) + 1) BATCH_ROOM (device_of self.old) (device_of self.new) }
+            SameSeenOutside (slot_place (layout_of self.old).vars (position_of self.old).used + 1) BATCH_ROOM (device_of self.old) (device_of self.new) }
         ensures gate_failed { IsErrOf result Fault.Unknown → IfSome (device_of self.new).last_fault IsWriteOrSync }
         ensures body_written { IsErrOf result Fault.Unknown → (device_of self.new).keeps_model →
-            HasBody (slot_place (layout_of self.old).vars (used_slots_of self.old)) (batch_bytes 1 (state_of self.old).count batch.now) (device_of self.new).seen }
+            HasBody (slot_place (layout_of self.old).vars (position_of self.old).used) (batch_bytes (position_of self.old).generation (state_of self.old).count batch.now) (device_of self.new).seen }
 
         // A crash at any moment of the call leaves what the journal before it allows, or the one after it.
         ensures any_moment { AtEachMoment (device_of self.old) (device_of self.new) (λ c. ∥ MayBe self.old c ⊎ MayBe self.new c ∥₁) }
@@ -205,6 +216,49 @@ impl<D: Disk> Journal<D> {
             Err(fault) => {
                 self.is_closed = true;
                 self.doubt = in_doubt(&fault, batch);
+                Err(fault)
+            }
+        }
+    }
+
+    /// Writes the state as an image of the next generation to the image copy that is not chosen, and empties the log then:
+    /// each log slot is free again. The state stays as it is. Refused by `Closed` once a call of the device has failed; by
+    /// `Spent` where no generation is left; by `Device` where a read failed, or a write of anything but the gate that opens
+    /// the image; and by `Unknown` where a sync or the write of that gate failed. After these two the journal is closed, and
+    /// a crash leaves the old image with its log, or the new one. It takes no memory.
+    pub fn checkpoint(&mut self) -> Result<(), Fault>
+        ensures uses { Uses (device_of self.old) (device_of self.new) result }
+        ensures layout { layout_of self.new ≡ layout_of self.old }
+        ensures checkpointed { Checkpoints self.old result self.new }
+
+        // A crash at any moment of the call leaves a content that stands for the state.
+        ensures any_moment { is_closed_of self.old ≡ false → AtEachMoment (device_of self.old) (device_of self.new)
+            (StandsForState (layout_of self.old).vars (layout_of self.old).slots (state_of self.old)) }
+
+        // Block 0 is not written, nor anything behind the slots.
+        ensures elsewhere { WritesWithin (image_place (layout_of self.old).vars 0)
+            (2 * image_size (layout_of self.old).vars + 4096 * (layout_of self.old).slots)
+            (device_of self.old) (device_of self.new) }
+    {
+        if self.is_closed() {
+            return Err(Fault::Closed);
+        }
+        if self.log.generation == u64::MAX {
+            return Err(Fault::Spent);
+        }
+        match renew(
+            &mut self.disk,
+            self.layout,
+            self.copy,
+            &mut self.log,
+            &self.state,
+        ) {
+            Ok(()) => {
+                self.copy = 1 - self.copy;
+                Ok(())
+            }
+            Err(fault) => {
+                self.is_closed = true;
                 Err(fault)
             }
         }

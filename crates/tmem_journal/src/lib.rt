@@ -1,26 +1,25 @@
 //! The journal: which state the bytes of a device stand for.
 //!
 //! `Stands` in `specs/` says which content stands for which state. `format` writes an empty store. A `Journal` owns a
-//! device and knows the state that it stands for: `open` recovers it, and `flush` makes a batch durable. A stop (a crash: a
-//! power cut or a kill) at any moment of `flush` leaves the state before the batch or the state after it, and at any moment
-//! of `open` the state that was there.
+//! device and knows the state that it stands for: `open` recovers it, `flush` makes a batch durable, and `checkpoint` writes
+//! the state as a whole and empties the log. A stop (a crash: a power cut or a kill) at any moment of `flush` leaves the
+//! state before the batch or the state after it, and at any moment of `open` and of `checkpoint` the state that was there.
 //!
-//! `recovery` finds the state, over `parts`, which finds block 0 and the image; the log is a crate of its own. `block` and
-//! `image` read and write their bytes, over `bytes`; `calls` makes the calls of the device. `laws` states what holds of
-//! every content.
+//! `recovery` finds the state, over `parts`, which finds block 0; images and the log are crates of their own. `renewing`
+//! writes a new image and empties the log behind it. `block` reads and writes the bytes of block 0, and `calls` writes a
+//! cell. `laws` states what holds of every content.
 #![tactic(auto)]
 
 mod accepting;
 mod block;
 mod buffer;
-mod bytes;
 mod calls;
 mod formatting;
-mod image;
 mod journal;
 mod laws;
 mod parts;
 mod recovery;
+mod renewing;
 
 pub use formatting::format;
 pub use journal::Journal;

@@ -1,8 +1,8 @@
 -- A spelling, as it is put into a buffer part by part.
-use Rattle.std.proofs.Common.{◌≡◌, ◌<◌, ◌≤◌, ◌+◌, ◌-◌, ℕ, ℤ, pos, List, [], ◌∷◌, ◌++◌, length, take, drop, get_or, flat_map, sum_by, sym, ◌∙◌, ap, arith, append_assoc}
+use Rattle.std.proofs.Common.{◌≡◌, ◌<◌, ◌≤◌, ◌+◌, ◌-◌, ℕ, ℤ, pos, List, [], ◌∷◌, ◌++◌, length, take, drop, get_or, flat_map, sum_by, sym, ◌∙◌, ap, arith, append_assoc, length-append, refl}
 use Rattle.std.specs.Int.{w64, cast_unsigned}
 use Rattle.std.proofs.lemmas.List.{take_more, flat_map_more, drop-drop}
-use Rattle.std.proofs.lemmas.List.Sums.{sum_by_more, sum_by-take-le}
+use Rattle.std.proofs.lemmas.List.Sums.{sum_by_more, sum_by-take-le, sum_by-cons}
 use Rattle.byteorder.specs.Endian.{little_bytes}
 use Rattle.tmem_record.specs.State.{Effect}
 use Rattle.tmem_record.specs.Spelling.{number_bytes, value_bytes, write_bytes, name_bytes, writes_bytes, names_bytes, record_bytes, batch_bytes}
@@ -49,6 +49,21 @@ pub drop_further : (m n : ℕ) (a b : List ℕ) → m ≤ n → drop m a ≡ dro
 drop_further m n a b le same =
     let e : m + (n - m) ≡ n = omega arith in
     ap (λ (k : ℕ). drop k a) (sym e) ∙ sym (drop-drop (n - m) m a) ∙ ap (drop (n - m)) same ∙ drop-drop (n - m) m b ∙ ap (λ (k : ℕ). drop k b) e
+
+-- names behind how many there are
+pub names_put : (ns : List (List ℕ)) (front b1 b2 : List ℕ) (n : ℕ) → b1 ≡ front ++ n ∷ [] → b2 ≡ b1 ++ flat_map name_bytes ns → n ≡ length ns → b2 ≡ front ++ names_bytes ns
+unfolding names_bytes
+names_put ns front b1 b2 n first second n_is = two_parts front b1 b2 (n ∷ []) (flat_map name_bytes ns) first second ∙ ap (λ (k : ℕ). front ++ (k ∷ flat_map name_bytes ns)) n_is
+
+length-each : (ns : List (List ℕ)) → length (flat_map name_bytes ns) ≡ sum_by (λ n. 1 + length n) ns
+unfolding name_bytes
+length-each [] = refl
+length-each (n ∷ ns) =
+    omega (arith, length-append (length n ∷ n) (flat_map name_bytes ns), length-each ns, sum_by-cons (λ (m : List ℕ). 1 + length m) n ns)
+
+pub length-names : (ns : List (List ℕ)) → length (names_bytes ns) ≡ 1 + sum_by (λ n. 1 + length n) ns
+unfolding names_bytes
+length-names ns = omega (arith, length-each ns)
 
 -- a record from its parts
 pub record_is : (e : Effect) (front b1 b2 b3 b4 : List ℕ) (m n : ℕ) → b1 ≡ front ++ m ∷ [] → b2 ≡ b1 ++ flat_map write_bytes e.writes → b3 ≡ b2 ++ n ∷ [] → b4 ≡ b3 ++ flat_map name_bytes e.names

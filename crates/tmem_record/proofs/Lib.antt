@@ -9,3 +9,5 @@ pub mod SpellingLaws
 pub mod StateLaws
 pub mod WritesLaws
 pub mod Placing
+pub mod Standing
+pub mod Pieces

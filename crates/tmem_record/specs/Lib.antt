@@ -1,8 +1,10 @@
+pub mod Batch
 pub mod Layout
 pub mod Loggable
-pub mod Batch
-pub mod Prefix
 pub mod Names
+pub mod Prefix
 pub mod Spelling
+pub mod Stale
+pub mod StandsAt
 pub mod State
 pub mod Writes

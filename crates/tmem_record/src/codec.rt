@@ -10,6 +10,7 @@ ghost use Rattle.tmem_record.specs.Batch.{record_length, records_length, IsBatch
 ghost use Rattle.tmem_record.specs.Spelling.{number_bytes, value_bytes, write_bytes, name_bytes, writes_bytes, names_bytes, record_bytes, batch_bytes, SpellsBatch, OneSpelling};
 
 use crate::batch::{Batch, MAX_RECORDS};
+use crate::bytes::put;
 use crate::effect::Effect;
 use crate::name_set::{MAX_NAMES, NameSet};
 use crate::names::{MAX_CHECKS, Names};
@@ -43,18 +44,6 @@ pub struct Decoded {
     pub length: usize,
 }
 
-// Copies bytes to a place in the buffer, and returns the place behind them.
-fn put(into: &mut [u8], at: usize, bytes: &[u8]) -> usize
-    requires { at + length bytes.now ≤ length into.old }
-    ensures next { result ≡ at + length bytes.now }
-    ensures front { take result into.new ≡ take at into.old ++ bytes.now }
-    ensures rest { drop result into.new ≡ drop result into.old }
-{
-    let next = at + bytes.len();
-    into[at..next].copy_from_slice(bytes);
-    next
-}
-
 // Spells writes from a place on, and returns the place behind them.
 fn put_writes(into: &mut [u8], start: usize, writes: &[(u16, i64)]) -> usize
     requires { start + 10 * length writes.now ≤ length into.old }
@@ -74,6 +63,7 @@ fn put_names(into: &mut [u8], start: usize, names: &[Name]) -> usize
     requires { start + sum_by (λ n. 1 + length n) names.now ≤ length into.old }
     ensures next { result ≡ start + sum_by (λ n. 1 + length n) names.now }
     ensures front { take result into.new ≡ take start into.old ++ flat_map name_bytes names.now }
+    ensures rest { drop result into.new ≡ drop result into.old }
 {
     let mut at = start;
     for name in names {
@@ -82,6 +72,19 @@ fn put_names(into: &mut [u8], start: usize, names: &[Name]) -> usize
         at = put(into, at, letters);
     }
     at
+}
+
+/// Writes names into a buffer from a place on, behind how many there are, and returns the place behind them. The rest of
+/// the buffer stays.
+pub fn write_names(into: &mut [u8], start: usize, names: &[Name]) -> usize
+    requires room { start + length (names_bytes names.now) ≤ length into.old }
+    requires few { length names.now < 256 }
+    ensures next { result ≡ start + length (names_bytes names.now) }
+    ensures front { take result into.new ≡ take start into.old ++ names_bytes names.now }
+    ensures rest { drop result into.new ≡ drop result into.old }
+{
+    let at = put(into, start, &[names.len() as u8]);
+    put_names(into, at, names)
 }
 
 /// Writes the bytes of a name to the front of a buffer, and returns how many there are. The rest of the buffer stays.

@@ -60,7 +60,7 @@ impl Layout {
     }
 
     /// Where an image copy begins.
-    pub fn image(self, copy: u16) -> u64
+    pub fn image(self, copy: u8) -> u64
         requires { copy ≤ 1 }
         ensures { result ≡ image_place self.vars copy }
     {

@@ -2,8 +2,8 @@
 -- content holds.
 use Rattle.std.proofs.Common.{◌≡◌, inl, inr, ⊎_elim, ℕ, ◌+◌, ◌-◌, ◌<◌, ◌≤◌, ◌^◌, List, [], ◌∷◌, ◌++◌, length, take, drop, ◌∙◌, refl, ap, subst, arith}
 use Rattle.std.proofs.lemmas.Bool.{cases_lt}
-use Rattle.tmem_disk.specs.Disk.{DeviceView, LeavesOnly, SameOutside}
-use Rattle.tmem_gate.specs.Gate.{IsOpenOver}
+use Rattle.tmem_disk.specs.Disk.{DeviceView, LeavesOnly, SameOutside, AtEachMoment}
+use Rattle.tmem_gate.specs.Gate.{IsClosed, IsOpenOver}
 use Rattle.tmem_gate.proofs.Laws.{closed_after, open_after}
 use Rattle.tmem_record.specs.Layout.{slot_place}
 use Rattle.tmem_record.specs.Spelling.{number_bytes, batch_bytes}
@@ -11,6 +11,7 @@ use Rattle.tmem_record.specs.State.{State, fold}
 use Rattle.tmem_record.specs.declared.effect.Effect.{Effect}
 use Rattle.tmem_record.proofs.Laws.{length-values-fold}
 use Rattle.tmem_redolog.specs.Appends.{FollowsOn, Placed, Without, With}
+use Rattle.tmem_redolog.specs.Closes.{Keeps}
 use Rattle.tmem_redolog.specs.Log.{HoldsBatches, HoldsLog, IsStale, IsWithin, replayed}
 use Rattle.tmem_redolog.specs.Slots.{MadeBy}
 use Rattle.tmem_redolog.proofs.OneLog.{begins, generation_first}
@@ -49,6 +50,10 @@ each_carries vars generation slot first (es ∷ batches) c held k above below = 
 -- where each slot is stale the log is empty
 pub no_batches : (vars slots generation : ℕ) (image : State) (c : List ℕ) → generation < 2 ^ 64 → IsWithin image → ((k : ℕ) → k < slots → IsStale generation (slot_place vars k) c) → HoldsLog vars slots generation image [] c
 no_batches vars slots generation image c fits within stale = record { generation_fits = fits; fits = omega arith; held = tt; behind = λ k above below. stale k below; within = within }
+
+-- and so where each slot is closed, whatever the generation of the image
+pub all_closed : (vars slots generation : ℕ) (image : State) (c : List ℕ) → generation < 2 ^ 64 → IsWithin image → ((k : ℕ) → k < slots → IsClosed (slot_place vars k) c) → HoldsLog vars slots generation image [] c
+all_closed vars slots generation image c fits within closed = no_batches vars slots generation image c fits within (λ k below. inl (closed k below))
 
 -- a log is empty over an image of a greater generation
 pub emptied : (vars slots generation greater : ℕ) (image next : State) (batches : List (List Effect)) (c : List ℕ) → generation < greater → greater < 2 ^ 64 → IsWithin next → HoldsLog vars slots generation image batches c → HoldsLog vars slots greater next [] c
@@ -90,3 +95,14 @@ module _ (p : Placed) (old new : DeviceView) (model : new.keeps_model → old.ke
 
   pub shared_without : LeavesOnly new (MadeBy (Without p) old) → LeavesOnly new (HoldsLog p.vars p.slots p.generation image batches)
   shared_without made = record { each = λ k c left. let from = made.each k c left in from.2.log image batches follows (shared.each (model k) from.0 from.1) }
+
+-- where all contents shared an empty log before the slots are closed, they share it at each moment of that, and after it
+module _ (vars slots generation : ℕ) (image : State) (old new : DeviceView) (model : new.keeps_model → old.keeps_model) (empty : LeavesOnly old (HoldsLog vars slots generation image [])) where
+  still_empty : new.keeps_model → (c : List ℕ) → MadeBy (Keeps vars slots generation 0) old c → HoldsLog vars slots generation image [] c
+  still_empty k c from = from.2.log image [] refl (empty.each (model k) from.0 from.1)
+
+  pub shared_empty : LeavesOnly new (MadeBy (Keeps vars slots generation 0) old) → LeavesOnly new (HoldsLog vars slots generation image [])
+  shared_empty made = record { each = λ k c left. still_empty k c (made.each k c left) }
+
+  pub empty_while : AtEachMoment old new (MadeBy (Keeps vars slots generation 0) old) → AtEachMoment old new (HoldsLog vars slots generation image [])
+  empty_while made = record { each = λ k c left. still_empty k c (made.each k c left) }

@@ -6,6 +6,7 @@ use Rattle.tmem_record.specs.Layout.{slot_place}
 use Rattle.tmem_record.specs.State.{State}
 use Rattle.tmem_record.specs.declared.effect.Effect.{Effect}
 use Rattle.tmem_redolog.specs.Log.{HoldsLog}
+use Rattle.tmem_redolog.specs.declared.log.Log.{Log}
 
 -- how many bytes the slots from one on have
 abbrev pub bytes_from : ℕ → ℕ → ℕ
@@ -35,3 +36,7 @@ pub record Aside (vars slots from to : ℕ) (b c : List ℕ) : Type 0 where
   pub generation : (k : ℕ) → from ≤ k → k < slots → slice_range c (slot_place vars k + 1) (slot_place vars k + 9) ≡ slice_range b (slot_place vars k + 1) (slot_place vars k + 9)
   pub others : (i : ℕ) → IsNoOpenGate vars slots from b i → slice_get c i ≡ slice_get b i
   pub not_yet : (k : ℕ) → to ≤ k → k < slots → slice_get c (slot_place vars k) ≡ slice_get b (slot_place vars k)
+
+-- the log of a generation that has no batch yet
+abbrev pub empty_log : ℕ → Log
+empty_log generation = record { generation = generation; used = 0 }

@@ -1,9 +1,10 @@
 -- The log of a device: batches behind the open gates of its first slots.
-use Rattle.std.specs.Prelude.{◌⊎◌, ◌<◌, ◌≤◌, ◌+◌, ◌^◌, ℕ, List, [], ◌∷◌, length}
-use Rattle.tmem_gate.specs.Gate.{IsClosed, IsOpenOver}
+use Rattle.std.specs.Prelude.{◌<◌, ◌≤◌, ◌+◌, ◌^◌, ℕ, List, [], ◌∷◌, length}
+use Rattle.tmem_gate.specs.Gate.{IsOpenOver}
 use Rattle.tmem_record.specs.Batch.{IsBatch}
 use Rattle.tmem_record.specs.Layout.{slot_place}
-use Rattle.tmem_record.specs.Spelling.{number_bytes, batch_bytes}
+use Rattle.tmem_record.specs.Spelling.{batch_bytes}
+pub use Rattle.tmem_record.specs.Stale.{IsStale}
 use Rattle.tmem_record.specs.State.{State, fold}
 use Rattle.tmem_record.specs.declared.effect.Effect.{Effect}
 
@@ -17,10 +18,6 @@ pub record HoldsBatch (vars generation slot first : ℕ) (es : List Effect) (c :
 abbrev pub HoldsBatches : ℕ → ℕ → ℕ → ℕ → List (List Effect) → List ℕ → Type 0
 HoldsBatches vars generation slot first [] c = Unit {0}
 HoldsBatches vars generation slot first (es ∷ batches) c = HoldsBatch vars generation slot first es c × HoldsBatches vars generation (slot + 1) (first + length es) batches c
-
--- the slot at a place is closed, or open over a lesser generation
-abbrev pub IsStale : ℕ → ℕ → List ℕ → Type 0
-IsStale generation at c = IsClosed at c ⊎ ((lesser : ℕ) × (lesser < generation) × IsOpenOver at (number_bytes 8 lesser) c)
 
 -- the state after these batches, one after another
 abbrev pub replayed : State → List (List Effect) → State

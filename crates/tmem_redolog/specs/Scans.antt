@@ -1,7 +1,6 @@
 -- What reading a log finds.
 use Rattle.std.specs.Prelude.{◌≡◌, ◌<◌, ◌≤◌, ◌+◌, ◌*◌, ℕ, List, length, slice_range}
-use Rattle.tmem_disk.specs.declared.fault.Fault.{Fault}
-use Rattle.tmem_disk.specs.declared.fault.Fault.TheVariants.{Memory, Device, Damaged}
+pub use Rattle.tmem_gate.specs.Calls.{IsWhyNone}
 use Rattle.tmem_gate.specs.Gate.{IsOpenOver}
 use Rattle.tmem_record.specs.Batch.{IsBatch}
 use Rattle.tmem_record.specs.Layout.{slot_place}
@@ -16,13 +15,6 @@ pub record FindsLog (vars slots generation : ℕ) (image : State) (used : ℕ) (
   pub holds : HoldsLog vars slots generation image batches c
   pub is_used : length batches ≡ used
   pub is_state : replayed image batches ≡ s
-
--- why no log was found: want of memory, a failed call of the device, or else damage
-abbrev pub IsWhyNone : Type 0 → Fault → Type 0
-IsWhyNone none Memory = Unit {0}
-IsWhyNone none Device = Unit {0}
-IsWhyNone none Damaged = none
-IsWhyNone none _ = ⊥
 
 -- The words below are for the reader of a log, who goes from slot to slot.
 

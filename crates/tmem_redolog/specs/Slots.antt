@@ -3,11 +3,8 @@ use Rattle.std.specs.Prelude.{◌⊎◌, ◌+◌, ℕ, List, length, Result, Ok,
 use Rattle.tmem_disk.specs.Disk.{DeviceView, LeavesOnly, SameOutside}
 use Rattle.tmem_disk.specs.declared.fault.Fault.{Fault}
 use Rattle.tmem_disk.specs.declared.fault.Fault.TheVariants.{Device, Unknown}
+pub use Rattle.tmem_gate.specs.Calls.{MadeBy}
 use Rattle.tmem_gate.specs.Gate.{IsClosed, IsOpenOver}
-
--- made of a content that a crash might have left before
-abbrev pub MadeBy : (List ℕ → List ℕ → Type 0) → DeviceView → List ℕ → Type 0
-MadeBy R old c = (b : List ℕ) × old.may_leave b × R b c
 
 -- the cell of n bytes behind a gate is closed, and what is outside it is the same
 pub record LeftClosed (at n : ℕ) (b c : List ℕ) : Type 0 where

@@ -1,6 +1,6 @@
 // One batch more.
 ghost use Rattle.std.specs.Prelude.{Some, ◌≡◌, ◌↔◌, ◌<◌, ◌≤◌, ◌+◌, ◌^◌, ℕ, length, OnOk, OnErr, IfErr, IfSome, IsErrOf};
-ghost use Rattle.tmem_disk.specs.Disk.{SameSeenOutside, AtEachMoment, IsWriteOrSync};
+ghost use Rattle.tmem_disk.specs.Disk.{SameSeenOutside, AtEachMoment, IsSynced, IsWriteOrSync};
 ghost use Rattle.tmem_gate.specs.Calls.{Uses, WritesWithin};
 ghost use Rattle.tmem_gate.specs.Gate.{StandsClosed, HasBody};
 ghost use Rattle.tmem_record.specs.Batch.{IsBatch};
@@ -57,6 +57,11 @@ pub fn append<D: Disk>(
     ensures stands { Appended (placed layout log.old first batch.now) (D.view disk.old) (D.view disk.new) result }
     ensures any_moment { AtEachMoment (D.view disk.old) (D.view disk.new)
         (Meanwhile (placed layout log.old first batch.now) (D.view disk.old) result) }
+
+    // After `Ok` every write made before is synced, and that of the batch.
+    ensures durable { OnOk result (IsSynced (D.view disk.new)) }
+
+    // At `Ok` the log's numbers count the batch, else they stay.
     ensures generation { log.new.generation ≡ log.old.generation }
     ensures next { OnOk result (log.new.used ≡ log.old.used + 1) }
     ensures stays { OnErr result (log.new ≡ log.old) }

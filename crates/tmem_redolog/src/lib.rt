@@ -2,12 +2,13 @@
 //!
 //! `specs/Log.antt` says which log a content holds over an image of one generation. `append` puts a batch last: a crash
 //! (a power cut or a kill) at any moment leaves the log without it, or with the whole of it. `scan` reads the log and
-//! brings the image's state to the state after it. `close_stale` closes what the log of an older generation left open.
+//! brings the image's state to the state after it. `close_stale` closes what the log of an older generation left open,
+//! and `empty` begins a log of the next generation once an image holds all that the log held.
 #![tactic(auto)]
 
 mod appending;
+mod emptying;
 mod log;
-mod reading;
 mod replay;
 mod scanning;
 mod slot;
@@ -15,6 +16,7 @@ mod stale;
 mod unique;
 
 pub use appending::append;
+pub use emptying::empty;
 pub use log::Log;
 pub use scanning::scan;
 pub use stale::close_stale;

@@ -9,10 +9,10 @@ ghost use Rattle.tmem_redolog.specs.Log.{HoldsLog, IsStale, IsWithin};
 ghost use Rattle.tmem_redolog.specs.Scans.{FindsLog, IsWhyNone, IsLogOf, slot_bytes, HoldsFrom, Reached};
 
 use crate::log::Log;
-use crate::reading::read_piece;
 use crate::replay::{carries, is_stale, replay_slot};
 use std::alloc::Global;
 use tmem_disk::{Disk, Fault};
+use tmem_gate::device::read_piece;
 use tmem_record::{Layout, SLOT_SIZE, State};
 
 /// Reads the log over an image of this generation, and brings the image's state to the state after it. The log is read in

@@ -1,6 +1,6 @@
 // One slot, written as a cell.
-ghost use Rattle.std.specs.Prelude.{◌≡◌, ◌⊎◌, ◌≤◌, ◌+◌, Some, length, IfErr, IfSome, IsErrOf};
-ghost use Rattle.tmem_disk.specs.Disk.{SameSeenOutside, AtEachMoment, IsWriteOrSync};
+ghost use Rattle.std.specs.Prelude.{◌≡◌, ◌⊎◌, ◌≤◌, ◌+◌, Some, length, OnOk, IfErr, IfSome, IsErrOf};
+ghost use Rattle.tmem_disk.specs.Disk.{SameSeenOutside, AtEachMoment, IsSynced, IsWriteOrSync};
 ghost use Rattle.tmem_gate.specs.Calls.{Uses, WritesWithin};
 ghost use Rattle.tmem_gate.specs.Gate.{StandsClosed, HasBody};
 ghost use Rattle.tmem_redolog.specs.Slots.{Put, DuringPut};
@@ -25,6 +25,7 @@ pub(crate) fn put_slot<D: Disk>(disk: &mut D, at: u64, bytes: &[u8]) -> Result<(
     ensures stands { Put at bytes.now (D.view disk.old) (D.view disk.new) result }
     ensures any_moment { AtEachMoment (D.view disk.old) (D.view disk.new)
         (DuringPut at bytes.now (D.view disk.old) result) }
+    ensures durable { OnOk result (IsSynced (D.view disk.new)) }
 {
     match put_body(disk, at, bytes) {
         Ok(()) => {}

@@ -20,6 +20,7 @@ no_begin body none (event.Begin slot tx) is = let form = is.form in none slot tx
 no_begin body none (event.Turn slot) is = apart (codes "begin") _ refl (ap key_of is.form)
 no_begin body none (event.Settle slot) is = apart (codes "begin") _ refl (ap key_of is.form)
 no_begin body none event.Flush is = apart (codes "begin") _ refl (ap key_of is.form)
+no_begin body none event.Checkpoint is = apart (codes "begin") _ refl (ap key_of is.form)
 no_begin body none event.Look is = apart (codes "begin") _ refl (ap key_of is.form)
 no_begin body none event.Reopen is = apart (codes "begin") _ refl (ap key_of is.form)
 
@@ -28,6 +29,7 @@ event_width (event.Begin slot tx) = refl
 event_width (event.Turn slot) = refl
 event_width (event.Settle slot) = refl
 event_width event.Flush = refl
+event_width event.Checkpoint = refl
 event_width event.Look = refl
 event_width event.Reopen = refl
 

@@ -28,6 +28,7 @@ line_of reply.Ended = codes "ended"
 line_of reply.Idle = codes "idle"
 line_of (reply.Settled settled) = settled_line settled
 line_of (reply.Durable number) = codes "durable " ++ decimal number
+line_of reply.Checkpointed = codes "checkpointed"
 line_of (reply.Looked number) = codes "look " ++ decimal number
 line_of (reply.Opened count) = codes "opened " ++ decimal count
 line_of (reply.Fault fault) = text_of fault

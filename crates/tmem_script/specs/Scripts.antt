@@ -15,6 +15,7 @@ event_form (event.Begin slot tx) = tagged (codes "begin") (array_of (natural slo
 event_form (event.Turn slot) = tagged (codes "turn") (natural slot)
 event_form (event.Settle slot) = tagged (codes "settle") (natural slot)
 event_form event.Flush = string (codes "flush")
+event_form event.Checkpoint = string (codes "checkpoint")
 event_form event.Look = string (codes "look")
 event_form event.Reopen = string (codes "reopen")
 
@@ -24,6 +25,7 @@ EventInRange (event.Begin slot tx) = TxInRange tx
 EventInRange (event.Turn slot) = Unit {0}
 EventInRange (event.Settle slot) = Unit {0}
 EventInRange event.Flush = Unit {0}
+EventInRange event.Checkpoint = Unit {0}
 EventInRange event.Look = Unit {0}
 EventInRange event.Reopen = Unit {0}
 

@@ -37,6 +37,7 @@ fn event_of_word(word: &str) -> Result<Event, FormError>
 {
     match word {
         "flush" => Ok(Event::Flush),
+        "checkpoint" => Ok(Event::Checkpoint),
         "look" => Ok(Event::Look),
         "reopen" => Ok(Event::Reopen),
         _ => Err(FormError::NoForm),

@@ -21,6 +21,7 @@ impl fmt::Display for ReplyLine {
             Reply::Idle => write!(f, "idle"),
             Reply::Settled(settled) => write_settled(f, settled),
             Reply::Durable(number) => write!(f, "durable {number}"),
+            Reply::Checkpointed => write!(f, "checkpointed"),
             Reply::Looked(number) => write!(f, "look {number}"),
             Reply::Opened(count) => write!(f, "opened {count}"),
             Reply::Fault(fault) => write!(f, "{fault}"),

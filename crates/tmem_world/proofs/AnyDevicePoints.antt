@@ -43,5 +43,6 @@ module _ {D T S : Type 0} {d t s : _} (program : Program) (w w' : World D T S d 
   steps (event.Turn slot) x stated it again = it program stated m r tt
   steps (event.Settle slot) x stated it again = it program stated m r tt
   steps event.Flush x stated it again = it program stated m r tt
+  steps event.Checkpoint x stated it again = it program stated m r tt
   steps event.Look x stated it again = it program stated m r tt
   steps event.Reopen x stated it again = reopens x again

@@ -15,10 +15,11 @@ use Rattle.tmem_event.specs.declared.event.Reply.TheVariants as reply
 use Rattle.tmem_world.specs.declared.session.Slot.{Slot}
 use Rattle.tmem_world.specs.declared.session.Slot.TheVariants as slot
 use Rattle.tmem_world.specs.declared.session.Session as core
-use Rattle.tmem_world.specs.Sessions.{Flushes}
+use Rattle.tmem_world.specs.Sessions.{Flushes, Checkpoints}
 use Rattle.tmem_world.specs.SettleSlot.{Settles}
-use Rattle.tmem_world.specs.Replies.{reply_of, failures_by, FlushedNothing}
+use Rattle.tmem_world.specs.Replies.{reply_of, failures_by, FlushedNothing, CheckpointedNothing}
 use Rattle.tmem_world.proofs.FlushedPoints.{flush_reply}
+use Rattle.tmem_world.proofs.CheckpointedPoints.{checkpoint_reply}
 
 -- a flush that is answered as one without a write made none
 pub flush_still : {D T : Type 0} {d t : _} (o o' : core.Session D T d t) (answer : Result ℕ Fault) → Flushes o answer o' → FlushedNothing (durable_of o.core) (flush_reply answer) → disk_of o'.journal ≡ disk_of o.journal
@@ -33,6 +34,18 @@ flush_still {D} {T} {d} {t} o o' answer (inr (inr it)) none = handed answer it.j
     handed (Err fault.Device) so still = absurd still
     handed (Err fault.Unknown) so still = absurd still
     handed (Err _) so still = absurd so
+
+-- a checkpoint that is answered as one without a write made none
+pub checkpoint_still : {D T : Type 0} {d t : _} (o o' : core.Session D T d t) (answer : Result (Unit {0}) Fault) → Checkpoints o answer o' → CheckpointedNothing (checkpoint_reply answer) → disk_of o'.journal ≡ disk_of o.journal
+checkpoint_still {D} {T} {d} {t} o o' answer it none = by_answer answer it.journal none
+  where
+    by_answer : (x : Result (Unit {0}) Fault) → journals.Checkpoints o.journal x o'.journal → CheckpointedNothing (checkpoint_reply x) → disk_of o'.journal ≡ disk_of o.journal
+    by_answer (Ok u) so still = absurd still
+    by_answer (Err fault.Closed) so still = ap (λ (j : owner.Journal D d). disk_of j) so.1
+    by_answer (Err fault.Spent) so still = ap (λ (j : owner.Journal D d). disk_of j) so.2
+    by_answer (Err fault.Device) so still = absurd still
+    by_answer (Err fault.Unknown) so still = absurd still
+    by_answer (Err _) so still = absurd so
 
 -- what an attempt is refused for counts no failed call
 refusal_counts : (n : ℕ) (f : Fault) → IsRefusal f → failures_by (reply.Fault f) n ≡ n

@@ -26,6 +26,7 @@ use Rattle.tmem_core.proofs.Laws.{count-committed}
 use Rattle.tmem_gate.specs.Calls.{Uses}
 use Rattle.tmem_journal.specs.Held as journal
 use Rattle.tmem_journal.specs.Journals as journals
+use Rattle.tmem_journal.specs.Stands.{Position, next_slot}
 use Rattle.tmem_journal.specs.declared.journal.Journal as owner
 use Rattle.tmem_world.specs.Sessions.{Flushes, waiting_after}
 use Rattle.tmem_world.specs.WorldModel.{WorldModel, SessionStatus, Open, Closed, present, cut, not_durable, IsBatchEnd, AllowsFlush, AllowsFlushOfSome}
@@ -38,15 +39,15 @@ abbrev pub flush_reply : Result ℕ Fault → Reply
 flush_reply (Ok n) = reply.Durable n
 flush_reply (Err f) = reply.Fault f
 
-at_true : (b : Bool) (P Q : Type 0) → b ≡ true → P → MatchBool b P Q
+pub at_true : (b : Bool) (P Q : Type 0) → b ≡ true → P → MatchBool b P Q
 at_true true P Q is p = p
 at_true false P Q is p = cc
 
-at_false : (b : Bool) (P Q : Type 0) → b ≡ false → Q → MatchBool b P Q
+pub at_false : (b : Bool) (P Q : Type 0) → b ≡ false → Q → MatchBool b P Q
 at_false false P Q is q = q
 at_false true P Q is q = cc
 
-true_not_false : true ≡ false → ⊥
+pub true_not_false : true ≡ false → ⊥
 true_not_false e = cc
 
 module _ {D T : Type 0} {d t : _} (program : Program) (m : WorldModel) (o : core.Session D T d t) (numbers : IsNumbered program m) (is : SessionIs program o m) (running : is_shut_of o.core ≡ false) (slots : ℕ) (over : (journal.layout_of o.journal).slots ≡ slots) where
@@ -67,17 +68,17 @@ module _ {D T : Type 0} {d t : _} (program : Program) (m : WorldModel) (o : core
   none_waits_now : waiting_of o.core ≡ [] → nat_eq m.durable (present program m).count ≡ true
   none_waits_now none = let same : m.durable ≡ (present program m).count = omega (arith, all, behind, ap length none, numbers.opened) in grind (arith, nat_tests)
 
-  log_full : 1 ≤ length (waiting_of o.core) → journal.used_slots_of o.journal ≡ (journal.layout_of o.journal).slots → AllowsFlush program slots m.session m (reply.Fault fault.LogFull) m
+  log_full : 1 ≤ length (waiting_of o.core) → (journal.position_of o.journal).used ≡ (journal.layout_of o.journal).slots → AllowsFlush program slots m.session m (reply.Fault fault.LogFull) m
   log_full some full =
-      let used : m.used ≡ slots = sym is.used ∙ full ∙ over in
-      let test : nat_eq m.used slots ≡ true = grind (arith, nat_tests) in
-      subst (λ (z : SessionStatus). AllowsFlush program slots z m (reply.Fault fault.LogFull) m) (sym is_open) (at_false (nat_eq m.durable (present program m).count) _ _ (waits some) (at_true (nat_eq m.used slots) _ _ test (refl, refl)))
+      let used : m.position.used ≡ slots = sym (ap (λ (p : Position). p.used) is.position) ∙ full ∙ over in
+      let test : nat_eq m.position.used slots ≡ true = grind (arith, nat_tests) in
+      subst (λ (z : SessionStatus). AllowsFlush program slots z m (reply.Fault fault.LogFull) m) (sym is_open) (at_false (nat_eq m.durable (present program m).count) _ _ (waits some) (at_true (nat_eq m.position.used slots) _ _ test (refl, refl)))
 
-  writes_some : 1 ≤ length (waiting_of o.core) → journal.used_slots_of o.journal < (journal.layout_of o.journal).slots → (r : Reply) (m' : WorldModel) → AllowsFlushOfSome program m r m' → AllowsFlush program slots m.session m r m'
+  writes_some : 1 ≤ length (waiting_of o.core) → (journal.position_of o.journal).used < (journal.layout_of o.journal).slots → (r : Reply) (m' : WorldModel) → AllowsFlushOfSome program m r m' → AllowsFlush program slots m.session m r m'
   writes_some some left r m' by =
-      let used : m.used < slots = omega (arith, left, is.used, over) in
-      let test : nat_eq m.used slots ≡ false = grind (arith, nat_tests) in
-      subst (λ (z : SessionStatus). AllowsFlush program slots z m r m') (sym is_open) (at_false (nat_eq m.durable (present program m).count) _ _ (waits some) (at_false (nat_eq m.used slots) _ _ test by))
+      let used : m.position.used < slots = omega (arith, left, ap (λ (p : Position). p.used) is.position, over) in
+      let test : nat_eq m.position.used slots ≡ false = grind (arith, nat_tests) in
+      subst (λ (z : SessionStatus). AllowsFlush program slots z m r m') (sym is_open) (at_false (nat_eq m.durable (present program m).count) _ _ (waits some) (at_false (nat_eq m.position.used slots) _ _ test by))
 
   nothing_waits : waiting_of o.core ≡ [] → (n : ℕ) → n ≡ m.durable → AllowsFlush program slots m.session m (reply.Durable n) m
   nothing_waits none n same =
@@ -141,14 +142,14 @@ module _ {D T S : Type 0} {d t z : _} (program : Program) (w w' : World D T S d 
       in_point program w' m o' after (subst (λ (x : core.Session D T d t). SessionIs program x m) (sym same) was) r.numbers same_slots (ap (λ (x : core.Session D T d t). (journal.device_of x.journal).failures) same ∙ had)
 
   -- where the journal is as it was, and nothing waits more or less
-  refused : o'.journal ≡ o.journal → waiting_of o'.core ≡ waiting_of o.core → Represents program w' m
+  pub refused : o'.journal ≡ o.journal → waiting_of o'.core ≡ waiting_of o.core → Represents program w' m
   refused same waits = in_point program w' m o' after (record {
     state = state ∙ was.state;
     number = o'.known ∙ ap (λ (j : owner.Journal D d). (journal.state_of j).count) same ∙ sym o.known ∙ was.number;
     waiting = waits ∙ was.waiting;
     durable = ap (λ (j : owner.Journal D d). journal.state_of j) same ∙ was.durable;
     doubtful = ap (λ (j : owner.Journal D d). journal.doubtful_of j) same ∙ was.doubtful;
-    used = ap (λ (j : owner.Journal D d). journal.used_slots_of j) same ∙ was.used;
+    position = ap (λ (j : owner.Journal D d). journal.position_of j) same ∙ was.position;
     status = was.status ∙ ap session_of (o.shut ∙ sym (ap (λ (j : owner.Journal D d). journal.is_closed_of j) same) ∙ sym o'.shut);
     certain = λ open_now. was.certain (o.shut ∙ sym (ap (λ (j : owner.Journal D d). journal.is_closed_of j) same) ∙ sym o'.shut ∙ open_now);
   }) r.numbers same_slots (ap (λ (j : owner.Journal D d). (journal.device_of j).failures) same ∙ had)
@@ -170,7 +171,7 @@ module _ {D T S : Type 0} {d t z : _} (program : Program) (w w' : World D T S d 
         let is : n ≡ m.durable + length es = omega (arith, it.1, count-fold (journal.state_of o.journal) es, o.known, was.number) in
         let reach = reached program m o r.numbers was running w.layout.slots over es rest waited some few taken in
         let ends : IsBatchEnd program m n = subst (λ (k : ℕ). IsBatchEnd program m k) (sym is) (is_end program m o r.numbers was running w.layout.slots over es rest waited some few taken) in
-        let m' : WorldModel = record m { durable = n; doubtful = n; used = m.used + 1 } in
+        let m' : WorldModel = record m { durable = n; doubtful = n; position = next_slot m.position } in
         let cut_here : fold (journal.state_of o.journal) es ≡ cut program m n = with_batch ∙ ap (cut program m) (sym is) in (
           m',
           writes_some program m o r.numbers was running w.layout.slots over (some_waits program m o r.numbers was running w.layout.slots over es rest waited some few taken) it.0.left (reply.Durable n) m' (ends, refl),
@@ -180,7 +181,7 @@ module _ {D T S : Type 0} {d t z : _} (program : Program) (w w' : World D T S d 
             waiting = waits ∙ sym (then_waits program m o r.numbers was running w.layout.slots over es rest waited some few taken) ∙ ap (λ (k : ℕ). drop (k - m.opened.count) (serial_effects program m.opened m.accepted)) (sym is);
             durable = at.state ∙ cut_here;
             doubtful = at.doubtful ∙ cut_here;
-            used = at.used_slots ∙ ap (λ (u : ℕ). u + 1) was.used;
+            position = at.position ∙ ap next_slot was.position;
             status = is_open program m o r.numbers was running w.layout.slots over ∙ ap session_of (sym (o'.shut ∙ at.closed));
             certain = λ yes. refl;
           })
@@ -200,7 +201,7 @@ module _ {D T S : Type 0} {d t z : _} (program : Program) (w w' : World D T S d 
             waiting = waits ∙ was.waiting;
             durable = at.state ∙ was.durable;
             doubtful = at.doubtful ∙ was.durable ∙ ap (cut program m) (sym certain);
-            used = at.used_slots ∙ was.used;
+            position = at.position ∙ was.position;
             status = ap session_of (sym (o'.shut ∙ at.closed));
             certain = λ yes. certain;
           })
@@ -220,7 +221,7 @@ module _ {D T S : Type 0} {d t z : _} (program : Program) (w w' : World D T S d 
             waiting = waits ∙ was.waiting;
             durable = at.state ∙ was.durable;
             doubtful = at.doubtful ∙ with_batch;
-            used = at.used_slots ∙ was.used;
+            position = at.position ∙ was.position;
             status = ap session_of (sym (o'.shut ∙ at.closed));
             certain = λ yes. absurd (true_not_false (sym (o'.shut ∙ at.closed) ∙ yes));
           })

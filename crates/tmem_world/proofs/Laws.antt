@@ -1,5 +1,5 @@
 -- Laws of the definitions that callers rest on: how a run goes on by one event, and that what is acknowledged is durable.
-use Rattle.std.proofs.Common.{◌≡◌, inl, inr, ⊎_elim, ℕ, ◌<◌, ◌≤◌, Bool, true, false, nat_eq, List, [], ◌∷◌, ◌++◌, refl, ap, subst, sym, arith}
+use Rattle.std.proofs.Common.{◌≡◌, inl, inr, ⊎_elim, ℕ, ◌<◌, ◌≤◌, ◌+◌, ◌^◌, Bool, true, false, nat_eq, List, [], ◌∷◌, ◌++◌, refl, ap, subst, sym, arith}
 use Rattle.std.specs.Prelude.{◌⊎◌, ℤ, Option, Some, None, Result, Ok, Err, MatchBool}
 use Rattle.tmem_disk.specs.declared.fault.Fault.{Fault}
 use Rattle.tmem_disk.specs.declared.fault.Fault.TheVariants as fault
@@ -18,7 +18,7 @@ use Rattle.tmem_event.specs.declared.event.Reply.TheVariants as reply
 use Rattle.tmem_world.specs.Replies.{reply_of, failures_by, failures_by_all, acknowledged, IsAcknowledged}
 use Rattle.tmem_world.specs.Represents.{RestsOn}
 use Rattle.tmem_world.specs.AnyDevice.{AllowsOnAnyDevice, RunOnAnyDevice}
-use Rattle.tmem_world.specs.WorldModel.{WorldModel, SlotModel, NoTransaction, Begun, Ended, SessionStatus, Open, Closed, Gone, Setting, present, slot_at, overridden, goes_on, AllowsBegin, AllowsTurn, is_closed, settled_by, settle_result, AllowsFlushOfSome, AllowsFlush, AllowsReopen, InSession, Allows, Run}
+use Rattle.tmem_world.specs.WorldModel.{WorldModel, SlotModel, NoTransaction, Begun, Ended, SessionStatus, Open, Closed, Gone, Setting, present, slot_at, overridden, goes_on, AllowsBegin, AllowsTurn, is_closed, settled_by, settle_result, AllowsFlushOfSome, AllowsFlush, AllowsNextImage, AllowsCheckpoint, AllowsReopen, InSession, Allows, Run}
 
 -- The reply acknowledges no more than is durable in the run after it, and nothing durable is lost.
 pub record KeepsDurable (m : WorldModel) (r : Reply) (m' : WorldModel) : Type 0 where
@@ -100,9 +100,25 @@ either_of false P Q R one other is = other is
 flushes_in : (program : Program) (slots : ℕ) (s : SessionStatus) (m : WorldModel) (r : Reply) (m' : WorldModel) → AllowsFlush program slots s m r m' → KeepsDurable m r m'
 flushes_in program slots Open m r m' is =
     either_of (nat_eq m.durable (present program m).count) _ _ (KeepsDurable m r m') (λ so. keeps_same m r (reply.Durable m.durable) m' (omega arith) so)
-    (λ so. either_of (nat_eq m.used slots) _ _ (KeepsDurable m r m') (λ full. keeps_same m r (reply.Fault fault.LogFull) m' (omega arith) full) (λ some. flushes_some program m r m' some) so) is
+    (λ so. either_of (nat_eq m.position.used slots) _ _ (KeepsDurable m r m') (λ full. keeps_same m r (reply.Fault fault.LogFull) m' (omega arith) full) (λ some. flushes_some program m r m' some) so) is
 flushes_in program slots Closed m r m' is = keeps_same m r (reply.Fault fault.Closed) m' (omega arith) is
 flushes_in program slots Gone m r m' is = keeps_same m r (reply.Fault fault.Closed) m' (omega arith) is
+
+next_image-KeepsDurable : (m : WorldModel) (r : Reply) (m' : WorldModel) → AllowsNextImage m r m' → KeepsDurable m r m'
+next_image-KeepsDurable m reply.Checkpointed m' is = keeps_none m reply.Checkpointed m' refl (ap (λ (x : WorldModel). x.durable) is)
+next_image-KeepsDurable m (reply.Fault f) m' is = keeps_none m (reply.Fault f) m' refl (same f is)
+  where
+    same : (f : Fault) → AllowsNextImage m (reply.Fault f) m' → m'.durable ≡ m.durable
+    same fault.Device so = ap (λ (x : WorldModel). x.durable) so
+    same fault.Unknown so = ap (λ (x : WorldModel). x.durable) so
+    same _ so = absurd so
+next_image-KeepsDurable m _ m' is = absurd is
+
+checkpoints_in : (s : SessionStatus) (m : WorldModel) (r : Reply) (m' : WorldModel) → AllowsCheckpoint s m r m' → KeepsDurable m r m'
+checkpoints_in Open m r m' is =
+    either_of (nat_eq (m.position.generation + 1) (2 ^ 64)) _ _ (KeepsDurable m r m') (λ so. keeps_same m r (reply.Fault fault.Spent) m' (omega arith) so) (λ so. next_image-KeepsDurable m r m' so) is
+checkpoints_in Closed m r m' is = keeps_same m r (reply.Fault fault.Closed) m' (omega arith) is
+checkpoints_in Gone m r m' is = keeps_same m r (reply.Fault fault.Closed) m' (omega arith) is
 
 reopens : (m : WorldModel) (r : Reply) (m' : WorldModel) → m.durable ≤ m.doubtful → AllowsReopen m r m' → KeepsDurable m r m'
 reopens m (reply.Opened n) m' below is =
@@ -124,6 +140,7 @@ keeps_durable set m (event.Turn slot) r m' below is = in_session m.session m r m
 keeps_durable set m (event.Settle slot) r m' below is =
     in_session m.session m r m' _ (λ (so : (r, m') ≡ settle_result set.program (slot_at m slot) m slot). as_pair m r m' _ so (settles set.program (slot_at m slot) m slot)) is
 keeps_durable set m event.Flush r m' below is = in_session m.session m r m' _ (flushes_in set.program set.slots m.session m r m') is
+keeps_durable set m event.Checkpoint r m' below is = in_session m.session m r m' _ (checkpoints_in m.session m r m') is
 keeps_durable set m event.Look r m' below is = in_session m.session m r m' _ (keeps_same m r (reply.Looked m.durable) m' (omega arith)) is
 keeps_durable set m event.Reopen r m' below is = reopens m r m' below is
 
@@ -158,5 +175,6 @@ rests_on premise (event.Begin slot tx) p = tt
 rests_on premise (event.Turn slot) p = tt
 rests_on premise (event.Settle slot) p = tt
 rests_on premise event.Flush p = tt
+rests_on premise event.Checkpoint p = tt
 rests_on premise event.Look p = tt
 rests_on premise event.Reopen p = p

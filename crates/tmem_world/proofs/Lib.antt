@@ -1,13 +1,17 @@
 pub mod AnyDevicePoints
 pub mod CallsNoDevice
+pub mod Chains
 pub mod DroppedPoints
+pub mod CheckpointedPoints
 pub mod FlushedPoints
 pub mod HeldTables
+pub mod Histories
 pub mod TakenBatches
 pub mod Laws
 pub mod Mending
 pub mod OpenedPoints
 pub mod Points
+pub mod Prefixes
 pub mod ReopenedPoints
 pub mod Serial
 pub mod SettledPoints

@@ -7,12 +7,12 @@ use Rattle.tmem_record.specs.Layout.{slot_place}
 use Rattle.tmem_record.specs.State.{State}
 use Rattle.tmem_gate.specs.Calls.{WritesWithin}
 use Rattle.tmem_journal.specs.Mended.{Mends, MendedBy}
-use Rattle.tmem_journal.specs.Stands.{HoldsState, StandsForEither}
+use Rattle.tmem_journal.specs.Stands.{Position, HoldsState, StandsForEither}
 use Rattle.tmem_world.specs.Represents.{LooksWhereClosed}
 
 -- a content stands for what it stood for before
 stands_mended : (vars slots : ℕ) (s t : State) (b c : List ℕ) → Mends vars slots b c → StandsForEither vars slots s t b → StandsForEither vars slots s t c
-stands_mended vars slots s t b c mends it = ∥∥₁_elim it (hlevel props) (λ (found : (used : ℕ) × (HoldsState vars slots used s b ⊎ HoldsState vars slots used t b)). ⊎_elim
+stands_mended vars slots s t b c mends it = ∥∥₁_elim it (hlevel props) (λ (found : (p : Position) × (HoldsState vars slots p s b ⊎ HoldsState vars slots p t b)). ⊎_elim
     (λ (one : HoldsState vars slots found.0 s b). ∥∥₁_map (mends.states found.0 s ∣ one ∣₁) (λ (is : HoldsState vars slots found.0 s c). (found.0, inl is)))
     (λ (other : HoldsState vars slots found.0 t b). ∥∥₁_map (mends.states found.0 t ∣ other ∣₁) (λ (is : HoldsState vars slots found.0 t c). (found.0, inr is))) found.1)
 

@@ -108,7 +108,7 @@ module _ {D T S : Type 0} {d t z : _} (program : Program) (w : World D T S d t z
     (sized : length w.slots.items ≡ 16) (emptied : All (λ (x : Slot). x ≡ slot.Empty) w.slots.items) (same : (journal.device_of j).failures ≡ failures)
     (sound : IsSound program.tests program.names (state_of o.core).names (state_of o.core).values) where
   abbrev begun : WorldModel
-  begun = opening (journal.state_of j) (journal.used_slots_of j) failures
+  begun = opening (journal.state_of j) (journal.position_of j) failures
 
   cut_at : (n : ℕ) → cut program begun n ≡ journal.state_of j
   cut_at n = ap (serial_state program (journal.state_of j)) (nothing_taken (n - (journal.state_of j).count))
@@ -121,7 +121,7 @@ module _ {D T S : Type 0} {d t z : _} (program : Program) (w : World D T S d t z
     waiting = nothing_behind ((journal.state_of j).count - (journal.state_of j).count) (waiting_of o.core) fresh;
     durable = ap (λ (x : owner.Journal D d). journal.state_of x) kept ∙ sym (cut_at (journal.state_of j).count);
     doubtful = ap (λ (x : owner.Journal D d). journal.doubtful_of x) kept ∙ sure ∙ sym (cut_at (journal.state_of j).count);
-    used = ap (λ (x : owner.Journal D d). journal.used_slots_of x) kept;
+    position = ap (λ (x : owner.Journal D d). journal.position_of x) kept;
     status = ap session_of (sym running);
     certain = λ yes. refl;
   })

@@ -29,7 +29,7 @@ use Rattle.tmem_world.specs.Parts.{what, disk_in, layout_in, table_in, IsWith}
 use Rattle.tmem_record.specs.State.{State}
 use Rattle.tmem_journal.specs.Held as journal
 use Rattle.tmem_journal.specs.Mended.{MendedBy}
-use Rattle.tmem_journal.specs.Stands.{StandsForEither}
+use Rattle.tmem_journal.specs.Stands.{StandsForState, StandsForEither}
 use Rattle.tmem_record.specs.declared.layout.Layout.{Layout}
 use Rattle.tmem_world.specs.declared.world.World.{World}
 use Rattle.tmem_world.specs.WorldModel.{WorldModel, SlotModel, NoTransaction, Begun, Ended, SessionStatus, InSession, AllowsTurn, value_or, overridden, goes_on, present, cut, holding, slot_at}
@@ -120,6 +120,13 @@ module _ {D T S : Type 0} {d t s : _} (w w' : World D T S d t s) (layout : w'.la
       subst (λ (h : Held D T d t). AtEachMoment (d.view (disk_in h)) (view_of w') P) (sym before)
       (subst (λ (h : Held D T d t). AtEachMoment (journal.device_of o.journal) (d.view (disk_in h)) P) (sym after) both)
 
+  -- a session's journal at each moment of a checkpoint
+  pub checkpoint_moments : (o o' : core.Session D T d t) → held_of w ≡ With o → held_of w' ≡ With o'
+      → AtEachMoment (journal.device_of o.journal) (journal.device_of o'.journal) (StandsForState (journal.layout_of o.journal).vars (journal.layout_of o.journal).slots (journal.state_of o.journal)) → EachMoment w w'
+  checkpoint_moments o o' before after during = flush_moments o o' before after (record {
+    each = λ k c left. ∣ inl (∥∥₁_map (during.each k c left) (λ held. (held.0, inl held.1))) ∣₁;
+  })
+
   -- an event without a call of the device
   pub still_moments : IsDevice (view_of w) → device_of w' ≡ device_of w → EachMoment w w'
   still_moments device same = λ program m m' r r'.
@@ -147,7 +154,7 @@ module _ {D T S : Type 0} {d t s : _} (program : Program) (w w' : World D T S d 
 
       kept : (h : Held D T d t) → HasSession program h m → HasSession program h (holding m k a)
       kept (Without left) has = has
-      kept (With o) has = record { state = has.state; number = has.number; waiting = has.waiting; durable = has.durable; doubtful = has.doubtful; used = has.used; status = has.status; certain = has.certain }
+      kept (With o) has = record { state = has.state; number = has.number; waiting = has.waiting; durable = has.durable; doubtful = has.doubtful; position = has.position; status = has.status; certain = has.certain }
 
 module _ {D T S : Type 0} {d t s : _} (w w' : World D T S d t s) (same : w'.held ≡ w.held) where
   pub held_stays : held_of w' ≡ held_of w

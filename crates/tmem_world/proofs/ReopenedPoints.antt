@@ -23,7 +23,7 @@ use Rattle.tmem_core.proofs.Laws.{count-committed}
 use Rattle.tmem_gate.specs.Calls.{Uses, failures_after, LooksOnly}
 use Rattle.tmem_journal.specs.Calls.{FitsOn}
 use Rattle.tmem_record.specs.Layout.{end_place}
-use Rattle.tmem_journal.specs.Stands.{StandsFor, StandsForEither}
+use Rattle.tmem_journal.specs.Stands.{Position, StandsFor, StandsForEither}
 use Rattle.tmem_journal.specs.Refusals.{IsRefusedBy}
 use Rattle.tmem_journal.specs.Journals.{IsOpeningRefused}
 use Rattle.tmem_journal.specs.Mended.{MendedBy}
@@ -41,9 +41,9 @@ use Rattle.tmem_world.proofs.Points.{in_point, mending_moments}
 use Rattle.tmem_world.proofs.OpenedPoints.{why_journal, why_session, only_memory, sound_either, tells_no_device, session_tells_none, no_device}
 use Rattle.tmem_world.proofs.Serial.{committed-take, length-take, take-again, take-shorter, none_waits}
 
--- the point of the run where n transactions were found, and so many log slots are used
-abbrev found_at : WorldModel → ℕ → ℕ → WorldModel
-found_at m n used = record m { accepted = take (n - m.opened.count) m.accepted; durable = n; doubtful = n; used = used; slots = no_transactions; session = Open }
+-- the point of the run where n transactions were found, at that position
+abbrev found_at : WorldModel → ℕ → Position → WorldModel
+found_at m n position = record m { accepted = take (n - m.opened.count) m.accepted; durable = n; doubtful = n; position = position; slots = no_transactions; session = Open }
 
 module _ {D T S : Type 0} {d t z : _} (program : Program) (w w' : World D T S d t z) (m : WorldModel) (r : Represents program w m) (layout : w'.layout ≡ w.layout)
     (emptied : All (λ (s : Slot). s ≡ slot.Empty) w'.slots.items) (sized : length w'.slots.items ≡ 16) where
@@ -104,7 +104,7 @@ module _ {D T S : Type 0} {d t z : _} (program : Program) (w w' : World D T S d 
         let k = n - m.opened.count in
         let le : k ≤ length m.accepted = omega (arith, high) in
         let counted : (journal.state_of j).count ≡ n = ap (λ (x : State). x.count) is ∙ count_at n low high in
-        let m' = found_at m n (journal.used_slots_of j) in
+        let m' = found_at m n (journal.position_of j) in
         let here : journal.state_of j ≡ cut program m' n = is ∙ ap (serial_state program m.opened) (sym (take-again k m.accepted)) in
         let sound_cut : (i : ℕ) → m.opened.count ≤ i → i ≤ m.opened.count + length (take k m.accepted) → IsSound program.tests program.names (cut program m' i).names (cut program m' i).values =
         λ i from to. subst (λ (x : State). IsSound program.tests program.names x.names x.values) (ap (serial_state program m.opened) (sym (take-shorter (i - m.opened.count) k m.accepted (omega (arith, to, length-take k m.accepted le)))))
@@ -115,13 +115,13 @@ module _ {D T S : Type 0} {d t z : _} (program : Program) (w w' : World D T S d 
           waiting = fresh ∙ sym (none_waits program k m.opened m.accepted r.numbers.each);
           durable = ap (λ (x : owner.Journal D d). journal.state_of x) kept ∙ here;
           doubtful = ap (λ (x : owner.Journal D d). journal.doubtful_of x) kept ∙ sure ∙ here;
-          used = ap (λ (x : owner.Journal D d). journal.used_slots_of x) kept;
+          position = ap (λ (x : owner.Journal D d). journal.position_of x) kept;
           status = ap session_of (sym running);
           certain = λ yes. refl;
         })
         (record { opened = low; durable = omega arith; doubtful = omega (arith, length-take k m.accepted le, low); each = committed-take program k m.opened m.accepted r.numbers.each; sound = sound_cut })
         (no_slots_held program w'.slots.items sized emptied) (ap (λ (x : owner.Journal D d). (journal.device_of x).failures) kept ∙ failures ∙ r.failures) in
-        subst (λ (x : ℕ). (m' : WorldModel) × AllowsReopen m (reply.Opened x) m' × Represents program w' m') (sym counted) (m', (which, (journal.used_slots_of j, refl)), point)
+        subst (λ (x : ℕ). (m' : WorldModel) × AllowsReopen m (reply.Opened x) m' × Represents program w' m') (sym counted) (m', (which, (journal.position_of j, refl)), point)
 
     -- opening found a state of the run
     pub found : ∥ (journal.state_of j ≡ cut program m m.durable) ⊎ (journal.state_of j ≡ cut program m m.doubtful) ∥₁ → (n : ℕ) → n ≡ (journal.state_of j).count → (m' : WorldModel) × AllowsReopen m (reply.Opened n) m' × Represents program w' m'
@@ -247,7 +247,7 @@ module _ {D T S : Type 0} {d t z : _} (w w' : World D T S d t z) (h : Held D T d
   }
 
   -- and where no session was begun over it
-  pub session_not_begun : (j : owner.Journal D d) → Mending w.layout.vars w.layout.slots (d.view disk) (journal.device_of j) → Uses {T = Unit {0}} (d.view disk) (journal.device_of j) (Ok tt) → ((journal.device_of j).keeps_model → StandsFor w.layout.vars w.layout.slots (journal.used_slots_of j) (journal.state_of j) (d.view disk).seen)
+  pub session_not_begun : (j : owner.Journal D d) → Mending w.layout.vars w.layout.slots (d.view disk) (journal.device_of j) → Uses {T = Unit {0}} (d.view disk) (journal.device_of j) (Ok tt) → ((journal.device_of j).keeps_model → StandsFor w.layout.vars w.layout.slots (journal.position_of j) (journal.state_of j) (d.view disk).seen)
       → (v : D) → device_of w' ≡ v → v ≡ journal.disk_of j → (IsWith (held_of w') → ⊥) → (f : Fault) (U : Type 0) → IsWhyNoSession U f → (U → (program : Program) → Means w program → opening_fault program (journal.state_of j) ≡ Some f) → ReopeningRefused w f w'
   session_not_begun j mends uses found v now back none f U why fault_of =
       let same : device_of w' ≡ journal.disk_of j = now ∙ back in
@@ -258,9 +258,9 @@ module _ {D T S : Type 0} {d t z : _} (w w' : World D T S d t z) (h : Held D T d
           uses = record { capacity = so.capacity; model = so.model; failures = failures_again (journal.disk_of j) same mends uses.model (failures_after f) counts };
           numbers = λ unfit. absurd (unfit (subst (λ (x : D). FitsOn w.layout.vars w.layout.slots (d.view x).capacity) same_disk fits_again));
           why = why_session (λ g. (view_of w').keeps_model → FitsOn w.layout.vars w.layout.slots (view_of w).capacity → IsRefusedBy w.layout.vars w.layout.slots (view_of w).seen g) U (FindsUnsound w f w') f (λ un. (
-            journal.used_slots_of j,
+            journal.position_of j,
             journal.state_of j,
-            (λ k. subst (λ (x : D). StandsFor w.layout.vars w.layout.slots (journal.used_slots_of j) (journal.state_of j) (d.view x).seen) same_disk (found (subst (λ (x : D). (d.view x).keeps_model) same k))),
+            (λ k. subst (λ (x : D). StandsFor w.layout.vars w.layout.slots (journal.position_of j) (journal.state_of j) (d.view x).seen) same_disk (found (subst (λ (x : D). (d.view x).keeps_model) same k))),
             fault_of un,
           )) why;
           seen = (mends_again (journal.disk_of j) same mends uses.model).seen;

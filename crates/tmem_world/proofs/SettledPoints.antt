@@ -83,7 +83,7 @@ module _ (program : Program) where
       waiting = waiting ∙ append-nil (waiting_of o.core) ∙ was.waiting;
       durable = ap (λ (j : owner.Journal D d). journal.state_of j) kept ∙ was.durable;
       doubtful = ap (λ (j : owner.Journal D d). journal.doubtful_of j) kept ∙ was.doubtful;
-      used = ap (λ (j : owner.Journal D d). journal.used_slots_of j) kept ∙ was.used;
+      position = ap (λ (j : owner.Journal D d). journal.position_of j) kept ∙ was.position;
       status = was.status ∙ ap session_of (sym closed);
       certain = λ open_now. was.certain (sym closed ∙ open_now);
     }
@@ -103,7 +103,7 @@ module _ (program : Program) where
           ∙ sym (waiting-append program (m.durable - m.opened.count) m.opened m.accepted plan r.numbers.each (omega (arith, r.numbers.durable, r.numbers.doubtful)));
       durable = ap (λ (j : owner.Journal D d). journal.state_of j) kept ∙ was.durable ∙ cuts plan m.durable (omega (arith, r.numbers.doubtful, r.numbers.durable));
       doubtful = ap (λ (j : owner.Journal D d). journal.doubtful_of j) kept ∙ was.doubtful ∙ cuts plan m.doubtful (omega (arith, r.numbers.doubtful));
-      used = ap (λ (j : owner.Journal D d). journal.used_slots_of j) kept ∙ was.used;
+      position = ap (λ (j : owner.Journal D d). journal.position_of j) kept ∙ was.position;
       status = was.status ∙ ap session_of (sym closed);
       certain = λ open_now. was.certain (sym closed ∙ open_now);
     }
@@ -150,7 +150,7 @@ module _ (program : Program) where
     emptied s' state waiting number kept closed empty slots =
         let is = same_session state waiting number kept closed in
         in_point program w' (holding m k NoTransaction) o' after
-        (record { state = is.state; number = is.number; waiting = is.waiting; durable = is.durable; doubtful = is.doubtful; used = is.used; status = is.status; certain = is.certain })
+        (record { state = is.state; number = is.number; waiting = is.waiting; durable = is.durable; doubtful = is.doubtful; position = is.position; status = is.status; certain = is.certain })
         (record { opened = r.numbers.opened; durable = r.numbers.durable; doubtful = r.numbers.doubtful; each = r.numbers.each; sound = r.numbers.sound })
         (slots_empty s' empty slots) (same_failures kept)
 

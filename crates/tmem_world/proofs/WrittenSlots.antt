@@ -1,18 +1,18 @@
--- Where a flush writes.
-use Rattle.std.proofs.Common.{◌≡◌, ℕ, ◌*◌, ◌<◌, List, sym, ◌∙◌, ap, subst, arith}
+-- Where a flush and a checkpoint write.
+use Rattle.std.proofs.Common.{◌≡◌, ℕ, ◌*◌, ◌+◌, ◌<◌, List, sym, ◌∙◌, ap, subst, arith}
 use Rattle.std.specs.Prelude.{Result, Ok, Err}
 use Rattle.tmem_disk.specs.Disk.{DeviceView, IsDevice}
 use Rattle.tmem_disk.specs.declared.fault.Fault.{Fault}
 use Rattle.tmem_disk.specs.declared.fault.Fault.TheVariants as fault
-use Rattle.tmem_record.specs.Layout.{slot_place}
+use Rattle.tmem_record.specs.Layout.{image_place, image_size, slot_place}
 use Rattle.tmem_record.specs.declared.effect.Effect.{Effect}
 use Rattle.tmem_gate.specs.Calls.{WritesWithin}
 use Rattle.tmem_gate.proofs.Laws.{WritesWithin-refl, WritesWithin-wider}
-use Rattle.tmem_journal.specs.Held.{device_of, layout_of, used_slots_of}
+use Rattle.tmem_journal.specs.Held.{device_of, layout_of, position_of}
 use Rattle.tmem_journal.specs.Journals.{Flushes}
 use Rattle.tmem_journal.specs.declared.journal.Journal.{Journal}
 use Rattle.tmem_world.specs.Parts.{disk_in, layout_in}
-use Rattle.tmem_world.specs.Represents.{held_of, view_of}
+use Rattle.tmem_world.specs.Represents.{WritesInStore, held_of, view_of}
 use Rattle.tmem_world.specs.declared.session.Session as core
 use Rattle.tmem_world.specs.declared.held.Held.{Held}
 use Rattle.tmem_world.specs.declared.held.Held.TheVariants.{With}
@@ -23,12 +23,12 @@ module _ {D : Type 0} {d : _} (old new : Journal D d) (device : IsDevice (device
   InLog j = WritesWithin (slot_place (layout_of old).vars 0) (4096 * (layout_of old).slots) (device_of old) (device_of j)
 
   abbrev InSlot : Type 0
-  InSlot = WritesWithin (slot_place (layout_of old).vars (used_slots_of old)) 4096 (device_of old) (device_of new)
+  InSlot = WritesWithin (slot_place (layout_of old).vars (position_of old).used) 4096 (device_of old) (device_of new)
 
   -- a slot that is left is one of the log
-  one_of_them : used_slots_of old < (layout_of old).slots → InSlot → InLog new
+  one_of_them : (position_of old).used < (layout_of old).slots → InSlot → InLog new
   one_of_them left within =
-      WritesWithin-wider (slot_place (layout_of old).vars (used_slots_of old)) 4096 (slot_place (layout_of old).vars 0) (4096 * (layout_of old).slots) (omega arith) (omega (arith, left)) (device_of old) (device_of new) within
+      WritesWithin-wider (slot_place (layout_of old).vars (position_of old).used) 4096 (slot_place (layout_of old).vars 0) (4096 * (layout_of old).slots) (omega arith) (omega (arith, left)) (device_of old) (device_of new) within
 
   -- nothing is written
   none : new ≡ old → InLog new
@@ -43,12 +43,19 @@ module _ {D : Type 0} {d : _} (old new : Journal D d) (device : IsDevice (device
   in_log (Err fault.LogFull) it within = none it.2
   in_log (Err _) it within = absurd it
 
+-- the log is in the store
+pub log_within : (vars slots : ℕ) (old new : DeviceView) → WritesWithin (slot_place vars 0) (4096 * slots) old new → WritesWithin (image_place vars 0) (2 * image_size vars + 4096 * slots) old new
+log_within vars slots old new within = WritesWithin-wider (slot_place vars 0) (4096 * slots) (image_place vars 0) (2 * image_size vars + 4096 * slots) (omega arith) (omega arith) old new within
+
 module _ {D T S : Type 0} {d t s : _} (w : World D T S d t s) where
-  -- in a world too
-  pub flush_within : (o : core.Session D T d t) (new : DeviceView) → held_of w ≡ With o → WritesWithin (slot_place (layout_of o.journal).vars 0) (4096 * (layout_of o.journal).slots) (device_of o.journal) new → WritesWithin (slot_place w.layout.vars 0) (4096 * w.layout.slots) (view_of w) new
-  flush_within o new before within =
+  -- what is written in the journal's store is written in the world's
+  pub store_within : (o : core.Session D T d t) (new : DeviceView) → held_of w ≡ With o → WritesInStore (layout_of o.journal) (device_of o.journal) new → WritesInStore w.layout (view_of w) new
+  store_within o new before within =
       let vars : (layout_of o.journal).vars ≡ w.layout.vars = sym (ap (λ (h : Held D T d t). (layout_in h).vars) before) ∙ w.same_vars in
       let slots : (layout_of o.journal).slots ≡ w.layout.slots = sym (ap (λ (h : Held D T d t). (layout_in h).slots) before) ∙ w.same_slots in
-      subst (λ (v : ℕ). WritesWithin (slot_place v 0) (4096 * w.layout.slots) (view_of w) new) vars
-      (subst (λ (n : ℕ). WritesWithin (slot_place (layout_of o.journal).vars 0) (4096 * n) (view_of w) new) slots
-      (subst (λ (h : Held D T d t). WritesWithin (slot_place (layout_of o.journal).vars 0) (4096 * (layout_of o.journal).slots) (d.view (disk_in h)) new) (sym before) within))
+      subst (λ (v : ℕ). WritesWithin (image_place v 0) (2 * image_size v + 4096 * w.layout.slots) (view_of w) new) vars
+      (subst (λ (n : ℕ). WritesWithin (image_place (layout_of o.journal).vars 0) (2 * image_size (layout_of o.journal).vars + 4096 * n) (view_of w) new) slots
+      (subst (λ (h : Held D T d t). WritesInStore (layout_of o.journal) (d.view (disk_in h)) new) (sym before) within))
+
+  pub flush_within : (o : core.Session D T d t) (new : DeviceView) → held_of w ≡ With o → WritesWithin (slot_place (layout_of o.journal).vars 0) (4096 * (layout_of o.journal).slots) (device_of o.journal) new → WritesInStore w.layout (view_of w) new
+  flush_within o new before within = store_within o new before (log_within (layout_of o.journal).vars (layout_of o.journal).slots (device_of o.journal) new within)

@@ -1,6 +1,6 @@
 -- What holds on any device, also on one that breaks the disk model: Reopen may find another state than the run's, and
 -- then a new run begins there.
-use Rattle.std.specs.Prelude.{◌≡◌, ⊤, ℕ, List, [], ◌∷◌, All, Some}
+use Rattle.std.specs.Prelude.{◌≡◌, ⊤, List, [], ◌∷◌, All, Some}
 use Rattle.tmem_disk.specs.declared.fault.Fault.{Fault}
 use Rattle.tmem_disk.specs.declared.fault.Fault.TheVariants as fault
 use Rattle.tmem_event.specs.declared.event.Event.{Event}
@@ -11,7 +11,7 @@ use Rattle.tmem_record.specs.State.{State}
 use Rattle.tmem_core.specs.Opening.{opening_fault}
 use Rattle.tmem_core.specs.Program.{Program}
 use Rattle.tmem_gate.specs.Calls.{failures_after}
-use Rattle.tmem_journal.specs.Stands.{StandsFor}
+use Rattle.tmem_journal.specs.Stands.{Position, StandsFor}
 use Rattle.tmem_world.specs.declared.session.Slot.{Slot}
 use Rattle.tmem_world.specs.declared.session.Slot.TheVariants.{Empty}
 use Rattle.tmem_world.specs.declared.world.World.{World}
@@ -35,7 +35,7 @@ dropped_by f m = record (dropped m) { failures = failures_after f m.failures }
 
 -- Reopen finds some state of the count that it answers, and a new run begins there; or the session is gone.
 abbrev pub AllowsReopenOnAnyDevice : WorldModel → Reply → WorldModel → Type 0
-AllowsReopenOnAnyDevice m (reply.Opened n) m' = (s : State) × (used : ℕ) × (s.count ≡ n) × (m' ≡ opening s used m.failures)
+AllowsReopenOnAnyDevice m (reply.Opened n) m' = (s : State) × (position : Position) × (s.count ≡ n) × (m' ≡ opening s position m.failures)
 AllowsReopenOnAnyDevice m (reply.Fault f) m' = IsOpeningFault f × (m' ≡ dropped_by f m)
 AllowsReopenOnAnyDevice m _ m' = ⊥
 
@@ -58,7 +58,7 @@ HoldsNoTransaction w = All (λ (slot : Slot). slot ≡ Empty) w.slots.items
 -- the content stands for a state of which an invariant is missing or false, the one that the refusal names
 abbrev pub FindsUnsound : {D T S : Type 0} {d t s : _} → World D T S d t s → Fault → World D T S d t s → Type 0
 FindsUnsound old f new =
-    (used : ℕ) × (s : State) × ((view_of new).keeps_model → StandsFor old.layout.vars old.layout.slots used s (view_of old).seen)
+    (position : Position) × (s : State) × ((view_of new).keeps_model → StandsFor old.layout.vars old.layout.slots position s (view_of old).seen)
     × ((program : Program) → Means old program → opening_fault program s ≡ Some f)
 
 -- Opening again was refused, as any opening is. No session stands then, each slot is empty, and the run goes on so.
@@ -71,9 +71,9 @@ pub record ReopeningRefused {D T S : Type 0} {d t s : _} (old : World D T S d t 
 -- What Reopen is answered, and where the world is then. After Opened it is where a run begins, at a state of that count: the one that the content stands for, where the device keeps the model. Where the gates behind its log read closed, nothing was written.
 abbrev pub IsReopened : {D T S : Type 0} {d t s : _} → World D T S d t s → Reply → World D T S d t s → Type 0
 IsReopened old (reply.Opened n) new =
-    (s : State) × (used : ℕ) × (s.count ≡ n)
-    × ((program : Program) → Means new program → Represents program new (opening s used (view_of old).failures))
-    × ((view_of new).keeps_model → StandsFor new.layout.vars new.layout.slots used s (view_of old).seen)
+    (s : State) × (position : Position) × (s.count ≡ n)
+    × ((program : Program) → Means new program → Represents program new (opening s position (view_of old).failures))
+    × ((view_of new).keeps_model → StandsFor new.layout.vars new.layout.slots position s (view_of old).seen)
     × LooksWhereClosed old.layout.vars old.layout.slots (view_of old) (view_of new)
 IsReopened old (reply.Fault f) new = ReopeningRefused old f new
 IsReopened old _ new = ⊥

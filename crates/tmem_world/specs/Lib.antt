@@ -1,4 +1,5 @@
 pub mod AnyDevice
+pub mod Chain
 pub mod Facts
 pub mod Parts
 pub mod Replies

@@ -31,9 +31,17 @@ FlushedNothing durable (reply.Fault fault.Device) = ⊥
 FlushedNothing durable (reply.Fault fault.Unknown) = ⊥
 FlushedNothing durable _ = ⊤
 
--- The event was answered so without a call of the device: only a flush that writes and opening make any.
+-- A checkpoint was answered without a write.
+abbrev pub CheckpointedNothing : Reply → Type 0
+CheckpointedNothing reply.Checkpointed = ⊥
+CheckpointedNothing (reply.Fault fault.Device) = ⊥
+CheckpointedNothing (reply.Fault fault.Unknown) = ⊥
+CheckpointedNothing _ = ⊤
+
+-- The event was answered so without a call of the device: only a flush that writes, a checkpoint and opening make any.
 abbrev pub CallsNoDevice : ℕ → Event → Reply → Type 0
 CallsNoDevice durable event.Flush r = FlushedNothing durable r
+CallsNoDevice durable event.Checkpoint r = CheckpointedNothing r
 CallsNoDevice durable event.Reopen r = ⊥
 CallsNoDevice durable _ r = ⊤
 

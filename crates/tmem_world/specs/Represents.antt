@@ -1,12 +1,13 @@
 -- When a world is at a point of a run.
-use Rattle.std.specs.Prelude.{Result, Ok, Err, ◌≡◌, ◌<◌, ◌≤◌, ◌⊎◌, ⊤, ◌+◌, ◌-◌, ℕ, Bool, true, false, List, length, drop}
+use Rattle.std.specs.Prelude.{Result, Ok, Err, ◌≡◌, ◌<◌, ◌≤◌, ◌⊎◌, ⊤, ◌+◌, ◌-◌, ◌*◌, ℕ, Bool, true, false, List, length, drop}
 use Rattle.std.specs.List.{AllZip}
 use Rattle.tmem_invariants.specs.Meanings.{IsSound}
 use Rattle.tmem_disk.specs.Disk.{DeviceView, LeavesOnly, AtEachMoment}
 use Rattle.tmem_disk.specs.declared.fault.Fault.{Fault}
 use Rattle.tmem_disk.specs.declared.fault.Fault.TheVariants.{Memory, Device, NotFormatted, Damaged, Geometry}
 use Rattle.tmem_record.specs.State.{State}
-use Rattle.tmem_gate.specs.Calls.{Uses, LooksOnly}
+use Rattle.tmem_record.specs.Layout.{image_place, image_size}
+use Rattle.tmem_gate.specs.Calls.{Uses, LooksOnly, WritesWithin}
 use Rattle.tmem_journal.specs.Calls.{FitsOn}
 use Rattle.tmem_journal.specs.Refusals.{IsRefusedBy}
 use Rattle.tmem_world.specs.SessionRefusals.{IsWhyNot}
@@ -26,7 +27,7 @@ use Rattle.tmem_world.specs.declared.held.Held.{Held}
 use Rattle.tmem_world.specs.declared.held.Held.TheVariants.{With, Without}
 use Rattle.tmem_world.specs.declared.world.World.{World}
 use Rattle.tmem_journal.specs.Mended.{Mends, MendedBy, ClosedFrom}
-use Rattle.tmem_journal.specs.Stands.{StandsFor, StandsForEither}
+use Rattle.tmem_journal.specs.Stands.{Position, StandsFor, StandsForEither}
 use Rattle.tmem_journal.specs.Held as journal
 use Rattle.tmem_world.specs.Replies.{IsAcknowledged}
 use Rattle.tmem_world.specs.WorldModel.{Setting, WorldModel, SlotModel, NoTransaction, Begun, Ended, SessionStatus, Open, Closed, Gone, opening, present, cut, Allows, Run}
@@ -91,7 +92,7 @@ pub record SessionIs {D T : Type 0} {d t : _} (program : Program) (o : session.S
   pub waiting : waiting_of o.core ≡ drop (m.durable - m.opened.count) (serial_effects program m.opened m.accepted)
   pub durable : journal.state_of o.journal ≡ cut program m m.durable
   pub doubtful : journal.doubtful_of o.journal ≡ cut program m m.doubtful
-  pub used : journal.used_slots_of o.journal ≡ m.used
+  pub position : journal.position_of o.journal ≡ m.position
   pub status : m.session ≡ session_of (is_shut_of o.core)
   pub certain : is_shut_of o.core ≡ false → m.doubtful ≡ m.durable
 
@@ -126,6 +127,10 @@ EachMoment old new =
     (program : Program) (m m' : WorldModel) → Represents program old m → Represents program new m'
     → AtEachMoment (view_of old) (view_of new) (λ c. ∥ StandsCut program old.layout.vars old.layout.slots m c ⊎ StandsCut program old.layout.vars old.layout.slots m' c ∥₁)
 
+-- Block 0 is not written, nor anything behind the log.
+abbrev pub WritesInStore : Layout → DeviceView → DeviceView → Type 0
+WritesInStore layout old new = WritesWithin (image_place layout.vars 0) (2 * image_size layout.vars + 4096 * layout.slots) old new
+
 -- What opening finds rests on the device's premise, and no other answer does.
 abbrev pub RestsOn : Type 0 → Event → Type 0
 RestsOn premise event.Reopen = premise
@@ -156,12 +161,12 @@ device_after {d = d} (Err e) = d.view e.1
 
 -- Opening found one of two states, and a run begins there; or memory or the device failed.
 abbrev pub OpensEither : {D T S : Type 0} {d t s : _} → Program → Result (World D T S d t s) (Fault × D) → ℕ → State → State → Type 0
-OpensEither program (Ok w) failures a b = (found : State) × (used : ℕ) × ∥ (found ≡ a) ⊎ (found ≡ b) ∥₁ × Represents program w (opening found used failures)
+OpensEither program (Ok w) failures a b = (found : State) × (position : Position) × ∥ (found ≡ a) ⊎ (found ≡ b) ∥₁ × Represents program w (opening found position failures)
 OpensEither program (Err e) failures a b = (e.0 ≡ Memory) ⊎ (e.0 ≡ Device)
 
 -- nothing was written, where the gates behind the log read closed
 abbrev pub LooksWhereClosed : ℕ → ℕ → DeviceView → DeviceView → Type 0
-LooksWhereClosed vars slots old new = (used : ℕ) (s : State) → StandsFor vars slots used s old.seen → ClosedFrom vars slots used old.seen → LooksOnly old new
+LooksWhereClosed vars slots old new = (p : Position) (s : State) → StandsFor vars slots p s old.seen → ClosedFrom vars slots p.used old.seen → LooksOnly old new
 
 -- a refusal that tells of the numbers or of the content
 abbrev pub TellsOfContent : Fault → Type 0

@@ -1,9 +1,9 @@
--- What a flush does to a session.
+-- What a flush and a checkpoint do to a session.
 use Rattle.std.specs.Prelude.{◌≡◌, ◌≤◌, ◌⊎◌, ℕ, true, false, List, [], ◌++◌, length, Result, Ok, Err}
 use Rattle.tmem_disk.specs.declared.fault.Fault.{Fault}
 use Rattle.tmem_disk.specs.declared.fault.Fault.TheVariants.{Closed}
 use Rattle.tmem_record.specs.declared.effect.Effect.{Effect}
-use Rattle.tmem_core.specs.Held.{waiting_of, durable_of, is_shut_of}
+use Rattle.tmem_core.specs.Held.{state_of, waiting_of, durable_of, is_shut_of}
 use Rattle.tmem_core.specs.Taking.{IsTaken}
 use Rattle.tmem_journal.specs.Journals as journals
 use Rattle.tmem_world.specs.declared.session.Session.{Session}
@@ -40,3 +40,9 @@ pub record FlushedOldest {D T : Type 0} {d t : _} (old : Session D T d t) (answe
 
 abbrev pub Flushes : {D T : Type 0} {d t : _} → Session D T d t → Result ℕ Fault → Session D T d t → Type 0
 Flushes old answer new = FlushedClosed old answer new ⊎ (FlushedNone old answer new ⊎ FlushedOldest old answer new)
+
+-- The journal answered a checkpoint so. What was accepted stays, and what waits.
+pub record Checkpoints {D T : Type 0} {d t : _} (old : Session D T d t) (answer : Result (Unit {0}) Fault) (new : Session D T d t) : Type 0 where
+  pub journal : journals.Checkpoints old.journal answer new.journal
+  pub state : state_of new.core ≡ state_of old.core
+  pub waits : waiting_of new.core ≡ waiting_of old.core

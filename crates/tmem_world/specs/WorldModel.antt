@@ -1,5 +1,5 @@
 -- What a list of events may be answered.
-use Rattle.std.specs.Prelude.{◌≡◌, ◌<◌, ◌≤◌, ◌⊎◌, ⊤, ℕ, ◌+◌, ◌-◌, ℤ, Bool, true, false, List, [], ◌∷◌, ◌++◌, Option, Some, None, Result, Ok, Err, take, drop, replicate, nat_eq, MatchBool, slice_index_or, slice_set}
+use Rattle.std.specs.Prelude.{◌≡◌, ◌<◌, ◌≤◌, ◌⊎◌, ⊤, ℕ, ◌+◌, ◌-◌, ◌^◌, ℤ, Bool, true, false, List, [], ◌∷◌, ◌++◌, Option, Some, None, Result, Ok, Err, take, drop, replicate, nat_eq, MatchBool, slice_index_or, slice_set}
 use Rattle.tmem_disk.specs.Disk.{after_fault}
 use Rattle.tmem_disk.specs.declared.fault.Fault.{Fault}
 use Rattle.tmem_disk.specs.declared.fault.Fault.TheVariants as fault
@@ -8,6 +8,7 @@ use Rattle.tmem_record.specs.Writes.{look}
 use Rattle.tmem_record.specs.declared.effect.Effect.{Effect}
 use Rattle.tmem_tree.specs.declared.tx.Tx.{Tx}
 use Rattle.tmem_core.specs.Program.{Program}
+use Rattle.tmem_journal.specs.Stands.{Position, next_slot, next_image}
 use Rattle.tmem_tree.specs.Plans.{BreaksNone, IsLeastBroken}
 use Rattle.tmem_tree.specs.Visited.{visited}
 use Rattle.tmem_tentative.specs.Right.{first_lacking, valued}
@@ -57,8 +58,8 @@ pub record WorldModel : Type 0 where
   -- how many records are durable; a flush whose outcome is unknown may have made it the doubtful number
   pub durable : ℕ
   pub doubtful : ℕ
-  -- how many log slots are used
-  pub used : ℕ
+  -- which image is chosen, and how many log slots are used behind it
+  pub position : Position
   -- how many calls of the device have failed
   pub failures : ℕ
   -- sixteen attempts
@@ -74,13 +75,13 @@ abbrev pub present : Program → WorldModel → State
 present program m = serial_state program m.opened m.accepted
 
 -- where a run begins
-abbrev pub opening : State → ℕ → ℕ → WorldModel
-opening s used failures = record {
+abbrev pub opening : State → Position → ℕ → WorldModel
+opening s position failures = record {
   opened = s;
   accepted = [];
   durable = s.count;
   doubtful = s.count;
-  used = used;
+  position = position;
   failures = failures;
   slots = no_transactions;
   session = Open;
@@ -161,7 +162,7 @@ pub record IsBatchEnd (program : Program) (m : WorldModel) (n : ℕ) : Type 0 wh
 -- A batch is made durable, or the device fails and the session is closed. After an unknown outcome the doubtful number is what the batch would have reached.
 abbrev pub AllowsFlushOfSome : Program → WorldModel → Reply → WorldModel → Type 0
 AllowsFlushOfSome program m (reply.Durable n) m' =
-    IsBatchEnd program m n × (m' ≡ record m { durable = n; doubtful = n; used = m.used + 1 })
+    IsBatchEnd program m n × (m' ≡ record m { durable = n; doubtful = n; position = next_slot m.position })
 AllowsFlushOfSome program m (reply.Fault fault.Device) m' = m' ≡ record m { session = Closed; failures = after_fault m.failures }
 AllowsFlushOfSome program m (reply.Fault fault.Unknown) m' =
     (n : ℕ) × IsBatchEnd program m n × (m' ≡ record m { session = Closed; failures = after_fault m.failures; doubtful = n })
@@ -172,19 +173,32 @@ abbrev pub AllowsFlush : Program → ℕ → SessionStatus → WorldModel → Re
 AllowsFlush program slots Open m r m' =
     MatchBool (nat_eq m.durable (present program m).count)
     ((r ≡ reply.Durable m.durable) × (m' ≡ m))
-    (MatchBool (nat_eq m.used slots) ((r ≡ reply.Fault fault.LogFull) × (m' ≡ m)) (AllowsFlushOfSome program m r m'))
+    (MatchBool (nat_eq m.position.used slots) ((r ≡ reply.Fault fault.LogFull) × (m' ≡ m)) (AllowsFlushOfSome program m r m'))
 AllowsFlush program slots _ m r m' = (r ≡ reply.Fault fault.Closed) × (m' ≡ m)
+
+-- The durable state becomes the next image, and every log slot is free again; or the device fails and the session is closed.
+-- No transaction is durable that was not, and none is doubtful.
+abbrev pub AllowsNextImage : WorldModel → Reply → WorldModel → Type 0
+AllowsNextImage m reply.Checkpointed m' = m' ≡ record m { position = next_image m.position }
+AllowsNextImage m (reply.Fault fault.Device) m' = m' ≡ record m { session = Closed; failures = after_fault m.failures }
+AllowsNextImage m (reply.Fault fault.Unknown) m' = m' ≡ record m { session = Closed; failures = after_fault m.failures }
+AllowsNextImage m _ m' = ⊥
+
+-- Nothing is written where no generation follows on the image's.
+abbrev pub AllowsCheckpoint : SessionStatus → WorldModel → Reply → WorldModel → Type 0
+AllowsCheckpoint Open m r m' = MatchBool (nat_eq (m.position.generation + 1) (2 ^ 64)) ((r ≡ reply.Fault fault.Spent) × (m' ≡ m)) (AllowsNextImage m r m')
+AllowsCheckpoint _ m r m' = (r ≡ reply.Fault fault.Closed) × (m' ≡ m)
 
 -- without a session
 abbrev pub dropped : WorldModel → WorldModel
 dropped m = record m { slots = no_transactions; session = Gone }
 
--- Opening the device again finds the durable number or the doubtful one, and keeps the transactions below it. How many
--- log slots are used is read off the device.
+-- Opening the device again finds the durable number or the doubtful one, and keeps the transactions below it. Which
+-- image is chosen, and how many log slots are used, is read off the device.
 abbrev pub AllowsReopen : WorldModel → Reply → WorldModel → Type 0
 AllowsReopen m (reply.Opened n) m' =
     ((n ≡ m.durable) ⊎ (n ≡ m.doubtful))
-    × ((used : ℕ) × (m' ≡ record m { accepted = take (n - m.opened.count) m.accepted; durable = n; doubtful = n; used = used; slots = no_transactions; session = Open }))
+    × ((position : Position) × (m' ≡ record m { accepted = take (n - m.opened.count) m.accepted; durable = n; doubtful = n; position = position; slots = no_transactions; session = Open }))
 AllowsReopen m (reply.Fault fault.Memory) m' = m' ≡ dropped m
 AllowsReopen m (reply.Fault fault.Device) m' = m' ≡ record (dropped m) { failures = after_fault m.failures }
 AllowsReopen m _ m' = ⊥
@@ -200,6 +214,7 @@ Allows set m (event.Begin slot tx) r m' = InSession m.session m r m' (AllowsBegi
 Allows set m (event.Turn slot) r m' = InSession m.session m r m' (AllowsTurn set.program (slot_at m slot) m slot r m')
 Allows set m (event.Settle slot) r m' = InSession m.session m r m' ((r, m') ≡ settle_result set.program (slot_at m slot) m slot)
 Allows set m event.Flush r m' = InSession m.session m r m' (AllowsFlush set.program set.slots m.session m r m')
+Allows set m event.Checkpoint r m' = InSession m.session m r m' (AllowsCheckpoint m.session m r m')
 Allows set m event.Look r m' = InSession m.session m r m' ((r ≡ reply.Looked m.durable) × (m' ≡ m))
 Allows set m event.Reopen r m' = AllowsReopen m r m'
 

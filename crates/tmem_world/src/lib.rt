@@ -7,10 +7,12 @@
 //! stands on the device are crates of their own; `session` joins a core to a journal.
 #![tactic(auto)]
 
+mod chain;
 mod held;
 mod session;
 mod world;
 
+pub use chain::{crash_leaves_store, formatted_is_store};
 pub use tmem_event::{ATTEMPTS, Event, Reply, Settled};
 pub use tmem_journal::{Layout, format};
 pub use world::World;

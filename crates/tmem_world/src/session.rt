@@ -1,5 +1,5 @@
 // A session: the core, and the journal that makes durable what it accepts.
-ghost use Rattle.std.specs.Prelude.{◌≡◌, ◌*◌, ◌⊎◌, false, [], length, IfOk, IfErr};
+ghost use Rattle.std.specs.Prelude.{◌≡◌, ◌*◌, ◌+◌, ◌⊎◌, false, [], length, IfOk, IfErr};
 ghost use Rattle.tmem_disk.specs.Disk.{AtEachMoment};
 ghost use Rattle.tmem_record.specs.State.{State, fold};
 ghost use Rattle.tmem_invariants.specs.Meanings.{Meanings, IsSound};
@@ -7,8 +7,9 @@ ghost use Rattle.tmem_core.specs.Held.{state_of, waiting_of, durable_of, is_shut
 ghost use Rattle.tmem_core.specs.Opening.{opening_fault};
 ghost use Rattle.tmem_core.specs.Program.{Program};
 ghost use Rattle.tmem_journal.specs.Held.{disk_of, device_of, layout_of, is_closed_of, MayBe, state_of as durable_state};
+ghost use Rattle.tmem_journal.specs.Stands.{StandsForState};
 ghost use Rattle.tmem_gate.specs.Calls.{Uses, WritesWithin};
-ghost use Rattle.tmem_record.specs.Layout.{slot_place};
+ghost use Rattle.tmem_record.specs.Layout.{image_place, image_size, slot_place};
 ghost use Rattle.tmem_world.specs.SessionRefusals.{IsWhyNoSession};
 
 use std::alloc::Global;
@@ -76,7 +77,7 @@ pub(crate) fn begin_session<D: Disk, T: Invariants + Drop>(
 }
 
 impl<D: Disk, T: Invariants + Drop> Session<D, T> {
-    ghost use Rattle.tmem_world.specs.Sessions.{Flushes};
+    ghost use Rattle.tmem_world.specs.Sessions.{Flushes, Checkpoints};
     ghost use Rattle.tmem_world.specs.SettleSlot.{FitsCore, Settles};
 
     /// Settles what a slot holds, which is emptied unless the answer is a refusal.
@@ -125,5 +126,24 @@ impl<D: Disk, T: Invariants + Drop> Session<D, T> {
             }
         }
         flushed
+    }
+
+    /// Writes the durable state as the next image, and frees every log slot.
+    pub(crate) fn checkpoint(&mut self) -> Result<(), Fault>
+        ensures uses { Uses (device_of self.old.journal) (device_of self.new.journal) result }
+        ensures layout { layout_of self.new.journal ≡ layout_of self.old.journal }
+        ensures table { table_of self.new.core ≡ table_of self.old.core }
+        ensures checkpointed { Checkpoints self.old result self.new }
+        ensures any_moment { is_closed_of self.old.journal ≡ false → AtEachMoment (device_of self.old.journal) (device_of self.new.journal)
+            (StandsForState (layout_of self.old.journal).vars (layout_of self.old.journal).slots (durable_state self.old.journal)) }
+        ensures elsewhere { WritesWithin (image_place (layout_of self.old.journal).vars 0)
+            (2 * image_size (layout_of self.old.journal).vars + 4096 * (layout_of self.old.journal).slots)
+            (device_of self.old.journal) (device_of self.new.journal) }
+    {
+        let renewed = self.journal.checkpoint();
+        if self.journal.is_closed() {
+            self.core.shut();
+        }
+        renewed
     }
 }

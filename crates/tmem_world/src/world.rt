@@ -10,7 +10,7 @@ ghost use Rattle.tmem_core.specs.Program.{Program};
 ghost use Rattle.tmem_gate.specs.Calls.{WritesWithin};
 ghost use Rattle.tmem_record.specs.Layout.{slot_place};
 ghost use Rattle.tmem_journal.specs.Mended.{Mends, MendedBy};
-ghost use Rattle.tmem_journal.specs.Stands.{StandsFor, StandsForEither};
+ghost use Rattle.tmem_journal.specs.Stands.{Position, StandsFor, StandsForEither};
 ghost use Rattle.tmem_journal.specs.Calls.{FitsOn};
 ghost use Rattle.tmem_world.specs.Parts.{what, layout_in, table_in};
 ghost use Rattle.tmem_world.specs.SettleSlot.{FitsSlot, Joins, Keeps};
@@ -24,7 +24,7 @@ use std::alloc::{AllocError, Global};
 use tmem_disk::{Disk, Fault, Name};
 use tmem_event::{ATTEMPTS, Event, Reply};
 use tmem_invariants::Invariants;
-use tmem_journal::{Journal, Layout};
+use tmem_journal::{Journal, Layout, refused_stands_for_none, stands_for_one};
 use tmem_tentative::{Outcome, Reads, evaluate};
 use tmem_tree::{Plan, StoredSteps, Tx};
 
@@ -48,9 +48,10 @@ pub struct World<D: Disk, T: Invariants, S: StoredSteps> {
 }
 
 impl<D: Disk + Drop, T: Invariants + Drop, S: StoredSteps + Drop> World<D, T, S> {
-    ghost use Rattle.tmem_world.specs.Represents.{Represents, Means, IsStep, Plays, EachMoment, HoldsSession, OpeningRefused, LooksWhereClosed, OpensEither, numbers_of, device_of, view_of, device_after, steps_of, held_table, setting_of, durable_number};
+    ghost use Rattle.tmem_world.specs.Represents.{Represents, Means, IsStep, Plays, EachMoment, WritesInStore, HoldsSession, OpeningRefused, LooksWhereClosed, OpensEither, numbers_of, device_of, view_of, device_after, steps_of, held_table, setting_of, durable_number};
     ghost use Rattle.tmem_world.specs.AnyDevice.{Reopens, IsReopened, PlaysOnAnyDevice};
-    ghost use Rattle.tmem_world.specs.Replies.{failures_by, failures_by_all, FlushedNothing, CallsNoDevice};
+    ghost use Rattle.tmem_world.specs.Replies.{failures_by, failures_by_all, FlushedNothing, CheckpointedNothing, CallsNoDevice};
+    ghost use Rattle.tmem_world.specs.Chain.{History, IsStore, OpensStore, StepsOn, PlaysOn};
 
     /// Opens a device of these numbers: finds what its content stands for, and begins a session there, with these
     /// invariants and stored steps. Refused by `Geometry` where the numbers are out of limits, the device is smaller than
@@ -69,14 +70,14 @@ impl<D: Disk + Drop, T: Invariants + Drop, S: StoredSteps + Drop> World<D, T, S>
         steps: S,
     ) -> Result<World<D, T, S>, (Fault, D)>
         requires { T.vars table ≡ vars }
-        ensures found { IfOk result (λ w. (s : State) × (used : ℕ) × ((program : Program) → Means w program → Represents program w (opening s used (D.view disk).failures))
-            × ((view_of w).keeps_model → StandsFor vars slots used s (D.view disk).seen)) }
+        ensures found { IfOk result (λ w. (s : State) × (position : Position) × ((program : Program) → Means w program → Represents program w (opening s position (D.view disk).failures))
+            × ((view_of w).keeps_model → StandsFor vars slots position s (D.view disk).seen)) }
         ensures steps { IfOk result (λ w. steps_of w ≡ steps) }
         ensures table { IfOk result (λ w. held_table w ≡ table) }
         ensures fits { IfOk result (λ w. ((numbers_of w).vars ≡ vars) × ((numbers_of w).slots ≡ slots) × HoldsSession w × FitsOn vars slots (D.view disk).capacity) }
         ensures model { IfOk result (λ w. (view_of w).keeps_model → (D.view disk).keeps_model) }
         ensures refused { IfErr result (λ e. OpeningRefused (D.view disk) vars slots
-            ((used : ℕ) × (s : State) × ((D.view e.1).keeps_model → StandsFor vars slots used s (D.view disk).seen)
+            ((position : Position) × (s : State) × ((D.view e.1).keeps_model → StandsFor vars slots position s (D.view disk).seen)
             × ((p : Program) → p.names ≡ T.names table → T.is_stated table p.tests → opening_fault p s ≡ Some e.0))
             e.0 (D.view e.1)) }
 
@@ -94,9 +95,17 @@ impl<D: Disk + Drop, T: Invariants + Drop, S: StoredSteps + Drop> World<D, T, S>
         ensures elsewhere { WritesWithin (slot_place vars 0) (4096 * slots) (D.view disk) (device_after result) }
         ensures looks { LooksWhereClosed vars slots (D.view disk) (device_after result) }
 
+        // A store is opened with its history: what is found is the state after a prefix of it that has every acknowledged
+        // transaction, unless memory or the device fails. A crash at any moment leaves what is safe for the same history.
+        ensures chain { (program : Program) (h : History) → S.is_stated steps program.steps → program.names ≡ T.names table → T.is_stated table program.tests
+            → IsStore program vars slots h (D.view disk) → (device_after result).keeps_model → OpensStore program vars slots h (D.view disk) result }
+
         // Where the numbers do not fit the device, no call of it is made: the one that was handed in is handed back.
         ensures untouched { ¬ FitsOn vars slots (D.view disk).capacity → IfErr result (λ e. e.1 ≡ disk) }
     {
+        // what is found on a store is a state of its history, and that is not refused
+        stands_for_one();
+        refused_stands_for_none();
         let journal = match Journal::open(alloc, disk, vars, slots) {
             Ok(journal) => journal,
             Err(refused) => return Err(refused),
@@ -129,10 +138,14 @@ impl<D: Disk + Drop, T: Invariants + Drop, S: StoredSteps + Drop> World<D, T, S>
         ensures step { IsStep self.old event result self.new }
         ensures reopened { Reopens self.old event result self.new }
 
-        // A crash at any moment of the event leaves the serial order, cut as before the event or as after it. Nothing outside
-        // the log's slots is written.
+        // A crash at any moment of the event leaves the serial order, cut as before the event or as after it. Block 0 is not
+        // written, nor anything behind the log.
         ensures any_moment { EachMoment self.old self.new }
-        ensures elsewhere { WritesWithin (slot_place (numbers_of self.old).vars 0) (4096 * (numbers_of self.old).slots) (view_of self.old) (view_of self.new) }
+        ensures elsewhere { WritesInStore (numbers_of self.old) (view_of self.old) (view_of self.new) }
+
+        // The history of a chain of sessions goes on by the event, and a crash at any moment of it leaves what is safe for the
+        // history before it.
+        ensures chain { StepsOn self.old event result self.new }
 
         ensures failures { (view_of self.new).failures ≡ failures_by result (view_of self.old).failures }
         ensures still { CallsNoDevice (durable_number self.old) event result → device_of self.new ≡ device_of self.old }
@@ -148,6 +161,7 @@ impl<D: Disk + Drop, T: Invariants + Drop, S: StoredSteps + Drop> World<D, T, S>
             Event::Turn { slot } => self.turn(slot),
             Event::Settle { slot } => self.settle(slot),
             Event::Flush => self.flush(),
+            Event::Checkpoint => self.checkpoint(),
             Event::Look => self.look(),
             Event::Reopen => self.reopen(),
         }
@@ -158,7 +172,8 @@ impl<D: Disk + Drop, T: Invariants + Drop, S: StoredSteps + Drop> World<D, T, S>
         requires { All NamesSlot events.items }
         ensures run { IfOk result (λ replies. Plays self.old events.items replies.items self.new) }
         ensures any_device { IfOk result (λ replies. PlaysOnAnyDevice self.old events.items replies.items self.new) }
-        ensures elsewhere { WritesWithin (slot_place (numbers_of self.old).vars 0) (4096 * (numbers_of self.old).slots) (view_of self.old) (view_of self.new) }
+        ensures chain { IfOk result (λ replies. PlaysOn self.old events.items replies.items self.new) }
+        ensures elsewhere { WritesInStore (numbers_of self.old) (view_of self.old) (view_of self.new) }
         ensures failures { IfOk result (λ replies. (view_of self.new).failures ≡ failures_by_all replies.items (view_of self.old).failures) }
         ensures numbers { numbers_of self.new ≡ numbers_of self.old }
         ensures steps { steps_of self.new ≡ steps_of self.old }
@@ -297,7 +312,7 @@ impl<D: Disk + Drop, T: Invariants + Drop, S: StoredSteps + Drop> World<D, T, S>
     fn flush(&mut self) -> Reply
         ensures step { IsStep self.old Event.Flush result self.new }
         ensures any_moment { EachMoment self.old self.new }
-        ensures elsewhere { WritesWithin (slot_place self.old.layout.vars 0) (4096 * self.old.layout.slots) (view_of self.old) (view_of self.new) }
+        ensures elsewhere { WritesInStore self.old.layout (view_of self.old) (view_of self.new) }
         ensures failures { (view_of self.new).failures ≡ failures_by result (view_of self.old).failures }
         ensures still { FlushedNothing (durable_number self.old) result → device_of self.new ≡ device_of self.old }
         ensures layout { self.new.layout ≡ self.old.layout }
@@ -308,6 +323,27 @@ impl<D: Disk + Drop, T: Invariants + Drop, S: StoredSteps + Drop> World<D, T, S>
         match &mut self.held {
             Some(Held::With(session)) => match session.flush() {
                 Ok(durable) => Reply::Durable(durable),
+                Err(fault) => Reply::Fault(fault),
+            },
+            _ => Reply::Fault(Fault::Closed),
+        }
+    }
+
+    // Writes the durable state as the next image, and frees every log slot.
+    fn checkpoint(&mut self) -> Reply
+        ensures step { IsStep self.old Event.Checkpoint result self.new }
+        ensures any_moment { EachMoment self.old self.new }
+        ensures elsewhere { WritesInStore self.old.layout (view_of self.old) (view_of self.new) }
+        ensures failures { (view_of self.new).failures ≡ failures_by result (view_of self.old).failures }
+        ensures still { CheckpointedNothing result → device_of self.new ≡ device_of self.old }
+        ensures layout { self.new.layout ≡ self.old.layout }
+        ensures steps { self.new.steps ≡ self.old.steps }
+        ensures table { held_table self.new ≡ held_table self.old }
+        ensures model { (view_of self.new).keeps_model → (view_of self.old).keeps_model }
+    {
+        match &mut self.held {
+            Some(Held::With(session)) => match session.checkpoint() {
+                Ok(()) => Reply::Checkpointed,
                 Err(fault) => Reply::Fault(fault),
             },
             _ => Reply::Fault(Fault::Closed),

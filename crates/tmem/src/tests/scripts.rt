@@ -98,7 +98,8 @@ const NO_EVENTS: &str = r#"null
 {}
 ""
 "Flush"
-"checkpoint"
+"Checkpoint"
+{"checkpoint":null}
 "begin"
 {"flush":null}
 {"show":0}

@@ -205,16 +205,8 @@ fn a_damaged_block_is_refused(rt: HostRuntime) -> Result<(), Fail> {
 
 #[test]
 fn a_damaged_image_is_refused(rt: HostRuntime) -> Result<(), Fail> {
-    // image copy 0: its gate, its generation, 65 names, a byte behind them and one behind the values; and the gate of image
-    // copy 1
-    let rows = [
-        (512, 0),
-        (513, 2),
-        (529, 65),
-        (2559, 1),
-        (2592, 1),
-        (3072, 0xa5),
-    ];
+    // image copy 0: its gate, its generation, 65 names, a byte behind them and one behind the values
+    let rows = [(512, 0), (513, 0), (529, 65), (2559, 1), (2592, 1)];
     for (place, byte) in rows {
         let disk = changed(rt.alloc(), place, byte)?;
         assert_eq!(rt; refused(rt.alloc(), disk, 4)?.0, Fault::Damaged);

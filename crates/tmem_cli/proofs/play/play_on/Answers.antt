@@ -25,7 +25,7 @@ returns-clause-played g c =
     on_ok_weaker c.play_entries.result
     (λ played. (
       device_of new,
-      λ premise. (so.model (c.play_entries.ensures.model premise), PlaysOn-of (g.D.Disk.view c.args.disk) w new vars slots found.1 c.count.result found.0 _ _ _ c.args.entries.items over log (found.3 (c.play_entries.ensures.model premise)) means set at (c.count.ensures (builtin_program vars) (opening found.0 found.1 0) at) c.in_ok-print_line.ensures.line played premise),
+      λ premise. (so.model (c.play_entries.ensures.model premise), PlaysOn-of (g.D.Disk.view c.args.disk) w new vars slots c.count.result found.1 found.0 _ _ _ c.args.entries.items over log (found.3 (c.play_entries.ensures.model premise)) means set at (c.count.ensures (builtin_program vars) (opening found.0 found.1 0) at) c.in_ok-print_line.ensures.line played premise),
     ))
     c.play_entries.ensures.played
 

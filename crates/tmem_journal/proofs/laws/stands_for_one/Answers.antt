@@ -4,4 +4,4 @@ use Rattle.tmem_journal.proofs.Unique.{one_state_at_most}
 use Rattle.tmem_journal.proofs.laws.stands_for_one.Goals as goal
 
 pub returns : goal.returns
-returns c = λ vars slots used used' s s' content few one other. ∥∥₁_elim one (hlevel props) (λ held. ∥∥₁_elim other (hlevel props) (one_state_at_most vars slots few content used used' s s' held))
+returns c = λ vars slots p q s t content few one other. ∥∥₁_elim one (hlevel props) (λ held. ∥∥₁_elim other (hlevel props) (one_state_at_most vars slots few content p q s t held))

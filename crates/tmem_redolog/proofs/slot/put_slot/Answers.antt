@@ -36,6 +36,7 @@ returns-in-Err g c =
           (by_moment (c.args.at + 1) n old mid (g.met.D.Disk.is_device c.put_body.new.disk) c.put_body.ensures.seen_elsewhere c.put_body.ensures.elsewhere c.put_body.ensures.time);
       stands = or_whole_now old mid c.args.at c.args.bytes.now (once_put old mid c.args.at c.args.bytes.now (g.met.D.Disk.is_device c.put_body.new.disk) c.put_body.ensures.time c.put_body.ensures.any_moment c.put_body.ensures.elsewhere);
       any_moment = or_whole old mid c.args.at c.args.bytes.now (while_put old mid c.args.at c.args.bytes.now (g.met.D.Disk.is_device c.put_body.new.disk) c.put_body.ensures.time c.put_body.ensures.any_moment c.put_body.ensures.elsewhere);
+      durable = search rules;
     }
 
 pub returns-in-Ok-open_gate-clause-elsewhere : goal.returns-in-Ok-open_gate-clause-elsewhere

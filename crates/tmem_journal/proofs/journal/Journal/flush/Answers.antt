@@ -1,10 +1,12 @@
-use Rattle.std.proofs.Common.{length, arith, sym, ◌∙◌, ap, subst}
+use Rattle.std.proofs.Common.{length, arith, refl, sym, ◌∙◌, ap, subst}
 use Rattle.tmem_disk.specs.Disk.{LeavesOnly}
 use Rattle.tmem_record.specs.State.{State, fold}
 use Rattle.tmem_record.proofs.Laws.{count-fold, length-values-fold}
 use Rattle.tmem_redolog.specs.Appends.{placed}
 use Rattle.tmem_redolog.specs.declared.log.Log.{Log}
-use Rattle.tmem_journal.specs.Stands.{StandsFor}
+use Rattle.tmem_journal.specs.Stands.{Position, position_in, next_slot, StandsFor}
+use Rattle.tmem_journal.proofs.Logged.{position_at}
+use Rattle.tmem_journal.proofs.Unique.{same_position}
 use Rattle.tmem_journal.proofs.Flushed.{full_is_not, sure_either, sure_ok, sure_err, moments_ok, moments_err}
 use Rattle.tmem_journal.proofs.journal.Journal.flush.Goals as goal
 
@@ -27,7 +29,7 @@ invariant_of-self-in-Ok-clause-stands g c =
     let new = g.D.Disk.view c.append.new.disk in
     let p = placed j.layout j.log c.count-first.result c.args.batch.now in
     let is = c.accept_all.ensures ∙ ap (fold j.state) c.effects-effects.ensures.effects in
-    sure_either _ (sure_ok old new p j.generation j.state (sym c.count-first.ensures) c.requires.room c.append.ensures.uses.model (j.sure c.if-self.false) c.accept_all.new.state is c.in-Ok.ensures.stands)
+    sure_either _ (sure_ok old new p j.copy j.state (sym c.count-first.ensures) c.requires.room c.append.ensures.uses.model (j.sure c.if-self.false) c.accept_all.new.state is c.in-Ok.ensures.stands)
 
 pub invariant_of-self-in-Ok-clause-sure : goal.invariant_of-self-in-Ok-clause-sure
 invariant_of-self-in-Ok-clause-sure g c = λ running.
@@ -36,8 +38,9 @@ invariant_of-self-in-Ok-clause-sure g c = λ running.
     let new = g.D.Disk.view c.append.new.disk in
     let p = placed j.layout j.log c.count-first.result c.args.batch.now in
     let is = c.accept_all.ensures ∙ ap (fold j.state) c.effects-effects.ensures.effects in
-    subst (λ used. LeavesOnly new (StandsFor j.layout.vars j.layout.slots used c.accept_all.new.state)) (sym c.in-Ok.ensures.next)
-    (sure_ok old new p j.generation j.state (sym c.count-first.ensures) c.requires.room c.append.ensures.uses.model (j.sure running) c.accept_all.new.state is c.in-Ok.ensures.stands)
+    let after = same_position (position_in j.copy c.append.new.log) (next_slot (position_at j.copy p)) refl c.append.ensures.generation c.in-Ok.ensures.next in
+    subst (λ (q : Position). LeavesOnly new (StandsFor j.layout.vars j.layout.slots q c.accept_all.new.state)) (sym after)
+    (sure_ok old new p j.copy j.state (sym c.count-first.ensures) c.requires.room c.append.ensures.uses.model (j.sure running) c.accept_all.new.state is c.in-Ok.ensures.stands)
 
 pub invariant_of-self-in-Ok-clause-ahead : goal.invariant_of-self-in-Ok-clause-ahead
 invariant_of-self-in-Ok-clause-ahead g c = λ running k above below.
@@ -54,7 +57,7 @@ invariant_of-self-in-Err-clause-stands g c =
     let new = g.D.Disk.view c.append.new.disk in
     let p = placed j.layout j.log c.count-first.result c.args.batch.now in
     let not_full = full_is_not c.in-Err.fault j.log.used j.layout.slots c.if-self-2.false c.in-Err.ensures.full in
-    sure_err old new p j.generation j.state (sym c.count-first.ensures) c.requires.room c.append.ensures.uses.model (j.sure c.if-self.false) _ c.in-Err.fault c.in-Err.ensures.errors not_full (ap (fold j.state) c.in_doubt.ensures) c.in-Err.ensures.stands
+    sure_err old new p j.copy j.state (sym c.count-first.ensures) c.requires.room c.append.ensures.uses.model (j.sure c.if-self.false) _ c.in-Err.fault c.in-Err.ensures.errors not_full (ap (fold j.state) c.in_doubt.ensures) c.in-Err.ensures.stands
 
 pub returns-in-Ok-clause-any_moment : goal.returns-in-Ok-clause-any_moment
 returns-in-Ok-clause-any_moment g c =
@@ -63,7 +66,7 @@ returns-in-Ok-clause-any_moment g c =
     let new = g.D.Disk.view c.append.new.disk in
     let p = placed j.layout j.log c.count-first.result c.args.batch.now in
     let is = c.accept_all.ensures ∙ ap (fold j.state) c.effects-effects.ensures.effects in
-    moments_ok old new p j.generation j.state (sym c.count-first.ensures) c.requires.room c.append.ensures.uses.model (j.sure c.if-self.false) c.accept_all.new.state _ _ is c.in-Ok.ensures.any_moment
+    moments_ok old new p j.copy j.state (sym c.count-first.ensures) c.requires.room c.append.ensures.uses.model (j.sure c.if-self.false) c.accept_all.new.state _ _ is c.in-Ok.ensures.any_moment
 
 pub returns-in-Err-clause-any_moment : goal.returns-in-Err-clause-any_moment
 returns-in-Err-clause-any_moment g c =
@@ -72,4 +75,4 @@ returns-in-Err-clause-any_moment g c =
     let new = g.D.Disk.view c.append.new.disk in
     let p = placed j.layout j.log c.count-first.result c.args.batch.now in
     let not_full = full_is_not c.in-Err.fault j.log.used j.layout.slots c.if-self-2.false c.in-Err.ensures.full in
-    moments_err old new p j.generation j.state (sym c.count-first.ensures) c.requires.room c.append.ensures.uses.model (j.sure c.if-self.false) _ _ c.in-Err.fault c.in-Err.ensures.errors not_full (ap (fold j.state) c.in_doubt.ensures) c.in-Err.ensures.any_moment
+    moments_err old new p j.copy j.state (sym c.count-first.ensures) c.requires.room c.append.ensures.uses.model (j.sure c.if-self.false) _ _ c.in-Err.fault c.in-Err.ensures.errors not_full (ap (fold j.state) c.in_doubt.ensures) c.in-Err.ensures.any_moment

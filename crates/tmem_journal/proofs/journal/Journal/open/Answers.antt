@@ -5,6 +5,7 @@ use Rattle.tmem_disk.proofs.Laws.{seen-left, LeavesOnly-synced}
 use Rattle.tmem_record.specs.Layout.{IsLayout}
 use Rattle.tmem_journal.specs.Calls.{FitsOn}
 use Rattle.tmem_journal.specs.Refusals.{IsRefusedBy}
+use Rattle.tmem_journal.specs.Stands.{position_in}
 use Rattle.tmem_journal.proofs.Flushed.{sure_either, found_either, none_refused, wanting, why_fits}
 use Rattle.tmem_journal.proofs.journal.Journal.open.Goals as goal
 
@@ -12,13 +13,13 @@ pub invariant_of-result-clause-sure : goal.invariant_of-result-clause-sure
 invariant_of-result-clause-sure g c = λ _.
     let found = c.in-Ok-recover.found in
     let it = c.in-Ok-recover.ensures in
-    LeavesOnly-synced _ _ it.synced (λ k. (it.seen k).states found.log.used found.state (it.found k))
+    LeavesOnly-synced _ _ it.synced (λ k. (it.seen k).states (position_in found.copy found.log) found.state (it.found k))
 
 pub invariant_of-result-clause-stands : goal.invariant_of-result-clause-stands
 invariant_of-result-clause-stands g c =
     let found = c.in-Ok-recover.found in
     let it = c.in-Ok-recover.ensures in
-    sure_either _ (LeavesOnly-synced _ _ it.synced (λ k. (it.seen k).states found.log.used found.state (it.found k)))
+    sure_either _ (LeavesOnly-synced _ _ it.synced (λ k. (it.seen k).states (position_in found.copy found.log) found.state (it.found k)))
 
 pub returns-in-Err-clause-either : goal.returns-in-Err-clause-either
 returns-in-Err-clause-either g c = λ s t fits left k. absurd (false≢true (c.in-Err.ensures.ok.1 fits.layout))

@@ -1,18 +1,19 @@
-use Rattle.std.proofs.Common.{◌≡◌, ⊎_elim, ◌<◌, ◌+◌, ◌*◌, ◌++◌, ◌∷◌, [], ◌∙◌, List, length, arith, sym, ap, subst, length-append, append_assoc}
+use Rattle.std.proofs.Common.{◌≡◌, ⊎_elim, ◌<◌, ◌+◌, ◌*◌, ◌++◌, ◌∷◌, [], ◌∙◌, List, length, arith, rules, sym, ap, subst, length-append, append_assoc}
 use Rattle.std.specs.Vec.{vec_capacity, vec_len}
 use Rattle.std.proofs.lemmas.Grind.{common_steps}
-use Rattle.tmem_record.specs.Layout.{slot_place}
+use Rattle.tmem_record.specs.Layout.{image_place, image_size}
 use Rattle.tmem_record.specs.declared.layout.Layout.{Layout}
-use Rattle.tmem_gate.specs.Calls.{WritesWithin}
 use Rattle.tmem_gate.proofs.Laws.{WritesWithin-trans}
 use Rattle.tmem_event.specs.declared.event.Event.{Event}
 use Rattle.tmem_event.specs.declared.event.Reply.{Reply}
 use Rattle.tmem_world.specs.WorldModel.{Setting, Run, Allows}
 use Rattle.tmem_world.specs.Replies.{failures_by, failures_by_all, IsAcknowledged}
-use Rattle.tmem_world.specs.Represents.{setting_of, view_of}
+use Rattle.tmem_world.specs.Represents.{WritesInStore, setting_of, view_of}
 use Rattle.tmem_world.proofs.Laws.{keeps_durable, acknowledged-append, run-append, run_on_any_device-append, failures-append, rests_on}
 use Rattle.tmem_world.proofs.AnyDevicePoints.{steps}
 use Rattle.tmem_world.specs.AnyDevice.{AllowsOnAnyDevice, RunOnAnyDevice}
+use Rattle.tmem_world.specs.Chain.{PlaysThrough, history_after}
+use Rattle.tmem_world.proofs.Chains.{plays_through-append}
 use Rattle.tmem_world.proofs.world.World.play.Goals as goal
 
 pub loop-event-preserved : goal.loop-event-preserved
@@ -30,8 +31,8 @@ loop-event-preserved g c =
       steps = c.step-reply.ensures.steps ∙ so.steps;
       table = c.step-reply.ensures.table ∙ so.table;
       model = λ k. so.model (c.step-reply.ensures.model k);
-      elsewhere = WritesWithin-trans (slot_place c.args.self.now.layout.vars 0) (4096 * c.args.self.now.layout.slots) (view_of c.args.self.now) (view_of c.loop-event.self) _ c.step-reply.ensures.model so.elsewhere
-          (subst (λ (l : Layout). WritesWithin (slot_place l.vars 0) (4096 * l.slots) (view_of c.loop-event.self) (view_of c.step-reply.new.self)) so.layout c.step-reply.ensures.elsewhere);
+      elsewhere = WritesWithin-trans (image_place c.args.self.now.layout.vars 0) (2 * image_size c.args.self.now.layout.vars + 4096 * c.args.self.now.layout.slots) (view_of c.args.self.now) (view_of c.loop-event.self) _ c.step-reply.ensures.model so.elsewhere
+          (subst (λ (l : Layout). WritesInStore l (view_of c.loop-event.self) (view_of c.step-reply.new.self)) so.layout c.step-reply.ensures.elsewhere);
       failures = c.step-reply.ensures.failures ∙ ap (failures_by c.step-reply.result) so.failures ∙ sym (failures-append c.loop-event.replies.items c.step-reply.result (view_of c.args.self.now).failures) ∙ ap (λ (rs : List Reply). failures_by_all rs (view_of c.args.self.now).failures) (sym pushed);
       parts = parts;
       long = grind (arith, common_steps, one);
@@ -61,4 +62,26 @@ loop-event-preserved g c =
                 (run_on_any_device-append (setting_of c.args.self.now program) c.loop-event.yielded c.loop-event.replies.items c.in-Some.event c.step-reply.result m before.0 now.0 before.1 allowed),
             now.2,
           );
+      chain = λ program stated h m has k.
+          let before = so.chain program stated h m has (c.step-reply.ensures.model k) in
+          let now = c.step-reply.ensures.chain program (so.means program stated) before.0 before.1 before.3 k in
+          let after = history_after before.1 c.in-Some.event c.step-reply.result before.0 in (
+            after,
+            now.1.0,
+            subst (λ (rs : List Reply). PlaysThrough program c.args.self.now h m (c.loop-event.yielded ++ c.in-Some.event ∷ []) rs c.step-reply.new.self after now.1.0) (sym pushed)
+                (plays_through-append program c.args.self.now h m c.loop-event.yielded c.loop-event.replies.items c.loop-event.self before.0 before.1 before.2 c.in-Some.event c.step-reply.result c.step-reply.new.self now.1.0 now.1.1 now.1.2 now.0),
+            now.1.2,
+          );
     }
+
+pub returns-clause-chain : goal.returns-clause-chain
+returns-clause-chain g c = λ program stated h m has k.
+    let after = c.loop-event.invariant.chain program stated h m has k in
+    let all : c.loop-event.yielded ≡ c.args.events.items = first_of (search rules, grind (arith, common_steps)) in
+    (after.0, after.1, subst (λ (es : List Event). PlaysThrough program c.args.self.now h m es c.loop-event.replies.items c.loop-event.self after.0 after.1) all after.2, after.3)
+
+pub returns-clause-run : goal.returns-clause-run
+returns-clause-run g c = λ program stated m r k.
+    let after = c.loop-event.invariant.run program stated m r k in
+    let all : c.loop-event.yielded ≡ c.args.events.items = first_of (search rules, grind (arith, common_steps)) in
+    (after.0, subst (λ (es : List Event). Run (setting_of c.args.self.now program) m es c.loop-event.replies.items after.0) all after.1, after.2, after.3, after.4)

@@ -51,7 +51,7 @@ returns-in-Ok-begin_session-clause-reopened g c =
     let o = c.in-Ok-begin_session.session in
     let so = c.in-Ok-begin_session.ensures in (
       journal.state_of j,
-      journal.used_slots_of j,
+      journal.position_of j,
       sym (c.count-count.ensures ∙ ap (λ s. s.count) so.state),
       λ program means.
           let here = core_means program _ o refl means in
@@ -59,7 +59,7 @@ returns-in-Ok-begin_session-clause-reopened g c =
           let names = here.names ∙ ap g.T.Invariants.names so.table in
           opens program _ o j (view_of w).failures refl so.journal so.fresh.0 so.fresh.1 so.state opened.fresh.1 (c.clear.ensures.len ∙ w.sized) c.clear.ensures.emptied (failures_before w c.unwrap.result held c.into_parts-disk.result.0 parts.disk (journal.device_of j) (λ n. n) opened.uses.failures)
           (subst (λ ns. IsSound program.tests ns (state_of o.core).names (state_of o.core).values) (sym names) (so.sound program.tests tests)),
-      λ k. seen_before w c.unwrap.result held c.into_parts-disk.result.0 parts.disk (StandsFor w.layout.vars w.layout.slots (journal.used_slots_of j) (journal.state_of j)) (opened.found (subst (λ x. (journal.device_of x).keeps_model) so.journal k)),
+      λ k. seen_before w c.unwrap.result held c.into_parts-disk.result.0 parts.disk (StandsFor w.layout.vars w.layout.slots (journal.position_of j) (journal.state_of j)) (opened.found (subst (λ x. (journal.device_of x).keeps_model) so.journal k)),
       looks_before w c.unwrap.result held c.into_parts-disk.result.0 parts.disk w.layout.vars w.layout.slots (journal.device_of o.journal) (subst (λ x. LooksWhereClosed w.layout.vars w.layout.slots (g.D.Disk.view c.into_parts-disk.result.0) (journal.device_of x)) (sym so.journal) opened.looks),
     )
 

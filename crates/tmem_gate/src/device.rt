@@ -1,0 +1,71 @@
+//! The calls of a device, each failure as a fault.
+ghost use Rattle.std.specs.Prelude.{Some, ◌≡◌, ◌⊎◌, ◌≤◌, ◌+◌, length, slice_range, IfOk, OnOk, OnErr, IfErr};
+ghost use Rattle.tmem_disk.specs.Disk.{Elapses, IsSynced, ReadsAs, overwritten};
+ghost use Rattle.tmem_gate.specs.Calls.{Uses, LooksOnly, WritesWithin};
+
+use std::alloc::Global;
+use tmem_disk::{DeviceFault, Disk, Fault};
+
+/// Fills a buffer with the bytes from a place on. `Device` where the read failed.
+pub fn read<D: Disk>(disk: &mut D, at: u64, into: &mut [u8]) -> Result<(), Fault>
+    requires { at + length into.old ≤ (D.view disk.old).capacity }
+    ensures uses { Uses (D.view disk.old) (D.view disk.new) result }
+    ensures looks { LooksOnly (D.view disk.old) (D.view disk.new) }
+    ensures bytes { (D.view disk.new).keeps_model → OnOk result (into.new ≡ slice_range (D.view disk.old).seen at (at + length into.old)) }
+    ensures err { IfErr result (λ f. f ≡ Fault.Device) }
+    ensures last { OnErr result ((D.view disk.new).last_fault ≡ Some DeviceFault.Read) }
+{
+    match disk.read(at, into) {
+        Ok(()) => Ok(()),
+        Err(_) => Err(Fault::Device),
+    }
+}
+
+/// So many bytes from a place on, by one read. `Memory`, and `Device` where the read failed.
+pub fn read_piece<D: Disk>(
+    alloc: Global,
+    disk: &mut D,
+    at: u64,
+    len: usize,
+) -> Result<Vec<u8>, Fault>
+    requires { at + len ≤ (D.view disk.old).capacity }
+    ensures uses { Uses (D.view disk.old) (D.view disk.new) result }
+    ensures looks { LooksOnly (D.view disk.old) (D.view disk.new) }
+    ensures length { IfOk result (λ piece. length piece.items ≡ len) }
+    ensures bytes { (D.view disk.new).keeps_model → IfOk result (λ piece. piece.items ≡ slice_range (D.view disk.old).seen at (at + len)) }
+    ensures err { IfErr result (λ f. (f ≡ Fault.Memory) ⊎ (f ≡ Fault.Device)) }
+{
+    let mut piece = vec![in alloc; 0; len]?;
+    read(disk, at, &mut piece)?;
+    Ok(piece)
+}
+
+/// Makes everything that was written durable. `Device` where the sync failed.
+pub fn sync<D: Disk>(disk: &mut D) -> Result<(), Fault>
+    ensures uses { Uses (D.view disk.old) (D.view disk.new) result }
+    ensures looks { LooksOnly (D.view disk.old) (D.view disk.new) }
+    ensures time { Elapses (D.view disk.old) (D.view disk.new) (D.view disk.new).may_leave }
+    ensures synced { OnOk result (IsSynced (D.view disk.new)) }
+    ensures err { IfErr result (λ f. f ≡ Fault.Device) }
+    ensures last { OnErr result ((D.view disk.new).last_fault ≡ Some DeviceFault.Sync) }
+{
+    match disk.sync() {
+        Ok(()) => Ok(()),
+        Err(_) => Err(Fault::Device),
+    }
+}
+
+/// Writes over the bytes from a place on. `Device` where the write failed.
+pub fn write<D: Disk>(disk: &mut D, at: u64, bytes: &[u8]) -> Result<(), Fault>
+    requires { at + length bytes.now ≤ (D.view disk.old).capacity }
+    ensures uses { Uses (D.view disk.old) (D.view disk.new) result }
+    ensures written { OnOk result (ReadsAs (D.view disk.new) (overwritten (D.view disk.old).seen at bytes.now)) }
+    ensures elsewhere { WritesWithin at (length bytes.now) (D.view disk.old) (D.view disk.new) }
+    ensures err { IfErr result (λ f. f ≡ Fault.Device) }
+    ensures last { OnErr result ((D.view disk.new).last_fault ≡ Some DeviceFault.Write) }
+{
+    match disk.write_at(at, bytes) {
+        Ok(()) => Ok(()),
+        Err(_) => Err(Fault::Device),
+    }
+}

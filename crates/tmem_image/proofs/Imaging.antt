@@ -1,0 +1,103 @@
+-- An image and its parts.
+use Rattle.std.proofs.Common.{◌≡◌, ◌+◌, ◌*◌, ◌-◌, ◌<◌, ◌^◌, ℕ, ℤ, List, ◌++◌, length, take, drop, replicate, refl, sym, ◌∙◌, ap, arith, append_assoc}
+use Rattle.std.specs.Prelude.{FitsSigned}
+use Rattle.std.specs.Int.{w64}
+use Rattle.tmem_record.specs.Names.{AreRegistered}
+use Rattle.tmem_record.specs.Spelling.{number_bytes, value_bytes, names_bytes}
+use Rattle.tmem_record.specs.State.{State}
+use Rattle.tmem_record.specs.StandsAt.{StandsAt, zero_bytes, values_bytes}
+use Rattle.tmem_record.specs.Layout.{pages_of, image_size}
+use Rattle.tmem_record.proofs.Laws.{length-number_bytes, same_parts, delimits_number, delimits_value, delimits_registered, delimits_all, cut, glue, from_whole, whole_from, length-values_bytes}
+use Rattle.tmem_image.specs.Spelling.{names_body, pages_body, image_body, AreValues, IsImage}
+use Rattle.tmem_image.specs.Framed.{IsPadded}
+use Rattle.tmem_image.proofs.Lengths.{length-names_body, length-image_body}
+
+abbrev rest_of : ℕ → List ℕ
+rest_of vars = zero_bytes (512 * pages_of vars - 8 * vars)
+
+abbrev behind_names : ℕ → State → List ℕ
+behind_names vars s = values_bytes s.values ++ rest_of vars
+
+abbrev behind_count : ℕ → State → List ℕ
+behind_count vars s = names_body s.names ++ behind_names vars s
+
+abbrev behind_generation : ℕ → State → List ℕ
+behind_generation vars s = number_bytes 8 s.count ++ behind_count vars s
+
+image_parts : (vars generation : ℕ) (s : State) → image_body vars generation s ≡ number_bytes 8 generation ++ behind_generation vars s
+unfolding image_body pages_body zero_bytes values_bytes
+image_parts vars generation s = refl
+
+-- where an image's parts stand
+pub record IsSplit (vars generation : ℕ) (s : State) (bytes : List ℕ) : Type 0 where
+  pub first : StandsAt 0 (number_bytes 8 generation) bytes
+  pub count : StandsAt 8 (number_bytes 8 s.count) bytes
+  pub names : StandsAt 16 (names_body s.names) bytes
+  pub values : StandsAt 2047 (values_bytes s.values) bytes
+  pub padded : IsPadded vars bytes
+
+module _ (vars generation : ℕ) (s : State) (registered : AreRegistered s.names) (long : length s.values ≡ vars) (bytes : List ℕ) where
+  after_generation : 0 + length (number_bytes 8 generation) ≡ 8
+  after_generation = omega (arith, length-number_bytes 8 generation)
+
+  after_count : 8 + length (number_bytes 8 s.count) ≡ 16
+  after_count = omega (arith, length-number_bytes 8 s.count)
+
+  after_names : 16 + length (names_body s.names) ≡ 2047
+  after_names = omega (arith, length-names_body s.names registered)
+
+  after_values : 2047 + length (values_bytes s.values) ≡ 2047 + 8 * vars
+  after_values = omega (arith, length-values_bytes s.values)
+
+  pub split_image : bytes ≡ image_body vars generation s → IsSplit vars generation s bytes
+  split_image same =
+      let whole = from_whole (number_bytes 8 generation ++ behind_generation vars s) bytes (same ∙ image_parts vars generation s) in
+      let at_8 = cut 0 8 (number_bytes 8 generation) (behind_generation vars s) bytes after_generation whole in
+      let at_16 = cut 8 16 (number_bytes 8 s.count) (behind_count vars s) bytes after_count at_8.1 in
+      let at_2047 = cut 16 2047 (names_body s.names) (behind_names vars s) bytes after_names at_16.1 in
+      let last = cut 2047 (2047 + 8 * vars) (values_bytes s.values) (rest_of vars) bytes after_values at_2047.1 in
+      record { first = at_8.0; count = at_16.0; names = at_2047.0; values = last.0; padded = last.1 }
+
+  pub join_image : length bytes + 1 ≡ image_size vars → IsSplit vars generation s bytes → bytes ≡ image_body vars generation s
+  join_image size parts =
+      let from_values = glue 2047 (2047 + 8 * vars) (values_bytes s.values) (rest_of vars) bytes after_values parts.values parts.padded in
+      let from_names = glue 16 2047 (names_body s.names) (behind_names vars s) bytes after_names parts.names from_values in
+      let from_count = glue 8 16 (number_bytes 8 s.count) (behind_count vars s) bytes after_count parts.count from_names in
+      let whole = glue 0 8 (number_bytes 8 generation) (behind_generation vars s) bytes after_generation parts.first from_count in
+      let all : length bytes ≡ length (number_bytes 8 generation ++ behind_generation vars s) = omega (arith, size, length-image_body vars generation s registered long, ap length (image_parts vars generation s)) in
+      whole_from (number_bytes 8 generation ++ behind_generation vars s) bytes all whole ∙ sym (image_parts vars generation s)
+
+-- the part of the header that has the names
+pub names_stand : (names : List (List ℕ)) (bytes part : List ℕ) → AreRegistered names → part ≡ take 2031 (drop 16 bytes) → part ≡ names_body names → StandsAt 16 (names_body names) bytes
+names_stand names bytes part registered is same = record { is = ap (λ (n : ℕ). take n (drop 16 bytes)) (length-names_body names registered) ∙ sym is ∙ same }
+
+pub names_part : (names : List (List ℕ)) (bytes part : List ℕ) → AreRegistered names → part ≡ take 2031 (drop 16 bytes) → StandsAt 16 (names_body names) bytes → part ≡ names_body names
+names_part names bytes part registered is stands = is ∙ ap (λ (n : ℕ). take n (drop 16 bytes)) (sym (length-names_body names registered)) ∙ stands.is
+
+-- names and pages of the same bytes
+same_names : (ms ns : List (List ℕ)) (r s : List ℕ) → AreRegistered ms → AreRegistered ns → names_body ms ++ r ≡ names_body ns ++ s → (ms ≡ ns) × (r ≡ s)
+unfolding names_body
+same_names ms ns r s are are' same =
+    let rest : List (List ℕ) → List ℕ = λ names. replicate (2031 - length (names_bytes names)) 0 in
+    let grouped = sym (append_assoc (names_bytes ms) (rest ms) r) ∙ same ∙ append_assoc (names_bytes ns) (rest ns) s in
+    let names = delimits_registered ms ns (rest ms ++ r) (rest ns ++ s) are are' grouped in
+    (names.0, (same_parts (rest ms) (rest ns) r s (ap (λ (l : List (List ℕ)). length (rest l)) names.0) names.1).1)
+
+same_pages : (vars : ℕ) (xs ys : List ℤ) → length xs ≡ length ys → AreValues xs → AreValues ys → pages_body vars xs ≡ pages_body vars ys → xs ≡ ys
+unfolding pages_body
+same_pages vars xs ys long fits fits' same =
+    let rest : List ℕ = replicate (512 * pages_of vars - 8 * vars) 0 in
+    (delimits_all (FitsSigned w64) value_bytes delimits_value xs ys rest rest long fits fits' same).0
+
+-- an image has one generation and one state
+pub one_state : (vars g h : ℕ) (s t : State) → g < 2 ^ 64 → h < 2 ^ 64 → IsImage vars s → IsImage vars t → image_body vars g s ≡ image_body vars h t → (g ≡ h) × (s ≡ t)
+unfolding image_body
+one_state vars g h s t fits_g fits_h fits fits' same =
+    let generation = delimits_number 8 g h (number_bytes 8 s.count ++ (names_body s.names ++ pages_body vars s.values)) (number_bytes 8 t.count ++ (names_body t.names ++ pages_body vars t.values)) (omega (arith, fits_g)) (omega (arith, fits_h)) same in
+    let count = delimits_number 8 s.count t.count (names_body s.names ++ pages_body vars s.values) (names_body t.names ++ pages_body vars t.values) fits.count fits'.count generation.1 in
+    let names = same_names s.names t.names (pages_body vars s.values) (pages_body vars t.values) fits.names fits'.names count.1 in
+    let values = same_pages vars s.values t.values (fits.values ∙ sym fits'.values) fits.numbers fits'.numbers names.1 in
+    (generation.0, ap (λ (k : ℕ). made k s.names s.values) count.0 ∙ ap (λ (l : List (List ℕ)). made t.count l s.values) names.0 ∙ ap (made t.count t.names) values)
+  where
+    made : ℕ → List (List ℕ) → List ℤ → State
+    made m ns xs = record { count = m; names = ns; values = xs }

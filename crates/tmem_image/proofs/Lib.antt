@@ -1,0 +1,10 @@
+pub mod Choices
+pub mod Headers
+pub mod ImageNames
+pub mod Images
+pub mod Imaging
+pub mod Laws
+pub mod Lengths
+pub mod Loading
+pub mod Pages
+pub mod Spared

@@ -1,0 +1,30 @@
+use Rattle.std.proofs.Common.{◌+◌, ◌-◌, ℕ, List, length, take, drop, sym, ◌∙◌, ap, subst}
+use Rattle.std.specs.Prelude.{slice_range}
+use Rattle.tmem_gate.specs.Gate.{IsOpenAt}
+use Rattle.tmem_image.proofs.Loading.{none_for, some_for, image_found, image_there}
+use Rattle.tmem_image.proofs.choosing.load.Goals as goal
+
+pub returns-clause-found : goal.returns-clause-found
+returns-clause-found g c = λ k.
+    let vars = c.args.layout.vars in
+    let copy = c.args.copy in
+    let size = c.image_size-size.result in
+    let seen = (g.D.Disk.view c.args.disk.now).seen in
+    let bytes = c.in_ok-bytes.bytes.items in
+    let read = c.in_ok-bytes.ensures.bytes k ∙ ap (λ (p : ℕ). slice_range seen p (p + size)) c.image.ensures in
+    let opened = subst (λ (l : List ℕ). IsOpenAt 0 l) c.deref.ensures.value (c.reads_open.ensures.0 c.if-not-reads_open.false) in
+    let behind = ap (λ (n : ℕ). take (n - 1) (drop 1 bytes)) (sym c.in_ok-bytes.ensures.length) ∙ ap (λ (l : List ℕ). take (length l - 1) (drop 1 l)) (sym c.deref-2.ensures.value) in
+    some_for _ _ _ _ c.in_ok-read_image.field-0 c.ok_or.result c.ok_or.ensures.value c.in_ok-read_image.ensures.number c.in_ok-read_image.ensures.fits c.in_ok-read_image.ensures.found
+    (λ image number fits same. image_found vars copy size seen bytes c.image_size-size.ensures read image.generation image.state opened number fits (behind ∙ same))
+
+pub returns-clause-refused : goal.returns-clause-refused
+returns-clause-refused g c =
+    none_for _ c.in_ok-read_image.field-0 c.ok_or.result c.ok_or.ensures.value c.in_ok-read_image.ensures.none (λ other k generation s holds.
+    let vars = c.args.layout.vars in
+    let copy = c.args.copy in
+    let size = c.image_size-size.result in
+    let seen = (g.D.Disk.view c.args.disk.now).seen in
+    let bytes = c.in_ok-bytes.bytes.items in
+    let read = c.in_ok-bytes.ensures.bytes k ∙ ap (λ (p : ℕ). slice_range seen p (p + size)) c.image.ensures in
+    let behind = ap (λ (l : List ℕ). take (length l - 1) (drop 1 l)) c.deref-2.ensures.value ∙ ap (λ (n : ℕ). take (n - 1) (drop 1 bytes)) c.in_ok-bytes.ensures.length in
+    other generation s holds.number holds.fits (behind ∙ image_there vars copy size seen bytes c.image_size-size.ensures read generation s holds))

@@ -1,0 +1,20 @@
+use Rattle.std.proofs.Common.{◌≡◌, ◌*◌, take}
+use Rattle.tmem_disk.specs.Disk.{ReadsAs, overwritten}
+use Rattle.tmem_gate.specs.Calls.{WritesWithin}
+use Rattle.tmem_record.specs.Layout.{pages_of}
+use Rattle.tmem_image.specs.Spelling.{AreValues}
+use Rattle.tmem_image.proofs.Pages.{pages_front}
+use Rattle.tmem_image.proofs.spare.write_pages.Given as goal
+
+abbrev pub invariant-loop-page : goal.invariant-loop-page
+invariant-loop-page g l =
+    let now = g.D.Disk.view l.disk in
+    let before = g.D.Disk.view l.fn.disk in
+    record {
+      capacity : now.capacity ≡ before.capacity;
+      model : now.keeps_model → before.keeps_model;
+      failures : now.failures ≡ before.failures;
+      written : ReadsAs now (overwritten before.seen l.at (pages_front l.values l.page));
+      elsewhere : WritesWithin l.at (512 * pages_of l.fn.layout.vars) before now;
+      numbers : AreValues (take (64 * l.page) l.values);
+    }

@@ -1,0 +1,12 @@
+-- What holds of every content, whatever wrote it.
+use Rattle.std.specs.Prelude.{◌≡◌, ℕ, List}
+use Rattle.tmem_record.specs.State.{State}
+use Rattle.tmem_image.specs.Image.{HoldsImage, ChoosesCopy}
+
+-- a copy holds one image at the most
+abbrev pub OneImage : Type 0
+OneImage = (vars copy generation generation' : ℕ) (s s' : State) (c : List ℕ) → HoldsImage vars copy generation s c → HoldsImage vars copy generation' s' c → (generation ≡ generation') × (s ≡ s')
+
+-- one copy is chosen at the most
+abbrev pub OneChoice : Type 0
+OneChoice = (vars copy copy' : ℕ) (c : List ℕ) → ChoosesCopy vars copy c → ChoosesCopy vars copy' c → copy ≡ copy'

@@ -1,0 +1,93 @@
+// The copy that a device chooses.
+ghost use Rattle.std.specs.Prelude.{◌≡◌, ◌⊎◌, ◌≤◌, ◌+◌, ℕ, List, IfOk, IfErr, IfSome, IfNone};
+ghost use Rattle.tmem_gate.specs.Calls.{Uses, LooksOnly, IsWhyNone};
+ghost use Rattle.tmem_record.specs.State.{State as StateOf};
+ghost use Rattle.tmem_record.specs.Layout.{image_place, end_place};
+ghost use Rattle.tmem_image.specs.Spelling.{IsImage};
+ghost use Rattle.tmem_image.specs.Image.{IsGeneration, HoldsImage, ChoosesCopy, HasHead};
+
+use crate::reading::{ImageState, read_image};
+use std::alloc::Global;
+use tmem_disk::{Disk, Fault};
+use tmem_gate::device::{read, read_piece};
+use tmem_gate::reads_open;
+use tmem_record::Layout;
+use tmem_record::bytes::number_at;
+
+// The gate of an image copy, and its generation.
+const HEAD_ROOM: usize = 9;
+
+/// Which copy is chosen: the open one, and of two open ones the one of the greater generation. `Damaged` where none is
+/// open, or both are open over one generation; and `Device` where a read failed.
+pub fn choose<D: Disk>(disk: &mut D, layout: Layout) -> Result<u8, Fault>
+    requires { end_place layout.vars layout.slots ≤ (D.view disk.old).capacity }
+    ensures uses { Uses (D.view disk.old) (D.view disk.new) result }
+    ensures looks { LooksOnly (D.view disk.old) (D.view disk.new) }
+    ensures one { IfOk result (λ copy. copy ≤ 1) }
+    ensures found { (D.view disk.new).keeps_model → IfOk result (λ copy. ChoosesCopy layout.vars copy (D.view disk.old).seen) }
+    ensures errors { IfErr result (λ f. (f ≡ Fault.Device) ⊎ (f ≡ Fault.Damaged)) }
+    ensures refused { IfErr result (IsWhyNone ((D.view disk.new).keeps_model → (copy : ℕ) → ChoosesCopy layout.vars copy (D.view disk.old).seen → ⊥)) }
+{
+    let first = head_at(disk, layout.image(0))?;
+    let second = head_at(disk, layout.image(1))?;
+    greater(first, second).ok_or(Fault::Damaged)
+}
+
+/// Reads the image of a copy, by one read. `Damaged` where the copy holds none; `Memory`; and `Device` where the read
+/// failed.
+pub fn load<D: Disk>(
+    alloc: Global,
+    disk: &mut D,
+    layout: Layout,
+    copy: u8,
+) -> Result<ImageState, Fault>
+    requires room { end_place layout.vars layout.slots ≤ (D.view disk.old).capacity }
+    requires one { copy ≤ 1 }
+    ensures uses { Uses (D.view disk.old) (D.view disk.new) result }
+    ensures looks { LooksOnly (D.view disk.old) (D.view disk.new) }
+    ensures number { IfOk result (λ image. IsGeneration image.generation) }
+    ensures fits { IfOk result (λ image. IsImage layout.vars image.state) }
+    ensures found { (D.view disk.new).keeps_model → IfOk result (λ image. HoldsImage layout.vars copy image.generation image.state (D.view disk.old).seen) }
+    ensures refused { IfErr result (IsWhyNone ((D.view disk.new).keeps_model → (generation : ℕ) (s : StateOf) →
+        HoldsImage layout.vars copy generation s (D.view disk.old).seen → ⊥)) }
+{
+    let size = layout.image_size() as usize;
+    let bytes = read_piece(alloc, disk, layout.image(copy), size)?;
+    if !reads_open(&bytes, 0) {
+        return Err(Fault::Damaged);
+    }
+    read_image(alloc, &bytes[1..], layout.vars)?.ok_or(Fault::Damaged)
+}
+
+// The generation of the cell at a place, where it is open.
+fn head_at<D: Disk>(disk: &mut D, at: u64) -> Result<Option<u64>, Fault>
+    requires { at + 9 ≤ (D.view disk.old).capacity }
+    ensures uses { Uses (D.view disk.old) (D.view disk.new) result }
+    ensures looks { LooksOnly (D.view disk.old) (D.view disk.new) }
+    ensures found { (D.view disk.new).keeps_model → IfOk result (λ head. HasHead at head (D.view disk.old).seen) }
+    ensures err { IfErr result (λ f. f ≡ Fault.Device) }
+{
+    let mut head = [0; HEAD_ROOM];
+    read(disk, at, &mut head)?;
+    if !reads_open(&head, 0) {
+        return Ok(None);
+    }
+    Ok(Some(number_at(&head, 1)))
+}
+
+// The copy of the greater generation, of those that are open.
+fn greater(first: Option<u64>, second: Option<u64>) -> Option<u8>
+    ensures one { IfSome result (λ copy. copy ≤ 1) }
+    ensures found { (vars : ℕ) (c : List ℕ) → HasHead (image_place vars 0) first c → HasHead (image_place vars 1) second c →
+        IfSome result (λ copy. ChoosesCopy vars copy c) }
+    ensures none { (vars : ℕ) (c : List ℕ) → HasHead (image_place vars 0) first c → HasHead (image_place vars 1) second c →
+        IfNone result ((copy : ℕ) → ChoosesCopy vars copy c → ⊥) }
+{
+    match (first, second) {
+        (Some(one), Some(other)) if one == other => None,
+        (Some(one), Some(other)) if one < other => Some(1),
+        (Some(_), _) => Some(0),
+        (None, Some(_)) => Some(1),
+        (None, None) => None,
+    }
+}

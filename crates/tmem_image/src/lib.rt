@@ -1,0 +1,17 @@
+//! Images: a state as a whole, in one of two copies in front of the log.
+//!
+//! `specs/Image.antt` says which copy a content chooses: the open one of the greater generation. `choose` finds it, and
+//! `load` reads an image. `write_spare` writes one to the other copy: a crash (a power cut or a kill) at any moment leaves
+//! that copy as stale as it was, or open over the whole new image.
+#![tactic(auto)]
+
+mod choosing;
+mod reading;
+mod spare;
+mod spelling;
+mod unique;
+
+pub use choosing::{choose, load};
+pub use reading::ImageState;
+pub use spare::write_spare;
+pub use unique::{one_choice, one_image};

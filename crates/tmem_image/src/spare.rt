@@ -1,0 +1,129 @@
+// An image, written to the copy that is not chosen.
+ghost use Rattle.std.specs.Prelude.{◌≡◌, ◌⊎◌, ◌≤◌, ◌<◌, ◌+◌, ◌-◌, ◌*◌, Some, length, take, IfErr, IfSome, IsErrOf, OnOk, OnErr};
+ghost use Rattle.tmem_disk.specs.Disk.{AtEachMoment, IsSynced, IsWriteOrSync, LeavesOnly, ReadsAs, overwritten};
+ghost use Rattle.tmem_gate.specs.Calls.{Uses, WritesWithin, IsReadOrWrite, MadeBy};
+ghost use Rattle.tmem_gate.specs.Gate.{StandsClosed, IsClosedOver};
+ghost use Rattle.tmem_record.specs.Layout.{pages_of, image_place, image_size, end_place};
+ghost use Rattle.tmem_image.specs.Spelling.{image_body, pages_body, AreValues, IsImage};
+ghost use Rattle.tmem_image.specs.Image.{IsGeneration};
+ghost use Rattle.tmem_image.specs.Spare.{Left, placed, Puts, Meanwhile};
+
+use crate::spelling::{PAGE_SIZE, header_of, page_of};
+use tmem_disk::{DeviceFault, Disk, Fault};
+use tmem_gate::device::{sync, write};
+use tmem_gate::{close_gate, is_open, open_gate, put_body};
+use tmem_record::{Layout, State};
+
+// How long a header is, with its gate.
+const HEADER_SIZE: u64 = 2048;
+
+/// Writes an image of this generation and state to a copy: closes its gate where it reads open, and syncs; writes the
+/// pages, then the header without its gate, and syncs; opens the gate, and syncs. `Device` where a read failed, or a write
+/// of anything but the gate that is opened: no crash leaves the image. `Unknown` where a sync or the write of that gate
+/// failed: a crash leaves the image or not. Nothing outside the copy is written. The device is synced, and the image is of
+/// as many values as the layout has variables.
+pub fn write_spare<D: Disk>(
+    disk: &mut D,
+    layout: Layout,
+    copy: u8,
+    generation: u64,
+    state: &State,
+) -> Result<(), Fault>
+    requires room { end_place layout.vars layout.slots ≤ (D.view disk.old).capacity }
+    requires one { copy ≤ 1 }
+    requires number { IsGeneration generation }
+    requires sized { length state.now.values ≡ layout.vars }
+    requires synced { IsSynced (D.view disk.old) }
+    ensures uses { Uses (D.view disk.old) (D.view disk.new) result }
+    ensures errors { IfErr result (λ f. (f ≡ Fault.Device) ⊎ (f ≡ Fault.Unknown)) }
+    ensures call_failed { IsErrOf result Fault.Device → IfSome (D.view disk.new).last_fault IsReadOrWrite }
+    ensures gate_failed { IsErrOf result Fault.Unknown → IfSome (D.view disk.new).last_fault IsWriteOrSync }
+    ensures elsewhere { WritesWithin (image_place layout.vars copy) (image_size layout.vars) (D.view disk.old) (D.view disk.new) }
+
+    // A crash leaves what one might have left before, with the image in that copy, or with that copy as stale as it was.
+    ensures stands { Puts (placed layout copy generation state.now) (D.view disk.old) (D.view disk.new) result }
+    ensures any_moment { AtEachMoment (D.view disk.old) (D.view disk.new)
+        (Meanwhile (placed layout copy generation state.now) (D.view disk.old) result) }
+    ensures durable { OnOk result (IsSynced (D.view disk.new)) }
+{
+    let at = layout.image(copy);
+    shut(disk, at)?;
+    fill(disk, layout, at, generation, state)?;
+    match open_gate(disk, at) {
+        Ok(()) => Ok(()),
+        Err(_) => Err(Fault::Unknown),
+    }
+}
+
+// Closes the gate at a place where it reads open, and syncs then.
+fn shut<D: Disk>(disk: &mut D, at: u64) -> Result<(), Fault>
+    requires place { at < (D.view disk.old).capacity }
+    requires synced { IsSynced (D.view disk.old) }
+    ensures uses { Uses (D.view disk.old) (D.view disk.new) result }
+    ensures errors { IfErr result (λ f. (f ≡ Fault.Device) ⊎ (f ≡ Fault.Unknown)) }
+    ensures call_failed { IsErrOf result Fault.Device → IfSome (D.view disk.new).last_fault IsReadOrWrite }
+    ensures sync_failed { IsErrOf result Fault.Unknown → (D.view disk.new).last_fault ≡ Some DeviceFault.Sync }
+    ensures elsewhere { WritesWithin at 1 (D.view disk.old) (D.view disk.new) }
+    ensures any_moment { AtEachMoment (D.view disk.old) (D.view disk.new) (MadeBy (Left at 1) (D.view disk.old)) }
+    ensures closed { OnOk result (StandsClosed at (D.view disk.new)) }
+{
+    match is_open(disk, at) {
+        Ok(false) => return Ok(()),
+        Ok(true) => {}
+        Err(_) => return Err(Fault::Device),
+    }
+    match close_gate(disk, at) {
+        Ok(()) => {}
+        Err(_) => return Err(Fault::Device),
+    }
+    match sync(disk) {
+        Ok(()) => Ok(()),
+        Err(_) => Err(Fault::Unknown),
+    }
+}
+
+// Writes an image behind a gate that stands closed, and syncs.
+fn fill<D: Disk>(
+    disk: &mut D,
+    layout: Layout,
+    at: u64,
+    generation: u64,
+    state: &State,
+) -> Result<(), Fault>
+    requires room { at + image_size layout.vars ≤ (D.view disk.old).capacity }
+    requires sized { length state.now.values ≡ layout.vars }
+    requires closed { StandsClosed at (D.view disk.old) }
+    ensures uses { Uses (D.view disk.old) (D.view disk.new) result }
+    ensures errors { IfErr result (λ f. (f ≡ Fault.Device) ⊎ (f ≡ Fault.Unknown)) }
+    ensures write_failed { IsErrOf result Fault.Device → (D.view disk.new).last_fault ≡ Some DeviceFault.Write }
+    ensures sync_failed { IsErrOf result Fault.Unknown → (D.view disk.new).last_fault ≡ Some DeviceFault.Sync }
+    ensures elsewhere { WritesWithin (at + 1) (image_size layout.vars - 1) (D.view disk.old) (D.view disk.new) }
+    ensures fits { OnOk result (IsImage layout.vars state.now) }
+    ensures stands { OnOk result (LeavesOnly (D.view disk.new) (IsClosedOver at (image_body layout.vars generation state.now))) }
+{
+    write_pages(disk, layout, at + HEADER_SIZE, state.values())?;
+    match put_body(disk, at, &header_of(generation, state)) {
+        Ok(()) => Ok(()),
+        Err(DeviceFault::Write) => Err(Fault::Device),
+        Err(_) => Err(Fault::Unknown),
+    }
+}
+
+// Writes the pages of these values from a place on, each by one write.
+fn write_pages<D: Disk>(disk: &mut D, layout: Layout, at: u64, values: &[i64]) -> Result<(), Fault>
+    requires room { at + 512 * pages_of layout.vars ≤ (D.view disk.old).capacity }
+    requires sized { length values.now ≡ layout.vars }
+    ensures uses { Uses (D.view disk.old) (D.view disk.new) result }
+    ensures err { IfErr result (λ f. f ≡ Fault.Device) }
+    ensures last { OnErr result ((D.view disk.new).last_fault ≡ Some DeviceFault.Write) }
+    ensures elsewhere { WritesWithin at (512 * pages_of layout.vars) (D.view disk.old) (D.view disk.new) }
+    ensures written { OnOk result (ReadsAs (D.view disk.new) (overwritten (D.view disk.old).seen at (pages_body layout.vars values.now))) }
+    ensures numbers { OnOk result (AreValues values.now) }
+{
+    let pages = layout.pages() as u16;
+    for page in 0..pages {
+        let bytes = page_of(values, page);
+        write(disk, at + PAGE_SIZE as u64 * page as u64, &bytes)?;
+    }
+    Ok(())
+}

@@ -1,0 +1,168 @@
+-- What a crash leaves of a device, while an image of the next generation is written to the other copy, and while the log
+-- is emptied behind it.
+use Rattle.std.proofs.Common.{◌≡◌, ◌⊎◌, inl, inr, ⊎_elim, ℕ, ◌+◌, ◌*◌, ◌≤◌, ◌<◌, ◌^◌, List, [], refl, sym, subst, arith}
+use Rattle.std.specs.Prelude.{Result, Ok, Err}
+use Rattle.std.proofs.Math.Logic.{∥∥₁_map}
+use Rattle.tmem_disk.specs.Disk.{DeviceView, LeavesOnly, AtEachMoment, Elapses, SameOutside}
+use Rattle.tmem_disk.specs.declared.fault.Fault.{Fault}
+use Rattle.tmem_disk.specs.declared.fault.Fault.TheVariants.{Device, Unknown}
+use Rattle.tmem_disk.proofs.Laws.{AtEachMoment-trans}
+use Rattle.tmem_gate.specs.Calls.{MadeBy, WritesWithin}
+use Rattle.tmem_gate.specs.Gate.{IsOpenOver}
+use Rattle.tmem_gate.proofs.Laws.{open_before, open_after, WritesWithin-wider, WritesWithin-trans}
+use Rattle.tmem_record.specs.Layout.{image_place, image_size, slot_place}
+use Rattle.tmem_record.specs.Stale.{IsStale}
+use Rattle.tmem_record.specs.State.{State}
+use Rattle.tmem_record.specs.declared.effect.Effect.{Effect}
+use Rattle.tmem_image.specs.Image.{HoldsImage, other_copy}
+use Rattle.tmem_image.specs.Spare.{Placed, Without, With, Either, Puts, Meanwhile}
+use Rattle.tmem_image.specs.Spelling.{image_body}
+use Rattle.tmem_image.proofs.Laws.{front_of_image}
+use Rattle.tmem_redolog.specs.Closes.{bytes_from, Keeps}
+use Rattle.tmem_redolog.specs.Log.{HoldsLog, IsWithin}
+use Rattle.tmem_redolog.proofs.Laws.{HoldsLog-front, emptied}
+use Rattle.tmem_journal.specs.BlockSpelling.{block_body}
+use Rattle.tmem_journal.specs.Stands.{Position, next_image, HoldsState, StandsFor, StandsForState, StandsForEither}
+use Rattle.tmem_journal.proofs.Lengths.{length-block_body}
+use Rattle.tmem_journal.proofs.Logged.{copy_cases, copy_below, other_one, image_before, state_closed}
+
+-- one copy stands in front of the other, or behind it
+apart : (vars copy : ℕ) → copy ≤ 1 → (image_place vars copy + image_size vars ≤ image_place vars (other_copy copy)) ⊎ (image_place vars (other_copy copy) + image_size vars ≤ image_place vars copy)
+apart vars copy one = ⊎_elim
+    (λ first. inl (subst (λ (k : ℕ). image_place vars k + image_size vars ≤ image_place vars (other_copy k)) (sym first) (omega arith)))
+    (λ second. inr (subst (λ (k : ℕ). image_place vars (other_copy k) + image_size vars ≤ image_place vars k) (sym second) (omega arith)))
+    (copy_cases copy one)
+
+behind_block : (vars copy : ℕ) → 512 ≤ image_place vars copy
+behind_block vars copy = omega arith
+
+-- what is written in one copy changes neither block 0, nor the image in the other, nor the log
+module _ (vars slots copy : ℕ) (one : copy ≤ 1) (b c : List ℕ) (same : SameOutside (image_place vars (other_copy copy)) (image_size vars) b c) where
+  block_aside : IsOpenOver 0 (block_body vars slots) b → IsOpenOver 0 (block_body vars slots) c
+  block_aside block = open_before (image_place vars (other_copy copy)) (image_size vars) 0 (block_body vars slots) b c same (omega (arith, behind_block vars (other_copy copy), length-block_body vars slots)) block
+
+  image_aside : (generation : ℕ) (image : State) → HoldsImage vars copy generation image b → HoldsImage vars copy generation image c
+  image_aside generation image holds = ⊎_elim
+      (λ before. image_before vars copy (image_place vars (other_copy copy)) (image_size vars) generation image b c same before holds)
+      (λ after. record {
+        number = holds.number;
+        fits = holds.fits;
+        cell = open_after (image_place vars (other_copy copy)) (image_size vars) (image_place vars copy) (image_body vars generation image) b c same after holds.cell;
+      })
+      (apart vars copy one)
+
+  log_aside : (generation : ℕ) (image : State) (batches : List (List Effect)) → HoldsLog vars slots generation image batches b → HoldsLog vars slots generation image batches c
+  log_aside generation image batches log = HoldsLog-front vars (image_place vars (other_copy copy)) (image_size vars) b c same (copy_below vars (other_copy copy) (other_one copy)) slots generation image batches log
+
+-- the image of a state that goes next
+abbrev pub next_placed : ℕ → Position → State → Placed
+next_placed vars p s = record { vars = vars; copy = other_copy p.copy; generation = p.generation + 1; state = s }
+
+module _ (vars slots : ℕ) (p : Position) (s : State) (b c : List ℕ) (stands : HoldsState vars slots p s b) where
+  -- without it the old image is chosen, with its log
+  kept_state : Without (next_placed vars p s) b c → HoldsState vars slots p s c
+  kept_state without = record {
+    image = stands.image;
+    batches = stands.batches;
+    holds = record {
+      block = block_aside vars slots p.copy stands.holds.one b c without.elsewhere stands.holds.block;
+      one = stands.holds.one;
+      chosen = image_aside vars slots p.copy stands.holds.one b c without.elsewhere p.generation stands.image stands.holds.chosen;
+      other = without.stale p.generation stands.holds.other;
+      log = log_aside vars slots p.copy stands.holds.one b c without.elsewhere p.generation stands.image stands.batches stands.holds.log;
+    };
+    is_used = stands.is_used;
+    is_state = stands.is_state;
+  }
+
+  back : p.copy ≡ other_copy (other_copy p.copy)
+  back = let one = stands.holds.one in omega (arith, one)
+
+  -- with it that is chosen, and no slot carries its generation
+  written_state : p.generation + 1 < 2 ^ 64 → With (next_placed vars p s) b c → HoldsState vars slots (next_image p) s c
+  written_state fits with =
+      let was = image_aside vars slots p.copy stands.holds.one b c with.elsewhere p.generation stands.image stands.holds.chosen in
+      let head = front_of_image vars p.generation (image_place vars p.copy) stands.image c was.cell in
+      let less : p.generation < p.generation + 1 = omega arith in
+      let stale : IsStale (p.generation + 1) (image_place vars p.copy) c = inr (p.generation, less, head) in
+      let within : IsWithin s = subst (λ (t : State). IsWithin t) stands.is_state stands.holds.log.within in
+      let log = log_aside vars slots p.copy stands.holds.one b c with.elsewhere p.generation stands.image stands.batches stands.holds.log in
+      record {
+        image = s;
+        batches = [];
+        holds = record {
+          block = block_aside vars slots p.copy stands.holds.one b c with.elsewhere stands.holds.block;
+          one = other_one p.copy;
+          chosen = with.image;
+          other = subst (λ (k : ℕ). IsStale (p.generation + 1) (image_place vars k) c) back stale;
+          log = emptied vars slots p.generation (p.generation + 1) stands.image s stands.batches c less fits within log;
+        };
+        is_used = refl;
+        is_state = refl;
+      }
+
+-- a content that stands for one state stands for one of two
+pub state_either : {vars slots : ℕ} {s : State} (t : State) {d : DeviceView} → LeavesOnly d (StandsForState vars slots s) → LeavesOnly d (StandsForEither vars slots s t)
+state_either t stands = record { each = λ k c left. ∥∥₁_map (stands.each k c left) (λ it. (it.0, inl it.1)) }
+
+-- an image that is written where every crash left this state before
+module _ (vars slots : ℕ) (p : Position) (s : State) (fits : p.generation + 1 < 2 ^ 64) (old mid : DeviceView) (model : mid.keeps_model → old.keeps_model) (sure : LeavesOnly old (StandsFor vars slots p s)) where
+  abbrev next : Placed
+  next = next_placed vars p s
+
+  without : old.keeps_model → (c : List ℕ) → MadeBy (Without next) old c → StandsForState vars slots s c
+  without k c from = ∥∥₁_map (sure.each k from.0 from.1) (λ held. (p, kept_state vars slots p s from.0 c held from.2))
+
+  with : old.keeps_model → (c : List ℕ) → MadeBy (With next) old c → StandsFor vars slots (next_image p) s c
+  with k c from = ∥∥₁_map (sure.each k from.0 from.1) (λ held. written_state vars slots p s from.0 c held fits from.2)
+
+  either : old.keeps_model → (c : List ℕ) → MadeBy (Either next) old c → StandsForState vars slots s c
+  either k c from = ⊎_elim
+      (λ no. without k c (from.0, from.1, no))
+      (λ yes. ∥∥₁_map (with k c (from.0, from.1, yes)) (λ held. (next_image p, held)))
+      from.2
+
+  -- whatever was answered
+  pub after_writing : (r : Result (Unit {0}) Fault) → Puts next old mid r → LeavesOnly mid (StandsForState vars slots s)
+  after_writing (Ok x) puts = record { each = λ k c may. ∥∥₁_map (with (model k) c (puts.each k c may)) (λ held. (next_image p, held)) }
+  after_writing (Err Device) puts = record { each = λ k c may. without (model k) c (puts.each k c may) }
+  after_writing (Err Unknown) puts = record { each = λ k c may. either (model k) c (puts.each k c may) }
+  after_writing (Err _) puts = absurd puts
+
+  -- while it is written
+  pub while_writing : (r : Result (Unit {0}) Fault) → AtEachMoment old mid (Meanwhile next old r) → AtEachMoment old mid (StandsForState vars slots s)
+  while_writing (Ok x) during = record { each = λ k c left. either (model k) c (during.each k c left) }
+  while_writing (Err Device) during = record { each = λ k c left. without (model k) c (during.each k c left) }
+  while_writing (Err _) during = record { each = λ k c left. either (model k) c (during.each k c left) }
+
+  -- and then the log is emptied
+  module _ (new : DeviceView) (model_now : new.keeps_model → mid.keeps_model) (puts : LeavesOnly mid (MadeBy (With next) old)) where
+    by_keeps : mid.keeps_model → (c : List ℕ) → MadeBy (Keeps vars slots (p.generation + 1) 0) mid c → StandsFor vars slots (next_image p) s c
+    by_keeps k c from = ∥∥₁_map (with (model k) from.0 (puts.each k from.0 from.1)) (λ held. state_closed vars slots (next_image p) s from.0 c from.2 held)
+
+    any_by_keeps : mid.keeps_model → (c : List ℕ) → MadeBy (Keeps vars slots (p.generation + 1) 0) mid c → StandsForState vars slots s c
+    any_by_keeps k c from = ∥∥₁_map (by_keeps k c from) (λ held. (next_image p, held))
+
+    pub sure_emptied : LeavesOnly new (MadeBy (Keeps vars slots (p.generation + 1) 0) mid) → LeavesOnly new (StandsFor vars slots (next_image p) s)
+    sure_emptied left = record { each = λ k c may. by_keeps (model_now k) c (left.each k c may) }
+
+    pub after_emptying : LeavesOnly new (MadeBy (Keeps vars slots (p.generation + 1) 0) mid) → LeavesOnly new (StandsForState vars slots s)
+    after_emptying left = record { each = λ k c may. any_by_keeps (model_now k) c (left.each k c may) }
+
+    pub while_emptying : (mid.keeps_model → old.moment ≤ mid.moment) → AtEachMoment old mid (StandsForState vars slots s) → Elapses mid new (MadeBy (Keeps vars slots (p.generation + 1) 0) mid) → AtEachMoment old new (StandsForState vars slots s)
+    while_emptying later first time = AtEachMoment-trans old mid new (StandsForState vars slots s) (MadeBy (Keeps vars slots (p.generation + 1) 0) mid) model_now later first time (λ k c from. any_by_keeps (model_now k) c from)
+
+-- an image copy stands between block 0 and the end
+pub copy_within : (vars slots copy : ℕ) → copy ≤ 1 → (old new : DeviceView) → WritesWithin (image_place vars copy) (image_size vars) old new → WritesWithin (image_place vars 0) (2 * image_size vars + 4096 * slots) old new
+copy_within vars slots copy one old new within =
+    WritesWithin-wider (image_place vars copy) (image_size vars) (image_place vars 0) (2 * image_size vars + 4096 * slots) (omega (arith, behind_block vars copy)) (ends (image_place vars copy) (image_size vars) slots (copy_below vars copy one)) old new within
+  where
+    ends : (place size slots : ℕ) → place + size ≤ 512 + 2 * size + 4096 * 0 → place + size ≤ 512 + 0 * size + (2 * size + 4096 * slots)
+    ends place size slots below = omega (arith, below)
+
+-- and so do the slots
+pub renewed_within : (vars slots copy : ℕ) → copy ≤ 1 → (old mid new : DeviceView) → (new.keeps_model → mid.keeps_model) → WritesWithin (image_place vars copy) (image_size vars) old mid → WritesWithin (slot_place vars 0) (bytes_from 0 slots) mid new
+    → WritesWithin (image_place vars 0) (2 * image_size vars + 4096 * slots) old new
+renewed_within vars slots copy one old mid new model first second =
+    WritesWithin-trans (image_place vars 0) (2 * image_size vars + 4096 * slots) old mid new model (copy_within vars slots copy one old mid first)
+    (WritesWithin-wider (slot_place vars 0) (bytes_from 0 slots) (image_place vars 0) (2 * image_size vars + 4096 * slots) (omega arith) (omega arith) mid new second)

@@ -1,6 +1,0 @@
-use Rattle.std.proofs.Common.{ℕ, arith}
-use Rattle.tmem_journal.proofs.Standing.{number_read}
-use Rattle.tmem_journal.proofs.bytes.number_at.Goals as goal
-
-pub returns : goal.returns
-returns c = number_read 8 c.args.at _ c.args.bytes.now (λ (i : ℕ). omega (arith, c.type_inv.bytes i)) c.requires c.read_u64.ensures

@@ -1,0 +1,53 @@
+// A new image, and an empty log behind it.
+ghost use Rattle.std.specs.Prelude.{◌≡◌, ◌⊎◌, ◌<◌, ◌≤◌, ◌+◌, ◌*◌, ◌^◌, ℕ, length, OnOk, OnErr, IfErr, IfSome, IsErrOf};
+ghost use Rattle.tmem_disk.specs.Disk.{AtEachMoment, IsSynced, IsWriteOrSync, LeavesOnly};
+ghost use Rattle.tmem_gate.specs.Calls.{Uses, WritesWithin, IsReadOrWrite};
+ghost use Rattle.tmem_gate.specs.Gate.{StandsClosed};
+ghost use Rattle.tmem_record.specs.Layout.{image_place, image_size, slot_place, end_place};
+ghost use Rattle.tmem_redolog.specs.Closes.{empty_log};
+ghost use Rattle.tmem_journal.specs.Stands.{position_in, next_image, StandsFor, StandsForState};
+
+use tmem_disk::{Disk, Fault};
+use tmem_image::write_spare;
+use tmem_record::{Layout, State};
+use tmem_redolog::{Log, empty};
+
+/// Writes the state of a device as an image of the next generation to the copy that is not chosen, and empties the log
+/// then. `Device` where a read failed, or a write of anything but the gate that opens the image; `Unknown` where a sync or
+/// the write of that gate failed. A crash at any moment, or after any answer, leaves a content that stands for this state.
+pub(crate) fn renew<D: Disk>(
+    disk: &mut D,
+    layout: Layout,
+    copy: u8,
+    log: &mut Log,
+    state: &State,
+) -> Result<(), Fault>
+    requires room { end_place layout.vars layout.slots ≤ (D.view disk.old).capacity }
+    requires one { copy ≤ 1 }
+    requires number { log.old.generation + 1 < 2 ^ 64 }
+    requires sized { length state.now.values ≡ layout.vars }
+    requires synced { IsSynced (D.view disk.old) }
+    requires stands { LeavesOnly (D.view disk.old) (StandsFor layout.vars layout.slots (position_in copy log.old) state.now) }
+    ensures uses { Uses (D.view disk.old) (D.view disk.new) result }
+    ensures errors { IfErr result (λ f. (f ≡ Fault.Device) ⊎ (f ≡ Fault.Unknown)) }
+    ensures call_failed { IsErrOf result Fault.Device → IfSome (D.view disk.new).last_fault IsReadOrWrite }
+    ensures gate_failed { IsErrOf result Fault.Unknown → IfSome (D.view disk.new).last_fault IsWriteOrSync }
+
+    // Block 0 is not written, nor anything behind the slots.
+    ensures elsewhere { WritesWithin (image_place layout.vars 0) (2 * image_size layout.vars + 4096 * layout.slots)
+        (D.view disk.old) (D.view disk.new) }
+
+    // After `Ok` the image that was written is the chosen one, and its log is empty: each slot stands closed.
+    ensures any_moment { AtEachMoment (D.view disk.old) (D.view disk.new) (StandsForState layout.vars layout.slots state.now) }
+    ensures stands { LeavesOnly (D.view disk.new) (StandsForState layout.vars layout.slots state.now) }
+    ensures sure { OnOk result (LeavesOnly (D.view disk.new)
+        (StandsFor layout.vars layout.slots (next_image (position_in copy log.old)) state.now)) }
+    ensures closed { OnOk result ((k : ℕ) → k < layout.slots → StandsClosed (slot_place layout.vars k) (D.view disk.new)) }
+    ensures durable { OnOk result (IsSynced (D.view disk.new)) }
+    ensures emptied { OnOk result (log.new ≡ empty_log (log.old.generation + 1)) }
+    ensures stays { OnErr result (log.new ≡ log.old) }
+{
+    let generation = log.generation + 1;
+    write_spare(disk, layout, 1 - copy, generation, state)?;
+    empty(disk, &layout, log, generation)
+}

@@ -1,0 +1,319 @@
+//! Checkpoints: what they free, what they keep, and what a stop inside one leaves.
+ghost use Rattle.std.specs.Prelude.{◌≡◌, IfOk};
+ghost use Rattle.tmem_disk.specs.SimParts.{view_of};
+ghost use Rattle.tmem_world.specs.Represents.{numbers_of, HoldsSession};
+
+use super::no_closures::{AlwaysRetries, AlwaysTrue};
+use super::{commit, committed, formatted, write};
+use std::alloc::Global;
+use std::test::Fail;
+use tmem_disk::{Disk, Fault, Fill, SimDisk};
+use tmem_world::{Event, Reply, World};
+
+/// What these tests play on: a world of four variables and two log slots.
+type Small = World<SimDisk, AlwaysTrue, AlwaysRetries>;
+
+/// How long its device is. Copy 1 of the image begins at 3072, slot 0 at 5632, and slot 1 at 9728.
+const SIZE: u64 = 13824;
+
+/// Opens a device.
+fn small(alloc: Global, disk: SimDisk) -> Result<Small, Fault>
+    ensures { IfOk result (λ world. ((numbers_of world).vars ≡ 4) × HoldsSession world) }
+{
+    let opened = World::open(alloc, disk, 4, 2, AlwaysTrue { vars: 4 }, AlwaysRetries);
+    match opened {
+        Ok(world) => Ok(world),
+        Err(refusal) => Err(refusal.0),
+    }
+}
+
+/// What opening a device is refused by, and the device.
+fn refused(alloc: Global, disk: SimDisk) -> Option<(Fault, SimDisk)> {
+    World::open(alloc, disk, 4, 2, AlwaysTrue { vars: 4 }, AlwaysRetries).err()
+}
+
+/// A device that holds nothing yet.
+fn empty(alloc: Global) -> Result<SimDisk, Fail>
+    ensures { IfOk result (λ disk. (view_of disk).capacity ≡ SIZE) }
+{
+    let disk = formatted(alloc, 4, 2)?;
+    if disk.size() != SIZE {
+        return Err(Fail::new("another size"));
+    }
+    Ok(disk)
+}
+
+/// Writes a number to variable 0, and flushes.
+fn flushed(alloc: Global, world: &mut Small, number: i64) -> Result<Reply, Fail>
+    ensures { numbers_of world.new ≡ numbers_of world.old }
+{
+    let tx = write(alloc, 0, number)?;
+    let _ = commit(world, tx);
+    Ok(world.step(Event::Flush))
+}
+
+/// A world with both slots used: 1 was written to variable 0, then 2.
+fn full(alloc: Global) -> Result<Small, Fail>
+    ensures { IfOk result (λ world. (numbers_of world).vars ≡ 4) }
+{
+    let mut world = small(alloc, empty(alloc)?)?;
+    let _ = flushed(alloc, &mut world, 1)?;
+    let _ = flushed(alloc, &mut world, 2)?;
+    Ok(world)
+}
+
+/// How many transactions a device is found to hold, and the value of variable 0.
+fn found_on(alloc: Global, disk: SimDisk) -> Result<(u64, i64), Fail> {
+    let world = small(alloc, disk)?;
+    Ok((world.count(), world.value(0)))
+}
+
+#[test]
+fn a_checkpoint_frees_a_full_log(rt: HostRuntime) -> Result<(), Fail> {
+    let alloc = rt.alloc();
+    let mut world = full(alloc)?;
+    assert!(rt; flushed(alloc, &mut world, 3)? == Reply::Fault(Fault::LogFull));
+    assert!(rt; world.step(Event::Checkpoint) == Reply::Checkpointed);
+    assert!(rt; world.step(Event::Flush) == Reply::Durable(3));
+    assert!(rt; world.step(Event::Reopen) == Reply::Opened(3));
+    assert!(rt; world.is_open());
+    assert_eq!(rt; (world.count(), world.value(0)), (3, 3));
+    Ok(())
+}
+
+#[test]
+fn the_bytes_of_a_checkpoint(rt: HostRuntime) -> Result<(), Fail> {
+    let mut world = full(rt.alloc())?;
+    assert!(rt; flushed(rt.alloc(), &mut world, 3)? == Reply::Fault(Fault::LogFull));
+    assert!(rt; world.step(Event::Checkpoint) == Reply::Checkpointed);
+    let mut disk = world.into_disk();
+    assert_eq!(rt; disk.size(), SIZE);
+    // copy 1: its gate, its generation, its count and no names; and variable 0, which is 2
+    let mut image = [1; 18];
+    disk.read(3072, &mut image)?;
+    assert_eq!(rt;
+        image,
+        [0xa5, 2, 0, 0, 0, 0, 0, 0, 0, 2, 0, 0, 0, 0, 0, 0, 0, 0]
+    );
+    let mut value = [1; 8];
+    disk.read(5120, &mut value)?;
+    assert_eq!(rt; value, [2, 0, 0, 0, 0, 0, 0, 0]);
+    // copy 0 is as it was, and the slots are closed
+    let mut old = [0; 2];
+    disk.read(512, &mut old)?;
+    assert_eq!(rt; old, [0xa5, 1]);
+    let mut gate = [1];
+    disk.read(5632, &mut gate)?;
+    assert_eq!(rt; gate, [0]);
+    disk.read(9728, &mut gate)?;
+    assert_eq!(rt; gate, [0]);
+    Ok(())
+}
+
+/// What a checkpoint over a full log answers on a device that stops at a write of it, and what the stop left.
+fn torn(alloc: Global, k: u64, byte: u8) -> Result<(Reply, SimDisk), Fail> {
+    let mut disk = full(alloc)?.into_disk();
+    disk.stop_at_write(k, Fill::Byte(byte));
+    let mut world = small(alloc, disk)?;
+    let reply = world.step(Event::Checkpoint);
+    let mut disk = world.into_disk();
+    if !disk.is_stopped() {
+        return Err(Fail::new("it did not stop"));
+    }
+    disk.restart();
+    Ok((reply, disk))
+}
+
+#[test]
+fn a_torn_checkpoint_loses_nothing(rt: HostRuntime) -> Result<(), Fail> {
+    let alloc = rt.alloc();
+    // the page, the header, the gate of the image and those of the slots; and whether the log is free then
+    let rows = [
+        (0, 0xA5, Fault::Device, Reply::Fault(Fault::LogFull)),
+        (0, 0x37, Fault::Device, Reply::Fault(Fault::LogFull)),
+        (1, 0xA5, Fault::Device, Reply::Fault(Fault::LogFull)),
+        (1, 0x37, Fault::Device, Reply::Fault(Fault::LogFull)),
+        (2, 0xA5, Fault::Unknown, Reply::Durable(3)),
+        (2, 0x37, Fault::Unknown, Reply::Fault(Fault::LogFull)),
+        (3, 0xA5, Fault::Device, Reply::Durable(3)),
+        (3, 0x37, Fault::Device, Reply::Durable(3)),
+        (4, 0xA5, Fault::Device, Reply::Durable(3)),
+        (4, 0x37, Fault::Device, Reply::Durable(3)),
+    ];
+    for (k, byte, fault, next) in rows {
+        let (reply, disk) = torn(alloc, k, byte)?;
+        assert!(rt; reply == Reply::Fault(fault));
+        assert_eq!(rt; found_on(alloc, disk)?, (2, 2));
+        let (_, disk) = torn(alloc, k, byte)?;
+        let mut world = small(alloc, disk)?;
+        assert!(rt; flushed(alloc, &mut world, 3)? == next);
+    }
+    Ok(())
+}
+
+/// What is found after a checkpoint that stopped at the gate of the new image and left it open, and an opening that
+/// stopped at the gate of slot 0.
+fn torn_twice(alloc: Global, byte: u8) -> Result<(u64, i64), Fail> {
+    let (_, mut disk) = torn(alloc, 2, 0xA5)?;
+    disk.stop_at_write(0, Fill::Byte(byte));
+    let Some((fault, mut disk)) = refused(alloc, disk) else {
+        return Err(Fail::new("it was opened"));
+    };
+    if fault != Fault::Device || !disk.is_stopped() {
+        return Err(Fail::new("it did not stop"));
+    }
+    disk.restart();
+    found_on(alloc, disk)
+}
+
+#[test]
+fn a_torn_opening_behind_a_torn_checkpoint_loses_nothing(rt: HostRuntime) -> Result<(), Fail> {
+    assert_eq!(rt; torn_twice(rt.alloc(), 0xA5)?, (2, 2));
+    assert_eq!(rt; torn_twice(rt.alloc(), 0x37)?, (2, 2));
+    Ok(())
+}
+
+#[test]
+fn a_torn_checkpoint_closes_the_session(rt: HostRuntime) -> Result<(), Fail> {
+    let alloc = rt.alloc();
+    let mut disk = full(alloc)?.into_disk();
+    // the opening syncs once; the image is synced behind its header and its gate
+    disk.fail_sync(1);
+    let mut world = small(alloc, disk)?;
+    assert!(rt; world.step(Event::Checkpoint) == Reply::Fault(Fault::Unknown));
+    assert!(rt; world.step(Event::Checkpoint) == Reply::Fault(Fault::Closed));
+    assert!(rt; flushed(alloc, &mut world, 3)? == Reply::Fault(Fault::Closed));
+    assert!(rt; world.step(Event::Reopen) == Reply::Opened(2));
+    assert!(rt; world.step(Event::Checkpoint) == Reply::Checkpointed);
+    Ok(())
+}
+
+#[test]
+fn with_no_session_there_is_no_checkpoint(rt: HostRuntime) -> Result<(), Fail> {
+    let mut disk = empty(rt.alloc())?;
+    // each opening syncs once
+    disk.fail_sync(1);
+    let mut world = small(rt.alloc(), disk)?;
+    assert!(rt; world.step(Event::Reopen) == Reply::Fault(Fault::Device));
+    assert!(rt; world.step(Event::Checkpoint) == Reply::Fault(Fault::Closed));
+    assert!(rt; world.step(Event::Reopen) == Reply::Opened(0));
+    assert!(rt; world.step(Event::Checkpoint) == Reply::Checkpointed);
+    Ok(())
+}
+
+#[test]
+fn two_images_of_one_generation_are_damage(rt: HostRuntime) -> Result<(), Fail> {
+    let mut disk = empty(rt.alloc())?;
+    let mut image = [0; 2560];
+    disk.read(512, &mut image)?;
+    disk.write_at(3072, &image)?;
+    let fault = refused(rt.alloc(), disk).map(|refusal| refusal.0);
+    assert_eq!(rt; fault, Some(Fault::Damaged));
+    Ok(())
+}
+
+#[test]
+fn an_open_image_of_a_lesser_generation_counts_for_nothing(rt: HostRuntime) -> Result<(), Fail> {
+    let mut disk = full(rt.alloc())?.into_disk();
+    assert_eq!(rt; disk.size(), SIZE);
+    // copy 1 over generation 0, which no image has
+    disk.write_at(3072, &[0xA5])?;
+    assert_eq!(rt; found_on(rt.alloc(), disk)?, (2, 2));
+    Ok(())
+}
+
+#[test]
+fn a_checkpoint_with_nothing_behind_another(rt: HostRuntime) -> Result<(), Fail> {
+    let mut world = full(rt.alloc())?;
+    assert!(rt; world.step(Event::Checkpoint) == Reply::Checkpointed);
+    assert!(rt; world.step(Event::Checkpoint) == Reply::Checkpointed);
+    assert!(rt; world.step(Event::Reopen) == Reply::Opened(2));
+    assert!(rt; world.is_open());
+    assert_eq!(rt; (world.count(), world.value(0)), (2, 2));
+    let mut disk = world.into_disk();
+    assert_eq!(rt; disk.size(), SIZE);
+    // the third image is in copy 0, and the second one still in copy 1
+    let mut image = [0; 2];
+    disk.read(512, &mut image)?;
+    assert_eq!(rt; image, [0xA5, 3]);
+    disk.read(3072, &mut image)?;
+    assert_eq!(rt; image, [0xA5, 2]);
+    Ok(())
+}
+
+/// What a transaction and its flush, a checkpoint and a reopening are answered.
+fn round(alloc: Global, world: &mut Small, number: i64) -> Result<[Reply; 3], Fail>
+    ensures { numbers_of world.new ≡ numbers_of world.old }
+{
+    let flushed = flushed(alloc, world, number)?;
+    let checkpointed = world.step(Event::Checkpoint);
+    let opened = world.step(Event::Reopen);
+    Ok([flushed, checkpointed, opened])
+}
+
+/// What these are answered where all goes well and so many transactions are durable then.
+fn good_round(count: u64) -> [Reply; 3] {
+    [
+        Reply::Durable(count),
+        Reply::Checkpointed,
+        Reply::Opened(count),
+    ]
+}
+
+#[test]
+fn five_checkpoints_with_transactions_between_them(rt: HostRuntime) -> Result<(), Fail> {
+    let alloc = rt.alloc();
+    let mut world = small(alloc, empty(alloc)?)?;
+    assert!(rt; round(alloc, &mut world, 10)? == good_round(1));
+    assert!(rt; round(alloc, &mut world, 20)? == good_round(2));
+    assert!(rt; round(alloc, &mut world, 30)? == good_round(3));
+    assert!(rt; round(alloc, &mut world, 40)? == good_round(4));
+    assert!(rt; round(alloc, &mut world, 50)? == good_round(5));
+    assert!(rt; world.is_open());
+    assert_eq!(rt; (world.count(), world.value(0)), (5, 50));
+    Ok(())
+}
+
+#[test]
+fn what_waits_at_a_checkpoint_goes_on_waiting(rt: HostRuntime) -> Result<(), Fail> {
+    let alloc = rt.alloc();
+    let mut world = small(alloc, empty(alloc)?)?;
+    assert!(rt; commit(&mut world, write(alloc, 0, 5)?) == committed(0, 5));
+    let tx = write(alloc, 0, 6)?;
+    assert!(rt; world.step(Event::Begin { slot: 1, tx }) == Reply::Begun);
+    assert!(rt; world.step(Event::Checkpoint) == Reply::Checkpointed);
+    assert!(rt; world.step(Event::Look) == Reply::Looked(0));
+    // the slot still holds its plan
+    assert!(rt; world.step(Event::Turn { slot: 1 }) == Reply::Ended);
+    assert!(rt; world.step(Event::Settle { slot: 1 }) == committed(1, 6));
+    assert!(rt; world.step(Event::Flush) == Reply::Durable(2));
+    assert!(rt; world.step(Event::Reopen) == Reply::Opened(2));
+    Ok(())
+}
+
+#[test]
+fn a_checkpoint_makes_nothing_durable(rt: HostRuntime) -> Result<(), Fail> {
+    let alloc = rt.alloc();
+    let mut world = small(alloc, empty(alloc)?)?;
+    assert!(rt; commit(&mut world, write(alloc, 0, 5)?) == committed(0, 5));
+    assert!(rt; world.step(Event::Checkpoint) == Reply::Checkpointed);
+    assert!(rt; world.step(Event::Reopen) == Reply::Opened(0));
+    Ok(())
+}
+
+#[test]
+fn behind_the_greatest_generation_there_is_no_checkpoint(rt: HostRuntime) -> Result<(), Fail> {
+    let alloc = rt.alloc();
+    let mut disk = empty(alloc)?;
+    disk.write_at(513, &[0xFF; 8])?;
+    let mut world = small(alloc, disk)?;
+    assert_eq!(rt; (world.count(), world.value(0)), (0, 0));
+    assert!(rt; world.step(Event::Checkpoint) == Reply::Fault(Fault::Spent));
+    // the session stands, and its log takes what it has room for
+    assert!(rt; flushed(alloc, &mut world, 1)? == Reply::Durable(1));
+    assert!(rt; flushed(alloc, &mut world, 2)? == Reply::Durable(2));
+    assert!(rt; flushed(alloc, &mut world, 3)? == Reply::Fault(Fault::LogFull));
+    assert!(rt; world.step(Event::Checkpoint) == Reply::Fault(Fault::Spent));
+    assert!(rt; world.step(Event::Reopen) == Reply::Opened(2));
+    Ok(())
+}

@@ -1,0 +1,146 @@
+-- Prefixes of a history, and the contents that stand for the states after them.
+use Rattle.std.proofs.Common.{◌≡◌, ◌⊎◌, ⊎_elim, ℕ, zero, suc, ◌+◌, ◌-◌, ◌≤◌, List, [], ◌∷◌, ◌++◌, length, take, refl, sym, ◌∙◌, ap, subst, arith, append-nil, length-append}
+use Rattle.std.proofs.Math.Logic.{∥∥₁_map}
+use Rattle.std.proofs.Props.{props}
+use Rattle.tmem_disk.specs.Disk.{DeviceView}
+use Rattle.tmem_record.specs.State.{State, first_state}
+use Rattle.tmem_record.specs.Layout.{end_place}
+use Rattle.tmem_tree.specs.declared.tx.Tx.{Tx}
+use Rattle.tmem_tree.specs.declared.settled.Settled.{Settled}
+use Rattle.tmem_tree.specs.declared.settled.Settled.TheVariants.{Committed, Seen, Retry, Aborted, Refused}
+use Rattle.tmem_invariants.specs.Meanings.{IsSound}
+use Rattle.tmem_core.specs.Program.{Program}
+use Rattle.tmem_core.specs.Verdict.{serial_state, state_after, IsCommitted, AreCommitted}
+use Rattle.tmem_core.proofs.Laws.{serial_state-append, count-committed}
+use Rattle.tmem_journal.specs.Calls.{FitsOn}
+use Rattle.tmem_journal.specs.Mended.{Mends, MendedBy}
+use Rattle.tmem_journal.specs.Stands.{Position, HoldsState, StandsFor, StandsForEither}
+use Rattle.tmem_world.specs.declared.held.Held.{Held}
+use Rattle.tmem_world.specs.declared.held.Held.TheVariants.{With, Without}
+use Rattle.tmem_world.specs.declared.world.World.{World}
+use Rattle.tmem_world.specs.Parts.{disk_in, layout_in}
+use Rattle.tmem_world.specs.WorldModel.{WorldModel, opening, cut}
+use Rattle.tmem_world.specs.Represents.{IsNumbered, Represents, StandsCut, held_of, view_of}
+use Rattle.tmem_world.specs.Chain.{History, IsSafePrefix, IsSafe, IsStore, GoesOn, Carries, state_at, history_found}
+use Rattle.tmem_world.proofs.Serial.{committed-take, length-take}
+
+-- a beginning that ends in the second of two lists
+pub take_behind : (xs ys : List Tx) (n k : ℕ) → n ≡ length xs + k → take n (xs ++ ys) ≡ xs ++ take k ys
+take_behind [] ys n k is = ap (λ (j : ℕ). take j ys) (omega (arith, is))
+take_behind (x ∷ xs) ys zero k is = absurd (omega (arith, is))
+take_behind (x ∷ xs) ys (suc n) k is = ap (λ (l : List Tx). x ∷ l) (take_behind xs ys n k (omega (arith, is)))
+
+module _ (program : Program) where
+  committed-append : (s : State) (txs more : List Tx) → AreCommitted program s txs → AreCommitted program (serial_state program s txs) more → AreCommitted program s (txs ++ more)
+  committed-append s [] more are then = then
+  committed-append s (t ∷ txs) more are then = (are.0, committed-append (state_after program s t) txs more are.1 then)
+
+  committed-prop : (v : Settled) → IsProp (IsCommitted v)
+  committed-prop (Committed number registers) = hlevel
+  committed-prop (Seen at registers) = hlevel
+  committed-prop Retry = hlevel
+  committed-prop (Aborted code) = hlevel
+  committed-prop (Refused name) = hlevel
+
+  each-prop : (s : State) (txs : List Tx) → IsProp (AreCommitted program s txs)
+  each-prop s [] = hlevel
+  each-prop s (t ∷ txs) = hlevel (committed-prop, each-prop (state_after program s t) txs)
+
+  module _ (vars : ℕ) (h : History) where
+    -- that a prefix is safe is one fact
+    pub safe-prop : (n : ℕ) → IsProp (IsSafePrefix program vars h n)
+    safe-prop n = hlevel (props, each-prop)
+
+    -- the count of the state after a safe prefix
+    pub count_at : (n : ℕ) → IsSafePrefix program vars h n → (state_at program vars h n).count ≡ n
+    count_at n safe = omega (arith, count-committed program (first_state vars) (take n h.accepted) safe.each, length-take n h.accepted safe.accepted)
+
+    -- a run that begins at a safe prefix goes on with the history that was found
+    pub goes_on_from : (n : ℕ) (position : Position) (failures : ℕ) → IsSafePrefix program vars h n → GoesOn program vars (history_found n h) (opening (state_at program vars h n) position failures)
+    goes_on_from n position failures safe = record {
+      found = take n h.accepted;
+      each = safe.each;
+      opened = refl;
+      accepted = sym (append-nil (take n h.accepted));
+      acknowledged = omega (arith, count_at n safe);
+      present = refl;
+    }
+
+    module _ (slots : ℕ) where
+      -- a content that stands for one of two states, each of which is that after a safe prefix, is safe
+      pub safe_either : (a b : State) (i j : ℕ) → a ≡ state_at program vars h i → b ≡ state_at program vars h j → IsSafePrefix program vars h i → IsSafePrefix program vars h j → (c : List ℕ) → StandsForEither vars slots a b c → IsSafe program vars slots h c
+      safe_either a b i j is_a is_b safe_i safe_j c it = ∥∥₁_map it (λ (found : (p : Position) × (HoldsState vars slots p a c ⊎ HoldsState vars slots p b c)). ⊎_elim
+          (λ (one : HoldsState vars slots found.0 a c). (i, safe_i, (found.0, subst (λ (s : State). StandsFor vars slots found.0 s c) is_a ∣ one ∣₁)))
+          (λ (other : HoldsState vars slots found.0 b c). (j, safe_j, (found.0, subst (λ (s : State). StandsFor vars slots found.0 s c) is_b ∣ other ∣₁)))
+          found.1)
+
+      -- closing gates behind the log leaves it safe
+      safe_mended : (b c : List ℕ) → Mends vars slots b c → IsSafe program vars slots h b → IsSafe program vars slots h c
+      safe_mended b c mends it = ∥∥₁_map it (λ (x : (n : ℕ) × IsSafePrefix program vars h n × ((p : Position) × StandsFor vars slots p (state_at program vars h n) b)).
+          (x.0, x.1, (x.2.0, mends.states x.2.0 (state_at program vars h x.0) x.2.1)))
+
+      -- so it is of each content that a crash of a store might have left
+      pub mended_safe : (d : DeviceView) → IsStore program vars slots h d → d.keeps_model → (c : List ℕ) → MendedBy vars slots d c → IsSafe program vars slots h c
+      mended_safe d store keeps c from = safe_mended from.0 c from.2 (store.device.each keeps from.0 from.1)
+
+    module _ (m : WorldModel) (goes : GoesOn program vars h m) where
+      -- how many were accepted before the opening
+      pub count_found : m.opened.count ≡ length goes.found
+      count_found = omega (arith, ap (λ (s : State). s.count) goes.opened, count-committed program (first_state vars) goes.found goes.each)
+
+      take_found : (n : ℕ) → m.opened.count ≤ n → take n h.accepted ≡ goes.found ++ take (n - m.opened.count) m.accepted
+      take_found n from = ap (take n) goes.accepted ∙ take_behind goes.found m.accepted n (n - m.opened.count) (omega (arith, count_found, from))
+
+      -- the state after a prefix of the history is that of the run, cut there
+      pub state_found : (n : ℕ) → m.opened.count ≤ n → state_at program vars h n ≡ cut program m n
+      state_found n from =
+          let k = n - m.opened.count in
+          ap (serial_state program (first_state vars)) (take_found n from) ∙ serial_state-append program (first_state vars) goes.found (take k m.accepted)
+          ∙ ap (λ (s : State). serial_state program s (take k m.accepted)) (sym goes.opened)
+
+      module _ (numbers : IsNumbered program m) where
+        -- what is durable is a safe prefix, and each longer one is
+        pub safe_from : (n : ℕ) → m.durable ≤ n → n ≤ m.opened.count + length m.accepted → IsSafePrefix program vars h n
+        safe_from n from to =
+            let low : m.opened.count ≤ n = omega (arith, numbers.opened, from) in
+            let k = n - m.opened.count in
+            record {
+              acknowledged = omega (arith, goes.acknowledged, from);
+              accepted = omega (arith, ap length goes.accepted, length-append goes.found m.accepted, count_found, to);
+              each = subst (AreCommitted program (first_state vars)) (sym (take_found n low))
+                  (committed-append (first_state vars) goes.found (take k m.accepted) goes.each
+                  (subst (λ (s : State). AreCommitted program s (take k m.accepted)) goes.opened (committed-take program k m.opened m.accepted numbers.each)));
+              sound = subst (λ (s : State). IsSound program.tests program.names s.names s.values) (sym (state_found n low)) (numbers.sound n low to);
+            }
+
+        -- what stands for the serial order cut at one of two numbers, neither of them less than the durable one
+        pub cut_safe : (slots i j : ℕ) → m.durable ≤ i → i ≤ m.opened.count + length m.accepted → m.durable ≤ j → j ≤ m.opened.count + length m.accepted
+            → (c : List ℕ) → StandsForEither vars slots (cut program m i) (cut program m j) c → IsSafe program vars slots h c
+        cut_safe slots i j from_i to_i from_j to_j c it =
+            safe_either slots (cut program m i) (cut program m j) i j (sym (state_found i (omega (arith, numbers.opened, from_i)))) (sym (state_found j (omega (arith, numbers.opened, from_j)))) (safe_from i from_i to_i) (safe_from j from_j to_j) c it
+
+        -- so it is at the durable number and at the doubtful one
+        pub point_safe : (slots : ℕ) (c : List ℕ) → StandsCut program vars slots m c → IsSafe program vars slots h c
+        point_safe slots c it =
+            cut_safe slots m.durable m.doubtful (omega arith) (omega (arith, numbers.durable, numbers.doubtful)) numbers.durable numbers.doubtful c it
+
+-- a device that a world holds has room for its layout
+room_in : {D T : Type 0} {d t : _} (h : Held D T d t) → end_place (layout_in h).vars (layout_in h).slots ≤ (d.view (disk_in h)).capacity
+room_in (With o) = o.journal.room
+room_in (Without left) = left.room
+
+module _ {D T S : Type 0} {d t s : _} (w : World D T S d t s) where
+  pub fits_in : FitsOn w.layout.vars w.layout.slots (view_of w).capacity
+  fits_in = record {
+    layout = w.layout.fits;
+    room = subst (λ (v : ℕ). end_place v w.layout.slots ≤ (view_of w).capacity) w.same_vars
+        (subst (λ (n : ℕ). end_place (layout_in (held_of w)).vars n ≤ (view_of w).capacity) w.same_slots (room_in (held_of w)));
+  }
+
+  -- a world at a point of a run that goes on with a history carries it
+  pub carries : (program : Program) (h : History) (m : WorldModel) → Represents program w m → GoesOn program w.layout.vars h m → Carries program w h m
+  carries program h m point goes = record {
+    point = point;
+    history = goes;
+    store = record { fits = fits_in; device = record { each = λ keeps c left. point_safe program w.layout.vars h m goes point.numbers w.layout.slots c (point.device.each keeps c left) } };
+  }
