@@ -4,4 +4,5 @@ mod Outcomes
 mod Playing
 mod Showing
 mod Stored
+mod Stores
 mod Writing

@@ -1,6 +1,6 @@
 -- What became of a command line.
 use Rattle.std.proofs.Common.{◌≡◌, ℕ, List, [], ◌∷◌, Option, Some, None, Result, Ok, Err, refl, sym, inl, inr, subst, ◌∙◌}
-use Rattle.std.specs.Prelude.{IfSome, IfErr, OnOk, MatchResult}
+use Rattle.std.specs.Prelude.{IfSome, IfErr, OnOk, OnErr, MatchResult}
 use Rattle.std.specs.Io.KnownBytes.{Keeps}
 use Rattle.clap.specs.Kinds.{Kinds, IsAmong, HasKind}
 use Rattle.clap.specs.Values.{kind_of}
@@ -60,6 +60,7 @@ PlaysWhere-keeps (Some path) vars slots entries before mid after so kept = (
             end = it.end;
             played = PlaysFrom-keeps vars slots it.found it.position entries it.end before mid after it.played kept;
             left = it.left;
+            stored = λ h store. let so = it.stored h store in (so.0, so.1, Appends-keeps before mid after so.0 so.2 kept);
           },
         ),
   ),
@@ -78,6 +79,16 @@ FailsWith-along status left p q d e path disk so =
 pub ok_of : {T E P : Type 0} (r : Result T E) → P → OnOk r P
 ok_of (Ok x) so = so
 ok_of (Err e) so = tt
+
+-- what holds of two answers that a call gives with Ok holds of both
+pub ok_both : {T E P Q R : Type 0} (r : Result T E) → OnOk r P → OnOk r Q → (P → Q → R) → OnOk r R
+ok_both (Ok x) one two both = both one two
+ok_both (Err e) one two both = tt
+
+-- and so with Err
+pub err_both : {T E Q : Type 0} {P R : E → Type 0} (r : Result T E) → IfErr r P → OnErr r Q → ((e : E) → P e → Q → R e) → IfErr r R
+err_both (Ok x) one two both = tt
+err_both (Err e) one two both = both e one two
 
 -- no failure has the status 0
 not_done : (f : Failure) → status_of f ≡ 0 → ⊥

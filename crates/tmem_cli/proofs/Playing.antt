@@ -15,7 +15,9 @@ use Rattle.tmem_world.specs.declared.world.World.{World}
 use Rattle.tmem_world.specs.WorldModel.{Setting, WorldModel, opening}
 use Rattle.tmem_journal.specs.Stands.{Position, StandsFor}
 use Rattle.tmem_world.specs.Represents.{RestsOn, Represents, Means, StandsCut, setting_of, numbers_of, steps_of, held_table, view_of}
+use Rattle.tmem_world.specs.Chain.{History, IsStore}
 use Rattle.tmem_cli.specs.Builtin.{builtin_program, builtin_setting}
+use Rattle.tmem_cli.specs.Chains.{PlaysStore}
 use Rattle.tmem_cli.specs.Printed.{line, Answers, Prints, PlaysEntries, PlaysFrom}
 use Rattle.tmem_cli.specs.Stored.{PlaysOn}
 use Rattle.tmem_cli.proofs.Writing.{Appends-then, Appends-nil}
@@ -49,14 +51,14 @@ rests P event.Reopen p = p
 
 module _ {D T S : Type 0} {d t s : _} where
   -- a world with the same steps and the same table means the same
-  means_stay : (w w' : World D T S d t s) (program : Program) → steps_of w' ≡ steps_of w → held_table w' ≡ held_table w → Means w program → Means w' program
+  pub means_stay : (w w' : World D T S d t s) (program : Program) → steps_of w' ≡ steps_of w → held_table w' ≡ held_table w → Means w program → Means w' program
   means_stay w w' program steps held means = record {
     steps = subst (λ (x : S). s.is_stated x program.steps) (sym steps) means.steps;
     names = means.names ∙ ap (λ (x : T). t.names x) (sym held);
     tests = subst (λ (x : T). t.is_stated x program.tests) (sym held) means.tests;
   }
 
-  same_setting : (w w' : World D T S d t s) (program : Program) → numbers_of w' ≡ numbers_of w → steps_of w' ≡ steps_of w → setting_of w' program ≡ setting_of w program
+  pub same_setting : (w w' : World D T S d t s) (program : Program) → numbers_of w' ≡ numbers_of w → steps_of w' ≡ steps_of w → setting_of w' program ≡ setting_of w program
   same_setting w w' program numbers steps =
       ap (λ (l : Layout). record { vars = l.vars; slots = l.slots; arities = s.arities w'.steps; program = program }) numbers ∙ ap (λ (x : S). record { vars = w.layout.vars; slots = w.layout.slots; arities = s.arities x; program = program }) steps
 
@@ -97,8 +99,9 @@ module _ {D T S : Type 0} {d t s : _} where
 
   -- a script was played on the device of a world that was opened on another
   pub PlaysOn-of : (old : DeviceView) (w new : World D T S d t s) (vars slots count : ℕ) (position : Position) (found : State) (before between after : Option (List ℕ)) (es : List Entry) → (numbers_of new).vars ≡ vars → (numbers_of new).slots ≡ slots → StandsFor vars slots position found old.seen → Means w (builtin_program vars) → setting_of w (builtin_program vars) ≡ builtin_setting vars slots → Represents (builtin_program vars) w (opening found position 0) → count ≡ found.count → Appends before between (line (line_of (Opened count))) → PlaysEntries w between es new after → (view_of new).keeps_model
+      → ((h : History) → IsStore (builtin_program vars) vars slots h old → (text : List ℕ) × PlaysStore vars slots h es text old (view_of new) × Appends before after text)
       → PlaysOn vars slots es old (view_of new) before after
-  PlaysOn-of old w new vars slots count position found before between after es over log stands means set at is opened so premise =
+  PlaysOn-of old w new vars slots count position found before between after es over log stands means set at is opened so premise stored =
       let it = PlaysFrom-of w new vars slots count position found before between after es means set at is opened so premise in
       record {
         found = found;
@@ -108,6 +111,7 @@ module _ {D T S : Type 0} {d t s : _} where
         played = it.1;
         left = subst (λ (v : ℕ). LeavesOnly (view_of new) (StandsCut (builtin_program vars) v slots it.0)) over
             (subst (λ (k : ℕ). LeavesOnly (view_of new) (StandsCut (builtin_program vars) (numbers_of new).vars k it.0)) log it.2.device);
+        stored = stored;
       }
 
   -- a store of so many variables and log slots is opened with the builtin setting

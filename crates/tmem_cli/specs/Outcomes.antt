@@ -37,7 +37,7 @@ IsNoScript text = (vars slots : ℕ) (entries : List Entry) → ¬ IsScriptText 
 
 -- the text is that of a script, which was not played to its end for this reason
 abbrev pub StopsText : Option Text → List ℕ → Failure → Type 0
-StopsText disk text f = (vars : ℕ) × (slots : ℕ) × (entries : List Entry) × IsScriptText vars slots entries text × StopsPlaying disk vars slots f
+StopsText disk text f = (vars : ℕ) × (slots : ℕ) × (entries : List Entry) × IsScriptText vars slots entries text × StopsPlaying disk vars slots entries f
 
 -- Why no script was read: memory was refused, reading failed, or what was read is none.
 abbrev pub IsWhyNotRead : (List ℕ → Type 0) → ScriptError → Type 0

@@ -1,5 +1,6 @@
 -- What becomes of a script that is played on a device, and on that of a file.
 use Rattle.std.specs.Prelude.{◌≡◌, ◌⊎◌, ℕ, List, Option, Some, None}
+use Rattle.std.specs.Io.KnownBytes.{Appends}
 use Rattle.tmem_disk.specs.Disk.{DeviceView, LeavesOnly}
 use Rattle.tmem_disk.specs.Start.{IsNewDevice}
 use Rattle.tmem_disk.specs.declared.fault.Fault.{Fault}
@@ -16,7 +17,9 @@ use Rattle.tmem_script.specs.declared.failure.Failure.TheVariants as failure
 use Rattle.tmem_script.specs.declared.script.Entry.{Entry}
 use Rattle.tmem_world.specs.WorldModel.{WorldModel}
 use Rattle.tmem_world.specs.Represents.{OpeningRefused, StandsCut}
+use Rattle.tmem_world.specs.Chain.{History, IsStore, no_history}
 use Rattle.tmem_cli.specs.Builtin.{builtin_program}
+use Rattle.tmem_cli.specs.Chains.{PlaysStore, StaysStore, LeavesStore}
 use Rattle.tmem_cli.specs.Printed.{PlaysFrom, PlaysScript, IsStop}
 
 -- The content of the device stood for a state before, and the script was played from there. A crash now leaves its serial
@@ -28,6 +31,8 @@ pub record PlaysOn (vars slots : ℕ) (entries : List Entry) (old new : DeviceVi
   pub end : WorldModel
   pub played : PlaysFrom vars slots found position entries end before after
   pub left : LeavesOnly new (StandsCut (builtin_program vars) vars slots end)
+  -- and if it was a store with a history, it is one with what the script made of that
+  pub stored : (h : History) → IsStore (builtin_program vars) vars slots h old → (text : List ℕ) × PlaysStore vars slots h entries text old new × Appends before after text
 
 -- This device became another. Under the premise of that one, the first met it too, and a script was played on it.
 abbrev pub PlaysOver : {D : Type 0} → (D → DeviceView) → ℕ → ℕ → List Entry → D → Option (List ℕ) → Option (List ℕ) → Type 0
@@ -39,10 +44,15 @@ abbrev pub IsUnsound : ℕ → ℕ → DeviceView → DeviceView → Fault → T
 IsUnsound vars slots old new f =
     (position : Position) × (found : State) × (new.keeps_model → StandsFor vars slots position found old.seen) × (opening_fault (builtin_program vars) found ≡ Some f)
 
--- this device became another, and its opening was refused by this failure's fault
+-- This device became another, and its opening was refused by this failure's fault. If it was a store with a history, it still is.
 abbrev pub RefusesOver : {D : Type 0} → (D → DeviceView) → ℕ → ℕ → D → Failure → Type 0
 RefusesOver {D} view vars slots old f =
     (g : Fault) × (f ≡ failure.Refused g) × (new : D) × OpeningRefused (view old) vars slots (IsUnsound vars slots (view old) (view new) g) g (view new)
+    × ((h : History) → IsStore (builtin_program vars) vars slots h (view old) → (view new).keeps_model → StaysStore vars slots h (view old) (view new))
+
+-- This device became another, and the output failed. If it was a store with a history, the first entries were played on it.
+abbrev pub StopsOver : {D : Type 0} → (D → DeviceView) → ℕ → ℕ → List Entry → D → Failure → Type 0
+StopsOver {D} view vars slots entries old f = (f ≡ failure.Output) × ((new : D) × LeavesStore vars slots entries (view old) (view new))
 
 -- A file that was made: of zeros, which were formatted before it got its name.
 pub record IsMade (vars slots : ℕ) (made : FileDisk) : Type 0 where
@@ -53,6 +63,8 @@ pub record IsMade (vars slots : ℕ) (made : FileDisk) : Type 0 where
   pub model : (view_of formatted).keeps_model → (view_of blank).keeps_model
   pub stands : LeavesOnly (view_of formatted) (StandsFor vars slots first_position (first_state vars))
   pub placed : IsPlaced (view_of formatted) (view_of made)
+  -- so it is a store without a history
+  pub store : IsStore (builtin_program vars) vars slots no_history (view_of made)
 
 -- a file that was there and is as it was found, or one that was made
 abbrev pub IsFoundOrMade : ℕ → ℕ → FileDisk → Type 0
@@ -64,12 +76,14 @@ PlaysWhere None vars slots entries before after = PlaysScript vars slots entries
 PlaysWhere (Some path) vars slots entries before after =
     (disk : FileDisk) × IsFoundOrMade vars slots disk × PlaysOver view_of vars slots entries disk before after
 
--- Why it was not played to its end: it was stopped, or, with a path, the opening of the file's device was refused.
-abbrev pub StopsWhere : Option (List ℕ) → ℕ → ℕ → Failure → Type 0
-StopsWhere None vars slots f = IsStop f
-StopsWhere (Some path) vars slots f =
-    IsStop f ⊎ ((disk : FileDisk) × IsFoundOrMade vars slots disk × RefusesOver view_of vars slots disk f)
+-- Why it was not played to its end: it was stopped; or, with a path, it was stopped before there was a device, the output
+-- failed, or the opening of the file's device was refused.
+abbrev pub StopsWhere : Option (List ℕ) → ℕ → ℕ → List Entry → Failure → Type 0
+StopsWhere None vars slots entries f = IsStop f
+StopsWhere (Some path) vars slots entries f =
+    ((f ≡ failure.Refused fault.Memory) ⊎ (f ≡ failure.Refused fault.Device))
+    ⊎ ((disk : FileDisk) × IsFoundOrMade vars slots disk × (StopsOver view_of vars slots entries disk f ⊎ RefusesOver view_of vars slots disk f))
 
 -- Why a script that was read was not played to its end: its numbers are out of limits, or that.
-abbrev pub StopsPlaying : Option (List ℕ) → ℕ → ℕ → Failure → Type 0
-StopsPlaying disk vars slots f = ((f ≡ failure.Refused fault.Geometry) × (¬ IsLayout vars slots)) ⊎ (IsLayout vars slots × StopsWhere disk vars slots f)
+abbrev pub StopsPlaying : Option (List ℕ) → ℕ → ℕ → List Entry → Failure → Type 0
+StopsPlaying disk vars slots entries f = ((f ≡ failure.Refused fault.Geometry) × (¬ IsLayout vars slots)) ⊎ (IsLayout vars slots × StopsWhere disk vars slots entries f)

@@ -12,7 +12,7 @@ use std::alloc::Global;
 use std::fs::{self, File, Files};
 use tmem_disk::{Fault, SimDisk};
 use tmem_file::{FileDisk, NewFile};
-use tmem_world::{Layout, format};
+use tmem_world::{Layout, format, formatted_is_store};
 
 /// A device in memory that was formatted: nothing accepted, every variable 0.
 pub(crate) fn device_in_memory(alloc: Global, layout: Layout) -> Result<SimDisk, Fault>
@@ -53,6 +53,7 @@ fn made_file<R: Files<File = File> + AllocGlobal>(
     ensures failures { IfOk result (λ disk. (file_of disk).failures ≡ 0) }
     ensures refused { IfErr result (λ fault. (fault ≡ Fault.Memory) ⊎ (fault ≡ Fault.Device)) }
 {
+    formatted_is_store::<FileDisk>();
     let mut new = NewFile::create(rt, path, layout.end())?;
     match format(&mut new.disk, layout.vars, layout.slots) {
         Ok(()) => new.place(rt),

@@ -1,13 +1,15 @@
 //! Plays a script on a device.
-ghost use Rattle.std.specs.Prelude.{◌≡◌, ◌⊎◌, [], ◌∷◌, IfErr, OnOk, length, option_map};
+ghost use Rattle.std.specs.Prelude.{◌≡◌, ◌⊎◌, [], ◌∷◌, IfErr, OnOk, OnErr, length, option_map};
+ghost use Rattle.std.specs.Io.KnownBytes.{Appends};
 ghost use Rattle.tmem_builtins.specs.Invariants.{is_not_negative, add_to_hundred, are_ordered};
 ghost use Rattle.tmem_builtins.specs.Steps.{sum_of, difference_of, at_least};
 ghost use Rattle.tmem_builtins.specs.Builtins.{builtin_steps, builtin_names, builtin_tests};
 ghost use Rattle.tmem_record.specs.Layout.{IsLayout};
 ghost use Rattle.tmem_script.specs.declared.failure.Failure.TheVariants.{Output, Refused};
-ghost use Rattle.tmem_world.specs.Represents.{numbers_of, steps_of, held_table, view_of};
+ghost use Rattle.tmem_world.specs.Represents.{WritesInStore, numbers_of, steps_of, held_table, view_of};
+ghost use Rattle.tmem_cli.specs.Chains.{PlaysEntriesOn, PlaysFirstOn};
 ghost use Rattle.tmem_cli.specs.Printed.{PlaysEntries};
-ghost use Rattle.tmem_cli.specs.Stored.{PlaysOver, RefusesOver, PlaysWhere, StopsWhere, StopsPlaying};
+ghost use Rattle.tmem_cli.specs.Stored.{PlaysOver, StopsOver, RefusesOver, PlaysWhere, StopsWhere, StopsPlaying};
 
 use crate::device::{device_in_file, device_in_memory};
 use crate::print::{print_line, print_state};
@@ -34,7 +36,7 @@ pub(crate) fn play<R: Files<File = File> + AllocGlobal, W: Write>(
     ensures played { OnOk result (PlaysWhere (option_map (λ text. text.now) path.entry) script.vars script.slots script.entries.items (W.contents out.old) (W.contents out.new)) }
     ensures fits { OnOk result (IsLayout script.vars script.slots) }
     ensures geometry { ¬ IsLayout script.vars script.slots → result ≡ Err (Refused Fault.Geometry) }
-    ensures failed { IfErr result (StopsPlaying (option_map (λ text. text.now) path.entry) script.vars script.slots) }
+    ensures failed { IfErr result (StopsPlaying (option_map (λ text. text.now) path.entry) script.vars script.slots script.entries.items) }
 {
     let alloc = rt.alloc();
     let layout = Layout::new(script.vars, script.slots)?;
@@ -79,7 +81,7 @@ fn play_under<R: Files<File = File> + AllocGlobal, T: Invariants + Drop, W: Writ
     requires names { T.names table ≡ builtin_names layout.vars }
     requires stated { T.is_stated table builtin_tests }
     ensures played { OnOk result (PlaysWhere (option_map (λ text. text.now) path.entry) layout.vars layout.slots entries.items (W.contents out.old) (W.contents out.new)) }
-    ensures failed { IfErr result (StopsWhere (option_map (λ text. text.now) path.entry) layout.vars layout.slots) }
+    ensures failed { IfErr result (StopsWhere (option_map (λ text. text.now) path.entry) layout.vars layout.slots entries.items) }
 {
     let alloc = rt.alloc();
     let total = Box::new(
@@ -132,7 +134,7 @@ fn play_with<
     requires arities { S.arities steps ≡ 2 ∷ 2 ∷ 2 ∷ [] }
     requires steps { S.is_stated steps builtin_steps }
     ensures played { OnOk result (PlaysWhere (option_map (λ text. text.now) path.entry) layout.vars layout.slots entries.items (W.contents out.old) (W.contents out.new)) }
-    ensures failed { IfErr result (StopsWhere (option_map (λ text. text.now) path.entry) layout.vars layout.slots) }
+    ensures failed { IfErr result (StopsWhere (option_map (λ text. text.now) path.entry) layout.vars layout.slots entries.items) }
 {
     // what opening finds on a device that was formatted in memory is the first state, and that is not refused
     stands_for_one();
@@ -166,7 +168,7 @@ fn play_on<D: Disk + Drop, T: Invariants + Drop, S: StoredSteps + Drop, W: Write
     requires steps { S.is_stated steps builtin_steps }
     requires failures { (D.view disk).failures ≡ 0 }
     ensures played { OnOk result (PlaysOver D.view layout.vars layout.slots entries.items disk (W.contents out.old) (W.contents out.new)) }
-    ensures failed { IfErr result (λ failure. (failure ≡ Output) ⊎ RefusesOver D.view layout.vars layout.slots disk failure) }
+    ensures failed { IfErr result (λ failure. StopsOver D.view layout.vars layout.slots entries.items disk failure ⊎ RefusesOver D.view layout.vars layout.slots disk failure) }
 {
     let mut world = match World::open(alloc, disk, layout.vars, layout.slots, table, steps) {
         Ok(world) => world,
@@ -186,6 +188,11 @@ fn play_entries<D: Disk + Drop, T: Invariants + Drop, S: StoredSteps + Drop, W: 
     requires { (numbers_of world.old).vars ≡ vars }
     ensures played { OnOk result (PlaysEntries world.old (W.contents out.old) entries.items world.new (W.contents out.new)) }
     ensures failed { IfErr result (λ failure. failure ≡ Output) }
+
+    // The history of a chain of sessions goes on by the entries: by all of them, or where the output failed by the first.
+    ensures chain { OnOk result (PlaysEntriesOn world.old entries.items world.new (Appends (W.contents out.old) (W.contents out.new))) }
+    ensures stopped { OnErr result (PlaysFirstOn world.old entries.items world.new) }
+    ensures elsewhere { WritesInStore (numbers_of world.old) (view_of world.old) (view_of world.new) }
     ensures numbers { numbers_of world.new ≡ numbers_of world.old }
     ensures model { (view_of world.new).keeps_model → (view_of world.old).keeps_model }
 {
@@ -205,6 +212,8 @@ fn play_entry<D: Disk + Drop, T: Invariants + Drop, S: StoredSteps + Drop, W: Wr
     requires { (numbers_of world.old).vars ≡ vars }
     ensures played { OnOk result (PlaysEntries world.old (W.contents out.old) (entry ∷ []) world.new (W.contents out.new)) }
     ensures failed { IfErr result (λ failure. failure ≡ Output) }
+    ensures chain { PlaysEntriesOn world.old (entry ∷ []) world.new (λ text. OnOk result (Appends (W.contents out.old) (W.contents out.new) text)) }
+    ensures elsewhere { WritesInStore (numbers_of world.old) (view_of world.old) (view_of world.new) }
     ensures numbers { numbers_of world.new ≡ numbers_of world.old }
     ensures steps { steps_of world.new ≡ steps_of world.old }
     ensures table { held_table world.new ≡ held_table world.old }

@@ -1,7 +1,7 @@
 -- What follows from the definitions of a device alone: ranges of a content that are written over, what a stop leaves, and
 -- how the words of two calls join. A law on the calls from a first view to a second and from there to a third takes that
 -- the third keeps the model only where the second does.
-use Rattle.std.proofs.Common.{◌≡◌, inl, inr, ⊎_elim, ℕ, zero, suc, ◌+◌, ◌-◌, ◌<◌, ◌≤◌, List, [], ◌∷◌, ◌++◌, length, take, drop, refl, sym, ◌∙◌, ap, subst, arith, append_assoc}
+use Rattle.std.proofs.Common.{◌≡◌, ◌⊎◌, inl, inr, ⊎_elim, ℕ, zero, suc, ◌+◌, ◌-◌, ◌<◌, ◌≤◌, List, [], ◌∷◌, ◌++◌, length, take, drop, refl, sym, ◌∙◌, ap, subst, arith, append_assoc}
 use Rattle.std.specs.Prelude.{slice_get, slice_range}
 use Rattle.std.proofs.lemmas.List.{length-take-le, take-take, drop_at, drop-drop, take_at, drop-take}
 use Rattle.std.proofs.lemmas.Bool.{cases_lt}
@@ -139,7 +139,16 @@ Elapses-more old new P Q time more = record {
   later = time.later;
   nothing_else = λ keeps t c since left. ⊎_elim (λ was. inl was) (λ is. inr (more keeps c is)) (time.nothing_else keeps t c since left);
   keeps = time.keeps;
+  before_or_since = time.before_or_since;
 }
+
+-- each moment of two calls is one of those before them, or one of those since
+pub before_or_since-trans : (old mid new : DeviceView) (P Q : List ℕ → Type 0) → (new.keeps_model → mid.keeps_model) → Elapses old mid P → Elapses mid new Q
+    → new.keeps_model → (t : ℕ) (c : List ℕ) → t ≤ old.moment → new.left_since t c → old.left_since t c ⊎ ((s : ℕ) → s ≤ old.moment → new.left_since s c)
+before_or_since-trans old mid new P Q model first second keeps t c since left = let a = first.later (model keeps) in ⊎_elim
+    (λ was. ⊎_elim (λ before. inl before) (λ is. inr (λ s le. second.keeps keeps s c (omega (arith, le, a)) (is s le))) (first.before_or_since (model keeps) t c since was))
+    (λ is. inr (λ s le. is s (omega (arith, le, a))))
+    (second.before_or_since keeps t c (omega (arith, since, a)) left)
 
 -- time goes on over two calls
 pub Elapses-trans : (old mid new : DeviceView) (P : List ℕ → Type 0) → (new.keeps_model → mid.keeps_model) → Elapses old mid P → Elapses mid new P → Elapses old new P
@@ -150,7 +159,12 @@ Elapses-trans old mid new P model first second = record {
       (λ is. inr is)
       (second.nothing_else keeps t c (omega arith) left);
   keeps = λ keeps t c since left. let a = first.later (model keeps) in second.keeps keeps t c (omega arith) (first.keeps (model keeps) t c since left);
+  before_or_since = before_or_since-trans old mid new P P model first second;
 }
+
+-- what was left at some moment of two calls was left at one of the first, or at one of the second
+pub either_time : (old mid new : DeviceView) (P : List ℕ → Type 0) → (new.keeps_model → mid.keeps_model) → (mid.keeps_model → old.moment ≤ mid.moment) → Elapses mid new P → new.keeps_model → (c : List ℕ) → new.left_since old.moment c → mid.left_since old.moment c ⊎ new.left_since mid.moment c
+either_time old mid new P model later time keeps c left = ⊎_elim (λ was. inl was) (λ is. inr (is mid.moment (omega arith))) (time.before_or_since keeps old.moment c (later (model keeps)) left)
 
 -- a stop at any moment of a call leaves what it might have left before, or what the call says of its own time
 pub AtEachMoment-elapsed : (old new : DeviceView) (P Q : List ℕ → Type 0) → IsDevice old → (new.keeps_model → old.keeps_model) → Elapses old new P → LeavesOnly old Q → (new.keeps_model → (c : List ℕ) → P c → Q c) → AtEachMoment old new Q

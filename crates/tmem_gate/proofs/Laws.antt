@@ -4,7 +4,7 @@ use Rattle.std.proofs.Common.{◌≡◌, ◌⊎◌, inl, inr, ⊎_elim, ℕ, ◌
 use Rattle.std.specs.Prelude.{slice_get, slice_range}
 use Rattle.std.proofs.lemmas.Bool.{cases_eq}
 use Rattle.tmem_disk.specs.Disk.{DeviceView, IsDevice, overwritten, ReadsAs, LeavesOnly, AtEachMoment, Elapses, SameOutside, SameSeenOutside, Rewritten}
-use Rattle.tmem_disk.proofs.Laws.{SameOutside-refl, SameOutside-trans, SameOutside-wider, slice_get-before, slice_get-after, slice_range-before, slice_range-after, slice_range-overwritten, Rewritten-left, Rewritten-wider, Rewritten-trans, Elapses-more, Elapses-trans}
+use Rattle.tmem_disk.proofs.Laws.{SameOutside-refl, SameOutside-trans, SameOutside-wider, slice_get-before, slice_get-after, slice_range-before, slice_range-after, slice_range-overwritten, Rewritten-left, Rewritten-wider, Rewritten-trans, Elapses-more, Elapses-trans, before_or_since-trans}
 use Rattle.tmem_gate.specs.Gate.{IsOpenAt, IsClosed, HasBody, IsOpenOver, IsWhole}
 use Rattle.tmem_gate.specs.Calls.{LooksOnly, WritesWithin}
 
@@ -106,7 +106,7 @@ by_moment at n old new device seen during time = record { seen = seen; stop = re
 
 -- no time goes by without a call
 pub no_time : (d : DeviceView) (P : List ℕ → Type 0) → Elapses d d P
-no_time d P = record { later = λ k. omega arith; nothing_else = λ k t c since left. inl left; keeps = λ k t c since left. left }
+no_time d P = record { later = λ k. omega arith; nothing_else = λ k t c since left. inl left; keeps = λ k t c since left. left; before_or_since = λ k t c since left. inl left }
 
 -- no call at all
 pub LooksOnly-refl : (d : DeviceView) → LooksOnly d d
@@ -150,11 +150,16 @@ WritesWithin-trans at n old mid new model first second = record {
     later = λ k. let a = first.time.later (model k) in let b = second.time.later k in omega arith;
     nothing_else = λ k t c since left. let a = first.time.later (model k) in ⊎_elim (λ was. first.time.nothing_else (model k) t c since was) (λ is. inr (both k c is)) (second.time.nothing_else k t c (omega arith) left);
     keeps = λ k t c since left. let a = first.time.later (model k) in second.time.keeps k t c (omega arith) (first.time.keeps (model k) t c since left);
+    before_or_since = before_or_since-trans old mid new (Rewritten at n old) (Rewritten at n mid) model first.time second.time;
   };
 }
   where
     both : new.keeps_model → (c : List ℕ) → Rewritten at n mid c → Rewritten at n old c
     both k c from = Rewritten-trans at n old mid c (model k) first.stop from
+
+-- and a call after it that writes nothing
+pub WritesWithin-then_look : (at n : ℕ) (old mid new : DeviceView) → IsDevice mid → (new.keeps_model → mid.keeps_model) → WritesWithin at n old mid → ReadsAs new mid.seen → LeavesOnly new mid.may_leave → Elapses mid new new.may_leave → WritesWithin at n old new
+WritesWithin-then_look at n old mid new device model first seen stop time = WritesWithin-trans at n old mid new model first (by_look at n mid new device model (looks mid new seen stop time) time)
 
 -- a body and its gate, in one range
 pub of_cell : (at n : ℕ) (old mid new : DeviceView) → (new.keeps_model → mid.keeps_model) → WritesWithin (at + 1) n old mid → WritesWithin at 1 mid new → WritesWithin at (1 + n) old new

@@ -3,7 +3,7 @@ use Rattle.std.proofs.Common.{◌≡◌, ◌⊎◌, inl, inr, ⊎_elim, ℕ, ◌
 use Rattle.std.specs.Prelude.{slice_get, slice_range}
 use Rattle.std.proofs.lemmas.Bool.{cases_lt, cases_eq, false≢true}
 use Rattle.tmem_disk.specs.Disk.{DeviceView, IsDevice, ReadsAs, LeavesOnly, LeavesEach, AtEachMoment, Elapses, IsSynced, SameOutside, SameSeenOutside, Rewritten}
-use Rattle.tmem_disk.proofs.Laws.{SameOutside-refl, SameOutside-trans, SameOutside-wider, slice_get-before, slice_get-after, slice_range-before, slice_range-after, LeavesOnly-moment, LeavesOnly-each, Elapses-more, Elapses-trans}
+use Rattle.tmem_disk.proofs.Laws.{SameOutside-refl, SameOutside-trans, SameOutside-wider, slice_get-before, slice_get-after, slice_range-before, slice_range-after, LeavesOnly-moment, LeavesOnly-each, Elapses-more, Elapses-trans, before_or_since-trans}
 use Rattle.tmem_gate.specs.Calls.{LooksOnly, WritesWithin}
 use Rattle.tmem_gate.specs.Gate.{IsOpenAt, IsClosed, IsOpenOver}
 use Rattle.tmem_gate.proofs.Laws.{gate_cases, closed_along, closed_before, looks, by_look, by_moment, LooksOnly-trans, WritesWithin-wider, WritesWithin-trans}
@@ -24,6 +24,7 @@ looks_given old new given = record {
     later = λ k. (given k).time.later k;
     nothing_else = λ k t c since left. (given k).time.nothing_else k t c since left;
     keeps = λ k t c since left. (given k).time.keeps k t c since left;
+    before_or_since = λ k t c since left. (given k).time.before_or_since k t c since left;
   };
 }
 
@@ -166,6 +167,7 @@ module _ (vars slots from k : ℕ) (low : from ≤ k) (high : k < slots) (old mi
     later = λ keeps. let a = before.time.later (model keeps) in let b = within.time.later keeps in omega (arith, a, b);
     nothing_else = λ keeps t c since left. since_then keeps t c since left (gate_cases (slot_place vars k) old.seen);
     keeps = λ keeps t c since left. let a = before.time.later (model keeps) in within.time.keeps keeps t c (omega (arith, since, a)) (before.time.keeps (model keeps) t c since left);
+    before_or_since = before_or_since-trans old mid new _ _ model before.time within.time;
   }
 
   pub time_after : Elapses old new (Aside vars slots from slots old.seen)

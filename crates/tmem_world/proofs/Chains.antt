@@ -1,5 +1,5 @@
 -- How a world that carries a history goes on, and how a store is opened.
-use Rattle.std.proofs.Common.{◌≡◌, ◌⊎◌, ⊎_elim, inl, inr, ℕ, ◌≤◌, ◌^◌, List, [], ◌∷◌, ◌++◌, refl, sym, ◌∙◌, ap, subst, arith}
+use Rattle.std.proofs.Common.{◌≡◌, ◌⊎◌, ⊎_elim, inl, inr, ℕ, ◌≤◌, ◌^◌, List, [], ◌∷◌, ◌++◌, refl, sym, ◌∙◌, ap, subst, arith, append_assoc}
 use Rattle.std.proofs.Math.Logic.{∥∥₁_elim}
 use Rattle.std.proofs.Props.{props}
 use Rattle.std.specs.Prelude.{Result, Ok, Err}
@@ -22,14 +22,65 @@ use Rattle.tmem_journal.specs.Stands.{Position, StandsFor}
 use Rattle.tmem_event.specs.declared.event.Event.{Event}
 use Rattle.tmem_event.specs.declared.event.Reply.{Reply}
 use Rattle.tmem_world.specs.declared.world.World.{World}
-use Rattle.tmem_world.specs.WorldModel.{WorldModel, Allows, opening}
+use Rattle.tmem_world.specs.WorldModel.{Setting, WorldModel, Allows, opening}
 use Rattle.tmem_world.specs.Represents.{Represents, IsStep, EachMoment, StandsCut, setting_of, device_of, view_of}
-use Rattle.tmem_world.specs.Chain.{History, IsSafePrefix, IsSafe, IsStore, GoesOn, Carries, no_history, state_at, history_after, history_found, OpensStore, StepsOn, PlaysThrough}
-use Rattle.tmem_world.proofs.Laws.{keeps_durable, rests_on}
+use Rattle.tmem_world.specs.Chain.{History, IsSafePrefix, IsSafe, IsStore, GoesOn, Carries, no_history, state_at, history_after, history_found, OpensStore, StepsOn, RunsOn, IsSafeWithin, GrowsChain}
+use Rattle.tmem_world.proofs.Laws.{keeps_durable, rests_on, runs_on-append, runs_on-one, grows, count_at}
 use Rattle.tmem_world.proofs.Mending.{Mending}
 use Rattle.tmem_world.proofs.Points.{still_moments}
-use Rattle.tmem_world.proofs.Prefixes.{safe-prop, count_at, goes_on_from, mended_safe, safe_either, state_found, safe_from, point_safe, carries}
+use Rattle.tmem_world.proofs.Prefixes.{safe-prop, goes_on_from, mended_safe, safe_either, state_found, safe_from, point_safe, carries}
 use Rattle.tmem_world.proofs.Histories.{moves, cut_durable, cut_doubtful, goes_on_next}
+
+module _ (set : Setting) where
+  -- what was safe within the first events is so within those and one more
+  pub safe_within-more : (m : WorldModel) (h : History) (es : List Event) (rs : List Reply) (x : WorldModel) (g : History) (e : Event) (r : Reply) (m' : WorldModel) → Allows set x e r m' → (c : List ℕ) → IsSafeWithin set m h es rs x g c
+      → IsSafeWithin set m h (es ++ e ∷ []) (rs ++ r ∷ []) m' (history_after x e r g) c
+  safe_within-more m h es rs x g e r m' allowed c within = record {
+    first = within.first;
+    rest = within.rest ++ e ∷ [];
+    answers = within.answers;
+    later = within.later ++ r ∷ [];
+    events = ap (λ (l : List Event). l ++ e ∷ []) within.events ∙ append_assoc within.first within.rest (e ∷ []);
+    replies = ap (λ (l : List Reply). l ++ r ∷ []) within.replies ∙ append_assoc within.answers within.later (r ∷ []);
+    point = within.point;
+    reached = within.reached;
+    before = within.before;
+    after = runs_on-append set within.point within.reached within.rest within.later x g within.after (e ∷ []) (r ∷ []) m' (history_after x e r g) (runs_on-one set x g e r m' allowed);
+    safe = within.safe;
+  }
+
+  -- what is safe once they were played is so within those and one more
+  pub safe_within-last : (m : WorldModel) (h : History) (es : List Event) (rs : List Reply) (x : WorldModel) (g : History) → RunsOn set m h es rs x g → (e : Event) (r : Reply) (m' : WorldModel) → Allows set x e r m' → (c : List ℕ) → IsSafe set.program set.vars set.slots g c
+      → IsSafeWithin set m h (es ++ e ∷ []) (rs ++ r ∷ []) m' (history_after x e r g) c
+  safe_within-last m h es rs x g so e r m' allowed c safe = record {
+    first = es;
+    rest = e ∷ [];
+    answers = rs;
+    later = r ∷ [];
+    events = refl;
+    replies = refl;
+    point = x;
+    reached = g;
+    before = so;
+    after = runs_on-one set x g e r m' allowed;
+    safe = safe;
+  }
+
+  -- no event was played yet
+  pub safe_within-none : (m : WorldModel) (h : History) (c : List ℕ) → IsSafe set.program set.vars set.slots h c → IsSafeWithin set m h [] [] m h c
+  safe_within-none m h c safe = record {
+    first = [];
+    rest = [];
+    answers = [];
+    later = [];
+    events = refl;
+    replies = refl;
+    point = m;
+    reached = h;
+    before = (refl, refl);
+    after = (refl, refl);
+    safe = safe;
+  }
 
 module _ {D T S : Type 0} {d t s : _} (w w' : World D T S d t s) (layout : w'.layout ≡ w.layout) (e : Event) (r : Reply) where
   -- by what an event is answered, and what a crash leaves in it
@@ -55,27 +106,8 @@ module _ {D T S : Type 0} {d t s : _} (w w' : World D T S d t s) (layout : w'.la
               (λ (it : StandsCut program vars slots m c). point_safe program vars h m has.history numbers slots c it)
               (λ (it : StandsCut program vars slots m' c). after c it));
         },
-        (m', now.1, carries w' program (history_after m e r h) m' now.2 goes),
+        (m', now.1, carries w' program (history_after m e r h) m' now.2 goes, grows (setting_of w program) m h (e ∷ []) (r ∷ []) m' (history_after m e r h) (runs_on-one (setting_of w program) m h e r m' now.1)),
       )
-
-module _ {D T S : Type 0} {d t s : _} (program : Program) where
-  -- one event more
-  pub plays_through-append : (w : World D T S d t s) (h : History) (m : WorldModel) (es : List Event) (rs : List Reply) (mid : World D T S d t s) (g : History) (x : WorldModel) → PlaysThrough program w h m es rs mid g x
-      → (e : Event) (r : Reply) (w' : World D T S d t s) (m' : WorldModel) → Allows (setting_of mid program) x e r m' → Carries program w' (history_after x e r g) m' → AtEachMoment (view_of mid) (view_of w') (IsSafe program mid.layout.vars mid.layout.slots g)
-      → PlaysThrough program w h m (es ++ e ∷ []) (rs ++ r ∷ []) w' (history_after x e r g) m'
-  plays_through-append w h m [] [] mid g x so e r w' m' allowed has during =
-      let history : history_after x e r g ≡ history_after m e r h = ap (λ (y : WorldModel). history_after y e r g) so.2 ∙ ap (history_after m e r) so.1 in (
-        w',
-        m',
-        subst (λ (v : World D T S d t s). Allows (setting_of v program) m e r m') so.0 (subst (λ (y : WorldModel). Allows (setting_of mid program) y e r m') so.2 allowed),
-        subst (λ (f : History). Carries program w' f m') history has,
-        subst (λ (v : World D T S d t s). AtEachMoment (view_of v) (view_of w') (IsSafe program v.layout.vars v.layout.slots h)) so.0 (subst (λ (f : History). AtEachMoment (view_of mid) (view_of w') (IsSafe program mid.layout.vars mid.layout.slots f)) so.1 during),
-        (refl, history, refl),
-      )
-  plays_through-append w h m [] (y ∷ rs) mid g x so e r w' m' allowed has during = absurd so
-  plays_through-append w h m (f ∷ es) [] mid g x so e r w' m' allowed has during = absurd so
-  plays_through-append w h m (f ∷ es) (y ∷ rs) mid g x so e r w' m' allowed has during =
-      (so.0, so.1, so.2, so.3, so.4, plays_through-append so.0 (history_after m f y h) so.1 es rs mid g x so.5 e r w' m' allowed has during)
 
 -- A store is opened.
 module _ (one : StandsForOne) (program : Program) (vars slots : ℕ) (layout : IsLayout vars slots) (h : History) (old : DeviceView) (store : IsStore program vars slots h old) (safe : IsSafe program vars slots h old.seen) where

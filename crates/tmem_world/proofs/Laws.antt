@@ -1,6 +1,8 @@
--- Laws of the definitions that callers rest on: how a run goes on by one event, and that what is acknowledged is durable.
-use Rattle.std.proofs.Common.{◌≡◌, inl, inr, ⊎_elim, ℕ, ◌<◌, ◌≤◌, ◌+◌, ◌^◌, Bool, true, false, nat_eq, List, [], ◌∷◌, ◌++◌, refl, ap, subst, sym, arith}
+-- Laws of the definitions that callers rest on: how a run and a chain of sessions go on, and that what is acknowledged is
+-- durable.
+use Rattle.std.proofs.Common.{◌≡◌, inl, inr, ⊎_elim, ℕ, ◌<◌, ◌≤◌, ◌+◌, ◌*◌, ◌^◌, Bool, true, false, nat_eq, List, [], ◌∷◌, ◌++◌, take, refl, ap, subst, sym, arith}
 use Rattle.std.specs.Prelude.{◌⊎◌, ℤ, Option, Some, None, Result, Ok, Err, MatchBool}
+use Rattle.tmem_disk.specs.Disk.{DeviceView, IsDevice}
 use Rattle.tmem_disk.specs.declared.fault.Fault.{Fault}
 use Rattle.tmem_disk.specs.declared.fault.Fault.TheVariants as fault
 use Rattle.tmem_tree.specs.declared.tx.Tx.{Tx}
@@ -11,14 +13,22 @@ use Rattle.tmem_tree.specs.declared.settled.Settled.{Settled}
 use Rattle.tmem_tree.specs.declared.settled.Settled.TheVariants.{Committed, Seen, Retry, Aborted, Refused}
 use Rattle.tmem_core.specs.Verdict.{map_of, verdict}
 use Rattle.tmem_core.specs.SettleAnswer.{judged}
+use Rattle.tmem_core.proofs.Laws.{count-committed}
+use Rattle.tmem_record.specs.State.{first_state}
+use Rattle.tmem_record.specs.Layout.{image_place, image_size}
+use Rattle.tmem_record.specs.declared.layout.Layout.{Layout}
+use Rattle.tmem_gate.proofs.Laws.{WritesWithin-refl, WritesWithin-trans}
 use Rattle.tmem_event.specs.declared.event.Event.{Event}
 use Rattle.tmem_event.specs.declared.event.Event.TheVariants as event
 use Rattle.tmem_event.specs.declared.event.Reply.{Reply}
 use Rattle.tmem_event.specs.declared.event.Reply.TheVariants as reply
 use Rattle.tmem_world.specs.Replies.{reply_of, failures_by, failures_by_all, acknowledged, IsAcknowledged}
-use Rattle.tmem_world.specs.Represents.{RestsOn}
+use Rattle.tmem_journal.specs.Stands.{Position}
+use Rattle.tmem_world.specs.Represents.{RestsOn, WritesInStore}
+use Rattle.tmem_world.proofs.Serial.{length-take}
+use Rattle.tmem_world.specs.Chain.{History, IsSafePrefix, RunsOn, SessionRun, IsChain, IsChainAt, GrowsChain, just_opened, state_at, history_found, history_after}
 use Rattle.tmem_world.specs.AnyDevice.{AllowsOnAnyDevice, RunOnAnyDevice}
-use Rattle.tmem_world.specs.WorldModel.{WorldModel, SlotModel, NoTransaction, Begun, Ended, SessionStatus, Open, Closed, Gone, Setting, present, slot_at, overridden, goes_on, AllowsBegin, AllowsTurn, is_closed, settled_by, settle_result, AllowsFlushOfSome, AllowsFlush, AllowsNextImage, AllowsCheckpoint, AllowsReopen, InSession, Allows, Run}
+use Rattle.tmem_world.specs.WorldModel.{WorldModel, opening, SlotModel, NoTransaction, Begun, Ended, SessionStatus, Open, Closed, Gone, Setting, present, slot_at, overridden, goes_on, AllowsBegin, AllowsTurn, is_closed, settled_by, settle_result, AllowsFlushOfSome, AllowsFlush, AllowsNextImage, AllowsCheckpoint, AllowsReopen, InSession, Allows, Run}
 
 -- The reply acknowledges no more than is durable in the run after it, and nothing durable is lost.
 pub record KeepsDurable (m : WorldModel) (r : Reply) (m' : WorldModel) : Type 0 where
@@ -178,3 +188,45 @@ rests_on premise event.Flush p = tt
 rests_on premise event.Checkpoint p = tt
 rests_on premise event.Look p = tt
 rests_on premise event.Reopen p = p
+
+-- Chains of sessions.
+module _ (set : Setting) where
+  -- events and then others
+  pub runs_on-append : (m : WorldModel) (h : History) (es : List Event) (rs : List Reply) (x : WorldModel) (g : History) → RunsOn set m h es rs x g
+      → (more : List Event) (later : List Reply) (m' : WorldModel) (h' : History) → RunsOn set x g more later m' h' → RunsOn set m h (es ++ more) (rs ++ later) m' h'
+  runs_on-append m h [] [] x g so more later m' h' then =
+      subst (λ (y : WorldModel). RunsOn set y h more later m' h') so.0 (subst (λ (f : History). RunsOn set x f more later m' h') so.1 then)
+  runs_on-append m h [] (r ∷ rs) x g so more later m' h' then = absurd so
+  runs_on-append m h (e ∷ es) [] x g so more later m' h' then = absurd so
+  runs_on-append m h (e ∷ es) (r ∷ rs) x g so more later m' h' then =
+      (so.0, so.1, runs_on-append so.0 (history_after m e r h) es rs x g so.2 more later m' h' then)
+
+  -- so the last session of a chain goes on
+  pub grows : (m : WorldModel) (h : History) (es : List Event) (rs : List Reply) (m' : WorldModel) (h' : History) → RunsOn set m h es rs m' h' → GrowsChain set m h es rs m' h'
+  grows m h es rs m' h' so = λ earlier s at. (
+    at.0,
+    at.1,
+    (at.2.0, (at.2.1.0, at.2.1.1, runs_on-append (opening (state_at set.program set.vars at.0 s.found) at.2.1.0 at.2.1.1) (history_found s.found at.0) s.events s.replies m h at.2.1.2 es rs m' h' so)),
+  )
+
+  -- one event
+  pub runs_on-one : (m : WorldModel) (h : History) (e : Event) (r : Reply) (m' : WorldModel) → Allows set m e r m' → RunsOn set m h (e ∷ []) (r ∷ []) m' (history_after m e r h)
+  runs_on-one m h e r m' allowed = (m', allowed, (refl, refl))
+
+-- the session that found it is the next of each chain that led to the history
+pub opens_chain : (set : Setting) (h : History) (vars : ℕ) → set.vars ≡ vars → (n : ℕ) (position : Position) (failures : ℕ) → IsSafePrefix set.program vars h n
+    → (earlier : List SessionRun) → IsChain set earlier h → IsChainAt set earlier (just_opened n) (history_found n h) (opening (state_at set.program vars h n) position failures)
+opens_chain set h vars same n position failures safe earlier chain =
+    subst (λ (v : ℕ). IsSafePrefix set.program v h n → IsChainAt set earlier (just_opened n) (history_found n h) (opening (state_at set.program v h n) position failures)) same
+    (λ is. (h, chain, (is, (position, failures, (refl, refl))))) safe
+
+-- a safe prefix is as long as the count of the state after it
+pub count_at : (program : Program) (vars : ℕ) (h : History) (n : ℕ) → IsSafePrefix program vars h n → (state_at program vars h n).count ≡ n
+count_at program vars h n safe = omega (arith, count-committed program (first_state vars) (take n h.accepted) safe.each, length-take n h.accepted safe.accepted)
+
+-- what no call writes, and what two calls write
+pub WritesInStore-refl : (layout : Layout) (d : DeviceView) → IsDevice d → WritesInStore layout d d
+WritesInStore-refl layout d device = WritesWithin-refl (image_place layout.vars 0) (2 * image_size layout.vars + 4096 * layout.slots) d device
+
+pub WritesInStore-trans : (layout : Layout) (old mid new : DeviceView) → (new.keeps_model → mid.keeps_model) → WritesInStore layout old mid → WritesInStore layout mid new → WritesInStore layout old new
+WritesInStore-trans layout old mid new model first second = WritesWithin-trans (image_place layout.vars 0) (2 * image_size layout.vars + 4096 * layout.slots) old mid new model first second

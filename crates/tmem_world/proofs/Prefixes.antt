@@ -22,7 +22,8 @@ use Rattle.tmem_world.specs.Parts.{disk_in, layout_in}
 use Rattle.tmem_world.specs.WorldModel.{WorldModel, opening, cut}
 use Rattle.tmem_world.specs.Represents.{IsNumbered, Represents, StandsCut, held_of, view_of}
 use Rattle.tmem_world.specs.Chain.{History, IsSafePrefix, IsSafe, IsStore, GoesOn, Carries, state_at, history_found}
-use Rattle.tmem_world.proofs.Serial.{committed-take, length-take}
+use Rattle.tmem_world.proofs.Laws.{count_at}
+use Rattle.tmem_world.proofs.Serial.{committed-take}
 
 -- a beginning that ends in the second of two lists
 pub take_behind : (xs ys : List Tx) (n k : ℕ) → n ≡ length xs + k → take n (xs ++ ys) ≡ xs ++ take k ys
@@ -51,10 +52,6 @@ module _ (program : Program) where
     pub safe-prop : (n : ℕ) → IsProp (IsSafePrefix program vars h n)
     safe-prop n = hlevel (props, each-prop)
 
-    -- the count of the state after a safe prefix
-    pub count_at : (n : ℕ) → IsSafePrefix program vars h n → (state_at program vars h n).count ≡ n
-    count_at n safe = omega (arith, count-committed program (first_state vars) (take n h.accepted) safe.each, length-take n h.accepted safe.accepted)
-
     -- a run that begins at a safe prefix goes on with the history that was found
     pub goes_on_from : (n : ℕ) (position : Position) (failures : ℕ) → IsSafePrefix program vars h n → GoesOn program vars (history_found n h) (opening (state_at program vars h n) position failures)
     goes_on_from n position failures safe = record {
@@ -62,7 +59,7 @@ module _ (program : Program) where
       each = safe.each;
       opened = refl;
       accepted = sym (append-nil (take n h.accepted));
-      acknowledged = omega (arith, count_at n safe);
+      acknowledged = omega (arith, count_at program vars h n safe);
       present = refl;
     }
 

@@ -1,7 +1,7 @@
 -- Chains of sessions: a device is formatted, opened, played on, left by a crash or given back, opened again, and so on.
 -- What was accepted and acknowledged through all of that, and what a crash may leave of it.
 use Rattle.std.specs.Prelude.{◌≡◌, ◌≤◌, ℕ, max, List, [], ◌∷◌, ◌++◌, length, take, Result, Ok, Err, ◌⊎◌}
-use Rattle.tmem_disk.specs.Disk.{DeviceView, LeavesOnly, AtEachMoment}
+use Rattle.tmem_disk.specs.Disk.{DeviceView, LeavesOnly, AtEachMoment, IsSynced}
 use Rattle.tmem_disk.specs.declared.fault.Fault.{Fault}
 use Rattle.tmem_disk.specs.declared.fault.Fault.TheVariants.{Memory, Device}
 use Rattle.tmem_record.specs.State.{State, first_state}
@@ -11,14 +11,14 @@ use Rattle.tmem_invariants.specs.Meanings.{IsSound}
 use Rattle.tmem_core.specs.Program.{Program}
 use Rattle.tmem_core.specs.Verdict.{serial_state, AreCommitted}
 use Rattle.tmem_journal.specs.Calls.{FitsOn}
-use Rattle.tmem_journal.specs.Stands.{StandsFor}
+use Rattle.tmem_journal.specs.Stands.{Position, StandsFor}
 use Rattle.tmem_event.specs.declared.event.Event.{Event}
 use Rattle.tmem_event.specs.declared.event.Event.TheVariants as event
 use Rattle.tmem_event.specs.declared.event.Reply.{Reply}
 use Rattle.tmem_event.specs.declared.event.Reply.TheVariants as reply
 use Rattle.tmem_world.specs.declared.world.World.{World}
 use Rattle.tmem_world.specs.Replies.{acknowledged}
-use Rattle.tmem_world.specs.WorldModel.{WorldModel, SlotModel, Ended, present, slot_at, opening, Allows}
+use Rattle.tmem_world.specs.WorldModel.{Setting, WorldModel, SlotModel, Ended, present, slot_at, opening, Allows}
 use Rattle.tmem_world.specs.Represents.{Represents, Means, setting_of, view_of, device_after}
 
 -- What was accepted since a device was formatted, through all sessions, in the serial order; and how many of these
@@ -95,11 +95,53 @@ history_after m e r h = record { accepted = accepted_after m e r h.accepted; ack
 abbrev pub history_found : ℕ → History → History
 history_found n h = record { accepted = take n h.accepted; acknowledged = n }
 
--- Opening found the state after a prefix of the history that has every acknowledged transaction, and a run begins there; or
--- memory or the device failed, and the device is still a store with that history.
+-- A run of the model, and what it makes of a history: each event was answered as the model allows, one after another.
+abbrev pub RunsOn : Setting → WorldModel → History → List Event → List Reply → WorldModel → History → Type 0
+RunsOn set m h [] [] m' h' = (m' ≡ m) × (h' ≡ h)
+RunsOn set m h (e ∷ es) (r ∷ rs) m' h' = (x : WorldModel) × Allows set m e r x × RunsOn set x (history_after m e r h) es rs m' h'
+RunsOn set m h [] (r ∷ rs) m' h' = ⊥
+RunsOn set m h (e ∷ es) [] m' h' = ⊥
+
+-- One session of a chain: how many transactions its opening found, and its events with their replies.
+pub record SessionRun : Type 0 where
+  pub found : ℕ
+  pub events : List Event
+  pub replies : List Reply
+
+-- A session on a store with this history: it found the state after a safe prefix, and its replies are a run of the model from
+-- there to this point, with the history that it reached.
+abbrev pub IsSessionOn : Setting → History → SessionRun → History → WorldModel → Type 0
+IsSessionOn set before s h m =
+    IsSafePrefix set.program set.vars before s.found
+    × ((position : Position) × (failures : ℕ) × RunsOn set (opening (state_at set.program set.vars before s.found) position failures) (history_found s.found before) s.events s.replies m h)
+
+-- These sessions, the last one first, lead from a device that was formatted to this history.
+abbrev pub IsChain : Setting → List SessionRun → History → Type 0
+IsChain set [] h = h ≡ no_history
+IsChain set (s ∷ earlier) h = (m : WorldModel) × (before : History) × IsChain set earlier before × IsSessionOn set before s h m
+
+-- The last session of a chain is at this point of its run.
+abbrev pub IsChainAt : Setting → List SessionRun → SessionRun → History → WorldModel → Type 0
+IsChainAt set earlier s h m = (before : History) × IsChain set earlier before × IsSessionOn set before s h m
+
+-- a session that was just opened
+abbrev pub just_opened : ℕ → SessionRun
+just_opened n = record { found = n; events = []; replies = [] }
+
+-- the session with these events more
+abbrev pub gone_on : SessionRun → List Event → List Reply → SessionRun
+gone_on s es rs = record { found = s.found; events = s.events ++ es; replies = s.replies ++ rs }
+
+-- the last session of any chain goes on by these events
+abbrev pub GrowsChain : Setting → WorldModel → History → List Event → List Reply → WorldModel → History → Type 0
+GrowsChain set m h es rs m' h' = (earlier : List SessionRun) (s : SessionRun) → IsChainAt set earlier s h m → IsChainAt set earlier (gone_on s es rs) h' m'
+
+-- Opening found the state after a prefix of the history that has every acknowledged transaction, and a run begins there, the
+-- next session of any chain that led to the history; or memory or the device failed, and the device is still a store with it.
 abbrev pub FindsPrefix : {D T S : Type 0} {d t s : _} → Program → ℕ → ℕ → History → ℕ → Result (World D T S d t s) (Fault × D) → Type 0
 FindsPrefix program vars slots h failures (Ok w) =
-    (n : ℕ) × (used : _) × IsSafePrefix program vars h n × Carries program w (history_found n h) (opening (state_at program vars h n) used failures)
+    (n : ℕ) × (position : Position) × IsSafePrefix program vars h n × Carries program w (history_found n h) (opening (state_at program vars h n) position failures)
+    × ((earlier : List SessionRun) → IsChain (setting_of w program) earlier h → IsChainAt (setting_of w program) earlier (just_opened n) (history_found n h) (opening (state_at program vars h n) position failures))
 FindsPrefix {d = d} program vars slots h failures (Err e) = ((e.0 ≡ Memory) ⊎ (e.0 ≡ Device)) × IsStore program vars slots h (d.view e.1)
 
 -- A device that is a store with this history was opened, and a crash at any moment of that leaves what is safe for it.
@@ -113,24 +155,35 @@ abbrev pub StepsOn : {D T S : Type 0} {d t s : _} → World D T S d t s → Even
 StepsOn old e r new =
     (program : Program) → Means old program → (h : History) (m : WorldModel) → Carries program old h m → (view_of new).keeps_model
     → AtEachMoment (view_of old) (view_of new) (IsSafe program old.layout.vars old.layout.slots h)
-    × ((m' : WorldModel) × Allows (setting_of old program) m e r m' × Carries program new (history_after m e r h) m')
+    × ((m' : WorldModel) × Allows (setting_of old program) m e r m' × Carries program new (history_after m e r h) m' × GrowsChain (setting_of old program) m h (e ∷ []) (r ∷ []) m' (history_after m e r h))
 
--- From a world with this history to that one there is a world after each event, to which the event led from the one before: it
--- was answered as the model allows, and a crash at any moment from the one to the other leaves what is safe for the history
--- before it.
-abbrev pub PlaysThrough : {D T S : Type 0} {d t s : _} → Program → World D T S d t s → History → WorldModel → List Event → List Reply → World D T S d t s → History → WorldModel → Type 0
-PlaysThrough program w h m [] [] w' h' m' = (w' ≡ w) × (h' ≡ h) × (m' ≡ m)
-PlaysThrough {D} {T} {S} {d} {t} {s} program w h m (e ∷ es) (r ∷ rs) w' h' m' =
-    (mid : World D T S d t s) × (x : WorldModel) × Allows (setting_of w program) m e r x × Carries program mid (history_after m e r h) x
-    × AtEachMoment (view_of w) (view_of mid) (IsSafe program w.layout.vars w.layout.slots h) × PlaysThrough program mid (history_after m e r h) x es rs w' h' m'
-PlaysThrough program w h m [] (r ∷ rs) w' h' m' = ⊥
-PlaysThrough program w h m (e ∷ es) [] w' h' m' = ⊥
+-- these are the first of those
+abbrev pub IsFirstOf : {A : Type 0} → List A → List A → Type 0
+IsFirstOf {A} first all = (rest : List A) × (all ≡ first ++ rest)
 
--- A world that carries a history carries the one after these events, at the point of the run that they lead to.
+-- The content is safe for the history after the first of these events, from which the others led on. (All of their replies
+-- are given once the last is played.)
+pub record IsSafeWithin (set : Setting) (m : WorldModel) (h : History) (es : List Event) (rs : List Reply) (m' : WorldModel) (h' : History) (c : List ℕ) : Type 0 where
+  pub first : List Event
+  pub rest : List Event
+  pub answers : List Reply
+  pub later : List Reply
+  pub events : es ≡ first ++ rest
+  pub replies : rs ≡ answers ++ later
+  pub point : WorldModel
+  pub reached : History
+  pub before : RunsOn set m h first answers point reached
+  pub after : RunsOn set point reached rest later m' h'
+  pub safe : IsSafe set.program set.vars set.slots reached c
+
+-- A world that carries a history carries the one after these events, at the point of the run that they lead to. A crash at any
+-- moment of the whole call leaves what is safe after the first of them.
 abbrev pub PlaysOn : {D T S : Type 0} {d t s : _} → World D T S d t s → List Event → List Reply → World D T S d t s → Type 0
 PlaysOn old es rs new =
     (program : Program) → Means old program → (h : History) (m : WorldModel) → Carries program old h m → (view_of new).keeps_model
-    → (h' : History) × (m' : WorldModel) × PlaysThrough program old h m es rs new h' m' × Carries program new h' m'
+    → (h' : History) × (m' : WorldModel) × RunsOn (setting_of old program) m h es rs m' h' × Carries program new h' m'
+    × AtEachMoment (view_of old) (view_of new) (IsSafeWithin (setting_of old program) m h es rs m' h')
+    × GrowsChain (setting_of old program) m h es rs m' h'
 
 -- A device for which format answered Ok is a store without a history yet.
 abbrev pub FormattedIsStore : {D : Type 0} → (D → DeviceView) → Type 0
@@ -138,10 +191,15 @@ FormattedIsStore {D} view =
     (program : Program) (vars slots : ℕ) (used : _) (disk : D) → FitsOn vars slots (view disk).capacity
     → LeavesOnly (view disk) (StandsFor vars slots used (first_state vars)) → IsStore program vars slots no_history (view disk)
 
--- What a crash leaves of a store is a store with the same history: a crash at some moment of a call at each moment of which
--- it leaves what is safe, or a crash between two calls.
+-- A crash of a store leaves a store: with the same history, if it was between two calls or at some moment of an opening or an
+-- event; and if it was at some moment of a list of events, with the history after the first of them, once the device was
+-- started again.
 pub record CrashLeavesStore {D : Type 0} (view : D → DeviceView) : Type 0 where
-  pub within : (program : Program) (vars slots : ℕ) (h : History) (old new left : D) → FitsOn vars slots (view new).capacity
-      → AtEachMoment (view old) (view new) (IsSafe program vars slots h) → IsLeftBy (view new) (view old).moment (view left) → IsStore program vars slots h (view left)
   pub between : (program : Program) (vars slots : ℕ) (h : History) (disk left : D) → IsStore program vars slots h (view disk)
       → IsLeftBy (view disk) (view disk).moment (view left) → IsStore program vars slots h (view left)
+  pub within : (program : Program) (vars slots : ℕ) (h : History) (old new left : D) → FitsOn vars slots (view new).capacity
+      → AtEachMoment (view old) (view new) (IsSafe program vars slots h) → IsLeftBy (view new) (view old).moment (view left) → IsStore program vars slots h (view left)
+  pub within_events : (set : Setting) (m : WorldModel) (h : History) (es : List Event) (rs : List Reply) (m' : WorldModel) (h' : History) (old new left : D) → FitsOn set.vars set.slots (view new).capacity
+      → AtEachMoment (view old) (view new) (IsSafeWithin set m h es rs m' h') → IsLeftBy (view new) (view old).moment (view left) → IsSynced (view left) → (view left).keeps_model
+      → (first : List Event) × (answers : List Reply) × (point : WorldModel) × (reached : History)
+      × IsFirstOf first es × IsFirstOf answers rs × GrowsChain set m h first answers point reached × IsStore set.program set.vars set.slots reached (view left)

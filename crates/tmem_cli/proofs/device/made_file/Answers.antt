@@ -1,7 +1,9 @@
-use Rattle.std.proofs.Common.{ℕ, subst}
+use Rattle.std.proofs.Common.{ℕ, subst, arith}
 use Rattle.std.proofs.lemmas.Result.{IfOk-weaker}
 use Rattle.tmem_disk.specs.Start.{IsNewDevice}
 use Rattle.tmem_file.specs.FileView.{view_of}
+use Rattle.tmem_journal.specs.Stands.{first_position}
+use Rattle.tmem_cli.specs.Builtin.{builtin_program}
 use Rattle.tmem_cli.proofs.device.made_file.Goals as goal
 
 pub returns-in-Ok-clause-made : goal.returns-in-Ok-clause-made
@@ -16,5 +18,8 @@ returns-in-Ok-clause-made g c =
       model = c.in-Ok.ensures.uses.model;
       stands = c.in-Ok.ensures.stands;
       placed = placed;
+      store = c.formatted_is_store.ensures (builtin_program c.args.layout.vars) c.args.layout.vars c.args.layout.slots first_position disk
+          (record { layout = c.args.layout.fits; room = omega (arith, placed.capacity, c.in-Ok.ensures.uses.capacity, c.in_ok-new.ensures.made.capacity, c.end.ensures) })
+          (record { each = λ k x left. c.in-Ok.ensures.stands.each (placed.model k) x (placed.stop.each k x left) });
     })
     c.place.ensures.placed

@@ -1,8 +1,12 @@
 use Rattle.std.proofs.Common.{◌≡◌, ◌++◌, ◌∷◌, [], List, ◌∙◌, ap, sym, subst, append_assoc, arith}
 use Rattle.std.proofs.lemmas.Grind.{common_steps}
+use Rattle.std.specs.Io.KnownBytes.{Appends}
+use Rattle.tmem_cli.specs.Chains.{PlaysEntriesOn}
 use Rattle.tmem_cli.specs.Printed.{PlaysEntries}
 use Rattle.tmem_script.specs.declared.script.Entry.{Entry}
 use Rattle.tmem_cli.proofs.Playing.{PlaysEntries-more}
+use Rattle.tmem_cli.proofs.Stores.{go_on-nil, plays-then, then_within}
+use Rattle.tmem_cli.proofs.Writing.{Appends-then, Appends-nil}
 use Rattle.tmem_cli.proofs.play.play_entries.Goals as goal
 
 pub loop-entry-preserved : goal.loop-entry-preserved
@@ -18,6 +22,9 @@ loop-entry-preserved g c =
       model = λ premise. so.model (c.play_entry.ensures.model premise);
       parts = parts;
       played = PlaysEntries-more c.args.world.now c.loop-entry.world c.play_entry.new.world _ _ _ c.loop-entry.yielded c.in-Some.entry so.numbers so.steps so.table c.play_entry.ensures.model so.played c.in_ok-play_entry.ensures.played;
+      elsewhere = then_within c.args.world.now c.loop-entry.world c.play_entry.new.world so.numbers c.play_entry.ensures.model so.elsewhere c.play_entry.ensures.elsewhere;
+      chain = plays-then c.args.world.now c.loop-entry.world c.play_entry.new.world so.numbers so.steps so.table c.play_entry.ensures.model so.elsewhere.time.later _ c.play_entry.ensures.elsewhere.time c.loop-entry.yielded (c.in-Some.entry ∷ []) _ _ _
+          (λ one two first second. Appends-then _ _ _ one two first second) so.chain c.in_ok-play_entry.ensures.chain;
     }
 
 pub returns-clause-played : goal.returns-clause-played
@@ -25,3 +32,24 @@ returns-clause-played g c =
     let so = c.loop-entry.invariant in
     let all : c.loop-entry.yielded ≡ c.args.entries.items = grind (arith, common_steps, so.parts) in
     subst (λ (es : List Entry). PlaysEntries c.args.world.now (g.W.Write.contents c.args.out.now) es c.loop-entry.world (g.W.Write.contents c.loop-entry.out)) all so.played
+
+pub loop-entry-init : goal.loop-entry-init
+loop-entry-init g c = ?
+
+pub returns-in_err-play_entry-clause-stopped : goal.returns-in_err-play_entry-clause-stopped
+returns-in_err-play_entry-clause-stopped g c =
+    let so = c.loop-entry.invariant in
+    let taken : c.loop-entry.entry-iterator.rest.items ≡ c.in-Some.entry ∷ c.next.new.self.rest.items = c.in-Some.ensures.steps.0 in
+    let parts : (c.loop-entry.yielded ++ c.in-Some.entry ∷ []) ++ c.next.new.self.rest.items ≡ c.args.entries.items =
+    append_assoc c.loop-entry.yielded (c.in-Some.entry ∷ []) c.next.new.self.rest.items ∙ ap (λ (es : List Entry). c.loop-entry.yielded ++ es) (sym taken) ∙ so.parts in (
+      c.loop-entry.yielded ++ c.in-Some.entry ∷ [],
+      (c.next.new.self.rest.items, sym parts),
+      plays-then c.args.world.now c.loop-entry.world c.play_entry.new.world so.numbers so.steps so.table c.play_entry.ensures.model so.elsewhere.time.later _ c.play_entry.ensures.elsewhere.time c.loop-entry.yielded (c.in-Some.entry ∷ []) _ _ _
+          (λ one two first second. tt) so.chain c.play_entry.ensures.chain,
+    )
+
+pub returns-clause-chain : goal.returns-clause-chain
+returns-clause-chain g c =
+    let so = c.loop-entry.invariant in
+    let all : c.loop-entry.yielded ≡ c.args.entries.items = grind (arith, common_steps, so.parts) in
+    subst (λ (es : List Entry). PlaysEntriesOn c.args.world.now es c.loop-entry.world (Appends (g.W.Write.contents c.args.out.now) (g.W.Write.contents c.loop-entry.out))) all so.chain

@@ -1,13 +1,16 @@
 use Rattle.std.proofs.Common.{ℕ, refl, sym, ap, subst, ◌∷◌, []}
 use Rattle.std.specs.Prelude.{OnOk}
+use Rattle.std.specs.Io.KnownBytes.{Appends}
 use Rattle.std.proofs.lemmas.Result.{on_ok_weaker}
 use Rattle.tmem_script.specs.Lines.{line_of}
 use Rattle.tmem_script.specs.declared.script.Entry.{Entry}
 use Rattle.tmem_script.specs.declared.script.Entry.TheVariants.{Event, Show}
 use Rattle.tmem_world.specs.WorldModel.{present}
-use Rattle.tmem_world.specs.Represents.{setting_of}
+use Rattle.tmem_world.specs.Represents.{setting_of, device_of}
+use Rattle.tmem_cli.specs.Chains.{PlaysEntriesOn}
 use Rattle.tmem_cli.specs.Printed.{line, shown, PlaysEntries}
 use Rattle.tmem_cli.proofs.Playing.{Prints-one, rests}
+use Rattle.tmem_cli.proofs.Stores.{go_on-event, go_on-show}
 use Rattle.tmem_cli.proofs.play.play_entry.Goals as goal
 
 pub returns-in-Event-clause-played : goal.returns-in-Event-clause-played
@@ -27,3 +30,26 @@ returns-in-Show-clause-played g c =
     let text = line (shown c.args.vars m.session (present program m)) in
     (m, text, Prints-one (setting_of c.args.world.now program) Show text m m (ap (λ (v : ℕ). line (shown v m.session (present program m))) (sym c.requires), refl), at, wrote program m at))
     c.print_state.ensures.shown)
+
+pub returns-in-Event-clause-chain : goal.returns-in-Event-clause-chain
+returns-in-Event-clause-chain g c =
+    let w = c.args.world.now in
+    let new = c.step.new.self in
+    let it = c.in-Event.playable in
+    let r = c.step.result in
+    subst (λ (e : Entry). PlaysEntriesOn w (e ∷ []) new (λ text. OnOk c.print_line.result (Appends (g.W.Write.contents c.args.out.now) (g.W.Write.contents c.print_line.new.out) text))) (sym c.in-Event.is)
+    (λ program means h m has keeps.
+    let now = c.step.ensures.chain program means h m has keeps in
+    (line (line_of r), go_on-event program w new h m it r now.0 now.1.0 now.1.1 now.1.2, c.print_line.ensures.line))
+
+pub returns-in-Show-clause-chain : goal.returns-in-Show-clause-chain
+returns-in-Show-clause-chain g c =
+    let w = c.args.world.now in
+    let before = g.W.Write.contents c.args.out.now in
+    let after = g.W.Write.contents c.print_state.new.out in
+    subst (λ (e : Entry). PlaysEntriesOn w (e ∷ []) w (λ text. OnOk c.print_state.result (Appends before after text))) (sym c.in-Show.is)
+    (λ program means h m has keeps. (
+      line (shown w.layout.vars m.session (present program m)),
+      go_on-show program w (g.met.D.Disk.is_device (device_of w)) h m has,
+      on_ok_weaker c.print_state.result (λ wrote. subst (λ (v : ℕ). Appends before after (line (shown v m.session (present program m)))) (sym c.requires) (wrote program m has.point)) c.print_state.ensures.shown,
+    ))

@@ -22,10 +22,10 @@ returns-in_ok-disk-in-None-clause-failed g c =
     let disk = c.in_ok-disk-in-None.disk in
     let layout = c.args.layout in
     let empty = c.in_ok-disk-in-None.ensures.stands.each tt _ ((is_device_of disk).seen_may_stay tt) in
-    subst (λ (p : Option (Bor (List ℕ))). IfErr c.play_on.result (StopsWhere (option_map (λ (t : Bor (List ℕ)). t.now) p) layout.vars layout.slots)) (sym c.in-None.is)
+    subst (λ (p : Option (Bor (List ℕ))). IfErr c.play_on.result (StopsWhere (option_map (λ (t : Bor (List ℕ)). t.now) p) layout.vars layout.slots c.args.entries.items)) (sym c.in-None.is)
     (IfErr-weaker c.play_on.result _ _
     (λ failure why. elim why [
-      | inl output ↦ inl output
+      | inl stops ↦ inl stops.0
       | inr refused ↦ elim (first_stops c.stands_for_one.ensures layout.vars layout.slots layout.fits (memory_of disk) (memory_of refused.2) empty c.refused_stands_for_none.ensures refused.0 (omega (arith, c.in_ok-disk-in-None.ensures.capacity)) tt refused.3) [
         | inl memory ↦ inr (inl (refused.1 ∙ ap Refused memory))
         | inr device ↦ inr (inr (refused.1 ∙ ap Refused device))
@@ -42,10 +42,7 @@ returns-in_ok-disk-in-Some-clause-played g c =
 pub returns-in_ok-disk-in-Some-clause-failed : goal.returns-in_ok-disk-in-Some-clause-failed
 returns-in_ok-disk-in-Some-clause-failed g c =
     let layout = c.args.layout in
-    subst (λ (p : Option (Bor (List ℕ))). IfErr c.play_on-in-Some.result (StopsWhere (option_map (λ (t : Bor (List ℕ)). t.now) p) layout.vars layout.slots)) (sym c.in-Some.is)
+    subst (λ (p : Option (Bor (List ℕ))). IfErr c.play_on-in-Some.result (StopsWhere (option_map (λ (t : Bor (List ℕ)). t.now) p) layout.vars layout.slots c.args.entries.items)) (sym c.in-Some.is)
     (IfErr-weaker c.play_on-in-Some.result _ _
-    (λ failure why. elim why [
-      | inl output ↦ inl (inl output)
-      | inr refused ↦ inr (c.in_ok-disk-in-Some.disk, c.in_ok-disk-in-Some.ensures.device, refused)
-    ])
+    (λ failure why. inr (c.in_ok-disk-in-Some.disk, c.in_ok-disk-in-Some.ensures.device, why))
     c.play_on-in-Some.ensures.failed)

@@ -1,15 +1,32 @@
-use Rattle.std.proofs.Common.{sym, subst}
+use Rattle.std.proofs.Common.{List, sym, subst}
 use Rattle.tmem_journal.specs.Calls.{FitsOn}
+use Rattle.tmem_world.specs.Chain.{IsSafe}
+use Rattle.tmem_world.proofs.Laws.{grows}
 use Rattle.tmem_world.proofs.chain.crash_leaves_store.Goals as goal
 
 pub returns : goal.returns
 returns g c = record {
-  within = λ program vars slots h old new left fits during by. record {
-    fits = subst (FitsOn vars slots) (sym by.capacity) fits;
-    device = record { each = λ k x may. during.each (by.model k) x (by.left k x may) };
-  };
   between = λ program vars slots h disk left store by. record {
     fits = subst (FitsOn vars slots) (sym by.capacity) store.fits;
     device = record { each = λ k x may. store.device.each (by.model k) x ((g.met.D.Disk.is_device disk).only_now x (by.model k) (by.left k x may)) };
   };
+  within = λ program vars slots h old new left fits during by. record {
+    fits = subst (FitsOn vars slots) (sym by.capacity) fits;
+    device = record { each = λ k x may. during.each (by.model k) x (by.left k x may) };
+  };
+  within_events = λ set m h es rs m' h' old new left fits during by synced keeps.
+      let view = g.D.Disk.view in
+      let so = during.each (by.model keeps) (view left).seen (by.left keeps (view left).seen ((g.met.D.Disk.is_device left).seen_may_stay keeps)) in (
+        so.first,
+        so.answers,
+        so.point,
+        so.reached,
+        (so.rest, so.events),
+        (so.later, so.replies),
+        grows set m h so.first so.answers so.point so.reached so.before,
+        record {
+          fits = subst (FitsOn set.vars set.slots) (sym by.capacity) fits;
+          device = record { each = λ k x may. subst (IsSafe set.program set.vars set.slots so.reached) (sym (synced k x may)) so.safe };
+        },
+      );
 }

@@ -18,4 +18,4 @@ returns-clause-stop c = c.touch.ensures.stop
 pub returns-clause-time : goal.returns-clause-time
 returns-clause-time c =
     let time = c.touch.ensures.time in
-    record { later = time.later; nothing_else = time.nothing_else; keeps = time.keeps }
+    record { later = time.later; nothing_else = time.nothing_else; keeps = time.keeps; before_or_since = time.before_or_since }

@@ -9,6 +9,7 @@ use Rattle.tmem_journal.specs.Held as journal
 use Rattle.tmem_journal.specs.Refusals.{IsRefusedBy}
 use Rattle.tmem_world.proofs.Mending.{mending}
 use Rattle.tmem_world.proofs.Chains.{state_is, sound_is, not_refused, only_failed, opening_moments, refused_back, given_back, begins}
+use Rattle.tmem_world.proofs.Laws.{opens_chain}
 use Rattle.tmem_world.specs.Chain.{IsSafe}
 use Rattle.tmem_disk.specs.Disk.{AtEachMoment}
 use Rattle.tmem_world.proofs.OpenedPoints.{opens, opened_then_refused, why_journal, only_memory, sound_either, tells_no_device}
@@ -112,6 +113,7 @@ returns-in-Ok-begin_session-clause-chain g c = λ program h steps names tests st
     let is = state_is c.stands_for_one.ensures program c.args.vars c.args.slots store.fits.layout h old store safe (journal.position_of j) (journal.state_of j) (opened.found keeps') in
     let point = opens program _ o j old.failures refl so.journal so.fresh.0 so.fresh.1 so.state opened.fresh.1 c.in-Ok-empty_slots.ensures.len c.in-Ok-empty_slots.ensures.emptied opened.uses.failures
     (subst (λ ns. IsSound program.tests ns (state_of o.core).names (state_of o.core).values) (sym names) (so.sound program.tests tests)) in
+    let same = ap (λ x. x.vars) c.layout-layout.ensures ∙ opened.fits.0 in
     record {
       any_moment = subst (λ x. AtEachMoment old (journal.device_of x) (IsSafe program c.args.vars c.args.slots h)) (sym so.journal)
           (opening_moments program c.args.vars c.args.slots h old (journal.device_of j) store opened.uses.model opened.any_moment);
@@ -119,7 +121,8 @@ returns-in-Ok-begin_session-clause-chain g c = λ program h steps names tests st
         (journal.state_of j).count,
         journal.position_of j,
         is.0,
-        begins _ program h c.args.vars (ap (λ x. x.vars) c.layout-layout.ensures ∙ opened.fits.0) (journal.state_of j) (journal.position_of j) old.failures is.0 is.1 point,
+        begins _ program h c.args.vars same (journal.state_of j) (journal.position_of j) old.failures is.0 is.1 point,
+        opens_chain _ h c.args.vars same (journal.state_of j).count (journal.position_of j) old.failures is.0,
       );
     }
 

@@ -1,6 +1,8 @@
 use Rattle.std.proofs.Common.{◌≡◌, ⊎_elim, ◌<◌, ◌+◌, ◌*◌, ◌++◌, ◌∷◌, [], ◌∙◌, List, length, arith, rules, sym, ap, subst, length-append, append_assoc}
 use Rattle.std.specs.Vec.{vec_capacity, vec_len}
 use Rattle.std.proofs.lemmas.Grind.{common_steps}
+use Rattle.tmem_disk.specs.Disk.{AtEachMoment}
+use Rattle.tmem_disk.proofs.Laws.{either_time}
 use Rattle.tmem_record.specs.Layout.{image_place, image_size}
 use Rattle.tmem_record.specs.declared.layout.Layout.{Layout}
 use Rattle.tmem_gate.proofs.Laws.{WritesWithin-trans}
@@ -9,11 +11,11 @@ use Rattle.tmem_event.specs.declared.event.Reply.{Reply}
 use Rattle.tmem_world.specs.WorldModel.{Setting, Run, Allows}
 use Rattle.tmem_world.specs.Replies.{failures_by, failures_by_all, IsAcknowledged}
 use Rattle.tmem_world.specs.Represents.{WritesInStore, setting_of, view_of}
-use Rattle.tmem_world.proofs.Laws.{keeps_durable, acknowledged-append, run-append, run_on_any_device-append, failures-append, rests_on}
+use Rattle.tmem_world.proofs.Laws.{keeps_durable, acknowledged-append, run-append, run_on_any_device-append, failures-append, rests_on, runs_on-append, runs_on-one, grows}
 use Rattle.tmem_world.proofs.AnyDevicePoints.{steps}
 use Rattle.tmem_world.specs.AnyDevice.{AllowsOnAnyDevice, RunOnAnyDevice}
-use Rattle.tmem_world.specs.Chain.{PlaysThrough, history_after}
-use Rattle.tmem_world.proofs.Chains.{plays_through-append}
+use Rattle.tmem_world.specs.Chain.{IsSafe, IsSafeWithin, RunsOn, history_after}
+use Rattle.tmem_world.proofs.Chains.{safe_within-more, safe_within-last}
 use Rattle.tmem_world.proofs.world.World.play.Goals as goal
 
 pub loop-event-preserved : goal.loop-event-preserved
@@ -65,20 +67,44 @@ loop-event-preserved g c =
       chain = λ program stated h m has k.
           let before = so.chain program stated h m has (c.step-reply.ensures.model k) in
           let now = c.step-reply.ensures.chain program (so.means program stated) before.0 before.1 before.3 k in
-          let after = history_after before.1 c.in-Some.event c.step-reply.result before.0 in (
+          let set = setting_of c.args.self.now program in
+          let e = c.in-Some.event in
+          let r = c.step-reply.result in
+          let after = history_after before.1 e r before.0 in
+          let m' = now.1.0 in
+          let allowed = subst (λ (t : Setting). Allows t before.1 e r m') (so.setting program) now.1.1 in
+          let old = view_of c.args.self.now in
+          let mid = view_of c.loop-event.self in
+          let new = view_of c.step-reply.new.self in
+          let moments : AtEachMoment mid new (IsSafe program c.args.self.now.layout.vars c.args.self.now.layout.slots before.0) =
+          subst (λ (l : Layout). AtEachMoment mid new (IsSafe program l.vars l.slots before.0)) so.layout now.0 in (
             after,
-            now.1.0,
-            subst (λ (rs : List Reply). PlaysThrough program c.args.self.now h m (c.loop-event.yielded ++ c.in-Some.event ∷ []) rs c.step-reply.new.self after now.1.0) (sym pushed)
-                (plays_through-append program c.args.self.now h m c.loop-event.yielded c.loop-event.replies.items c.loop-event.self before.0 before.1 before.2 c.in-Some.event c.step-reply.result c.step-reply.new.self now.1.0 now.1.1 now.1.2 now.0),
+            m',
+            subst (λ (rs : List Reply). RunsOn set m h (c.loop-event.yielded ++ e ∷ []) rs m' after) (sym pushed)
+                (runs_on-append set m h c.loop-event.yielded c.loop-event.replies.items before.1 before.0 before.2 (e ∷ []) (r ∷ []) m' after (runs_on-one set before.1 before.0 e r m' allowed)),
             now.1.2,
+            subst (λ (rs : List Reply). AtEachMoment old new (IsSafeWithin set m h (c.loop-event.yielded ++ e ∷ []) rs m' after)) (sym pushed) (record {
+              each = λ keeps x left. ⊎_elim
+                  (λ was. safe_within-more set m h c.loop-event.yielded c.loop-event.replies.items before.1 before.0 e r m' allowed x (before.4.each (c.step-reply.ensures.model keeps) x was))
+                  (λ is. safe_within-last set m h c.loop-event.yielded c.loop-event.replies.items before.1 before.0 before.2 e r m' allowed x (moments.each keeps x is))
+                  (either_time old mid new _ c.step-reply.ensures.model so.elsewhere.time.later c.step-reply.ensures.elsewhere.time keeps x left);
+            }),
           );
     }
 
 pub returns-clause-chain : goal.returns-clause-chain
 returns-clause-chain g c = λ program stated h m has k.
     let after = c.loop-event.invariant.chain program stated h m has k in
+    let set = setting_of c.args.self.now program in
     let all : c.loop-event.yielded ≡ c.args.events.items = first_of (search rules, grind (arith, common_steps)) in
-    (after.0, after.1, subst (λ (es : List Event). PlaysThrough program c.args.self.now h m es c.loop-event.replies.items c.loop-event.self after.0 after.1) all after.2, after.3)
+    let runs = subst (λ (es : List Event). RunsOn set m h es c.loop-event.replies.items after.1 after.0) all after.2 in (
+      after.0,
+      after.1,
+      runs,
+      after.3,
+      subst (λ (es : List Event). AtEachMoment (view_of c.args.self.now) (view_of c.loop-event.self) (IsSafeWithin set m h es c.loop-event.replies.items after.1 after.0)) all after.4,
+      grows set m h c.args.events.items c.loop-event.replies.items after.1 after.0 runs,
+    )
 
 pub returns-clause-run : goal.returns-clause-run
 returns-clause-run g c = λ program stated m r k.

@@ -4,6 +4,12 @@ use Rattle.tmem_world.proofs.Chains.{event_steps_on, still_steps_on}
 use Rattle.tmem_world.proofs.WrittenSlots.{log_within}
 use Rattle.tmem_world.proofs.world.World.step.Goals as goal
 
+pub returns-in-Begin-clause-chain : goal.returns-in-Begin-clause-chain
+returns-in-Begin-clause-chain g c =
+    let w = c.args.self.now in
+    let so = c.begin.ensures in
+    still_steps_on w c.begin.new.self so.kept.0 c.args.event _ c.begin.result c.in-Begin.is so.step (g.met.D.Disk.is_device (device_of w)) so.kept.2
+
 pub returns-in-Turn-clause-chain : goal.returns-in-Turn-clause-chain
 returns-in-Turn-clause-chain g c =
     let w = c.args.self.now in

@@ -1,0 +1,239 @@
+-- Entries that are played on a store that has a history.
+use Rattle.std.proofs.Common.{◌≡◌, ◌⊎◌, ⊎_elim, inl, inr, ℕ, ◌≤◌, List, [], ◌∷◌, ◌++◌, Option, refl, sym, ap, subst, ◌∙◌, append_assoc, append-nil}
+use Rattle.std.specs.Prelude.{Result, Ok}
+use Rattle.std.specs.Io.KnownBytes.{Appends}
+use Rattle.tmem_disk.specs.Disk.{DeviceView, IsDevice, AtEachMoment, Elapses}
+use Rattle.tmem_disk.proofs.Laws.{either_time}
+use Rattle.tmem_disk.specs.declared.fault.Fault.{Fault}
+use Rattle.tmem_record.specs.declared.layout.Layout.{Layout}
+use Rattle.tmem_core.specs.Program.{Program}
+use Rattle.tmem_event.specs.declared.event.Event.{Event}
+use Rattle.tmem_event.specs.declared.event.Reply.{Reply}
+use Rattle.tmem_event.specs.declared.event.Reply.TheVariants as reply
+use Rattle.tmem_journal.specs.Stands.{Position}
+use Rattle.tmem_script.specs.Lines.{line_of}
+use Rattle.tmem_script.specs.declared.script.Entry.{Entry}
+use Rattle.tmem_script.specs.declared.script.Entry.TheVariants as entry
+use Rattle.tmem_script.specs.declared.script.Playable.{Playable}
+use Rattle.tmem_world.specs.declared.world.World.{World}
+use Rattle.tmem_world.specs.WorldModel.{Setting, WorldModel, Allows, present, opening}
+use Rattle.tmem_world.specs.Represents.{Means, WritesInStore, setting_of, numbers_of, steps_of, held_table, view_of}
+use Rattle.tmem_world.specs.Chain.{History, IsSafePrefix, IsSafe, IsStore, Carries, StepsOn, RunsOn, OpensStore, SessionRun, IsChain, IsChainAt, just_opened, state_at, history_found, history_after}
+use Rattle.tmem_world.proofs.Laws.{grows, WritesInStore-trans}
+use Rattle.tmem_cli.specs.Builtin.{builtin_program, builtin_setting}
+use Rattle.tmem_cli.specs.Printed.{line, shown}
+use Rattle.tmem_cli.specs.Chains.{PrintsOn, events_of, IsSafeAmong, EntriesGoOn, PlaysEntriesOn, PlaysStore}
+use Rattle.tmem_cli.proofs.Playing.{means_stay, same_setting}
+use Rattle.tmem_cli.proofs.Writing.{Appends-then, Appends-nil}
+
+module _ (set : Setting) where
+  -- entries and then others
+  pub prints_on-append : (m : WorldModel) (h : History) (es : List Entry) (rs : List Reply) (text : List ℕ) (x : WorldModel) (g : History) → PrintsOn set m h es rs text x g
+      → (more : List Entry) (later : List Reply) (rest : List ℕ) (m' : WorldModel) (h' : History) → PrintsOn set x g more later rest m' h' → PrintsOn set m h (es ++ more) (rs ++ later) (text ++ rest) m' h'
+  prints_on-append m h [] [] text x g so more later rest m' h' then =
+      subst (λ (t : List ℕ). PrintsOn set m h more later (t ++ rest) m' h') (sym so.0)
+      (subst (λ (y : WorldModel). PrintsOn set y h more later rest m' h') so.1 (subst (λ (f : History). PrintsOn set x f more later rest m' h') so.2 then))
+  prints_on-append m h [] (r ∷ rs) text x g so more later rest m' h' then = absurd so
+  prints_on-append m h (entry.Event it ∷ es) [] text x g so more later rest m' h' then = absurd so
+  prints_on-append m h (entry.Event it ∷ es) (r ∷ rs) text x g so more later rest m' h' then = (
+    so.0,
+    so.1 ++ rest,
+    so.2,
+    prints_on-append so.0 (history_after m it.event r h) es rs so.1 x g so.3 more later rest m' h' then,
+    ap (λ (t : List ℕ). t ++ rest) so.4 ∙ append_assoc (line (line_of r)) so.1 rest,
+  )
+  prints_on-append m h (entry.Show ∷ es) rs text x g so more later rest m' h' then = (
+    so.0 ++ rest,
+    prints_on-append m h es rs so.0 x g so.1 more later rest m' h' then,
+    ap (λ (t : List ℕ). t ++ rest) so.2 ∙ append_assoc (line (shown set.vars m.session (present set.program m))) so.0 rest,
+  )
+
+  -- the events among them are a run
+  pub runs_of : (m : WorldModel) (h : History) (es : List Entry) (rs : List Reply) (text : List ℕ) (m' : WorldModel) (h' : History) → PrintsOn set m h es rs text m' h' → RunsOn set m h (events_of es) rs m' h'
+  runs_of m h [] [] text m' h' so = (so.1, so.2)
+  runs_of m h [] (r ∷ rs) text m' h' so = absurd so
+  runs_of m h (entry.Event it ∷ es) [] text m' h' so = absurd so
+  runs_of m h (entry.Event it ∷ es) (r ∷ rs) text m' h' so = (so.0, so.2, runs_of so.0 (history_after m it.event r h) es rs so.1 m' h' so.3)
+  runs_of m h (entry.Show ∷ es) rs text m' h' so = runs_of m h es rs so.0 m' h' so.1
+
+  -- one entry, and no other
+  pub prints_event : (m : WorldModel) (h : History) (it : Playable) (r : Reply) (m' : WorldModel) → Allows set m it.event r m' → PrintsOn set m h (entry.Event it ∷ []) (r ∷ []) (line (line_of r)) m' (history_after m it.event r h)
+  prints_event m h it r m' allowed = (m', [], allowed, (refl, refl, refl), sym (append-nil (line (line_of r))))
+
+  pub prints_show : (m : WorldModel) (h : History) → PrintsOn set m h (entry.Show ∷ []) [] (line (shown set.vars m.session (present set.program m))) m h
+  prints_show m h = ([], (refl, refl, refl), sym (append-nil (line (shown set.vars m.session (present set.program m)))))
+
+  -- what was safe among the first entries is so among those and others
+  pub safe_among-more : (m : WorldModel) (h : History) (es : List Entry) (rs : List Reply) (x : WorldModel) (g : History)
+      → (more : List Entry) (later : List Reply) (rest : List ℕ) (m' : WorldModel) (h' : History) → PrintsOn set x g more later rest m' h'
+      → (c : List ℕ) → IsSafeAmong set m h es rs x g c → IsSafeAmong set m h (es ++ more) (rs ++ later) m' h' c
+  safe_among-more m h es rs x g more later rest m' h' then c among = record {
+    first = among.first;
+    rest = among.rest ++ more;
+    answers = among.answers;
+    later = among.later ++ later;
+    early = among.early;
+    late = among.late ++ rest;
+    entries = ap (λ (l : List Entry). l ++ more) among.entries ∙ append_assoc among.first among.rest more;
+    replies = ap (λ (l : List Reply). l ++ later) among.replies ∙ append_assoc among.answers among.later later;
+    point = among.point;
+    reached = among.reached;
+    before = among.before;
+    after = prints_on-append among.point among.reached among.rest among.later among.late x g among.after more later rest m' h' then;
+    safe = among.safe;
+  }
+
+  -- what is safe among later ones is so among all
+  pub safe_among-then : (m : WorldModel) (h : History) (es : List Entry) (rs : List Reply) (text : List ℕ) (x : WorldModel) (g : History) → PrintsOn set m h es rs text x g
+      → (more : List Entry) (later : List Reply) (m' : WorldModel) (h' : History)
+      → (c : List ℕ) → IsSafeAmong set x g more later m' h' c → IsSafeAmong set m h (es ++ more) (rs ++ later) m' h' c
+  safe_among-then m h es rs text x g so more later m' h' c among = record {
+    first = es ++ among.first;
+    rest = among.rest;
+    answers = rs ++ among.answers;
+    later = among.later;
+    early = text ++ among.early;
+    late = among.late;
+    entries = ap (λ (l : List Entry). es ++ l) among.entries ∙ sym (append_assoc es among.first among.rest);
+    replies = ap (λ (l : List Reply). rs ++ l) among.replies ∙ sym (append_assoc rs among.answers among.later);
+    point = among.point;
+    reached = among.reached;
+    before = prints_on-append m h es rs text x g so among.first among.answers among.early among.point among.reached among.before;
+    after = among.after;
+    safe = among.safe;
+  }
+
+  -- what is safe before an entry is so among those from it on
+  pub safe_before : (m : WorldModel) (h : History) (es : List Entry) (rs : List Reply) (text : List ℕ) (m' : WorldModel) (h' : History) → PrintsOn set m h es rs text m' h' → (c : List ℕ) → IsSafe set.program set.vars set.slots h c → IsSafeAmong set m h es rs m' h' c
+  safe_before m h es rs text m' h' so c safe = record {
+    first = [];
+    rest = es;
+    answers = [];
+    later = rs;
+    early = [];
+    late = text;
+    entries = refl;
+    replies = refl;
+    point = m;
+    reached = h;
+    before = (refl, refl, refl);
+    after = so;
+    safe = safe;
+  }
+
+module _ {D T S : Type 0} {d t s : _} (program : Program) where
+  -- a crash between two entries leaves what is safe
+  pub still : (w : World D T S d t s) → IsDevice (view_of w) → (h : History) (m : WorldModel) → Carries program w h m → AtEachMoment (view_of w) (view_of w) (IsSafe program w.layout.vars w.layout.slots h)
+  still w device h m has = record { each = λ k c left. has.store.device.each k c (device.only_now c k left) }
+
+  -- no entry yet
+  pub go_on-nil : (w : World D T S d t s) → IsDevice (view_of w) → (h : History) (m : WorldModel) → Carries program w h m → EntriesGoOn program w h m [] [] w
+  go_on-nil w device h m has = record {
+    replies = [];
+    end = m;
+    reached = h;
+    prints = (refl, refl, refl);
+    carries = has;
+    any_moment = record { each = λ k c left. safe_before (setting_of w program) m h [] [] [] m h (refl, refl, refl) c ((still w device h m has).each k c left) };
+  }
+
+  -- an event
+  pub go_on-event : (w new : World D T S d t s) (h : History) (m : WorldModel) (it : Playable) (r : Reply) → AtEachMoment (view_of w) (view_of new) (IsSafe program w.layout.vars w.layout.slots h)
+      → (m' : WorldModel) → Allows (setting_of w program) m it.event r m' → Carries program new (history_after m it.event r h) m' → EntriesGoOn program w h m (entry.Event it ∷ []) (line (line_of r)) new
+  go_on-event w new h m it r during m' allowed has =
+      let prints = prints_event (setting_of w program) m h it r m' allowed in
+      record {
+        replies = r ∷ [];
+        end = m';
+        reached = history_after m it.event r h;
+        prints = prints;
+        carries = has;
+        any_moment = record { each = λ k c left. safe_before (setting_of w program) m h (entry.Event it ∷ []) (r ∷ []) (line (line_of r)) m' (history_after m it.event r h) prints c (during.each k c left) };
+      }
+
+  -- the state is printed
+  pub go_on-show : (w : World D T S d t s) → IsDevice (view_of w) → (h : History) (m : WorldModel) → Carries program w h m
+      → EntriesGoOn program w h m (entry.Show ∷ []) (line (shown w.layout.vars m.session (present program m))) w
+  go_on-show w device h m has =
+      let prints = prints_show (setting_of w program) m h in
+      record {
+        replies = [];
+        end = m;
+        reached = h;
+        prints = prints;
+        carries = has;
+        any_moment = record { each = λ k c left. safe_before (setting_of w program) m h (entry.Show ∷ []) [] (line (shown w.layout.vars m.session (present program m))) m h prints c ((still w device h m has).each k c left) };
+      }
+
+  -- entries and then others
+  pub go_on-then : (w mid new : World D T S d t s) (h : History) (m : WorldModel) (es more : List Entry) (text rest : List ℕ) → setting_of mid program ≡ setting_of w program
+      → ((view_of new).keeps_model → (view_of mid).keeps_model) → ((view_of mid).keeps_model → (view_of w).moment ≤ (view_of mid).moment) → (P : List ℕ → Type 0) → Elapses (view_of mid) (view_of new) P
+      → (one : EntriesGoOn program w h m es text mid) → EntriesGoOn program mid one.reached one.end more rest new → EntriesGoOn program w h m (es ++ more) (text ++ rest) new
+  go_on-then w mid new h m es more text rest same model later P time one two =
+      let set = setting_of w program in
+      let prints = subst (λ (t : Setting). PrintsOn t one.end one.reached more two.replies rest two.end two.reached) same two.prints in
+      let among : AtEachMoment (view_of mid) (view_of new) (IsSafeAmong set one.end one.reached more two.replies two.end two.reached) =
+      subst (λ (t : Setting). AtEachMoment (view_of mid) (view_of new) (IsSafeAmong t one.end one.reached more two.replies two.end two.reached)) same two.any_moment in
+      record {
+        replies = one.replies ++ two.replies;
+        end = two.end;
+        reached = two.reached;
+        prints = prints_on-append set m h es one.replies text one.end one.reached one.prints more two.replies rest two.end two.reached prints;
+        carries = two.carries;
+        any_moment = record {
+          each = λ k c left. ⊎_elim
+              (λ was. safe_among-more set m h es one.replies one.end one.reached more two.replies rest two.end two.reached prints c (one.any_moment.each (model k) c was))
+              (λ is. safe_among-then set m h es one.replies text one.end one.reached one.prints more two.replies two.end two.reached c (among.each k c is))
+              (either_time (view_of w) (view_of mid) (view_of new) P model later time k c left);
+        };
+      }
+
+module _ {D T S : Type 0} {d t s : _} (w mid new : World D T S d t s) (numbers : numbers_of mid ≡ numbers_of w) (steps : steps_of mid ≡ steps_of w) (table : held_table mid ≡ held_table w) (model : (view_of new).keeps_model → (view_of mid).keeps_model) (later : (view_of mid).keeps_model → (view_of w).moment ≤ (view_of mid).moment) (P : List ℕ → Type 0) (time : Elapses (view_of mid) (view_of new) P) where
+  -- entries and then others, and what was printed for them
+  pub plays-then : (es more : List Entry) (IsOne IsTwo IsBoth : List ℕ → Type 0) → ((one two : List ℕ) → IsOne one → IsTwo two → IsBoth (one ++ two))
+      → PlaysEntriesOn w es mid IsOne → PlaysEntriesOn mid more new IsTwo → PlaysEntriesOn w (es ++ more) new IsBoth
+  plays-then es more IsOne IsTwo IsBoth both one two program means h m has keeps =
+      let first = one program means h m has (model keeps) in
+      let second = two program (means_stay w mid program steps table means) first.1.reached first.1.end first.1.carries keeps in
+      (first.0 ++ second.0, go_on-then program w mid new h m es more first.0 second.0 (same_setting w mid program numbers steps) model later P time first.1 second.1, both first.0 second.0 first.2 second.2)
+
+-- A world was opened on a store, and entries were played on it.
+module _ {D T S : Type 0} {d t s : _} (w new : World D T S d t s) (vars slots : ℕ) (old : DeviceView) (over : (numbers_of new).vars ≡ vars) (log : (numbers_of new).slots ≡ slots) (set : setting_of w (builtin_program vars) ≡ builtin_setting vars slots) (model : (view_of new).keeps_model → (view_of w).keeps_model) (later : (view_of w).keeps_model → old.moment ≤ (view_of w).moment) (P : List ℕ → Type 0) (time : Elapses (view_of w) (view_of new) P) where
+  pub plays_store : (h : History) (opened : OpensStore (builtin_program vars) vars slots h old (Ok w)) (es : List Entry) (text : List ℕ)
+      → EntriesGoOn (builtin_program vars) w (history_found opened.found.0 h) (opening (state_at (builtin_program vars) vars h opened.found.0) opened.found.1 old.failures) es text new
+      → PlaysStore vars slots h es (line (line_of (reply.Opened opened.found.0)) ++ text) old (view_of new)
+  plays_store h opened es text go =
+      let program = builtin_program vars in
+      let n = opened.found.0 in
+      let at = opening (state_at program vars h n) opened.found.1 old.failures in
+      let prints = subst (λ (x : Setting). PrintsOn x at (history_found n h) es go.replies text go.end go.reached) set go.prints in
+      let among : AtEachMoment (view_of w) (view_of new) (IsSafeAmong (builtin_setting vars slots) at (history_found n h) es go.replies go.end go.reached) =
+      subst (λ (x : Setting). AtEachMoment (view_of w) (view_of new) (IsSafeAmong x at (history_found n h) es go.replies go.end go.reached)) set go.any_moment in
+      record {
+        found = n;
+        position = opened.found.1;
+        failures = old.failures;
+        prefix = opened.found.2;
+        replies = go.replies;
+        rest = text;
+        end = go.end;
+        reached = go.reached;
+        printed = refl;
+        prints = prints;
+        store = subst (λ (v : ℕ). IsStore program v slots go.reached (view_of new)) over (subst (λ (k : ℕ). IsStore program (numbers_of new).vars k go.reached (view_of new)) log go.carries.store);
+        any_moment = record {
+          each = λ k c left. ⊎_elim
+              (λ was. inl (opened.any_moment.each (model k) c was))
+              (λ is. inr (among.each k c is))
+              (either_time old (view_of w) (view_of new) P model later time k c left);
+        };
+        chain = λ earlier chain.
+            grows (builtin_setting vars slots) at (history_found n h) (events_of es) go.replies go.end go.reached (runs_of (builtin_setting vars slots) at (history_found n h) es go.replies text go.end go.reached prints) earlier (just_opened n)
+            (subst (λ (x : Setting). IsChainAt x earlier (just_opened n) (history_found n h) at) set (opened.found.4 earlier (subst (λ (x : Setting). IsChain x earlier h) (sym set) chain)));
+      }
+
+-- what two parts of a run write
+pub then_within : {D T S : Type 0} {d t s : _} (w mid new : World D T S d t s) → numbers_of mid ≡ numbers_of w → ((view_of new).keeps_model → (view_of mid).keeps_model)
+    → WritesInStore (numbers_of w) (view_of w) (view_of mid) → WritesInStore (numbers_of mid) (view_of mid) (view_of new) → WritesInStore (numbers_of w) (view_of w) (view_of new)
+then_within w mid new numbers model first second =
+    WritesInStore-trans (numbers_of w) (view_of w) (view_of mid) (view_of new) model first (subst (λ (l : Layout). WritesInStore l (view_of mid) (view_of new)) numbers second)
