@@ -1,6 +1,6 @@
 -- What became of a command line.
-use Rattle.std.proofs.Common.{◌≡◌, ℕ, List, [], ◌∷◌, Option, Some, None, Result, Ok, Err, refl, sym, inl, inr, subst, ◌∙◌}
-use Rattle.std.specs.Prelude.{IfSome, IfErr, OnOk, OnErr, MatchResult}
+use Rattle.std.proofs.Common.{◌≡◌, ℕ, List, [], ◌∷◌, Option, Some, None, Result, Ok, Err, refl, sym, inl, inr, subst, ◌∙◌, append-nil}
+use Rattle.std.specs.Prelude.{IfSome, IfErr, IsErrAnd, OnOk, OnErr, MatchResult}
 use Rattle.std.specs.Io.KnownBytes.{Keeps}
 use Rattle.clap.specs.Kinds.{Kinds, IsAmong, HasKind}
 use Rattle.clap.specs.Values.{kind_of}
@@ -19,7 +19,7 @@ use Rattle.tmem_script.specs.declared.script.ScriptError.TheVariants.{Memory, Un
 use Rattle.tmem_cli.specs.CommandLine.{IsRequest, HasRequest}
 use Rattle.tmem_cli.specs.Outcomes.{MayBeRead, IsNoScript, IsWhyNotRead, PlaysRead, FailsWith}
 use Rattle.tmem_cli.specs.Printed.{PlaysFrom}
-use Rattle.tmem_cli.specs.Stored.{PlaysWhere}
+use Rattle.tmem_cli.specs.Stored.{PlaysWhere, StopsWhere}
 use Rattle.tmem_cli.proofs.Writing.{Appends-keeps}
 
 -- all that was left of the input was read
@@ -89,6 +89,25 @@ ok_both (Err e) one two both = tt
 pub err_both : {T E Q : Type 0} {P R : E → Type 0} (r : Result T E) → IfErr r P → OnErr r Q → ((e : E) → P e → Q → R e) → IfErr r R
 err_both (Ok x) one two both = tt
 err_both (Err e) one two both = both e one two
+
+-- what holds in any case does after Err
+pub err_of : {T E : Type 0} (P : Type 0) (r : Result T E) → P → OnErr r P
+err_of P (Ok x) so = tt
+err_of P (Err e) so = so
+
+-- and so does what holds of the error that was passed on
+pub passed_on : {T E : Type 0} (Q : E → Type 0) (r : Result T E) (e : E) → IsErrAnd r (λ y. y ≡ e) → Q e → IfErr r Q
+passed_on Q (Ok x) e same so = tt
+passed_on Q (Err y) e same so = subst Q (sym same) so
+
+-- a script that was played to its end, and then the output failed
+pub output_stops : (disk : Option (List ℕ)) (vars slots : ℕ) (entries : List Entry) (before after : Option (List ℕ)) → PlaysWhere disk vars slots entries before after → StopsWhere disk vars slots entries Output
+output_stops None vars slots entries before after so = inl refl
+output_stops (Some path) vars slots entries before after so = inr (
+  so.0,
+  so.1,
+  inl (refl, (so.2.0, λ h store premise. let it = (so.2.1 premise).1.stored h store in (entries, it.0, ([], sym (append-nil entries)), it.1))),
+)
 
 -- no failure has the status 0
 not_done : (f : Failure) → status_of f ≡ 0 → ⊥

@@ -1,5 +1,6 @@
 //! What the program answers to the words of a command line.
 ghost use Rattle.std.specs.Prelude.{◌≡◌, ◌≤◌, ℕ, List, map, option_map, string_bytes, IfErr, IfOk, IfSome, IsSome, MatchResult, OnOk};
+ghost use Rattle.std.specs.Io.KnownBytes.{Keeps};
 ghost use Rattle.clap.specs.Values.{kind_of};
 ghost use Rattle.tmem_script.specs.Errors.{IsUnread};
 ghost use Rattle.tmem_script.specs.Scripts.{IsScriptText};
@@ -84,6 +85,14 @@ fn print<W: Write>(request: &clap::Error, out: &mut W) -> Result<(), Failure>
     ensures { IfErr result (λ failure. failure ≡ Output) }
 {
     write!(out, "{request}").map_err(|_| Failure::Output)?;
+    flush(out)
+}
+
+/// Flushes what was printed.
+fn flush<W: Write>(out: &mut W) -> Result<(), Failure>
+    ensures kept { Keeps (W.contents out.old) (W.contents out.new) }
+    ensures failed { IfErr result (λ failure. failure ≡ Output) }
+{
     out.flush().map_err(|_| Failure::Output)
 }
 
@@ -101,7 +110,7 @@ fn run<R: Read, W: Write>(
 {
     let script = script_of(rt, paths.script, input)?;
     play(rt, script, paths.disk, out)?;
-    out.flush().map_err(|_| Failure::Output)
+    flush(out)
 }
 
 /// Reads the script to play, from its file or else from the input.

@@ -1,10 +1,13 @@
-use Rattle.std.proofs.Common.{◌≡◌, ◌++◌, ◌∷◌, [], List, ◌∙◌, ap, sym, subst, append_assoc, arith}
+use Rattle.std.proofs.Common.{rules, refl, ◌≡◌, ◌++◌, ◌∷◌, [], List, ◌∙◌, ap, sym, subst, append_assoc, arith}
 use Rattle.std.proofs.lemmas.Grind.{common_steps}
 use Rattle.std.specs.Io.KnownBytes.{Appends}
-use Rattle.tmem_cli.specs.Chains.{PlaysEntriesOn}
+use Rattle.tmem_world.specs.Represents.{device_of, numbers_of, view_of}
+use Rattle.tmem_world.proofs.Laws.{WritesInStore-refl}
+use Rattle.tmem_cli.specs.Chains.{PlaysEntriesOn, PlaysFirstOn}
+use Rattle.tmem_cli.proofs.Outcomes.{err_of}
 use Rattle.tmem_cli.specs.Printed.{PlaysEntries}
 use Rattle.tmem_script.specs.declared.script.Entry.{Entry}
-use Rattle.tmem_cli.proofs.Playing.{PlaysEntries-more}
+use Rattle.tmem_cli.proofs.Playing.{PlaysEntries-nil, PlaysEntries-more}
 use Rattle.tmem_cli.proofs.Stores.{go_on-nil, plays-then, then_within}
 use Rattle.tmem_cli.proofs.Writing.{Appends-then, Appends-nil}
 use Rattle.tmem_cli.proofs.play.play_entries.Goals as goal
@@ -34,14 +37,27 @@ returns-clause-played g c =
     subst (λ (es : List Entry). PlaysEntries c.args.world.now (g.W.Write.contents c.args.out.now) es c.loop-entry.world (g.W.Write.contents c.loop-entry.out)) all so.played
 
 pub loop-entry-init : goal.loop-entry-init
-loop-entry-init g c = ?
+loop-entry-init g c =
+    let w = c.args.world.now in
+    let device = g.met.D.Disk.is_device (device_of w) in
+    record {
+      numbers = refl;
+      steps = refl;
+      table = refl;
+      model = λ premise. premise;
+      parts = search rules;
+      elsewhere = WritesInStore-refl (numbers_of w) (view_of w) device;
+      chain = λ program means h m has keeps. ([], go_on-nil program w device h m has, Appends-nil _);
+      played = PlaysEntries-nil w _;
+    }
 
 pub returns-in_err-play_entry-clause-stopped : goal.returns-in_err-play_entry-clause-stopped
 returns-in_err-play_entry-clause-stopped g c =
     let so = c.loop-entry.invariant in
     let taken : c.loop-entry.entry-iterator.rest.items ≡ c.in-Some.entry ∷ c.next.new.self.rest.items = c.in-Some.ensures.steps.0 in
     let parts : (c.loop-entry.yielded ++ c.in-Some.entry ∷ []) ++ c.next.new.self.rest.items ≡ c.args.entries.items =
-    append_assoc c.loop-entry.yielded (c.in-Some.entry ∷ []) c.next.new.self.rest.items ∙ ap (λ (es : List Entry). c.loop-entry.yielded ++ es) (sym taken) ∙ so.parts in (
+    append_assoc c.loop-entry.yielded (c.in-Some.entry ∷ []) c.next.new.self.rest.items ∙ ap (λ (es : List Entry). c.loop-entry.yielded ++ es) (sym taken) ∙ so.parts in
+    err_of (PlaysFirstOn c.args.world.now c.args.entries.items c.play_entry.new.world) c.from_residual.result (
       c.loop-entry.yielded ++ c.in-Some.entry ∷ [],
       (c.next.new.self.rest.items, sym parts),
       plays-then c.args.world.now c.loop-entry.world c.play_entry.new.world so.numbers so.steps so.table c.play_entry.ensures.model so.elsewhere.time.later _ c.play_entry.ensures.elsewhere.time c.loop-entry.yielded (c.in-Some.entry ∷ []) _ _ _
@@ -53,3 +69,8 @@ returns-clause-chain g c =
     let so = c.loop-entry.invariant in
     let all : c.loop-entry.yielded ≡ c.args.entries.items = grind (arith, common_steps, so.parts) in
     subst (λ (es : List Entry). PlaysEntriesOn c.args.world.now es c.loop-entry.world (Appends (g.W.Write.contents c.args.out.now) (g.W.Write.contents c.loop-entry.out))) all so.chain
+
+pub returns-in_err-play_entry-clause-elsewhere : goal.returns-in_err-play_entry-clause-elsewhere
+returns-in_err-play_entry-clause-elsewhere g c =
+    let so = c.loop-entry.invariant in
+    then_within c.args.world.now c.loop-entry.world c.play_entry.new.world so.numbers c.play_entry.ensures.model so.elsewhere c.play_entry.ensures.elsewhere

@@ -1,9 +1,10 @@
-use Rattle.std.proofs.Common.{◌≡◌, ℕ, List, [], ◌∷◌, ◌++◌, refl, sym, ap, subst, inl, inr, ◌∙◌}
+use Rattle.std.proofs.Common.{◌≡◌, ◌⊎◌, ℕ, List, [], ◌∷◌, ◌++◌, refl, sym, ap, subst, inl, inr, ◌∙◌}
 use Rattle.std.specs.Io.KnownBytes.{Appends}
 use Rattle.tmem_disk.specs.Disk.{DeviceView}
 use Rattle.tmem_record.specs.declared.layout.Layout.{Layout}
 use Rattle.tmem_event.specs.declared.event.Reply.TheVariants as reply
 use Rattle.tmem_script.specs.Lines.{line_of}
+use Rattle.tmem_script.specs.declared.failure.Failure.{Failure}
 use Rattle.tmem_world.specs.WorldModel.{opening}
 use Rattle.tmem_world.specs.Represents.{Represents, device_of, view_of}
 use Rattle.tmem_world.specs.Chain.{History, IsStore, OpensStore, history_found, state_at}
@@ -11,8 +12,9 @@ use Rattle.tmem_world.proofs.Laws.{WritesInStore-refl, count_at}
 use Rattle.tmem_cli.specs.Builtin.{builtin_program}
 use Rattle.tmem_cli.specs.Chains.{LeavesStore}
 use Rattle.tmem_cli.specs.Printed.{line}
+use Rattle.tmem_cli.specs.Stored.{StopsOver, RefusesOver}
 use Rattle.tmem_cli.proofs.Opening.{OpeningRefused-weaker}
-use Rattle.tmem_cli.proofs.Outcomes.{ok_both, err_both}
+use Rattle.tmem_cli.proofs.Outcomes.{ok_both, err_both, passed_on}
 use Rattle.tmem_cli.proofs.Playing.{PlaysOn-of, means_builtin, setting_builtin}
 use Rattle.tmem_cli.proofs.Stores.{go_on-nil, plays_store}
 use Rattle.tmem_cli.proofs.Writing.{Appends-then}
@@ -69,16 +71,18 @@ returns-clause-failed g c =
     err_both c.play_entries.result c.play_entries.ensures.failed c.play_entries.ensures.stopped
     (λ failure output stopped. inl (
       output,
-      device_of new,
-      λ h store premise.
-          let opened = so.chain program h c.requires.steps (sym c.requires.names) c.requires.tests store (c.play_entries.ensures.model premise) in
-          let n = opened.found.0 in
-          let it = stopped.2 program means (history_found n h) (opening (state_at program vars h n) opened.found.1 old.failures) opened.found.3 premise in (
-            stopped.0,
-            line (line_of (reply.Opened n)) ++ it.0,
-            stopped.1,
-            plays_store w new vars slots old over log set c.play_entries.ensures.model so.elsewhere.time.later _ c.play_entries.ensures.elsewhere.time h opened stopped.0 it.0 it.1,
-          ),
+      (
+        device_of new,
+        λ h store premise.
+            let opened = so.chain program h c.requires.steps (sym c.requires.names) c.requires.tests store (c.play_entries.ensures.model premise) in
+            let n = opened.found.0 in
+            let it = stopped.2 program means (history_found n h) (opening (state_at program vars h n) opened.found.1 old.failures) opened.found.3 premise in (
+              stopped.0,
+              line (line_of (reply.Opened n)) ++ it.0,
+              stopped.1,
+              plays_store w new vars slots old over log set c.play_entries.ensures.model so.elsewhere.time.later _ c.play_entries.ensures.elsewhere.time h opened stopped.0 it.0 it.1,
+            ),
+      ),
     ))
 
 pub returns-in_err-print_line-clause-failed : goal.returns-in_err-print_line-clause-failed
@@ -92,19 +96,22 @@ returns-in_err-print_line-clause-failed g c =
     let fits = so.fits in
     let device = g.met.D.Disk.is_device (device_of w) in
     let set = setting_builtin w vars slots c.args.steps fits.0 fits.1 so.steps c.requires.arities in
-    inl (
+    passed_on (λ (f : Failure). StopsOver g.D.Disk.view vars slots c.args.entries.items c.args.disk f ⊎ RefusesOver g.D.Disk.view vars slots c.args.disk f) c.from_residual.result c.in_err-print_line.field-0.0 c.from_residual.ensures.1
+    (inl (
       c.in_err-print_line.ensures.failed,
-      device_of w,
-      λ h store premise.
-          let opened = so.chain program h c.requires.steps (sym c.requires.names) c.requires.tests store premise in
-          let n = opened.found.0 in (
-            [],
-            line (line_of (reply.Opened n)) ++ [],
-            (c.args.entries.items, refl),
-            plays_store w w vars slots old fits.0 fits.1 set (λ k. k) so.elsewhere.time.later _ (WritesInStore-refl w.layout (view_of w) device).time h opened [] []
-                (go_on-nil program w device (history_found n h) (opening (state_at program vars h n) opened.found.1 old.failures) opened.found.3),
-          ),
-    )
+      (
+        device_of w,
+        λ h store premise.
+            let opened = so.chain program h c.requires.steps (sym c.requires.names) c.requires.tests store premise in
+            let n = opened.found.0 in (
+              [],
+              line (line_of (reply.Opened n)) ++ [],
+              (c.args.entries.items, refl),
+              plays_store w w vars slots old fits.0 fits.1 set (λ k. k) so.elsewhere.time.later _ (WritesInStore-refl w.layout (view_of w) device).time h opened [] []
+                  (go_on-nil program w device (history_found n h) (opening (state_at program vars h n) opened.found.1 old.failures) opened.found.3),
+            ),
+      ),
+    ))
 
 pub returns-in-Err-clause-failed : goal.returns-in-Err-clause-failed
 returns-in-Err-clause-failed g c =

@@ -1,11 +1,14 @@
-use Rattle.tmem_cli.proofs.Outcomes.{PlaysWhere-keeps, ok_of}
+use Rattle.std.proofs.Common.{ℕ, List, option_map, Bor, sym, subst, inr}
+use Rattle.std.proofs.lemmas.Result.{IfErr-weaker}
+use Rattle.tmem_cli.specs.Stored.{StopsWhere}
+use Rattle.tmem_cli.proofs.Outcomes.{PlaysWhere-keeps, ok_of, output_stops}
 use Rattle.tmem_cli.proofs.words.run.Goals as goal
 
 pub returns-clause-played : goal.returns-clause-played
 returns-clause-played g c =
     let script = c.in_ok-script.script in
     let read = c.in_ok-script.ensures.script in
-    ok_of c.map_err.result (
+    ok_of c.flush.result (
       read.0,
       read.1,
       record {
@@ -14,6 +17,25 @@ returns-clause-played g c =
         entries = script.entries.items;
         script = read.2;
         layout = c.in_ok-play.ensures.fits;
-        played = PlaysWhere-keeps _ script.vars script.slots script.entries.items _ _ _ c.in_ok-play.ensures.played c.flush.ensures.bytes;
+        played = PlaysWhere-keeps _ script.vars script.slots script.entries.items _ _ _ c.in_ok-play.ensures.played c.flush.ensures.kept;
       },
     )
+
+pub returns-clause-failed : goal.returns-clause-failed
+returns-clause-failed g c =
+    let script = c.in_ok-script.script in
+    let read = c.in_ok-script.ensures.script in
+    let disk = option_map (λ (text : Bor (List ℕ)). text.now) c.args.paths.disk in
+    IfErr-weaker c.flush.result _ _
+    (λ f is. inr (
+      read.0,
+      read.1,
+      (
+        script.vars,
+        script.slots,
+        script.entries.items,
+        read.2,
+        inr (c.in_ok-play.ensures.fits, subst (λ x. StopsWhere disk script.vars script.slots script.entries.items x) (sym is) (output_stops disk script.vars script.slots script.entries.items _ _ c.in_ok-play.ensures.played)),
+      ),
+    ))
+    c.flush.ensures.failed

@@ -102,10 +102,10 @@ pub returns-in_err-sync-clause-elsewhere : goal.returns-in_err-sync-clause-elsew
 returns-in_err-sync-clause-elsewhere g c =
     let sync = c.sync.ensures in
     WritesWithin-then_look (slot_place c.args.layout.vars c.args.log.now.used) (bytes_from c.args.log.now.used c.args.layout.slots) (g.D.Disk.view c.args.disk.now) (g.D.Disk.view c.close_gates.new.disk) (g.D.Disk.view c.sync.new.self)
-        (g.met.D.Disk.is_device c.close_gates.new.disk) sync.call.model c.close_gates.ensures.within sync.seen sync.stop sync.time
+    (g.met.D.Disk.is_device c.close_gates.new.disk) sync.call.model c.close_gates.ensures.within sync.seen sync.stop sync.time
 
 pub returns-in_ok-sync-clause-elsewhere : goal.returns-in_ok-sync-clause-elsewhere
 returns-in_ok-sync-clause-elsewhere g c =
     let sync = c.sync.ensures in
     WritesWithin-then_look (slot_place c.args.layout.vars c.args.log.now.used) (bytes_from c.args.log.now.used c.args.layout.slots) (g.D.Disk.view c.args.disk.now) (g.D.Disk.view c.close_gates.new.disk) (g.D.Disk.view c.sync.new.self)
-        (g.met.D.Disk.is_device c.close_gates.new.disk) sync.call.model c.close_gates.ensures.within sync.seen sync.stop sync.time
+    (g.met.D.Disk.is_device c.close_gates.new.disk) sync.call.model c.close_gates.ensures.within sync.seen sync.stop sync.time
