@@ -15,15 +15,15 @@ unless_stopped-runs None before after runs = refl
 unless_stopped-runs (Some fill) before after runs = absurd (runs (search))
 
 -- it marks its range alone where it only fails, else it is written
-pub bytes_after_write-runs : (power : Power) (at : ℕ) (bytes : List ℕ) (b : Bytes) (fails : Bool) → ¬ IsStopped power → only_fails power ≡ fails
+pub bytes_after_write-runs : (power : Power) (at : ℕ) (bytes : List ℕ) (b : Bytes) (fails : Bool) → ¬ IsStopped power → only_fails at power ≡ fails
     → bytes_after_write power at bytes b ≡ cond fails (touched at (length bytes) b) (written at bytes b)
 bytes_after_write-runs power at bytes b fails runs is =
-    unless_stopped-runs power.stopped b (cond (only_fails power) (touched at (length bytes) b) (written at bytes b)) runs ∙ ap (λ (v : Bool). cond v (touched at (length bytes) b) (written at bytes b)) is
+    unless_stopped-runs power.stopped b (cond (only_fails at power) (touched at (length bytes) b) (written at bytes b)) runs ∙ ap (λ (v : Bool). cond v (touched at (length bytes) b) (written at bytes b)) is
 
 left_of_and : (x y : Bool) → (x && y) ≡ true → IsTrue x
 left_of_and true y both = search
 left_of_and false y both = absurd (false≢true both)
 
 -- one that only fails is armed to fail
-pub only_fails-IsArmed : (power : Power) (at : ℕ) → only_fails power ≡ true → IsArmed (writing at) power
-only_fails-IsArmed power at both = left_of_and (is_next power.failing.write) (is_none (met_by_write power.armed)) both
+pub only_fails-IsArmed : (power : Power) (at : ℕ) → only_fails at power ≡ true → IsArmed (writing at) power
+only_fails-IsArmed power at both = left_of_and (is_next power.failing.write) (is_none (met_by_write at power.armed)) both

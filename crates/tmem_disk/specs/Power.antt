@@ -1,11 +1,11 @@
 -- Whether a device in memory runs, and at which of its calls it stops, as at a crash, or fails.
-use Rattle.std.specs.Prelude.{◌⊎◌, ℕ, zero, suc, Bool, ◌&&◌, Option, Some, None, is_none, IsTrue, IsSome}
+use Rattle.std.specs.Prelude.{◌⊎◌, ℕ, zero, suc, Bool, ◌&&◌, ◌==◌, Option, Some, None, is_none, IsTrue, IsSome, if◌then◌else◌}
 use Rattle.tmem_disk.specs.Failing.{none_armed, armed_for, armed_with, is_next, armed_after}
 use Rattle.tmem_disk.specs.declared.disk.DeviceFault.{DeviceFault}
 use Rattle.tmem_disk.specs.declared.disk.DeviceFault.TheVariants.{Read, Write, Sync}
 use Rattle.tmem_disk.specs.declared.power.Fill.{Fill}
 use Rattle.tmem_disk.specs.declared.power.ArmedStop.{ArmedStop}
-use Rattle.tmem_disk.specs.declared.power.ArmedStop.TheVariants.{AtWrite}
+use Rattle.tmem_disk.specs.declared.power.ArmedStop.TheVariants.{AtWrite, AtPlace}
 use Rattle.tmem_disk.specs.declared.power.Power.{Power}
 
 -- it stands at a stop
@@ -48,22 +48,24 @@ kind_of reading = Read
 kind_of (writing at) = Write
 kind_of syncing = Sync
 
--- the fill of the stop that a write meets
-abbrev pub met_by_write : Option ArmedStop → Option Fill
-met_by_write None = None
-met_by_write (Some (AtWrite zero fill)) = Some fill
-met_by_write (Some (AtWrite (suc more) fill)) = None
+-- the fill of the stop that a write from this place on meets
+abbrev pub met_by_write : ℕ → Option ArmedStop → Option Fill
+met_by_write at None = None
+met_by_write at (Some (AtWrite zero fill)) = Some fill
+met_by_write at (Some (AtWrite (suc more) fill)) = None
+met_by_write at (Some (AtPlace place fill)) = if at == place then Some fill else None
 
--- the stop that is still to come after a write
-abbrev pub left_by_write : Option ArmedStop → Option ArmedStop
-left_by_write None = None
-left_by_write (Some (AtWrite zero fill)) = None
-left_by_write (Some (AtWrite (suc more) fill)) = Some (AtWrite more fill)
+-- the stop that is still to come after a write from this place on
+abbrev pub left_by_write : ℕ → Option ArmedStop → Option ArmedStop
+left_by_write at None = None
+left_by_write at (Some (AtWrite zero fill)) = None
+left_by_write at (Some (AtWrite (suc more) fill)) = Some (AtWrite more fill)
+left_by_write at (Some (AtPlace place fill)) = if at == place then None else Some (AtPlace place fill)
 
 -- What runs counts each call, also one that fails, and may meet a stop at a write.
 abbrev pub after_running : Call → Power → Power
 after_running reading power = record { stopped = None; armed = power.armed; failing = armed_after Read power.failing }
-after_running (writing at) power = record { stopped = met_by_write power.armed; armed = left_by_write power.armed; failing = armed_after Write power.failing }
+after_running (writing at) power = record { stopped = met_by_write at power.armed; armed = left_by_write at power.armed; failing = armed_after Write power.failing }
 after_running syncing power = record { stopped = None; armed = power.armed; failing = armed_after Sync power.failing }
 
 -- a call at a stopped device changes nothing
@@ -75,9 +77,9 @@ unless_stopped None before after = after
 abbrev pub after : Call → Power → Power
 after call power = unless_stopped power.stopped power (after_running call power)
 
--- a write of a device that runs is armed to fail and meets no stop, which would win
-abbrev pub only_fails : Power → Bool
-only_fails power = is_next power.failing.write && is_none (met_by_write power.armed)
+-- a write from this place on of a device that runs is armed to fail and meets no stop, which would win
+abbrev pub only_fails : ℕ → Power → Bool
+only_fails at power = is_next power.failing.write && is_none (met_by_write at power.armed)
 
 -- it is the call of its kind that is armed to fail
 abbrev pub IsArmed : Call → Power → Type 0

@@ -36,7 +36,7 @@ is_device_of disk = record {
 -- What a write leaves. Nothing changes where the device was stopped before (had crashed, and not been restarted). A write
 -- that fails with no stop changes no byte that a read gives, and its range counts as written.
 abbrev pub bytes_after_write : Power → ℕ → List ℕ → Bytes → Bytes
-bytes_after_write power at bytes b = unless_stopped power.stopped b (if only_fails power then touched at (length bytes) b else written at bytes b)
+bytes_after_write power at bytes b = unless_stopped power.stopped b (if only_fails at power then touched at (length bytes) b else written at bytes b)
 
 -- what a sync leaves: nothing changes where the device is stopped, or the sync is armed to fail
 abbrev pub bytes_after_sync : Power → Bytes → Bytes

@@ -21,6 +21,8 @@ pub enum Fill {
 pub(crate) enum ArmedStop {
     /// At the write behind so many more.
     AtWrite(u64, Fill),
+    /// At the next write that starts at this place.
+    AtPlace(u64, Fill),
 }
 
 /// The stop that a device stands at, the one that is armed, and the calls that are armed to fail. What is armed outlives
@@ -74,18 +76,19 @@ impl Power {
     pub(crate) fn only_fails_at_write(&mut self, at: u64) -> bool
         requires { ¬ IsStopped self.old }
         ensures power { self.new ≡ after (writing at) self.old }
-        ensures fails { result ≡ only_fails self.old }
+        ensures fails { result ≡ only_fails at self.old }
     {
         let armed = self.failing.meets(DeviceFault::Write);
-        self.meet_stop();
+        self.meet_stop(at);
         armed && !self.is_stopped()
     }
 
-    // Counts a write at a device that runs, and stops it there where it is the one that a stop is armed for.
-    fn meet_stop(&mut self)
+    // Counts a write from this place on at a device that runs, and stops it there where it is the one that a stop is
+    // armed for.
+    fn meet_stop(&mut self, at: u64)
         requires { ¬ IsStopped self.old }
-        ensures stopped { self.new.stopped ≡ met_by_write self.old.armed }
-        ensures armed { self.new.armed ≡ left_by_write self.old.armed }
+        ensures stopped { self.new.stopped ≡ met_by_write at self.old.armed }
+        ensures armed { self.new.armed ≡ left_by_write at self.old.armed }
         ensures failing { self.new.failing ≡ self.old.failing }
     {
         match self.armed {
@@ -95,6 +98,12 @@ impl Power {
             }
             Some(ArmedStop::AtWrite(more, fill)) => {
                 self.armed = Some(ArmedStop::AtWrite(more - 1, fill));
+            }
+            Some(ArmedStop::AtPlace(place, fill)) => {
+                if at == place {
+                    self.stopped = Some(fill);
+                    self.armed = None;
+                }
             }
             None => {}
         }

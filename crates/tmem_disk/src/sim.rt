@@ -14,10 +14,11 @@ use std::alloc::Global;
 
 /// Bytes in memory. It keeps the disk model, and no call but `new` takes memory.
 ///
-/// A stop is a crash, now or armed for a chosen write: that write and all later calls fail until `restart`. A failure is
-/// armed for a chosen call, which fails once, and the device runs on. A call fails in no other case. While the device
-/// runs, each call counts, also one that fails; while it stands at a stop, none does, so what is armed stays armed over
-/// `restart`. Where a write meets both, the stop wins, and the failure is spent.
+/// A stop is a crash, now or armed for a chosen write, by its number or by the place where it starts: that write and all
+/// later calls fail until `restart`. A failure is armed for a chosen call, which fails once, and the device runs on. A
+/// call fails in no other case. While the device runs, each call counts, also one that fails; while it stands at a stop,
+/// none does, so what is armed stays armed over `restart`. Where a write meets both, the stop wins, and the failure is
+/// spent.
 #[derive(Drop)]
 pub struct SimDisk {
     present: Vec<u8>,
@@ -63,6 +64,18 @@ impl SimDisk {
         ensures power { power_of self.new ≡ arming (ArmedStop.AtWrite k fill) (power_of self.old) }
     {
         self.power.armed = Some(ArmedStop::AtWrite(k, fill));
+    }
+
+    /// Stops the device at the next write that starts at the place `at`: that call and all later ones fail until
+    /// `restart`, at which the bytes written since the last successful sync take the fill, those of that write too. A
+    /// write that only covers the place doesn't stop it. It takes the place of a stop that was armed before. At a stopped
+    /// device it is the next such write from the restart on.
+    pub fn stop_at_place(&mut self, at: u64, fill: Fill)
+        ensures same { SameDevice (view_of self.old) (view_of self.new) }
+        ensures bytes { bytes_of self.new ≡ bytes_of self.old }
+        ensures power { power_of self.new ≡ arming (ArmedStop.AtPlace at fill) (power_of self.old) }
+    {
+        self.power.armed = Some(ArmedStop::AtPlace(at, fill));
     }
 
     /// Stops the device now: all calls fail until `restart`, at which the bytes written since the last successful sync
