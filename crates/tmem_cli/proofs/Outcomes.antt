@@ -1,6 +1,6 @@
 -- What became of a command line.
 use Rattle.std.proofs.Common.{◌≡◌, ℕ, List, [], ◌∷◌, Option, Some, None, Result, Ok, Err, refl, sym, inl, inr, subst, ◌∙◌, append-nil}
-use Rattle.std.specs.Prelude.{IfSome, IfErr, IsErrAnd, OnOk, OnErr, MatchResult}
+use Rattle.std.specs.Prelude.{IfSome, IfErr, OnOk, OnErr, MatchResult}
 use Rattle.std.specs.Io.KnownBytes.{Keeps}
 use Rattle.clap.specs.Kinds.{Kinds, IsAmong, HasKind}
 use Rattle.clap.specs.Values.{kind_of}
@@ -48,22 +48,20 @@ PlaysWhere-keeps None vars slots entries before mid after so kept = (so.0, Plays
 PlaysWhere-keeps (Some path) vars slots entries before mid after so kept = (
   so.0,
   so.1,
-  (
-    so.2.0,
-    λ premise.
-        let it = (so.2.1 premise).1 in (
-          (so.2.1 premise).0,
-          record {
-            found = it.found;
-            position = it.position;
-            stands = it.stands;
-            end = it.end;
-            played = PlaysFrom-keeps vars slots it.found it.position entries it.end before mid after it.played kept;
-            left = it.left;
-            stored = λ h store. let so = it.stored h store in (so.0, so.1, Appends-keeps before mid after so.0 so.2 kept);
-          },
-        ),
-  ),
+  so.2,
+  λ premise.
+      let it = (so.3 premise).1 in (
+        (so.3 premise).0,
+        record {
+          found = it.found;
+          position = it.position;
+          stands = it.stands;
+          end = it.end;
+          played = PlaysFrom-keeps vars slots it.found it.position entries it.end before mid after it.played kept;
+          left = it.left;
+          stored = λ h store. let with = it.stored h store in (with.0, with.1, Appends-keeps before mid after with.0 with.2 kept);
+        },
+      ),
 )
 
 -- the same of words that ask for the same
@@ -95,18 +93,14 @@ pub err_of : {T E : Type 0} (P : Type 0) (r : Result T E) → P → OnErr r P
 err_of P (Ok x) so = tt
 err_of P (Err e) so = so
 
--- and so does what holds of the error that was passed on
-pub passed_on : {T E : Type 0} (Q : E → Type 0) (r : Result T E) (e : E) → IsErrAnd r (λ y. y ≡ e) → Q e → IfErr r Q
-passed_on Q (Ok x) e same so = tt
-passed_on Q (Err y) e same so = subst Q (sym same) so
-
 -- a script that was played to its end, and then the output failed
 pub output_stops : (disk : Option (List ℕ)) (vars slots : ℕ) (entries : List Entry) (before after : Option (List ℕ)) → PlaysWhere disk vars slots entries before after → StopsWhere disk vars slots entries Output
 output_stops None vars slots entries before after so = inl refl
 output_stops (Some path) vars slots entries before after so = inr (
   so.0,
   so.1,
-  inl (refl, (so.2.0, λ h store premise. let it = (so.2.1 premise).1.stored h store in (entries, it.0, ([], sym (append-nil entries)), it.1))),
+  so.2,
+  inl (refl, λ h store premise. let it = (so.3 premise).1.stored h store in (entries, it.0, ([], sym (append-nil entries)), it.1)),
 )
 
 -- no failure has the status 0

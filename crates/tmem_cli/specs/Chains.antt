@@ -34,7 +34,7 @@ events_of [] = []
 events_of (entry.Event it ∷ es) = it.event ∷ events_of es
 events_of (entry.Show ∷ es) = events_of es
 
--- The content is safe for the history after the first of these entries, from which the others led on.
+-- The content is safe for the history after an initial part of these entries, from which the others led on.
 pub record IsSafeAmong (set : Setting) (m : WorldModel) (h : History) (es : List Entry) (rs : List Reply) (m' : WorldModel) (h' : History) (c : List ℕ) : Type 0 where
   pub first : List Entry
   pub rest : List Entry
@@ -50,8 +50,8 @@ pub record IsSafeAmong (set : Setting) (m : WorldModel) (h : History) (es : List
   pub after : PrintsOn set point reached rest later late m' h'
   pub safe : IsSafe set.program set.vars set.slots reached c
 
--- From a world that carries a history these entries were answered by this text, and the next one carries what they make of the history. A
--- crash at any moment of that leaves what is safe after the first of them.
+-- From a world that carries a history these entries were answered by this text, and the next one carries what they make of the
+-- history. A crash at any moment of that leaves what is safe after an initial part of them.
 pub record EntriesGoOn {D T S : Type 0} {d t s : _} (program : Program) (old : World D T S d t s) (h : History) (m : WorldModel) (entries : List Entry) (text : List ℕ) (new : World D T S d t s) : Type 0 where
   pub replies : List Reply
   pub end : WorldModel
@@ -66,13 +66,13 @@ PlaysEntriesOn old entries new IsPrinted =
     (program : Program) → Means old program → (h : History) (m : WorldModel) → Carries program old h m → (view_of new).keeps_model
     → (text : List ℕ) × EntriesGoOn program old h m entries text new × IsPrinted text
 
--- and of the first of these entries, whatever was printed
+-- and of an initial part of these entries, whatever was printed
 abbrev pub PlaysFirstOn : {D T S : Type 0} {d t s : _} → World D T S d t s → List Entry → World D T S d t s → Type 0
 PlaysFirstOn old entries new = (first : List Entry) × IsFirstOf first entries × PlaysEntriesOn old first new (λ text. ⊤)
 
--- A store with this history was opened, the entries were played on it, and this text was printed: the line of the opening, and then
--- theirs. The device is a store with the history that was reached. A crash at any moment of the opening leaves what is safe for the
--- history before it, and a crash later what is safe after the first of the entries.
+-- A store with this history was opened, the entries were played on it, and this text was printed: the line of the opening, and
+-- then theirs. The device is a store with the history that was reached. A crash at any moment of all that leaves what is safe for
+-- the history from before the opening, or for the one after an initial part of the entries.
 pub record PlaysStore (vars slots : ℕ) (h : History) (entries : List Entry) (text : List ℕ) (old new : DeviceView) : Type 0 where
   pub found : ℕ
   pub position : Position
@@ -96,7 +96,7 @@ pub record StaysStore (vars slots : ℕ) (h : History) (old new : DeviceView) : 
   pub store : IsStore (builtin_program vars) vars slots h new
   pub any_moment : AtEachMoment old new (IsSafe (builtin_program vars) vars slots h)
 
--- the first of the entries were played on a store, if it is one
+-- an initial part of the entries was played on a store, if it is one
 abbrev pub LeavesStore : ℕ → ℕ → List Entry → DeviceView → DeviceView → Type 0
 LeavesStore vars slots entries old new = (h : History) → IsStore (builtin_program vars) vars slots h old → new.keeps_model
     → (first : List Entry) × (text : List ℕ) × IsFirstOf first entries × PlaysStore vars slots h first text old new

@@ -34,25 +34,25 @@ pub record PlaysOn (vars slots : ℕ) (entries : List Entry) (old new : DeviceVi
   -- and if it was a store with a history, it is one with what the script made of that
   pub stored : (h : History) → IsStore (builtin_program vars) vars slots h old → (text : List ℕ) × PlaysStore vars slots h entries text old new × Appends before after text
 
--- This device became another. Under the premise of that one, the first met it too, and a script was played on it.
-abbrev pub PlaysOver : {D : Type 0} → (D → DeviceView) → ℕ → ℕ → List Entry → D → Option (List ℕ) → Option (List ℕ) → Type 0
-PlaysOver {D} view vars slots entries old before after =
-    (new : D) × ((view new).keeps_model → (view old).keeps_model × PlaysOn vars slots entries (view old) (view new) before after)
+-- Under the premise of the device that the first one became, the first met it too, and a script was played on it.
+abbrev pub PlaysOver : {D : Type 0} → (D → DeviceView) → ℕ → ℕ → List Entry → D → D → Option (List ℕ) → Option (List ℕ) → Type 0
+PlaysOver view vars slots entries old new before after =
+    (view new).keeps_model → (view old).keeps_model × PlaysOn vars slots entries (view old) (view new) before after
 
 -- an invariant of the state that the content stood for is missing, or false
 abbrev pub IsUnsound : ℕ → ℕ → DeviceView → DeviceView → Fault → Type 0
 IsUnsound vars slots old new f =
     (position : Position) × (found : State) × (new.keeps_model → StandsFor vars slots position found old.seen) × (opening_fault (builtin_program vars) found ≡ Some f)
 
--- This device became another, and its opening was refused by this failure's fault. If it was a store with a history, it still is.
-abbrev pub RefusesOver : {D : Type 0} → (D → DeviceView) → ℕ → ℕ → D → Failure → Type 0
-RefusesOver {D} view vars slots old f =
-    (g : Fault) × (f ≡ failure.Refused g) × (new : D) × OpeningRefused (view old) vars slots (IsUnsound vars slots (view old) (view new) g) g (view new)
+-- Its opening was refused by this failure's fault. If the first device was a store with a history, the one that it became still is.
+abbrev pub RefusesOver : {D : Type 0} → (D → DeviceView) → ℕ → ℕ → D → D → Failure → Type 0
+RefusesOver view vars slots old new f =
+    (g : Fault) × (f ≡ failure.Refused g) × OpeningRefused (view old) vars slots (IsUnsound vars slots (view old) (view new) g) g (view new)
     × ((h : History) → IsStore (builtin_program vars) vars slots h (view old) → (view new).keeps_model → StaysStore vars slots h (view old) (view new))
 
--- This device became another, and the output failed. If it was a store with a history, the first entries were played on it.
-abbrev pub StopsOver : {D : Type 0} → (D → DeviceView) → ℕ → ℕ → List Entry → D → Failure → Type 0
-StopsOver {D} view vars slots entries old f = (f ≡ failure.Output) × ((new : D) × LeavesStore vars slots entries (view old) (view new))
+-- The output failed. If the first device was a store with a history, some of the first entries were played on it, and it became this one.
+abbrev pub StopsOver : {D : Type 0} → (D → DeviceView) → ℕ → ℕ → List Entry → D → D → Failure → Type 0
+StopsOver view vars slots entries old new f = (f ≡ failure.Output) × LeavesStore vars slots entries (view old) (view new)
 
 -- A file that was made: of zeros, which were formatted before it got its name.
 pub record IsMade (vars slots : ℕ) (made : FileDisk) : Type 0 where
@@ -74,7 +74,7 @@ IsFoundOrMade vars slots disk = IsOpened (view_of disk) ⊎ IsMade vars slots di
 abbrev pub PlaysWhere : Option (List ℕ) → ℕ → ℕ → List Entry → Option (List ℕ) → Option (List ℕ) → Type 0
 PlaysWhere None vars slots entries before after = PlaysScript vars slots entries before after
 PlaysWhere (Some path) vars slots entries before after =
-    (disk : FileDisk) × IsFoundOrMade vars slots disk × PlaysOver view_of vars slots entries disk before after
+    (disk : FileDisk) × (new : FileDisk) × IsFoundOrMade vars slots disk × PlaysOver view_of vars slots entries disk new before after
 
 -- Why it was not played to its end: it was stopped; or, with a path, it was stopped before there was a device, the output
 -- failed, or the opening of the file's device was refused.
@@ -82,7 +82,7 @@ abbrev pub StopsWhere : Option (List ℕ) → ℕ → ℕ → List Entry → Fai
 StopsWhere None vars slots entries f = IsStop f
 StopsWhere (Some path) vars slots entries f =
     ((f ≡ failure.Refused fault.Memory) ⊎ (f ≡ failure.Refused fault.Device))
-    ⊎ ((disk : FileDisk) × IsFoundOrMade vars slots disk × (StopsOver view_of vars slots entries disk f ⊎ RefusesOver view_of vars slots disk f))
+    ⊎ ((disk : FileDisk) × (new : FileDisk) × IsFoundOrMade vars slots disk × (StopsOver view_of vars slots entries disk new f ⊎ RefusesOver view_of vars slots disk new f))
 
 -- Why a script that was read was not played to its end: its numbers are out of limits, or that.
 abbrev pub StopsPlaying : Option (List ℕ) → ℕ → ℕ → List Entry → Failure → Type 0

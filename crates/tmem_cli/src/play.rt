@@ -142,16 +142,16 @@ fn play_with<
     match path {
         None => {
             let disk = device_in_memory(rt.alloc(), layout)?;
-            play_on(rt.alloc(), disk, layout, entries, table, steps, out)
+            play_on(rt.alloc(), disk, layout, entries, table, steps, out).1
         }
         Some(path) => {
             let disk = device_in_file(rt, path, layout)?;
-            play_on(rt.alloc(), disk, layout, entries, table, steps, out)
+            play_on(rt.alloc(), disk, layout, entries, table, steps, out).1
         }
     }
 }
 
-/// Opens a device, and plays the entries of a script on it.
+/// Opens a device, plays the entries of a script on it, and hands the device back.
 fn play_on<D: Disk + Drop, T: Invariants + Drop, S: StoredSteps + Drop, W: Write>(
     alloc: Global,
     disk: D,
@@ -160,22 +160,26 @@ fn play_on<D: Disk + Drop, T: Invariants + Drop, S: StoredSteps + Drop, W: Write
     table: T,
     steps: S,
     out: &mut W,
-) -> Result<(), Failure>
+) -> (D, Result<(), Failure>)
     requires vars { T.vars table ≡ layout.vars }
     requires names { T.names table ≡ builtin_names layout.vars }
     requires tests { T.is_stated table builtin_tests }
     requires arities { S.arities steps ≡ 2 ∷ 2 ∷ 2 ∷ [] }
     requires steps { S.is_stated steps builtin_steps }
     requires failures { (D.view disk).failures ≡ 0 }
-    ensures played { OnOk result (PlaysOver D.view layout.vars layout.slots entries.items disk (W.contents out.old) (W.contents out.new)) }
-    ensures failed { IfErr result (λ failure. StopsOver D.view layout.vars layout.slots entries.items disk failure ⊎ RefusesOver D.view layout.vars layout.slots disk failure) }
+    ensures played { OnOk result.1 (PlaysOver D.view layout.vars layout.slots entries.items disk result.0 (W.contents out.old) (W.contents out.new)) }
+    ensures failed { IfErr result.1 (λ failure. StopsOver D.view layout.vars layout.slots entries.items disk result.0 failure ⊎ RefusesOver D.view layout.vars layout.slots disk result.0 failure) }
 {
     let mut world = match World::open(alloc, disk, layout.vars, layout.slots, table, steps) {
         Ok(world) => world,
-        Err(refusal) => return Err(Failure::Refused(refusal.0)),
+        Err((fault, disk)) => return (disk, Err(Failure::Refused(fault))),
     };
-    print_line(out, ReplyLine(Reply::Opened(world.count())))?;
-    play_entries(&mut world, entries, layout.vars, out)
+    match print_line(out, ReplyLine(Reply::Opened(world.count()))) {
+        Ok(()) => {}
+        Err(failure) => return (world.into_disk(), Err(failure)),
+    }
+    let outcome = play_entries(&mut world, entries, layout.vars, out);
+    (world.into_disk(), outcome)
 }
 
 /// Plays the entries of a script, one after another.
@@ -189,7 +193,7 @@ fn play_entries<D: Disk + Drop, T: Invariants + Drop, S: StoredSteps + Drop, W: 
     ensures played { OnOk result (PlaysEntries world.old (W.contents out.old) entries.items world.new (W.contents out.new)) }
     ensures failed { IfErr result (λ failure. failure ≡ Output) }
 
-    // The history of a chain of sessions goes on by the entries: by all of them, or where the output failed by the first.
+    // The history of a chain of sessions goes on by the entries: by all of them, or by an initial part where the output failed.
     ensures chain { OnOk result (PlaysEntriesOn world.old entries.items world.new (Appends (W.contents out.old) (W.contents out.new))) }
     ensures stopped { OnErr result (PlaysFirstOn world.old entries.items world.new) }
     ensures elsewhere { WritesInStore (numbers_of world.old) (view_of world.old) (view_of world.new) }

@@ -53,8 +53,8 @@ pub record IsStore (program : Program) (vars slots : ℕ) (h : History) (d : Dev
   pub fits : FitsOn vars slots d.capacity
   pub device : LeavesOnly d (IsSafe program vars slots h)
 
--- A device as a crash of the earlier one left it, at some moment from that time on: what a crash of it leaves in turn, that
--- crash may have left.
+-- The device after a crash of the earlier one, at some moment from that time on. Whatever a further crash leaves, the first one
+-- may have left.
 pub record IsLeftBy (old : DeviceView) (since : ℕ) (new : DeviceView) : Type 0 where
   pub capacity : new.capacity ≡ old.capacity
   pub model : new.keeps_model → old.keeps_model
@@ -161,8 +161,8 @@ StepsOn old e r new =
 abbrev pub IsFirstOf : {A : Type 0} → List A → List A → Type 0
 IsFirstOf {A} first all = (rest : List A) × (all ≡ first ++ rest)
 
--- The content is safe for the history after the first of these events, from which the others led on. (All of their replies
--- are given once the last is played.)
+-- The content is safe for the history after an initial part of these events, from which the others led on. (All of their
+-- replies are given once the last is played.)
 pub record IsSafeWithin (set : Setting) (m : WorldModel) (h : History) (es : List Event) (rs : List Reply) (m' : WorldModel) (h' : History) (c : List ℕ) : Type 0 where
   pub first : List Event
   pub rest : List Event
@@ -177,7 +177,7 @@ pub record IsSafeWithin (set : Setting) (m : WorldModel) (h : History) (es : Lis
   pub safe : IsSafe set.program set.vars set.slots reached c
 
 -- A world that carries a history carries the one after these events, at the point of the run that they lead to. A crash at any
--- moment of the whole call leaves what is safe after the first of them.
+-- moment of the whole call leaves what is safe after an initial part of them.
 abbrev pub PlaysOn : {D T S : Type 0} {d t s : _} → World D T S d t s → List Event → List Reply → World D T S d t s → Type 0
 PlaysOn old es rs new =
     (program : Program) → Means old program → (h : History) (m : WorldModel) → Carries program old h m → (view_of new).keeps_model
@@ -192,7 +192,7 @@ FormattedIsStore {D} view =
     → LeavesOnly (view disk) (StandsFor vars slots used (first_state vars)) → IsStore program vars slots no_history (view disk)
 
 -- A crash of a store leaves a store: with the same history, if it was between two calls or at some moment of an opening or an
--- event; and if it was at some moment of a list of events, with the history after the first of them, once the device was
+-- event; and if it was at some moment of a list of events, with the history after an initial part of them, once the device was
 -- started again.
 pub record CrashLeavesStore {D : Type 0} (view : D → DeviceView) : Type 0 where
   pub between : (program : Program) (vars slots : ℕ) (h : History) (disk left : D) → IsStore program vars slots h (view disk)

@@ -9,7 +9,8 @@ pub fn formatted_is_store<D: Disk>()
     ensures { FormattedIsStore D.view }
 {}
 
-/// What a crash leaves of a store is a store with the same history. It does nothing either.
+/// A crash of a store leaves a store: with the history from before the call that it met, or, inside a list of events, with the
+/// history after an initial part of them. It does nothing either.
 pub fn crash_leaves_store<D: Disk>()
     ensures { CrashLeavesStore D.view }
 {}
