@@ -27,3 +27,7 @@ alone name = AllPairs-cons (λ (x y : List ℕ). x ≢ y) name [] (All-nil (λ (
 
 pub none_large : All (λ n. n ≤ 4) (0 ∷ [])
 none_large = All-cons (λ n. n ≤ 4) 0 [] (lit≤ tt) (All-nil (λ n. n ≤ 4))
+
+-- two arguments are few
+pub two_small : All (λ n. n ≤ 4) (2 ∷ [])
+two_small = All-cons (λ n. n ≤ 4) 2 [] (lit≤ tt) (All-nil (λ n. n ≤ 4))

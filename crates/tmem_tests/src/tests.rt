@@ -3,14 +3,11 @@ ghost use Rattle.std.specs.Prelude.{◌≡◌, IfOk};
 ghost use Rattle.tmem_world.specs.Represents.{numbers_of, HoldsSession};
 
 mod at_limits;
-mod batches;
+mod checkpoints;
 mod contents;
-mod counting;
 mod devices;
-mod disks;
-mod failures;
-mod journals;
 mod limits;
+mod long_runs;
 mod no_closures;
 mod plays;
 mod tables;

@@ -4,7 +4,7 @@ ghost use Rattle.tmem_disk.specs.SimParts.{view_of};
 ghost use Rattle.tmem_world.specs.Represents.{numbers_of, HoldsSession};
 
 use super::no_closures::{AlwaysRetries, AlwaysTrue};
-use super::{commit, committed, formatted, write};
+use super::{commit, committed, formatted, fresh, opened, write};
 use std::alloc::Global;
 use std::test::Fail;
 use tmem_disk::{Disk, Fault, Fill, SimDisk};
@@ -13,8 +13,20 @@ use tmem_world::{Event, Reply, World};
 /// What these tests play on: a world of four variables and two log slots.
 type Small = World<SimDisk, AlwaysTrue, AlwaysRetries>;
 
-/// How long its device is. Copy 1 of the image begins at 3072, slot 0 at 5632, and slot 1 at 9728.
+/// How long its device is.
 const SIZE: u64 = 13824;
+
+/// Where copy 1 of the image has its gate.
+const GATE: u64 = 3072;
+
+/// Where the rest of its header begins.
+const HEADER: u64 = 3073;
+
+/// Where its one page begins.
+const PAGE: u64 = 5120;
+
+/// Where the two slots of the log have their gates.
+const SLOTS: [u64; 2] = [5632, 9728];
 
 /// Opens a device.
 fn small(alloc: Global, disk: SimDisk) -> Result<Small, Fault>
@@ -52,14 +64,34 @@ fn flushed(alloc: Global, world: &mut Small, number: i64) -> Result<Reply, Fail>
     Ok(world.step(Event::Flush))
 }
 
+/// Writes a number to variable 0, and flushes. Fails where not so many transactions are durable then.
+fn made_durable(alloc: Global, world: &mut Small, number: i64, count: u64) -> Result<(), Fail>
+    ensures { numbers_of world.new ≡ numbers_of world.old }
+{
+    match flushed(alloc, world, number)? {
+        Reply::Durable(durable) if durable == count => Ok(()),
+        _ => Err(Fail::new("not durable")),
+    }
+}
+
 /// A world with both slots used: 1 was written to variable 0, then 2.
 fn full(alloc: Global) -> Result<Small, Fail>
     ensures { IfOk result (λ world. (numbers_of world).vars ≡ 4) }
 {
     let mut world = small(alloc, empty(alloc)?)?;
-    let _ = flushed(alloc, &mut world, 1)?;
-    let _ = flushed(alloc, &mut world, 2)?;
+    made_durable(alloc, &mut world, 1, 1)?;
+    made_durable(alloc, &mut world, 2, 2)?;
     Ok(world)
+}
+
+/// Writes 3 to variable 0. Fails where the log has room for it.
+fn wait(alloc: Global, world: &mut Small) -> Result<(), Fail>
+    ensures { numbers_of world.new ≡ numbers_of world.old }
+{
+    match flushed(alloc, world, 3)? {
+        Reply::Fault(Fault::LogFull) => Ok(()),
+        _ => Err(Fail::new("the log is not full")),
+    }
 }
 
 /// How many transactions a device is found to hold, and the value of variable 0.
@@ -71,7 +103,9 @@ fn found_on(alloc: Global, disk: SimDisk) -> Result<(u64, i64), Fail> {
 #[test]
 fn a_checkpoint_frees_a_full_log(rt: HostRuntime) -> Result<(), Fail> {
     let alloc = rt.alloc();
-    let mut world = full(alloc)?;
+    let mut world = small(alloc, empty(alloc)?)?;
+    assert!(rt; flushed(alloc, &mut world, 1)? == Reply::Durable(1));
+    assert!(rt; flushed(alloc, &mut world, 2)? == Reply::Durable(2));
     assert!(rt; flushed(alloc, &mut world, 3)? == Reply::Fault(Fault::LogFull));
     assert!(rt; world.step(Event::Checkpoint) == Reply::Checkpointed);
     assert!(rt; world.step(Event::Flush) == Reply::Durable(3));
@@ -90,31 +124,33 @@ fn the_bytes_of_a_checkpoint(rt: HostRuntime) -> Result<(), Fail> {
     assert_eq!(rt; disk.size(), SIZE);
     // copy 1: its gate, its generation, its count and no names; and variable 0, which is 2
     let mut image = [1; 18];
-    disk.read(3072, &mut image)?;
+    disk.read(GATE, &mut image)?;
     assert_eq!(rt;
         image,
         [0xa5, 2, 0, 0, 0, 0, 0, 0, 0, 2, 0, 0, 0, 0, 0, 0, 0, 0]
     );
     let mut value = [1; 8];
-    disk.read(5120, &mut value)?;
+    disk.read(PAGE, &mut value)?;
     assert_eq!(rt; value, [2, 0, 0, 0, 0, 0, 0, 0]);
     // copy 0 is as it was, and the slots are closed
     let mut old = [0; 2];
     disk.read(512, &mut old)?;
     assert_eq!(rt; old, [0xa5, 1]);
     let mut gate = [1];
-    disk.read(5632, &mut gate)?;
+    disk.read(SLOTS[0], &mut gate)?;
     assert_eq!(rt; gate, [0]);
-    disk.read(9728, &mut gate)?;
+    disk.read(SLOTS[1], &mut gate)?;
     assert_eq!(rt; gate, [0]);
     Ok(())
 }
 
-/// What a checkpoint over a full log answers on a device that stops at a write of it, and what the stop left.
-fn torn(alloc: Global, k: u64, byte: u8) -> Result<(Reply, SimDisk), Fail> {
+/// What a checkpoint over a full log, with one more transaction that waits, answers on a device that stops at the write of
+/// it that starts at this place, and what the stop left.
+fn torn(alloc: Global, place: u64, byte: u8) -> Result<(Reply, SimDisk), Fail> {
     let mut disk = full(alloc)?.into_disk();
-    disk.stop_at_write(k, Fill::Byte(byte));
+    disk.stop_at_place(place, Fill::Byte(byte));
     let mut world = small(alloc, disk)?;
+    wait(alloc, &mut world)?;
     let reply = world.step(Event::Checkpoint);
     let mut disk = world.into_disk();
     if !disk.is_stopped() {
@@ -127,24 +163,24 @@ fn torn(alloc: Global, k: u64, byte: u8) -> Result<(Reply, SimDisk), Fail> {
 #[test]
 fn a_torn_checkpoint_loses_nothing(rt: HostRuntime) -> Result<(), Fail> {
     let alloc = rt.alloc();
-    // the page, the header, the gate of the image and those of the slots; and whether the log is free then
+    // in the order of the writes; the log is free once the new image counts
     let rows = [
-        (0, 0xA5, Fault::Device, Reply::Fault(Fault::LogFull)),
-        (0, 0x37, Fault::Device, Reply::Fault(Fault::LogFull)),
-        (1, 0xA5, Fault::Device, Reply::Fault(Fault::LogFull)),
-        (1, 0x37, Fault::Device, Reply::Fault(Fault::LogFull)),
-        (2, 0xA5, Fault::Unknown, Reply::Durable(3)),
-        (2, 0x37, Fault::Unknown, Reply::Fault(Fault::LogFull)),
-        (3, 0xA5, Fault::Device, Reply::Durable(3)),
-        (3, 0x37, Fault::Device, Reply::Durable(3)),
-        (4, 0xA5, Fault::Device, Reply::Durable(3)),
-        (4, 0x37, Fault::Device, Reply::Durable(3)),
+        (PAGE, 0xFF, Fault::Device, Reply::Fault(Fault::LogFull)),
+        (PAGE, 0xA5, Fault::Device, Reply::Fault(Fault::LogFull)),
+        (HEADER, 0xA5, Fault::Device, Reply::Fault(Fault::LogFull)),
+        (HEADER, 0x37, Fault::Device, Reply::Fault(Fault::LogFull)),
+        (GATE, 0xA5, Fault::Unknown, Reply::Durable(3)),
+        (GATE, 0x37, Fault::Unknown, Reply::Fault(Fault::LogFull)),
+        (SLOTS[0], 0xA5, Fault::Device, Reply::Durable(3)),
+        (SLOTS[0], 0x37, Fault::Device, Reply::Durable(3)),
+        (SLOTS[1], 0xA5, Fault::Device, Reply::Durable(3)),
+        (SLOTS[1], 0x37, Fault::Device, Reply::Durable(3)),
     ];
-    for (k, byte, fault, next) in rows {
-        let (reply, disk) = torn(alloc, k, byte)?;
+    for (place, byte, fault, next) in rows {
+        let (reply, disk) = torn(alloc, place, byte)?;
         assert!(rt; reply == Reply::Fault(fault));
         assert_eq!(rt; found_on(alloc, disk)?, (2, 2));
-        let (_, disk) = torn(alloc, k, byte)?;
+        let (_, disk) = torn(alloc, place, byte)?;
         let mut world = small(alloc, disk)?;
         assert!(rt; flushed(alloc, &mut world, 3)? == next);
     }
@@ -154,8 +190,8 @@ fn a_torn_checkpoint_loses_nothing(rt: HostRuntime) -> Result<(), Fail> {
 /// What is found after a checkpoint that stopped at the gate of the new image and left it open, and an opening that
 /// stopped at the gate of slot 0.
 fn torn_twice(alloc: Global, byte: u8) -> Result<(u64, i64), Fail> {
-    let (_, mut disk) = torn(alloc, 2, 0xA5)?;
-    disk.stop_at_write(0, Fill::Byte(byte));
+    let (_, mut disk) = torn(alloc, GATE, 0xA5)?;
+    disk.stop_at_place(SLOTS[0], Fill::Byte(byte));
     let Some((fault, mut disk)) = refused(alloc, disk) else {
         return Err(Fail::new("it was opened"));
     };
@@ -202,22 +238,11 @@ fn with_no_session_there_is_no_checkpoint(rt: HostRuntime) -> Result<(), Fail> {
 }
 
 #[test]
-fn two_images_of_one_generation_are_damage(rt: HostRuntime) -> Result<(), Fail> {
-    let mut disk = empty(rt.alloc())?;
-    let mut image = [0; 2560];
-    disk.read(512, &mut image)?;
-    disk.write_at(3072, &image)?;
-    let fault = refused(rt.alloc(), disk).map(|refusal| refusal.0);
-    assert_eq!(rt; fault, Some(Fault::Damaged));
-    Ok(())
-}
-
-#[test]
 fn an_open_image_of_a_lesser_generation_counts_for_nothing(rt: HostRuntime) -> Result<(), Fail> {
     let mut disk = full(rt.alloc())?.into_disk();
     assert_eq!(rt; disk.size(), SIZE);
     // copy 1 over generation 0, which no image has
-    disk.write_at(3072, &[0xA5])?;
+    disk.write_at(GATE, &[0xA5])?;
     assert_eq!(rt; found_on(rt.alloc(), disk)?, (2, 2));
     Ok(())
 }
@@ -236,7 +261,7 @@ fn a_checkpoint_with_nothing_behind_another(rt: HostRuntime) -> Result<(), Fail>
     let mut image = [0; 2];
     disk.read(512, &mut image)?;
     assert_eq!(rt; image, [0xA5, 3]);
-    disk.read(3072, &mut image)?;
+    disk.read(GATE, &mut image)?;
     assert_eq!(rt; image, [0xA5, 2]);
     Ok(())
 }
@@ -304,16 +329,20 @@ fn a_checkpoint_makes_nothing_durable(rt: HostRuntime) -> Result<(), Fail> {
 #[test]
 fn behind_the_greatest_generation_there_is_no_checkpoint(rt: HostRuntime) -> Result<(), Fail> {
     let alloc = rt.alloc();
-    let mut disk = empty(alloc)?;
+    let mut disk = fresh(alloc)?;
+    assert_eq!(rt; disk.size(), 22016);
     disk.write_at(513, &[0xFF; 8])?;
-    let mut world = small(alloc, disk)?;
+    disk.sync()?;
+    let mut world = opened(alloc, disk, AlwaysTrue { vars: 4 }, AlwaysRetries)?;
     assert_eq!(rt; (world.count(), world.value(0)), (0, 0));
     assert!(rt; world.step(Event::Checkpoint) == Reply::Fault(Fault::Spent));
     // the session stands, and its log takes what it has room for
     assert!(rt; flushed(alloc, &mut world, 1)? == Reply::Durable(1));
     assert!(rt; flushed(alloc, &mut world, 2)? == Reply::Durable(2));
-    assert!(rt; flushed(alloc, &mut world, 3)? == Reply::Fault(Fault::LogFull));
+    assert!(rt; flushed(alloc, &mut world, 3)? == Reply::Durable(3));
+    assert!(rt; flushed(alloc, &mut world, 4)? == Reply::Durable(4));
+    assert!(rt; flushed(alloc, &mut world, 5)? == Reply::Fault(Fault::LogFull));
     assert!(rt; world.step(Event::Checkpoint) == Reply::Fault(Fault::Spent));
-    assert!(rt; world.step(Event::Reopen) == Reply::Opened(2));
+    assert!(rt; world.step(Event::Reopen) == Reply::Opened(4));
     Ok(())
 }

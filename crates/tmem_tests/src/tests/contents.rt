@@ -4,7 +4,7 @@ use super::{fresh, refusal};
 use std::alloc::Global;
 use std::process::Abort;
 use std::test::Fail;
-use tmem_disk::{Fault, SimDisk};
+use tmem_disk::{Disk, Fault, SimDisk};
 use tmem_world::format;
 
 /// Fails where opening a device is refused by another fault, or by none.
@@ -31,4 +31,22 @@ fn what_is_no_store_of_these_numbers_is_refused(rt: HostRuntime) -> Result<(), F
     assert_eq!(rt; format(&mut small, 4, 4), Err(Fault::Geometry));
     assert_eq!(rt; format(&mut small, 0, 4), Err(Fault::Geometry));
     refuses(&rt, alloc, small, 4, Some(Fault::Geometry))
+}
+
+/// A store in which copy 1 of the image has the bytes of copy 0.
+fn with_one_image_twice(alloc: Global) -> Result<SimDisk, Fail> {
+    let mut disk = fresh(alloc)?;
+    if disk.size() != 22016 {
+        return Err(Fail::new("another size"));
+    }
+    let mut image = [0; 2560];
+    disk.read(512, &mut image)?;
+    disk.write_at(3072, &image)?;
+    Ok(disk)
+}
+
+#[test]
+fn two_images_of_one_generation_are_damage(rt: HostRuntime) -> Result<(), Fail> {
+    let disk = with_one_image_twice(rt.alloc())?;
+    refuses(&rt, rt.alloc(), disk, 4, Some(Fault::Damaged))
 }

@@ -1,4 +1,4 @@
-//! A device in memory whose calls fail, or which stops at once.
+//! A device in memory whose calls fail, or which stops, at once or at a chosen write.
 ghost use Rattle.std.specs.Prelude.{◌≡◌};
 ghost use Rattle.tmem_disk.specs.SimParts.{view_of};
 
@@ -123,5 +123,51 @@ fn what_is_armed_waits_at_a_stop_which_wins_over_a_failure(rt: HostRuntime) -> R
     assert_eq!(rt; seen(&mut disk), Ok([1, 2, 0, 0]));
     disk.write_at(2, &[3])?;
     assert_eq!(rt; seen(&mut disk), Ok([1, 2, 3, 0]));
+    Ok(())
+}
+
+#[test]
+fn only_a_write_that_starts_at_the_place_meets_its_stop(rt: HostRuntime) -> Result<(), Fail> {
+    let rows = [
+        (Fill::Old, [1, 5, 5, 6]),
+        (Fill::New, [7, 5, 8, 6]),
+        (Fill::Byte(9), [9, 5, 9, 6]),
+    ];
+    for (fill, want) in rows {
+        let mut disk = SimDisk::new(rt.alloc(), 4)?;
+        disk.stop_at_place(2, fill);
+        // One that covers the place, one before it and one behind it.
+        disk.write_at(1, &[5, 5, 5])?;
+        disk.write_at(0, &[1])?;
+        disk.write_at(3, &[6])?;
+        disk.sync()?;
+        disk.write_at(0, &[7])?;
+        assert_eq!(rt; disk.write_at(2, &[8]), Err(DeviceFault::Write));
+        assert!(rt; disk.is_stopped());
+        disk.restart();
+        assert_eq!(rt; seen(&mut disk), Ok(want));
+        // It is met once.
+        assert_eq!(rt; disk.write_at(2, &[8]), Ok(()));
+    }
+    Ok(())
+}
+
+#[test]
+fn a_stop_at_a_place_replaces_an_armed_one_and_waits_at_a_stop(
+    rt: HostRuntime,
+) -> Result<(), Fail> {
+    let mut disk = SimDisk::new(rt.alloc(), 4)?;
+    disk.stop_at_write(0, Fill::New);
+    disk.stop_at_place(1, Fill::New);
+    disk.write_at(0, &[1])?;
+    disk.stop_now(Fill::New);
+    assert_eq!(rt; disk.write_at(1, &[2]), Err(DeviceFault::Write));
+    assert!(rt; disk.is_stopped());
+    disk.restart();
+    assert_eq!(rt; seen(&mut disk), Ok([1, 0, 0, 0]));
+    assert_eq!(rt; disk.write_at(1, &[2]), Err(DeviceFault::Write));
+    assert!(rt; disk.is_stopped());
+    disk.restart();
+    assert_eq!(rt; seen(&mut disk), Ok([1, 2, 0, 0]));
     Ok(())
 }

@@ -160,6 +160,7 @@ fn stopped_over_another(alloc: Global, k: u64, byte: u8) -> Result<(Result<(), F
     if put(alloc, &mut disk, 1, 2)? != Ok(()) {
         return Err(Fail::new("not written"));
     }
+    disk.sync()?;
     disk.stop_at_write(k, Fill::Byte(byte));
     let answer = put(alloc, &mut disk, 0, 3)?;
     if !disk.is_stopped() {

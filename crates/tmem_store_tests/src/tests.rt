@@ -1,0 +1,7 @@
+//! Tests of the device, and of what is written to it.
+mod batches;
+mod counting;
+mod disks;
+mod failures;
+mod images;
+mod journals;
