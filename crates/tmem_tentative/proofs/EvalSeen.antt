@@ -10,16 +10,13 @@ use Rattle.tmem_tree.specs.StepAnswers.{StepMeanings}
 use Rattle.tmem_record.specs.Writes.{look}
 use Rattle.tmem_tree.specs.Run.{register, is_zero}
 use Rattle.tmem_tentative.specs.Eval.{RunState, Flow, Goes, Needs, Retries, Aborts, eval, eval_all, then_eval, else_eval, read, answered}
+use Rattle.tmem_tentative.specs.Places.{Covers}
 use Rattle.tmem_tentative.proofs.ReadEntries.{look-insert}
-
--- the reads have all that was seen
-pub record Covers (reads seen : List (ℕ × ℤ)) : Type 0 where
-  pub at : (v : ℕ) (n : ℤ) → look seen v ≡ Some n → look reads v ≡ Some n
 
 pub covers_refl : (xs : List (ℕ × ℤ)) → Covers xs xs
 covers_refl xs = record { at = λ v n h. h }
 
-covers_trans : (xs ys zs : List (ℕ × ℤ)) → Covers xs ys → Covers ys zs → Covers xs zs
+pub covers_trans : (xs ys zs : List (ℕ × ℤ)) → Covers xs ys → Covers ys zs → Covers xs zs
 covers_trans xs ys zs a b = record { at = λ v n h. a.at v n (b.at v n h) }
 
 covers_saw : (reads seen : List (ℕ × ℤ)) (k : ℕ) (n : ℤ) → Covers reads seen → look reads k ≡ Some n → Covers reads (insert_entry nat_eq seen k n)
@@ -34,7 +31,7 @@ saw_covers reads seen k n covers is = record { at = λ v m h. look-insert seen k
   on v m true e h = sym is ∙ sym (ap (look reads) (eqb-true v k e)) ∙ covers.at v m h
   on v m false e h = h
 
-look-saw : (seen : List (ℕ × ℤ)) (k : ℕ) (n : ℤ) → look (insert_entry nat_eq seen k n) k ≡ Some n
+pub look-saw : (seen : List (ℕ × ℤ)) (k : ℕ) (n : ℤ) → look (insert_entry nat_eq seen k n) k ≡ Some n
 look-saw seen k n = look-insert seen k n k ∙ ap (λ b. cond b (Some n) (look seen k)) (eq-eqb k k refl)
 
 module _ (reads reads' : List (ℕ × ℤ)) where

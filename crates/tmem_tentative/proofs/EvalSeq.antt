@@ -14,7 +14,7 @@ abbrev pub eval_in : StepMeanings → List (ℕ × ℤ) → List Tx → RunState
 eval_in steps reads [] s = Goes s
 eval_in steps reads (tx ∷ txs) s = then_eval (eval steps reads tx s) (eval_in steps reads txs)
 
-eval_all-items : (steps : StepMeanings) (reads : List (ℕ × ℤ)) {m : _} (txs : Row_of-Tx m) (s : RunState) → eval_all steps reads txs s ≡ eval_in steps reads (items-the_row-Tx m txs) s
+pub eval_all-items : (steps : StepMeanings) (reads : List (ℕ × ℤ)) {m : _} (txs : Row_of-Tx m) (s : RunState) → eval_all steps reads txs s ≡ eval_in steps reads (items-the_row-Tx m txs) s
 eval_all-items steps reads end_of-Tx s = refl
 eval_all-items steps reads (more_of-Tx tx txs) s = ap (then_eval (eval steps reads tx s)) (fun_ext (eval_all-items steps reads txs))
 

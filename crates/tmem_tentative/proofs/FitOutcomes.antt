@@ -18,7 +18,7 @@ use Rattle.tmem_tentative.specs.declared.attempt.Attempt.{Attempt}
 use Rattle.tmem_tentative.specs.declared.attempt.Outcome.TheVariants.{Ended}
 use Rattle.tmem_tentative.proofs.EvalWrites.{IsGood, IsGoodFlow, good, below_all, once_nil}
 use Rattle.tmem_tentative.proofs.EvalNames.{HasNames, HasNamesFlow, named}
-use Rattle.tmem_tentative.proofs.RightOutcomes.{start_state}
+use Rattle.tmem_tentative.specs.Ends.{start_state}
 
 -- the evaluation of a transaction over these reads, under some meanings of the steps
 abbrev pub IsSomeEval : List (ℕ × ℤ) → Tx → Flow → Type 0

@@ -2,20 +2,18 @@
 use Rattle.std.proofs.Common.{◌≡◌, ℕ, ℤ, List, [], sym, ◌∙◌, subst}
 use Rattle.tmem_tree.specs.declared.tx.Tx.{Tx}
 use Rattle.tmem_tree.specs.StepAnswers.{StepMeanings}
-use Rattle.tmem_record.specs.State.{no_effect}
-use Rattle.tmem_tree.specs.Run.{run, start, no_registers}
+use Rattle.tmem_tree.specs.Run.{run, start}
 use Rattle.tmem_tree.specs.Visited.{visits}
 use Rattle.tmem_tentative.specs.Eval.{RunState, Flow, Goes, Needs, Retries, Aborts, eval}
 use Rattle.tmem_tentative.specs.Right.{Agrees, IsBlank, EndsAs, IsOutcome}
+use Rattle.tmem_tentative.specs.Ends.{start_state}
 use Rattle.tmem_tentative.specs.declared.attempt.Attempt.{Attempt}
 use Rattle.tmem_tentative.specs.declared.attempt.Outcome.TheVariants.{Need, Ended}
 use Rattle.tmem_tentative.specs.declared.attempt.Ending.TheVariants.{Normal, Retry, Abort}
 use Rattle.tmem_tentative.proofs.ReadEntries.{note-valued, first_lacking-each_once}
 use Rattle.tmem_tentative.proofs.EvalRuns.{Tells, tells}
-use Rattle.tmem_tentative.proofs.EvalSeen.{Covers, Keeps, keeps, covers_refl}
-
-abbrev pub start_state : RunState
-start_state = record { registers = no_registers; effect = no_effect; seen = [] }
+use Rattle.tmem_tentative.specs.Places.{Covers}
+use Rattle.tmem_tentative.proofs.EvalSeen.{Keeps, keeps, covers_refl}
 
 module _ (steps : StepMeanings) (tx : Tx) where
   -- on a map that agrees with these reads

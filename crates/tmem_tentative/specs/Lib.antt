@@ -1,5 +1,10 @@
+pub mod CursorFacts
+pub mod Cursors
+pub mod Ends
 pub mod Eval
 pub mod Fits
 pub mod Laws
 pub mod Logs
+pub mod Places
 pub mod Right
+pub mod Stages

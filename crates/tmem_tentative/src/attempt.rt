@@ -39,3 +39,12 @@ pub enum Outcome {
     /// The reads lack none.
     Ended(Attempt),
 }
+
+/// How far an evaluation has come.
+#[derive(Clone, Copy, Debug, PartialEq, Eq)]
+pub enum Progress {
+    /// It needs the value of this variable.
+    Need(u16),
+    /// It has ended.
+    Ended,
+}

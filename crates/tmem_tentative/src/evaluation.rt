@@ -3,11 +3,13 @@
 ghost use Rattle.std.specs.Prelude.{◌≡◌, ℕ, List, IfOk, IfErr};
 ghost use Rattle.tmem_tree.specs.StepAnswers.{StepMeanings};
 ghost use Rattle.tmem_tree.specs.Plans.{FitsSteps, FitsVariables, FitsNames};
-ghost use Rattle.tmem_tentative.specs.Right.{IsOutcome, IsBlank};
+ghost use Rattle.tmem_tentative.specs.Right.{IsOutcome};
+ghost use Rattle.tmem_tentative.specs.Logs.{run_state_of, flow_of};
+ghost use Rattle.tmem_tentative.specs.Ends.{IsEndOf, IsMadeOf};
 ghost use Rattle.tmem_tentative.specs.Fits.{IsFit, IsWithin, IsNamed};
 
 use crate::attempt::{Attempt, Ending, Outcome, Reads};
-use crate::log::{Flow, Log};
+use crate::flow::Flow;
 use crate::walk::walk;
 use std::alloc::Global;
 use tmem_disk::Fault;
@@ -31,41 +33,44 @@ pub fn evaluate<S: StoredSteps>(
     ensures named { (names : List (List ℕ)) → FitsNames names plan.now → IfOk result (IsNamed names) }
     ensures fault { IfErr result (λ fault. fault ≡ Fault.Memory) }
 {
-    let mut log = Log {
+    let mut attempt = Attempt {
+        reads: Reads::new(alloc),
+        ending: Ending::Normal,
         registers: [0; REGISTERS],
         effect: Effect::new(),
-        reads: Reads::new(alloc),
     };
-    let flow = walk(alloc, plan.tree(), steps, reads, &mut log)?;
-    let Log {
-        registers,
-        effect,
-        reads: seen,
-    } = log;
+    let flow = walk(alloc, plan.tree(), steps, reads, &mut attempt)?;
+    Ok(outcome(flow, attempt))
+}
+
+// What a run comes to that can go no further.
+fn outcome(flow: Flow, mut attempt: Attempt) -> Outcome
+    ensures { IsMadeOf (flow_of flow (run_state_of attempt)) result }
+{
     match flow {
-        Flow::Normal => Ok(Outcome::Ended(Attempt {
-            reads: seen,
-            ending: Ending::Normal,
-            registers,
-            effect,
-        })),
-        Flow::Need(var) => Ok(Outcome::Need(var)),
-        Flow::Retry => Ok(Outcome::Ended(without_effect(seen, effect, Ending::Retry))),
-        Flow::Abort(code) => Ok(Outcome::Ended(without_effect(seen, effect, Ending::Abort(code)))),
+        Flow::Need(var) => Outcome::Need(var),
+        Flow::Normal => {
+            end(&mut attempt, Ending::Normal);
+            Outcome::Ended(attempt)
+        }
+        Flow::Retry => {
+            end(&mut attempt, Ending::Retry);
+            Outcome::Ended(attempt)
+        }
+        Flow::Abort(code) => {
+            end(&mut attempt, Ending::Abort(code));
+            Outcome::Ended(attempt)
+        }
     }
 }
 
-// An attempt that leaves nothing behind.
-fn without_effect(reads: Reads, mut effect: Effect, ending: Ending) -> Attempt
-    ensures reads { result.reads ≡ reads }
-    ensures ending { result.ending ≡ ending }
-    ensures blank { IsBlank result }
+/// Makes an attempt of a run that has ended: unless it ended normally, its registers and its effect are let go.
+pub(crate) fn end(attempt: &mut Attempt, ending: Ending)
+    ensures { IsEndOf attempt.old ending attempt.new }
 {
-    effect.clear();
-    Attempt {
-        reads,
-        ending,
-        registers: [0; REGISTERS],
-        effect,
+    attempt.ending = ending;
+    if ending != Ending::Normal {
+        attempt.registers = [0; REGISTERS];
+        attempt.effect.clear();
     }
 }

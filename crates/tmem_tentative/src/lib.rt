@@ -1,15 +1,22 @@
 //! Evaluation of a transaction against the values that were read so far and a private log.
 //!
 //! `evaluate` runs a plan over a partial map. It answers the first variable that the plan visits and that the map lacks, or
-//! an attempt that is right on every map that agrees with its reads. It changes nothing outside.
+//! an attempt that is right on every map that agrees with its reads. It changes nothing outside. A `Cursor` answers the same
+//! for the values that it is given one by one, goes on where it stopped, and keeps its memory from one plan to the next.
 #![tactic(auto)]
 
 mod attempt;
+mod choices;
+mod cursor;
 mod evaluation;
+mod flow;
 mod laws;
-mod log;
+mod path;
+mod save;
 mod walk;
+mod walk_on;
 
-pub use attempt::{Attempt, Ending, Outcome, Reads};
+pub use attempt::{Attempt, Ending, Outcome, Progress, Reads};
+pub use cursor::Cursor;
 pub use evaluation::evaluate;
 pub use laws::or_else_laws;

@@ -10,8 +10,8 @@ ghost use Rattle.tmem_tree.specs.Run.{register};
 ghost use Rattle.tmem_tentative.specs.Eval.{eval, read, answered};
 ghost use Rattle.tmem_tentative.specs.Logs.{run_state_of, flow_of};
 
-use crate::attempt::Reads;
-use crate::log::{Flow, Log};
+use crate::attempt::{Attempt, Reads};
+use crate::flow::Flow;
 use std::alloc::{AllocError, Global};
 use tmem_disk::Fault;
 use tmem_record::Effect;
@@ -24,7 +24,7 @@ pub(crate) fn walk<S: StoredSteps>(
     tx: &Tx,
     steps: &S,
     reads: &Reads,
-    log: &mut Log,
+    log: &mut Attempt,
 ) -> Result<Flow, Fault>
     requires registers { count has_bad_register tx.now ≡ 0 }
     requires steps { FitsSteps (S.arities steps.now) tx.now }
@@ -85,7 +85,7 @@ fn walk_first<S: StoredSteps>(
     tx: &Tx,
     steps: &S,
     reads: &Reads,
-    log: &mut Log,
+    log: &mut Attempt,
 ) -> Result<Flow, Fault>
     requires registers { count has_bad_register tx.now ≡ 0 }
     requires steps { FitsSteps (S.arities steps.now) tx.now }
@@ -115,7 +115,7 @@ fn saved(alloc: Global, effect: &Effect) -> Result<Box<Effect>, AllocError>
 }
 
 // Forgets what a branch did that retried, but for its reads: registers and effect are as before it.
-fn forget(log: &mut Log, registers: [i64; REGISTERS], effect: &Effect)
+fn forget(log: &mut Attempt, registers: [i64; REGISTERS], effect: &Effect)
     ensures registers { log.new.registers ≡ registers }
     ensures effect { log.new.effect ≡ effect.now }
     ensures reads { log.new.reads ≡ log.old.reads }
@@ -125,7 +125,7 @@ fn forget(log: &mut Log, registers: [i64; REGISTERS], effect: &Effect)
 }
 
 // A Read of one variable.
-fn read(reads: &Reads, log: &mut Log, var: u16, reg: u8) -> Result<Flow, Fault>
+fn read(reads: &Reads, log: &mut Attempt, var: u16, reg: u8) -> Result<Flow, Fault>
     requires { reg < 16 }
     ensures effect { log.new.effect ≡ log.old.effect }
     ensures flow { IfOk result (λ flow. flow_of flow (run_state_of log.new) ≡ read (look log.old.effect.writes var) (look reads.now.entries var) (run_state_of log.old) var reg) }
@@ -145,14 +145,22 @@ fn read(reads: &Reads, log: &mut Log, var: u16, reg: u8) -> Result<Flow, Fault>
     }
 }
 
-// A call of one step.
-fn call<S: StoredSteps>(steps: &S, log: &mut Log, index: u16, args: &[u8], out: u8) -> Flow
+/// A call of one step.
+pub(crate) fn call<S: StoredSteps>(
+    steps: &S,
+    log: &mut Attempt,
+    index: u16,
+    args: &[u8],
+    out: u8,
+) -> Flow
     requires there { index < length (S.arities steps.now) }
     requires given { length args.now ≡ slice_index (S.arities steps.now) index }
     requires few { length args.now ≤ 4 }
     requires registers { list_any is_no_register args.now ≡ false }
     requires out { out < 16 }
+    ensures needs_none { (n : ℕ) → result ≡ Flow.Need n → ⊥ }
     ensures effect { log.new.effect ≡ log.old.effect }
+    ensures reads { log.new.reads ≡ log.old.reads }
     ensures flow { (m : StepMeanings) → S.is_stated steps.now m → flow_of result (run_state_of log.new) ≡ answered (m index (map (register log.old.registers) args.now)) (run_state_of log.old) out }
 {
     let mut given = [0; MAX_ARGUMENTS as usize];

@@ -1,0 +1,68 @@
+-- That where a cursor stands has one proof at most.
+use Rattle.std.specs.Prelude.{◌≡◌, ℕ, zero, suc, Bool, List, [], ◌∷◌, length}
+use Rattle.std.specs.Coded.{codes, Coded, Coded-set, ×_prop, le_prop}
+use Rattle.std.proofs.Props.{props}
+use Rattle.tmem_record.specs.declared.effect.Effect.{Effect}
+use Rattle.tmem_tree.specs.declared.tx.Tx.{Tx, Row_of-Tx, end_of-Tx, more_of-Tx}
+use Rattle.tmem_tree.specs.declared.tx.Tx.TheVariants.{Skip, Seq', Put, Read, Write, Step, When', OrElse', Retry, Abort, Check}
+use Rattle.tmem_tree.specs.Limits.{is_write, is_check}
+use Rattle.tmem_tree.specs.StepAnswers.{StepMeanings}
+use Rattle.tmem_tentative.specs.declared.attempt.Attempt.{Attempt}
+use Rattle.tmem_tentative.specs.declared.attempt.Ending.{Ending}
+use Rattle.tmem_tentative.specs.declared.attempt.Ending.TheVariants as ending
+use Rattle.tmem_tentative.specs.declared.cursor.Cursor.{Cursor}
+use Rattle.tmem_tentative.specs.declared.cursor.Stage.{Stage}
+use Rattle.tmem_tentative.specs.declared.cursor.Stage.TheVariants.{Going, Waits, Ended}
+use Rattle.tmem_tentative.specs.declared.save.Save.{Save}
+use Rattle.tmem_tentative.specs.Eval.{Flow}
+use Rattle.tmem_tentative.specs.Fits.{IsBlankUnlessNormal}
+use Rattle.tmem_tentative.specs.Places.{Place, HasRoom, AllHaveRoom}
+use Rattle.tmem_tentative.specs.Cursors.{MayGoOn, IsAt, IsAtStage}
+
+flow_coded : Coded Flow
+flow_coded = hlevel codes
+
+pub Flow-prop : (f g : Flow) → IsProp (f ≡ g)
+Flow-prop f g = Coded-set flow_coded f g
+
+module _ (test : Tx → Bool) (limit : ℕ) (size : Effect → ℕ) where
+  mutual
+    pub HasRoom-prop : (rest : ℕ) (path : List ℕ) (tx : Tx) (saves : List Save) (n : ℕ) → IsProp (HasRoom test limit size rest path tx saves n)
+    HasRoom-prop rest [] tx saves n = le_prop
+    HasRoom-prop rest (i ∷ path) (Seq' shape txs) saves n = AllHaveRoom-prop rest i path txs saves n
+    HasRoom-prop rest (zero ∷ path) (When' reg p a q b) saves n = HasRoom-prop rest path a saves n
+    HasRoom-prop rest (suc i ∷ path) (When' reg p a q b) saves n = HasRoom-prop rest path b saves n
+    HasRoom-prop rest (zero ∷ path) (OrElse' p a q b) [] n = hlevel
+    HasRoom-prop rest (zero ∷ path) (OrElse' p a q b) (save ∷ saves) n = ×_prop (HasRoom-prop rest path a saves n) le_prop
+    HasRoom-prop rest (suc i ∷ path) (OrElse' p a q b) saves n = HasRoom-prop rest path b saves n
+    HasRoom-prop rest (i ∷ path) Skip saves n = hlevel
+    HasRoom-prop rest (i ∷ path) (Put reg x) saves n = hlevel
+    HasRoom-prop rest (i ∷ path) (Read var reg) saves n = hlevel
+    HasRoom-prop rest (i ∷ path) (Write var reg) saves n = hlevel
+    HasRoom-prop rest (i ∷ path) (Step index args out) saves n = hlevel
+    HasRoom-prop rest (i ∷ path) Retry saves n = hlevel
+    HasRoom-prop rest (i ∷ path) (Abort code) saves n = hlevel
+    HasRoom-prop rest (i ∷ path) (Check name) saves n = hlevel
+
+    pub AllHaveRoom-prop : {m : _} (rest i : ℕ) (path : List ℕ) (txs : Row_of-Tx m) (saves : List Save) (n : ℕ) → IsProp (AllHaveRoom test limit size rest i path txs saves n)
+    AllHaveRoom-prop rest i path end_of-Tx saves n = hlevel
+    AllHaveRoom-prop rest zero path (more_of-Tx tx txs) saves n = HasRoom-prop _ path tx saves n
+    AllHaveRoom-prop rest (suc i) path (more_of-Tx tx txs) saves n = AllHaveRoom-prop rest i path txs saves n
+
+pub MayGoOn-prop : (plan : Tx) (p : Place) → IsProp (MayGoOn plan p)
+MayGoOn-prop plan p =
+    hlevel (props, HasRoom-prop is_write 64 (λ e. length e.writes) 0 p.path plan p.saves (length p.effect.writes), HasRoom-prop is_check 8 (λ e. length e.names) 0 p.path plan p.saves (length p.effect.names))
+
+pub IsBlankUnlessNormal-prop : (e : Ending) (a : Attempt) → IsProp (IsBlankUnlessNormal e a)
+IsBlankUnlessNormal-prop ending.Normal a = hlevel
+IsBlankUnlessNormal-prop ending.Retry a = hlevel props
+IsBlankUnlessNormal-prop (ending.Abort code) a = hlevel props
+
+IsAtStage-prop : (m : StepMeanings) (plan : Tx) (stage : Stage) (cursor : Cursor) → IsProp (IsAtStage m plan stage cursor)
+IsAtStage-prop m plan Going cursor = hlevel (props, MayGoOn-prop, Flow-prop)
+IsAtStage-prop m plan (Waits var) cursor = hlevel (props, MayGoOn-prop, Flow-prop)
+IsAtStage-prop m plan Ended cursor = ×_prop (Flow-prop _ _) (IsBlankUnlessNormal-prop cursor.attempt.ending cursor.attempt)
+
+-- so a type may state it as a fact
+pub IsAt-prop : (m : StepMeanings) (plan : Tx) (cursor : Cursor) → IsProp (IsAt m plan cursor)
+IsAt-prop m plan cursor = IsAtStage-prop m plan cursor.stage cursor
