@@ -5,11 +5,10 @@ ghost use Rattle.tmem_world.specs.Represents.{numbers_of, HoldsSession};
 
 use super::no_closures::AlwaysTrue;
 use std::alloc::{AllocError, Global};
-use std::env;
-use std::fs;
 use std::io::ErrorKind;
 use std::path::PathBuf;
 use std::test::Fail;
+use std::{env, fs};
 use tmem_builtins::add;
 use tmem_disk::Fault;
 use tmem_file::{FileDisk, NewFile};
@@ -129,9 +128,7 @@ fn events(alloc: Global, k: u64) -> Result<Vec<Event>, AllocError>
 }
 
 /// Plays them all, and answers how many events were refused.
-fn play_all(alloc: Global, world: &mut InFile) -> Result<u64, Fail>
-    ensures { numbers_of world.new ≡ numbers_of world.old }
-{
+fn play_all(alloc: Global, world: &mut InFile) -> Result<u64, Fail> {
     let mut refused = 0u64;
     for k in 0..TRANSACTIONS {
         for reply in world.play(events(alloc, k)?)? {
