@@ -64,13 +64,23 @@ fn flushed(alloc: Global, world: &mut Small, number: i64) -> Result<Reply, Fail>
     Ok(world.step(Event::Flush))
 }
 
+/// The same, with no answer.
+fn fill(alloc: Global, world: &mut Small, number: i64) -> Result<(), Fail>
+    ensures { numbers_of world.new ≡ numbers_of world.old }
+{
+    let tx = write(alloc, 0, number)?;
+    let _ = commit(world, tx);
+    let _ = world.step(Event::Flush);
+    Ok(())
+}
+
 /// A world with both slots used: 1 was written to variable 0, then 2.
 fn full(alloc: Global) -> Result<Small, Fail>
     ensures { IfOk result (λ world. (numbers_of world).vars ≡ 4) }
 {
     let mut world = small(alloc, empty(alloc)?)?;
-    let _ = flushed(alloc, &mut world, 1)?;
-    let _ = flushed(alloc, &mut world, 2)?;
+    fill(alloc, &mut world, 1)?;
+    fill(alloc, &mut world, 2)?;
     Ok(world)
 }
 
@@ -130,7 +140,7 @@ fn torn(alloc: Global, place: u64, byte: u8) -> Result<(Reply, SimDisk), Fail> {
     let mut disk = full(alloc)?.into_disk();
     disk.stop_at_place(place, Fill::Byte(byte));
     let mut world = small(alloc, disk)?;
-    let _ = flushed(alloc, &mut world, 3)?;
+    fill(alloc, &mut world, 3)?;
     let reply = world.step(Event::Checkpoint);
     let mut disk = world.into_disk();
     if !disk.is_stopped() {
