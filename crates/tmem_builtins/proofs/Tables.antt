@@ -1,15 +1,16 @@
 -- The entries that a program's table has are within the limits of tables.
-use Rattle.std.proofs.Common.{◌≡◌, ◌≢◌, ℕ, ◌<◌, false, bytes_eq, List, [], ◌∷◌, map, All, Result, Ok, Err, IsOk, IfErr, codes, lit≤, refl, sym, ◌∙◌, arith}
+use Rattle.std.proofs.Common.{◌≡◌, ◌≢◌, ℕ, ◌<◌, false, bytes_eq, List, [], ◌∷◌, map, All, Result, Ok, Err, IsOk, IfErr, ◌⊎◌, inl, inr, codes, lit≤, refl, sym, ◌∙◌, arith}
 use Rattle.std.proofs.lemmas.Bool.{false≢true}
 use Rattle.std.proofs.lemmas.List.Elements.{All-nil, All-cons}
 use Rattle.std.proofs.lemmas.List.Kept.{AllPairs-cons}
 use Rattle.std.proofs.lemmas.Slice.Eq.{bytes_eq-Decides}
 use Rattle.tmem_invariants.specs.TableNames.{AreBelow, AreTableNames, AreDistinct}
 
--- where a result is Ok, no error is to be spoken of
-pub no_error : {A E : Type 0} (r : Result A E) (P : E → Type 0) → IsOk r → IfErr r P
-no_error (Ok a) P ok = tt
-no_error (Err e) P ok = absurd (false≢true ok)
+-- where a result is Ok or one error, any error that is spoken of is that one
+pub one_error : {A E : Type 0} (r : Result A E) (e : E) → IsOk r ⊎ (r ≡ Err e) → IfErr r (λ other. other ≡ e)
+one_error (Ok a) e is = tt
+one_error (Err other) e (inl ok) = absurd (false≢true ok)
+one_error (Err other) e (inr is) = cc
 
 apart : (a b : List ℕ) → bytes_eq a b ≡ false → a ≢ b
 apart a b differ same = false≢true (sym differ ∙ (bytes_eq-Decides a b).1 same)

@@ -86,9 +86,9 @@ pub fn table_of(
     let pair = Invariant::new(sum_name(), vec![in alloc; 0, 1]?, sum)?;
     let order = Invariant::new(ordered_name(), vec![in alloc; 2, 3]?, ordered)?;
     match vars {
-        0 => Table::of(Vec::new(alloc), vars),
-        1 => Table::of(vec![in alloc; floor]?, vars),
-        2 | 3 => Table::of(vec![in alloc; floor, pair]?, vars),
-        _ => Table::of(vec![in alloc; floor, pair, order]?, vars),
+        0 => Table::of(alloc, Vec::new(alloc), vars),
+        1 => Table::of(alloc, vec![in alloc; floor]?, vars),
+        2 | 3 => Table::of(alloc, vec![in alloc; floor, pair]?, vars),
+        _ => Table::of(alloc, vec![in alloc; floor, pair, order]?, vars),
     }
 }

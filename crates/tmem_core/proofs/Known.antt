@@ -44,18 +44,19 @@ few-AreAmong names ns up among =
         let there = Contains-from_has_name names name (subst (λ n. has_name names n ≡ true) same (among found.0 found.1 found.2)) in
         list_any_at (bytes_eq name) names there.0 name there.1 (ap (bytes_eq name) there.2 ∙ (bytes_eq-Decides name name).1 refl)
 
+-- one of two, in either order
+pub either : (a b : Bool) → (a || b) ≡ (b || a)
+either true true = refl
+either true false = refl
+either false true = refl
+either false false = refl
+
 -- each of the names with more added is one of them, or was added
 asked : (ns ms : List (List ℕ)) → All (λ name. IsTrue (has_name ns name || has_name ms name)) (with_names ns ms)
 asked ns ms k d below =
     let name = get_or (with_names ns ms) k d in
     let there : has_name (with_names ns ms) name ≡ true = list_any_at (λ n. bytes_eq n name) (with_names ns ms) k d below ((bytes_eq-Decides name name).1 refl) in
-    swapped (has_name ms name) (has_name ns name) (sym (has_name-with_names ns ms name) ∙ there)
-  where
-    swapped : (a b : Bool) → (a || b) ≡ true → (b || a) ≡ true
-    swapped true true is = refl
-    swapped true false is = refl
-    swapped false true is = refl
-    swapped false false is = is
+    either (has_name ns name) (has_name ms name) ∙ sym (has_name-with_names ns ms name) ∙ there
 
 -- so they are all in the table, where both are
 pub AreAmong-with_names : (names ns ms : List (List ℕ)) → AreAmong names ns → AreAmong names ms → AreAmong names (with_names ns ms)

@@ -7,6 +7,7 @@ ghost use Rattle.tmem_record.specs.State.{apply, fold};
 ghost use Rattle.tmem_record.specs.declared.name_set.TheConstants.{MAX_NAMES};
 ghost use Rattle.tmem_tree.specs.declared.tx.Tx.{Tx};
 ghost use Rattle.tmem_invariants.specs.Meanings.{Meanings, AllHold, IsSound, first_false};
+ghost use Rattle.tmem_invariants.specs.Places.{ArePlacesOf};
 ghost use Rattle.tmem_tentative.specs.Fits.{IsForVariables};
 ghost use Rattle.tmem_tentative.specs.Right.{IsRight};
 ghost use Rattle.tmem_core.specs.SettleAnswer.{is_stale};
@@ -20,7 +21,7 @@ use crate::waiting::{MAX_WAITING, Waiting};
 use std::alloc::{AllocError, Global};
 use std::snapshot::Snapshot;
 use tmem_disk::{Fault, Name};
-use tmem_invariants::Invariants;
+use tmem_invariants::{Invariants, places_of};
 use tmem_record::{BATCH_BYTES, Batch, Effect, MAX_RECORD_BYTES, MAX_RECORDS, MAX_WRITES, State};
 use tmem_tentative::{Attempt, Ending, Reads};
 use tmem_tree::{REGISTERS, Settled};
@@ -31,6 +32,8 @@ use tmem_tree::{REGISTERS, Settled};
 pub struct Core<T: Invariants> {
     table: T,
     state: State,
+    // the places in the table of the registered names
+    places: u64,
     waiting: Waiting,
     durable: u64,
     is_shut: bool,
@@ -46,6 +49,9 @@ pub struct Core<T: Invariants> {
 
     /// Each registered name is in the table.
     pub ghost known: { All (λ name. IsTrue (has_name (T.names table) name)) state.names },
+
+    /// The set of places has exactly theirs.
+    pub ghost placed: { ArePlacesOf state.names (T.names table) places },
 
     /// Each is true of the present map.
     pub ghost sound: { (m : Meanings) → T.is_stated table m → AllHold m state.names state.values },
@@ -95,7 +101,8 @@ impl<T: Invariants + Drop> Core<T> {
         if let Some(name) = table.missing(state.names()) {
             return Err((Fault::Missing(name), table));
         }
-        if let Some(place) = table.test_all(state.values(), state.names(), &[]) {
+        let places = places_of(&table, state.names());
+        if let Some(place) = table.test_all(state.values(), places, 0) {
             let name = table.name(place);
             return Err((Fault::Broken(name), table));
         }
@@ -106,6 +113,7 @@ impl<T: Invariants + Drop> Core<T> {
                 Ok(Core {
                     table,
                     state,
+                    places,
                     waiting,
                     durable,
                     is_shut: false,
@@ -227,16 +235,18 @@ impl<T: Invariants + Drop> Core<T> {
         ensures table { table_of self.new ≡ table_of self.old }
         ensures vars { length (state_of self.new).values ≡ length (state_of self.old).values }
     {
-        match self.first_broken(effect) {
+        let proposed = places_of(&self.table, effect.names.as_slice());
+        match self.first_broken(effect, proposed) {
             Some(name) => Ok(Settled::Refused(name)),
-            None => self.accept(effect, registers),
+            None => self.accept(effect, proposed, registers),
         }
     }
 
-    // The first name, in the table's order, that is false of the map that an effect would make. It is written into the
-    // present values for the test alone.
-    fn first_broken(&mut self, effect: &Effect) -> Option<Name>
-        requires { All (λ var. var < length (state_of self.old).values) (keys_of effect.now.writes) }
+    // The first name, in the table's order, that is false of the map that an effect would make, whose names have these
+    // places. It is written into the present values for the test alone.
+    fn first_broken(&mut self, effect: &Effect, proposed: u64) -> Option<Name>
+        requires variables { All (λ var. var < length (state_of self.old).values) (keys_of effect.now.writes) }
+        requires proposed { ArePlacesOf effect.now.names (T.names (table_of self.old)) proposed }
         ensures first { (m : Meanings) → T.is_stated (table_of self.old) m
             → result ≡ first_false m (T.names (table_of self.old)) (state_of self.old).names effect.now.names (apply (state_of self.old) effect.now).values }
         ensures state { state_of self.new ≡ state_of self.old }
@@ -246,15 +256,22 @@ impl<T: Invariants + Drop> Core<T> {
         ensures shut { is_shut_of self.new ≡ is_shut_of self.old }
         ensures table { table_of self.new ≡ table_of self.old }
     {
-        match first_false(&self.table, &mut self.state, &mut self.olds, effect) {
+        let (registered, state, olds) = (self.places, &mut self.state, &mut self.olds);
+        match first_false(&self.table, registered, proposed, state, olds, effect) {
             Some(place) => Some(self.table.name(place)),
             None => None,
         }
     }
 
-    // Settles an effect of which every invariant stays true.
-    fn accept(&mut self, effect: &Effect, registers: [i64; REGISTERS]) -> Result<Settled, Fault>
+    // Settles an effect of which every invariant stays true, and whose names have these places.
+    fn accept(
+        &mut self,
+        effect: &Effect,
+        proposed: u64,
+        registers: [i64; REGISTERS],
+    ) -> Result<Settled, Fault>
         requires variables { All (λ var. var < length (state_of self.old).values) (keys_of effect.now.writes) }
+        requires proposed { ArePlacesOf effect.now.names (T.names (table_of self.old)) proposed }
         requires room { length (with_names (state_of self.old).names effect.now.names) ≤ MAX_NAMES }
         requires known { All (λ name. IsTrue (has_name (T.names (table_of self.old)) name)) (apply (state_of self.old) effect.now).names }
         requires sound { (m : Meanings) → T.is_stated (table_of self.old) m → AllHold m (apply (state_of self.old) effect.now).names (apply (state_of self.old) effect.now).values }
@@ -282,6 +299,7 @@ impl<T: Invariants + Drop> Core<T> {
             return Err(Fault::Spent);
         }
         self.state.accept(effect);
+        self.places |= proposed;
         self.waiting.push(effect);
         self.history = History::with(&self.history, effect);
         Ok(Settled::Committed { number, registers })

@@ -2,36 +2,40 @@
 ghost use Rattle.std.specs.Prelude.{◌≡◌, ◌≤◌, ◌<◌, pos, List, ℤ, length, take, map, slice_index_or, All, IfSome};
 ghost use Rattle.tmem_record.specs.State.{written};
 ghost use Rattle.tmem_invariants.specs.Meanings.{Meanings, AllHold, first_false, value_of};
+ghost use Rattle.tmem_invariants.specs.Places.{ArePlacesOf};
 ghost use Rattle.tmem_invariants.specs.TableNames.{name_at};
 
 use tmem_invariants::Invariants;
 use tmem_record::{Effect, MAX_WRITES, State};
 
 /// The place, in the table's order, of the first name that is registered or that an effect proposes, and is false of the
-/// map that the effect would make. The effect is written into the state, and the old values, which stand in a buffer
-/// meanwhile, are put back after the test.
+/// map that the effect would make: both are given as the sets of their places. Where it proposes none, and no registered
+/// one is over a variable that it writes, nothing is tested. Otherwise the effect is written into the state, and the old
+/// values, which stand in a buffer meanwhile, are put back after the test.
 pub(crate) fn first_false<T: Invariants>(
     table: &T,
+    registered: u64,
+    proposed: u64,
     state: &mut State,
     olds: &mut [(u16, i64); MAX_WRITES],
     effect: &Effect,
 ) -> Option<usize>
     requires vars { T.vars table.now ≡ length state.old.values }
     requires variables { All (λ w. w.0 < length state.old.values) effect.now.writes }
+    requires registered { ArePlacesOf state.old.names (T.names table.now) registered }
+    requires proposed { ArePlacesOf effect.now.names (T.names table.now) proposed }
     ensures within { IfSome result (λ place. place < length (T.names table.now)) }
     ensures first { (m : Meanings) → T.is_stated table.now m → AllHold m state.old.names state.old.values
         → name_at (T.names table.now) result ≡ first_false m (T.names table.now) state.old.names effect.now.names (written state.old.values effect.now.writes) }
     ensures state { state.new ≡ state.old }
 {
     let writes = effect.writes.as_slice();
+    if proposed == 0 && !table.is_touched(registered, writes) {
+        return None;
+    }
     save(state.values(), writes, olds);
     state.overwrite(writes);
-    let place = table.test_touched(
-        state.values(),
-        state.names(),
-        effect.names.as_slice(),
-        writes,
-    );
+    let place = table.test_touched(state.values(), registered, proposed, writes);
     state.overwrite(&olds[..writes.len()]);
     place
 }

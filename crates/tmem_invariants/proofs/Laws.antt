@@ -1,29 +1,19 @@
 -- The laws of names in a table and of sound states, on which the crates above rest too.
-use Rattle.std.proofs.Common.{◌≡◌, ℕ, ℤ, Bool, true, false, not, cond, ◌||◌, ◌&&◌, bytes_eq, List, [], ◌∷◌, All, Contains, Option, Some, None, is_some, find, get_or, IsTrue, refl, sym, ap, subst, ◌∙◌}
+use Rattle.std.proofs.Common.{◌≡◌, ℕ, ◌<◌, ℤ, bit_or, length, Bool, true, false, not, cond, ◌||◌, ◌&&◌, List, [], ◌∷◌, All, Option, Some, None, is_some, find, get_or, IsTrue, refl, sym, ap, ◌∙◌}
+use Rattle.std.specs.Prelude.{slice_get}
 use Rattle.std.specs.List.{list_any}
+use Rattle.std.specs.Option.{option_map_or}
 use Rattle.std.proofs.lemmas.Bool.{false_from_ne_true}
-use Rattle.std.proofs.lemmas.List.Folds.{Any-from_list_any, list_any_at, list_any_none}
-use Rattle.std.proofs.lemmas.Slice.Eq.{bytes_eq-Decides}
-use Rattle.tmem_invariants.specs.Meanings.{Meanings, AllHold, IsSound, fails, first_false, holds}
+use Rattle.std.proofs.lemmas.List.Folds.{list_any_at, list_any_none}
+use Rattle.std.proofs.lemmas.Option.{slice_get-get_or}
+use Rattle.tmem_invariants.specs.Meanings.{Meanings, AllHold, DifferInWritten, IsSound, fails, first_false, holds, touched}
+use Rattle.tmem_invariants.specs.Places.{ArePlacesOf, has_place, stands_at}
 use Rattle.tmem_invariants.specs.TableNames.{first_missing, has_name, lacks, name_at}
+pub use Rattle.tmem_invariants.proofs.Among.{All-at_name, Contains-from_has_name, has_name-from_Contains}
+use Rattle.tmem_invariants.proofs.NamePlaces.{stands_at-none}
+use Rattle.tmem_invariants.proofs.PlaceSets.{has_place-or, has_place-zero}
 use Rattle.tmem_invariants.proofs.Scans.{find_none}
-
--- to be among names is to stand in the list
-pub Contains-from_has_name : (names : List (List ℕ)) (name : List ℕ) → has_name names name ≡ true → Contains names name
-Contains-from_has_name names name among =
-    let found = Any-from_list_any (λ other. bytes_eq other name) names among in
-    let same : found.1 ≡ name = (bytes_eq-Decides found.1 name).0 found.4 in
-    (found.0, found.2, subst (λ other. get_or names found.0 other ≡ other) same found.3)
-
-pub has_name-from_Contains : (names : List (List ℕ)) (name : List ℕ) → Contains names name → has_name names name ≡ true
-has_name-from_Contains names name there =
-    list_any_at (λ other. bytes_eq other name) names there.0 name there.1 (ap (λ other. bytes_eq other name) there.2 ∙ (bytes_eq-Decides name name).1 refl)
-
--- what all of them have, each among them has
-pub All-at_name : (P : List ℕ → Type 0) (names : List (List ℕ)) (name : List ℕ) → All P names → has_name names name ≡ true → P name
-All-at_name P names name all among =
-    let there = Contains-from_has_name names name among in
-    subst P there.2 (all there.0 name there.1)
+use Rattle.tmem_invariants.proofs.TouchedInvariants.{first_false-touched}
 
 -- none found is none that passes
 none_of : {X : Type 0} (first : Bool) (x : X) (rest : Option X) (any : Bool) → cond first (Some x) rest ≡ None → (rest ≡ None → any ≡ false) → (first || any) ≡ false
@@ -88,3 +78,38 @@ first_false-AllHold m names registered proposed values registered_hold proposed_
     passes : (name : List ℕ) → fails m registered proposed values name ≡ false
     passes name =
         asked (has_name registered name) (has_name proposed name) (holds m values name) (All-at_name (λ other. IsTrue (holds m values other)) registered name registered_hold) (All-at_name (λ other. IsTrue (holds m values other)) proposed name proposed_hold)
+
+-- no names have no places
+pub ArePlacesOf-none : (names : List (List ℕ)) → ArePlacesOf [] names 0
+ArePlacesOf-none names place = has_place-zero place ∙ sym (stands_at-none names place)
+
+-- the places of names together are those of either
+pub ArePlacesOf-join : (first more both names : List (List ℕ)) (a b : ℕ) → ((name : List ℕ) → has_name both name ≡ (has_name first name || has_name more name)) → ArePlacesOf first names a → ArePlacesOf more names b → ArePlacesOf both names (bit_or a b)
+ArePlacesOf-join first more both names a b either are_first are_more place =
+    has_place-or a b place
+    ∙ ap (λ x. x || has_place b place) (are_first place)
+    ∙ ap (λ x. stands_at first names place || x) (are_more place)
+    ∙ sym (on (slice_get names place))
+  where
+    on : (o : Option (List ℕ)) → option_map_or (has_name both) o false ≡ (option_map_or (has_name first) o false || option_map_or (has_name more) o false)
+    on None = refl
+    on (Some name) = either name
+
+-- where writes touch no registered name, and none is proposed, none is found false after them
+pub first_false-untouched : (m : Meanings) (names held asked : List (List ℕ)) (written : List (ℕ × ℤ)) (before after : List ℤ) → DifferInWritten written before after → AllHold m held before → ArePlacesOf asked names 0 → list_any (has_name (touched m written held)) names ≡ false → first_false m names held asked after ≡ None
+first_false-untouched m names held asked written before after differ sound none_asked none_touched =
+    sym (first_false-touched m names held asked written before after differ sound)
+    ∙ find_none p names (list_any_none p names passes)
+  where
+    p : List ℕ → Bool
+    p = fails m (touched m written held) asked after
+
+    neither : (a b c : Bool) → a ≡ false → b ≡ false → ((a || b) && c) ≡ false
+    neither a b c no_a no_b = ap (λ x. (x || b) && c) no_a ∙ ap (λ x. x && c) no_b
+
+    passes : (k : ℕ) (d : List ℕ) → k < length names → p (get_or names k d) ≡ false
+    passes k d within =
+        let name = get_or names k d in
+        let untouched : has_name (touched m written held) name ≡ false = false_from_ne_true (has_name (touched m written held) name) (λ is. let clash : true ≡ false = sym (list_any_at (has_name (touched m written held)) names k d within is) ∙ none_touched in absurd (cc)) in
+        let unasked : has_name asked name ≡ false = ap (λ o. option_map_or (has_name asked) o false) (sym (slice_get-get_or names k d within)) ∙ sym (none_asked k) ∙ has_place-zero k in
+        neither (has_name (touched m written held) name) (has_name asked name) (not (holds m after name)) untouched unasked

@@ -5,7 +5,7 @@ use Rattle.std.proofs.lemmas.Map.Views.{any-filter_same}
 use Rattle.std.proofs.lemmas.Slice.Eq.{bytes_eq-Decides}
 use Rattle.tmem_invariants.specs.Meanings.{Meanings, AllHold, DifferInWritten, fails, first_false, has_written, holds, is_written, touched, touches, value_of, values_at}
 use Rattle.tmem_invariants.specs.TableNames.{has_name}
-use Rattle.tmem_invariants.proofs.Laws.{All-at_name}
+use Rattle.tmem_invariants.proofs.Among.{All-at_name}
 use Rattle.tmem_invariants.proofs.Scans.{find_same}
 
 -- a name is among the touched ones where it is among them all, and is touched

@@ -1,4 +1,5 @@
 pub mod Answers
 pub mod Chosen
 pub mod Meanings
+pub mod Places
 pub mod TableNames

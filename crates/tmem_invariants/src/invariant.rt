@@ -2,10 +2,9 @@
 
 ghost use Rattle.std.specs.Prelude.{◌≡◌, ◌↔◌, ℕ, ◌≤◌, List, length, take, IsTrue, IsOk, IfOk, IfErr};
 ghost use Rattle.tmem_invariants.specs.Answers.{MayCall, HasMeaning, IsMeant};
-ghost use Rattle.tmem_invariants.specs.Meanings.{Meanings, fails, holds, touched, values_at};
-ghost use Rattle.tmem_invariants.specs.TableNames.{AreBelow, AreDistinct, IsFootprint, has_name};
+ghost use Rattle.tmem_invariants.specs.Meanings.{Meanings, holds, values_at};
+ghost use Rattle.tmem_invariants.specs.TableNames.{AreBelow, AreDistinct, IsFootprint};
 
-use crate::touched::is_touched;
 use tmem_disk::{Fault, Name};
 
 /// The most variables of a footprint.
@@ -71,39 +70,8 @@ impl Invariant {
         self.footprint.iter().all(|var| *var < vars)
     }
 
-    // Whether it is registered or proposed, and is false of a map of values.
-    pub(crate) fn fails(&self, values: &[i64], registered: &[Name], proposed: &[Name]) -> bool
-        requires { AreBelow (length values.now) self.now.footprint.items }
-        ensures { (m : Meanings) → ⟦<Invariant as Stated>⟧.is_stated self.now m → result ≡ fails m registered.now proposed.now values.now self.now.name }
-    {
-        (registered.contains(&self.name) || proposed.contains(&self.name)) && !self.holds(values)
-    }
-
-    // The same, where one that is registered counts only if a variable of its footprint is written.
-    pub(crate) fn fails_touched(
-        &self,
-        values: &[i64],
-        registered: &[Name],
-        proposed: &[Name],
-        written: &[(u16, i64)],
-    ) -> bool
-        requires { AreBelow (length values.now) self.now.footprint.items }
-        ensures { (m : Meanings) → ⟦<Invariant as Stated>⟧.is_stated self.now m → result ≡ fails m (touched m written.now registered.now) proposed.now values.now self.now.name }
-    {
-        (self.is_touched_among(registered, written) || proposed.contains(&self.name))
-            && !self.holds(values)
-    }
-
-    // Whether it is registered, and a variable of its footprint is written: that is asked first, since names take longer to
-    // compare.
-    fn is_touched_among(&self, registered: &[Name], written: &[(u16, i64)]) -> bool
-        ensures { (m : Meanings) → ⟦<Invariant as Stated>⟧.is_stated self.now m → result ≡ has_name (touched m written.now registered.now) self.now.name }
-    {
-        is_touched(&self.footprint, written) && registered.contains(&self.name)
-    }
-
     // Whether it is true of a map. The closure is handed the values of the footprint, and nothing else.
-    fn holds(&self, values: &[i64]) -> bool
+    pub(crate) fn holds(&self, values: &[i64]) -> bool
         requires { AreBelow (length values.now) self.now.footprint.items }
         ensures { (m : Meanings) → ⟦<Invariant as Stated>⟧.is_stated self.now m → result ≡ holds m values.now self.now.name }
     {

@@ -1,9 +1,12 @@
 // What the layers above ask of a table of invariants.
 
-ghost use Rattle.std.specs.Prelude.{◌≡◌, ◌↔◌, ℕ, ℤ, ◌<◌, ◌≤◌, Some, List, length, slice_get, All, IsTrue, IsSome, IfSome};
+ghost use Rattle.std.specs.Prelude.{◌≡◌, ◌↔◌, ◌||◌, ℕ, ℤ, ◌<◌, ◌≤◌, Some, List, [], ◌∷◌, length, slice_get, All, IsTrue, IsSome, IfSome};
+ghost use Rattle.std.specs.List.{list_any};
 ghost use Rattle.tmem_invariants.specs.Meanings.{Meanings, AllHold, DifferInWritten, first_false, touched};
+ghost use Rattle.tmem_invariants.specs.Places.{ArePlacesOf, has_place, stands_at};
 ghost use Rattle.tmem_invariants.specs.TableNames.{AreDistinct, first_missing, has_name, name_at};
 
+use crate::places::with_place;
 use tmem_disk::Name;
 
 /// The most invariants of a table.
@@ -43,28 +46,41 @@ pub trait Invariants {
     fn missing(&self, registered: &[Name]) -> Option<Name>
         ensures { result ≡ first_missing (names self.now) registered.now };
 
-    /// The place of the first false one of all that are registered or proposed. A name that is not there counts for
-    /// nothing.
-    fn test_all(&self, values: &[i64], registered: &[Name], proposed: &[Name]) -> Option<usize>
+    /// Whether a registered one is over a written variable. Where none is, all that held before those writes hold after
+    /// them.
+    fn is_touched(&self, registered: u64, written: &[(u16, i64)]) -> bool
+        ensures { (m : Meanings) (held : List (List ℕ)) → is_stated self.now m → ArePlacesOf held (names self.now) registered
+            → result ≡ list_any (has_name (touched m written.now held)) (names self.now) };
+
+    /// The place of the first false one of all that are registered or proposed. Both are sets of places, as `places_of`
+    /// finds them.
+    fn test_all(&self, values: &[i64], registered: u64, proposed: u64) -> Option<usize>
         requires { length values.now ≡ vars self.now }
         ensures within { IfSome result (λ place. place < length (names self.now)) }
-        ensures first { (m : Meanings) → is_stated self.now m → name_at (names self.now) result ≡ first_false m (names self.now) registered.now proposed.now values.now };
+        ensures first { (m : Meanings) (held asked : List (List ℕ)) → is_stated self.now m
+            → ArePlacesOf held (names self.now) registered → ArePlacesOf asked (names self.now) proposed
+            → name_at (names self.now) result ≡ first_false m (names self.now) held asked values.now };
 
     /// The place of the first false one of the proposed ones and of those registered ones whose footprint has a written
     /// variable. Where the registered ones held before those writes, that is the first false one of all.
     fn test_touched(
         &self,
         values: &[i64],
-        registered: &[Name],
-        proposed: &[Name],
+        registered: u64,
+        proposed: u64,
         written: &[(u16, i64)],
     ) -> Option<usize>
         requires { length values.now ≡ vars self.now }
         ensures within { IfSome result (λ place. place < length (names self.now)) }
-        ensures first { (m : Meanings) → is_stated self.now m → name_at (names self.now) result ≡ first_false m (names self.now) (touched m written.now registered.now) proposed.now values.now }
+        ensures first { (m : Meanings) (held asked : List (List ℕ)) → is_stated self.now m
+            → ArePlacesOf held (names self.now) registered → ArePlacesOf asked (names self.now) proposed
+            → name_at (names self.now) result ≡ first_false m (names self.now) (touched m written.now held) asked values.now }
 
         // as if all had been tested
-        ensures all { (m : Meanings) (before : List ℤ) → is_stated self.now m → DifferInWritten written.now before values.now → AllHold m registered.now before → name_at (names self.now) result ≡ first_false m (names self.now) registered.now proposed.now values.now };
+        ensures all { (m : Meanings) (held asked : List (List ℕ)) (before : List ℤ) → is_stated self.now m
+            → ArePlacesOf held (names self.now) registered → ArePlacesOf asked (names self.now) proposed
+            → DifferInWritten written.now before values.now → AllHold m held before
+            → name_at (names self.now) result ≡ first_false m (names self.now) held asked values.now };
 
     /// There are at most `MAX_INVARIANTS`.
     ghost few: { (tests : Self) → length (names tests) ≤ 64 };
@@ -74,4 +90,25 @@ pub trait Invariants {
 
     /// There are meanings that they answer.
     ghost has_meanings: { (tests : Self) → ∥ ((m : Meanings) × is_stated tests m) ∥₁ };
+}
+
+/// The set of the places of these names in a table. A name that is not there counts for nothing.
+pub fn places_of<T: Invariants>(table: &T, names: &[Name]) -> u64
+    ensures { ArePlacesOf names.now (T.names table.now) result }
+{
+    let mut places = 0;
+    for name in names {
+        places = with_name(table, places, name);
+    }
+    places
+}
+
+// The set with the place of a name, if it is there.
+fn with_name<T: Invariants>(table: &T, places: u64, name: &Name) -> u64
+    ensures { (place : ℕ) → has_place result place ≡ (has_place places place || stands_at (name.now ∷ []) (T.names table.now) place) }
+{
+    match table.place(name) {
+        Some(place) => with_place(places, place),
+        None => places,
+    }
 }

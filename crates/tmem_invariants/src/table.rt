@@ -1,12 +1,16 @@
 // Invariants that are closures, in order.
 
-ghost use Rattle.std.specs.Prelude.{◌≡◌, ◌↔◌, ℕ, ◌<◌, ◌≤◌, List, length, map, All, slice_get, Some, IsTrue, IsSome, IfSome, IsOk, IfOk, Err};
+ghost use Rattle.std.specs.Prelude.{◌≡◌, ◌↔◌, ◌⊎◌, ℕ, ◌<◌, ◌≤◌, ◌&&◌, not, Bool, List, length, map, find, All, slice_get, slice_index_or, Some, IsTrue, IsSome, IfSome, IsOk, IfOk, IfErr, Err};
 ghost use Rattle.tmem_invariants.specs.Answers.{IsMeant};
-ghost use Rattle.tmem_invariants.specs.Meanings.{Meanings, first_false, touched};
+ghost use Rattle.tmem_invariants.specs.Meanings.{Meanings, holds};
+ghost use Rattle.tmem_invariants.specs.Places.{AreAsked, IsTouching};
 ghost use Rattle.tmem_invariants.specs.TableNames.{AreBelow, AreTableNames, AreDistinct, has_name, name_at};
 
+use crate::index::{index_of, places_touched};
 use crate::invariant::{Invariant, Stated, Test};
 use crate::named::{Invariants, MAX_INVARIANTS};
+use crate::places::{lowest_place, without_place};
+use std::alloc::Global;
 use tmem_disk::{Fault, Name};
 
 /// Invariants in order, over some number of variables.
@@ -16,16 +20,20 @@ pub struct Table {
     pub entries: Vec<Invariant>,
     /// How many variables there are.
     pub vars: u16,
+    // for each variable, the places of the entries over it
+    index: Vec<u64>,
     ghost few: { length entries.items ≤ 64 },
     ghost distinct: { AreDistinct (map (λ entry. entry.name) entries.items) },
     ghost within: { All (λ entry. AreBelow vars entry.footprint.items) entries.items },
+    ghost long: { length index.items ≡ vars },
+    ghost touching: { (var : ℕ) → IsTouching (map (λ entry. entry.footprint.items) entries.items) var (slice_index_or index.items var 0) },
 }
 
 impl Table {
     /// The table. Refused with `BadName` where there are more than `MAX_INVARIANTS` or a name stands twice, else with
-    /// `BadFootprint` where a footprint has a variable that is not below `vars`. Takes no memory.
-    pub fn of(entries: Vec<Invariant>, vars: u16) -> Result<Table, Fault>
-        ensures ok { IsOk result ↔ (AreTableNames (map (λ entry. entry.name) entries.items) × All (λ entry. AreBelow vars entry.footprint.items) entries.items) }
+    /// `BadFootprint` where a footprint has a variable that is not below `vars`, else for want of memory.
+    pub fn of(alloc: Global, entries: Vec<Invariant>, vars: u16) -> Result<Table, Fault>
+        ensures ok { (IsOk result ⊎ (result ≡ Err Fault.Memory)) ↔ (AreTableNames (map (λ entry. entry.name) entries.items) × All (λ entry. AreBelow vars entry.footprint.items) entries.items) }
 
         // names come before footprints
         ensures bad_name { (result ≡ Err Fault.BadName) ↔ (¬ AreTableNames (map (λ entry. entry.name) entries.items)) }
@@ -40,7 +48,33 @@ impl Table {
         if !are_within(&entries, vars) {
             return Err(Fault::BadFootprint);
         }
-        Ok(Table { entries, vars })
+        Table::indexed(alloc, entries, vars)
+    }
+
+    // The table of entries that may make one.
+    fn indexed(alloc: Global, entries: Vec<Invariant>, vars: u16) -> Result<Table, Fault>
+        requires few { length entries.items ≤ 64 }
+        requires distinct { AreDistinct (map (λ entry. entry.name) entries.items) }
+        requires within { All (λ entry. AreBelow vars entry.footprint.items) entries.items }
+        ensures entries { IfOk result (λ table. table.entries ≡ entries) }
+        ensures vars { IfOk result (λ table. table.vars ≡ vars) }
+        ensures fault { IfErr result (λ fault. fault ≡ Fault.Memory) }
+    {
+        let index = index_of(alloc, &entries, vars)?;
+        Ok(Table {
+            entries,
+            vars,
+            index,
+        })
+    }
+
+    /// The set of the places of the entries over a variable: bit `i` is set exactly where the footprint of entry `i` holds
+    /// the variable.
+    pub fn touching(&self, var: u16) -> u64
+        requires { var < self.now.vars }
+        ensures { IsTouching (map (λ entry. entry.footprint.items) self.now.entries.items) var result }
+    {
+        self.index[usize::from(var)]
     }
 }
 
@@ -81,41 +115,22 @@ fn place_of(entries: &[Invariant], name: &Name) -> Option<usize>
     None
 }
 
-// The place of the first false one among those that are registered or proposed.
-fn test_each(
-    entries: &[Invariant],
-    values: &[i64],
-    registered: &[Name],
-    proposed: &[Name],
-) -> Option<usize>
+// The first place of a set whose invariant is false. The set is of those that are asked for, by name.
+fn test_places(entries: &[Invariant], values: &[i64], places: u64) -> Option<usize>
     requires { All (λ entry. AreBelow (length values.now) entry.footprint.items) entries.now }
     ensures within { IfSome result (λ place. place < length entries.now) }
-    ensures first { (m : Meanings) → All (λ entry. ⟦<Invariant as Stated>⟧.is_stated entry m) entries.now → name_at (map (λ entry. entry.name) entries.now) result ≡ first_false m (map (λ entry. entry.name) entries.now) registered.now proposed.now values.now }
+    ensures first { (m : Meanings) (asked : List ℕ → Bool) → All (λ entry. ⟦<Invariant as Stated>⟧.is_stated entry m) entries.now
+        → AreAsked asked (map (λ entry. entry.name) entries.now) places
+        → name_at (map (λ entry. entry.name) entries.now) result ≡ find (λ name. asked name && not (holds m values.now name)) (map (λ entry. entry.name) entries.now) }
 {
-    for (i, entry) in entries.iter().enumerate() {
-        if entry.fails(values, registered, proposed) {
-            return Some(i);
+    let mut left = places;
+    while left != 0 {
+        let place = lowest_place(left);
+        let entry = entries.get(place)?;
+        if !entry.holds(values) {
+            return Some(place);
         }
-    }
-    None
-}
-
-// The same among those that are proposed, or registered over a variable that is written.
-fn test_each_touched(
-    entries: &[Invariant],
-    values: &[i64],
-    registered: &[Name],
-    proposed: &[Name],
-    written: &[(u16, i64)],
-) -> Option<usize>
-    requires { All (λ entry. AreBelow (length values.now) entry.footprint.items) entries.now }
-    ensures within { IfSome result (λ place. place < length entries.now) }
-    ensures first { (m : Meanings) → All (λ entry. ⟦<Invariant as Stated>⟧.is_stated entry m) entries.now → name_at (map (λ entry. entry.name) entries.now) result ≡ first_false m (map (λ entry. entry.name) entries.now) (touched m written.now registered.now) proposed.now values.now }
-{
-    for (i, entry) in entries.iter().enumerate() {
-        if entry.fails_touched(values, registered, proposed, written) {
-            return Some(i);
-        }
+        left = without_place(left, place);
     }
     None
 }
@@ -152,18 +167,23 @@ impl Invariants for Table {
         None
     }
 
-    fn test_all(&self, values: &[i64], registered: &[Name], proposed: &[Name]) -> Option<usize> {
-        test_each(&self.entries, values, registered, proposed)
+    fn is_touched(&self, registered: u64, written: &[(u16, i64)]) -> bool {
+        places_touched(&self.index, written) & registered != 0
+    }
+
+    fn test_all(&self, values: &[i64], registered: u64, proposed: u64) -> Option<usize> {
+        test_places(&self.entries, values, registered | proposed)
     }
 
     fn test_touched(
         &self,
         values: &[i64],
-        registered: &[Name],
-        proposed: &[Name],
+        registered: u64,
+        proposed: u64,
         written: &[(u16, i64)],
     ) -> Option<usize> {
-        test_each_touched(&self.entries, values, registered, proposed, written)
+        let touched = places_touched(&self.index, written);
+        test_places(&self.entries, values, touched & registered | proposed)
     }
 
     ghost use Rattle.std.proofs.lemmas.List.{length-map};

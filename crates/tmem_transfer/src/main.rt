@@ -21,7 +21,7 @@ fn main(rt: HostRuntime) -> Result<(), Fault> {
         { accounts[0] as i128 + accounts[1] as i128 == 0 },
     )?;
     let balanced = Invariant::new(Name::new("balanced")?, vec![in alloc; 0, 1]?, balanced)?;
-    let table = Table::of(vec![in alloc; balanced]?, 2)?;
+    let table = Table::of(alloc, vec![in alloc; balanced]?, 2)?;
     let (lost, found) = transfer(alloc, table, Steps::of(Vec::new(alloc))?)?;
     let _ = println!(rt;
         "a loss is accepted: {lost}\nfound: {} and {}",

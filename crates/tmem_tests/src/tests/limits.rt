@@ -81,7 +81,7 @@ fn tables_out_of_limits_are_refused(rt: HostRuntime) -> Result<(), Fail> {
             };
             made.push(Invariant::new(name, vec![in rt.alloc(); var]?, always)?)?;
         }
-        assert_eq!(rt; Table::of(made, 4).err(), fault);
+        assert_eq!(rt; Table::of(rt.alloc(), made, 4).err(), fault);
     }
     Ok(())
 }

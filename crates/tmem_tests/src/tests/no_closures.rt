@@ -9,7 +9,7 @@ use tmem_tree::{StepAnswer, StoredSteps};
 /// The name of that invariant.
 const ALWAYS: &str = "always";
 
-/// One invariant that is always true, over so many variables.
+/// One invariant that is always true, over none of so many variables.
 #[derive(Drop)]
 pub(super) struct AlwaysTrue {
     pub vars: u16,
@@ -20,7 +20,7 @@ impl Invariants for AlwaysTrue {
 
     ghost vars = { λ table. table.vars };
 
-    ghost is_stated = { λ _ m. (values : List ℤ) → m.test (codes "always") values ≡ true };
+    ghost is_stated = { λ _ m. (m.footprint (codes "always") ≡ []) × ((values : List ℤ) → m.test (codes "always") values ≡ true) };
 
     fn len(&self) -> usize {
         1
@@ -51,15 +51,19 @@ impl Invariants for AlwaysTrue {
         None
     }
 
-    fn test_all(&self, _values: &[i64], _registered: &[Name], _proposed: &[Name]) -> Option<usize> {
+    fn is_touched(&self, _registered: u64, _written: &[(u16, i64)]) -> bool {
+        false
+    }
+
+    fn test_all(&self, _values: &[i64], _registered: u64, _proposed: u64) -> Option<usize> {
         None
     }
 
     fn test_touched(
         &self,
         _values: &[i64],
-        _registered: &[Name],
-        _proposed: &[Name],
+        _registered: u64,
+        _proposed: u64,
         _written: &[(u16, i64)],
     ) -> Option<usize> {
         None
@@ -72,7 +76,7 @@ impl Invariants for AlwaysTrue {
 
     ghost distinct = { λ _. alone (codes "always") };
 
-    ghost has_meanings = { λ _. ∣ (all_true, λ _. refl) ∣₁ };
+    ghost has_meanings = { λ _. ∣ (all_true, (refl, λ _. refl)) ∣₁ };
 }
 
 /// One stored step, of no argument, that always retries.

@@ -1,10 +1,11 @@
 use Rattle.std.proofs.Common.{arith, ◌∙◌, ap}
 use Rattle.std.proofs.lemmas.Result.{IfOk-weaker}
+use Rattle.tmem_disk.specs.declared.fault.Fault.TheVariants.{Memory}
 use Rattle.tmem_invariants.specs.Answers.{IsMeant}
 use Rattle.tmem_builtins.specs.Builtins.{builtin_tests}
 use Rattle.tmem_builtins.specs.Invariants.{is_not_negative, add_to_hundred, are_ordered}
 use Rattle.tmem_builtins.proofs.Meant.{nonneg_meant, sum_meant, ordered_meant, one_meant, two_meant, three_meant}
-use Rattle.tmem_builtins.proofs.Tables.{no_error, of_none, of_one, of_two, of_three}
+use Rattle.tmem_builtins.proofs.Tables.{of_none, of_one, of_two, of_three, one_error}
 use Rattle.tmem_builtins.proofs.invariants.table_of.Goals as goal
 
 pub new-requires-clause-stated : goal.new-requires-clause-stated
@@ -17,16 +18,16 @@ pub new-requires-3-clause-stated : goal.new-requires-3-clause-stated
 new-requires-3-clause-stated g c = rw c.in_ok-vec-3.ensures.items (∣ (are_ordered, c.requires.ordered_stated) ∣₁)
 
 pub returns-in-0-clause-refused : goal.returns-in-0-clause-refused
-returns-in-0-clause-refused g c = no_error c.of.result _ (c.of.ensures.ok.1 (of_none (λ e. e.name) (λ e. e.footprint.items) c.args.vars _ c.new-in-0.ensures.items))
+returns-in-0-clause-refused g c = one_error c.of.result Memory (c.of.ensures.ok.1 (of_none (λ e. e.name) (λ e. e.footprint.items) c.args.vars _ c.new-in-0.ensures.items))
 
 pub returns-in_ok-vec-in-1-clause-refused : goal.returns-in_ok-vec-in-1-clause-refused
-returns-in_ok-vec-in-1-clause-refused g c = no_error c.of-in-1.result _ (c.of-in-1.ensures.ok.1 (of_one (λ e. e.name) (λ e. e.footprint.items) c.args.vars _ c.in_ok-floor.floor c.in_ok-vec-in-1.ensures.items (rw c.in_ok-floor.ensures.footprint c.in_ok-vec.ensures.items) (omega arith)))
+returns-in_ok-vec-in-1-clause-refused g c = one_error c.of-in-1.result Memory (c.of-in-1.ensures.ok.1 (of_one (λ e. e.name) (λ e. e.footprint.items) c.args.vars _ c.in_ok-floor.floor c.in_ok-vec-in-1.ensures.items (rw c.in_ok-floor.ensures.footprint c.in_ok-vec.ensures.items) (omega arith)))
 
 pub returns-in_ok-vec-in-2-clause-refused : goal.returns-in_ok-vec-in-2-clause-refused
-returns-in_ok-vec-in-2-clause-refused g c = no_error c.of-in-2.result _ (c.of-in-2.ensures.ok.1 (of_two (λ e. e.name) (λ e. e.footprint.items) c.args.vars _ c.in_ok-floor.floor c.in_ok-pair.pair c.in_ok-vec-in-2.ensures.items (c.in_ok-floor.ensures.name ∙ c.nonneg_name.ensures) (c.in_ok-pair.ensures.name ∙ c.sum_name.ensures) (rw c.in_ok-floor.ensures.footprint c.in_ok-vec.ensures.items) (rw c.in_ok-pair.ensures.footprint c.in_ok-vec-2.ensures.items) (omega arith)))
+returns-in_ok-vec-in-2-clause-refused g c = one_error c.of-in-2.result Memory (c.of-in-2.ensures.ok.1 (of_two (λ e. e.name) (λ e. e.footprint.items) c.args.vars _ c.in_ok-floor.floor c.in_ok-pair.pair c.in_ok-vec-in-2.ensures.items (c.in_ok-floor.ensures.name ∙ c.nonneg_name.ensures) (c.in_ok-pair.ensures.name ∙ c.sum_name.ensures) (rw c.in_ok-floor.ensures.footprint c.in_ok-vec.ensures.items) (rw c.in_ok-pair.ensures.footprint c.in_ok-vec-2.ensures.items) (omega arith)))
 
 pub returns-in_ok-vec-in_default-clause-refused : goal.returns-in_ok-vec-in_default-clause-refused
-returns-in_ok-vec-in_default-clause-refused g c = no_error c.of-in_default.result _ (c.of-in_default.ensures.ok.1 (of_three (λ e. e.name) (λ e. e.footprint.items) c.args.vars _ c.in_ok-floor.floor c.in_ok-pair.pair c.in_ok-order.order c.in_ok-vec-in_default.ensures.items (c.in_ok-floor.ensures.name ∙ c.nonneg_name.ensures) (c.in_ok-pair.ensures.name ∙ c.sum_name.ensures) (c.in_ok-order.ensures.name ∙ c.ordered_name.ensures) (rw c.in_ok-floor.ensures.footprint c.in_ok-vec.ensures.items) (rw c.in_ok-pair.ensures.footprint c.in_ok-vec-2.ensures.items) (rw c.in_ok-order.ensures.footprint c.in_ok-vec-3.ensures.items) (omega arith)))
+returns-in_ok-vec-in_default-clause-refused g c = one_error c.of-in_default.result Memory (c.of-in_default.ensures.ok.1 (of_three (λ e. e.name) (λ e. e.footprint.items) c.args.vars _ c.in_ok-floor.floor c.in_ok-pair.pair c.in_ok-order.order c.in_ok-vec-in_default.ensures.items (c.in_ok-floor.ensures.name ∙ c.nonneg_name.ensures) (c.in_ok-pair.ensures.name ∙ c.sum_name.ensures) (c.in_ok-order.ensures.name ∙ c.ordered_name.ensures) (rw c.in_ok-floor.ensures.footprint c.in_ok-vec.ensures.items) (rw c.in_ok-pair.ensures.footprint c.in_ok-vec-2.ensures.items) (rw c.in_ok-order.ensures.footprint c.in_ok-vec-3.ensures.items) (omega arith)))
 
 pub returns-in_ok-vec-in-1-clause-stated : goal.returns-in_ok-vec-in-1-clause-stated
 returns-in_ok-vec-in-1-clause-stated g c =

@@ -1,10 +1,13 @@
-use Rattle.std.proofs.Common.{length, sym, subst, ◌∙◌}
+use Rattle.std.proofs.Common.{bit_or, length, sym, subst, ◌∙◌}
 use Rattle.std.proofs.lemmas.List.Elements.{All-push}
 use Rattle.tmem_record.specs.State.{State}
-use Rattle.tmem_record.proofs.Laws.{length-values-apply, AreRegistered-with_names}
+use Rattle.tmem_record.proofs.Laws.{length-values-apply, AreRegistered-with_names, has_name-with_names}
 use Rattle.tmem_invariants.specs.Meanings.{AllHold}
+use Rattle.tmem_invariants.specs.Places.{ArePlacesOf}
+use Rattle.tmem_invariants.proofs.Laws.{ArePlacesOf-join}
+use Rattle.tmem_record.specs.Names.{has_name, with_names}
 use Rattle.tmem_record.specs.Loggable.{IsLoggable}
-use Rattle.tmem_core.proofs.Known.{AreAmong}
+use Rattle.tmem_core.proofs.Known.{AreAmong, either}
 use Rattle.tmem_core.specs.History.{effects_of}
 use Rattle.tmem_core.proofs.Folded.{folded-push}
 use Rattle.tmem_core.proofs.Places.{writes_within}
@@ -44,3 +47,11 @@ invariant_of-self-clause-known g c = subst (λ (s : State). AreAmong (g.T.Invari
 
 pub invariant_of-self-clause-sound : goal.invariant_of-self-clause-sound
 invariant_of-self-clause-sound g c = λ m stated. subst (λ (s : State). AllHold m s.names s.values) (sym c.accept.ensures) (c.requires.sound m stated)
+
+pub invariant_of-self-clause-placed : goal.invariant_of-self-clause-placed
+invariant_of-self-clause-placed g c =
+    let core = c.args.self.now in
+    let e = c.args.effect.now in
+    let names = g.T.Invariants.names core.table in
+    subst (λ (s : State). ArePlacesOf s.names names (bit_or core.places c.args.proposed)) (sym c.accept.ensures)
+    (ArePlacesOf-join core.state.names e.names (with_names core.state.names e.names) names core.places c.args.proposed (λ name. has_name-with_names core.state.names e.names name ∙ either (has_name e.names name) (has_name core.state.names name)) core.placed c.requires.proposed)

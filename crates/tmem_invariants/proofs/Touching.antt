@@ -1,0 +1,192 @@
+-- The index from variables to places.
+use Rattle.std.proofs.Common.{◌≡◌, ℕ, zero, suc, ◌+◌, ◌^◌, ◌<◌, ◌≤◌, ◌≢◌, ◌⊎◌, ◌==◌, ℤ, Bool, true, false, not, w64, Option, None, ◌||◌, ◌&&◌, List, [], ◌∷◌, length, take, get_or, replicate, map, bit_and, bit_or, Some, refl, sym, ap, ◌∙◌, subst, inl, inr, arith, All}
+use Rattle.std.specs.Prelude.{slice_get, slice_set}
+use Rattle.std.specs.Option.{option_map_or}
+use Rattle.std.specs.Int.{trailing_zeros}
+use Rattle.std.specs.List.{list_any}
+use Rattle.std.proofs.lemmas.Bool.{cases_lt, eqb-true, eqb-false}
+use Rattle.std.proofs.lemmas.Bool.Decides.{nat_tests}
+use Rattle.std.proofs.lemmas.List.{get_or-take, get_or_default, get_or_past, length-replicate, get_or-replicate, get_or-set_same, get_or-set_other, length-take}
+use Rattle.std.proofs.lemmas.List.Elements.{All-head, All-tail}
+use Rattle.std.proofs.lemmas.List.Folds.{list_any_at, list_any_more, list_any_none}
+use Rattle.std.proofs.lemmas.Option.{get_or_from_slice_get, slice_get-get_or, slice_get_within}
+use Rattle.tmem_invariants.specs.Meanings.{Meanings, has_written, is_written, touched}
+use Rattle.tmem_invariants.specs.Places.{AreAsked, ArePlacesOf, IsTouching, has_place, has_var, stands_at}
+use Rattle.tmem_invariants.specs.TableNames.{has_name}
+use Rattle.tmem_invariants.proofs.PlaceSets.{has_place-and, has_place-or, has_place-zero, lowest_is_there}
+use Rattle.tmem_invariants.proofs.TouchedInvariants.{has_name-touched}
+
+-- an index of nothing
+pub touching-none : (vars var place : ℕ) → has_place (get_or (replicate vars 0) var 0) place ≡ false
+touching-none vars var place = ap (λ n. has_place n place) none ∙ has_place-zero place where
+  zeros : List ℕ
+  zeros = replicate vars 0
+
+  none : get_or zeros var 0 ≡ 0
+  none = elim (cases_lt var vars) [
+    | inl low ↦ get_or-replicate vars var 0 0 low
+    | inr high ↦ get_or_past (replicate vars 0) var 0 (omega (arith, high, length-replicate {A = ℕ} vars 0))
+  ]
+
+-- one place more at one variable
+place_added : (index : List ℕ) (v place new : ℕ) → v < length index → ((other : ℕ) → has_place new other ≡ (has_place (get_or index v 0) other || other == place)) → (var other : ℕ) → has_place (get_or (slice_set index v new) var 0) other ≡ (has_place (get_or index var 0) other || (other == place && v == var))
+place_added index v place new within is var other = on (v == var) refl where
+  yes : (b : Bool) → (b && true) ≡ b
+  yes true = refl
+  yes false = refl
+
+  no : (a b : Bool) → (a || (b && false)) ≡ a
+  no true b = refl
+  no false true = refl
+  no false false = refl
+
+  on : (b : Bool) → (v == var) ≡ b → has_place (get_or (slice_set index v new) var 0) other ≡ (has_place (get_or index var 0) other || (other == place && b))
+  on true same =
+      let at : v ≡ var = eqb-true v var same in
+      subst (λ (k : ℕ). has_place (get_or (slice_set index v new) k 0) other ≡ (has_place (get_or index k 0) other || (other == place && true))) at
+      (ap (λ n. has_place n other) (get_or-set_same index v new 0 within) ∙ is other ∙ ap (λ b. has_place (get_or index v 0) other || b) (sym (yes (other == place))))
+  on false apart =
+      ap (λ n. has_place n other) (get_or-set_other index v var new 0 (λ same. eqb-false v var apart (sym same))) ∙ sym (no (has_place (get_or index var 0) other) (other == place))
+
+-- at one more variable of a footprint
+pub place_added-more : (start index footprint : List ℕ) (i v place new : ℕ) → i < length footprint → v ≡ get_or footprint i 0 → v < length index
+    → ((other : ℕ) → has_place new other ≡ (has_place (get_or index v 0) other || other == place))
+    → ((var other : ℕ) → has_place (get_or index var 0) other ≡ (has_place (get_or start var 0) other || (other == place && has_var (take i footprint) var)))
+    → (var other : ℕ) → has_place (get_or (slice_set index v new) var 0) other ≡ (has_place (get_or start var 0) other || (other == place && has_var (take (i + 1) footprint) var))
+place_added-more start index footprint i v place new inside is within added so_far var other =
+    place_added index v place new within added var other
+    ∙ ap (λ b. b || (other == place && v == var)) (so_far var other)
+    ∙ joined (has_place (get_or start var 0) other) (other == place) (has_var (take i footprint) var) (v == var)
+    ∙ ap (λ b. has_place (get_or start var 0) other || (other == place && b)) (sym more)
+  where
+    joined : (a q h e : Bool) → ((a || (q && h)) || (q && e)) ≡ (a || (q && (h || e)))
+    joined true q h e = refl
+    joined false true h e = refl
+    joined false false h e = refl
+
+    more : has_var (take (i + 1) footprint) var ≡ (has_var (take i footprint) var || v == var)
+    more = list_any_more (λ x. x == var) footprint i 0 inside ∙ ap (λ n. has_var (take i footprint) var || n == var) (sym is)
+
+-- a footprint more
+pub touching-more : (footprints : List (List ℕ)) (i : ℕ) (footprint : List ℕ) → i < length footprints → footprint ≡ get_or footprints i footprint → (var place : ℕ) → (has_var (get_or (take i footprints) place []) var || (place == i && has_var footprint var)) ≡ has_var (get_or (take (i + 1) footprints) place []) var
+touching-more footprints i footprint within is var place = on (place == i) refl (cases_lt place i) where
+  apart : (a b : Bool) → b ≡ false → (a || b) ≡ a
+  apart true b none = refl
+  apart false b none = none
+
+  on : (b : Bool) → (place == i) ≡ b → (place < i) ⊎ (i ≤ place) → (has_var (get_or (take i footprints) place []) var || (b && has_var footprint var)) ≡ has_var (get_or (take (i + 1) footprints) place []) var
+  on true same order =
+      let at : place ≡ i = eqb-true place i same in
+      let past : get_or (take i footprints) place [] ≡ [] = get_or_past (take i footprints) place [] (omega (arith, length-take i footprints, at)) in
+      let here : get_or (take (i + 1) footprints) place [] ≡ footprint = get_or-take (i + 1) footprints place [] (omega (arith, at)) ∙ ap (λ (k : ℕ). get_or footprints k []) at ∙ get_or_default footprints i [] footprint within ∙ sym is in
+      ap (λ fp. has_var fp var || has_var footprint var) past ∙ ap (λ fp. has_var fp var) (sym here)
+  on false apart_is (inl low) =
+      apart (has_var (get_or (take i footprints) place []) var) false refl
+      ∙ ap (λ fp. has_var fp var) (get_or-take i footprints place [] low ∙ sym (get_or-take (i + 1) footprints place [] (omega (arith, low))))
+  on false apart_is (inr high) =
+      let past : get_or (take i footprints) place [] ≡ [] = get_or_past (take i footprints) place [] (omega (arith, length-take i footprints, high)) in
+      let distinct : place ≢ i = eqb-false place i apart_is in
+      let past_too : get_or (take (i + 1) footprints) place [] ≡ [] = get_or_past (take (i + 1) footprints) place [] (omega (arith, length-take (i + 1) footprints, high, distinct)) in
+      apart (has_var (get_or (take i footprints) place []) var) false refl ∙ ap (λ fp. has_var fp var) (past ∙ sym past_too)
+
+-- the test by the written variables is the one by the footprint's
+any_swapped : (footprint : List ℕ) (written : List (ℕ × ℤ)) → list_any (λ (w : ℕ × ℤ). has_var footprint w.0) written ≡ has_written written footprint
+any_swapped footprint [] = sym (list_any_none (is_written []) footprint (λ k d within. refl))
+any_swapped footprint (w ∷ ws) =
+    ap (λ b. has_var footprint w.0 || b) (any_swapped footprint ws) ∙ spread footprint
+  where
+    eqb-swap : (a b : ℕ) → (a == b) ≡ (b == a)
+    eqb-swap a b = grind (arith, nat_tests)
+
+    shuffle : (a b c d : Bool) → ((a || b) || (c || d)) ≡ ((a || c) || (b || d))
+    shuffle true b c d = refl
+    shuffle false true true d = refl
+    shuffle false true false d = refl
+    shuffle false false c d = refl
+
+    spread : (fp : List ℕ) → (has_var fp w.0 || has_written ws fp) ≡ has_written (w ∷ ws) fp
+    spread [] = refl
+    spread (v ∷ vs) =
+        shuffle (v == w.0) (has_var vs w.0) (is_written ws v) (has_written ws vs)
+        ∙ ap (λ b. (b || is_written ws v) || (has_var vs w.0 || has_written ws vs)) (eqb-swap v w.0)
+        ∙ ap (λ b. (w.0 == v || is_written ws v) || b) (spread vs)
+
+-- so a place is touched by writes where its footprint has a written variable
+pub touched_is : (footprints : List (List ℕ)) (index : List ℕ) → ((var : ℕ) → IsTouching footprints var (get_or index var 0)) → (written : List (ℕ × ℤ)) (place : ℕ) → list_any (λ (w : ℕ × ℤ). has_place (get_or index w.0 0) place) written ≡ has_written written (get_or footprints place [])
+touched_is footprints index touching written place =
+    each written ∙ any_swapped (get_or footprints place []) written
+  where
+    each : (ws : List (ℕ × ℤ)) → list_any (λ (w : ℕ × ℤ). has_place (get_or index w.0 0) place) ws ≡ list_any (λ (w : ℕ × ℤ). has_var (get_or footprints place []) w.0) ws
+    each [] = refl
+    each (w ∷ ws) =
+        ap (λ b. b || list_any (λ (v : ℕ × ℤ). has_place (get_or index v.0 0) place) ws) (touching w.0 place)
+        ∙ ap (λ b. has_var (get_or footprints place []) w.0 || b) (each ws)
+
+-- one write more
+pub touched_more : (index : List ℕ) (written : List (ℕ × ℤ)) (i places more : ℕ) (d : ℕ × ℤ) → i < length written → more ≡ get_or index (get_or written i d).0 0 → ((place : ℕ) → has_place places place ≡ list_any (λ (w : ℕ × ℤ). has_place (get_or index w.0 0) place) (take i written)) → (place : ℕ) → has_place (bit_or places more) place ≡ list_any (λ (w : ℕ × ℤ). has_place (get_or index w.0 0) place) (take (i + 1) written)
+touched_more index written i places more d within is so_far place =
+    has_place-or places more place
+    ∙ ap (λ b. b || has_place more place) (so_far place)
+    ∙ ap (λ n. list_any (λ (w : ℕ × ℤ). has_place (get_or index w.0 0) place) (take i written) || has_place n place) is
+    ∙ sym (list_any_more (λ (w : ℕ × ℤ). has_place (get_or index w.0 0) place) written i d within)
+
+-- each entry's footprint is the one that is meant by its name
+pub footprint_meant : {E : Type 0} (m : Meanings) (name_of footprint_of : E → List ℕ) (es : List E) → All (λ e. footprint_of e ≡ m.footprint (name_of e)) es → (place : ℕ) (name : List ℕ) → slice_get (map name_of es) place ≡ Some name → get_or (map footprint_of es) place [] ≡ m.footprint name
+footprint_meant m name_of footprint_of [] all place name at = cc
+footprint_meant m name_of footprint_of (e ∷ es) all zero name at =
+    let same : name_of e ≡ name = cc in
+    All-head (λ d. footprint_of d ≡ m.footprint (name_of d)) e es all ∙ ap m.footprint same
+footprint_meant m name_of footprint_of (e ∷ es) all (suc place) name at =
+    footprint_meant m name_of footprint_of es (All-tail (λ d. footprint_of d ≡ m.footprint (name_of d)) e es all) place name at
+
+-- the places of those names that are touched, found by an index
+pub touched_places : {E : Type 0} (m : Meanings) (written : List (ℕ × ℤ)) (name_of footprint_of : E → List ℕ) (es : List E) (index : List ℕ)
+    → ((var : ℕ) → IsTouching (map footprint_of es) var (get_or index var 0))
+    → All (λ e. footprint_of e ≡ m.footprint (name_of e)) es
+    → (held : List (List ℕ)) (registered places : ℕ) → ArePlacesOf held (map name_of es) registered
+    → ((place : ℕ) → has_place places place ≡ list_any (λ (w : ℕ × ℤ). has_place (get_or index w.0 0) place) written)
+    → ArePlacesOf (touched m written held) (map name_of es) (bit_and places registered)
+touched_places m written name_of footprint_of es index touching meant held registered places are_held are place =
+    has_place-and places registered place
+    ∙ ap (λ b. b && has_place registered place) (are place ∙ touched_is (map footprint_of es) index touching written place)
+    ∙ ap (λ b. has_written written (get_or (map footprint_of es) place []) && b) (are_held place)
+    ∙ on (slice_get (map name_of es) place) refl
+  where
+    nowhere : (b : Bool) → (b && false) ≡ false
+    nowhere true = refl
+    nowhere false = refl
+
+    on : (o : Option (List ℕ)) → slice_get (map name_of es) place ≡ o → (has_written written (get_or (map footprint_of es) place []) && option_map_or (has_name held) o false) ≡ option_map_or (has_name (touched m written held)) o false
+    on None at = nowhere (has_written written (get_or (map footprint_of es) place []))
+    on (Some name) at =
+        ap (λ footprint. has_written written footprint && has_name held name) (footprint_meant m name_of footprint_of es meant place name at)
+        ∙ sym (has_name-touched m written held name)
+
+-- the names that two sets are of are asked for by both together
+pub asks_either : (held asked names : List (List ℕ)) (registered proposed : ℕ) → ArePlacesOf held names registered → ArePlacesOf asked names proposed → AreAsked (λ name. has_name held name || has_name asked name) names (bit_or registered proposed)
+asks_either held asked names registered proposed are_held are_asked place name at =
+    has_place-or registered proposed place
+    ∙ ap (λ b. b || has_place proposed place) (are_held place ∙ stands held)
+    ∙ ap (λ b. has_name held name || b) (are_asked place ∙ stands asked)
+  where
+    stands : (chosen : List (List ℕ)) → stands_at chosen names place ≡ has_name chosen name
+    stands chosen = ap (λ o. option_map_or (has_name chosen) o false) at
+
+-- a set is empty where none of its names stands in the table
+pub is_empty_set : (chosen names : List (List ℕ)) (places : ℕ) → places < 2 ^ 64 → ArePlacesOf chosen names places → not (places == 0) ≡ list_any (has_name chosen) names
+is_empty_set chosen names places fits are = on (places == 0) refl where
+  none : places ≡ 0 → list_any (has_name chosen) names ≡ false
+  none empty =
+      list_any_none (has_name chosen) names (λ k d within.
+      ap (λ o. option_map_or (has_name chosen) o false) (sym (slice_get-get_or names k d within)) ∙ sym (are k) ∙ ap (λ n. has_place n k) empty ∙ has_place-zero k)
+
+  found : (place : ℕ) (o : Option (List ℕ)) → slice_get names place ≡ o → option_map_or (has_name chosen) o false ≡ true → list_any (has_name chosen) names ≡ true
+  found place None at there = cc
+  found place (Some name) at there =
+      list_any_at (has_name chosen) names place name (slice_get_within names place name at) (ap (has_name chosen) (get_or_from_slice_get names place name name at) ∙ there)
+
+  on : (b : Bool) → (places == 0) ≡ b → not b ≡ list_any (has_name chosen) names
+  on true is = sym (none (eqb-true places 0 is))
+  on false is =
+      let lowest = trailing_zeros w64 places in
+      sym (found lowest (slice_get names lowest) refl (sym (are lowest) ∙ lowest_is_there places (eqb-false places 0 is) fits))
