@@ -1,5 +1,5 @@
 //! The calls of a device, each failure as a fault.
-ghost use Rattle.std.specs.Prelude.{Some, ◌≡◌, ◌⊎◌, ◌≤◌, ◌+◌, length, slice_range, IfOk, OnOk, OnErr, IfErr};
+ghost use Rattle.std.specs.Prelude.{Some, ◌≡◌, ◌⊎◌, ◌≤◌, ◌+◌, length, slice_range, IfOk, OnOk, OnErr, IfErr, IsErrOf};
 ghost use Rattle.tmem_disk.specs.Disk.{Elapses, IsSynced, ReadsAs, overwritten};
 ghost use Rattle.tmem_gate.specs.Calls.{Uses, LooksOnly, WritesWithin};
 
@@ -34,6 +34,7 @@ pub fn read_piece<D: Disk>(
     ensures length { IfOk result (λ piece. length piece.items ≡ len) }
     ensures bytes { (D.view disk.new).keeps_model → IfOk result (λ piece. piece.items ≡ slice_range (D.view disk.old).seen at (at + len)) }
     ensures err { IfErr result (λ f. (f ≡ Fault.Memory) ⊎ (f ≡ Fault.Device)) }
+    ensures read_failed { IsErrOf result Fault.Device → (D.view disk.new).last_fault ≡ Some DeviceFault.Read }
 {
     let mut piece = vec![in alloc; 0; len]?;
     read(disk, at, &mut piece)?;

@@ -2,19 +2,19 @@
 use Rattle.std.proofs.Common.{◌≡◌, ◌⊎◌, inl, inr, ⊎_elim, ℕ, ◌+◌, ◌-◌, ◌≤◌, List, ◌++◌, length, take, drop, sym, ◌∙◌, ap, subst, arith, append_assoc, length-append}
 use Rattle.std.specs.Prelude.{Ok, Err, slice_range}
 use Rattle.std.proofs.lemmas.List.{take_at, drop_at, length-take-le}
-use Rattle.tmem_disk.specs.Disk.{DeviceView, IsDevice, overwritten, LeavesOnly, LeavesEach, AtEachMoment, Elapses, Rewritten, SameOutside, IsSynced, ReadsAs}
+use Rattle.tmem_disk.specs.Disk.{DeviceView, IsDevice, overwritten, LeavesOnly, LeavesEach, AtEachMoment, Elapses, Rewritten, SameOutside, SameSeenOutside, IsSynced, ReadsAs}
 use Rattle.tmem_disk.specs.declared.fault.Fault.{Fault}
 use Rattle.tmem_disk.specs.declared.fault.Fault.TheVariants.{Device, Unknown}
 use Rattle.tmem_disk.proofs.Laws.{SameOutside-refl, SameOutside-trans, SameOutside-wider, LeavesOnly-moment, LeavesOnly-each, AtEachMoment-more, AtEachMoment-elapsed, Elapses-more, Elapses-trans}
 use Rattle.tmem_gate.specs.Gate.{IsOpenAt, StandsClosed, HasBody, IsOpenOver, IsClosedOver}
 use Rattle.tmem_gate.specs.Calls.{LooksOnly, WritesWithin, MadeBy}
-use Rattle.tmem_gate.proofs.Laws.{whole_after, closed_before, looks}
+use Rattle.tmem_gate.proofs.Laws.{body_behind, whole_after, closed_before, looks}
 use Rattle.tmem_record.specs.Stale.{IsStale}
 use Rattle.tmem_record.specs.State.{State}
 use Rattle.tmem_record.specs.Layout.{image_place, image_size}
 use Rattle.tmem_image.specs.Spelling.{header_body, pages_body, image_body, IsImage}
 use Rattle.tmem_image.specs.Image.{IsGeneration}
-use Rattle.tmem_image.specs.Spare.{Placed, Left, Without, With, Either, Puts, Meanwhile}
+use Rattle.tmem_image.specs.Spare.{Placed, Left, Without, With, Either, Puts, Meanwhile, AwaitsGate}
 
 -- an open gate that is written over leaves the cell as stale as it was
 stale_kept : (at generation : ℕ) (b c : List ℕ) → IsOpenAt at b → SameOutside at 1 b c → IsStale generation at b → IsStale generation at c
@@ -76,6 +76,16 @@ pub closed_over : (at : ℕ) (header body : List ℕ) (d : DeviceView) → IsSyn
 closed_over at header body d synced has stands = record {
   each = λ k c left. record { gate = (stands.each k c left).gate; body = subst (HasBody at body) (sym (synced k c left)) (has k) };
 }
+
+-- once the write of the gate alone has failed behind that
+pub awaits : (p : Placed) (at : ℕ) (old filled new : DeviceView) → at ≡ image_place p.vars p.copy → LeavesOnly filled (IsClosedOver at (image_body p.vars p.generation p.state)) → IsDevice filled → (new.keeps_model → filled.keeps_model)
+    → SameSeenOutside at 1 filled new → SameSeenOutside (image_place p.vars p.copy) (image_size p.vars) old new → AwaitsGate p old new
+awaits p at old filled new same stands device model seen elsewhere =
+    let body = image_body p.vars p.generation p.state in
+    record {
+      body = λ k. subst (λ (place : ℕ). HasBody place body new.seen) same (body_behind at (length body) filled.seen new.seen (seen k) ∙ (stands.each (model k) filled.seen (device.seen_may_stay (model k))).body);
+      elsewhere = elsewhere;
+    }
 
 -- while the copy is written, of n bytes from its gate on
 module _ (old shut : DeviceView) (at n : ℕ) (some : 1 ≤ n) (device : IsDevice shut) (shutting : AtEachMoment old shut (MadeBy (Left at 1) old)) (time : Elapses old shut (Rewritten at 1 old)) where

@@ -1,14 +1,16 @@
 -- What a crash leaves of the copy that an image is written to.
 use Rattle.std.specs.Prelude.{◌⊎◌, ℕ, List, Result, Ok, Err}
-use Rattle.tmem_disk.specs.Disk.{DeviceView, LeavesOnly, SameOutside}
+use Rattle.tmem_disk.specs.Disk.{DeviceView, LeavesOnly, SameOutside, SameSeenOutside}
 use Rattle.tmem_disk.specs.declared.fault.Fault.{Fault}
 use Rattle.tmem_disk.specs.declared.fault.Fault.TheVariants.{Device, Unknown}
 use Rattle.tmem_gate.specs.Calls.{MadeBy}
+use Rattle.tmem_gate.specs.Gate.{HasBody}
 use Rattle.tmem_record.specs.Stale.{IsStale}
 use Rattle.tmem_record.specs.State.{State}
 use Rattle.tmem_record.specs.Layout.{image_place, image_size}
 use Rattle.tmem_record.specs.declared.layout.Layout.{Layout}
 use Rattle.tmem_image.specs.Image.{HoldsImage}
+use Rattle.tmem_image.specs.Spelling.{image_body}
 
 -- Which image goes where: over so many variables, to this copy, of this generation, of this state.
 pub record Placed : Type 0 where
@@ -50,3 +52,9 @@ Puts p old new (Err _) = ⊥
 abbrev pub Meanwhile : Placed → DeviceView → Result (Unit {0}) Fault → List ℕ → Type 0
 Meanwhile p old (Err Device) = MadeBy (Without p) old
 Meanwhile p old _ = MadeBy (Either p) old
+
+-- Where the write of the gate that opens the image failed: the whole image stands behind that gate, and a read gives outside
+-- the copy what it gave before.
+pub record AwaitsGate (p : Placed) (old new : DeviceView) : Type 0 where
+  pub body : new.keeps_model → HasBody (image_place p.vars p.copy) (image_body p.vars p.generation p.state) new.seen
+  pub elsewhere : SameSeenOutside (image_place p.vars p.copy) (image_size p.vars) old new

@@ -1,5 +1,5 @@
 // The copy that a device chooses.
-ghost use Rattle.std.specs.Prelude.{◌≡◌, ◌⊎◌, ◌≤◌, ◌+◌, ℕ, List, IfOk, IfErr, IfSome, IfNone};
+ghost use Rattle.std.specs.Prelude.{◌≡◌, ◌⊎◌, ◌≤◌, ◌+◌, ℕ, List, Some, IfOk, IfErr, IfSome, IfNone, OnErr, IsErrOf};
 ghost use Rattle.tmem_gate.specs.Calls.{Uses, LooksOnly, IsWhyNone};
 ghost use Rattle.tmem_record.specs.State.{State as StateOf};
 ghost use Rattle.tmem_record.specs.Layout.{image_place, end_place};
@@ -8,7 +8,7 @@ ghost use Rattle.tmem_image.specs.Image.{IsGeneration, HoldsImage, ChoosesCopy, 
 
 use crate::reading::{ImageState, read_image};
 use std::alloc::Global;
-use tmem_disk::{Disk, Fault};
+use tmem_disk::{DeviceFault, Disk, Fault};
 use tmem_gate::device::{read, read_piece};
 use tmem_gate::reads_open;
 use tmem_record::Layout;
@@ -26,6 +26,7 @@ pub fn choose<D: Disk>(disk: &mut D, layout: Layout) -> Result<u8, Fault>
     ensures one { IfOk result (λ copy. copy ≤ 1) }
     ensures found { (D.view disk.new).keeps_model → IfOk result (λ copy. ChoosesCopy layout.vars copy (D.view disk.old).seen) }
     ensures errors { IfErr result (λ f. (f ≡ Fault.Device) ⊎ (f ≡ Fault.Damaged)) }
+    ensures read_failed { IsErrOf result Fault.Device → (D.view disk.new).last_fault ≡ Some DeviceFault.Read }
     ensures refused { IfErr result (IsWhyNone ((D.view disk.new).keeps_model → (copy : ℕ) → ChoosesCopy layout.vars copy (D.view disk.old).seen → ⊥)) }
 {
     let first = head_at(disk, layout.image(0))?;
@@ -48,6 +49,7 @@ pub fn load<D: Disk>(
     ensures number { IfOk result (λ image. IsGeneration image.generation) }
     ensures fits { IfOk result (λ image. IsImage layout.vars image.state) }
     ensures found { (D.view disk.new).keeps_model → IfOk result (λ image. HoldsImage layout.vars copy image.generation image.state (D.view disk.old).seen) }
+    ensures read_failed { IsErrOf result Fault.Device → (D.view disk.new).last_fault ≡ Some DeviceFault.Read }
     ensures refused { IfErr result (IsWhyNone ((D.view disk.new).keeps_model → (generation : ℕ) (s : StateOf) →
         HoldsImage layout.vars copy generation s (D.view disk.old).seen → ⊥)) }
 {
@@ -66,6 +68,7 @@ fn head_at<D: Disk>(disk: &mut D, at: u64) -> Result<Option<u64>, Fault>
     ensures looks { LooksOnly (D.view disk.old) (D.view disk.new) }
     ensures found { (D.view disk.new).keeps_model → IfOk result (λ head. HasHead at head (D.view disk.old).seen) }
     ensures err { IfErr result (λ f. f ≡ Fault.Device) }
+    ensures last { OnErr result ((D.view disk.new).last_fault ≡ Some DeviceFault.Read) }
 {
     let mut head = [0; HEAD_ROOM];
     read(disk, at, &mut head)?;

@@ -6,7 +6,7 @@ ghost use Rattle.tmem_gate.specs.Gate.{StandsClosed, IsClosedOver};
 ghost use Rattle.tmem_record.specs.Layout.{pages_of, image_place, image_size, end_place};
 ghost use Rattle.tmem_image.specs.Spelling.{image_body, pages_body, AreValues, IsImage};
 ghost use Rattle.tmem_image.specs.Image.{IsGeneration};
-ghost use Rattle.tmem_image.specs.Spare.{Left, placed, Puts, Meanwhile};
+ghost use Rattle.tmem_image.specs.Spare.{Left, placed, Puts, Meanwhile, AwaitsGate};
 
 use crate::spelling::{PAGE_SIZE, header_of, page_of};
 use tmem_disk::{DeviceFault, Disk, Fault};
@@ -20,7 +20,7 @@ const HEADER_SIZE: u64 = 2048;
 /// Writes an image of this generation and state to a copy: closes its gate where it reads open, and syncs; writes the
 /// pages, then the header without its gate, and syncs; opens the gate, and syncs. `Device` where a read failed, or a write
 /// of anything but the gate that is opened: no crash leaves the image. `Unknown` where a sync or the write of that gate
-/// failed: a crash leaves the image or not. Nothing outside the copy is written. The device is synced, and the image is of
+/// failed: a crash leaves the image or not; where it was that write, the whole image stands behind the gate. Nothing outside the copy is written. The device is synced, and the image is of
 /// as many values as the layout has variables.
 pub fn write_spare<D: Disk>(
     disk: &mut D,
@@ -38,6 +38,8 @@ pub fn write_spare<D: Disk>(
     ensures errors { IfErr result (λ f. (f ≡ Fault.Device) ⊎ (f ≡ Fault.Unknown)) }
     ensures call_failed { IsErrOf result Fault.Device → IfSome (D.view disk.new).last_fault IsReadOrWrite }
     ensures gate_failed { IsErrOf result Fault.Unknown → IfSome (D.view disk.new).last_fault IsWriteOrSync }
+    ensures gate_write_failed { IsErrOf result Fault.Unknown → (D.view disk.new).last_fault ≡ Some DeviceFault.Write →
+        AwaitsGate (placed layout copy generation state.now) (D.view disk.old) (D.view disk.new) }
     ensures elsewhere { WritesWithin (image_place layout.vars copy) (image_size layout.vars) (D.view disk.old) (D.view disk.new) }
 
     // A crash leaves what one might have left before, with the image in that copy, or with that copy as stale as it was.

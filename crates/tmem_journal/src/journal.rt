@@ -1,5 +1,5 @@
 // The journal: a device, and the state that it stands for.
-ghost use Rattle.std.specs.Prelude.{◌≡◌, ◌≢◌, ◌≤◌, ◌<◌, ◌+◌, ◌*◌, ◌^◌, ◌⊎◌, ℕ, [], false, length, All, IfOk, IfErr, IfSome, IsErrOf};
+ghost use Rattle.std.specs.Prelude.{◌≡◌, ◌≢◌, ◌≤◌, ◌<◌, ◌+◌, ◌*◌, ◌^◌, ◌⊎◌, ℕ, [], false, Some, length, All, IfOk, IfErr, IfSome, IsErrOf};
 ghost use Rattle.tmem_disk.specs.Disk.{LeavesOnly, AtEachMoment, SameSeenOutside, IsSynced, IsWriteOrSync};
 ghost use Rattle.tmem_gate.specs.Calls.{Uses, LooksOnly, WritesWithin};
 ghost use Rattle.tmem_gate.specs.Gate.{HasBody, StandsClosed};
@@ -8,7 +8,8 @@ ghost use Rattle.tmem_record.specs.Spelling.{batch_bytes};
 ghost use Rattle.tmem_record.specs.declared.codec.TheConstants.{BATCH_ROOM};
 ghost use Rattle.tmem_record.specs.Layout.{image_place, image_size, slot_place, end_place};
 ghost use Rattle.tmem_image.specs.Image.{IsGeneration};
-ghost use Rattle.tmem_journal.specs.Stands.{Position, position_in, StandsFor, StandsForState, StandsForEither};
+ghost use Rattle.tmem_image.specs.Spare.{placed, AwaitsGate};
+ghost use Rattle.tmem_journal.specs.Stands.{Position, next_image, position_in, StandsFor, StandsForState, StandsForEither};
 ghost use Rattle.tmem_journal.specs.Mended.{Mends, MendedBy, ClosedFrom};
 ghost use Rattle.tmem_journal.specs.Calls.{FitsOn, effects_in, doubted, fault_alone};
 
@@ -18,7 +19,7 @@ use crate::recovery::recover;
 use crate::renewing::renew;
 use std::alloc::Global;
 use std::snapshot::Snapshot;
-use tmem_disk::{Disk, Fault};
+use tmem_disk::{DeviceFault, Disk, Fault};
 use tmem_record::{Batch, Layout, State};
 use tmem_redolog::{Log, append};
 
@@ -230,6 +231,11 @@ impl<D: Disk> Journal<D> {
         ensures uses { Uses (device_of self.old) (device_of self.new) result }
         ensures layout { layout_of self.new ≡ layout_of self.old }
         ensures checkpointed { Checkpoints self.old result self.new }
+
+        // Where the write of the gate failed, the whole image stands behind it, and nothing but its copy was written.
+        ensures gate_write_failed { IsErrOf result Fault.Unknown → (device_of self.new).last_fault ≡ Some DeviceFault.Write →
+            AwaitsGate (placed (layout_of self.old) (next_image (position_of self.old)).copy (next_image (position_of self.old)).generation (state_of self.old))
+                (device_of self.old) (device_of self.new) }
 
         // A crash at any moment of the call leaves a content that stands for the state.
         ensures any_moment { is_closed_of self.old ≡ false → AtEachMoment (device_of self.old) (device_of self.new)

@@ -1,13 +1,14 @@
 // A new image, and an empty log behind it.
-ghost use Rattle.std.specs.Prelude.{◌≡◌, ◌⊎◌, ◌<◌, ◌≤◌, ◌+◌, ◌*◌, ◌^◌, ℕ, length, OnOk, OnErr, IfErr, IfSome, IsErrOf};
+ghost use Rattle.std.specs.Prelude.{◌≡◌, ◌⊎◌, ◌<◌, ◌≤◌, ◌+◌, ◌-◌, ◌*◌, ◌^◌, ℕ, Some, length, OnOk, OnErr, IfErr, IfSome, IsErrOf};
 ghost use Rattle.tmem_disk.specs.Disk.{AtEachMoment, IsSynced, IsWriteOrSync, LeavesOnly};
 ghost use Rattle.tmem_gate.specs.Calls.{Uses, WritesWithin, IsReadOrWrite};
 ghost use Rattle.tmem_gate.specs.Gate.{StandsClosed};
 ghost use Rattle.tmem_record.specs.Layout.{image_place, image_size, slot_place, end_place};
+ghost use Rattle.tmem_image.specs.Spare.{placed, AwaitsGate};
 ghost use Rattle.tmem_redolog.specs.Closes.{empty_log};
 ghost use Rattle.tmem_journal.specs.Stands.{position_in, next_image, StandsFor, StandsForState};
 
-use tmem_disk::{Disk, Fault};
+use tmem_disk::{DeviceFault, Disk, Fault};
 use tmem_image::write_spare;
 use tmem_record::{Layout, State};
 use tmem_redolog::{Log, empty};
@@ -32,6 +33,8 @@ pub(crate) fn renew<D: Disk>(
     ensures errors { IfErr result (λ f. (f ≡ Fault.Device) ⊎ (f ≡ Fault.Unknown)) }
     ensures call_failed { IsErrOf result Fault.Device → IfSome (D.view disk.new).last_fault IsReadOrWrite }
     ensures gate_failed { IsErrOf result Fault.Unknown → IfSome (D.view disk.new).last_fault IsWriteOrSync }
+    ensures gate_write_failed { IsErrOf result Fault.Unknown → (D.view disk.new).last_fault ≡ Some DeviceFault.Write →
+        AwaitsGate (placed layout (1 - copy) (log.old.generation + 1) state.now) (D.view disk.old) (D.view disk.new) }
 
     // Block 0 is not written, nor anything behind the slots.
     ensures elsewhere { WritesWithin (image_place layout.vars 0) (2 * image_size layout.vars + 4096 * layout.slots)
