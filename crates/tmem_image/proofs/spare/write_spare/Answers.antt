@@ -9,7 +9,7 @@ use Rattle.tmem_record.specs.Layout.{image_place, image_size}
 use Rattle.tmem_image.specs.Spelling.{image_body}
 use Rattle.tmem_image.specs.Spare.{placed, Puts, Meanwhile}
 use Rattle.tmem_image.proofs.Lengths.{length-image_body}
-use Rattle.tmem_image.proofs.Spared.{while_shutting, once_shut, while_filled, once_filled, while_opened, once_opened, once_open, stands_err, moments_err, either, stands_ok}
+use Rattle.tmem_image.proofs.Spared.{while_shutting, once_shut, while_filled, once_filled, while_opened, once_opened, once_open, stands_err, moments_err, either, stands_ok, awaits}
 use Rattle.tmem_image.proofs.spare.write_spare.Goals as goal
 
 pub returns-in_err-shut-clause-elsewhere : goal.returns-in_err-shut-clause-elsewhere
@@ -164,3 +164,19 @@ returns-in-Err-clause-stands g c =
     LeavesOnly-more new _ _ (once_opened old mid at (image_size vars) (omega arith) (g.met.D.Disk.is_device c.shut.new.disk) c.shut.ensures.any_moment c.shut.ensures.elsewhere.time filled c.in_ok-shut.ensures.closed c.fill.ensures.elsewhere c.fill.ensures.uses.model
     new body size c.in_ok-fill.ensures.stands device c.open_gate.ensures.call.model c.open_gate.ensures.time c.open_gate.ensures.elsewhere)
     (λ d from. either p at old new c.image-at.ensures c.requires.number fits d from)
+
+pub returns-in-Err-clause-gate_write_failed : goal.returns-in-Err-clause-gate_write_failed
+returns-in-Err-clause-gate_write_failed g c = λ unknown write.
+    let p = placed c.args.layout c.args.copy c.args.generation c.args.state.now in
+    let old = g.D.Disk.view c.args.disk.now in
+    let filled = g.D.Disk.view c.fill.new.disk in
+    let new = g.D.Disk.view c.open_gate.new.disk in
+    let place = image_place c.args.layout.vars c.args.copy in
+    let size = image_size c.args.layout.vars in
+    let within = WritesWithin-trans place size _ filled new c.open_gate.ensures.call.model
+    (WritesWithin-trans place size _ _ filled c.fill.ensures.uses.model
+    (WritesWithin-wider c.image-at.result 1 place size (omega (arith, c.image-at.ensures)) (omega (arith, c.image-at.ensures)) _ _ c.shut.ensures.elsewhere)
+    (WritesWithin-wider (c.image-at.result + 1) (size - 1) place size (omega (arith, c.image-at.ensures)) (omega (arith, c.image-at.ensures)) _ filled c.fill.ensures.elsewhere))
+    (WritesWithin-wider c.image-at.result 1 place size (omega (arith, c.image-at.ensures)) (omega (arith, c.image-at.ensures)) filled new
+    (by_moment c.image-at.result 1 filled new (g.met.D.Disk.is_device c.open_gate.new.disk) c.open_gate.ensures.seen_elsewhere c.open_gate.ensures.elsewhere c.open_gate.ensures.time)) in
+    awaits p c.image-at.result old filled new c.image-at.ensures c.in_ok-fill.ensures.stands (g.met.D.Disk.is_device c.fill.new.disk) c.open_gate.ensures.call.model c.open_gate.ensures.seen_elsewhere within.seen
