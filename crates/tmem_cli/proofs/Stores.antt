@@ -1,6 +1,7 @@
 -- Entries that are played on a store that has a history.
 use Rattle.std.proofs.Common.{◌≡◌, ◌⊎◌, ⊎_elim, inl, inr, ℕ, ◌≤◌, List, [], ◌∷◌, ◌++◌, Option, refl, sym, ap, subst, ◌∙◌, append_assoc, append-nil}
 use Rattle.std.specs.Prelude.{Result, Ok}
+use Rattle.std.proofs.Math.Logic.{∥∥₁_map}
 use Rattle.std.specs.Io.KnownBytes.{Appends}
 use Rattle.tmem_disk.specs.Disk.{DeviceView, IsDevice, AtEachMoment, Elapses}
 use Rattle.tmem_disk.proofs.Laws.{either_time}
@@ -18,7 +19,7 @@ use Rattle.tmem_script.specs.declared.script.Playable.{Playable}
 use Rattle.tmem_world.specs.declared.world.World.{World}
 use Rattle.tmem_world.specs.WorldModel.{Setting, WorldModel, Allows, present, opening}
 use Rattle.tmem_world.specs.Represents.{Means, WritesInStore, setting_of, numbers_of, steps_of, held_table, view_of}
-use Rattle.tmem_world.specs.Chain.{History, IsSafePrefix, IsSafe, IsStore, Carries, StepsOn, RunsOn, OpensStore, SessionRun, IsChain, IsChainAt, just_opened, state_at, history_found, history_after}
+use Rattle.tmem_world.specs.Chain.{History, IsSafePrefix, IsSafe, IsSafeIn, IsStore, Carries, StepsOn, RunsOn, OpensStore, SessionRun, IsChain, IsChainAt, just_opened, state_at, history_found, history_after}
 use Rattle.tmem_world.proofs.Laws.{grows, WritesInStore-trans}
 use Rattle.tmem_cli.specs.Builtin.{builtin_program, builtin_setting}
 use Rattle.tmem_cli.specs.Printed.{line, shown}
@@ -39,7 +40,7 @@ module _ (set : Setting) where
     so.0,
     so.1 ++ rest,
     so.2,
-    prints_on-append so.0 (history_after m it.event r h) es rs so.1 x g so.3 more later rest m' h' then,
+    prints_on-append so.0 (history_after m it.event r so.0 h) es rs so.1 x g so.3 more later rest m' h' then,
     ap (λ (t : List ℕ). t ++ rest) so.4 ∙ append_assoc (line (line_of r)) so.1 rest,
   )
   prints_on-append m h (entry.Show ∷ es) rs text x g so more later rest m' h' then = (
@@ -53,11 +54,11 @@ module _ (set : Setting) where
   runs_of m h [] [] text m' h' so = (so.1, so.2)
   runs_of m h [] (r ∷ rs) text m' h' so = absurd so
   runs_of m h (entry.Event it ∷ es) [] text m' h' so = absurd so
-  runs_of m h (entry.Event it ∷ es) (r ∷ rs) text m' h' so = (so.0, so.2, runs_of so.0 (history_after m it.event r h) es rs so.1 m' h' so.3)
+  runs_of m h (entry.Event it ∷ es) (r ∷ rs) text m' h' so = (so.0, so.2, runs_of so.0 (history_after m it.event r so.0 h) es rs so.1 m' h' so.3)
   runs_of m h (entry.Show ∷ es) rs text m' h' so = runs_of m h es rs so.0 m' h' so.1
 
   -- one entry, and no other
-  pub prints_event : (m : WorldModel) (h : History) (it : Playable) (r : Reply) (m' : WorldModel) → Allows set m it.event r m' → PrintsOn set m h (entry.Event it ∷ []) (r ∷ []) (line (line_of r)) m' (history_after m it.event r h)
+  pub prints_event : (m : WorldModel) (h : History) (it : Playable) (r : Reply) (m' : WorldModel) → Allows set m it.event r m' → PrintsOn set m h (entry.Event it ∷ []) (r ∷ []) (line (line_of r)) m' (history_after m it.event r m' h)
   prints_event m h it r m' allowed = (m', [], allowed, (refl, refl, refl), sym (append-nil (line (line_of r))))
 
   pub prints_show : (m : WorldModel) (h : History) → PrintsOn set m h (entry.Show ∷ []) [] (line (shown set.vars m.session (present set.program m))) m h
@@ -121,6 +122,24 @@ module _ (set : Setting) where
     safe = safe;
   }
 
+  -- and what is safe after the last one too
+  pub safe_after : (m : WorldModel) (h : History) (es : List Entry) (rs : List Reply) (text : List ℕ) (m' : WorldModel) (h' : History) → PrintsOn set m h es rs text m' h' → (c : List ℕ) → IsSafe set.program set.vars set.slots h' c → IsSafeAmong set m h es rs m' h' c
+  safe_after m h es rs text m' h' so c safe = record {
+    first = es;
+    rest = [];
+    answers = rs;
+    later = [];
+    early = text;
+    late = [];
+    entries = sym (append-nil es);
+    replies = sym (append-nil rs);
+    point = m';
+    reached = h';
+    before = so;
+    after = (refl, refl, refl);
+    safe = safe;
+  }
+
 module _ {D T S : Type 0} {d t s : _} (program : Program) where
   -- a crash between two entries leaves what is safe
   pub still : (w : World D T S d t s) → IsDevice (view_of w) → (h : History) (m : WorldModel) → Carries program w h m → AtEachMoment (view_of w) (view_of w) (IsSafe program w.layout.vars w.layout.slots h)
@@ -134,21 +153,29 @@ module _ {D T S : Type 0} {d t s : _} (program : Program) where
     reached = h;
     prints = (refl, refl, refl);
     carries = has;
-    any_moment = record { each = λ k c left. safe_before (setting_of w program) m h [] [] [] m h (refl, refl, refl) c ((still w device h m has).each k c left) };
+    any_moment = record { each = λ k c left. ∣ safe_before (setting_of w program) m h [] [] [] m h (refl, refl, refl) c ((still w device h m has).each k c left) ∣₁ };
   }
 
   -- an event
-  pub go_on-event : (w new : World D T S d t s) (h : History) (m : WorldModel) (it : Playable) (r : Reply) → AtEachMoment (view_of w) (view_of new) (IsSafe program w.layout.vars w.layout.slots h)
-      → (m' : WorldModel) → Allows (setting_of w program) m it.event r m' → Carries program new (history_after m it.event r h) m' → EntriesGoOn program w h m (entry.Event it ∷ []) (line (line_of r)) new
-  go_on-event w new h m it r during m' allowed has =
-      let prints = prints_event (setting_of w program) m h it r m' allowed in
+  pub go_on-event : (w new : World D T S d t s) (h : History) (m : WorldModel) (it : Playable) (r : Reply) (m' : WorldModel) → Allows (setting_of w program) m it.event r m' → Carries program new (history_after m it.event r m' h) m'
+      → AtEachMoment (view_of w) (view_of new) (IsSafeIn program w.layout.vars w.layout.slots h (history_after m it.event r m' h)) → EntriesGoOn program w h m (entry.Event it ∷ []) (line (line_of r)) new
+  go_on-event w new h m it r m' allowed has during =
+      let set = setting_of w program in
+      let h' = history_after m it.event r m' h in
+      let es : List Entry = entry.Event it ∷ [] in
+      let rs : List Reply = r ∷ [] in
+      let prints = prints_event set m h it r m' allowed in
       record {
-        replies = r ∷ [];
+        replies = rs;
         end = m';
-        reached = history_after m it.event r h;
+        reached = h';
         prints = prints;
         carries = has;
-        any_moment = record { each = λ k c left. safe_before (setting_of w program) m h (entry.Event it ∷ []) (r ∷ []) (line (line_of r)) m' (history_after m it.event r h) prints c (during.each k c left) };
+        any_moment = record {
+          each = λ k c left. ∥∥₁_map (during.each k c left) (⊎_elim
+              (λ earlier. safe_before set m h es rs (line (line_of r)) m' h' prints c earlier)
+              (λ later. safe_after set m h es rs (line (line_of r)) m' h' prints c later));
+        };
       }
 
   -- the state is printed
@@ -162,7 +189,7 @@ module _ {D T S : Type 0} {d t s : _} (program : Program) where
         reached = h;
         prints = prints;
         carries = has;
-        any_moment = record { each = λ k c left. safe_before (setting_of w program) m h (entry.Show ∷ []) [] (line (shown w.layout.vars m.session (present program m))) m h prints c ((still w device h m has).each k c left) };
+        any_moment = record { each = λ k c left. ∣ safe_before (setting_of w program) m h (entry.Show ∷ []) [] (line (shown w.layout.vars m.session (present program m))) m h prints c ((still w device h m has).each k c left) ∣₁ };
       }
 
   -- entries and then others
@@ -172,8 +199,8 @@ module _ {D T S : Type 0} {d t s : _} (program : Program) where
   go_on-then w mid new h m es more text rest same model later P time one two =
       let set = setting_of w program in
       let prints = subst (λ (t : Setting). PrintsOn t one.end one.reached more two.replies rest two.end two.reached) same two.prints in
-      let among : AtEachMoment (view_of mid) (view_of new) (IsSafeAmong set one.end one.reached more two.replies two.end two.reached) =
-      subst (λ (t : Setting). AtEachMoment (view_of mid) (view_of new) (IsSafeAmong t one.end one.reached more two.replies two.end two.reached)) same two.any_moment in
+      let among : AtEachMoment (view_of mid) (view_of new) (λ c. ∥ IsSafeAmong set one.end one.reached more two.replies two.end two.reached c ∥₁) =
+      subst (λ (t : Setting). AtEachMoment (view_of mid) (view_of new) (λ c. ∥ IsSafeAmong t one.end one.reached more two.replies two.end two.reached c ∥₁)) same two.any_moment in
       record {
         replies = one.replies ++ two.replies;
         end = two.end;
@@ -182,8 +209,8 @@ module _ {D T S : Type 0} {d t s : _} (program : Program) where
         carries = two.carries;
         any_moment = record {
           each = λ k c left. ⊎_elim
-              (λ was. safe_among-more set m h es one.replies one.end one.reached more two.replies rest two.end two.reached prints c (one.any_moment.each (model k) c was))
-              (λ is. safe_among-then set m h es one.replies text one.end one.reached one.prints more two.replies two.end two.reached c (among.each k c is))
+              (λ was. ∥∥₁_map (one.any_moment.each (model k) c was) (λ it. safe_among-more set m h es one.replies one.end one.reached more two.replies rest two.end two.reached prints c it))
+              (λ is. ∥∥₁_map (among.each k c is) (λ it. safe_among-then set m h es one.replies text one.end one.reached one.prints more two.replies two.end two.reached c it))
               (either_time (view_of w) (view_of mid) (view_of new) P model later time k c left);
         };
       }
@@ -207,8 +234,8 @@ module _ {D T S : Type 0} {d t s : _} (w new : World D T S d t s) (vars slots : 
       let n = opened.found.0 in
       let at = opening (state_at program vars h n) opened.found.1 old.failures in
       let prints = subst (λ (x : Setting). PrintsOn x at (history_found n h) es go.replies text go.end go.reached) set go.prints in
-      let among : AtEachMoment (view_of w) (view_of new) (IsSafeAmong (builtin_setting vars slots) at (history_found n h) es go.replies go.end go.reached) =
-      subst (λ (x : Setting). AtEachMoment (view_of w) (view_of new) (IsSafeAmong x at (history_found n h) es go.replies go.end go.reached)) set go.any_moment in
+      let among : AtEachMoment (view_of w) (view_of new) (λ c. ∥ IsSafeAmong (builtin_setting vars slots) at (history_found n h) es go.replies go.end go.reached c ∥₁) =
+      subst (λ (x : Setting). AtEachMoment (view_of w) (view_of new) (λ c. ∥ IsSafeAmong x at (history_found n h) es go.replies go.end go.reached c ∥₁)) set go.any_moment in
       record {
         found = n;
         position = opened.found.1;

@@ -1,6 +1,6 @@
 -- What a run of the program makes of a store that has a history.
 use Rattle.std.specs.Prelude.{◌≡◌, ◌⊎◌, ⊤, ℕ, List, [], ◌∷◌, ◌++◌}
-use Rattle.tmem_disk.specs.Disk.{DeviceView, AtEachMoment}
+use Rattle.tmem_disk.specs.Disk.{DeviceView, AtEachMoment, IsSynced}
 use Rattle.tmem_event.specs.declared.event.Event.{Event}
 use Rattle.tmem_event.specs.declared.event.Reply.{Reply}
 use Rattle.tmem_event.specs.declared.event.Reply.TheVariants as reply
@@ -9,7 +9,7 @@ use Rattle.tmem_script.specs.Lines.{line_of}
 use Rattle.tmem_script.specs.declared.script.Entry.{Entry}
 use Rattle.tmem_script.specs.declared.script.Entry.TheVariants as entry
 use Rattle.tmem_world.specs.WorldModel.{Setting, WorldModel, Allows, present, opening}
-use Rattle.tmem_world.specs.Chain.{History, IsSafePrefix, IsSafe, IsStore, IsFirstOf, SessionRun, IsChain, IsChainAt, state_at, history_found, history_after}
+use Rattle.tmem_world.specs.Chain.{History, IsSafePrefix, IsSafe, IsStore, IsLeftBy, IsFirstOf, SessionRun, IsChain, IsChainAt, state_at, history_found, history_after}
 use Rattle.tmem_world.specs.declared.world.World.{World}
 use Rattle.tmem_world.specs.Represents.{Means, setting_of, view_of}
 use Rattle.tmem_world.specs.Chain.{Carries}
@@ -24,7 +24,7 @@ PrintsOn set m h [] [] text m' h' = (text ≡ []) × (m' ≡ m) × (h' ≡ h)
 PrintsOn set m h [] (r ∷ rs) text m' h' = ⊥
 PrintsOn set m h (entry.Event it ∷ es) [] text m' h' = ⊥
 PrintsOn set m h (entry.Event it ∷ es) (r ∷ rs) text m' h' =
-    (x : WorldModel) × (rest : List ℕ) × Allows set m it.event r x × PrintsOn set x (history_after m it.event r h) es rs rest m' h' × (text ≡ line (line_of r) ++ rest)
+    (x : WorldModel) × (rest : List ℕ) × Allows set m it.event r x × PrintsOn set x (history_after m it.event r x h) es rs rest m' h' × (text ≡ line (line_of r) ++ rest)
 PrintsOn set m h (entry.Show ∷ es) rs text m' h' =
     (rest : List ℕ) × PrintsOn set m h es rs rest m' h' × (text ≡ line (shown set.vars m.session (present set.program m)) ++ rest)
 
@@ -58,7 +58,7 @@ pub record EntriesGoOn {D T S : Type 0} {d t s : _} (program : Program) (old : W
   pub reached : History
   pub prints : PrintsOn (setting_of old program) m h entries replies text end reached
   pub carries : Carries program new reached end
-  pub any_moment : AtEachMoment (view_of old) (view_of new) (IsSafeAmong (setting_of old program) m h entries replies end reached)
+  pub any_moment : AtEachMoment (view_of old) (view_of new) (λ c. ∥ IsSafeAmong (setting_of old program) m h entries replies end reached c ∥₁)
 
 -- so it is, whatever the closures mean, of a text that was printed so
 abbrev pub PlaysEntriesOn : {D T S : Type 0} {d t s : _} → World D T S d t s → List Entry → World D T S d t s → (List ℕ → Type 0) → Type 0
@@ -86,10 +86,26 @@ pub record PlaysStore (vars slots : ℕ) (h : History) (entries : List Entry) (t
   pub prints : PrintsOn (builtin_setting vars slots) (opening (state_at (builtin_program vars) vars h found) position failures) (history_found found h) entries replies rest end reached
   pub store : IsStore (builtin_program vars) vars slots reached new
   pub any_moment : AtEachMoment old new (λ c. IsSafe (builtin_program vars) vars slots h c
-      ⊎ IsSafeAmong (builtin_setting vars slots) (opening (state_at (builtin_program vars) vars h found) position failures) (history_found found h) entries replies end reached c)
+      ⊎ ∥ IsSafeAmong (builtin_setting vars slots) (opening (state_at (builtin_program vars) vars h found) position failures) (history_found found h) entries replies end reached c ∥₁)
   -- the run is the next session of each chain that led to the history
   pub chain : (earlier : List SessionRun) → IsChain (builtin_setting vars slots) earlier h
       → IsChainAt (builtin_setting vars slots) earlier (record { found = found; events = events_of entries; replies = replies }) reached end
+
+-- The session of an initial part of these entries is the last one of each chain that led to the history, and the device is a store
+-- with what they made of it.
+abbrev pub LeavesSession : ℕ → ℕ → History → List Entry → DeviceView → Type 0
+LeavesSession vars slots h entries left =
+    (s : SessionRun) × (first : List Entry) × (point : WorldModel) × (reached : History) × IsFirstOf first entries × (s.events ≡ events_of first)
+    × ((earlier : List SessionRun) → IsChain (builtin_setting vars slots) earlier h → IsChainAt (builtin_setting vars slots) earlier s reached point)
+    × IsStore (builtin_program vars) vars slots reached left
+
+-- A crash at some moment of such a run leaves a store, once the device was started again so that it holds one content: with the
+-- history from before the opening, or with the one after an initial part of the entries.
+abbrev pub CrashLeavesRun : {D : Type 0} → (D → DeviceView) → Type 0
+CrashLeavesRun {D} view =
+    (vars slots : ℕ) (h : History) (entries : List Entry) (text : List ℕ) (old new left : D) → PlaysStore vars slots h entries text (view old) (view new)
+    → IsLeftBy (view new) (view old).moment (view left) → IsSynced (view left) → (view left).keeps_model
+    → ∥ IsStore (builtin_program vars) vars slots h (view left) ⊎ LeavesSession vars slots h entries (view left) ∥₁
 
 -- its opening was refused, and the device is still a store with the history
 pub record StaysStore (vars slots : ℕ) (h : History) (old new : DeviceView) : Type 0 where

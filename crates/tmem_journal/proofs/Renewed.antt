@@ -1,7 +1,7 @@
 -- What a crash leaves of a device, while an image of the next generation is written to the other copy, and while the log
 -- is emptied behind it.
 use Rattle.std.proofs.Common.{◌≡◌, ◌⊎◌, inl, inr, ⊎_elim, ℕ, ◌+◌, ◌*◌, ◌≤◌, ◌<◌, ◌^◌, List, [], refl, sym, subst, arith}
-use Rattle.std.specs.Prelude.{Result, Ok, Err}
+use Rattle.std.specs.Prelude.{Result, Ok, Err, IsErrOf}
 use Rattle.std.proofs.Math.Logic.{∥∥₁_map}
 use Rattle.tmem_disk.specs.Disk.{DeviceView, LeavesOnly, AtEachMoment, Elapses, SameOutside}
 use Rattle.tmem_disk.specs.declared.fault.Fault.{Fault}
@@ -128,6 +128,12 @@ module _ (vars slots : ℕ) (p : Position) (s : State) (fits : p.generation + 1 
   after_writing (Err Device) puts = record { each = λ k c may. without (model k) c (puts.each k c may) }
   after_writing (Err Unknown) puts = record { each = λ k c may. either (model k) c (puts.each k c may) }
   after_writing (Err _) puts = absurd puts
+
+  -- where it was not written, the old image is chosen
+  pub not_written : (r : Result (Unit {0}) Fault) → IsErrOf r Device → Puts next old mid r → LeavesOnly mid (StandsFor vars slots p s)
+  not_written r is puts =
+      let none : LeavesOnly mid (MadeBy (Without next) old) = subst (λ (x : Result (Unit {0}) Fault). Puts next old mid x) is puts in
+      record { each = λ k c may. let from = none.each k c may in ∥∥₁_map (sure.each (model k) from.0 from.1) (λ held. kept_state vars slots p s from.0 c held from.2) }
 
   -- while it is written
   pub while_writing : (r : Result (Unit {0}) Fault) → AtEachMoment old mid (Meanwhile next old r) → AtEachMoment old mid (StandsForState vars slots s)

@@ -226,7 +226,7 @@ impl<D: Disk> Journal<D> {
     /// each log slot is free again. The state stays as it is. Refused by `Closed` once a call of the device has failed; by
     /// `Spent` where no generation is left; by `Device` where a read failed, or a write of anything but the gate that opens
     /// the image; and by `Unknown` where a sync or the write of that gate failed. After these two the journal is closed, and
-    /// a crash leaves the old image with its log, or the new one. It takes no memory.
+    /// a crash leaves the old image with its log, or the new one: after `Device` always the same one. It takes no memory.
     pub fn checkpoint(&mut self) -> Result<(), Fault>
         ensures uses { Uses (device_of self.old) (device_of self.new) result }
         ensures layout { layout_of self.new ≡ layout_of self.old }
@@ -236,6 +236,11 @@ impl<D: Disk> Journal<D> {
         ensures gate_write_failed { IsErrOf result Fault.Unknown → (device_of self.new).last_fault ≡ Some DeviceFault.Write →
             AwaitsGate (placed (layout_of self.old) (next_image (position_of self.old)).copy (next_image (position_of self.old)).generation (state_of self.old))
                 (device_of self.old) (device_of self.new) }
+
+        // At `Device` it is certain which image is chosen: the old one with its log, or the new one.
+        ensures certain { IsErrOf result Fault.Device →
+            LeavesOnly (device_of self.new) (StandsFor (layout_of self.old).vars (layout_of self.old).slots (position_of self.old) (state_of self.old))
+            ⊎ LeavesOnly (device_of self.new) (StandsFor (layout_of self.old).vars (layout_of self.old).slots (next_image (position_of self.old)) (state_of self.old)) }
 
         // A crash at any moment of the call leaves a content that stands for the state.
         ensures any_moment { is_closed_of self.old ≡ false → AtEachMoment (device_of self.old) (device_of self.new)

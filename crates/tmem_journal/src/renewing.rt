@@ -45,6 +45,11 @@ pub(crate) fn renew<D: Disk>(
     ensures stands { LeavesOnly (D.view disk.new) (StandsForState layout.vars layout.slots state.now) }
     ensures sure { OnOk result (LeavesOnly (D.view disk.new)
         (StandsFor layout.vars layout.slots (next_image (position_in copy log.old)) state.now)) }
+
+    // At `Device` it is certain which image is chosen: the old one with its log, or the new one.
+    ensures certain { IsErrOf result Fault.Device →
+        LeavesOnly (D.view disk.new) (StandsFor layout.vars layout.slots (position_in copy log.old) state.now)
+        ⊎ LeavesOnly (D.view disk.new) (StandsFor layout.vars layout.slots (next_image (position_in copy log.old)) state.now) }
     ensures closed { OnOk result ((k : ℕ) → k < layout.slots → StandsClosed (slot_place layout.vars k) (D.view disk.new)) }
     ensures durable { OnOk result (IsSynced (D.view disk.new)) }
     ensures emptied { OnOk result (log.new ≡ empty_log (log.old.generation + 1)) }

@@ -1,6 +1,6 @@
 -- How a world that carries a history goes on, and how a store is opened.
-use Rattle.std.proofs.Common.{◌≡◌, ◌⊎◌, ⊎_elim, inl, inr, ℕ, ◌≤◌, ◌^◌, List, [], ◌∷◌, ◌++◌, refl, sym, ◌∙◌, ap, subst, arith, append_assoc}
-use Rattle.std.proofs.Math.Logic.{∥∥₁_elim}
+use Rattle.std.proofs.Common.{◌≡◌, ◌⊎◌, ⊎_elim, inl, inr, ℕ, ◌≤◌, ◌^◌, List, [], ◌∷◌, ◌++◌, refl, sym, ◌∙◌, ap, subst, arith, append_assoc, append-nil}
+use Rattle.std.proofs.Math.Logic.{∥∥₁_elim, ∥∥₁_map}
 use Rattle.std.proofs.Props.{props}
 use Rattle.std.specs.Prelude.{Result, Ok, Err}
 use Rattle.tmem_disk.specs.Disk.{DeviceView, IsDevice, LeavesOnly, AtEachMoment}
@@ -28,13 +28,13 @@ use Rattle.tmem_world.specs.Chain.{History, IsSafePrefix, IsSafe, IsStore, GoesO
 use Rattle.tmem_world.proofs.Laws.{keeps_durable, rests_on, runs_on-append, runs_on-one, grows, count_at}
 use Rattle.tmem_world.proofs.Mending.{Mending}
 use Rattle.tmem_world.proofs.Points.{still_moments}
-use Rattle.tmem_world.proofs.Prefixes.{safe-prop, goes_on_from, mended_safe, safe_either, state_found, safe_from, point_safe, carries}
-use Rattle.tmem_world.proofs.Histories.{moves, cut_durable, cut_doubtful, goes_on_next}
+use Rattle.tmem_world.proofs.Prefixes.{safe-prop, goes_on_from, mended_safe, point_safe, carries}
+use Rattle.tmem_world.proofs.Histories.{moves, goes_on_next}
 
 module _ (set : Setting) where
   -- what was safe within the first events is so within those and one more
   pub safe_within-more : (m : WorldModel) (h : History) (es : List Event) (rs : List Reply) (x : WorldModel) (g : History) (e : Event) (r : Reply) (m' : WorldModel) → Allows set x e r m' → (c : List ℕ) → IsSafeWithin set m h es rs x g c
-      → IsSafeWithin set m h (es ++ e ∷ []) (rs ++ r ∷ []) m' (history_after x e r g) c
+      → IsSafeWithin set m h (es ++ e ∷ []) (rs ++ r ∷ []) m' (history_after x e r m' g) c
   safe_within-more m h es rs x g e r m' allowed c within = record {
     first = within.first;
     rest = within.rest ++ e ∷ [];
@@ -45,13 +45,13 @@ module _ (set : Setting) where
     point = within.point;
     reached = within.reached;
     before = within.before;
-    after = runs_on-append set within.point within.reached within.rest within.later x g within.after (e ∷ []) (r ∷ []) m' (history_after x e r g) (runs_on-one set x g e r m' allowed);
+    after = runs_on-append set within.point within.reached within.rest within.later x g within.after (e ∷ []) (r ∷ []) m' (history_after x e r m' g) (runs_on-one set x g e r m' allowed);
     safe = within.safe;
   }
 
   -- what is safe once they were played is so within those and one more
   pub safe_within-last : (m : WorldModel) (h : History) (es : List Event) (rs : List Reply) (x : WorldModel) (g : History) → RunsOn set m h es rs x g → (e : Event) (r : Reply) (m' : WorldModel) → Allows set x e r m' → (c : List ℕ) → IsSafe set.program set.vars set.slots g c
-      → IsSafeWithin set m h (es ++ e ∷ []) (rs ++ r ∷ []) m' (history_after x e r g) c
+      → IsSafeWithin set m h (es ++ e ∷ []) (rs ++ r ∷ []) m' (history_after x e r m' g) c
   safe_within-last m h es rs x g so e r m' allowed c safe = record {
     first = es;
     rest = e ∷ [];
@@ -63,6 +63,22 @@ module _ (set : Setting) where
     reached = g;
     before = so;
     after = runs_on-one set x g e r m' allowed;
+    safe = safe;
+  }
+
+  -- and what is safe after that one too
+  pub safe_within-all : (m : WorldModel) (h : History) (es : List Event) (rs : List Reply) (m' : WorldModel) (h' : History) → RunsOn set m h es rs m' h' → (c : List ℕ) → IsSafe set.program set.vars set.slots h' c → IsSafeWithin set m h es rs m' h' c
+  safe_within-all m h es rs m' h' so c safe = record {
+    first = es;
+    rest = [];
+    answers = rs;
+    later = [];
+    events = sym (append-nil es);
+    replies = sym (append-nil rs);
+    point = m';
+    reached = h';
+    before = so;
+    after = (refl, refl);
     safe = safe;
   }
 
@@ -88,25 +104,21 @@ module _ {D T S : Type 0} {d t s : _} (w w' : World D T S d t s) (layout : w'.la
   steps_on step during = λ program stated h m has keeps.
       let now = step program stated m has.point (rests_on _ e keeps) in
       let m' = now.0 in
+      let h' = history_after m e r m' h in
       let vars = w.layout.vars in
       let slots = w.layout.slots in
-      let numbers = has.point.numbers in
-      let numbers' = now.2.numbers in
-      let by = moves (setting_of w program) m numbers e r m' numbers' now.1 in
-      let kept = keeps_durable (setting_of w program) m e r m' numbers.durable now.1 in
-      let after : (c : List ℕ) → StandsCut program vars slots m' c → IsSafe program vars slots h c =
-      λ c it. safe_either program vars h slots _ _ m'.durable m'.doubtful
-      (cut_durable program m e r m' by ∙ sym (state_found program vars h m has.history m'.durable (omega (arith, numbers.opened, kept.durable))))
-      (cut_doubtful program m e r m' by ∙ sym (state_found program vars h m has.history m'.doubtful (omega (arith, numbers.opened, kept.durable, numbers'.durable))))
-      (safe_from program vars h m has.history numbers m'.durable kept.durable (omega (arith, by.within, numbers'.durable)))
-      (safe_from program vars h m has.history numbers m'.doubtful (omega (arith, kept.durable, numbers'.durable)) by.within) c it in
-      let goes = subst (λ (l : Layout). GoesOn program l.vars (history_after m e r h) m') (sym layout) (goes_on_next program m e r m' by vars h has.history kept.acknowledged kept.durable) in (
+      let by = moves (setting_of w program) m has.point.numbers e r m' now.2.numbers now.1 in
+      let kept = keeps_durable (setting_of w program) m e r m' has.point.numbers.durable now.1 in
+      let goes = goes_on_next program m e r m' by vars h has.history kept.acknowledged kept.durable in (
+        m',
+        now.1,
+        carries w' program h' m' now.2 (subst (λ (l : Layout). GoesOn program l.vars h' m') (sym layout) goes),
         record {
-          each = λ k c left. ∥∥₁_elim ((during program m m' has.point now.2).each k c left) (hlevel props) (⊎_elim
-              (λ (it : StandsCut program vars slots m c). point_safe program vars h m has.history numbers slots c it)
-              (λ (it : StandsCut program vars slots m' c). after c it));
+          each = λ k c left. ∥∥₁_map ((during program m m' has.point now.2).each k c left) (⊎_elim
+              (λ (it : StandsCut program vars slots m c). inl (point_safe program vars h m has.history has.point.numbers slots c it))
+              (λ (it : StandsCut program vars slots m' c). inr (point_safe program vars h' m' goes now.2.numbers slots c it)));
         },
-        (m', now.1, carries w' program (history_after m e r h) m' now.2 goes, grows (setting_of w program) m h (e ∷ []) (r ∷ []) m' (history_after m e r h) (runs_on-one (setting_of w program) m h e r m' now.1)),
+        grows (setting_of w program) m h (e ∷ []) (r ∷ []) m' h' (runs_on-one (setting_of w program) m h e r m' now.1),
       )
 
 -- A store is opened.
@@ -190,6 +202,7 @@ pub fresh_safe : (program : Program) (vars slots : ℕ) (p : Position) (c : List
 fresh_safe program vars slots p c stands = ∣ (
   0,
   record {
+    cut = ∣ inl refl ∣₁;
     acknowledged = omega arith;
     accepted = omega arith;
     each = tt;

@@ -164,7 +164,7 @@ module _ (program : Program) (m : WorldModel) (numbers : IsNumbered program m) w
   reopens_move (reply.Opened n) m' numbers' is =
       let from : m.durable ≤ n = ⊎_elim (λ (same : n ≡ m.durable). omega (arith, same)) (λ (same : n ≡ m.doubtful). omega (arith, same, numbers.durable)) is.0 in
       let to : n ≤ m.doubtful = ⊎_elim (λ (same : n ≡ m.durable). omega (arith, same, numbers.durable)) (λ (same : n ≡ m.doubtful). omega (arith, same)) is.0 in
-      found_moves n m' (ap (λ (x : WorldModel). x.opened) is.1.1) (ap (λ (x : WorldModel). x.accepted) is.1.1) (ap (λ (x : WorldModel). x.durable) is.1.1) (ap (λ (x : WorldModel). x.doubtful) is.1.1)
+      found_moves n m' (ap (λ (x : WorldModel). x.opened) is.1.2) (ap (λ (x : WorldModel). x.accepted) is.1.2) (ap (λ (x : WorldModel). x.durable) is.1.2) (ap (λ (x : WorldModel). x.doubtful) is.1.2)
       (omega (arith, numbers.opened, from)) (omega (arith, numbers.doubtful, to))
   reopens_move (reply.Fault f) m' numbers' is = moves_kept program m numbers m' numbers' event.Reopen (reply.Fault f) (λ txs. refl) (by_fault f is)
     where
@@ -202,7 +202,7 @@ module _ (program : Program) (m : WorldModel) (e : Event) (r : Reply) (m' : Worl
   cut_doubtful = cut_same m'.doubtful by.doubtful
 
   -- the run goes on with the next history
-  pub goes_on_next : (vars : ℕ) (h : History) → GoesOn program vars h m → acknowledged r ≤ m'.durable → m.durable ≤ m'.durable → GoesOn program vars (history_after m e r h) m'
+  pub goes_on_next : (vars : ℕ) (h : History) → GoesOn program vars h m → acknowledged r ≤ m'.durable → m.durable ≤ m'.durable → GoesOn program vars (history_after m e r m' h) m'
   goes_on_next vars h goes told kept =
       let opened : m'.opened ≡ serial_state program (first_state vars) goes.found = by.opened ∙ goes.opened in
       let accepted : accepted_after m e r h.accepted ≡ goes.found ++ m'.accepted = ap (accepted_after m e r) goes.accepted ∙ by.accepted goes.found (sym (count_found program vars h m goes)) in
@@ -212,5 +212,7 @@ module _ (program : Program) (m : WorldModel) (e : Event) (r : Reply) (m' : Worl
         opened = opened;
         accepted = accepted;
         acknowledged = max-le (omega (arith, goes.acknowledged, kept)) told;
+        durable = refl;
+        doubtful = refl;
         present = ap (λ (s : State). serial_state program s m'.accepted) opened ∙ sym (serial_state-append program (first_state vars) goes.found m'.accepted) ∙ ap (serial_state program (first_state vars)) (sym accepted);
       }

@@ -132,7 +132,7 @@ checkpoints_in Gone m r m' is = keeps_same m r (reply.Fault fault.Closed) m' (om
 
 reopens : (m : WorldModel) (r : Reply) (m' : WorldModel) → m.durable ≤ m.doubtful → AllowsReopen m r m' → KeepsDurable m r m'
 reopens m (reply.Opened n) m' below is =
-    let now : m'.durable ≡ n = ap (λ (x : WorldModel). x.durable) is.1.1 in
+    let now : m'.durable ≡ n = ap (λ (x : WorldModel). x.durable) is.1.2 in
     let found : m.durable ≤ n = ⊎_elim (λ (same : n ≡ m.durable). omega (arith, same)) (λ same. omega (arith, same, below)) is.0 in
     record { acknowledged = omega (arith, now); durable = omega (arith, now, found) }
 reopens m (reply.Fault f) m' below is = keeps_none m (reply.Fault f) m' refl (same f is)
@@ -199,7 +199,7 @@ module _ (set : Setting) where
   runs_on-append m h [] (r ∷ rs) x g so more later m' h' then = absurd so
   runs_on-append m h (e ∷ es) [] x g so more later m' h' then = absurd so
   runs_on-append m h (e ∷ es) (r ∷ rs) x g so more later m' h' then =
-      (so.0, so.1, runs_on-append so.0 (history_after m e r h) es rs x g so.2 more later m' h' then)
+      (so.0, so.1, runs_on-append so.0 (history_after m e r so.0 h) es rs x g so.2 more later m' h' then)
 
   -- so the last session of a chain goes on
   pub grows : (m : WorldModel) (h : History) (es : List Event) (rs : List Reply) (m' : WorldModel) (h' : History) → RunsOn set m h es rs m' h' → GrowsChain set m h es rs m' h'
@@ -210,7 +210,7 @@ module _ (set : Setting) where
   )
 
   -- one event
-  pub runs_on-one : (m : WorldModel) (h : History) (e : Event) (r : Reply) (m' : WorldModel) → Allows set m e r m' → RunsOn set m h (e ∷ []) (r ∷ []) m' (history_after m e r h)
+  pub runs_on-one : (m : WorldModel) (h : History) (e : Event) (r : Reply) (m' : WorldModel) → Allows set m e r m' → RunsOn set m h (e ∷ []) (r ∷ []) m' (history_after m e r m' h)
   runs_on-one m h e r m' allowed = (m', allowed, (refl, refl))
 
 -- the session that found it is the next of each chain that led to the history

@@ -1,5 +1,5 @@
 -- Prefixes of a history, and the contents that stand for the states after them.
-use Rattle.std.proofs.Common.{◌≡◌, ◌⊎◌, ⊎_elim, ℕ, zero, suc, ◌+◌, ◌-◌, ◌≤◌, List, [], ◌∷◌, ◌++◌, length, take, refl, sym, ◌∙◌, ap, subst, arith, append-nil, length-append}
+use Rattle.std.proofs.Common.{◌≡◌, ◌⊎◌, inl, inr, ⊎_elim, ℕ, zero, suc, ◌+◌, ◌-◌, ◌≤◌, List, [], ◌∷◌, ◌++◌, length, take, refl, sym, ◌∙◌, ap, subst, arith, append-nil, length-append}
 use Rattle.std.proofs.Math.Logic.{∥∥₁_map}
 use Rattle.std.proofs.Props.{props}
 use Rattle.tmem_disk.specs.Disk.{DeviceView}
@@ -60,6 +60,8 @@ module _ (program : Program) where
       opened = refl;
       accepted = sym (append-nil (take n h.accepted));
       acknowledged = omega (arith, count_at program vars h n safe);
+      durable = sym (count_at program vars h n safe);
+      doubtful = sym (count_at program vars h n safe);
       present = refl;
     }
 
@@ -96,12 +98,13 @@ module _ (program : Program) where
           ∙ ap (λ (s : State). serial_state program s (take k m.accepted)) (sym goes.opened)
 
       module _ (numbers : IsNumbered program m) where
-        -- what is durable is a safe prefix, and each longer one is
-        pub safe_from : (n : ℕ) → m.durable ≤ n → n ≤ m.opened.count + length m.accepted → IsSafePrefix program vars h n
-        safe_from n from to =
+        -- what is durable is a safe prefix, and what may be durable in its place
+        pub safe_from : (n : ℕ) → ∥ (n ≡ h.durable) ⊎ (n ≡ h.doubtful) ∥₁ → m.durable ≤ n → n ≤ m.opened.count + length m.accepted → IsSafePrefix program vars h n
+        safe_from n cut from to =
             let low : m.opened.count ≤ n = omega (arith, numbers.opened, from) in
             let k = n - m.opened.count in
             record {
+              cut = cut;
               acknowledged = omega (arith, goes.acknowledged, from);
               accepted = omega (arith, ap length goes.accepted, length-append goes.found m.accepted, count_found, to);
               each = subst (AreCommitted program (first_state vars)) (sym (take_found n low))
@@ -110,16 +113,13 @@ module _ (program : Program) where
               sound = subst (λ (s : State). IsSound program.tests program.names s.names s.values) (sym (state_found n low)) (numbers.sound n low to);
             }
 
-        -- what stands for the serial order cut at one of two numbers, neither of them less than the durable one
-        pub cut_safe : (slots i j : ℕ) → m.durable ≤ i → i ≤ m.opened.count + length m.accepted → m.durable ≤ j → j ≤ m.opened.count + length m.accepted
-            → (c : List ℕ) → StandsForEither vars slots (cut program m i) (cut program m j) c → IsSafe program vars slots h c
-        cut_safe slots i j from_i to_i from_j to_j c it =
-            safe_either slots (cut program m i) (cut program m j) i j (sym (state_found i (omega (arith, numbers.opened, from_i)))) (sym (state_found j (omega (arith, numbers.opened, from_j)))) (safe_from i from_i to_i) (safe_from j from_j to_j) c it
-
-        -- so it is at the durable number and at the doubtful one
+        -- what stands for the serial order cut at the durable number or at the doubtful one is safe
         pub point_safe : (slots : ℕ) (c : List ℕ) → StandsCut program vars slots m c → IsSafe program vars slots h c
         point_safe slots c it =
-            cut_safe slots m.durable m.doubtful (omega arith) (omega (arith, numbers.durable, numbers.doubtful)) numbers.durable numbers.doubtful c it
+            let within : m.durable ≤ m.opened.count + length m.accepted = omega (arith, numbers.durable, numbers.doubtful) in
+            let from : m.opened.count ≤ m.doubtful = omega (arith, numbers.opened, numbers.durable) in
+            safe_either slots (cut program m m.durable) (cut program m m.doubtful) m.durable m.doubtful (sym (state_found m.durable numbers.opened)) (sym (state_found m.doubtful from))
+            (safe_from m.durable ∣ inl (sym goes.durable) ∣₁ (omega arith) within) (safe_from m.doubtful ∣ inr (sym goes.doubtful) ∣₁ numbers.durable numbers.doubtful) c it
 
 -- a device that a world holds has room for its layout
 room_in : {D T : Type 0} {d t : _} (h : Held D T d t) → end_place (layout_in h).vars (layout_in h).slots ≤ (d.view (disk_in h)).capacity

@@ -1,10 +1,10 @@
 -- The point of a run after the device was opened again.
-use Rattle.std.proofs.Common.{◌≡◌, ◌≢◌, ◌⊎◌, inl, inr, ⊎_elim, ℕ, ◌+◌, ◌-◌, ◌≤◌, false, List, [], length, take, refl, sym, ◌∙◌, ap, subst, arith}
+use Rattle.std.proofs.Common.{◌≡◌, ◌≢◌, ◌⊎◌, inl, inr, ⊎_elim, ℕ, ◌+◌, ◌-◌, ◌≤◌, ◌^◌, Bool, true, false, List, [], length, take, refl, sym, ◌∙◌, ap, subst, arith}
 use Rattle.std.specs.Prelude.{All, Some, Result, Ok, Err}
 use Rattle.std.proofs.Math.Logic.{∥∥₁_elim}
 use Rattle.std.proofs.Props.{props}
 use Rattle.std.proofs.lemmas.Bool.{cases_eq}
-use Rattle.tmem_disk.specs.Disk.{DeviceView, LeavesOnly, after_fault}
+use Rattle.tmem_disk.specs.Disk.{DeviceView, IsDevice, LeavesOnly, after_fault}
 use Rattle.tmem_disk.specs.declared.fault.Fault.{Fault}
 use Rattle.tmem_disk.specs.declared.fault.Fault.TheVariants as fault
 use Rattle.tmem_event.specs.declared.event.Reply.TheVariants as reply
@@ -12,7 +12,7 @@ use Rattle.tmem_world.specs.declared.session.Slot.{Slot}
 use Rattle.tmem_world.specs.declared.session.Slot.TheVariants as slot
 use Rattle.tmem_world.specs.declared.session.Session as core
 use Rattle.tmem_world.specs.declared.held.Held.{Held}
-use Rattle.tmem_world.specs.declared.held.Held.TheVariants.{With}
+use Rattle.tmem_world.specs.declared.held.Held.TheVariants.{With, Without}
 use Rattle.tmem_world.specs.declared.world.World.{World}
 use Rattle.tmem_record.specs.State.{State}
 use Rattle.tmem_invariants.specs.Meanings.{IsSound}
@@ -26,6 +26,7 @@ use Rattle.tmem_record.specs.Layout.{end_place}
 use Rattle.tmem_journal.specs.Stands.{Position, StandsFor, StandsForEither}
 use Rattle.tmem_journal.specs.Refusals.{IsRefusedBy}
 use Rattle.tmem_journal.specs.Journals.{IsOpeningRefused}
+use Rattle.tmem_journal.specs.Laws.{StandsForOne}
 use Rattle.tmem_journal.specs.Mended.{MendedBy}
 use Rattle.tmem_core.specs.Opening.{opening_fault}
 use Rattle.tmem_journal.specs.Held as journal
@@ -33,8 +34,8 @@ use Rattle.tmem_journal.specs.declared.journal.Journal as owner
 use Rattle.tmem_world.specs.SessionRefusals.{IsWhyNoSession}
 use Rattle.tmem_world.specs.Parts.{disk_in, layout_in, table_in, IsWith}
 use Rattle.tmem_world.specs.AnyDevice.{dropped_by, FindsUnsound, ReopeningRefused}
-use Rattle.tmem_world.specs.WorldModel.{WorldModel, no_transactions, Open, cut, dropped, AllowsReopen}
-use Rattle.tmem_world.specs.Represents.{Represents, Means, EachMoment, LooksWhereClosed, StandsCut, held_of, held_table, device_of, view_of, session_of}
+use Rattle.tmem_world.specs.WorldModel.{WorldModel, SessionStatus, no_transactions, Open, Closed, Gone, cut, dropped, AllowsReopen, KeepsPosition}
+use Rattle.tmem_world.specs.Represents.{Represents, Means, EachMoment, LooksWhereClosed, StandsCut, HasSession, held_of, held_table, device_of, view_of, session_of}
 use Rattle.tmem_world.proofs.DroppedPoints.{no_slots_held, gone}
 use Rattle.tmem_world.proofs.Mending.{Mending}
 use Rattle.tmem_world.proofs.Points.{in_point, mending_moments}
@@ -99,8 +100,8 @@ module _ {D T S : Type 0} {d t z : _} (program : Program) (w w' : World D T S d 
 
   module _ (o : core.Session D T d t) (j : owner.Journal D d) (some : held_of w' ≡ With o) (kept : o.journal ≡ j) (state : state_of o.core ≡ journal.state_of j) (fresh : waiting_of o.core ≡ []) (sure : journal.doubtful_of j ≡ journal.state_of j) (running : is_shut_of o.core ≡ false)
       (failures : (journal.device_of j).failures ≡ (view_of w).failures) where
-    found_as : (n : ℕ) → (n ≡ m.durable) ⊎ (n ≡ m.doubtful) → m.opened.count ≤ n → n ≤ m.opened.count + length m.accepted → journal.state_of j ≡ cut program m n → (m' : WorldModel) × AllowsReopen m (reply.Opened (journal.state_of j).count) m' × Represents program w' m'
-    found_as n which low high is =
+    found_as : KeepsPosition m.session m.position (journal.position_of j) → (n : ℕ) → (n ≡ m.durable) ⊎ (n ≡ m.doubtful) → m.opened.count ≤ n → n ≤ m.opened.count + length m.accepted → journal.state_of j ≡ cut program m n → (m' : WorldModel) × AllowsReopen m (reply.Opened (journal.state_of j).count) m' × Represents program w' m'
+    found_as still n which low high is =
         let k = n - m.opened.count in
         let le : k ≤ length m.accepted = omega (arith, high) in
         let counted : (journal.state_of j).count ≡ n = ap (λ (x : State). x.count) is ∙ count_at n low high in
@@ -121,17 +122,36 @@ module _ {D T S : Type 0} {d t z : _} (program : Program) (w w' : World D T S d 
         })
         (record { opened = low; durable = omega arith; doubtful = omega (arith, length-take k m.accepted le, low); each = committed-take program k m.opened m.accepted r.numbers.each; sound = sound_cut })
         (no_slots_held program w'.slots.items sized emptied) (ap (λ (x : owner.Journal D d). (journal.device_of x).failures) kept ∙ failures ∙ r.failures) in
-        subst (λ (x : ℕ). (m' : WorldModel) × AllowsReopen m (reply.Opened x) m' × Represents program w' m') (sym counted) (m', (which, (journal.position_of j, refl)), point)
+        subst (λ (x : ℕ). (m' : WorldModel) × AllowsReopen m (reply.Opened x) m' × Represents program w' m') (sym counted) (m', (which, (journal.position_of j, still, refl)), point)
 
     -- opening found a state of the run
-    pub found : ∥ (journal.state_of j ≡ cut program m m.durable) ⊎ (journal.state_of j ≡ cut program m m.doubtful) ∥₁ → (n : ℕ) → n ≡ (journal.state_of j).count → (m' : WorldModel) × AllowsReopen m (reply.Opened n) m' × Represents program w' m'
-    found either n is =
+    pub found : KeepsPosition m.session m.position (journal.position_of j) → ∥ (journal.state_of j ≡ cut program m m.durable) ⊎ (journal.state_of j ≡ cut program m m.doubtful) ∥₁ → (n : ℕ) → n ≡ (journal.state_of j).count → (m' : WorldModel) × AllowsReopen m (reply.Opened n) m' × Represents program w' m'
+    found still either n is =
         subst (λ (x : ℕ). (m' : WorldModel) × AllowsReopen m (reply.Opened x) m' × Represents program w' m') (sym is) (⊎_elim
         (λ (same : (journal.state_of j).count ≡ m.durable).
-        found_as m.durable (inl refl) r.numbers.opened durable_within (by_durable (journal.state_of j) either same))
+        found_as still m.durable (inl refl) r.numbers.opened durable_within (by_durable (journal.state_of j) either same))
         (λ differ.
-        found_as m.doubtful (inr refl) doubtful_from r.numbers.doubtful (by_doubtful (journal.state_of j) either differ))
+        found_as still m.doubtful (inr refl) doubtful_from r.numbers.doubtful (by_doubtful (journal.state_of j) either differ))
         (cases_eq (journal.state_of j).count m.durable))
+
+-- The position that a read's content stands for is the one that an open session knows of.
+module _ {D T : Type 0} {d t : _} (one : StandsForOne) (program : Program) (m : WorldModel) (vars slots : ℕ) (small : vars ≤ 2 ^ 16) (p : Position) (s : State) where
+  position_by : (shut : Bool) (o : core.Session D T d t) → is_shut_of o.core ≡ shut → IsDevice (journal.device_of o.journal) → (journal.device_of o.journal).keeps_model
+      → (journal.layout_of o.journal).vars ≡ vars → (journal.layout_of o.journal).slots ≡ slots → StandsFor vars slots p s (journal.device_of o.journal).seen
+      → journal.position_of o.journal ≡ m.position → KeepsPosition (session_of shut) m.position p
+  position_by true o is device keeps over log stands known = tt
+  position_by false o is device keeps over log stands known =
+      let running : journal.is_closed_of o.journal ≡ false = sym o.shut ∙ is in
+      let sure = (o.journal.sure running).each keeps (journal.device_of o.journal).seen (device.seen_may_stay keeps) in
+      let there = subst (λ (v : ℕ). StandsFor v slots (journal.position_of o.journal) (journal.state_of o.journal) (journal.device_of o.journal).seen) over
+      (subst (λ (n : ℕ). StandsFor (journal.layout_of o.journal).vars n (journal.position_of o.journal) (journal.state_of o.journal) (journal.device_of o.journal).seen) log sure) in
+      (one vars slots p (journal.position_of o.journal) s (journal.state_of o.journal) (journal.device_of o.journal).seen small stands there).0 ∙ known
+
+  pub position_kept : (h : Held D T d t) → HasSession program h m → IsDevice (d.view (disk_in h)) → (d.view (disk_in h)).keeps_model → (layout_in h).vars ≡ vars → (layout_in h).slots ≡ slots
+      → StandsFor vars slots p s (d.view (disk_in h)).seen → KeepsPosition m.session m.position p
+  position_kept (With o) has device keeps over log stands =
+      subst (λ (x : SessionStatus). KeepsPosition x m.position p) (sym has.status) (position_by (is_shut_of o.core) o refl device keeps over log stands has.position)
+  position_kept (Without left) has device keeps over log stands = subst (λ (x : SessionStatus). KeepsPosition x m.position p) (sym has) tt
 
 -- what was taken out of a world
 module _ {D T S : Type 0} {d t z : _} (w : World D T S d t z) (h : Held D T d t) (held : held_of w ≡ h) where
@@ -219,11 +239,16 @@ module _ {D T S : Type 0} {d t z : _} (w w' : World D T S d t z) (h : Held D T d
 
     -- a session was begun over it
     pub session_found : (o : core.Session D T d t) → held_of w' ≡ With o → o.journal ≡ j → state_of o.core ≡ journal.state_of j → waiting_of o.core ≡ [] → journal.doubtful_of j ≡ journal.state_of j → is_shut_of o.core ≡ false → (n : ℕ) → n ≡ (state_of o.core).count
+        → StandsForOne → ((journal.device_of j).keeps_model → StandsFor w.layout.vars w.layout.slots (journal.position_of j) (journal.state_of j) (d.view disk).seen) → IsDevice (d.view (disk_in (held_of w)))
         → (program : Program) (m : WorldModel) → Represents program w m → (view_of w').keeps_model → (m' : WorldModel) × AllowsReopen m (reply.Opened n) m' × Represents program w' m'
-    session_found o some kept state fresh sure running n count program m r keeps =
+    session_found o some kept state fresh sure running n count one there device program m r keeps =
         let same : device_of w' ≡ journal.disk_of j = ap (λ (x : Held D T d t). disk_in x) some ∙ ap (λ (x : owner.Journal D d). journal.disk_of x) kept in
         let keeps' : (journal.device_of j).keeps_model = subst (λ (x : D). (d.view x).keeps_model) same keeps in
+        let before : (view_of w).keeps_model = subst (λ (x : D). (d.view x).keeps_model) same_disk (model keeps') in
+        let seen = subst (λ (x : D). StandsFor w.layout.vars w.layout.slots (journal.position_of j) (journal.state_of j) (d.view x).seen) same_disk (there keeps') in
+        let small : w.layout.vars ≤ 2 ^ 16 = omega (arith, w.layout.fits.vars_fit) in
         found program w w' m r layout emptied sized o j some kept state fresh sure running (failures ∙ ap (λ (x : D). (d.view x).failures) same_disk)
+        (position_kept one program m w.layout.vars w.layout.slots small (journal.position_of j) (journal.state_of j) (held_of w) r.session device before w.same_vars w.same_slots seen)
         (either (cut program m m.durable) (cut program m m.doubtful) fits_again (left program m r) keeps') n (count ∙ ap (λ (x : State). x.count) state)
 
   -- why it was refused, where no journal was opened

@@ -21,23 +21,28 @@ use Rattle.tmem_world.specs.Replies.{acknowledged}
 use Rattle.tmem_world.specs.WorldModel.{Setting, WorldModel, SlotModel, Ended, present, slot_at, opening, Allows}
 use Rattle.tmem_world.specs.Represents.{Represents, Means, setting_of, view_of, device_after}
 
--- What was accepted since a device was formatted, through all sessions, in the serial order; and how many of these
--- transactions are acknowledged: all whose numbers are below that.
+-- What was accepted since a device was formatted, through all sessions, in the serial order. How many of these transactions are
+-- acknowledged: all whose numbers are below that. How many are durable; and how many may be durable in place of these, after a
+-- flush with an unknown outcome.
 pub record History : Type 0 where
   pub accepted : List Tx
   pub acknowledged : ℕ
+  pub durable : ℕ
+  pub doubtful : ℕ
 
 -- that of a device that was just formatted
 abbrev pub no_history : History
-no_history = record { accepted = []; acknowledged = 0 }
+no_history = record { accepted = []; acknowledged = 0; durable = 0; doubtful = 0 }
 
 -- the state after the first n of them, from that of a new store on
 abbrev pub state_at : Program → ℕ → History → ℕ → State
 state_at program vars h n = serial_state program (first_state vars) (take n h.accepted)
 
--- The first n of them are a prefix of the serial order that has every acknowledged one. Each was accepted on the state after
--- those before it, and the state after them is sound: each registered invariant is in the table and true.
+-- The first n of them are the durable ones, or those that may be durable in their place: a prefix of the serial order that has
+-- every acknowledged one. Each was accepted on the state after those before it, and the state after them is sound: each
+-- registered invariant is in the table and true.
 pub record IsSafePrefix (program : Program) (vars : ℕ) (h : History) (n : ℕ) : Type 0 where
+  pub cut : ∥ (n ≡ h.durable) ⊎ (n ≡ h.doubtful) ∥₁
   pub acknowledged : h.acknowledged ≤ n
   pub accepted : n ≤ length h.accepted
   pub each : AreCommitted program (first_state vars) (take n h.accepted)
@@ -46,7 +51,11 @@ pub record IsSafePrefix (program : Program) (vars : ℕ) (h : History) (n : ℕ)
 -- The content stands for the state after such a prefix, whatever stands where on the device. Between the bars: it is one
 -- fact.
 abbrev pub IsSafe : Program → ℕ → ℕ → History → List ℕ → Type 0
-IsSafe program vars slots h c = ∥ ((n : ℕ) × IsSafePrefix program vars h n × ((used : _) × StandsFor vars slots used (state_at program vars h n) c)) ∥₁
+IsSafe program vars slots h c = ∥ ((n : ℕ) × IsSafePrefix program vars h n × ((position : _) × StandsFor vars slots position (state_at program vars h n) c)) ∥₁
+
+-- it is safe for one of two histories: that from before an event, and that from after it
+abbrev pub IsSafeIn : Program → ℕ → ℕ → History → History → List ℕ → Type 0
+IsSafeIn program vars slots h h' c = ∥ IsSafe program vars slots h c ⊎ IsSafe program vars slots h' c ∥₁
 
 -- The device is a store with this history: it holds the layout of these numbers, and every crash of it leaves a safe content.
 pub record IsStore (program : Program) (vars slots : ℕ) (h : History) (d : DeviceView) : Type 0 where
@@ -61,13 +70,16 @@ pub record IsLeftBy (old : DeviceView) (since : ℕ) (new : DeviceView) : Type 0
   pub left : new.keeps_model → (c : List ℕ) → new.may_leave c → old.left_since since c
 
 -- The run at this point goes on with the history: its opening found the state after the first transactions, and the run
--- accepted the others. So its present state is that after all of them. What is acknowledged is durable in it.
+-- accepted the others. So its present state is that after all of them. The history has the run's durable number and its
+-- doubtful one, and what is acknowledged is durable.
 pub record GoesOn (program : Program) (vars : ℕ) (h : History) (m : WorldModel) : Type 0 where
   pub found : List Tx
   pub each : AreCommitted program (first_state vars) found
   pub opened : m.opened ≡ serial_state program (first_state vars) found
   pub accepted : h.accepted ≡ found ++ m.accepted
   pub acknowledged : h.acknowledged ≤ m.durable
+  pub durable : h.durable ≡ m.durable
+  pub doubtful : h.doubtful ≡ m.doubtful
   pub present : present program m ≡ serial_state program (first_state vars) h.accepted
 
 -- The world is at this point of a run that goes on with the history, and its device is a store with it.
@@ -87,18 +99,18 @@ accepted_after m (event.Settle slot) (reply.Settled (Committed number registers)
 accepted_after m event.Reopen (reply.Opened n) txs = take n txs
 accepted_after m e r txs = txs
 
--- The history after an event that was answered so at this point of a run.
-abbrev pub history_after : WorldModel → Event → Reply → History → History
-history_after m e r h = record { accepted = accepted_after m e r h.accepted; acknowledged = max h.acknowledged (acknowledged r) }
+-- The history after an event that was answered so at this point of a run, and led to that one.
+abbrev pub history_after : WorldModel → Event → Reply → WorldModel → History → History
+history_after m e r m' h = record { accepted = accepted_after m e r h.accepted; acknowledged = max h.acknowledged (acknowledged r); durable = m'.durable; doubtful = m'.doubtful }
 
 -- the history that a session goes on with, which found the first n transactions
 abbrev pub history_found : ℕ → History → History
-history_found n h = record { accepted = take n h.accepted; acknowledged = n }
+history_found n h = record { accepted = take n h.accepted; acknowledged = n; durable = n; doubtful = n }
 
 -- A run of the model, and what it makes of a history: each event was answered as the model allows, one after another.
 abbrev pub RunsOn : Setting → WorldModel → History → List Event → List Reply → WorldModel → History → Type 0
 RunsOn set m h [] [] m' h' = (m' ≡ m) × (h' ≡ h)
-RunsOn set m h (e ∷ es) (r ∷ rs) m' h' = (x : WorldModel) × Allows set m e r x × RunsOn set x (history_after m e r h) es rs m' h'
+RunsOn set m h (e ∷ es) (r ∷ rs) m' h' = (x : WorldModel) × Allows set m e r x × RunsOn set x (history_after m e r x h) es rs m' h'
 RunsOn set m h [] (r ∷ rs) m' h' = ⊥
 RunsOn set m h (e ∷ es) [] m' h' = ⊥
 
@@ -150,12 +162,13 @@ pub record OpensStore {D T S : Type 0} {d t s : _} (program : Program) (vars slo
   pub found : FindsPrefix program vars slots h old.failures result
 
 -- A world that carries a history carries the next one after the event, at the next point of the run. A crash at any moment of the
--- event leaves what is safe for the history before it.
+-- event leaves what is safe for the history before it, or for the one after it.
 abbrev pub StepsOn : {D T S : Type 0} {d t s : _} → World D T S d t s → Event → Reply → World D T S d t s → Type 0
 StepsOn old e r new =
     (program : Program) → Means old program → (h : History) (m : WorldModel) → Carries program old h m → (view_of new).keeps_model
-    → AtEachMoment (view_of old) (view_of new) (IsSafe program old.layout.vars old.layout.slots h)
-    × ((m' : WorldModel) × Allows (setting_of old program) m e r m' × Carries program new (history_after m e r h) m' × GrowsChain (setting_of old program) m h (e ∷ []) (r ∷ []) m' (history_after m e r h))
+    → (m' : WorldModel) × Allows (setting_of old program) m e r m' × Carries program new (history_after m e r m' h) m'
+    × AtEachMoment (view_of old) (view_of new) (IsSafeIn program old.layout.vars old.layout.slots h (history_after m e r m' h))
+    × GrowsChain (setting_of old program) m h (e ∷ []) (r ∷ []) m' (history_after m e r m' h)
 
 -- these are the first of those
 abbrev pub IsFirstOf : {A : Type 0} → List A → List A → Type 0
@@ -182,24 +195,27 @@ abbrev pub PlaysOn : {D T S : Type 0} {d t s : _} → World D T S d t s → List
 PlaysOn old es rs new =
     (program : Program) → Means old program → (h : History) (m : WorldModel) → Carries program old h m → (view_of new).keeps_model
     → (h' : History) × (m' : WorldModel) × RunsOn (setting_of old program) m h es rs m' h' × Carries program new h' m'
-    × AtEachMoment (view_of old) (view_of new) (IsSafeWithin (setting_of old program) m h es rs m' h')
+    × AtEachMoment (view_of old) (view_of new) (λ c. ∥ IsSafeWithin (setting_of old program) m h es rs m' h' c ∥₁)
     × GrowsChain (setting_of old program) m h es rs m' h'
 
 -- A device for which format answered Ok is a store without a history yet.
 abbrev pub FormattedIsStore : {D : Type 0} → (D → DeviceView) → Type 0
 FormattedIsStore {D} view =
-    (program : Program) (vars slots : ℕ) (used : _) (disk : D) → FitsOn vars slots (view disk).capacity
-    → LeavesOnly (view disk) (StandsFor vars slots used (first_state vars)) → IsStore program vars slots no_history (view disk)
+    (program : Program) (vars slots : ℕ) (position : _) (disk : D) → FitsOn vars slots (view disk).capacity
+    → LeavesOnly (view disk) (StandsFor vars slots position (first_state vars)) → IsStore program vars slots no_history (view disk)
 
--- A crash of a store leaves a store: with the same history, if it was between two calls or at some moment of an opening or an
--- event; and if it was at some moment of a list of events, with the history after an initial part of them, once the device was
--- started again.
+-- A crash of a store leaves a store: with the same history, if it was between two calls or at some moment of an opening. Once the
+-- device was started again, so that it holds one content: with the history from before an event or from after it, if it was at
+-- some moment of one, and with the history after an initial part of a list of events, if it was at some moment of that.
 pub record CrashLeavesStore {D : Type 0} (view : D → DeviceView) : Type 0 where
   pub between : (program : Program) (vars slots : ℕ) (h : History) (disk left : D) → IsStore program vars slots h (view disk)
       → IsLeftBy (view disk) (view disk).moment (view left) → IsStore program vars slots h (view left)
-  pub within : (program : Program) (vars slots : ℕ) (h : History) (old new left : D) → FitsOn vars slots (view new).capacity
+  pub within_opening : (program : Program) (vars slots : ℕ) (h : History) (old new left : D) → FitsOn vars slots (view new).capacity
       → AtEachMoment (view old) (view new) (IsSafe program vars slots h) → IsLeftBy (view new) (view old).moment (view left) → IsStore program vars slots h (view left)
+  pub within_event : (program : Program) (vars slots : ℕ) (h h' : History) (old new left : D) → FitsOn vars slots (view new).capacity
+      → AtEachMoment (view old) (view new) (IsSafeIn program vars slots h h') → IsLeftBy (view new) (view old).moment (view left) → IsSynced (view left) → (view left).keeps_model
+      → ∥ IsStore program vars slots h (view left) ⊎ IsStore program vars slots h' (view left) ∥₁
   pub within_events : (set : Setting) (m : WorldModel) (h : History) (es : List Event) (rs : List Reply) (m' : WorldModel) (h' : History) (old new left : D) → FitsOn set.vars set.slots (view new).capacity
-      → AtEachMoment (view old) (view new) (IsSafeWithin set m h es rs m' h') → IsLeftBy (view new) (view old).moment (view left) → IsSynced (view left) → (view left).keeps_model
-      → (first : List Event) × (answers : List Reply) × (point : WorldModel) × (reached : History)
-      × IsFirstOf first es × IsFirstOf answers rs × GrowsChain set m h first answers point reached × IsStore set.program set.vars set.slots reached (view left)
+      → AtEachMoment (view old) (view new) (λ c. ∥ IsSafeWithin set m h es rs m' h' c ∥₁) → IsLeftBy (view new) (view old).moment (view left) → IsSynced (view left) → (view left).keeps_model
+      → ∥ ((first : List Event) × (answers : List Reply) × (point : WorldModel) × (reached : History)
+      × IsFirstOf first es × IsFirstOf answers rs × GrowsChain set m h first answers point reached × IsStore set.program set.vars set.slots reached (view left)) ∥₁

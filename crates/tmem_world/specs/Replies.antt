@@ -1,5 +1,8 @@
 -- What a reply tells of the device, and what it acknowledges.
-use Rattle.std.specs.Prelude.{◌≡◌, ⊤, ◌⊎◌, ℕ, ◌<◌, List, [], ◌∷◌, Result, Ok, Err}
+use Rattle.std.specs.Prelude.{◌≡◌, ⊤, ◌⊎◌, ℕ, ◌<◌, List, [], ◌∷◌, Option, Some, Result, Ok, Err, IfSome}
+use Rattle.tmem_disk.specs.Disk.{IsWriteOrSync}
+use Rattle.tmem_disk.specs.declared.disk.DeviceFault.{DeviceFault}
+use Rattle.tmem_disk.specs.declared.disk.DeviceFault.TheVariants.{Write}
 use Rattle.tmem_disk.specs.declared.fault.Fault.{Fault}
 use Rattle.tmem_disk.specs.declared.fault.Fault.TheVariants as fault
 use Rattle.tmem_tree.specs.declared.settled.Settled.{Settled}
@@ -7,7 +10,7 @@ use Rattle.tmem_event.specs.declared.event.Event.{Event}
 use Rattle.tmem_event.specs.declared.event.Event.TheVariants as event
 use Rattle.tmem_event.specs.declared.event.Reply.{Reply}
 use Rattle.tmem_event.specs.declared.event.Reply.TheVariants as reply
-use Rattle.tmem_gate.specs.Calls.{failures_after}
+use Rattle.tmem_gate.specs.Calls.{failures_after, IsReadOrWrite}
 
 -- an answer to a transaction that has ended, as a reply
 abbrev pub reply_of : Result Settled Fault → Reply
@@ -44,6 +47,15 @@ CallsNoDevice durable event.Flush r = FlushedNothing durable r
 CallsNoDevice durable event.Checkpoint r = CheckpointedNothing r
 CallsNoDevice durable event.Reopen r = ⊥
 CallsNoDevice durable _ r = ⊤
+
+-- Which call of the device failed last, where a flush or a checkpoint was answered so. At Unknown it was a write or a sync. At
+-- Device a flush had a write fail, and a checkpoint a read or a write.
+abbrev pub IsFailedCall : Event → Reply → Option DeviceFault → Type 0
+IsFailedCall event.Flush (reply.Fault fault.Device) last = last ≡ Some Write
+IsFailedCall event.Flush (reply.Fault fault.Unknown) last = IfSome last IsWriteOrSync
+IsFailedCall event.Checkpoint (reply.Fault fault.Device) last = IfSome last IsReadOrWrite
+IsFailedCall event.Checkpoint (reply.Fault fault.Unknown) last = IfSome last IsWriteOrSync
+IsFailedCall _ _ last = ⊤
 
 -- the transactions below this number are acknowledged by the reply
 abbrev pub acknowledged : Reply → ℕ

@@ -193,12 +193,17 @@ AllowsCheckpoint _ m r m' = (r ≡ reply.Fault fault.Closed) × (m' ≡ m)
 abbrev pub dropped : WorldModel → WorldModel
 dropped m = record m { slots = no_transactions; session = Gone }
 
+-- While no call of the device has failed, the device has the image and the log slots that the session knows of.
+abbrev pub KeepsPosition : SessionStatus → Position → Position → Type 0
+KeepsPosition Open known position = position ≡ known
+KeepsPosition _ known position = ⊤
+
 -- Opening the device again finds the durable number or the doubtful one, and keeps the transactions below it. Which
 -- image is chosen, and how many log slots are used, is read off the device.
 abbrev pub AllowsReopen : WorldModel → Reply → WorldModel → Type 0
 AllowsReopen m (reply.Opened n) m' =
     ((n ≡ m.durable) ⊎ (n ≡ m.doubtful))
-    × ((position : Position) × (m' ≡ record m { accepted = take (n - m.opened.count) m.accepted; durable = n; doubtful = n; position = position; slots = no_transactions; session = Open }))
+    × ((position : Position) × KeepsPosition m.session m.position position × (m' ≡ record m { accepted = take (n - m.opened.count) m.accepted; durable = n; doubtful = n; position = position; slots = no_transactions; session = Open }))
 AllowsReopen m (reply.Fault fault.Memory) m' = m' ≡ dropped m
 AllowsReopen m (reply.Fault fault.Device) m' = m' ≡ record (dropped m) { failures = after_fault m.failures }
 AllowsReopen m _ m' = ⊥

@@ -1,6 +1,6 @@
 // A session: the core, and the journal that makes durable what it accepts.
-ghost use Rattle.std.specs.Prelude.{◌≡◌, ◌*◌, ◌+◌, ◌⊎◌, false, [], length, IfOk, IfErr};
-ghost use Rattle.tmem_disk.specs.Disk.{AtEachMoment};
+ghost use Rattle.std.specs.Prelude.{◌≡◌, ◌*◌, ◌+◌, ◌⊎◌, false, [], Some, length, IfOk, IfErr, IfSome, IsErrOf};
+ghost use Rattle.tmem_disk.specs.Disk.{AtEachMoment, IsWriteOrSync};
 ghost use Rattle.tmem_record.specs.State.{State, fold};
 ghost use Rattle.tmem_invariants.specs.Meanings.{Meanings, IsSound};
 ghost use Rattle.tmem_core.specs.Held.{state_of, waiting_of, durable_of, is_shut_of, table_of};
@@ -14,7 +14,7 @@ ghost use Rattle.tmem_world.specs.SessionRefusals.{IsWhyNoSession};
 
 use std::alloc::Global;
 use tmem_core::Core;
-use tmem_disk::{Disk, Fault};
+use tmem_disk::{DeviceFault, Disk, Fault};
 use tmem_event::Reply;
 use tmem_invariants::Invariants;
 use tmem_journal::Journal;
@@ -105,6 +105,10 @@ impl<D: Disk, T: Invariants + Drop> Session<D, T> {
         ensures state { state_of self.new.core ≡ state_of self.old.core }
         ensures table { table_of self.new.core ≡ table_of self.old.core }
         ensures flushed { Flushes self.old result self.new }
+
+        // At `Device` the last call that failed was a write, at `Unknown` a write or a sync.
+        ensures write_failed { IsErrOf result Fault.Device → (device_of self.new.journal).last_fault ≡ Some DeviceFault.Write }
+        ensures gate_failed { IsErrOf result Fault.Unknown → IfSome (device_of self.new.journal).last_fault IsWriteOrSync }
         ensures any_moment { AtEachMoment (device_of self.old.journal) (device_of self.new.journal) (λ c. ∥ MayBe self.old.journal c ⊎ MayBe self.new.journal c ∥₁) }
         ensures elsewhere { WritesWithin (slot_place (layout_of self.old.journal).vars 0) (4096 * (layout_of self.old.journal).slots) (device_of self.old.journal) (device_of self.new.journal) }
     {

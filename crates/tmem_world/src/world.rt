@@ -50,7 +50,7 @@ pub struct World<D: Disk, T: Invariants, S: StoredSteps> {
 impl<D: Disk + Drop, T: Invariants + Drop, S: StoredSteps + Drop> World<D, T, S> {
     ghost use Rattle.tmem_world.specs.Represents.{Represents, Means, IsStep, Plays, EachMoment, WritesInStore, HoldsSession, OpeningRefused, LooksWhereClosed, OpensEither, numbers_of, device_of, view_of, device_after, steps_of, held_table, setting_of, durable_number};
     ghost use Rattle.tmem_world.specs.AnyDevice.{Reopens, IsReopened, PlaysOnAnyDevice};
-    ghost use Rattle.tmem_world.specs.Replies.{failures_by, failures_by_all, FlushedNothing, CheckpointedNothing, CallsNoDevice};
+    ghost use Rattle.tmem_world.specs.Replies.{failures_by, failures_by_all, FlushedNothing, CheckpointedNothing, CallsNoDevice, IsFailedCall};
     ghost use Rattle.tmem_world.specs.Chain.{History, IsStore, OpensStore, StepsOn, PlaysOn};
 
     /// Opens a device of these numbers: finds what its content stands for, and begins a session there, with these
@@ -144,10 +144,11 @@ impl<D: Disk + Drop, T: Invariants + Drop, S: StoredSteps + Drop> World<D, T, S>
         ensures elsewhere { WritesInStore (numbers_of self.old) (view_of self.old) (view_of self.new) }
 
         // The history of a chain of sessions goes on by the event, and a crash at any moment of it leaves what is safe for the
-        // history before it.
+        // history before it, or for the one after it.
         ensures chain { StepsOn self.old event result self.new }
 
         ensures failures { (view_of self.new).failures ≡ failures_by result (view_of self.old).failures }
+        ensures failed_call { IsFailedCall event result (view_of self.new).last_fault }
         ensures still { CallsNoDevice (durable_number self.old) event result → device_of self.new ≡ device_of self.old }
         ensures numbers { numbers_of self.new ≡ numbers_of self.old }
         ensures steps { steps_of self.new ≡ steps_of self.old }
@@ -314,6 +315,7 @@ impl<D: Disk + Drop, T: Invariants + Drop, S: StoredSteps + Drop> World<D, T, S>
         ensures any_moment { EachMoment self.old self.new }
         ensures elsewhere { WritesInStore self.old.layout (view_of self.old) (view_of self.new) }
         ensures failures { (view_of self.new).failures ≡ failures_by result (view_of self.old).failures }
+        ensures failed_call { IsFailedCall Event.Flush result (view_of self.new).last_fault }
         ensures still { FlushedNothing (durable_number self.old) result → device_of self.new ≡ device_of self.old }
         ensures layout { self.new.layout ≡ self.old.layout }
         ensures steps { self.new.steps ≡ self.old.steps }
@@ -335,6 +337,7 @@ impl<D: Disk + Drop, T: Invariants + Drop, S: StoredSteps + Drop> World<D, T, S>
         ensures any_moment { EachMoment self.old self.new }
         ensures elsewhere { WritesInStore self.old.layout (view_of self.old) (view_of self.new) }
         ensures failures { (view_of self.new).failures ≡ failures_by result (view_of self.old).failures }
+        ensures failed_call { IsFailedCall Event.Checkpoint result (view_of self.new).last_fault }
         ensures still { CheckpointedNothing result → device_of self.new ≡ device_of self.old }
         ensures layout { self.new.layout ≡ self.old.layout }
         ensures steps { self.new.steps ≡ self.old.steps }
@@ -373,6 +376,7 @@ impl<D: Disk + Drop, T: Invariants + Drop, S: StoredSteps + Drop> World<D, T, S>
         ensures table { held_table self.new ≡ held_table self.old }
         ensures model { (view_of self.new).keeps_model → (view_of self.old).keeps_model }
     {
+        stands_for_one();
         clear(&mut self.slots);
         let layout = self.layout;
         let (disk, table) = self.held.take().unwrap().into_parts();

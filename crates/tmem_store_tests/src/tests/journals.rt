@@ -88,6 +88,37 @@ fn a_flush_makes_two_writes_and_two_syncs(rt: HostRuntime) -> Result<(), Fail> {
     Ok(())
 }
 
+/// How many writes and syncs a checkpoint makes after so many flushes, as the first of a store or after another one.
+fn checkpoint_calls(alloc: Global, other: bool, flushes: i64) -> Result<(u64, u64), Fail> {
+    let mut journal = opened(alloc, empty(alloc)?)?;
+    if other && journal.checkpoint() != Ok(()) {
+        return Err(Fail::new("no checkpoint"));
+    }
+    for number in 0..flushes {
+        if flush(alloc, &mut journal, number)?.is_err() {
+            return Err(Fail::new("no flush"));
+        }
+    }
+    let mut journal = opened(alloc, CountDisk::new(journal.into_disk()))?;
+    if journal.checkpoint() != Ok(()) {
+        return Err(Fail::new("no checkpoint"));
+    }
+    // opening syncs once, and writes nothing
+    let calls = journal.into_disk().calls;
+    Ok((calls.writes, calls.syncs.saturating_sub(1)))
+}
+
+#[test]
+fn a_checkpoint_makes_few_writes_and_syncs(rt: HostRuntime) -> Result<(), Fail> {
+    let alloc = rt.alloc();
+    // the page, the header and the gate; the gates of the used slots; and the gate of an older image in that copy
+    assert_eq!(rt; checkpoint_calls(alloc, false, 0)?, (3, 2));
+    assert_eq!(rt; checkpoint_calls(alloc, false, 2)?, (5, 3));
+    assert_eq!(rt; checkpoint_calls(alloc, true, 0)?, (4, 3));
+    assert_eq!(rt; checkpoint_calls(alloc, true, 1)?, (5, 4));
+    Ok(())
+}
+
 /// What a flush answers over a device that stops at a write of it, what the next flush answers, and how many
 /// transactions are found once the device is started again.
 fn stopped(

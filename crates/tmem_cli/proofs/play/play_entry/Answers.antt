@@ -40,7 +40,7 @@ returns-in-Event-clause-chain g c =
     subst (λ (e : Entry). PlaysEntriesOn w (e ∷ []) new (λ text. OnOk c.print_line.result (Appends (g.W.Write.contents c.args.out.now) (g.W.Write.contents c.print_line.new.out) text))) (sym c.in-Event.is)
     (λ program means h m has keeps.
     let now = c.step.ensures.chain program means h m has keeps in
-    (line (line_of r), go_on-event program w new h m it r now.0 now.1.0 now.1.1 now.1.2, c.print_line.ensures.line))
+    (line (line_of r), go_on-event program w new h m it r now.0 now.1 now.2 now.3, c.print_line.ensures.line))
 
 pub returns-in-Show-clause-chain : goal.returns-in-Show-clause-chain
 returns-in-Show-clause-chain g c =

@@ -1,8 +1,8 @@
-use Rattle.std.proofs.Common.{◌-◌}
+use Rattle.std.proofs.Common.{◌-◌, inl, inr, rules}
 use Rattle.tmem_journal.specs.Stands.{position_in}
 use Rattle.tmem_journal.proofs.FormattedStands.{on_ok}
 use Rattle.tmem_journal.proofs.Logged.{other_one}
-use Rattle.tmem_journal.proofs.Renewed.{after_writing, while_writing, sure_emptied, after_emptying, while_emptying, copy_within, renewed_within}
+use Rattle.tmem_journal.proofs.Renewed.{after_writing, not_written, while_writing, sure_emptied, after_emptying, while_emptying, copy_within, renewed_within}
 use Rattle.tmem_journal.proofs.renewing.renew.Goals as goal
 
 pub returns-in_err-write_spare-clause-elsewhere : goal.returns-in_err-write_spare-clause-elsewhere
@@ -42,3 +42,15 @@ returns-clause-sure g c =
     let p = position_in c.args.copy c.args.log.now in
     on_ok (λ synced. sure_emptied layout.vars layout.slots p c.args.state.now c.requires.number _ _ c.write_spare.ensures.uses.model c.requires.stands _ c.empty.ensures.uses.model c.in_ok-write_spare.ensures.stands c.empty.ensures.stands)
     c.empty.result c.empty.ensures.durable
+
+pub returns-in_err-write_spare-clause-certain : goal.returns-in_err-write_spare-clause-certain
+returns-in_err-write_spare-clause-certain g c = λ is.
+    let layout = c.args.layout in
+    let p = position_in c.args.copy c.args.log.now in
+    inl (not_written layout.vars layout.slots p c.args.state.now c.requires.number _ _ c.write_spare.ensures.uses.model c.requires.stands c.write_spare.result (search rules) c.write_spare.ensures.stands)
+
+pub returns-clause-certain : goal.returns-clause-certain
+returns-clause-certain g c = λ is.
+    let layout = c.args.layout in
+    let p = position_in c.args.copy c.args.log.now in
+    inr (sure_emptied layout.vars layout.slots p c.args.state.now c.requires.number _ _ c.write_spare.ensures.uses.model c.requires.stands _ c.empty.ensures.uses.model c.in_ok-write_spare.ensures.stands c.empty.ensures.stands)

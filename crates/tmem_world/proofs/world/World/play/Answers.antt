@@ -1,6 +1,7 @@
 use Rattle.std.proofs.Common.{◌≡◌, ⊎_elim, ◌<◌, ◌+◌, ◌*◌, ◌++◌, ◌∷◌, [], ◌∙◌, List, length, arith, rules, sym, ap, subst, length-append, append_assoc}
 use Rattle.std.specs.Vec.{vec_capacity, vec_len}
 use Rattle.std.proofs.lemmas.Grind.{common_steps}
+use Rattle.std.proofs.Math.Logic.{∥∥₁_map}
 use Rattle.tmem_disk.specs.Disk.{AtEachMoment}
 use Rattle.tmem_disk.proofs.Laws.{either_time}
 use Rattle.tmem_record.specs.Layout.{image_place, image_size}
@@ -14,8 +15,8 @@ use Rattle.tmem_world.specs.Represents.{WritesInStore, setting_of, view_of}
 use Rattle.tmem_world.proofs.Laws.{keeps_durable, acknowledged-append, run-append, run_on_any_device-append, failures-append, rests_on, runs_on-append, runs_on-one, grows}
 use Rattle.tmem_world.proofs.AnyDevicePoints.{steps}
 use Rattle.tmem_world.specs.AnyDevice.{AllowsOnAnyDevice, RunOnAnyDevice}
-use Rattle.tmem_world.specs.Chain.{IsSafe, IsSafeWithin, RunsOn, history_after}
-use Rattle.tmem_world.proofs.Chains.{safe_within-more, safe_within-last}
+use Rattle.tmem_world.specs.Chain.{IsSafeIn, IsSafeWithin, RunsOn, history_after}
+use Rattle.tmem_world.proofs.Chains.{safe_within-more, safe_within-last, safe_within-all}
 use Rattle.tmem_world.proofs.world.World.play.Goals as goal
 
 pub loop-event-preserved : goal.loop-event-preserved
@@ -70,23 +71,28 @@ loop-event-preserved g c =
           let set = setting_of c.args.self.now program in
           let e = c.in-Some.event in
           let r = c.step-reply.result in
-          let after = history_after before.1 e r before.0 in
-          let m' = now.1.0 in
-          let allowed = subst (λ (t : Setting). Allows t before.1 e r m') (so.setting program) now.1.1 in
+          let m' = now.0 in
+          let after = history_after before.1 e r m' before.0 in
+          let allowed = subst (λ (t : Setting). Allows t before.1 e r m') (so.setting program) now.1 in
           let old = view_of c.args.self.now in
           let mid = view_of c.loop-event.self in
           let new = view_of c.step-reply.new.self in
-          let moments : AtEachMoment mid new (IsSafe program c.args.self.now.layout.vars c.args.self.now.layout.slots before.0) =
-          subst (λ (l : Layout). AtEachMoment mid new (IsSafe program l.vars l.slots before.0)) so.layout now.0 in (
+          let layout = c.args.self.now.layout in
+          let moments : AtEachMoment mid new (IsSafeIn program layout.vars layout.slots before.0 after) =
+          subst (λ (l : Layout). AtEachMoment mid new (IsSafeIn program l.vars l.slots before.0 after)) so.layout now.3 in
+          let es = c.loop-event.yielded in
+          let rs = c.loop-event.replies.items in
+          let runs = runs_on-append set m h es rs before.1 before.0 before.2 (e ∷ []) (r ∷ []) m' after (runs_on-one set before.1 before.0 e r m' allowed) in (
             after,
             m',
-            subst (λ (rs : List Reply). RunsOn set m h (c.loop-event.yielded ++ e ∷ []) rs m' after) (sym pushed)
-                (runs_on-append set m h c.loop-event.yielded c.loop-event.replies.items before.1 before.0 before.2 (e ∷ []) (r ∷ []) m' after (runs_on-one set before.1 before.0 e r m' allowed)),
-            now.1.2,
-            subst (λ (rs : List Reply). AtEachMoment old new (IsSafeWithin set m h (c.loop-event.yielded ++ e ∷ []) rs m' after)) (sym pushed) (record {
+            subst (λ (l : List Reply). RunsOn set m h (es ++ e ∷ []) l m' after) (sym pushed) runs,
+            now.2,
+            subst (λ (l : List Reply). AtEachMoment old new (λ x. ∥ IsSafeWithin set m h (es ++ e ∷ []) l m' after x ∥₁)) (sym pushed) (record {
               each = λ keeps x left. ⊎_elim
-                  (λ was. safe_within-more set m h c.loop-event.yielded c.loop-event.replies.items before.1 before.0 e r m' allowed x (before.4.each (c.step-reply.ensures.model keeps) x was))
-                  (λ is. safe_within-last set m h c.loop-event.yielded c.loop-event.replies.items before.1 before.0 before.2 e r m' allowed x (moments.each keeps x is))
+                  (λ was. ∥∥₁_map (before.4.each (c.step-reply.ensures.model keeps) x was) (λ it. safe_within-more set m h es rs before.1 before.0 e r m' allowed x it))
+                  (λ is. ∥∥₁_map (moments.each keeps x is) (⊎_elim
+                      (λ earlier. safe_within-last set m h es rs before.1 before.0 before.2 e r m' allowed x earlier)
+                      (λ later. safe_within-all set m h (es ++ e ∷ []) (rs ++ r ∷ []) m' after runs x later)))
                   (either_time old mid new _ c.step-reply.ensures.model so.elsewhere.time.later c.step-reply.ensures.elsewhere.time keeps x left);
             }),
           );
@@ -102,7 +108,7 @@ returns-clause-chain g c = λ program stated h m has k.
       after.1,
       runs,
       after.3,
-      subst (λ (es : List Event). AtEachMoment (view_of c.args.self.now) (view_of c.loop-event.self) (IsSafeWithin set m h es c.loop-event.replies.items after.1 after.0)) all after.4,
+      subst (λ (es : List Event). AtEachMoment (view_of c.args.self.now) (view_of c.loop-event.self) (λ x. ∥ IsSafeWithin set m h es c.loop-event.replies.items after.1 after.0 x ∥₁)) all after.4,
       grows set m h c.args.events.items c.loop-event.replies.items after.1 after.0 runs,
     )
 

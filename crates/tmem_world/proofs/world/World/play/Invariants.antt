@@ -26,5 +26,5 @@ invariant-loop-event g l = record {
   any_device : (program : Program) → Means l.fn.self program → (m : WorldModel) → Represents program l.fn.self m → (m' : WorldModel) × RunOnAnyDevice (setting_of l.fn.self program) m l.yielded l.replies.items m' × Represents program l.self m';
   chain : (program : Program) → Means l.fn.self program → (h : History) (m : WorldModel) → Carries program l.fn.self h m → (view_of l.self).keeps_model
       → (h' : History) × (m' : WorldModel) × RunsOn (setting_of l.fn.self program) m h l.yielded l.replies.items m' h' × Carries program l.self h' m'
-      × AtEachMoment (view_of l.fn.self) (view_of l.self) (IsSafeWithin (setting_of l.fn.self program) m h l.yielded l.replies.items m' h');
+      × AtEachMoment (view_of l.fn.self) (view_of l.self) (λ c. ∥ IsSafeWithin (setting_of l.fn.self program) m h l.yielded l.replies.items m' h' c ∥₁);
 }

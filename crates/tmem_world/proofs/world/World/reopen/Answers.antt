@@ -3,7 +3,7 @@ use Rattle.tmem_invariants.specs.Meanings.{IsSound}
 use Rattle.tmem_core.specs.Held.{state_of}
 use Rattle.tmem_journal.specs.Held as journal
 use Rattle.tmem_journal.specs.Stands.{StandsFor}
-use Rattle.tmem_world.specs.Represents.{LooksWhereClosed, view_of}
+use Rattle.tmem_world.specs.Represents.{LooksWhereClosed, device_of, view_of}
 use Rattle.tmem_world.proofs.Points.{held_is}
 use Rattle.tmem_world.proofs.OpenedPoints.{opens}
 use Rattle.tmem_world.proofs.HeldTables.{core_means}
@@ -38,7 +38,7 @@ returns-in-Ok-begin_session-clause-step g c = λ program stated m r keeps.
     let mends = mending w.layout.vars w.layout.slots (g.D.Disk.view c.into_parts-disk.result.0) (journal.device_of c.in-Ok.journal) (g.met.D.Disk.is_device (journal.disk_of c.in-Ok.journal)) opened.seen opened.any_moment opened.elsewhere opened.looks in
     let so = c.in-Ok-begin_session.ensures in
     session_found w _ c.unwrap.result held c.into_parts-disk.result.0 parts.disk parts.room refl c.clear.ensures.emptied (c.clear.ensures.len ∙ w.sized) c.in-Ok.journal mends opened.uses.model opened.uses.failures opened.either
-    c.in-Ok-begin_session.session refl so.journal so.state so.fresh.0 opened.fresh.1 so.fresh.1 c.count-count.result c.count-count.ensures program m r keeps
+    c.in-Ok-begin_session.session refl so.journal so.state so.fresh.0 opened.fresh.1 so.fresh.1 c.count-count.result c.count-count.ensures c.stands_for_one.ensures opened.found (g.met.D.Disk.is_device (device_of w)) program m r keeps
 
 pub returns-in-Ok-begin_session-clause-reopened : goal.returns-in-Ok-begin_session-clause-reopened
 returns-in-Ok-begin_session-clause-reopened g c =
