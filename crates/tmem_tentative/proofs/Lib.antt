@@ -5,6 +5,7 @@ mod EvalSeen
 mod EvalSeq
 mod EvalWrites
 mod FitOutcomes
+pub mod Laws
 mod MadeOutcomes
 mod OrElseLaws
 mod PlaceRoom
