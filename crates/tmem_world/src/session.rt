@@ -1,5 +1,5 @@
 // A session: the core, and the journal that makes durable what it accepts.
-ghost use Rattle.std.specs.Prelude.{◌≡◌, ◌*◌, ◌+◌, ◌⊎◌, false, [], length, Result, IfOk, IfErr};
+ghost use Rattle.std.specs.Prelude.{◌≡◌, ◌*◌, ◌+◌, ◌⊎◌, false, [], length, IfOk, IfErr};
 ghost use Rattle.tmem_disk.specs.Disk.{AtEachMoment};
 ghost use Rattle.tmem_record.specs.State.{State, fold};
 ghost use Rattle.tmem_invariants.specs.Meanings.{Meanings, IsSound};
@@ -69,15 +69,13 @@ pub(crate) fn begin_session<D: Disk, T: Invariants + Drop>(
 impl<D: Disk, T: Invariants + Drop> Session<D, T> {
     ghost use Rattle.tmem_world.specs.Sessions.{Flushes, Checkpoints};
     ghost use Rattle.tmem_tentative.specs.Cursors.{attempt_of};
-    ghost use Rattle.tmem_tree.specs.declared.settled.Settled.{Settled};
     ghost use Rattle.tmem_world.specs.Slots.{HoldsEnded, IsForStore};
-    ghost use Rattle.tmem_world.specs.SettleSlot.{SettlesNothing, SettlesEnded};
+    ghost use Rattle.tmem_world.specs.SettleSlot.{Settles};
 
     /// Settles what a slot holds, which is emptied unless the answer is a refusal.
     pub(crate) fn settle_slot(&mut self, slot: &mut Slot) -> Reply
         requires { HoldsEnded slot.old → IsForStore (length (state_of self.old.core).values) (T.names (table_of self.old.core)) (attempt_of slot.old.cursor) }
-        ensures idle { ¬ HoldsEnded slot.old → SettlesNothing self.old slot.old result self.new slot.new }
-        ensures settled { HoldsEnded slot.old → (answer : Result Settled Fault) × SettlesEnded self.old slot.old answer result self.new slot.new }
+        ensures { Settles self.old slot.old result self.new slot.new }
     {
         if !slot.is_ended() {
             return Reply::Idle;
