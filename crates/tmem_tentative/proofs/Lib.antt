@@ -1,3 +1,4 @@
+pub mod CursorLaws
 mod CursorStands
 mod EvalNames
 mod EvalRuns
@@ -5,7 +6,6 @@ mod EvalSeen
 mod EvalSeq
 mod EvalWrites
 mod FitOutcomes
-pub mod Laws
 mod MadeOutcomes
 mod OrElseLaws
 mod PlaceRoom

@@ -8,7 +8,7 @@ use Rattle.tmem_tree.specs.declared.settled.Settled.{Settled}
 use Rattle.tmem_tree.specs.StepAnswers.{StepMeanings}
 use Rattle.tmem_tentative.specs.Cursors.{IsAt, IsAsBefore, HasEnded, attempt_of}
 use Rattle.tmem_tentative.specs.declared.cursor.Cursor.{Cursor}
-use Rattle.tmem_tentative.proofs.Laws.{stays_at, stays_going, stays_ended, still_ended, still_for_variables, still_for_names}
+use Rattle.tmem_tentative.proofs.CursorLaws.{stays_at, stays_going, stays_ended, still_ended, still_for_variables, still_for_names}
 use Rattle.tmem_core.specs.Held.{state_of, table_of}
 use Rattle.tmem_core.specs.Program.{Program}
 use Rattle.tmem_event.specs.declared.event.Reply.{Reply}
