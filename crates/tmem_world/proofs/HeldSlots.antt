@@ -1,8 +1,10 @@
 -- What a slot and a session keep.
 use Rattle.std.proofs.Common.{◌≡◌, ⊎_elim, ℕ, List, length, sym, ◌∙◌, ap, subst, Option, Some, None}
 use Rattle.std.proofs.lemmas.Bool.{false≢true}
-use Rattle.std.specs.Prelude.{IsSome, Result, Ok, Err}
+use Rattle.std.specs.Prelude.{IsSome, Result, Ok, Err, OnOk, IfErr}
 use Rattle.tmem_disk.specs.declared.fault.Fault.{Fault}
+use Rattle.tmem_disk.specs.declared.fault.Fault.TheVariants.{Memory}
+use Rattle.tmem_tree.specs.Plans.{FitsSteps, FitsVariables, FitsNames}
 use Rattle.tmem_tree.specs.declared.tx.Tx.{Tx}
 use Rattle.tmem_tree.specs.declared.settled.Settled.{Settled}
 use Rattle.tmem_tree.specs.StepAnswers.{StepMeanings}
@@ -57,6 +59,15 @@ module _ (vars : ℕ) (arities : List ℕ) (stated : StepMeanings → Type 0) (n
   -- a slot that holds what it held
   pub fits_again : (old new : Slot) → new.plan ≡ old.plan → IsAsBefore old.cursor new.cursor → FitsSlot vars arities stated names old → FitsSlot vars arities stated names new
   fits_again old new plan same fits = subst (λ (o : Option Tx). FitsOption vars arities stated names o new.cursor) (sym plan) (option_fits_again old.plan old.cursor new.cursor same fits)
+
+  -- a slot where a plan was to begin
+  pub begun_fits : (plan : Tx) (old new : Slot) (answer : Result (Unit {0}) Fault) → FitsVariables vars plan → FitsSteps arities plan → FitsNames names plan
+      → OnOk answer (new.plan ≡ Some plan) → OnOk answer ((m : StepMeanings) → IsAt m plan new.cursor) → OnOk answer (¬ HasEnded new.cursor)
+      → IfErr answer (λ (f : Fault). (f ≡ Memory) × (new.plan ≡ old.plan) × IsAsBefore old.cursor new.cursor)
+      → FitsSlot vars arities stated names old → FitsSlot vars arities stated names new
+  begun_fits plan old new (Ok done) variables steps known held at going same fits =
+      with_plan_fits new plan held (record { variables = variables; steps = steps; names = known; at = λ m is. at m; ended = λ ended. absurd (going ended) })
+  begun_fits plan old new (Err f) variables steps known held at going same fits = fits_again old new same.1 same.2 fits
 
   module _ {D T : Type 0} {d t : _} (o o' : core.Session D T d t) where
     -- a slot that was settled

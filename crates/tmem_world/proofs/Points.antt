@@ -32,7 +32,7 @@ use Rattle.tmem_journal.specs.Stands.{StandsForState, StandsForEither}
 use Rattle.tmem_record.specs.declared.layout.Layout.{Layout}
 use Rattle.tmem_world.specs.declared.world.World.{World}
 use Rattle.tmem_world.specs.WorldModel.{WorldModel, SlotModel, NoTransaction, Begun, Ended, SessionStatus, InSession, AllowsTurn, value_or, overridden, goes_on, present, cut, holding, slot_at}
-use Rattle.tmem_world.specs.SettleSlot.{Joins, Keeps}
+
 use Rattle.tmem_world.proofs.Mending.{mended_stands}
 use Rattle.tmem_world.specs.Represents.{SlotIs, SessionIs, HasSession, IsNumbered, Represents, EachMoment, StandsCut, session_of, held_of, device_of, view_of, held_table}
 

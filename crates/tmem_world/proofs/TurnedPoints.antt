@@ -1,15 +1,18 @@
 -- The point of a run after a turn.
 use Rattle.std.proofs.Common.{◌≡◌, inl, inr, ℕ, ℤ, List, [], ◌∷◌, ◌++◌, nat_eq, refl, sym, ◌∙◌, ap, subst, Option, Some, None}
 use Rattle.std.specs.Prelude.{IsSome}
+use Rattle.indexmap.specs.IndexMap.{insert_entry}
 use Rattle.indexmap.proofs.CallerLemmas.{insert_entry-new}
 use Rattle.tmem_disk.specs.declared.fault.Fault.{Fault}
 use Rattle.tmem_record.specs.State.{State}
+use Rattle.tmem_record.specs.Writes.{look}
 use Rattle.tmem_tree.specs.declared.tx.Tx.{Tx}
 use Rattle.tmem_tree.specs.StepAnswers.{StepMeanings}
 use Rattle.tmem_tree.specs.Visited.{visited}
 use Rattle.tmem_tentative.specs.Cursors.{IsAt, HasEnded, given, attempt_of}
 use Rattle.tmem_tentative.specs.Right.{IsOutcome, Agrees, first_lacking, valued}
 use Rattle.tmem_tentative.specs.declared.attempt.Outcome.TheVariants as outcome
+use Rattle.tmem_tentative.specs.declared.cursor.Cursor.{Cursor}
 use Rattle.tmem_core.specs.Program.{Program}
 use Rattle.tmem_core.specs.Verdict.{map_of}
 use Rattle.tmem_event.specs.declared.event.Reply.{Reply}
@@ -23,6 +26,19 @@ use Rattle.tmem_world.proofs.Points.{same_attempt}
 -- the map overridden by reads agrees with them
 overridden-agrees : (reads : List (ℕ × ℤ)) (values : ℕ → ℤ) → Agrees (overridden reads values) reads
 overridden-agrees reads values var n is = ap (λ (o : Option ℤ). value_or o (values var)) is
+
+-- a plan that has read what it needs
+pub needs_turn : (stated : StepMeanings → Type 0) (state : State) (plan : Tx) (held : Option Tx) (had : Tx) → held ≡ Some plan → held ≡ Some had → (old mid new : Cursor) (var : ℕ) (value : ℤ) → given mid ≡ given old
+    → ((m : StepMeanings) → stated m → IsOutcome m had (given mid) (outcome.Need var)) → look (given mid) var ≡ None → value ≡ map_of state var
+    → given new ≡ insert_entry nat_eq (given mid) var value → (¬ HasEnded new) → TurnsBegun stated state plan old (reply.Read var value) new
+needs_turn stated state plan held had is also old mid new var value same right lacks now joined going =
+    let one : had ≡ plan = cc in (
+      λ m means. subst (λ rs. IsOutcome m plan rs (outcome.Need var)) same (subst (λ (p : Tx). IsOutcome m p (given mid) (outcome.Need var)) one (right m means)),
+      ap (λ (rs : List (ℕ × ℤ)). look rs var) (sym same) ∙ lacks,
+      now,
+      joined ∙ ap (λ (rs : List (ℕ × ℤ)). insert_entry nat_eq rs var value) same,
+      going,
+    )
 
 module _ (program : Program) (m : WorldModel) (k : ℕ) (old new : Slot) (state : State) (now : state ≡ present program m) (stated : StepMeanings → Type 0) (means : stated program.steps) where
   -- the answer to a turn, and the attempt that the slot holds then

@@ -32,12 +32,12 @@ IsForStore vars names a = IsForVariables vars a × IsForNames names a
 
 -- The plan is for so many variables, for steps that take so many arguments, and for invariants of these names. Whatever the
 -- steps are stated to mean, the cursor stands in the plan's evaluation, and once it has ended, so is its attempt.
-pub record FitsPlan (vars : ℕ) (arities : List ℕ) (stated : StepMeanings → Type 0) (names : List (List ℕ)) (plan : Tx) (cursor : Cursor) : Type 0 where
+pub record FitsPlan (vars : ℕ) (arities : List ℕ) (stated : StepMeanings → Type 0) (known : List (List ℕ)) (plan : Tx) (cursor : Cursor) : Type 0 where
   pub variables : FitsVariables vars plan
   pub steps : FitsSteps arities plan
-  pub names : FitsNames names plan
+  pub names : FitsNames known plan
   pub at : (m : StepMeanings) → stated m → IsAt m plan cursor
-  pub ended : HasEnded cursor → IsForStore vars names (attempt_of cursor)
+  pub ended : HasEnded cursor → IsForStore vars known (attempt_of cursor)
 
 abbrev pub FitsOption : ℕ → List ℕ → (StepMeanings → Type 0) → List (List ℕ) → Option Tx → Cursor → Type 0
 FitsOption vars arities stated names None cursor = ⊤

@@ -1,10 +1,11 @@
 // One of the places where a world keeps an attempt.
-ghost use Rattle.std.specs.Prelude.{◌≡◌, ◌↔◌, Some, None, [], length, IsTrue, OnOk, IfErr};
+ghost use Rattle.std.specs.Prelude.{◌≡◌, ◌↔◌, ℕ, Some, None, [], length, IsTrue, OnOk, IfErr};
 ghost use Rattle.tmem_tree.specs.declared.tx.Tx.{Tx};
 ghost use Rattle.tmem_tree.specs.StepAnswers.{StepMeanings};
 ghost use Rattle.tmem_core.specs.Held.{state_of, table_of};
 ghost use Rattle.tmem_tentative.specs.Cursors.{IsAt, HasEnded, IsAsBefore, given};
 ghost use Rattle.tmem_world.specs.Slots.{HoldsEnded, FitsSlot, TurnsBegun};
+ghost use Rattle.tmem_world.specs.Replies.{failures_by};
 
 use std::alloc::Global;
 use tmem_core::Core;
@@ -55,6 +56,7 @@ impl Slot {
         ensures begun { (plan : Tx) → self.old.plan ≡ Some plan → ¬ HasEnded self.old.cursor
             → TurnsBegun (S.is_stated steps.now) (state_of core.now) plan self.old.cursor result self.new.cursor }
         ensures plan { self.new.plan ≡ self.old.plan }
+        ensures failures { (n : ℕ) → failures_by result n ≡ n }
         ensures fits { FitsSlot (length (state_of core.now).values) (S.arities steps.now) (S.is_stated steps.now) (T.names (table_of core.now)) self.new }
     {
         let Some(plan) = &self.plan else {

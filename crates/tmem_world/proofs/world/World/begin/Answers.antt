@@ -2,16 +2,15 @@ use Rattle.std.proofs.Common.{◌≡◌, ◌<◌, length, rules, refl, [], List,
 use Rattle.std.specs.Prelude.{Some}
 use Rattle.std.proofs.lemmas.List.Elements.{All-set}
 use Rattle.tmem_disk.specs.declared.fault.Fault.{Fault}
-use Rattle.tmem_disk.specs.declared.fault.Fault.TheVariants.{Memory}
 use Rattle.tmem_tree.specs.declared.tx.Tx.{Tx}
-use Rattle.tmem_tree.specs.Plans.{BreaksNone, IsLeastBroken, FitsNames}
+use Rattle.tmem_tree.specs.Plans.{BreaksNone, IsLeastBroken, FitsSteps, FitsVariables, FitsNames}
 use Rattle.tmem_tentative.specs.Cursors.{IsAt}
-use Rattle.tmem_world.specs.Slots.{FitsSlot, FitsPlan}
+use Rattle.tmem_world.specs.Slots.{FitsSlot}
 use Rattle.tmem_world.specs.WorldModel.{holding, slot_at, Begun, IsPlanFault}
 use Rattle.tmem_world.specs.Represents.{held_of, setting_of}
 use Rattle.tmem_world.proofs.Points.{in_session, with_slot, same_point, slot_holds, same_attempt}
 use Rattle.tmem_world.proofs.HeldTables.{known_names}
-use Rattle.tmem_world.proofs.HeldSlots.{with_plan_fits, fits_again, held_again}
+use Rattle.tmem_world.proofs.HeldSlots.{begun_fits, held_again}
 use Rattle.tmem_world.proofs.world.World.begin.Goals as goal
 
 pub returns-in-Ok-begin-clause-step : goal.returns-in-Ok-begin-clause-step
@@ -53,3 +52,23 @@ returns-in-Err-clause-step g c = λ program means m r keeps.
       in_session program (held_of w) m _ _ _ r.session (search rules) (rw least.1 so, refl),
       same_point _ _ refl program m r refl refl,
     )
+
+pub invariant_of-self-2 : goal.invariant_of-self-2
+invariant_of-self-2 g c =
+    let w = c.args.self.now in
+    let arities = g.S.StoredSteps.arities w.steps in
+    let stated = g.S.StoredSteps.is_stated w.steps in
+    let so = c.in-Ok.ensures in
+    let is = so.plan in
+    let now = c.begin.ensures in
+    let named = subst (λ (ns : List (List ℕ)). FitsNames ns c.args.tx) c.deref.ensures.value so.names in
+    let held : FitsSlot w.layout.vars arities stated w.names.items c.index_mut.result.now = subst (FitsSlot w.layout.vars arities stated w.names.items) (sym c.index_mut.ensures.value) (w.fit c.args.slot c.index_mut.result.now (omega (arith, w.sized))) in
+    let fits = begun_fits w.layout.vars arities stated w.names.items c.in-Ok.plan c.index_mut.result.now c.begin.new.self c.begin.result (subst (FitsVariables w.layout.vars) (sym is) so.variables) (subst (FitsSteps arities) (sym is) so.steps) (subst (FitsNames w.names.items) (sym is) named) now.plan now.at now.going now.same held in
+    record {
+      sized = length-set w.slots.items c.args.slot c.begin.new.self ∙ w.sized;
+      here = w.here;
+      same_vars = w.same_vars;
+      same_slots = w.same_slots;
+      named = w.named;
+      fit = All-set (FitsSlot w.layout.vars arities stated w.names.items) w.slots.items c.args.slot c.begin.new.self fits w.fit;
+    }

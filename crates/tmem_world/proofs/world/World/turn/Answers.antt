@@ -14,21 +14,28 @@ use Rattle.tmem_world.proofs.world.World.turn.Goals as goal
 pub turn-requires : goal.turn-requires
 turn-requires g c =
     let w = c.args.self.now in
-    let o = c.in-Some-With.session.now in
+    let o = c.in-Some-With.session in
     let before : held_of w ≡ With o = held_is w.held w.here (With o) (c.in-Some-With.is ∙ ap Some c.in-Some-With.field-0-is) in
     fits_session w o before c.index_mut.result.now (subst (FitsSlot w.layout.vars (g.S.StoredSteps.arities w.steps) (g.S.StoredSteps.is_stated w.steps) w.names.items) (sym c.index_mut.ensures.value) (w.fit c.args.slot c.index_mut.result.now (omega (arith, w.sized))))
 
-pub invariant_of-self-clause-fit : goal.invariant_of-self-clause-fit
-invariant_of-self-clause-fit g c =
+pub invariant_of-self : goal.invariant_of-self
+invariant_of-self g c =
     let w = c.args.self.now in
-    let o = c.in-Some-With.session.now in
+    let o = c.in-Some-With.session in
     let before : held_of w ≡ With o = held_is w.held w.here (With o) (c.in-Some-With.is ∙ ap Some c.in-Some-With.field-0-is) in
-    All-set (FitsSlot w.layout.vars (g.S.StoredSteps.arities w.steps) (g.S.StoredSteps.is_stated w.steps) w.names.items) w.slots.items c.args.slot c.turn.new.self (fits_world w o before c.turn.new.self c.turn.ensures.fits) w.fit
+    record {
+      sized = length-set w.slots.items c.args.slot c.turn.new.self ∙ w.sized;
+      here = w.here;
+      same_vars = w.same_vars;
+      same_slots = w.same_slots;
+      named = w.named;
+      fit = All-set (FitsSlot w.layout.vars (g.S.StoredSteps.arities w.steps) (g.S.StoredSteps.is_stated w.steps) w.names.items) w.slots.items c.args.slot c.turn.new.self (fits_world w o before c.turn.new.self c.turn.ensures.fits) w.fit;
+    }
 
 pub returns-in-Some-With-clause-step : goal.returns-in-Some-With-clause-step
 returns-in-Some-With-clause-step g c = λ program stated m r keeps.
     let w = c.args.self.now in
-    let o = c.in-Some-With.session.now in
+    let o = c.in-Some-With.session in
     let before : held_of w ≡ With o = held_is w.held w.here (With o) (c.in-Some-With.is ∙ ap Some c.in-Some-With.field-0-is) in
     let below : c.args.slot < length w.slots.items = omega (arith, w.sized) in
     let old = c.index_mut.result.now in
