@@ -1,4 +1,4 @@
-use Rattle.std.proofs.Common.{◌≡◌, ◌<◌, length, refl, sym, ◌∙◌, ap, subst, arith, length-set}
+use Rattle.std.proofs.Common.{◌≡◌, ◌<◌, length, refl, sym, ◌∙◌, ap, subst, arith, rules, length-set}
 use Rattle.std.specs.Prelude.{Some}
 use Rattle.std.proofs.lemmas.List.Elements.{All-set}
 use Rattle.tmem_core.specs.Held.{state_of}
@@ -15,14 +15,14 @@ pub turn-requires : goal.turn-requires
 turn-requires g c =
     let w = c.args.self.now in
     let o = c.in-Some-With.session in
-    let before : held_of w ≡ With o = held_is w.held w.here (With o) (c.in-Some-With.is ∙ ap Some c.in-Some-With.field-0-is) in
+    let before : held_of w ≡ With o = held_is w.held w.here (With o) (search rules) in
     fits_session w o before c.index_mut.result.now (subst (FitsSlot w.layout.vars (g.S.StoredSteps.arities w.steps) (g.S.StoredSteps.is_stated w.steps) w.names.items) (sym c.index_mut.ensures.value) (w.fit c.args.slot c.index_mut.result.now (omega (arith, w.sized))))
 
 pub invariant_of-self : goal.invariant_of-self
 invariant_of-self g c =
     let w = c.args.self.now in
     let o = c.in-Some-With.session in
-    let before : held_of w ≡ With o = held_is w.held w.here (With o) (c.in-Some-With.is ∙ ap Some c.in-Some-With.field-0-is) in
+    let before : held_of w ≡ With o = held_is w.held w.here (With o) (search rules) in
     record {
       sized = length-set w.slots.items c.args.slot c.turn.new.self ∙ w.sized;
       here = w.here;
@@ -36,7 +36,7 @@ pub returns-in-Some-With-clause-step : goal.returns-in-Some-With-clause-step
 returns-in-Some-With-clause-step g c = λ program stated m r keeps.
     let w = c.args.self.now in
     let o = c.in-Some-With.session in
-    let before : held_of w ≡ With o = held_is w.held w.here (With o) (c.in-Some-With.is ∙ ap Some c.in-Some-With.field-0-is) in
+    let before : held_of w ≡ With o = held_is w.held w.here (With o) (search rules) in
     let below : c.args.slot < length w.slots.items = omega (arith, w.sized) in
     let old = c.index_mut.result.now in
     let new = c.turn.new.self in
