@@ -4,7 +4,6 @@ use Rattle.std.specs.Prelude.{nat_eq, All, true, ◌<◌}
 use Rattle.std.specs.Map.{keys_of}
 use Rattle.indexmap.specs.IndexMap.{insert_entry}
 use Rattle.tmem_record.specs.Names.{has_name}
-use Rattle.tmem_record.specs.declared.effect.Effect.{Effect}
 use Rattle.tmem_tree.specs.declared.tx.Tx.{Tx}
 use Rattle.tmem_tree.specs.StepAnswers.{StepMeanings}
 use Rattle.tmem_tentative.specs.declared.attempt.Attempt.{Attempt}
@@ -42,7 +41,7 @@ module _ (old new : Cursor) (same : IsAsBefore old new) where
         again (λ p seen. MayGoOn plan p × (eval m seen plan start_state ≡ Needs var) × ((n : ℤ) → StandsAt m plan p seen (insert_entry nat_eq seen var n))) at
     stays_at_stage Ended at = (
       subst (λ e. eval m (given new) plan start_state ≡ ended_as e (record { registers = new.attempt.registers; effect = new.attempt.effect; seen = given new })) (sym same.ending)
-      (again (λ p seen. eval m seen plan start_state ≡ ended_as old.attempt.ending (record { registers = p.registers; effect = p.effect; seen = seen })) at.0),
+          (again (λ p seen. eval m seen plan start_state ≡ ended_as old.attempt.ending (record { registers = p.registers; effect = p.effect; seen = seen })) at.0),
       subst (λ e. IsBlankUnlessNormal e new.attempt) (sym same.ending) (blank_again old.attempt.ending old.attempt new.attempt same_registers same_effect at.1),
     )
 

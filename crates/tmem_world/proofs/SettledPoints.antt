@@ -27,7 +27,7 @@ use Rattle.tmem_world.specs.declared.slot.Slot.{Slot}
 use Rattle.tmem_world.specs.declared.session.Session as core
 use Rattle.tmem_world.specs.declared.held.Held.TheVariants.{With}
 use Rattle.tmem_world.specs.declared.world.World.{World}
-use Rattle.tmem_world.specs.Slots as empty
+use Rattle.tmem_world.specs.Slots as slot
 use Rattle.tmem_world.specs.SettleSlot.{CoreMeans, Settles, SettlesEnded}
 use Rattle.tmem_world.specs.Replies.{reply_of}
 use Rattle.tmem_world.specs.WorldModel.{WorldModel, SlotModel, NoTransaction, Begun, Ended, is_closed, settle_result, settled_by, present, cut, holding}
@@ -136,7 +136,7 @@ module _ (program : Program) where
     slots_empty s' none slots =
         subst (λ (l : List Slot). AllZip (SlotIs program) l (slice_set m.slots k NoTransaction)) (sym slots) (AllZip-set (SlotIs program) w.slots.items m.slots k s' NoTransaction r.slots none)
 
-    is_emptied : (s s' : Slot) → s' ≡ empty.emptied s → s'.plan ≡ None
+    is_emptied : (s s' : Slot) → s' ≡ slot.emptied s → s'.plan ≡ None
     is_emptied s s' is = ap (λ (x : Slot). x.plan) is
 
     -- nothing changed that the run tells

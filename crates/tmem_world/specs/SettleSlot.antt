@@ -52,6 +52,7 @@ pub record SettlesEnded {D T : Type 0} {d t : _} (old : Session D T d t) (s : Sl
   pub table : table_of new.core ≡ table_of old.core
   pub slot : after ≡ slot_after answer s
 
+-- an attempt that has ended is settled, and nothing else is
 abbrev pub Settles : {D T : Type 0} {d t : _} → Session D T d t → Slot → Reply → Session D T d t → Slot → Type 0
 Settles old s r new after =
     ((¬ HoldsEnded s) × SettlesNothing old s r new after)

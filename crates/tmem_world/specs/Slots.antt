@@ -18,11 +18,11 @@ use Rattle.tmem_event.specs.declared.event.Reply.{Reply}
 use Rattle.tmem_event.specs.declared.event.Reply.TheVariants as reply
 use Rattle.tmem_world.specs.declared.slot.Slot.{Slot}
 
--- an attempt that has ended
+-- it holds an attempt that has ended
 abbrev pub HoldsEnded : Slot → Type 0
 HoldsEnded s = IsSome s.plan × HasEnded s.cursor
 
--- it holds nothing, and has the same memory
+-- the slot without its plan, and with the same memory
 abbrev pub emptied : Slot → Slot
 emptied s = record s { plan = None }
 
