@@ -1,24 +1,13 @@
 -- How a world goes from one point of a run to the next.
-use Rattle.std.proofs.Common.{◌≡◌, ◌⊎◌, ⊎_elim, inl, inr, ℕ, ℤ, zero, suc, ◌<◌, Bool, true, false, List, [], ◌∷◌, ◌++◌, length, get_or, refl, sym, ◌∙◌, ap, subst, arith, Option, Some, None}
-use Rattle.std.specs.Prelude.{slice_set, IsSome, nat_eq}
+use Rattle.std.proofs.Common.{◌≡◌, ◌⊎◌, ⊎_elim, inl, inr, ℕ, zero, suc, ◌<◌, Bool, true, false, List, [], ◌∷◌, length, get_or, refl, sym, ◌∙◌, ap, subst, arith, Option, Some, None}
+use Rattle.std.specs.Prelude.{slice_set, IsSome}
 use Rattle.std.proofs.Math.Logic.{∥∥₁_map}
 use Rattle.std.proofs.lemmas.List.{set-get_or}
-use Rattle.indexmap.proofs.CallerLemmas.{insert_entry-new}
 use Rattle.std.specs.List.{AllZip}
-use Rattle.std.proofs.Common.{HashMap, BuildHasherDefault, FoldHasher}
 use Rattle.tmem_disk.specs.Disk.{IsDevice, LeavesOnly, AtEachMoment}
-use Rattle.tmem_tree.specs.declared.tx.Tx.{Tx}
 use Rattle.tmem_core.specs.Program.{Program}
-use Rattle.tmem_tree.specs.Visited.{visited}
-use Rattle.tmem_record.specs.Writes.{look}
-use Rattle.tmem_tentative.specs.Right.{IsRight, IsOutcome, Agrees, first_lacking}
-use Rattle.tmem_tentative.specs.declared.attempt.Outcome.TheVariants as outcome
 use Rattle.tmem_core.specs.Held.{is_shut_of}
-use Rattle.tmem_core.specs.Verdict.{map_of}
 use Rattle.tmem_event.specs.declared.event.Reply.{Reply}
-use Rattle.tmem_event.specs.declared.event.Reply.TheVariants as reply
-use Rattle.tmem_disk.specs.declared.fault.Fault.TheVariants as fault
-use Rattle.tmem_tentative.specs.declared.attempt.Attempt as attempt
 use Rattle.tmem_world.specs.declared.slot.Slot.{Slot}
 use Rattle.tmem_world.specs.declared.session.Session as core
 use Rattle.tmem_world.specs.declared.held.Held.{Held}
@@ -31,8 +20,7 @@ use Rattle.tmem_journal.specs.Mended.{MendedBy}
 use Rattle.tmem_journal.specs.Stands.{StandsForState, StandsForEither}
 use Rattle.tmem_record.specs.declared.layout.Layout.{Layout}
 use Rattle.tmem_world.specs.declared.world.World.{World}
-use Rattle.tmem_world.specs.WorldModel.{WorldModel, SlotModel, NoTransaction, Begun, Ended, SessionStatus, InSession, AllowsTurn, value_or, overridden, goes_on, present, cut, holding, slot_at}
-
+use Rattle.tmem_world.specs.WorldModel.{WorldModel, SlotModel, NoTransaction, SessionStatus, InSession, cut, holding, slot_at}
 use Rattle.tmem_world.proofs.Mending.{mended_stands}
 use Rattle.tmem_world.specs.Represents.{SlotIs, SessionIs, HasSession, IsNumbered, Represents, EachMoment, StandsCut, session_of, held_of, device_of, view_of, held_table}
 

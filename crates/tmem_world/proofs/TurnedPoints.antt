@@ -10,7 +10,7 @@ use Rattle.tmem_tree.specs.declared.tx.Tx.{Tx}
 use Rattle.tmem_tree.specs.StepAnswers.{StepMeanings}
 use Rattle.tmem_tree.specs.Visited.{visited}
 use Rattle.tmem_tentative.specs.Cursors.{IsAt, HasEnded, given, attempt_of}
-use Rattle.tmem_tentative.specs.Right.{IsOutcome, Agrees, first_lacking, valued}
+use Rattle.tmem_tentative.specs.Right.{IsOutcome, Agrees, valued}
 use Rattle.tmem_tentative.specs.declared.attempt.Outcome.TheVariants as outcome
 use Rattle.tmem_tentative.specs.declared.cursor.Cursor.{Cursor}
 use Rattle.tmem_core.specs.Program.{Program}
@@ -20,7 +20,7 @@ use Rattle.tmem_event.specs.declared.event.Reply.TheVariants as reply
 use Rattle.tmem_world.specs.declared.slot.Slot.{Slot}
 use Rattle.tmem_world.specs.Slots.{HoldsEnded, TurnsBegun}
 use Rattle.tmem_world.specs.WorldModel.{WorldModel, SlotModel, NoTransaction, Begun, Ended, AllowsTurn, value_or, overridden, goes_on, present, holding, slot_at}
-use Rattle.tmem_world.specs.Represents.{Evaluates, SlotIs}
+use Rattle.tmem_world.specs.Represents.{SlotIs}
 use Rattle.tmem_world.proofs.Points.{same_attempt}
 
 -- the map overridden by reads agrees with them

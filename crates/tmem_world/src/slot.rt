@@ -49,7 +49,11 @@ impl Slot {
 
     /// Goes on with the plan's evaluation as far as the values allow that it has read. Where it needs one more, it reads the
     /// present value.
-    pub(crate) fn turn<S: StoredSteps, T: Invariants + Drop>(&mut self, steps: &S, core: &Core<T>) -> Reply
+    pub(crate) fn turn<S: StoredSteps, T: Invariants + Drop>(
+        &mut self,
+        steps: &S,
+        core: &Core<T>,
+    ) -> Reply
         requires { FitsSlot (length (state_of core.now).values) (S.arities steps.now) (S.is_stated steps.now) (T.names (table_of core.now)) self.old }
         ensures idle { self.old.plan ≡ None → (result ≡ Reply.Idle) × (self.new ≡ self.old) }
         ensures ended { HoldsEnded self.old → (result ≡ Reply.Ended) × (self.new ≡ self.old) }

@@ -1,4 +1,4 @@
-use Rattle.std.proofs.Common.{List, sym, subst}
+use Rattle.std.proofs.Common.{sym, subst}
 use Rattle.tmem_journal.specs.Calls.{FitsOn}
 use Rattle.tmem_world.specs.Chain.{IsSafe}
 use Rattle.tmem_world.proofs.Laws.{grows}

@@ -1,4 +1,4 @@
-use Rattle.std.proofs.Common.{◌≡◌, None, subst, sym, ◌∙◌, ap, arith, length-append, length}
+use Rattle.std.proofs.Common.{◌≡◌, None, subst, sym, arith, length-append}
 use Rattle.std.specs.Prelude.{All}
 use Rattle.std.proofs.lemmas.List.Elements.{All-push}
 use Rattle.tmem_world.specs.declared.slot.Slot.{Slot}

@@ -1,4 +1,4 @@
-use Rattle.std.proofs.Common.{◌≡◌, ◌∙◌, sym, refl, length, rules, FitsSigned, to_z, of_z, w64, pos}
+use Rattle.std.proofs.Common.{◌∙◌, sym, length, rules, FitsSigned, to_z, of_z, w64, pos}
 use Rattle.std.proofs.lemmas.Int.{to_z-of_z}
 use Rattle.std.proofs.lemmas.Option.{get_or_from_slice_get}
 use Rattle.tmem_core.specs.Held.{state_of, table_of}

@@ -1,4 +1,4 @@
-use Rattle.std.proofs.Common.{◌≡◌, ◌<◌, length, rules, refl, [], List, ℕ, sym, ◌∙◌, ap, subst, length-set, arith}
+use Rattle.std.proofs.Common.{◌<◌, length, rules, refl, [], List, ℕ, sym, ◌∙◌, ap, subst, length-set, arith}
 use Rattle.std.specs.Prelude.{Some}
 use Rattle.std.proofs.lemmas.List.Elements.{All-set}
 use Rattle.tmem_disk.specs.declared.fault.Fault.{Fault}
@@ -20,8 +20,7 @@ returns-in-Ok-begin-clause-step g c = λ program means m r keeps.
     let fine = subst (λ (ns : List (List ℕ)). BreaksNone (g.S.StoredSteps.arities w.steps) w.layout.vars ns c.args.tx) (c.deref.ensures.value ∙ sym names) c.in-Ok.ensures.fine in
     let new = c.begin.new.self in
     let so = c.in-Ok-begin.ensures in
-    let is = c.in-Ok.ensures.plan in
-    (
+    let is = c.in-Ok.ensures.plan in (
       holding m c.args.slot (Begun c.args.tx []),
       in_session program (held_of w) m _ _ _ r.session (search rules) (fine, refl),
       with_slot program w _ m c.args.slot new (Begun c.args.tx []) r (record { plan = so.plan ∙ ap Some is; at = subst (λ (p : Tx). IsAt program.steps p new.cursor) is (so.at program.steps); given = so.given }, so.going) refl refl refl,
@@ -35,8 +34,7 @@ returns-in-Err-begin-clause-step g c = λ program means m r keeps.
     let new = c.begin.new.self in
     let holds = slot_holds program _ m c.args.slot old r below c.index_mut.ensures.value in
     let so = c.in-Err-begin.ensures.same in
-    let may : IsPlanFault (setting_of w program) c.args.tx c.in-Err-begin.fault = subst (λ (f : Fault). IsPlanFault (setting_of w program) c.args.tx f) (sym so.0) tt in
-    (
+    let may : IsPlanFault (setting_of w program) c.args.tx c.in-Err-begin.fault = subst (λ (f : Fault). IsPlanFault (setting_of w program) c.args.tx f) (sym so.0) tt in (
       holding m c.args.slot (slot_at m c.args.slot),
       in_session program (held_of w) m _ _ _ r.session (search rules) (may, same_attempt m c.args.slot),
       with_slot program w _ m c.args.slot new (slot_at m c.args.slot) r (held_again program (slot_at m c.args.slot) old new so.1 so.2 holds) refl refl refl,

@@ -1,5 +1,4 @@
-use Rattle.std.proofs.Common.{◌≡◌, ◌<◌, length, refl, sym, ◌∙◌, ap, subst, arith, rules, length-set}
-use Rattle.std.specs.Prelude.{Some}
+use Rattle.std.proofs.Common.{◌≡◌, ◌<◌, length, refl, sym, ◌∙◌, subst, arith, rules, length-set}
 use Rattle.std.proofs.lemmas.List.Elements.{All-set}
 use Rattle.tmem_core.specs.Held.{state_of}
 use Rattle.tmem_world.specs.declared.held.Held.TheVariants.{With}
