@@ -1,4 +1,4 @@
-pub mod CursorLaws
+mod CursorKept
 mod CursorStands
 mod EvalNames
 mod EvalRuns

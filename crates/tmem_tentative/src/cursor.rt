@@ -89,6 +89,7 @@ impl Cursor {
         ensures given { IfOk result (λ _. given self.new ≡ []) }
         ensures going { IfOk result (λ _. ¬ HasEnded self.new) }
         ensures same { IfErr result (λ _. IsAsBefore self.old self.new) }
+        ensures stays { (m : StepMeanings) (held : Tx) → IsAt m held self.old → IfErr result (λ _. IsAt m held self.new) }
         ensures fault { IfErr result (λ fault. fault ≡ Fault.Memory) }
     {
         make_room(&mut self.saves, plan)?;

@@ -1,16 +1,19 @@
 -- What a slot and a session keep.
 use Rattle.std.proofs.Common.{◌≡◌, ⊎_elim, ℕ, List, length, sym, ◌∙◌, ap, subst, Option, Some, None}
 use Rattle.std.proofs.lemmas.Bool.{false≢true}
-use Rattle.std.specs.Prelude.{IsSome, Result, Ok, Err, OnOk, IfErr}
+use Rattle.std.specs.Prelude.{ℤ, ◌<◌, true, All, IsSome, Result, Ok, Err, OnOk, IfErr}
+use Rattle.std.specs.Map.{keys_of}
 use Rattle.tmem_disk.specs.declared.fault.Fault.{Fault}
+use Rattle.tmem_record.specs.Names.{has_name}
+use Rattle.tmem_record.specs.declared.effect.Effect.{Effect}
 use Rattle.tmem_disk.specs.declared.fault.Fault.TheVariants.{Memory}
 use Rattle.tmem_tree.specs.Plans.{FitsSteps, FitsVariables, FitsNames}
 use Rattle.tmem_tree.specs.declared.tx.Tx.{Tx}
 use Rattle.tmem_tree.specs.declared.settled.Settled.{Settled}
 use Rattle.tmem_tree.specs.StepAnswers.{StepMeanings}
-use Rattle.tmem_tentative.specs.Cursors.{IsAt, IsAsBefore, HasEnded, attempt_of}
+use Rattle.tmem_tentative.specs.Cursors.{IsAt, IsAsBefore, HasEnded, given, place, attempt_of}
+use Rattle.tmem_tentative.specs.Places.{Place}
 use Rattle.tmem_tentative.specs.declared.cursor.Cursor.{Cursor}
-use Rattle.tmem_tentative.proofs.CursorLaws.{stays_at, stays_going, stays_ended, still_ended, still_for_variables, still_for_names}
 use Rattle.tmem_core.specs.Held.{state_of, table_of}
 use Rattle.tmem_core.specs.Program.{Program}
 use Rattle.tmem_event.specs.declared.event.Reply.{Reply}
@@ -24,6 +27,10 @@ use Rattle.tmem_world.specs.declared.world.World.{World}
 use Rattle.tmem_world.specs.Parts.{layout_in, table_in}
 use Rattle.tmem_world.specs.WorldModel.{SlotModel, NoTransaction, Begun, Ended}
 use Rattle.tmem_world.specs.Represents.{SlotIs, held_of}
+
+-- it stands in each evaluation that it stood in
+abbrev Stays : Cursor → Cursor → Type 0
+Stays old new = (m : StepMeanings) (plan : Tx) → IsAt m plan old → IsAt m plan new
 
 module _ (vars : ℕ) (arities : List ℕ) (stated : StepMeanings → Type 0) (names : List (List ℕ)) where
   ended_in : (o : Option Tx) (cursor : Cursor) → FitsOption vars arities stated names o cursor → IsSome o → HasEnded cursor → IsForStore vars names (attempt_of cursor)
@@ -46,28 +53,35 @@ module _ (vars : ℕ) (arities : List ℕ) (stated : StepMeanings → Type 0) (n
   pub empty_fits : (s : Slot) → s.plan ≡ None → FitsSlot vars arities stated names s
   empty_fits s none = subst (λ (o : Option Tx). FitsOption vars arities stated names o s.cursor) (sym none) tt
 
-  option_fits_again : (o : Option Tx) (old new : Cursor) → IsAsBefore old new → FitsOption vars arities stated names o old → FitsOption vars arities stated names o new
-  option_fits_again None old new same fits = tt
-  option_fits_again (Some plan) old new same fits = record {
+  -- an attempt is for the same variables and names where its cursor is as it was
+  attempt_again : (old new : Cursor) → IsAsBefore old new → IsForStore vars names (attempt_of old) → IsForStore vars names (attempt_of new)
+  attempt_again old new same fits =
+      let P : List (ℕ × ℤ) → Effect → Type 0 = λ seen e. (All (λ var. var < vars) (keys_of seen) × All (λ var. var < vars) (keys_of e.writes)) × All (λ name. has_name names name ≡ true) e.names in
+      subst (λ seen. P seen (place new).effect) (sym same.given) (subst (λ (p : Place). P (given old) p.effect) (sym same.place) fits)
+
+  option_fits_again : (o : Option Tx) (old new : Cursor) → IsAsBefore old new → Stays old new → FitsOption vars arities stated names o old → FitsOption vars arities stated names o new
+  option_fits_again None old new same stays fits = tt
+  option_fits_again (Some plan) old new same stays fits = record {
     variables = fits.variables;
     steps = fits.steps;
     names = fits.names;
-    at = λ m is. stays_at old new same m plan (fits.at m is);
-    ended = λ ended. let was = fits.ended (stays_ended old new same ended) in (still_for_variables old new same vars was.0, still_for_names old new same names was.1);
+    at = λ m is. stays m plan (fits.at m is);
+    ended = λ ended. attempt_again old new same (fits.ended (sym same.stage ∙ ended));
   }
 
   -- a slot that holds what it held
-  pub fits_again : (old new : Slot) → new.plan ≡ old.plan → IsAsBefore old.cursor new.cursor → FitsSlot vars arities stated names old → FitsSlot vars arities stated names new
-  fits_again old new plan same fits = subst (λ (o : Option Tx). FitsOption vars arities stated names o new.cursor) (sym plan) (option_fits_again old.plan old.cursor new.cursor same fits)
+  fits_again : (old new : Slot) → new.plan ≡ old.plan → IsAsBefore old.cursor new.cursor → Stays old.cursor new.cursor → FitsSlot vars arities stated names old → FitsSlot vars arities stated names new
+  fits_again old new plan same stays fits = subst (λ (o : Option Tx). FitsOption vars arities stated names o new.cursor) (sym plan) (option_fits_again old.plan old.cursor new.cursor same stays fits)
 
   -- a slot where a plan was to begin
   pub begun_fits : (plan : Tx) (old new : Slot) (answer : Result (Unit {0}) Fault) → FitsVariables vars plan → FitsSteps arities plan → FitsNames names plan
       → OnOk answer (new.plan ≡ Some plan) → OnOk answer ((m : StepMeanings) → IsAt m plan new.cursor) → OnOk answer (¬ HasEnded new.cursor)
       → IfErr answer (λ (f : Fault). (f ≡ Memory) × (new.plan ≡ old.plan) × IsAsBefore old.cursor new.cursor)
+      → ((m : StepMeanings) (kept : Tx) → IsAt m kept old.cursor → IfErr answer (λ _. IsAt m kept new.cursor))
       → FitsSlot vars arities stated names old → FitsSlot vars arities stated names new
-  begun_fits plan old new (Ok done) variables steps known held at going same fits =
+  begun_fits plan old new (Ok done) variables steps known held at going same stays fits =
       with_plan_fits new plan held (record { variables = variables; steps = steps; names = known; at = λ m is. at m; ended = λ ended. absurd (going ended) })
-  begun_fits plan old new (Err f) variables steps known held at going same fits = fits_again old new same.1 same.2 fits
+  begun_fits plan old new (Err f) variables steps known held at going same stays fits = fits_again old new same.1 same.2 stays fits
 
   module _ {D T : Type 0} {d t : _} (o o' : core.Session D T d t) where
     -- a slot that was settled
@@ -108,13 +122,13 @@ module _ {D T S : Type 0} {d t s : _} (w : World D T S d t s) (o : core.Session 
       (subst (λ (names : List (List ℕ)). FitsSlot (length (state_of o.core).values) (s.arities w.steps) (s.is_stated w.steps) names x) names_here fits)
 
 -- a slot whose plan was not begun for want of memory holds the attempt that it held
-pub held_again : (program : Program) (a : SlotModel) (old new : Slot) → new.plan ≡ old.plan → IsAsBefore old.cursor new.cursor → SlotIs program old a → SlotIs program new a
-held_again program NoTransaction old new plan same holds = plan ∙ holds
-held_again program (Begun tx values) old new plan same holds = (
-  record { plan = plan ∙ holds.0.plan; at = stays_at old.cursor new.cursor same program.steps tx holds.0.at; given = same.given ∙ holds.0.given },
-  stays_going old.cursor new.cursor same holds.1,
+pub held_again : (program : Program) (a : SlotModel) (old new : Slot) → new.plan ≡ old.plan → IsAsBefore old.cursor new.cursor → Stays old.cursor new.cursor → SlotIs program old a → SlotIs program new a
+held_again program NoTransaction old new plan same stays holds = plan ∙ holds
+held_again program (Begun tx values) old new plan same stays holds = (
+  record { plan = plan ∙ holds.0.plan; at = stays program.steps tx holds.0.at; given = same.given ∙ holds.0.given },
+  λ ended. holds.1 (sym same.stage ∙ ended),
 )
-held_again program (Ended tx values) old new plan same holds = (
-  record { plan = plan ∙ holds.0.plan; at = stays_at old.cursor new.cursor same program.steps tx holds.0.at; given = same.given ∙ holds.0.given },
-  still_ended old.cursor new.cursor same holds.1,
+held_again program (Ended tx values) old new plan same stays holds = (
+  record { plan = plan ∙ holds.0.plan; at = stays program.steps tx holds.0.at; given = same.given ∙ holds.0.given },
+  same.stage ∙ holds.1,
 )

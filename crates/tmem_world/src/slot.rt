@@ -41,6 +41,7 @@ impl Slot {
         ensures given { OnOk result (given self.new.cursor ≡ []) }
         ensures going { OnOk result (¬ HasEnded self.new.cursor) }
         ensures same { IfErr result (λ fault. (fault ≡ Fault.Memory) × (self.new.plan ≡ self.old.plan) × IsAsBefore self.old.cursor self.new.cursor) }
+        ensures stays { (m : StepMeanings) (held : Tx) → IsAt m held self.old.cursor → IfErr result (λ _. IsAt m held self.new.cursor) }
     {
         self.cursor.restart(&plan)?;
         self.plan = Some(plan);

@@ -33,11 +33,11 @@ returns-in-Err-begin-clause-step g c = λ program means m r keeps.
     let old = c.index_mut.result.now in
     let new = c.begin.new.self in
     let holds = slot_holds program _ m c.args.slot old r below c.index_mut.ensures.value in
-    let so = c.in-Err-begin.ensures.same in
-    let may : IsPlanFault (setting_of w program) c.args.tx c.in-Err-begin.fault = subst (λ (f : Fault). IsPlanFault (setting_of w program) c.args.tx f) (sym so.0) tt in (
+    let so = c.in-Err-begin.ensures in
+    let may : IsPlanFault (setting_of w program) c.args.tx c.in-Err-begin.fault = subst (λ (f : Fault). IsPlanFault (setting_of w program) c.args.tx f) (sym so.same.0) tt in (
       holding m c.args.slot (slot_at m c.args.slot),
       in_session program (held_of w) m _ _ _ r.session (search rules) (may, same_attempt m c.args.slot),
-      with_slot program w _ m c.args.slot new (slot_at m c.args.slot) r (held_again program (slot_at m c.args.slot) old new so.1 so.2 holds) refl refl refl,
+      with_slot program w _ m c.args.slot new (slot_at m c.args.slot) r (held_again program (slot_at m c.args.slot) old new so.same.1 so.same.2 so.stays holds) refl refl refl,
     )
 
 pub returns-in-Err-clause-step : goal.returns-in-Err-clause-step
@@ -61,7 +61,7 @@ invariant_of-self-2 g c =
     let now = c.begin.ensures in
     let named = subst (λ (ns : List (List ℕ)). FitsNames ns c.args.tx) c.deref.ensures.value so.names in
     let held : FitsSlot w.layout.vars arities stated w.names.items c.index_mut.result.now = subst (FitsSlot w.layout.vars arities stated w.names.items) (sym c.index_mut.ensures.value) (w.fit c.args.slot c.index_mut.result.now (omega (arith, w.sized))) in
-    let fits = begun_fits w.layout.vars arities stated w.names.items c.in-Ok.plan c.index_mut.result.now c.begin.new.self c.begin.result (subst (FitsVariables w.layout.vars) (sym is) so.variables) (subst (FitsSteps arities) (sym is) so.steps) (subst (FitsNames w.names.items) (sym is) named) now.plan now.at now.going now.same held in
+    let fits = begun_fits w.layout.vars arities stated w.names.items c.in-Ok.plan c.index_mut.result.now c.begin.new.self c.begin.result (subst (FitsVariables w.layout.vars) (sym is) so.variables) (subst (FitsSteps arities) (sym is) so.steps) (subst (FitsNames w.names.items) (sym is) named) now.plan now.at now.going now.same now.stays held in
     record {
       sized = length-set w.slots.items c.args.slot c.begin.new.self ∙ w.sized;
       here = w.here;

@@ -1,4 +1,4 @@
--- Laws of the definitions that callers rest on: a cursor that is as it was stands where it stood.
+-- A cursor that is as it was stands where it stood.
 use Rattle.std.proofs.Common.{◌≡◌, ℕ, ℤ, List, sym, ap, ◌∙◌, subst}
 use Rattle.std.specs.Prelude.{nat_eq, All, true, ◌<◌}
 use Rattle.std.specs.Map.{keys_of}
@@ -47,20 +47,3 @@ module _ (old new : Cursor) (same : IsAsBefore old new) where
 
     pub stays_at : IsAt m plan old → IsAt m plan new
     stays_at at = subst (λ s. IsAtStage m plan s new) (sym same.stage) (stays_at_stage old.stage at)
-
-  -- it has ended where it had
-  pub stays_ended : HasEnded new → HasEnded old
-  stays_ended ended = sym same.stage ∙ ended
-
-  pub stays_going : (¬ HasEnded old) → ¬ HasEnded new
-  stays_going going = λ ended. going (stays_ended ended)
-
-  pub still_ended : HasEnded old → HasEnded new
-  still_ended ended = same.stage ∙ ended
-
-  -- and its attempt is for the same variables and names
-  pub still_for_variables : (vars : ℕ) → IsForVariables vars (attempt_of old) → IsForVariables vars (attempt_of new)
-  still_for_variables vars is = again (λ p seen. All (λ var. var < vars) (keys_of seen) × All (λ var. var < vars) (keys_of p.effect.writes)) is
-
-  pub still_for_names : (names : List (List ℕ)) → IsForNames names (attempt_of old) → IsForNames names (attempt_of new)
-  still_for_names names is = again (λ p seen. All (λ name. has_name names name ≡ true) p.effect.names) is
