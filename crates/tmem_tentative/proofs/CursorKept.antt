@@ -1,9 +1,7 @@
 -- A cursor that is as it was stands where it stood.
 use Rattle.std.proofs.Common.{◌≡◌, ℕ, ℤ, List, sym, ap, ◌∙◌, subst}
-use Rattle.std.specs.Prelude.{nat_eq, All, true, ◌<◌}
-use Rattle.std.specs.Map.{keys_of}
+use Rattle.std.specs.Prelude.{nat_eq}
 use Rattle.indexmap.specs.IndexMap.{insert_entry}
-use Rattle.tmem_record.specs.Names.{has_name}
 use Rattle.tmem_tree.specs.declared.tx.Tx.{Tx}
 use Rattle.tmem_tree.specs.StepAnswers.{StepMeanings}
 use Rattle.tmem_tentative.specs.declared.attempt.Attempt.{Attempt}
@@ -14,9 +12,9 @@ use Rattle.tmem_tentative.specs.declared.cursor.Stage.{Stage}
 use Rattle.tmem_tentative.specs.declared.cursor.Stage.TheVariants.{Going, Waits, Ended}
 use Rattle.tmem_tentative.specs.Ends.{start_state, ended_as}
 use Rattle.tmem_tentative.specs.Eval.{Needs, eval}
-use Rattle.tmem_tentative.specs.Fits.{IsBlankUnlessNormal, IsForVariables, IsForNames}
+use Rattle.tmem_tentative.specs.Fits.{IsBlankUnlessNormal}
 use Rattle.tmem_tentative.specs.Places.{Place}
-use Rattle.tmem_tentative.specs.Cursors.{IsAt, IsAtStage, IsAsBefore, MayGoOn, StandsAt, HasEnded, given, place, attempt_of}
+use Rattle.tmem_tentative.specs.Cursors.{IsAt, IsAtStage, IsAsBefore, MayGoOn, StandsAt, given, place}
 
 blank_again : (e : Ending) (a b : Attempt) → b.registers ≡ a.registers → b.effect ≡ a.effect → IsBlankUnlessNormal e a → IsBlankUnlessNormal e b
 blank_again Normal a b registers effect blank = tt
