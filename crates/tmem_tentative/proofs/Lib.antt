@@ -1,3 +1,4 @@
+mod CursorKept
 mod CursorStands
 mod EvalNames
 mod EvalRuns

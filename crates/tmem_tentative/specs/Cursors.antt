@@ -3,6 +3,7 @@ use Rattle.std.specs.Prelude.{◌≡◌, ℕ, ℤ, ◌≤◌, List, length, nat_
 use Rattle.indexmap.specs.IndexMap.{insert_entry}
 use Rattle.tmem_tree.specs.declared.tx.Tx.{Tx}
 use Rattle.tmem_tree.specs.StepAnswers.{StepMeanings}
+use Rattle.tmem_tentative.specs.declared.attempt.Attempt.{Attempt}
 use Rattle.tmem_tentative.specs.declared.attempt.Outcome.{Outcome}
 use Rattle.tmem_tentative.specs.declared.attempt.Outcome.TheVariants as outcome
 use Rattle.tmem_tentative.specs.declared.attempt.Progress.{Progress}
@@ -17,6 +18,10 @@ use Rattle.tmem_tentative.specs.Places.{Covers, Place, place_of, eval_from, choi
 -- the values that it was given, in order
 abbrev pub given : Cursor → List (ℕ × ℤ)
 given cursor = cursor.attempt.reads.entries
+
+-- what it has done so far, and once it has ended, its attempt
+abbrev pub attempt_of : Cursor → Attempt
+attempt_of cursor = cursor.attempt
 
 abbrev pub place : Cursor → Place
 place cursor = place_of cursor.attempt cursor.path cursor.saves.items

@@ -52,14 +52,12 @@ impl Cursor {
     ghost use Rattle.tmem_tentative.specs.Fits.{IsFit, IsWithin, IsNamed};
     ghost use Rattle.tmem_tentative.specs.Cursors.{IsAt, NeedsValue, HasEnded, Answered, IsAnswer, IsAsBefore, given, outcome_of};
 
-    /// A cursor at the start of a plan, which was given no value. Its only fault is want of memory.
-    pub fn new(alloc: Global, plan: &Plan) -> Result<Cursor, Fault>
-        ensures at { (m : StepMeanings) → IfOk result (IsAt m plan.now) }
-        ensures given { IfOk result (λ cursor. given cursor ≡ []) }
-        ensures fault { IfErr result (λ fault. fault ≡ Fault.Memory) }
+    /// A cursor in no evaluation, which has no memory: `restart` begins one.
+    pub fn idle(alloc: Global) -> Cursor
+        ensures given { given result ≡ [] }
+        ensures going { ¬ HasEnded result }
     {
-        let saves = room_for(alloc, plan)?;
-        Ok(Cursor {
+        Cursor {
             attempt: Attempt {
                 reads: Reads::new(alloc),
                 ending: Ending::Normal,
@@ -67,9 +65,21 @@ impl Cursor {
                 effect: Effect::new(),
             },
             path: Path::new(),
-            saves,
+            saves: Vec::new(alloc),
             stage: Stage::Going,
-        })
+        }
+    }
+
+    /// A cursor at the start of a plan, which was given no value. Its only fault is want of memory.
+    pub fn new(alloc: Global, plan: &Plan) -> Result<Cursor, Fault>
+        ensures at { (m : StepMeanings) → IfOk result (IsAt m plan.now) }
+        ensures given { IfOk result (λ cursor. given cursor ≡ []) }
+        ensures going { IfOk result (λ cursor. ¬ HasEnded cursor) }
+        ensures fault { IfErr result (λ fault. fault ≡ Fault.Memory) }
+    {
+        let mut cursor = Cursor::idle(alloc);
+        cursor.restart(plan)?;
+        Ok(cursor)
     }
 
     /// Goes to the start of a plan, of the same or of another one, and forgets the values that it was given. It asks for memory
@@ -77,7 +87,9 @@ impl Cursor {
     pub fn restart(&mut self, plan: &Plan) -> Result<(), Fault>
         ensures at { (m : StepMeanings) → IfOk result (λ _. IsAt m plan.now self.new) }
         ensures given { IfOk result (λ _. given self.new ≡ []) }
+        ensures going { IfOk result (λ _. ¬ HasEnded self.new) }
         ensures same { IfErr result (λ _. IsAsBefore self.old self.new) }
+        ensures stays { (m : StepMeanings) (held : Tx) → IsAt m held self.old → IfErr result (λ _. IsAt m held self.new) }
         ensures fault { IfErr result (λ fault. fault ≡ Fault.Memory) }
     {
         make_room(&mut self.saves, plan)?;
@@ -141,6 +153,7 @@ impl Cursor {
         requires { NeedsValue self.old var }
         ensures at { (m : StepMeanings) (plan : Tx) → IsAt m plan self.old → IsAt m plan self.new }
         ensures given { given self.new ≡ insert_entry nat_eq (given self.old) var value }
+        ensures going { ¬ HasEnded self.new }
     {
         let added = self.attempt.reads.insert(var, value);
         let _ = added.unwrap();
@@ -202,16 +215,6 @@ impl Cursor {
         self.stage = Stage::Ended;
         Progress::Ended
     }
-}
-
-// Saves for the choices of a plan.
-fn room_for(alloc: Global, plan: &Plan) -> Result<Vec<Save>, AllocError>
-    ensures enough { IfOk result (λ saves. choices plan.now ≤ length saves.items) }
-    ensures limits { IsWithinLimits plan.now }
-{
-    let mut saves = Vec::new(alloc);
-    make_room(&mut saves, plan)?;
-    Ok(saves)
 }
 
 // Adds saves where there are too few for the choices of a plan. Where memory is refused there are as many as before.

@@ -1,5 +1,5 @@
 -- What replies tell of the device.
-use Rattle.std.proofs.Common.{◌≡◌, ℕ, inl, inr, refl, ◌∙◌, ap, arith}
+use Rattle.std.proofs.Common.{◌≡◌, ⊎_elim, ℕ, inl, inr, refl, ◌∙◌, ap, arith}
 use Rattle.std.specs.Prelude.{Result, Ok, Err, IfErr}
 use Rattle.tmem_record.proofs.Laws.{count-fold}
 use Rattle.tmem_journal.specs.Held.{disk_of, state_of}
@@ -12,8 +12,7 @@ use Rattle.tmem_core.specs.Held.{durable_of}
 use Rattle.tmem_core.specs.SettleAnswer.{IsRefusal}
 use Rattle.tmem_event.specs.declared.event.Reply.{Reply}
 use Rattle.tmem_event.specs.declared.event.Reply.TheVariants as reply
-use Rattle.tmem_world.specs.declared.session.Slot.{Slot}
-use Rattle.tmem_world.specs.declared.session.Slot.TheVariants as slot
+use Rattle.tmem_world.specs.declared.slot.Slot.{Slot}
 use Rattle.tmem_world.specs.declared.session.Session as core
 use Rattle.tmem_world.specs.Sessions.{Flushes, Checkpoints}
 use Rattle.tmem_world.specs.SettleSlot.{Settles}
@@ -62,6 +61,4 @@ answer_counts n (Err f) is = refusal_counts n f is
 
 -- settling asks nothing of the device
 pub settle_failures : {D T : Type 0} {d t : _} (o o' : core.Session D T d t) (s s' : Slot) (r : Reply) (n : ℕ) → Settles o s r o' s' → failures_by r n ≡ n
-settle_failures o o' slot.Empty s' r n it = ap (λ (x : Reply). failures_by x n) it.0
-settle_failures o o' (slot.Begun plan reads) s' r n it = ap (λ (x : Reply). failures_by x n) it.0
-settle_failures o o' (slot.Ended a) s' r n it = ap (λ (x : Reply). failures_by x n) it.1.reply ∙ answer_counts n it.0 it.1.refused
+settle_failures o o' s s' r n it = ⊎_elim (λ none. ap (λ (x : Reply). failures_by x n) none.1.0) (λ some. ap (λ (x : Reply). failures_by x n) some.1.1.reply ∙ answer_counts n some.1.0 some.1.1.refused) it

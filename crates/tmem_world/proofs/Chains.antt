@@ -24,7 +24,7 @@ use Rattle.tmem_event.specs.declared.event.Reply.{Reply}
 use Rattle.tmem_world.specs.declared.world.World.{World}
 use Rattle.tmem_world.specs.WorldModel.{Setting, WorldModel, Allows, opening}
 use Rattle.tmem_world.specs.Represents.{Represents, IsStep, EachMoment, StandsCut, setting_of, device_of, view_of}
-use Rattle.tmem_world.specs.Chain.{History, IsSafePrefix, IsSafe, IsStore, GoesOn, Carries, no_history, state_at, history_after, history_found, OpensStore, StepsOn, RunsOn, IsSafeWithin, GrowsChain}
+use Rattle.tmem_world.specs.Chain.{History, IsSafePrefix, IsSafe, IsStore, GoesOn, Carries, no_history, state_at, history_after, history_found, OpensStore, StepsOn, RunsOn, IsSafeWithin}
 use Rattle.tmem_world.proofs.Laws.{keeps_durable, rests_on, runs_on-append, runs_on-one, grows, count_at}
 use Rattle.tmem_world.proofs.Mending.{Mending}
 use Rattle.tmem_world.proofs.Points.{still_moments}

@@ -16,7 +16,7 @@ use Rattle.tmem_journal.specs.Held as journal
 use Rattle.tmem_journal.specs.Journals as journals
 use Rattle.tmem_journal.specs.Stands.{Position, next_image, StandsForState}
 use Rattle.tmem_journal.specs.declared.journal.Journal as owner
-use Rattle.tmem_world.specs.declared.session.Slot.{Slot}
+use Rattle.tmem_world.specs.declared.slot.Slot.{Slot}
 use Rattle.tmem_world.specs.declared.session.Session as core
 use Rattle.tmem_world.specs.declared.held.Held.{Held}
 use Rattle.tmem_world.specs.declared.held.Held.TheVariants.{With}

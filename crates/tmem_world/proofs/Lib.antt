@@ -4,6 +4,7 @@ pub mod Chains
 pub mod DroppedPoints
 pub mod CheckpointedPoints
 pub mod FlushedPoints
+pub mod HeldSlots
 pub mod HeldTables
 pub mod Histories
 pub mod TakenBatches
@@ -15,5 +16,5 @@ pub mod Prefixes
 pub mod ReopenedPoints
 pub mod Serial
 pub mod SettledPoints
-pub mod SettledSlots
+pub mod TurnedPoints
 pub mod WrittenSlots

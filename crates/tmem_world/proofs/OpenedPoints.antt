@@ -1,13 +1,12 @@
 -- Where a run begins.
 use Rattle.std.proofs.Common.{◌≡◌, ◌≢◌, ◌⊎◌, ⊎_elim, ℕ, ◌-◌, List, [], length, refl, sym, ◌∙◌, ap, subst, arith, drop, take, false, zero, suc}
-use Rattle.std.specs.Prelude.{All, Ok}
+use Rattle.std.specs.Prelude.{All, Ok, None}
 use Rattle.std.proofs.Math.Logic.{∥∥₁_elim}
 use Rattle.std.proofs.Props.{props}
 use Rattle.tmem_disk.specs.Disk.{DeviceView}
 use Rattle.tmem_disk.specs.declared.fault.Fault.{Fault}
 use Rattle.tmem_disk.specs.declared.fault.Fault.TheVariants as fault
-use Rattle.tmem_world.specs.declared.session.Slot.{Slot}
-use Rattle.tmem_world.specs.declared.session.Slot.TheVariants as slot
+use Rattle.tmem_world.specs.declared.slot.Slot.{Slot}
 use Rattle.tmem_world.specs.declared.session.Session as core
 use Rattle.tmem_world.specs.declared.held.Held.TheVariants.{With}
 use Rattle.tmem_world.specs.declared.world.World.{World}
@@ -105,7 +104,7 @@ nothing_behind zero es none = none
 nothing_behind (suc n) es none = none
 
 module _ {D T S : Type 0} {d t z : _} (program : Program) (w : World D T S d t z) (o : core.Session D T d t) (j : owner.Journal D d) (failures : ℕ) (some : held_of w ≡ With o) (kept : o.journal ≡ j) (fresh : waiting_of o.core ≡ []) (running : is_shut_of o.core ≡ false) (state : state_of o.core ≡ journal.state_of j) (sure : journal.doubtful_of j ≡ journal.state_of j)
-    (sized : length w.slots.items ≡ 16) (emptied : All (λ (x : Slot). x ≡ slot.Empty) w.slots.items) (same : (journal.device_of j).failures ≡ failures)
+    (sized : length w.slots.items ≡ 16) (emptied : All (λ (x : Slot). x.plan ≡ None) w.slots.items) (same : (journal.device_of j).failures ≡ failures)
     (sound : IsSound program.tests program.names (state_of o.core).names (state_of o.core).values) where
   abbrev begun : WorldModel
   begun = opening (journal.state_of j) (journal.position_of j) failures

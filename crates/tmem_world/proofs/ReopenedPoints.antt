@@ -1,6 +1,6 @@
 -- The point of a run after the device was opened again.
 use Rattle.std.proofs.Common.{◌≡◌, ◌≢◌, ◌⊎◌, inl, inr, ⊎_elim, ℕ, ◌+◌, ◌-◌, ◌≤◌, ◌^◌, Bool, true, false, List, [], length, take, refl, sym, ◌∙◌, ap, subst, arith}
-use Rattle.std.specs.Prelude.{All, Some, Result, Ok, Err}
+use Rattle.std.specs.Prelude.{All, Some, Result, Ok, Err, None}
 use Rattle.std.proofs.Math.Logic.{∥∥₁_elim}
 use Rattle.std.proofs.Props.{props}
 use Rattle.std.proofs.lemmas.Bool.{cases_eq}
@@ -8,8 +8,7 @@ use Rattle.tmem_disk.specs.Disk.{DeviceView, IsDevice, LeavesOnly, after_fault}
 use Rattle.tmem_disk.specs.declared.fault.Fault.{Fault}
 use Rattle.tmem_disk.specs.declared.fault.Fault.TheVariants as fault
 use Rattle.tmem_event.specs.declared.event.Reply.TheVariants as reply
-use Rattle.tmem_world.specs.declared.session.Slot.{Slot}
-use Rattle.tmem_world.specs.declared.session.Slot.TheVariants as slot
+use Rattle.tmem_world.specs.declared.slot.Slot.{Slot}
 use Rattle.tmem_world.specs.declared.session.Session as core
 use Rattle.tmem_world.specs.declared.held.Held.{Held}
 use Rattle.tmem_world.specs.declared.held.Held.TheVariants.{With, Without}
@@ -47,7 +46,7 @@ abbrev found_at : WorldModel → ℕ → Position → WorldModel
 found_at m n position = record m { accepted = take (n - m.opened.count) m.accepted; durable = n; doubtful = n; position = position; slots = no_transactions; session = Open }
 
 module _ {D T S : Type 0} {d t z : _} (program : Program) (w w' : World D T S d t z) (m : WorldModel) (r : Represents program w m) (layout : w'.layout ≡ w.layout)
-    (emptied : All (λ (s : Slot). s ≡ slot.Empty) w'.slots.items) (sized : length w'.slots.items ≡ 16) where
+    (emptied : All (λ (s : Slot). s.plan ≡ None) w'.slots.items) (sized : length w'.slots.items ≡ 16) where
   -- the count of the order cut at a number of the run
   count_at : (n : ℕ) → m.opened.count ≤ n → n ≤ m.opened.count + length m.accepted → (cut program m n).count ≡ n
   count_at n low high =
@@ -173,7 +172,7 @@ module _ {D T S : Type 0} {d t z : _} (w : World D T S d t z) (h : Held D T d t)
 
 -- The same, by what the calls of a reopening say: the device was taken out of what the world held, and a journal opened on it.
 module _ {D T S : Type 0} {d t z : _} (w w' : World D T S d t z) (h : Held D T d t) (held : held_of w ≡ h) (disk : D) (is : disk ≡ disk_in h) (room : end_place (layout_in h).vars (layout_in h).slots ≤ (d.view disk).capacity) (layout : w'.layout ≡ w.layout)
-    (emptied : All (λ (s : Slot). s ≡ slot.Empty) w'.slots.items) (sized : length w'.slots.items ≡ 16) where
+    (emptied : All (λ (s : Slot). s.plan ≡ None) w'.slots.items) (sized : length w'.slots.items ≡ 16) where
   same_disk : disk ≡ device_of w
   same_disk = is ∙ ap (λ (x : Held D T d t). disk_in x) (sym held)
 

@@ -1,6 +1,7 @@
 -- The point of a run after a slot was settled.
 use Rattle.std.proofs.Common.{◌≡◌, ⊎_elim, ℕ, suc, ◌+◌, ◌-◌, ◌≤◌, ℤ, Bool, true, false, cond, List, [], ◌∷◌, ◌++◌, length, get_or, refl, sym, ◌∙◌, ap, subst, arith, length-append}
-use Rattle.std.specs.Prelude.{slice_set, Result, Ok, Err, All, IsTrue}
+use Rattle.std.proofs.lemmas.Bool.{false≢true}
+use Rattle.std.specs.Prelude.{slice_set, Option, None, IsSome, Result, Ok, Err, All, IsTrue}
 use Rattle.std.specs.List.{AllZip}
 use Rattle.std.proofs.lemmas.List.{set-get_or, append-nil}
 use Rattle.tmem_disk.specs.declared.fault.Fault.{Fault}
@@ -9,8 +10,7 @@ use Rattle.tmem_record.specs.State.{State, fold}
 use Rattle.tmem_record.specs.declared.effect.Effect.{Effect}
 use Rattle.tmem_tree.specs.declared.tx.Tx.{Tx}
 use Rattle.tmem_core.specs.Program.{Program}
-use Rattle.tmem_tentative.specs.Right.{IsRight}
-use Rattle.tmem_tentative.specs.declared.attempt.Attempt as ended
+use Rattle.tmem_tentative.specs.Cursors.{IsAt, given, attempt_of}
 use Rattle.tmem_tree.specs.declared.settled.Settled.{Settled}
 use Rattle.tmem_tree.specs.declared.settled.Settled.TheVariants.{Committed, Seen, Retry, Aborted, Refused}
 use Rattle.tmem_invariants.specs.Meanings.{IsSound}
@@ -23,15 +23,15 @@ use Rattle.tmem_event.specs.declared.event.Reply.{Reply}
 use Rattle.tmem_event.specs.declared.event.Reply.TheVariants as reply
 use Rattle.tmem_journal.specs.Held as journal
 use Rattle.tmem_journal.specs.declared.journal.Journal as owner
-use Rattle.tmem_world.specs.declared.session.Slot.{Slot}
-use Rattle.tmem_world.specs.declared.session.Slot.TheVariants as slot
+use Rattle.tmem_world.specs.declared.slot.Slot.{Slot}
 use Rattle.tmem_world.specs.declared.session.Session as core
 use Rattle.tmem_world.specs.declared.held.Held.TheVariants.{With}
 use Rattle.tmem_world.specs.declared.world.World.{World}
+use Rattle.tmem_world.specs.Slots as slot
 use Rattle.tmem_world.specs.SettleSlot.{CoreMeans, Settles, SettlesEnded}
 use Rattle.tmem_world.specs.Replies.{reply_of}
 use Rattle.tmem_world.specs.WorldModel.{WorldModel, SlotModel, NoTransaction, Begun, Ended, is_closed, settle_result, settled_by, present, cut, holding}
-use Rattle.tmem_world.specs.Represents.{SlotIs, SessionIs, Represents, held_of, session_of}
+use Rattle.tmem_world.specs.Represents.{Evaluates, SlotIs, SessionIs, Represents, held_of, session_of}
 use Rattle.tmem_world.proofs.Serial.{waiting-append, take-append, take-all, up_to_next}
 use Rattle.tmem_world.proofs.Points.{AllZip-set, in_point, session_at, failures_at}
 
@@ -132,9 +132,12 @@ module _ (program : Program) where
         subst (λ (l : List Slot). AllZip (SlotIs program) l m.slots)
         (sym (slots ∙ ap (slice_set w.slots.items k) (same ∙ held) ∙ set-get_or w.slots.items k s)) r.slots
 
-    slots_empty : (s' : Slot) → s' ≡ slot.Empty → w'.slots.items ≡ slice_set w.slots.items k s' → AllZip (SlotIs program) w'.slots.items (slice_set m.slots k NoTransaction)
-    slots_empty s' same slots =
-        subst (λ (l : List Slot). AllZip (SlotIs program) l (slice_set m.slots k NoTransaction)) (sym (slots ∙ ap (slice_set w.slots.items k) same)) (AllZip-set (SlotIs program) w.slots.items m.slots k slot.Empty NoTransaction r.slots tt)
+    slots_empty : (s' : Slot) → s'.plan ≡ None → w'.slots.items ≡ slice_set w.slots.items k s' → AllZip (SlotIs program) w'.slots.items (slice_set m.slots k NoTransaction)
+    slots_empty s' none slots =
+        subst (λ (l : List Slot). AllZip (SlotIs program) l (slice_set m.slots k NoTransaction)) (sym slots) (AllZip-set (SlotIs program) w.slots.items m.slots k s' NoTransaction r.slots none)
+
+    is_emptied : (s s' : Slot) → s' ≡ slot.emptied s → s'.plan ≡ None
+    is_emptied s s' is = ap (λ (x : Slot). x.plan) is
 
     -- nothing changed that the run tells
     stays : AllZip (SlotIs program) w'.slots.items m.slots → SessionIs program o' m → o'.journal ≡ o.journal → Represents program w' m
@@ -146,7 +149,7 @@ module _ (program : Program) where
         stays (slots_stay s s' held same slots) (subst (λ (x : core.Session D T d t). SessionIs program x m) (sym is) was) (ap (λ (x : core.Session D T d t). x.journal) is)
 
     -- nothing was accepted, and the slot is empty
-    emptied : (s' : Slot) → state_of o'.core ≡ state_of o.core → waiting_of o'.core ≡ waiting_of o.core ++ [] → durable_of o'.core ≡ durable_of o.core → o'.journal ≡ o.journal → is_shut_of o'.core ≡ is_shut_of o.core → s' ≡ slot.Empty → w'.slots.items ≡ slice_set w.slots.items k s' → Represents program w' (holding m k NoTransaction)
+    emptied : (s' : Slot) → state_of o'.core ≡ state_of o.core → waiting_of o'.core ≡ waiting_of o.core ++ [] → durable_of o'.core ≡ durable_of o.core → o'.journal ≡ o.journal → is_shut_of o'.core ≡ is_shut_of o.core → s'.plan ≡ None → w'.slots.items ≡ slice_set w.slots.items k s' → Represents program w' (holding m k NoTransaction)
     emptied s' state waiting number kept closed empty slots =
         let is = same_session state waiting number kept closed in
         in_point program w' (holding m k NoTransaction) o' after
@@ -162,49 +165,50 @@ module _ (program : Program) where
     }
 
     -- what the model answers is the core's answer
-    is_answer : (a : ended.Attempt) (plan : Tx) (x : Result Settled Fault) → IsRight program.steps plan a → (reads : List (ℕ × ℤ)) → a.reads.entries ≡ reads
-        → x ≡ judged (is_shut_of o.core) (state_of o.core) (durable_of o.core) a.reads.entries (verdict program plan (state_of o.core))
+    is_answer : (plan : Tx) (x : Result Settled Fault) (had reads : List (ℕ × ℤ)) → had ≡ reads
+        → x ≡ judged (is_shut_of o.core) (state_of o.core) (durable_of o.core) had (verdict program plan (state_of o.core))
         → x ≡ judged (is_closed m.session) (present program m) m.durable reads (verdict program plan (present program m))
-    is_answer a plan x right reads same is =
+    is_answer plan x had reads same is =
         let J : Bool → State → ℕ → List (ℕ × ℤ) → Result Settled Fault = λ b s n rs. judged b s n rs (verdict program plan s) in
         let shut : is_shut_of o.core ≡ is_closed m.session = sym (ap is_closed was.status ∙ closed_of (is_shut_of o.core)) in
-        is ∙ ap (λ b. J b (state_of o.core) (durable_of o.core) a.reads.entries) shut ∙ ap (λ s. J (is_closed m.session) s (durable_of o.core) a.reads.entries) was.state
-        ∙ ap (λ n. J (is_closed m.session) (present program m) n a.reads.entries) was.number ∙ ap (J (is_closed m.session) (present program m) m.durable) same
+        is ∙ ap (λ b. J b (state_of o.core) (durable_of o.core) had) shut ∙ ap (λ s. J (is_closed m.session) s (durable_of o.core) had) was.state
+        ∙ ap (λ n. J (is_closed m.session) (present program m) n had) was.number ∙ ap (J (is_closed m.session) (present program m) m.durable) same
 
-    by_answer : (a : ended.Attempt) (s' : Slot) (plan : Tx) (x : Result Settled Fault) (y : Reply) → IsRight program.steps plan a → slot.Ended a ≡ get_or w.slots.items k (slot.Ended a) → w'.slots.items ≡ slice_set w.slots.items k s' → SettlesEnded o a x y o' s' → Represents program w' (settled_by x m k plan)
-    by_answer a s' plan (Ok (Committed n rs)) y right held slots it =
-        let so = it.judged program plan means right in
+    by_answer : (s s' : Slot) (plan : Tx) (x : Result Settled Fault) (y : Reply) → IsAt program.steps plan s.cursor → s ≡ get_or w.slots.items k s → w'.slots.items ≡ slice_set w.slots.items k s' → SettlesEnded o s x y o' s' → Represents program w' (settled_by x m k plan)
+    by_answer s s' plan (Ok (Committed n rs)) y at held slots it =
+        let so = it.judged program plan means at in
         let committed : IsCommitted (verdict program plan (present program m)) =
-        judged-committed (is_closed m.session) (present program m) m.durable a.reads.entries (verdict program plan (present program m)) n rs (is_answer a plan (Ok (Committed n rs)) right a.reads.entries refl so.0) in
-        let more = more_accepted plan a.effect so.1 it.state it.waiting it.durable it.journal it.closed in
-        accepts plan committed (subst SoundOn more.state (sound_now it.table)) (slots_empty s' it.slot slots) more it.journal
-    by_answer a s' plan (Ok (Seen at rs)) y right held slots it = emptied s' it.state it.waiting it.durable it.journal it.closed it.slot slots
-    by_answer a s' plan (Ok Retry) y right held slots it = emptied s' it.state it.waiting it.durable it.journal it.closed it.slot slots
-    by_answer a s' plan (Ok (Aborted code)) y right held slots it = emptied s' it.state it.waiting it.durable it.journal it.closed it.slot slots
-    by_answer a s' plan (Ok (Refused name)) y right held slots it = emptied s' it.state it.waiting it.durable it.journal it.closed it.slot slots
-    by_answer a s' plan (Err f) y right held slots it =
-        stays (slots_stay (slot.Ended a) s' held it.slot slots) (same_session it.state it.waiting it.durable it.journal it.closed) it.journal
+        judged-committed (is_closed m.session) (present program m) m.durable (given s.cursor) (verdict program plan (present program m)) n rs (is_answer plan (Ok (Committed n rs)) (given s.cursor) (given s.cursor) refl so.0) in
+        let more = more_accepted plan (attempt_of s.cursor).effect so.1 it.state it.waiting it.durable it.journal it.closed in
+        accepts plan committed (subst SoundOn more.state (sound_now it.table)) (slots_empty s' (is_emptied s s' it.slot) slots) more it.journal
+    by_answer s s' plan (Ok (Seen n rs)) y at held slots it = emptied s' it.state it.waiting it.durable it.journal it.closed (is_emptied s s' it.slot) slots
+    by_answer s s' plan (Ok Retry) y at held slots it = emptied s' it.state it.waiting it.durable it.journal it.closed (is_emptied s s' it.slot) slots
+    by_answer s s' plan (Ok (Aborted code)) y at held slots it = emptied s' it.state it.waiting it.durable it.journal it.closed (is_emptied s s' it.slot) slots
+    by_answer s s' plan (Ok (Refused name)) y at held slots it = emptied s' it.state it.waiting it.durable it.journal it.closed (is_emptied s s' it.slot) slots
+    by_answer s s' plan (Err f) y at held slots it =
+        stays (slots_stay s s' held it.slot slots) (same_session it.state it.waiting it.durable it.journal it.closed) it.journal
 
-    by_ended : (a : ended.Attempt) (s' : Slot) (plan : Tx) (reads : List (ℕ × ℤ)) (x : Result Settled Fault) (y : Reply) → IsRight program.steps plan a → a.reads.entries ≡ reads → slot.Ended a ≡ get_or w.slots.items k (slot.Ended a) → w'.slots.items ≡ slice_set w.slots.items k s' → SettlesEnded o a x y o' s'
+    by_ended : (s s' : Slot) (plan : Tx) (reads : List (ℕ × ℤ)) (x : Result Settled Fault) (y : Reply) → Evaluates program.steps s plan reads → s ≡ get_or w.slots.items k s → w'.slots.items ≡ slice_set w.slots.items k s' → SettlesEnded o s x y o' s'
         → (m' : WorldModel) × ((y, m') ≡ settle_result program (Ended plan reads) m k) × Represents program w' m'
-    by_ended a s' plan reads x y right same held slots it =
+    by_ended s s' plan reads x y is held slots it =
         let now = settled_by x m k plan in
-        let whole : x ≡ judged (is_closed m.session) (present program m) m.durable reads (verdict program plan (present program m)) = is_answer a plan x right reads same (it.judged program plan means right).0 in
-        (now, ap (λ (z : Reply). (z, now)) it.reply ∙ ap (λ (z : Result Settled Fault). (reply_of z, settled_by z m k plan)) whole, by_answer a s' plan x y right held slots it)
+        let whole : x ≡ judged (is_closed m.session) (present program m) m.durable reads (verdict program plan (present program m)) = is_answer plan x (given s.cursor) reads is.given (it.judged program plan means is.at).0 in
+        (now, ap (λ (z : Reply). (z, now)) it.reply ∙ ap (λ (z : Result Settled Fault). (reply_of z, settled_by z m k plan)) whole, by_answer s s' plan x y is.at held slots it)
 
     idle : (x : Reply) → x ≡ reply.Idle → with_point x ≡ with_point reply.Idle
     idle x is = ap with_point is
 
     -- the point of the run after a slot was settled
     pub settles : (s s' : Slot) (a : SlotModel) (x : Reply) → s ≡ get_or w.slots.items k s → w'.slots.items ≡ slice_set w.slots.items k s' → SlotIs program s a → Settles o s x o' s' → (m' : WorldModel) × ((x, m') ≡ settle_result program a m k) × Represents program w' m'
-    settles slot.Empty s' NoTransaction x held slots is it =
-        (m, idle x it.0, idles slot.Empty s' held it.2 slots it.1)
-    settles (slot.Begun plan reads) s' (Begun tx rs) x held slots is it =
-        (m, idle x it.0, idles (slot.Begun plan reads) s' held it.2 slots it.1)
-    settles (slot.Ended a) s' (Ended tx rs) x held slots is it = by_ended a s' tx rs it.0 x is.0 is.1 held slots it.1
-    settles slot.Empty s' (Begun tx rs) x held slots is it = absurd is
-    settles slot.Empty s' (Ended tx rs) x held slots is it = absurd is
-    settles (slot.Begun plan reads) s' NoTransaction x held slots is it = absurd is
-    settles (slot.Begun plan reads) s' (Ended tx rs) x held slots is it = absurd is
-    settles (slot.Ended a) s' NoTransaction x held slots is it = absurd is
-    settles (slot.Ended a) s' (Begun tx rs) x held slots is it = absurd is
+    settles s s' NoTransaction x held slots is it =
+        ⊎_elim
+        (λ none. (m, idle x none.1.0, idles s s' held none.1.2 slots none.1.1))
+        (λ some. absurd (false≢true (subst (λ (o : Option Tx). IsSome o) is some.0.0))) it
+    settles s s' (Begun tx rs) x held slots is it =
+        ⊎_elim
+        (λ none. (m, idle x none.1.0, idles s s' held none.1.2 slots none.1.1))
+        (λ some. absurd (is.1 some.0.1)) it
+    settles s s' (Ended tx rs) x held slots is it =
+        ⊎_elim
+        (λ none. absurd (none.0 (subst (λ (o : Option Tx). IsSome o) (sym is.0.plan) refl, is.1)))
+        (λ some. by_ended s s' tx rs some.1.0 x is.0 held slots some.1.1) it

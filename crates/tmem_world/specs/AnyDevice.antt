@@ -1,6 +1,6 @@
 -- What holds on any device, also on one that breaks the disk model: Reopen may find another state than the run's, and
 -- then a new run begins there.
-use Rattle.std.specs.Prelude.{◌≡◌, ⊤, List, [], ◌∷◌, All, Some}
+use Rattle.std.specs.Prelude.{◌≡◌, ⊤, List, [], ◌∷◌, All, Some, None}
 use Rattle.tmem_disk.specs.declared.fault.Fault.{Fault}
 use Rattle.tmem_disk.specs.declared.fault.Fault.TheVariants as fault
 use Rattle.tmem_event.specs.declared.event.Event.{Event}
@@ -12,8 +12,7 @@ use Rattle.tmem_core.specs.Opening.{opening_fault}
 use Rattle.tmem_core.specs.Program.{Program}
 use Rattle.tmem_gate.specs.Calls.{failures_after}
 use Rattle.tmem_journal.specs.Stands.{Position, StandsFor}
-use Rattle.tmem_world.specs.declared.session.Slot.{Slot}
-use Rattle.tmem_world.specs.declared.session.Slot.TheVariants.{Empty}
+use Rattle.tmem_world.specs.declared.slot.Slot.{Slot}
 use Rattle.tmem_world.specs.declared.world.World.{World}
 use Rattle.tmem_world.specs.WorldModel.{Setting, WorldModel, Allows, opening, dropped}
 use Rattle.tmem_world.specs.Represents.{Represents, Means, HoldsSession, OpeningRefused, LooksWhereClosed, setting_of, view_of}
@@ -53,7 +52,7 @@ RunOnAnyDevice set m (e ∷ es) [] m' = ⊥
 
 -- each of the sixteen slots is empty
 abbrev pub HoldsNoTransaction : {D T S : Type 0} {d t s : _} → World D T S d t s → Type 0
-HoldsNoTransaction w = All (λ (slot : Slot). slot ≡ Empty) w.slots.items
+HoldsNoTransaction w = All (λ (slot : Slot). slot.plan ≡ None) w.slots.items
 
 -- the content stands for a state of which an invariant is missing or false, the one that the refusal names
 abbrev pub FindsUnsound : {D T S : Type 0} {d t s : _} → World D T S d t s → Fault → World D T S d t s → Type 0

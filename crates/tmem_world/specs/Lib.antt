@@ -7,4 +7,5 @@ pub mod Represents
 pub mod SessionRefusals
 pub mod Sessions
 pub mod SettleSlot
+pub mod Slots
 pub mod WorldModel

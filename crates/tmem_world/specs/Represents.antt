@@ -1,5 +1,5 @@
 -- When a world is at a point of a run.
-use Rattle.std.specs.Prelude.{Result, Ok, Err, ◌≡◌, ◌<◌, ◌≤◌, ◌⊎◌, ⊤, ◌+◌, ◌-◌, ◌*◌, ℕ, Bool, true, false, List, length, drop}
+use Rattle.std.specs.Prelude.{Some, None, Result, Ok, Err, ◌≡◌, ◌<◌, ◌≤◌, ◌⊎◌, ⊤, ◌+◌, ◌-◌, ◌*◌, ℕ, ℤ, Bool, true, false, List, length, drop}
 use Rattle.std.specs.List.{AllZip}
 use Rattle.tmem_invariants.specs.Meanings.{IsSound}
 use Rattle.tmem_disk.specs.Disk.{DeviceView, LeavesOnly, AtEachMoment}
@@ -13,15 +13,16 @@ use Rattle.tmem_journal.specs.Refusals.{IsRefusedBy}
 use Rattle.tmem_world.specs.SessionRefusals.{IsWhyNot}
 use Rattle.tmem_world.specs.Parts.{what, disk_in, table_in, IsWith}
 use Rattle.tmem_core.specs.Program.{Program}
-use Rattle.tmem_tentative.specs.Right.{IsRight}
+use Rattle.tmem_tentative.specs.Cursors.{IsAt, HasEnded, given}
+use Rattle.tmem_tree.specs.StepAnswers.{StepMeanings}
+use Rattle.tmem_tree.specs.declared.tx.Tx.{Tx}
 use Rattle.tmem_core.specs.Held.{state_of, waiting_of, durable_of, is_shut_of}
 use Rattle.tmem_core.specs.Verdict.{serial_effects, AreCommitted}
 use Rattle.tmem_event.specs.declared.event.Event.{Event}
 use Rattle.tmem_event.specs.declared.event.Event.TheVariants as event
 use Rattle.tmem_event.specs.declared.event.Reply.{Reply}
 use Rattle.tmem_record.specs.declared.layout.Layout.{Layout}
-use Rattle.tmem_world.specs.declared.session.Slot.{Slot}
-use Rattle.tmem_world.specs.declared.session.Slot.TheVariants as slot
+use Rattle.tmem_world.specs.declared.slot.Slot.{Slot}
 use Rattle.tmem_world.specs.declared.session.Session as session
 use Rattle.tmem_world.specs.declared.held.Held.{Held}
 use Rattle.tmem_world.specs.declared.held.Held.TheVariants.{With, Without}
@@ -73,12 +74,17 @@ pub record Means {D T S : Type 0} {d t s : _} (w : World D T S d t s) (program :
   pub names : program.names ≡ t.names (held_table w)
   pub tests : t.is_stated (held_table w) program.tests
 
+-- the slot's cursor stands in the evaluation of this plan, where these values were read
+pub record Evaluates (steps : StepMeanings) (s : Slot) (tx : Tx) (values : List (ℕ × ℤ)) : Type 0 where
+  pub plan : s.plan ≡ Some tx
+  pub at : IsAt steps tx s.cursor
+  pub given : given s.cursor ≡ values
+
 -- the slot holds this attempt
 abbrev pub SlotIs : Program → Slot → SlotModel → Type 0
-SlotIs program slot.Empty NoTransaction = ⊤
-SlotIs program (slot.Begun plan reads) (Begun tx values) = (plan ≡ tx) × (reads.entries ≡ values)
-SlotIs program (slot.Ended a) (Ended tx values) = IsRight program.steps tx a × (a.reads.entries ≡ values)
-SlotIs program _ _ = ⊥
+SlotIs program s NoTransaction = s.plan ≡ None
+SlotIs program s (Begun tx values) = Evaluates program.steps s tx values × (¬ HasEnded s.cursor)
+SlotIs program s (Ended tx values) = Evaluates program.steps s tx values × HasEnded s.cursor
 
 abbrev pub session_of : Bool → SessionStatus
 session_of true = Closed

@@ -10,6 +10,7 @@
 mod chain;
 mod held;
 mod session;
+mod slot;
 mod world;
 
 pub use chain::{crash_leaves_store, formatted_is_store};

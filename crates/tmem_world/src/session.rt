@@ -12,6 +12,7 @@ ghost use Rattle.tmem_gate.specs.Calls.{Uses, WritesWithin};
 ghost use Rattle.tmem_record.specs.Layout.{image_place, image_size, slot_place};
 ghost use Rattle.tmem_world.specs.SessionRefusals.{IsWhyNoSession};
 
+use crate::slot::Slot;
 use std::alloc::Global;
 use tmem_core::Core;
 use tmem_disk::{DeviceFault, Disk, Fault};
@@ -19,17 +20,6 @@ use tmem_event::Reply;
 use tmem_invariants::Invariants;
 use tmem_journal::Journal;
 use tmem_record::Batch;
-use tmem_tentative::{Attempt, Reads};
-use tmem_tree::Plan;
-
-/// One caller's attempt.
-#[derive(Drop)]
-pub(crate) enum Slot {
-    Empty,
-    /// The plan, and the values that it has read so far.
-    Begun { plan: Plan, reads: Reads },
-    Ended(Attempt),
-}
 
 /// What a world keeps from an opening to the next one, or to a crash. The core is shut once the journal is closed.
 #[derive(Drop)]
@@ -78,19 +68,21 @@ pub(crate) fn begin_session<D: Disk, T: Invariants + Drop>(
 
 impl<D: Disk, T: Invariants + Drop> Session<D, T> {
     ghost use Rattle.tmem_world.specs.Sessions.{Flushes, Checkpoints};
-    ghost use Rattle.tmem_world.specs.SettleSlot.{FitsCore, Settles};
+    ghost use Rattle.tmem_tentative.specs.Cursors.{attempt_of};
+    ghost use Rattle.tmem_world.specs.Slots.{HoldsEnded, IsForStore};
+    ghost use Rattle.tmem_world.specs.SettleSlot.{Settles};
 
     /// Settles what a slot holds, which is emptied unless the answer is a refusal.
     pub(crate) fn settle_slot(&mut self, slot: &mut Slot) -> Reply
-        requires { FitsCore (length (state_of self.old.core).values) (T.names (table_of self.old.core)) slot.old }
+        requires { HoldsEnded slot.old → IsForStore (length (state_of self.old.core).values) (T.names (table_of self.old.core)) (attempt_of slot.old.cursor) }
         ensures { Settles self.old slot.old result self.new slot.new }
     {
-        let Slot::Ended(attempt) = slot else {
+        if !slot.is_ended() {
             return Reply::Idle;
-        };
-        match self.core.settle(attempt) {
+        }
+        match self.core.settle(slot.cursor.attempt()) {
             Ok(settled) => {
-                *slot = Slot::Empty;
+                slot.plan = None;
                 Reply::Settled(settled)
             }
             Err(fault) => Reply::Fault(fault),

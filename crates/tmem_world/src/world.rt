@@ -13,19 +13,19 @@ ghost use Rattle.tmem_journal.specs.Mended.{Mends, MendedBy};
 ghost use Rattle.tmem_journal.specs.Stands.{Position, StandsFor, StandsForEither};
 ghost use Rattle.tmem_journal.specs.Calls.{FitsOn};
 ghost use Rattle.tmem_world.specs.Parts.{what, layout_in, table_in};
-ghost use Rattle.tmem_world.specs.SettleSlot.{FitsSlot, Joins, Keeps};
+ghost use Rattle.tmem_world.specs.Slots.{FitsSlot};
 ghost use Rattle.tmem_world.specs.Facts.{FitsSlot-prop};
 ghost use Rattle.tmem_event.specs.Events.{NamesSlot};
 ghost use Rattle.tmem_world.specs.WorldModel.{WorldModel, opening, present, stands, Run};
 
 use crate::held::{Held, Left};
-use crate::session::{Slot, begin_session};
+use crate::session::begin_session;
+use crate::slot::Slot;
 use std::alloc::{AllocError, Global};
 use tmem_disk::{Disk, Fault, Name};
 use tmem_event::{ATTEMPTS, Event, Reply};
 use tmem_invariants::Invariants;
 use tmem_journal::{Journal, Layout, refused_stands_for_none, stands_for_one};
-use tmem_tentative::{Outcome, Reads, evaluate};
 use tmem_tree::{Plan, StoredSteps, Tx};
 
 /// Durable transactional memory for one thread: it plays events over the present state and a device.
@@ -44,7 +44,7 @@ pub struct World<D: Disk, T: Invariants, S: StoredSteps> {
     ghost same_vars: { (layout_in (what held here)).vars ≡ layout.vars },
     ghost same_slots: { (layout_in (what held here)).slots ≡ layout.slots },
     ghost named: { T.names (table_in (what held here)) ≡ names.items },
-    ghost fit: { All (FitsSlot layout.vars (S.arities steps) names.items) slots.items } by { Prim.hlevel (props, FitsSlot-prop) },
+    ghost fit: { All (FitsSlot layout.vars (S.arities steps) (S.is_stated steps) names.items) slots.items } by { Prim.hlevel (props, FitsSlot-prop) },
 }
 
 impl<D: Disk + Drop, T: Invariants + Drop, S: StoredSteps + Drop> World<D, T, S> {
@@ -253,17 +253,17 @@ impl<D: Disk + Drop, T: Invariants + Drop, S: StoredSteps + Drop> World<D, T, S>
         if !self.is_open() {
             return Reply::Fault(Fault::Closed);
         }
-        match Plan::new(tx, &self.steps, self.layout.vars, &self.names) {
-            Ok(plan) => {
-                let reads = Reads::new(self.alloc);
-                put(&mut self.slots[slot as usize], Slot::Begun { plan, reads });
-                Reply::Begun
-            }
+        let plan = match Plan::new(tx, &self.steps, self.layout.vars, &self.names) {
+            Ok(plan) => plan,
+            Err(fault) => return Reply::Fault(fault),
+        };
+        match self.slots[slot as usize].begin(plan) {
+            Ok(()) => Reply::Begun,
             Err(fault) => Reply::Fault(fault),
         }
     }
 
-    // Evaluates a plan on the values that it has read.
+    // Goes on with a plan as far as the values allow that it has read.
     fn turn(&mut self, slot: u8) -> Reply
         requires { slot < 16 }
         ensures step { IsStep self.old (Event.Turn slot) result self.new }
@@ -271,27 +271,11 @@ impl<D: Disk + Drop, T: Invariants + Drop, S: StoredSteps + Drop> World<D, T, S>
         ensures kept { (self.new.layout ≡ self.old.layout) × (self.new.steps ≡ self.old.steps) × (device_of self.new ≡ device_of self.old) }
         ensures table { held_table self.new ≡ held_table self.old }
     {
-        if !self.is_open() {
-            return Reply::Fault(Fault::Closed);
-        }
-        let outcome = match &self.slots[slot as usize] {
-            Slot::Empty => return Reply::Idle,
-            Slot::Ended(_) => return Reply::Ended,
-            Slot::Begun { plan, reads } => evaluate(self.alloc, plan, &self.steps, reads),
-        };
-        match outcome {
-            Ok(Outcome::Need(var)) => {
-                let value = self.value(var);
-                match join(&mut self.slots[slot as usize], var, value) {
-                    Ok(()) => Reply::Read { var, value },
-                    Err(fault) => Reply::Fault(fault),
-                }
+        match &self.held {
+            Some(Held::With(session)) => {
+                self.slots[slot as usize].turn(&self.steps, &session.core)
             }
-            Ok(Outcome::Ended(attempt)) => {
-                put(&mut self.slots[slot as usize], Slot::Ended(attempt));
-                Reply::Ended
-            }
-            Err(fault) => Reply::Fault(fault),
+            _ => Reply::Fault(Fault::Closed),
         }
     }
 
@@ -411,17 +395,6 @@ impl<D: Disk + Drop, T: Invariants + Drop, S: StoredSteps + Drop> World<D, T, S>
     }
 }
 
-// Adds a value to those that the slot's plan has read. The only fault is want of memory.
-fn join(slot: &mut Slot, var: u16, value: i64) -> Result<(), Fault>
-    ensures joins { OnOk result (Joins slot.old var value slot.new) }
-    ensures keeps { IfErr result (λ fault. (fault ≡ Fault.Memory) × Keeps slot.old slot.new) }
-{
-    if let Slot::Begun { reads, .. } = slot {
-        reads.insert(var, value)?;
-    }
-    Ok(())
-}
-
 // The names of a table, in its order.
 fn names_of<T: Invariants>(alloc: Global, table: &T) -> Result<Vec<Name>, AllocError>
     ensures { IfOk result (λ names. names.items ≡ T.names table.now) }
@@ -435,29 +408,22 @@ fn names_of<T: Invariants>(alloc: Global, table: &T) -> Result<Vec<Name>, AllocE
 
 // Slots that hold nothing.
 fn empty_slots(alloc: Global) -> Result<Vec<Slot>, AllocError>
-    ensures emptied { IfOk result (λ slots. All (λ slot. slot ≡ Slot.Empty) slots.items) }
+    ensures emptied { IfOk result (λ slots. All (λ slot. slot.plan ≡ None) slots.items) }
     ensures len { IfOk result (λ slots. length slots.items ≡ 16) }
 {
     let mut slots = Vec::with_capacity(alloc, ATTEMPTS)?;
     for _ in 0..ATTEMPTS {
-        slots.push(Slot::Empty)?;
+        slots.push(Slot::new(alloc))?;
     }
     Ok(slots)
 }
 
-// Puts another slot in the place of one.
-fn put(slot: &mut Slot, other: Slot)
-    ensures { slot.new ≡ other }
-{
-    *slot = other;
-}
-
-// Empties each slot.
+// Empties each slot, which keeps its memory.
 fn clear(slots: &mut Vec<Slot>)
-    ensures emptied { All (λ slot. slot ≡ Slot.Empty) slots.new.items }
+    ensures emptied { All (λ slot. slot.plan ≡ None) slots.new.items }
     ensures len { length slots.new.items ≡ length slots.old.items }
 {
     for slot in slots.iter_mut() {
-        *slot = Slot::Empty;
+        slot.plan = None;
     }
 }

@@ -1,4 +1,4 @@
-use Rattle.std.proofs.Common.{List, sym, subst, inl, inr, ⊎_elim}
+use Rattle.std.proofs.Common.{sym, subst, inl, inr, ⊎_elim}
 use Rattle.std.proofs.Math.Logic.{∥∥₁_map}
 use Rattle.tmem_journal.specs.Calls.{FitsOn}
 use Rattle.tmem_world.specs.Chain.{History, IsSafe, IsStore}

@@ -1,7 +1,23 @@
-use Rattle.std.proofs.Common.{refl}
+use Rattle.std.proofs.Common.{List, refl, ap}
+use Rattle.std.specs.Prelude.{Result, Ok, Err, IfErr}
+use Rattle.tmem_tentative.specs.declared.save.Save.{Save}
+use Rattle.tmem_tentative.specs.Places.{place_of}
+use Rattle.tmem_tentative.specs.Cursors.{IsAt}
+use Rattle.tmem_tentative.proofs.CursorKept.{stays_at}
 use Rattle.tmem_tentative.proofs.CursorStands.{start_stands}
 use Rattle.tmem_tentative.proofs.cursor.Cursor.restart.Goals as goal
 
 pub returns-clause-at : goal.returns-clause-at
 returns-clause-at c = λ m.
     start_stands m c.args.plan.now _ _ c.clear-3.ensures refl c.clear-2.ensures c.clear.ensures.empty c.in_ok-make_room.ensures.enough c.make_room.ensures.limits
+
+-- what holds whatever the answer is
+on_err : {T E : Type 0} (r : Result T E) (P : Type 0) → P → IfErr r (λ _. P)
+on_err (Ok x) P here = tt
+on_err (Err e) P here = here
+
+pub returns-in_err-make_room-clause-stays : goal.returns-in_err-make_room-clause-stays
+returns-in_err-make_room-clause-stays c = λ m held at.
+    let old = c.args.self.now in
+    on_err c.from_residual.result (IsAt m held _)
+    (stays_at old _ (record { stage = refl; given = refl; place = ap (λ (saves : List Save). place_of old.attempt old.path saves) c.in_err-make_room.ensures.same; ending = refl }) m held at)

@@ -10,5 +10,5 @@ pub invariant_of-self-clause-waits : goal.invariant_of-self-clause-waits
 invariant_of-self-clause-waits g c =
     let o = c.args.self.now in
     let durable = journal.state_of o.journal in
-    let es = accepted_by c.settle.result c.in-Ended.attempt.effect in
+    let es = accepted_by c.settle.result c.attempt.result.now.effect in
     ap (fold durable) c.settle.ensures.waiting ∙ fold-append durable (waiting_of o.core) es ∙ ap (λ (s : State). fold s es) o.waits ∙ sym c.settle.ensures.state

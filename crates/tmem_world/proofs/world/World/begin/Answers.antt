@@ -1,19 +1,44 @@
-use Rattle.std.proofs.Common.{rules, refl, [], List, ℕ, sym, ◌∙◌, subst, length-set}
+use Rattle.std.proofs.Common.{◌<◌, length, rules, refl, [], List, ℕ, sym, ◌∙◌, ap, subst, length-set, arith}
+use Rattle.std.specs.Prelude.{Some}
 use Rattle.std.proofs.lemmas.List.Elements.{All-set}
-use Rattle.tmem_tree.specs.Plans.{BreaksNone, IsLeastBroken, FitsNames}
-use Rattle.tmem_world.specs.SettleSlot.{FitsSlot}
-use Rattle.tmem_world.specs.WorldModel.{holding, Begun}
-use Rattle.tmem_world.specs.Represents.{held_of}
-use Rattle.tmem_world.proofs.Points.{in_session, with_slot, same_point}
+use Rattle.tmem_disk.specs.declared.fault.Fault.{Fault}
+use Rattle.tmem_tree.specs.declared.tx.Tx.{Tx}
+use Rattle.tmem_tree.specs.Plans.{BreaksNone, IsLeastBroken, FitsSteps, FitsVariables, FitsNames}
+use Rattle.tmem_tentative.specs.Cursors.{IsAt}
+use Rattle.tmem_world.specs.Slots.{FitsSlot}
+use Rattle.tmem_world.specs.WorldModel.{holding, slot_at, Begun, IsPlanFault}
+use Rattle.tmem_world.specs.Represents.{held_of, setting_of}
+use Rattle.tmem_world.proofs.Points.{in_session, with_slot, same_point, slot_holds, same_attempt}
 use Rattle.tmem_world.proofs.HeldTables.{known_names}
+use Rattle.tmem_world.proofs.HeldSlots.{begun_fits, held_again}
 use Rattle.tmem_world.proofs.world.World.begin.Goals as goal
 
-pub returns-in-Ok-clause-step : goal.returns-in-Ok-clause-step
-returns-in-Ok-clause-step g c = λ program means m r keeps.
+pub returns-in-Ok-begin-clause-step : goal.returns-in-Ok-begin-clause-step
+returns-in-Ok-begin-clause-step g c = λ program means m r keeps.
     let w = c.args.self.now in
     let names = known_names program w means in
     let fine = subst (λ (ns : List (List ℕ)). BreaksNone (g.S.StoredSteps.arities w.steps) w.layout.vars ns c.args.tx) (c.deref.ensures.value ∙ sym names) c.in-Ok.ensures.fine in
-    (holding m c.args.slot (Begun c.args.tx []), in_session program (held_of w) m _ _ _ r.session (search rules) (fine, refl), with_slot program _ _ m c.args.slot c.put.new.slot _ r (rw c.put.ensures (search rules)) refl refl refl)
+    let new = c.begin.new.self in
+    let so = c.in-Ok-begin.ensures in
+    let is = c.in-Ok.ensures.plan in (
+      holding m c.args.slot (Begun c.args.tx []),
+      in_session program (held_of w) m _ _ _ r.session (search rules) (fine, refl),
+      with_slot program w _ m c.args.slot new (Begun c.args.tx []) r (record { plan = so.plan ∙ ap Some is; at = subst (λ (p : Tx). IsAt program.steps p new.cursor) is (so.at program.steps); given = so.given }, so.going) refl refl refl,
+    )
+
+pub returns-in-Err-begin-clause-step : goal.returns-in-Err-begin-clause-step
+returns-in-Err-begin-clause-step g c = λ program means m r keeps.
+    let w = c.args.self.now in
+    let below : c.args.slot < length w.slots.items = omega (arith, w.sized) in
+    let old = c.index_mut.result.now in
+    let new = c.begin.new.self in
+    let holds = slot_holds program _ m c.args.slot old r below c.index_mut.ensures.value in
+    let so = c.in-Err-begin.ensures in
+    let may : IsPlanFault (setting_of w program) c.args.tx c.in-Err-begin.fault = subst (λ (f : Fault). IsPlanFault (setting_of w program) c.args.tx f) (sym so.same.0) tt in (
+      holding m c.args.slot (slot_at m c.args.slot),
+      in_session program (held_of w) m _ _ _ r.session (search rules) (may, same_attempt m c.args.slot),
+      with_slot program w _ m c.args.slot new (slot_at m c.args.slot) r (held_again program (slot_at m c.args.slot) old new so.same.1 so.same.2 so.stays holds) refl refl refl,
+    )
 
 pub returns-in-Err-clause-step : goal.returns-in-Err-clause-step
 returns-in-Err-clause-step g c = λ program means m r keeps.
@@ -26,10 +51,22 @@ returns-in-Err-clause-step g c = λ program means m r keeps.
       same_point _ _ refl program m r refl refl,
     )
 
-pub invariant_of-self : goal.invariant_of-self
-invariant_of-self g c =
+pub invariant_of-self-2 : goal.invariant_of-self-2
+invariant_of-self-2 g c =
     let w = c.args.self.now in
-    let named = subst (λ (ns : List (List ℕ)). FitsNames ns c.args.tx) c.deref.ensures.value c.in-Ok.ensures.names in
-    let fit = All-set (FitsSlot w.layout.vars (g.S.StoredSteps.arities w.steps) w.names.items) w.slots.items c.args.slot c.put.new.slot
-    (rw (c.put.ensures, c.in-Ok.ensures.plan) (c.in-Ok.ensures.variables, c.in-Ok.ensures.steps, named)) w.fit in
-    record { sized = length-set w.slots.items c.args.slot c.put.new.slot ∙ w.sized; here = w.here; same_vars = w.same_vars; same_slots = w.same_slots; named = w.named; fit = fit }
+    let arities = g.S.StoredSteps.arities w.steps in
+    let stated = g.S.StoredSteps.is_stated w.steps in
+    let so = c.in-Ok.ensures in
+    let is = so.plan in
+    let now = c.begin.ensures in
+    let named = subst (λ (ns : List (List ℕ)). FitsNames ns c.args.tx) c.deref.ensures.value so.names in
+    let held : FitsSlot w.layout.vars arities stated w.names.items c.index_mut.result.now = subst (FitsSlot w.layout.vars arities stated w.names.items) (sym c.index_mut.ensures.value) (w.fit c.args.slot c.index_mut.result.now (omega (arith, w.sized))) in
+    let fits = begun_fits w.layout.vars arities stated w.names.items c.in-Ok.plan c.index_mut.result.now c.begin.new.self c.begin.result (subst (FitsVariables w.layout.vars) (sym is) so.variables) (subst (FitsSteps arities) (sym is) so.steps) (subst (FitsNames w.names.items) (sym is) named) now.plan now.at now.going now.same now.stays held in
+    record {
+      sized = length-set w.slots.items c.args.slot c.begin.new.self ∙ w.sized;
+      here = w.here;
+      same_vars = w.same_vars;
+      same_slots = w.same_slots;
+      named = w.named;
+      fit = All-set (FitsSlot w.layout.vars arities stated w.names.items) w.slots.items c.args.slot c.begin.new.self fits w.fit;
+    }

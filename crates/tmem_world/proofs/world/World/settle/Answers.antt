@@ -4,11 +4,11 @@ use Rattle.std.proofs.lemmas.List.Elements.{All-set}
 use Rattle.tmem_journal.specs.Held as journal
 use Rattle.tmem_world.specs.declared.held.Held.TheVariants.{With}
 use Rattle.tmem_world.specs.WorldModel.{slot_at}
-use Rattle.tmem_world.specs.SettleSlot.{FitsSlot}
+use Rattle.tmem_world.specs.Slots.{FitsSlot}
 use Rattle.tmem_world.specs.Parts.{layout_in, table_in}
 use Rattle.tmem_world.specs.Represents.{held_of}
 use Rattle.tmem_world.proofs.Points.{held_is, is_with, in_session, slot_holds}
-use Rattle.tmem_world.proofs.SettledSlots.{settles_fit, settles_journal, settles_table}
+use Rattle.tmem_world.proofs.HeldSlots.{settles_fit, settles_journal, settles_table}
 use Rattle.tmem_world.proofs.SettledPoints.{settles}
 use Rattle.tmem_world.proofs.HeldTables.{core_means}
 use Rattle.tmem_world.proofs.world.World.settle.Goals as goal
@@ -17,8 +17,9 @@ pub invariant_of-self-clause-fit : goal.invariant_of-self-clause-fit
 invariant_of-self-clause-fit g c =
     let w = c.args.self.now in
     let arities = g.S.StoredSteps.arities w.steps in
-    let held : FitsSlot w.layout.vars arities w.names.items c.index_mut.result.now = subst (FitsSlot w.layout.vars arities w.names.items) (sym c.index_mut.ensures.value) (w.fit c.args.slot c.index_mut.result.now (omega (arith, w.sized))) in
-    All-set (FitsSlot w.layout.vars arities w.names.items) w.slots.items c.args.slot c.settle_slot.new.slot (settles_fit _ _ w.layout.vars arities w.names.items _ _ _ c.settle_slot.ensures held) w.fit
+    let stated = g.S.StoredSteps.is_stated w.steps in
+    let held : FitsSlot w.layout.vars arities stated w.names.items c.index_mut.result.now = subst (FitsSlot w.layout.vars arities stated w.names.items) (sym c.index_mut.ensures.value) (w.fit c.args.slot c.index_mut.result.now (omega (arith, w.sized))) in
+    All-set (FitsSlot w.layout.vars arities stated w.names.items) w.slots.items c.args.slot c.settle_slot.new.slot (settles_fit w.layout.vars arities stated w.names.items _ _ _ _ _ c.settle_slot.ensures held) w.fit
 
 pub invariant_of-self-clause-same_vars : goal.invariant_of-self-clause-same_vars
 invariant_of-self-clause-same_vars g c =

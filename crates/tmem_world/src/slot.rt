@@ -1,0 +1,90 @@
+// One of the places where a world keeps an attempt.
+ghost use Rattle.std.specs.Prelude.{◌≡◌, ◌↔◌, ℕ, Some, None, [], length, IsTrue, OnOk, IfErr};
+ghost use Rattle.tmem_tree.specs.declared.tx.Tx.{Tx};
+ghost use Rattle.tmem_tree.specs.StepAnswers.{StepMeanings};
+ghost use Rattle.tmem_core.specs.Held.{state_of, table_of};
+ghost use Rattle.tmem_tentative.specs.Cursors.{IsAt, HasEnded, IsAsBefore, given};
+ghost use Rattle.tmem_world.specs.Slots.{HoldsEnded, FitsSlot, TurnsBegun};
+ghost use Rattle.tmem_world.specs.Replies.{failures_by};
+
+use std::alloc::Global;
+use tmem_core::Core;
+use tmem_disk::Fault;
+use tmem_event::Reply;
+use tmem_invariants::Invariants;
+use tmem_tentative::{Cursor, Progress};
+use tmem_tree::{Plan, StoredSteps};
+
+/// One caller's attempt: a plan, and the cursor that evaluates it. Without a plan the cursor only keeps its memory, for the
+/// plan that is begun next.
+#[derive(Drop)]
+pub(crate) struct Slot {
+    pub(crate) plan: Option<Plan>,
+    pub(crate) cursor: Cursor,
+}
+
+impl Slot {
+    /// A slot that holds nothing, and has no memory yet.
+    pub(crate) fn new(alloc: Global) -> Slot
+        ensures { result.plan ≡ None }
+    {
+        Slot {
+            plan: None,
+            cursor: Cursor::idle(alloc),
+        }
+    }
+
+    /// Begins a plan in place of what the slot held. Its only fault is want of memory, and the slot holds what it held then.
+    pub(crate) fn begin(&mut self, plan: Plan) -> Result<(), Fault>
+        ensures plan { OnOk result (self.new.plan ≡ Some plan) }
+        ensures at { OnOk result ((m : StepMeanings) → IsAt m plan self.new.cursor) }
+        ensures given { OnOk result (given self.new.cursor ≡ []) }
+        ensures going { OnOk result (¬ HasEnded self.new.cursor) }
+        ensures same { IfErr result (λ fault. (fault ≡ Fault.Memory) × (self.new.plan ≡ self.old.plan) × IsAsBefore self.old.cursor self.new.cursor) }
+        ensures stays { (m : StepMeanings) (held : Tx) → IsAt m held self.old.cursor → IfErr result (λ _. IsAt m held self.new.cursor) }
+    {
+        self.cursor.restart(&plan)?;
+        self.plan = Some(plan);
+        Ok(())
+    }
+
+    /// Goes on with the plan's evaluation as far as the values allow that it has read. Where it needs one more, it reads the
+    /// present value.
+    pub(crate) fn turn<S: StoredSteps, T: Invariants + Drop>(
+        &mut self,
+        steps: &S,
+        core: &Core<T>,
+    ) -> Reply
+        requires { FitsSlot (length (state_of core.now).values) (S.arities steps.now) (S.is_stated steps.now) (T.names (table_of core.now)) self.old }
+        ensures idle { self.old.plan ≡ None → (result ≡ Reply.Idle) × (self.new ≡ self.old) }
+        ensures ended { HoldsEnded self.old → (result ≡ Reply.Ended) × (self.new ≡ self.old) }
+        ensures begun { (plan : Tx) → self.old.plan ≡ Some plan → ¬ HasEnded self.old.cursor
+            → TurnsBegun (S.is_stated steps.now) (state_of core.now) plan self.old.cursor result self.new.cursor }
+        ensures plan { self.new.plan ≡ self.old.plan }
+        ensures failures { (n : ℕ) → failures_by result n ≡ n }
+        ensures fits { FitsSlot (length (state_of core.now).values) (S.arities steps.now) (S.is_stated steps.now) (T.names (table_of core.now)) self.new }
+    {
+        let Some(plan) = &self.plan else {
+            return Reply::Idle;
+        };
+        if self.cursor.is_ended() {
+            return Reply::Ended;
+        }
+        match self.cursor.advance(plan, steps) {
+            Ok(Progress::Need(var)) => {
+                let value = core.peek(var);
+                self.cursor.give(var, value);
+                Reply::Read { var, value }
+            }
+            Ok(Progress::Ended) => Reply::Ended,
+            Err(fault) => Reply::Fault(fault),
+        }
+    }
+
+    /// Whether it holds an attempt that has ended.
+    pub(crate) fn is_ended(&self) -> bool
+        ensures { IsTrue result ↔ HoldsEnded self.now }
+    {
+        self.plan.is_some() && self.cursor.is_ended()
+    }
+}
