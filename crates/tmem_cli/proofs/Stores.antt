@@ -1,31 +1,27 @@
 -- Entries that are played on a store that has a history.
-use Rattle.std.proofs.Common.{◌≡◌, ◌⊎◌, ⊎_elim, inl, inr, ℕ, ◌≤◌, List, [], ◌∷◌, ◌++◌, Option, refl, sym, ap, subst, ◌∙◌, append_assoc, append-nil}
-use Rattle.std.specs.Prelude.{Result, Ok}
+use Rattle.std.proofs.Common.{◌≡◌, ◌⊎◌, ⊎_elim, inl, inr, ℕ, ◌≤◌, List, [], ◌∷◌, ◌++◌, refl, sym, ap, subst, ◌∙◌, append_assoc, append-nil}
+use Rattle.std.specs.Prelude.{Ok}
 use Rattle.std.proofs.Math.Logic.{∥∥₁_map}
-use Rattle.std.specs.Io.KnownBytes.{Appends}
 use Rattle.tmem_disk.specs.Disk.{DeviceView, IsDevice, AtEachMoment, Elapses}
 use Rattle.tmem_disk.proofs.Laws.{either_time}
-use Rattle.tmem_disk.specs.declared.fault.Fault.{Fault}
 use Rattle.tmem_record.specs.declared.layout.Layout.{Layout}
 use Rattle.tmem_core.specs.Program.{Program}
 use Rattle.tmem_event.specs.declared.event.Event.{Event}
 use Rattle.tmem_event.specs.declared.event.Reply.{Reply}
 use Rattle.tmem_event.specs.declared.event.Reply.TheVariants as reply
-use Rattle.tmem_journal.specs.Stands.{Position}
 use Rattle.tmem_script.specs.Lines.{line_of}
 use Rattle.tmem_script.specs.declared.script.Entry.{Entry}
 use Rattle.tmem_script.specs.declared.script.Entry.TheVariants as entry
 use Rattle.tmem_script.specs.declared.script.Playable.{Playable}
 use Rattle.tmem_world.specs.declared.world.World.{World}
 use Rattle.tmem_world.specs.WorldModel.{Setting, WorldModel, Allows, present, opening}
-use Rattle.tmem_world.specs.Represents.{Means, WritesInStore, setting_of, numbers_of, steps_of, held_table, view_of}
-use Rattle.tmem_world.specs.Chain.{History, IsSafePrefix, IsSafe, IsSafeIn, IsStore, Carries, StepsOn, RunsOn, OpensStore, SessionRun, IsChain, IsChainAt, just_opened, state_at, history_found, history_after}
+use Rattle.tmem_world.specs.Represents.{WritesInStore, setting_of, numbers_of, steps_of, held_table, view_of}
+use Rattle.tmem_world.specs.Chain.{History, IsSafe, IsSafeIn, IsStore, Carries, RunsOn, OpensStore, IsChain, IsChainAt, just_opened, state_at, history_found, history_after}
 use Rattle.tmem_world.proofs.Laws.{grows, WritesInStore-trans}
 use Rattle.tmem_cli.specs.Builtin.{builtin_program, builtin_setting}
 use Rattle.tmem_cli.specs.Printed.{line, shown}
 use Rattle.tmem_cli.specs.Chains.{PrintsOn, events_of, IsSafeAmong, EntriesGoOn, PlaysEntriesOn, PlaysStore}
 use Rattle.tmem_cli.proofs.Playing.{means_stay, same_setting}
-use Rattle.tmem_cli.proofs.Writing.{Appends-then, Appends-nil}
 
 module _ (set : Setting) where
   -- entries and then others

@@ -235,7 +235,7 @@ impl<D: Disk> Journal<D> {
         // Where the write of the gate failed, the whole image stands behind it, and nothing but its copy was written.
         ensures gate_write_failed { IsErrOf result Fault.Unknown → (device_of self.new).last_fault ≡ Some DeviceFault.Write →
             AwaitsGate (placed (layout_of self.old) (next_image (position_of self.old)).copy (next_image (position_of self.old)).generation (state_of self.old))
-                (device_of self.old) (device_of self.new) }
+            (device_of self.old) (device_of self.new) }
 
         // At `Device` it is certain which image is chosen: the old one with its log, or the new one.
         ensures certain { IsErrOf result Fault.Device →

@@ -1,5 +1,5 @@
 -- What the step takes that the tests call.
-use Rattle.std.specs.Prelude.{ℕ, ◌≤◌, [], ◌∷◌, All}
+use Rattle.std.specs.Prelude.{◌≤◌, [], ◌∷◌, All}
 use Rattle.std.proofs.Common.{lit≤}
 use Rattle.std.proofs.lemmas.List.Elements.{All-cons, All-nil}
 

@@ -1,5 +1,4 @@
 pub mod AnyDevicePoints
-pub mod CallsNoDevice
 pub mod Chains
 pub mod DroppedPoints
 pub mod CheckpointedPoints

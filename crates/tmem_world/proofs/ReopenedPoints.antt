@@ -33,7 +33,7 @@ use Rattle.tmem_journal.specs.declared.journal.Journal as owner
 use Rattle.tmem_world.specs.SessionRefusals.{IsWhyNoSession}
 use Rattle.tmem_world.specs.Parts.{disk_in, layout_in, table_in, IsWith}
 use Rattle.tmem_world.specs.AnyDevice.{dropped_by, FindsUnsound, ReopeningRefused}
-use Rattle.tmem_world.specs.WorldModel.{WorldModel, SessionStatus, no_transactions, Open, Closed, Gone, cut, dropped, AllowsReopen, KeepsPosition}
+use Rattle.tmem_world.specs.WorldModel.{WorldModel, SessionStatus, no_transactions, Open, cut, dropped, AllowsReopen, KeepsPosition}
 use Rattle.tmem_world.specs.Represents.{Represents, Means, EachMoment, LooksWhereClosed, StandsCut, HasSession, held_of, held_table, device_of, view_of, session_of}
 use Rattle.tmem_world.proofs.DroppedPoints.{no_slots_held, gone}
 use Rattle.tmem_world.proofs.Mending.{Mending}

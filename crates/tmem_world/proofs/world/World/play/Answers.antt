@@ -91,8 +91,8 @@ loop-event-preserved g c =
               each = λ keeps x left. ⊎_elim
                   (λ was. ∥∥₁_map (before.4.each (c.step-reply.ensures.model keeps) x was) (λ it. safe_within-more set m h es rs before.1 before.0 e r m' allowed x it))
                   (λ is. ∥∥₁_map (moments.each keeps x is) (⊎_elim
-                      (λ earlier. safe_within-last set m h es rs before.1 before.0 before.2 e r m' allowed x earlier)
-                      (λ later. safe_within-all set m h (es ++ e ∷ []) (rs ++ r ∷ []) m' after runs x later)))
+                  (λ earlier. safe_within-last set m h es rs before.1 before.0 before.2 e r m' allowed x earlier)
+                  (λ later. safe_within-all set m h (es ++ e ∷ []) (rs ++ r ∷ []) m' after runs x later)))
                   (either_time old mid new _ c.step-reply.ensures.model so.elsewhere.time.later c.step-reply.ensures.elsewhere.time keeps x left);
             }),
           );
