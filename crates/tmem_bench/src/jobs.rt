@@ -1,4 +1,5 @@
 //! The transactions that are timed.
+ghost use Rattle.std.specs.Prelude.{◌<◌};
 
 use crate::timing::Rounds;
 use std::alloc::{AllocError, Global};
@@ -38,6 +39,8 @@ pub enum Job {
     Choice,
     /// Reads 500 variables.
     Reads,
+    /// The same as `Add`, where the one before was `Reads`.
+    AddAfter,
     /// Writes a variable, and reads none.
     Write,
 }
@@ -51,7 +54,22 @@ impl Job {
             Job::Look => "two reads",
             Job::Choice => "choice",
             Job::Reads => "500 reads",
+            Job::AddAfter => "add after 500 reads",
             Job::Write => "write",
+        }
+    }
+
+    /// The attempt slot that it is run in: one of its own, but where it comes after another.
+    pub fn slot(self) -> u8
+        ensures { result < 16 }
+    {
+        match self {
+            Job::Add => 0,
+            Job::Transfer => 1,
+            Job::Look => 2,
+            Job::Choice => 3,
+            Job::Reads | Job::AddAfter => 4,
+            Job::Write => 5,
         }
     }
 
@@ -72,7 +90,7 @@ impl Job {
     /// Its transaction.
     pub fn tree(self, alloc: Global) -> Result<Tx, AllocError> {
         match self {
-            Job::Add => add_one(alloc),
+            Job::Add | Job::AddAfter => add_one(alloc),
             Job::Transfer => transfer(alloc),
             Job::Look => two_reads(alloc),
             Job::Choice => choice(alloc),

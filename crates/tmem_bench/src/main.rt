@@ -1,6 +1,7 @@
 //! Benchmarks: how long transactions of several kinds take, on the core alone and through a world.
 //!
-//! With the word `once` each kind is run once, and its answers are printed in place of times.
+//! A line has nanoseconds for each transaction. With the name of a kind as a word, only that one is run; with the word `once`
+//! what the transactions are answered is printed in place of times.
 #![tactic(auto)]
 
 ghost use Rattle.std.specs.Prelude.{◌≡◌, length};
@@ -16,7 +17,7 @@ mod timing;
 use anyhow::Result;
 use jobs::{INVARIANTS, VARS, footprint};
 use registering::name_at;
-use report::report;
+use report::{Wish, report};
 use std::alloc::Global;
 use std::env;
 use std::rt::Clock;
@@ -26,7 +27,17 @@ use tmem_tree::StepAnswer;
 
 fn main(rt: HostRuntime) -> Result<()> {
     let alloc = rt.alloc();
-    let is_once = env::args(&rt)?.any(|word| word.as_str() == "once");
+    let mut wish = Wish {
+        is_once: false,
+        only: None,
+    };
+    for word in env::args(&rt)?.skip(1) {
+        if word.as_str() == "once" {
+            wish.is_once = true;
+        } else {
+            wish.only = Some(word);
+        }
+    }
     let mut invariants = Vec::new(alloc);
     for place in 0..INVARIANTS {
         let test = Box::new(alloc, |values: &[i64]| -> bool {
@@ -36,7 +47,7 @@ fn main(rt: HostRuntime) -> Result<()> {
         invariants.push(invariant)?;
     }
     let table = Table::of(alloc, invariants, VARS)?;
-    with_steps(&rt, alloc, table, is_once)
+    with_steps(&rt, alloc, table, &wish)
 }
 
 // Makes the stored steps, and runs all benchmarks.
@@ -44,7 +55,7 @@ fn with_steps<R: Clock + Print, T: Invariants + Drop>(
     rt: &R,
     alloc: Global,
     table: T,
-    is_once: bool,
+    wish: &Wish,
 ) -> Result<()>
     requires { T.vars table ≡ 1024 }
 {
@@ -70,5 +81,5 @@ fn with_steps<R: Clock + Print, T: Invariants + Drop>(
         { need(args) },
     )?;
     let steps = steps_of(alloc, total, difference, floor)?;
-    report(rt, alloc, table, steps, is_once)
+    report(rt, alloc, table, steps, wish)
 }

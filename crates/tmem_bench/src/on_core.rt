@@ -67,6 +67,12 @@ impl<T: Invariants + Drop, S: StoredSteps + Drop> OnCore<T, S> {
         Ok(())
     }
 
+    /// Takes another cursor, which has no memory yet.
+    pub fn renew(&mut self) -> Result<(), Fault> {
+        self.cursor = Cursor::new(self.alloc, &self.plan)?;
+        Ok(())
+    }
+
     /// Evaluates the plan, from its start each time that it needs a value, and settles it.
     pub fn by_evaluate(&mut self) -> Result<Settled, Fault> {
         let mut reads = Reads::new(self.alloc);

@@ -1,5 +1,5 @@
 //! Transactions through a world, over a device in memory.
-ghost use Rattle.std.specs.Prelude.{◌≡◌};
+ghost use Rattle.std.specs.Prelude.{◌≡◌, ◌<◌};
 
 use crate::jobs::{Job, VARS};
 use crate::timing::{Rounds, each};
@@ -38,13 +38,16 @@ pub fn new_store<T: Invariants + Drop, S: StoredSteps + Drop>(
 /// Begins a transaction, evaluates it to its end, and settles it.
 pub fn transact<T: Invariants + Drop, S: StoredSteps + Drop>(
     world: &mut World<SimDisk, T, S>,
+    slot: u8,
     tx: Tx,
-) -> Reply {
-    world.step(Event::Begin { slot: 0, tx });
+) -> Reply
+    requires { slot < 16 }
+{
+    world.step(Event::Begin { slot, tx });
     for _ in 0..=MAX_NODES {
-        let reply = world.step(Event::Turn { slot: 0 });
+        let reply = world.step(Event::Turn { slot });
         if matches!(reply, Reply::Ended) {
-            return world.step(Event::Settle { slot: 0 });
+            return world.step(Event::Settle { slot });
         }
     }
     Reply::Idle
@@ -77,7 +80,7 @@ pub fn measure<C: Clock, T: Invariants + Drop, S: StoredSteps + Drop>(
     for round in 0..rounds.count {
         let txs = trees(alloc, job, rounds.length)?;
         let start = Instant::now(rt)?;
-        play(world, txs);
+        play(world, job.slot(), txs);
         played = played.min(start.elapsed(rt)?);
         let start = Instant::now(rt)?;
         world.step(Event::Flush);
@@ -104,9 +107,12 @@ fn trees(alloc: Global, job: Job, length: u32) -> Result<Vec<Tx>, AllocError> {
 // Plays transactions, one after another.
 fn play<T: Invariants + Drop, S: StoredSteps + Drop>(
     world: &mut World<SimDisk, T, S>,
+    slot: u8,
     txs: Vec<Tx>,
-) {
+)
+    requires { slot < 16 }
+{
     for tx in txs {
-        transact(world, tx);
+        transact(world, slot, tx);
     }
 }
