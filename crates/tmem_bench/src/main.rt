@@ -5,6 +5,8 @@
 #![tactic(auto)]
 
 ghost use Rattle.std.specs.Prelude.{◌≡◌, length};
+ghost use Rattle.std.specs.List.{list_any};
+ghost use Rattle.tmem_bench.specs.Accounts.{has_no_negative, is_negative};
 ghost use Rattle.tmem_builtins.specs.Steps.{sum_of, difference_of, at_least};
 
 mod jobs;
@@ -40,14 +42,24 @@ fn main(rt: HostRuntime) -> Result<()> {
     }
     let mut invariants = Vec::new(alloc);
     for place in 0..INVARIANTS {
-        let test = Box::new(alloc, |values: &[i64]| -> bool {
-            values.iter().all(|value| *value >= 0)
-        })?;
+        let test = Box::new(
+            alloc,
+            |values: &[i64]| -> bool
+                ensures { result ≡ has_no_negative values.now }
+            { !has_negative(values) },
+        )?;
         let invariant = Invariant::new(name_at(place)?, footprint(alloc, place)?, test)?;
         invariants.push(invariant)?;
     }
     let table = Table::of(alloc, invariants, VARS)?;
     with_steps(&rt, alloc, table, &wish)
+}
+
+// Whether one of the values is below 0.
+fn has_negative(values: &[i64]) -> bool
+    ensures { result ≡ list_any is_negative values.now }
+{
+    values.iter().any(|value| *value < 0)
 }
 
 // Makes the stored steps, and runs all benchmarks.

@@ -2,6 +2,7 @@
 ghost use Rattle.std.specs.Prelude.{◌≡◌, length, IfOk};
 ghost use Rattle.tmem_core.specs.Held.{state_of, table_of};
 ghost use Rattle.tmem_tree.specs.Plans.{FitsSteps, FitsVariables, FitsNames};
+ghost use Rattle.tmem_tentative.specs.Fits.{IsForVariables, IsWithin, IsNamed};
 
 use crate::jobs::{VARS, deposit};
 use crate::timing::{Rounds, each};
@@ -63,8 +64,26 @@ impl<T: Invariants + Drop, S: StoredSteps + Drop> OnCore<T, S> {
 
     /// Takes another plan.
     pub fn take(&mut self, tx: Tx) -> Result<(), Fault> {
-        self.plan = Plan::new(tx, &self.steps, VARS, &self.names)?;
+        let plan = self.plan_of(tx)?;
+        self.plan = plan;
         Ok(())
+    }
+
+    // The plan of a transaction.
+    fn plan_of(&self, tx: Tx) -> Result<Plan, Fault>
+        ensures steps { IfOk result (FitsSteps (S.arities self.now.steps)) }
+        ensures variables { IfOk result (FitsVariables 1024) }
+        ensures names { IfOk result (FitsNames self.now.names.items) }
+    {
+        Plan::new(tx, &self.steps, VARS, &self.names)
+    }
+
+    // What the plan comes to on these values.
+    fn outcome(&self, reads: &Reads) -> Result<Outcome, Fault>
+        ensures within { IfOk result (IsWithin 1024) }
+        ensures named { IfOk result (IsNamed self.now.names.items) }
+    {
+        evaluate(self.alloc, &self.plan, &self.steps, reads)
     }
 
     /// Takes another cursor, which has no memory yet.
@@ -77,7 +96,7 @@ impl<T: Invariants + Drop, S: StoredSteps + Drop> OnCore<T, S> {
     pub fn by_evaluate(&mut self) -> Result<Settled, Fault> {
         let mut reads = Reads::new(self.alloc);
         for _ in 0..=MAX_NODES {
-            match evaluate(self.alloc, &self.plan, &self.steps, &reads)? {
+            match self.outcome(&reads)? {
                 Outcome::Need(var) => {
                     reads.insert(var, self.core.peek(var))?;
                 }
@@ -119,13 +138,16 @@ impl<T: Invariants + Drop, S: StoredSteps + Drop> OnCore<T, S> {
         })
     }
 
-    /// What it takes to settle the plan, in nanoseconds, where it reads nothing: it is evaluated once.
+    /// What it takes to settle the plan, in nanoseconds, where it reads and checks nothing: it is evaluated once.
     pub fn measure_settling<C: Clock>(&mut self, rt: &C, rounds: Rounds) -> Result<f64> {
         let reads = Reads::new(self.alloc);
-        let attempt = match evaluate(self.alloc, &self.plan, &self.steps, &reads)? {
+        let attempt = match self.outcome(&reads)? {
             Outcome::Ended(attempt) => attempt,
             Outcome::Need(_) => return Ok(0.0),
         };
+        if !attempt.effect.names.as_slice().is_empty() {
+            return Ok(0.0);
+        }
         let mut settled = Duration::MAX;
         for _ in 0..rounds.count {
             let start = Instant::now(rt)?;
@@ -143,24 +165,27 @@ impl<T: Invariants + Drop, S: StoredSteps + Drop> OnCore<T, S> {
         (core.into_table(), steps)
     }
 
-    fn round_by_evaluate(&mut self, length: u32) -> Result<(), Fault> {
-        for _ in 0..length {
+    fn round_by_evaluate(&mut self, times: u32) -> Result<(), Fault> {
+        for _ in 0..times {
             self.by_evaluate()?;
         }
         self.note_durable();
         Ok(())
     }
 
-    fn round_by_cursor(&mut self, length: u32) -> Result<(), Fault> {
-        for _ in 0..length {
+    fn round_by_cursor(&mut self, times: u32) -> Result<(), Fault> {
+        for _ in 0..times {
             self.by_cursor()?;
         }
         self.note_durable();
         Ok(())
     }
 
-    fn round_of_settlings(&mut self, attempt: &Attempt, length: u32) -> Result<(), Fault> {
-        for _ in 0..length {
+    fn round_of_settlings(&mut self, attempt: &Attempt, times: u32) -> Result<(), Fault>
+        requires variables { IsForVariables 1024 attempt.now }
+        requires names { length attempt.now.effect.names ≡ 0 }
+    {
+        for _ in 0..times {
             self.core.settle(attempt)?;
         }
         self.note_durable();
