@@ -18,4 +18,11 @@ wrong-bodies:
 	copy=$$(mktemp -d) && trap 'rm -rf "$$copy"' EXIT && git clone -q . "$$copy" && cd "$$copy" && rm -rf crates/*/must-fail && \
 	for folder in crates/*/wrong-bodies; do mv $$folder $${folder%/*}/must-fail; done && rt must-fail
 
-.PHONY: run build test wrong-bodies
+# Proves the benchmarks, and runs them: nanoseconds for each transaction, and then how often each asks for memory.
+bench:
+	cd crates/tmem_bench && rt run 2> out/run.log || { cat out/run.log; false; }
+	$${CC:-cc} -O1 -shared -fPIC -o crates/tmem_bench/out/allocations.so crates/tmem_bench/allocations.c -ldl
+	@echo "requests for memory, in place of nanoseconds:"
+	LD_PRELOAD=$$PWD/crates/tmem_bench/out/allocations.so crates/tmem_bench/out/tmem_bench
+
+.PHONY: run build test wrong-bodies bench
