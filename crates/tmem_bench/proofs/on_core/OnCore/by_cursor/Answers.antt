@@ -1,5 +1,4 @@
-use Rattle.std.proofs.Common.{◌≡◌, ◌<◌, ℕ, List, length, sym, subst}
-use Rattle.tmem_core.specs.Held.{state_of, table_of}
+use Rattle.std.proofs.Common.{◌<◌, sym, subst}
 use Rattle.tmem_tentative.specs.Cursors.{outcome_of}
 use Rattle.tmem_tentative.specs.Fits.{IsForVariables, IsForNames, IsWithin, IsNamed}
 use Rattle.tmem_bench.proofs.on_core.OnCore.by_cursor.Goals as goal

@@ -1,4 +1,4 @@
-use Rattle.std.proofs.Common.{◌≡◌, ◌∙◌, sym, ap, subst}
+use Rattle.std.proofs.Common.{◌∙◌, sym, ap, subst}
 use Rattle.tmem_tree.specs.Plans.{FitsSteps, FitsVariables, FitsNames}
 use Rattle.tmem_bench.proofs.on_core.OnCore.new.Goals as goal
 
