@@ -5,7 +5,7 @@ ghost use Rattle.tmem_tree.specs.StepAnswers.{StepMeanings};
 ghost use Rattle.tmem_tree.specs.Plans.{FitsSteps};
 ghost use Rattle.tmem_tentative.specs.Cursors.{IsAt};
 
-use crate::{Cursor, Ending, Outcome, Progress, Reads, evaluate};
+use crate::{Cursor, Ending, Outcome, Reads, evaluate};
 use std::alloc::{AllocError, Global};
 use std::cell::Cell;
 use std::test::Fail;
@@ -72,12 +72,12 @@ fn gone_on<S: StoredSteps>(cursor: &mut Cursor, plan: &Plan, steps: &S) -> Resul
     requires at { (m : StepMeanings) → S.is_stated steps.now m → IsAt m plan.now cursor.old }
     ensures { (m : StepMeanings) → S.is_stated steps.now m → IsAt m plan.now cursor.new }
 {
-    match cursor.advance(plan, steps)? {
-        Progress::Need(var) => {
+    match cursor.resume(plan, steps)? {
+        Outcome::Need(var) => {
             cursor.give(var, 0);
             Ok(false)
         }
-        Progress::Ended => Ok(cursor.attempt().ending == Ending::Retry),
+        Outcome::Ended(attempt) => Ok(attempt.ending == Ending::Retry),
     }
 }
 
