@@ -1,9 +1,6 @@
 //! Checkpoints: what they free, what they keep, and what a stop inside one leaves.
-ghost use Rattle.std.specs.Prelude.{◌≡◌, ℕ, IfOk};
-ghost use Rattle.tmem_core.specs.Program.{Program};
-ghost use Rattle.tmem_disk.specs.Power.{IsStopped};
-ghost use Rattle.tmem_disk.specs.SimParts.{power_of, view_of};
-ghost use Rattle.tmem_world.specs.Chain.{History, IsStore};
+ghost use Rattle.std.specs.Prelude.{◌≡◌, IfOk};
+ghost use Rattle.tmem_disk.specs.SimParts.{view_of};
 ghost use Rattle.tmem_world.specs.Represents.{numbers_of, HoldsSession};
 
 use super::no_closures::{AlwaysRetries, AlwaysTrue};
@@ -11,7 +8,7 @@ use super::{commit, committed, formatted, fresh, opened, write};
 use std::alloc::Global;
 use std::test::Fail;
 use tmem_disk::{Disk, Fault, Fill, SimDisk};
-use tmem_world::{Event, Reply, World, crash_leaves_store};
+use tmem_world::{Event, Reply, World};
 
 /// What these tests play on: a world of four variables and two log slots.
 type Small = World<SimDisk, AlwaysTrue, AlwaysRetries>;
@@ -140,15 +137,6 @@ fn the_bytes_of_a_checkpoint(rt: HostRuntime) -> Result<(), Fail> {
     Ok(())
 }
 
-/// Starts a stopped device again. It is a store with the same history then, if it was one before.
-fn start_again(disk: &mut SimDisk)
-    requires { IsStopped (power_of disk.old) }
-    ensures { (program : Program) (vars slots : ℕ) (h : History) → IsStore program vars slots h (view_of disk.old) → IsStore program vars slots h (view_of disk.new) }
-{
-    crash_leaves_store::<SimDisk>();
-    disk.restart();
-}
-
 /// What a checkpoint over a full log, with one more transaction that waits, answers on a device that stops at the write of
 /// it that starts at this place, and what the stop left.
 fn torn(alloc: Global, place: u64, byte: u8) -> Result<(Reply, SimDisk), Fail> {
@@ -161,7 +149,7 @@ fn torn(alloc: Global, place: u64, byte: u8) -> Result<(Reply, SimDisk), Fail> {
     if !disk.is_stopped() {
         return Err(Fail::new("it did not stop"));
     }
-    start_again(&mut disk);
+    disk.restart();
     Ok((reply, disk))
 }
 
@@ -204,7 +192,7 @@ fn torn_twice(alloc: Global, byte: u8) -> Result<(u64, i64), Fail> {
     if fault != Fault::Device || !disk.is_stopped() {
         return Err(Fail::new("it did not stop"));
     }
-    start_again(&mut disk);
+    disk.restart();
     found_on(alloc, disk)
 }
 
