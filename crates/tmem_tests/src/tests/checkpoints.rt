@@ -4,7 +4,7 @@ ghost use Rattle.tmem_disk.specs.SimParts.{view_of};
 ghost use Rattle.tmem_world.specs.Represents.{numbers_of, HoldsSession};
 
 use super::no_closures::{AlwaysRetries, AlwaysTrue};
-use super::{commit, committed, formatted, fresh, opened, write};
+use super::{commit, formatted, write};
 use std::alloc::Global;
 use std::test::Fail;
 use tmem_disk::{Disk, Fault, Fill, SimDisk};
@@ -65,6 +65,15 @@ fn put(alloc: Global, world: &mut Small, number: i64) -> Result<(), Fail>
 }
 
 /// The same, and flushes.
+fn flushed(alloc: Global, world: &mut Small, number: i64) -> Result<Reply, Fail>
+    ensures { numbers_of world.new ≡ numbers_of world.old }
+{
+    let tx = write(alloc, 0, number)?;
+    let _ = commit(world, tx);
+    Ok(world.step(Event::Flush))
+}
+
+/// The same, with no answer.
 fn fill(alloc: Global, world: &mut Small, number: i64) -> Result<(), Fail>
     ensures { numbers_of world.new ≡ numbers_of world.old }
 {
@@ -87,24 +96,6 @@ fn full(alloc: Global) -> Result<Small, Fail>
 fn found_on(alloc: Global, disk: SimDisk) -> Result<(u64, i64), Fail> {
     let world = small(alloc, disk)?;
     Ok((world.count(), world.value(0)))
-}
-
-#[test]
-fn a_checkpoint_frees_a_full_log(rt: HostRuntime) -> Result<(), Fail> {
-    let alloc = rt.alloc();
-    let mut world = small(alloc, empty(alloc)?)?;
-    put(alloc, &mut world, 1)?;
-    assert!(rt; world.step(Event::Flush) == Reply::Durable(1));
-    put(alloc, &mut world, 2)?;
-    assert!(rt; world.step(Event::Flush) == Reply::Durable(2));
-    put(alloc, &mut world, 3)?;
-    assert!(rt; world.step(Event::Flush) == Reply::Fault(Fault::LogFull));
-    assert!(rt; world.step(Event::Checkpoint) == Reply::Checkpointed);
-    assert!(rt; world.step(Event::Flush) == Reply::Durable(3));
-    assert!(rt; world.step(Event::Reopen) == Reply::Opened(3));
-    assert!(rt; world.is_open());
-    assert_eq!(rt; (world.count(), world.value(0)), (3, 3));
-    Ok(())
 }
 
 #[test]
@@ -175,8 +166,7 @@ fn a_torn_checkpoint_loses_nothing(rt: HostRuntime) -> Result<(), Fail> {
         assert_eq!(rt; found_on(alloc, disk)?, (2, 2));
         let (_, disk) = torn(alloc, place, byte)?;
         let mut world = small(alloc, disk)?;
-        put(alloc, &mut world, 3)?;
-        assert!(rt; world.step(Event::Flush) == next);
+        assert!(rt; flushed(alloc, &mut world, 3)? == next);
     }
     Ok(())
 }
@@ -220,121 +210,11 @@ fn a_torn_checkpoint_closes_the_session(rt: HostRuntime) -> Result<(), Fail> {
 }
 
 #[test]
-fn with_no_session_there_is_no_checkpoint(rt: HostRuntime) -> Result<(), Fail> {
-    let mut disk = empty(rt.alloc())?;
-    // each opening syncs once
-    disk.fail_sync(1);
-    let mut world = small(rt.alloc(), disk)?;
-    assert!(rt; world.step(Event::Reopen) == Reply::Fault(Fault::Device));
-    assert!(rt; world.step(Event::Checkpoint) == Reply::Fault(Fault::Closed));
-    assert!(rt; world.step(Event::Reopen) == Reply::Opened(0));
-    assert!(rt; world.step(Event::Checkpoint) == Reply::Checkpointed);
-    Ok(())
-}
-
-#[test]
 fn an_open_image_of_a_lesser_generation_counts_for_nothing(rt: HostRuntime) -> Result<(), Fail> {
     let mut disk = full(rt.alloc())?.into_disk();
     assert_eq!(rt; disk.size(), SIZE);
     // copy 1 over generation 0, which no image has
     disk.write_at(GATE, &[0xA5])?;
     assert_eq!(rt; found_on(rt.alloc(), disk)?, (2, 2));
-    Ok(())
-}
-
-#[test]
-fn a_checkpoint_with_nothing_behind_another(rt: HostRuntime) -> Result<(), Fail> {
-    let mut world = full(rt.alloc())?;
-    assert!(rt; world.step(Event::Checkpoint) == Reply::Checkpointed);
-    assert!(rt; world.step(Event::Checkpoint) == Reply::Checkpointed);
-    assert!(rt; world.step(Event::Reopen) == Reply::Opened(2));
-    assert!(rt; world.is_open());
-    assert_eq!(rt; (world.count(), world.value(0)), (2, 2));
-    let mut disk = world.into_disk();
-    assert_eq!(rt; disk.size(), SIZE);
-    // the third image is in copy 0, and the second one still in copy 1
-    let mut image = [0; 2];
-    disk.read(512, &mut image)?;
-    assert_eq!(rt; image, [0xA5, 3]);
-    disk.read(GATE, &mut image)?;
-    assert_eq!(rt; image, [0xA5, 2]);
-    Ok(())
-}
-
-/// Whether a transaction is flushed as the one of this count, and a checkpoint and a reopening go well behind it.
-fn goes_well(alloc: Global, world: &mut Small, number: i64, count: u64) -> Result<bool, Fail>
-    ensures { numbers_of world.new ≡ numbers_of world.old }
-{
-    put(alloc, world, number)?;
-    let flushed = world.step(Event::Flush) == Reply::Durable(count);
-    let checkpointed = world.step(Event::Checkpoint) == Reply::Checkpointed;
-    let opened = world.step(Event::Reopen) == Reply::Opened(count);
-    Ok(flushed && checkpointed && opened)
-}
-
-#[test]
-fn five_checkpoints_with_transactions_between_them(rt: HostRuntime) -> Result<(), Fail> {
-    let alloc = rt.alloc();
-    let mut world = small(alloc, empty(alloc)?)?;
-    assert!(rt; goes_well(alloc, &mut world, 10, 1)?);
-    assert!(rt; goes_well(alloc, &mut world, 20, 2)?);
-    assert!(rt; goes_well(alloc, &mut world, 30, 3)?);
-    assert!(rt; goes_well(alloc, &mut world, 40, 4)?);
-    assert!(rt; goes_well(alloc, &mut world, 50, 5)?);
-    assert!(rt; world.is_open());
-    assert_eq!(rt; (world.count(), world.value(0)), (5, 50));
-    Ok(())
-}
-
-#[test]
-fn what_waits_at_a_checkpoint_goes_on_waiting(rt: HostRuntime) -> Result<(), Fail> {
-    let alloc = rt.alloc();
-    let mut world = small(alloc, empty(alloc)?)?;
-    assert!(rt; commit(&mut world, write(alloc, 0, 5)?) == committed(0, 5));
-    let tx = write(alloc, 0, 6)?;
-    assert!(rt; world.step(Event::Begin { slot: 1, tx }) == Reply::Begun);
-    assert!(rt; world.step(Event::Checkpoint) == Reply::Checkpointed);
-    assert!(rt; world.step(Event::Look) == Reply::Looked(0));
-    // the slot still holds its plan
-    assert!(rt; world.step(Event::Turn { slot: 1 }) == Reply::Ended);
-    assert!(rt; world.step(Event::Settle { slot: 1 }) == committed(1, 6));
-    assert!(rt; world.step(Event::Flush) == Reply::Durable(2));
-    assert!(rt; world.step(Event::Reopen) == Reply::Opened(2));
-    Ok(())
-}
-
-#[test]
-fn a_checkpoint_makes_nothing_durable(rt: HostRuntime) -> Result<(), Fail> {
-    let alloc = rt.alloc();
-    let mut world = small(alloc, empty(alloc)?)?;
-    assert!(rt; commit(&mut world, write(alloc, 0, 5)?) == committed(0, 5));
-    assert!(rt; world.step(Event::Checkpoint) == Reply::Checkpointed);
-    assert!(rt; world.step(Event::Reopen) == Reply::Opened(0));
-    Ok(())
-}
-
-#[test]
-fn behind_the_greatest_generation_there_is_no_checkpoint(rt: HostRuntime) -> Result<(), Fail> {
-    let alloc = rt.alloc();
-    let mut disk = fresh(alloc)?;
-    assert_eq!(rt; disk.size(), 22016);
-    disk.write_at(513, &[0xFF; 8])?;
-    disk.sync()?;
-    let mut world = opened(alloc, disk, AlwaysTrue { vars: 4 }, AlwaysRetries)?;
-    assert_eq!(rt; (world.count(), world.value(0)), (0, 0));
-    assert!(rt; world.step(Event::Checkpoint) == Reply::Fault(Fault::Spent));
-    // the session stands, and its log takes what it has room for
-    put(alloc, &mut world, 1)?;
-    assert!(rt; world.step(Event::Flush) == Reply::Durable(1));
-    put(alloc, &mut world, 2)?;
-    assert!(rt; world.step(Event::Flush) == Reply::Durable(2));
-    put(alloc, &mut world, 3)?;
-    assert!(rt; world.step(Event::Flush) == Reply::Durable(3));
-    put(alloc, &mut world, 4)?;
-    assert!(rt; world.step(Event::Flush) == Reply::Durable(4));
-    put(alloc, &mut world, 5)?;
-    assert!(rt; world.step(Event::Flush) == Reply::Fault(Fault::LogFull));
-    assert!(rt; world.step(Event::Checkpoint) == Reply::Fault(Fault::Spent));
-    assert!(rt; world.step(Event::Reopen) == Reply::Opened(4));
     Ok(())
 }
