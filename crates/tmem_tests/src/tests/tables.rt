@@ -2,7 +2,7 @@
 ghost use Rattle.std.specs.Prelude.{◌≡◌, ◌<◌, false, length, IfOk};
 ghost use Rattle.tmem_invariants.specs.Answers.{MayCall, HasMeaning};
 ghost use Rattle.tmem_builtins.specs.Invariants.{is_not_negative};
-ghost use Rattle.tmem_tests.specs.Examples.{is_last_not_negative, is_sum_not_negative};
+ghost use Rattle.tmem_tests.specs.Examples.{is_last_not_negative};
 
 use super::no_closures::{AlwaysRetries, AlwaysTrue};
 use super::{commit, committed, formatted, fresh, opened, refusal, write};
@@ -206,81 +206,4 @@ fn sixty_four_invariants_over_sixteen_variables_are_registered(
         entries.push(Invariant::new(numbered(n)?, footprint, last)?)?;
     }
     keeps_sixty_four(&rt, alloc, Table::of(alloc, entries, 16)?)
-}
-
-/// Over 64 variables, an invariant for each two neighbours, and one for the last and the first: that their sum is at least 0.
-fn neighbours(alloc: Global) -> Result<Table, Fault>
-    ensures { IfOk result (λ table. table.vars ≡ 64) }
-{
-    let mut entries = Vec::new(alloc);
-    for n in 0..64u8 {
-        let sum = Box::new(
-            alloc,
-            |values: &[i64]| -> bool
-                requires { length values.now ≡ 2 }
-                ensures { result ≡ is_sum_not_negative values.now }
-            { values[0] as i128 + values[1] as i128 >= 0 },
-        )?;
-        let footprint = vec![in alloc; u16::from(n), u16::from((n + 1) % 64)]?;
-        entries.push(Invariant::new(numbered(n)?, footprint, sum)?)?;
-    }
-    Table::of(alloc, entries, 64)
-}
-
-#[test]
-fn a_variable_has_the_set_of_the_invariants_over_it(rt: HostRuntime) -> Result<(), Fail> {
-    let table = neighbours(rt.alloc())?;
-    assert_eq!(rt; table.touching(5), 0b11_0000);
-    assert_eq!(rt; table.touching(0), 1 << 63 | 1);
-    assert_eq!(rt; table.touching(63), 0b11 << 62);
-    Ok(())
-}
-
-#[test]
-fn the_first_false_one_over_a_written_variable_is_named(rt: HostRuntime) -> Result<(), Fail> {
-    let table = neighbours(rt.alloc())?;
-    for (var, first) in [(5, 4), (0, 0), (63, 62)] {
-        let mut values = [0; 64];
-        values[usize::from(var)] = -1;
-        let written = [(var, -1)];
-        assert_eq!(rt;
-            table.test_touched(&values, u64::MAX, 0, &written),
-            Some(first)
-        );
-        assert_eq!(rt;
-            table.test_touched(&values, 0, u64::MAX, &written),
-            Some(first)
-        );
-        assert_eq!(rt; table.test_touched(&values, 0, 0, &written), None);
-        assert_eq!(rt; table.test_touched(&values, u64::MAX, 0, &[(30, 0)]), None);
-        assert_eq!(rt; table.test_all(&values, u64::MAX, 0), Some(first));
-    }
-    Ok(())
-}
-
-/// Over 64 variables, registers 64 invariants, and writes that break two of them are refused by the first.
-fn refuses_by_neighbours<T: Invariants + Drop>(
-    rt: &impl Abort,
-    alloc: Global,
-    table: T,
-) -> Result<(), Fail>
-    requires { T.vars table ≡ 64 }
-{
-    let disk = formatted(alloc, 64, 4)?;
-    let mut world = World::open(alloc, disk, 64, 4, table, AlwaysRetries).map_err(
-        |refusal| refusal.0,
-    )?;
-    register_all(rt, alloc, &mut world)?;
-    let (inner, first) = (write(alloc, 5, -1)?, write(alloc, 0, -1)?);
-    assert!(rt; commit(&mut world, inner) == Reply::Settled(Settled::Refused(numbered(4)?)));
-    assert!(rt; commit(&mut world, first) == Reply::Settled(Settled::Refused(numbered(0)?)));
-    Ok(())
-}
-
-#[test]
-fn a_write_is_refused_by_the_first_invariant_over_its_variable(
-    rt: HostRuntime,
-) -> Result<(), Fail> {
-    let alloc = rt.alloc();
-    refuses_by_neighbours(&rt, alloc, neighbours(alloc)?)
 }
