@@ -210,7 +210,7 @@ impl<T: Invariants + Drop> Core<T> {
             return Err(Fault::Conflict);
         }
         match attempt.ending {
-            Ending::Normal => self.settle_normal(&attempt.effect, attempt.registers),
+            Ending::Normal => self.settle_normal(&attempt.effect, &attempt.registers),
             Ending::Retry => Ok(Settled::Retry),
             Ending::Abort(code) => Ok(Settled::Aborted(code)),
         }
@@ -220,12 +220,12 @@ impl<T: Invariants + Drop> Core<T> {
     fn settle_normal(
         &mut self,
         effect: &Effect,
-        registers: [i64; REGISTERS],
+        registers: &[i64; REGISTERS],
     ) -> Result<Settled, Fault>
         requires variables { All (λ var. var < length (state_of self.old).values) (keys_of effect.now.writes) }
         requires names { All (λ name. IsTrue (has_name (T.names (table_of self.old)) name)) effect.now.names }
         ensures answer { (p : Program) → p.names ≡ T.names (table_of self.old) → T.is_stated (table_of self.old) p.tests
-            → result ≡ normal_answer p (state_of self.old) (durable_of self.old) effect.now registers }
+            → result ≡ normal_answer p (state_of self.old) (durable_of self.old) effect.now registers.now }
         ensures refused { IfErr result IsRefusal }
         ensures state { state_of self.new ≡ fold (state_of self.old) (accepted_by result effect.now) }
         ensures history { (opened_of self.new ≡ opened_of self.old) × (history_of self.new ≡ history_of self.old ++ accepted_by result effect.now) }
@@ -268,14 +268,14 @@ impl<T: Invariants + Drop> Core<T> {
         &mut self,
         effect: &Effect,
         proposed: u64,
-        registers: [i64; REGISTERS],
+        registers: &[i64; REGISTERS],
     ) -> Result<Settled, Fault>
         requires variables { All (λ var. var < length (state_of self.old).values) (keys_of effect.now.writes) }
         requires proposed { ArePlacesOf effect.now.names (T.names (table_of self.old)) proposed }
         requires room { length (with_names (state_of self.old).names effect.now.names) ≤ MAX_NAMES }
         requires known { All (λ name. IsTrue (has_name (T.names (table_of self.old)) name)) (apply (state_of self.old) effect.now).names }
         requires sound { (m : Meanings) → T.is_stated (table_of self.old) m → AllHold m (apply (state_of self.old) effect.now).names (apply (state_of self.old) effect.now).values }
-        ensures answer { result ≡ sound_answer (state_of self.old) (durable_of self.old) effect.now registers }
+        ensures answer { result ≡ sound_answer (state_of self.old) (durable_of self.old) effect.now registers.now }
         ensures refused { IfErr result IsRefusal }
         ensures state { state_of self.new ≡ fold (state_of self.old) (accepted_by result effect.now) }
         ensures history { (opened_of self.new ≡ opened_of self.old) × (history_of self.new ≡ history_of self.old ++ accepted_by result effect.now) }
@@ -289,7 +289,7 @@ impl<T: Invariants + Drop> Core<T> {
         if effect.is_empty() {
             return Ok(Settled::Seen {
                 at: number,
-                registers,
+                registers: *registers,
             });
         }
         if number - self.durable == MAX_WAITING as u64 {
@@ -302,7 +302,10 @@ impl<T: Invariants + Drop> Core<T> {
         self.places |= proposed;
         self.waiting.push(effect);
         self.history = History::with(&self.history, effect);
-        Ok(Settled::Committed { number, registers })
+        Ok(Settled::Committed {
+            number,
+            registers: *registers,
+        })
     }
 
     /// Empties the batch and puts in what waits from this number on: each next record as long as the batch has fewer than 64

@@ -4,6 +4,7 @@ use Rattle.std.proofs.lemmas.Bool.{eqb-true}
 use Rattle.indexmap.specs.IndexMap.{insert_entry}
 use Rattle.tmem_record.specs.State.{no_effect}
 use Rattle.tmem_record.specs.Writes.{look}
+use Rattle.tmem_tree.specs.Limits.{choices}
 use Rattle.tmem_tree.specs.Plans.{IsWithinLimits}
 use Rattle.tmem_tree.specs.Run.{no_registers}
 use Rattle.tmem_tree.specs.declared.tx.Tx.{Tx}
@@ -19,7 +20,7 @@ use Rattle.tmem_tentative.specs.declared.flow.Flow.TheVariants as flow
 use Rattle.tmem_tentative.specs.Eval.{Goes, Needs, Retries, Aborts, eval}
 use Rattle.tmem_tentative.specs.Ends.{start_state, ended_as, IsEndOf, IsMadeOf}
 use Rattle.tmem_tentative.specs.Logs.{run_state_of}
-use Rattle.tmem_tentative.specs.Places.{Covers, Place, LeadsTo, eval_from, choices, WritesFit, NamesFit}
+use Rattle.tmem_tentative.specs.Places.{Covers, Place, LeadsTo, eval_from, WritesFit, NamesFit}
 use Rattle.tmem_tentative.specs.Cursors.{IsAt, IsAtStage, MayGoOn, StandsAt, Answered, given, outcome_of}
 use Rattle.tmem_tentative.proofs.EvalSeen.{covers_refl}
 use Rattle.tmem_tentative.proofs.FitOutcomes.{need_lacks}

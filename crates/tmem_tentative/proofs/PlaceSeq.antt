@@ -1,5 +1,5 @@
 -- The rest of the evaluation of a Seq, over the list of its trees.
-use Rattle.std.proofs.Common.{◌≡◌, ℕ, zero, suc, ℤ, pos, ◌+◌, ◌-◌, ◌<◌, ◌≤◌, max, Bool, List, [], ◌∷◌, take, drop, get_or, length, length-drop, drop-cons, add-one, nat_eq, refl, sym, ap, ◌∙◌, arith, rules}
+use Rattle.std.proofs.Common.{◌≡◌, ℕ, zero, suc, ℤ, pos, ◌+◌, ◌-◌, ◌<◌, ◌≤◌, Bool, List, [], ◌∷◌, take, drop, get_or, length, length-drop, drop-cons, add-one, nat_eq, refl, sym, ap, ◌∙◌, arith, rules}
 use mathlib.Core.Path.{fun_ext}
 use Rattle.std.proofs.lemmas.List.{take_all, drop-drop}
 use Rattle.std.specs.declared.vec.Vec.{Vec}
@@ -9,13 +9,13 @@ use Rattle.tmem_tree.specs.declared.tx.Tx.{Tx, Row_of-Tx, end_of-Tx, more_of-Tx}
 use Rattle.tmem_tree.specs.declared.tx.Tx.TheVariants.{Seq}
 use Rattle.tmem_tree.specs.declared.tx.Tx.TheBlock.{items-the_row-Tx}
 use Rattle.tmem_tree.specs.declared.tx.Tx.TheViews.{the_lemmas}
-use Rattle.tmem_tree.proofs.Laws.{count_in, depth_in}
+use Rattle.tmem_tree.proofs.Laws.{count_in, depth_in, choices_in}
 use Rattle.tmem_tree.specs.StepAnswers.{StepMeanings}
 use Rattle.tmem_tentative.specs.declared.flow.Flow as code
 use Rattle.tmem_tentative.specs.declared.flow.Flow.TheVariants.{Normal, Need, Retry, Abort}
 use Rattle.tmem_tentative.specs.declared.save.Save.{Save}
 use Rattle.tmem_tentative.specs.Eval.{RunState, Flow, Goes, then_eval}
-use Rattle.tmem_tentative.specs.Places.{Covers, Place, LeadsTo, eval_on, eval_all_on, eval_from, Enters, choices, choices_of_all}
+use Rattle.tmem_tentative.specs.Places.{Covers, Place, LeadsTo, eval_on, eval_all_on, eval_from, Enters}
 use Rattle.tmem_tentative.proofs.EvalSeen.{covers_refl}
 use Rattle.tmem_tentative.proofs.EvalSeq.{eval_in, eval-Seq, eval_all-items}
 use Rattle.tmem_tentative.proofs.PlaceRuns.{in_child}
@@ -66,18 +66,6 @@ seq_leads m seen txs k tx others before inside (Abort code) after here start som
   needs = λ var is. cc;
   goes_on = λ reads n c d. start reads c ∙ ap (λ f. then_eval f (eval_in m reads others)) (l.goes_on reads n c d);
 }
-
--- how many choices of these may stand in their first branch at once
-abbrev pub choices_in : List Tx → ℕ
-choices_in [] = 0
-choices_in (tx ∷ txs) = max (choices tx) (choices_in txs)
-
-choices_of_all-items : {m : _} (txs : Row_of-Tx m) → choices_of_all txs ≡ choices_in (items-the_row-Tx m txs)
-choices_of_all-items end_of-Tx = refl
-choices_of_all-items (more_of-Tx tx txs) = ap (max (choices tx)) (choices_of_all-items txs)
-
-pub choices-Seq : (txs : Vec Tx Global) → choices (Seq txs) ≡ choices_in txs.items
-choices-Seq txs = search (rules, the_lemmas, choices_of_all-items)
 
 -- what is left of a list of trees
 pub part_is : (txs : List Tx) (from : ℕ) → take (length txs - from) (drop from txs) ≡ drop from txs

@@ -2,6 +2,7 @@
 use Rattle.std.specs.Prelude.{◌≡◌, ℕ, ℤ, ◌≤◌, List, length, nat_eq}
 use Rattle.indexmap.specs.IndexMap.{insert_entry}
 use Rattle.tmem_tree.specs.declared.tx.Tx.{Tx}
+use Rattle.tmem_tree.specs.Limits.{choices}
 use Rattle.tmem_tree.specs.StepAnswers.{StepMeanings}
 use Rattle.tmem_tentative.specs.declared.attempt.Attempt.{Attempt}
 use Rattle.tmem_tentative.specs.declared.attempt.Outcome.{Outcome}
@@ -13,7 +14,7 @@ use Rattle.tmem_tentative.specs.declared.cursor.Stage.{Stage}
 use Rattle.tmem_tentative.specs.declared.cursor.Stage.TheVariants.{Going, Waits, Ended}
 use Rattle.tmem_tentative.specs.Eval.{Needs, eval}
 use Rattle.tmem_tentative.specs.Ends.{start_state, IsMadeOf}
-use Rattle.tmem_tentative.specs.Places.{Covers, Place, place_of, eval_from, choices, WritesFit, NamesFit}
+use Rattle.tmem_tentative.specs.Places.{Covers, Place, place_of, eval_from, WritesFit, NamesFit}
 
 -- the values that it was given, in order
 abbrev pub given : Cursor → List (ℕ × ℤ)

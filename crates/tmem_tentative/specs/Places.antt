@@ -1,5 +1,5 @@
 -- A place inside an evaluation, and the rest of the evaluation from there.
-use Rattle.std.specs.Prelude.{◌≡◌, ⊤, ℕ, zero, suc, ℤ, ◌+◌, ◌<◌, ◌≤◌, max, Bool, true, false, List, [], ◌∷◌, length, Option, Some, None, nat_eq, slice_set}
+use Rattle.std.specs.Prelude.{◌≡◌, ⊤, ℕ, zero, suc, ℤ, ◌+◌, ◌<◌, ◌≤◌, Bool, true, false, List, [], ◌∷◌, length, Option, Some, None, nat_eq, slice_set}
 use Rattle.indexmap.specs.IndexMap.{insert_entry}
 use Rattle.tmem_tree.specs.declared.tx.Tx.{Tx, Row_of-Tx, end_of-Tx, more_of-Tx}
 use Rattle.tmem_tree.specs.declared.tx.Tx.TheVariants.{Seq', When', OrElse'}
@@ -35,18 +35,6 @@ module _ (steps : StepMeanings) (reads : List (ℕ × ℤ)) where
     eval_all_on i path end_of-Tx saves s = Goes s
     eval_all_on zero path (more_of-Tx tx txs) saves s = then_eval (eval_on path tx saves s) (eval_all steps reads txs)
     eval_all_on (suc i) path (more_of-Tx tx txs) saves s = eval_all_on i path txs saves s
-
-abbrev mutual
-  -- how many choices may stand in their first branch at once
-  pub choices : Tx → ℕ
-  choices (Seq' shape txs) = choices_of_all txs
-  choices (When' reg p a q b) = max (choices a) (choices b)
-  choices (OrElse' p a q b) = max (1 + choices a) (choices b)
-  choices _ = 0
-
-  pub choices_of_all : {m : _} → Row_of-Tx m → ℕ
-  choices_of_all end_of-Tx = 0
-  choices_of_all (more_of-Tx tx txs) = max (choices tx) (choices_of_all txs)
 
 -- for the nodes that pass a test, of which an effect may have so many, and how many it has
 module _ (test : Tx → Bool) (limit : ℕ) (size : Effect → ℕ) where

@@ -3,13 +3,12 @@
 ghost use Rattle.std.specs.Prelude.{◌≡◌, ℕ, ◌+◌, ◌<◌, ◌≤◌, ◌↔◌, List, [], length, vec_len, vec_capacity, nat_eq, IsTrue, IfOk, IfErr};
 ghost use Rattle.indexmap.specs.IndexMap.{insert_entry, spare};
 ghost use Rattle.tmem_tree.specs.declared.tx.Tx.{Tx};
+ghost use Rattle.tmem_tree.specs.Limits.{choices};
 ghost use Rattle.tmem_tree.specs.StepAnswers.{StepMeanings};
 ghost use Rattle.tmem_tree.specs.Plans.{IsWithinLimits, FitsSteps, FitsVariables, FitsNames};
 ghost use Rattle.tmem_tentative.specs.Stages.{wanted};
-ghost use Rattle.tmem_tentative.specs.Places.{choices};
 
 use crate::attempt::{Attempt, Ending, Outcome, Progress, Reads};
-use crate::choices::count_choices;
 use crate::evaluation::end;
 use crate::flow::Flow;
 use crate::path::Path;
@@ -223,7 +222,7 @@ fn make_room(saves: &mut Vec<Save>, plan: &Plan) -> Result<(), AllocError>
     ensures limits { IsWithinLimits plan.now }
     ensures same { IfErr result (λ _. saves.new.items ≡ saves.old.items) }
 {
-    let many = count_choices(plan.tree());
+    let many = plan.choices();
     let had = saves.len();
     while saves.len() < many {
         if let Err(refused) = saves.push(Save::new()) {

@@ -6,7 +6,6 @@
 #![tactic(auto)]
 
 mod attempt;
-mod choices;
 mod cursor;
 mod evaluation;
 mod flow;

@@ -5,12 +5,12 @@ ghost use Rattle.std.specs.List.{list_any};
 ghost use Rattle.tmem_tree.specs.StepAnswers.{StepMeanings};
 ghost use Rattle.tmem_record.specs.Writes.{look};
 ghost use Rattle.tmem_record.specs.declared.effect.Effect.{Effect};
-ghost use Rattle.tmem_tree.specs.Limits.{depth, count, is_write, is_check, has_bad_register};
+ghost use Rattle.tmem_tree.specs.Limits.{depth, count, is_write, is_check, has_bad_register, choices};
 ghost use Rattle.tmem_tree.specs.Plans.{FitsSteps};
 ghost use Rattle.tmem_tree.specs.Run.{register, is_zero};
 ghost use Rattle.tmem_tentative.specs.declared.save.Save.{Save};
 ghost use Rattle.tmem_tentative.specs.Logs.{run_state_of, flow_of};
-ghost use Rattle.tmem_tentative.specs.Places.{WritesFit, NamesFit, LeavesRoom, IsPathBehind, LeadsTo, place_of, choices, with_child, Enters, EntersChoice, IsLeaf, read_seen};
+ghost use Rattle.tmem_tentative.specs.Places.{WritesFit, NamesFit, LeavesRoom, IsPathBehind, LeadsTo, place_of, with_child, Enters, EntersChoice, IsLeaf, read_seen};
 
 use crate::attempt::Attempt;
 use crate::flow::Flow;

@@ -6,6 +6,7 @@ mod at_limits;
 mod checkpoints;
 mod contents;
 mod devices;
+mod index;
 mod limits;
 mod long_runs;
 mod no_closures;
@@ -23,6 +24,13 @@ fn committed(number: u64, first: i64) -> Reply {
     let mut registers = [0; 16];
     registers[0] = first;
     Reply::Settled(Settled::Committed { number, registers })
+}
+
+/// What is answered to a transaction that changes nothing and left this number in register 0 alone.
+fn seen(at: u64, first: i64) -> Reply {
+    let mut registers = [0; 16];
+    registers[0] = first;
+    Reply::Settled(Settled::Seen { at, registers })
 }
 
 /// Puts a number in register 0, and writes it to a variable.

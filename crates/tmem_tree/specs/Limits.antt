@@ -1,4 +1,4 @@
--- How deep a transaction is, and how many of its nodes pass a test.
+-- How deep a transaction is, how many of its choices are open at once, and how many of its nodes pass a test.
 use Rattle.std.specs.Prelude.{ℕ, ◌+◌, max, Bool, true, false, not, ◌||◌, ◌==◌, nat_le, List, length, slice_index_or, if◌then◌else◌}
 use Rattle.std.specs.List.{list_any}
 use Rattle.tmem_record.specs.Names.{has_name}
@@ -16,6 +16,18 @@ abbrev mutual
   pub depth_of_all : {m : _} → Row_of-Tx m → ℕ
   depth_of_all end_of-Tx = 0
   depth_of_all (more_of-Tx tx txs) = max (depth tx) (depth_of_all txs)
+
+abbrev mutual
+  -- how many choices may stand in their first branch at once
+  pub choices : Tx → ℕ
+  choices (Seq' shape txs) = choices_of_all txs
+  choices (When' reg p a q b) = max (choices a) (choices b)
+  choices (OrElse' p first q second) = max (1 + choices first) (choices second)
+  choices _ = 0
+
+  pub choices_of_all : {m : _} → Row_of-Tx m → ℕ
+  choices_of_all end_of-Tx = 0
+  choices_of_all (more_of-Tx tx txs) = max (choices tx) (choices_of_all txs)
 
 abbrev pub one_if : Bool → ℕ
 one_if passes = if passes then 1 else 0

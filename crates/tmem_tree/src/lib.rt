@@ -6,6 +6,7 @@
 #![tactic(auto)]
 
 mod budget;
+mod choices;
 mod limits;
 mod plan;
 mod settled;

@@ -1,9 +1,11 @@
 // A transaction within the limits.
 
 ghost use Rattle.std.specs.Prelude.{◌≡◌, ◌↔◌, IsTrue, IfOk, IfErr};
+ghost use Rattle.tmem_tree.specs.Limits.{choices};
 ghost use Rattle.tmem_tree.specs.Plans.{BreaksNone, IsLeastBroken, IsWithinLimits, FitsSteps, FitsVariables, FitsNames};
 
 use crate::budget::{WHOLE, pay};
+use crate::choices::count_choices;
 use crate::limits::{MAX_DEPTH, MAX_NODES, MAX_WRITES, is_within_depth, spend};
 use crate::steps::StoredSteps;
 use crate::tx::Tx;
@@ -15,6 +17,8 @@ use tmem_record::MAX_CHECKS;
 #[derive(Drop)]
 pub struct Plan {
     tx: Tx,
+    // how many of its choices may stand in their first branch at once
+    open_choices: usize,
 }
 
 impl Model for Plan {
@@ -26,11 +30,13 @@ impl Model for Plan {
 
     ghost coded = { Prim.hlevel (codes, tree.the_row.coded) };
 
+    ghost use Rattle.std.specs.Prelude.{◌≡◌};
+    ghost use Rattle.tmem_tree.specs.Limits.{choices};
     ghost use Rattle.tmem_tree.specs.Plans.{IsWithinLimits};
 
     ghost view = { λ plan. plan.tx };
 
-    ghost invariant = { λ plan. IsWithinLimits plan.tx };
+    ghost invariant = { λ plan. IsWithinLimits plan.tx × (plan.open_choices ≡ choices plan.tx) };
 }
 
 impl Plan {
@@ -46,7 +52,8 @@ impl Plan {
         ensures least { IfErr result (λ fault. (cause : Cause) × (fault ≡ Fault.BadPlan cause) × IsLeastBroken (S.arities steps.now) vars names.now tx cause) }
     {
         if breaks_none(&tx, steps, vars, names) {
-            return Ok(Plan { tx });
+            let open_choices = count_choices(&tx);
+            return Ok(Plan { tx, open_choices });
         }
         Err(Fault::BadPlan(least_broken(&tx, steps, vars, names)))
     }
@@ -57,6 +64,14 @@ impl Plan {
         ensures limits { IsWithinLimits self.now }
     {
         &self.tx
+    }
+
+    /// How many of its choices may stand in their first branch at once.
+    pub fn choices(&self) -> usize
+        ensures choices { result ≡ choices self.now }
+        ensures limits { IsWithinLimits self.now }
+    {
+        self.open_choices
     }
 }
 

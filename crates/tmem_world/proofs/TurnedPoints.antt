@@ -49,9 +49,9 @@ module _ (program : Program) (m : WorldModel) (k : ℕ) (old new : Slot) (state 
   unchanged a here = ap (holding m k) (sym here) ∙ same_attempt m k
 
   -- a begun plan
-  begun_turns : (plan : Tx) (reads : List (ℕ × ℤ)) → slot_at m k ≡ Begun plan reads → given old.cursor ≡ reads → new.plan ≡ Some plan → IsAt program.steps plan new.cursor
+  begun_turns : (plan : Tx) (reads : List (ℕ × ℤ)) → slot_at m k ≡ Begun plan reads → given old.cursor ≡ reads → (¬ HasEnded old.cursor) → new.plan ≡ Some plan → IsAt program.steps plan new.cursor
       → (r : Reply) → TurnsBegun stated state plan old.cursor r new.cursor → Turned (Begun plan reads) r
-  begun_turns plan reads here read held at (reply.Read var value) it =
+  begun_turns plan reads here read going held at (reply.Read var value) it =
       let values = map_of (present program m) in
       let right = subst (λ rs. IsOutcome program.steps plan rs (outcome.Need var)) read (it.0 program.steps means) in
       let lacks = right (overridden reads values) (overridden-agrees reads values) in
@@ -67,7 +67,7 @@ module _ (program : Program) (m : WorldModel) (k : ℕ) (old new : Slot) (state 
           it.4,
         ),
       )
-  begun_turns plan reads here read held at reply.Ended it =
+  begun_turns plan reads here read going held at reply.Ended it =
       let values = overridden reads (map_of (present program m)) in
       let right = subst (λ rs. IsOutcome program.steps plan rs (outcome.Ended (attempt_of new.cursor))) read (it.0 program.steps means) in
       let so = right.0 values (overridden-agrees reads (map_of (present program m))) in (
@@ -75,12 +75,12 @@ module _ (program : Program) (m : WorldModel) (k : ℕ) (old new : Slot) (state 
         inl (ap (λ (o : Option ℕ). goes_on o program m k plan reads) (sym so.0)),
         (record { plan = held; at = at; given = so.1 }, it.2),
       )
-  begun_turns plan reads here read held at (reply.Fault f) it = (
+  begun_turns plan reads here read going held at (reply.Fault f) it = (
     Begun plan reads,
     inr (ap (λ (x : Fault). reply.Fault x) it.0, unchanged (Begun plan reads) here),
-    (record { plan = held; at = at; given = it.1 ∙ read }, it.2),
+    (record { plan = held; at = at; given = it.1.given ∙ read }, λ ended. going (sym it.1.stage ∙ ended)),
   )
-  begun_turns plan reads here read held at _ it = absurd it
+  begun_turns plan reads here read going held at _ it = absurd it
 
   -- any attempt
   pub turns : (a : SlotModel) (r : Reply) → slot_at m k ≡ a → SlotIs program old a
@@ -97,4 +97,4 @@ module _ (program : Program) (m : WorldModel) (k : ℕ) (old new : Slot) (state 
       (Ended plan reads, (it.0, unchanged (Ended plan reads) here), subst (λ (s : Slot). SlotIs program s (Ended plan reads)) (sym it.1) holds)
   turns (Begun plan reads) r here holds idle ended begun same at =
       let held : new.plan ≡ Some plan = same ∙ holds.0.plan in
-      begun_turns plan reads here holds.0.given held (at plan held) r (begun plan holds.0.plan holds.1)
+      begun_turns plan reads here holds.0.given holds.1 held (at plan held) r (begun plan holds.0.plan holds.1)

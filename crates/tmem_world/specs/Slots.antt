@@ -7,7 +7,7 @@ use Rattle.tmem_record.specs.Writes.{look}
 use Rattle.tmem_tree.specs.declared.tx.Tx.{Tx}
 use Rattle.tmem_tree.specs.Plans.{FitsSteps, FitsVariables, FitsNames}
 use Rattle.tmem_tree.specs.StepAnswers.{StepMeanings}
-use Rattle.tmem_tentative.specs.Cursors.{IsAt, HasEnded, given, attempt_of}
+use Rattle.tmem_tentative.specs.Cursors.{IsAt, HasEnded, IsAsBefore, given, attempt_of}
 use Rattle.tmem_tentative.specs.Fits.{IsForVariables, IsForNames}
 use Rattle.tmem_tentative.specs.Right.{IsOutcome}
 use Rattle.tmem_tentative.specs.declared.attempt.Attempt.{Attempt}
@@ -60,5 +60,5 @@ TurnsBegun stated state plan old reply.Ended new =
     ((m : StepMeanings) → stated m → IsOutcome m plan (given old) (outcome.Ended (attempt_of new)))
     × (given new ≡ given old)
     × HasEnded new
-TurnsBegun stated state plan old (reply.Fault f) new = (f ≡ Memory) × (given new ≡ given old) × (¬ HasEnded new)
+TurnsBegun stated state plan old (reply.Fault f) new = (f ≡ Memory) × IsAsBefore old new
 TurnsBegun stated state plan old _ new = ⊥

@@ -5,13 +5,13 @@ ghost use Rattle.tmem_event.specs.Events.{NamesSlot};
 ghost use Rattle.tmem_world.specs.Represents.{numbers_of, HoldsSession};
 
 use super::no_closures::{AlwaysRetries, AlwaysTrue};
-use super::{commit, committed, formatted, write};
+use super::{commit, committed, formatted, seen, write};
 use std::alloc::{AllocError, Global};
 use std::process::Abort;
 use std::test::Fail;
 use tmem_disk::{Fault, SimDisk};
 use tmem_tree::Tx;
-use tmem_world::{Event, Reply, Settled, World};
+use tmem_world::{Event, Reply, World};
 
 /// What these tests play on.
 type Plain = World<SimDisk, AlwaysTrue, AlwaysRetries>;
@@ -26,13 +26,6 @@ fn plain(alloc: Global, vars: u16) -> Result<Plain, Fault>
         Ok(world) => Ok(world),
         Err(refusal) => Err(refusal.0),
     }
-}
-
-/// What is answered to a transaction that changes nothing and left this number in register 0 alone.
-fn seen(at: u64, first: i64) -> Reply {
-    let mut registers = [0; 16];
-    registers[0] = first;
-    Reply::Settled(Settled::Seen { at, registers })
 }
 
 /// Writes the last of 1024 variables, makes that durable, opens the device again, and reads it.

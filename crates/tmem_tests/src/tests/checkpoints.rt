@@ -1,19 +1,23 @@
 //! Checkpoints: what they free, what they keep, and what a stop inside one leaves.
-ghost use Rattle.std.specs.Prelude.{◌≡◌, IfOk};
-ghost use Rattle.tmem_disk.specs.SimParts.{view_of};
-ghost use Rattle.tmem_world.specs.Represents.{numbers_of, HoldsSession};
+ghost use Rattle.std.specs.Prelude.{◌≡◌, ℕ, All, IfOk};
+ghost use Rattle.tmem_core.specs.Program.{Program};
+ghost use Rattle.tmem_disk.specs.Power.{IsStopped};
+ghost use Rattle.tmem_disk.specs.SimParts.{power_of, view_of};
+ghost use Rattle.tmem_event.specs.Events.{NamesSlot};
+ghost use Rattle.tmem_world.specs.Chain.{History, IsStore};
 
 use super::no_closures::{AlwaysRetries, AlwaysTrue};
-use super::{commit, formatted, write};
-use std::alloc::Global;
+use super::{commit, committed, formatted, fresh, opened, seen, write};
+use std::alloc::{AllocError, Global};
 use std::test::Fail;
 use tmem_disk::{Disk, Fault, Fill, SimDisk};
-use tmem_world::{Event, Reply, World};
+use tmem_tree::Tx;
+use tmem_world::{Event, Reply, World, crash_leaves_store};
 
-/// What these tests play on: a world of four variables and two log slots.
+/// What these tests play on: a world of four variables, most often with two log slots.
 type Small = World<SimDisk, AlwaysTrue, AlwaysRetries>;
 
-/// How long its device is.
+/// How long the device of two log slots is.
 const SIZE: u64 = 13824;
 
 /// Where copy 1 of the image has its gate.
@@ -28,10 +32,8 @@ const PAGE: u64 = 5120;
 /// Where the two slots of the log have their gates.
 const SLOTS: [u64; 2] = [5632, 9728];
 
-/// Opens a device.
-fn small(alloc: Global, disk: SimDisk) -> Result<Small, Fault>
-    ensures { IfOk result (λ world. ((numbers_of world).vars ≡ 4) × HoldsSession world) }
-{
+/// Opens a device of two log slots.
+fn small(alloc: Global, disk: SimDisk) -> Result<Small, Fault> {
     let opened = World::open(alloc, disk, 4, 2, AlwaysTrue { vars: 4 }, AlwaysRetries);
     match opened {
         Ok(world) => Ok(world),
@@ -55,56 +57,116 @@ fn empty(alloc: Global) -> Result<SimDisk, Fail>
     Ok(disk)
 }
 
-/// Writes a number to variable 0.
-fn put(alloc: Global, world: &mut Small, number: i64) -> Result<(), Fail>
-    ensures { numbers_of world.new ≡ numbers_of world.old }
-{
-    let tx = write(alloc, 0, number)?;
-    let _ = commit(world, tx);
-    Ok(())
+/// What one caller does.
+#[derive(Clone, Copy, Debug)]
+enum Act {
+    /// Writes a number to variable 0, through register 0.
+    Put(i64),
+    /// Reads variable 0 into register 0.
+    Get,
+    Flush,
+    Checkpoint,
+    Reopen,
 }
 
-/// The same, and flushes.
-fn flushed(alloc: Global, world: &mut Small, number: i64) -> Result<Reply, Fail>
-    ensures { numbers_of world.new ≡ numbers_of world.old }
-{
-    let tx = write(alloc, 0, number)?;
-    let _ = commit(world, tx);
-    Ok(world.step(Event::Flush))
+/// What an act is answered: a transaction as it is settled.
+fn answer(alloc: Global, world: &mut Small, act: Act) -> Result<Reply, AllocError> {
+    match act {
+        Act::Put(number) => {
+            let tx = write(alloc, 0, number)?;
+            Ok(commit(world, tx))
+        }
+        Act::Get => Ok(get(world)),
+        Act::Flush => Ok(world.step(Event::Flush)),
+        Act::Checkpoint => Ok(world.step(Event::Checkpoint)),
+        Act::Reopen => Ok(world.step(Event::Reopen)),
+    }
 }
 
-/// The same, with no answer.
-fn fill(alloc: Global, world: &mut Small, number: i64) -> Result<(), Fail>
-    ensures { numbers_of world.new ≡ numbers_of world.old }
-{
-    put(alloc, world, number)?;
+/// Settles a transaction that reads variable 0 into register 0.
+fn get(world: &mut Small) -> Reply {
+    let tx = Tx::Read { var: 0, reg: 0 };
+    let _ = world.step(Event::Begin { slot: 0, tx });
+    let _ = world.step(Event::Turn { slot: 0 });
+    let _ = world.step(Event::Turn { slot: 0 });
+    world.step(Event::Settle { slot: 0 })
+}
+
+/// What acts are answered, one after another.
+fn answers(alloc: Global, world: &mut Small, acts: &[Act]) -> Result<Vec<Reply>, AllocError> {
+    let mut replies = Vec::new(alloc);
+    for act in acts {
+        replies.push(answer(alloc, world, *act)?)?;
+    }
+    Ok(replies)
+}
+
+/// Whether acts on a device are answered so.
+fn are_answered(alloc: Global, disk: SimDisk, acts: &[Act], want: &[Reply]) -> Result<bool, Fail> {
+    let mut world = small(alloc, disk)?;
+    Ok(answers(alloc, &mut world, acts)?.as_slice() == want)
+}
+
+/// Writes a number to variable 0, and flushes.
+fn fill(alloc: Global, world: &mut Small, number: i64) -> Result<(), AllocError> {
+    let tx = write(alloc, 0, number)?;
+    let _ = commit(world, tx);
     let _ = world.step(Event::Flush);
     Ok(())
 }
 
-/// A world with both slots used: 1 was written to variable 0, then 2.
-fn full(alloc: Global) -> Result<Small, Fail>
-    ensures { IfOk result (λ world. (numbers_of world).vars ≡ 4) }
-{
+/// A device with both slots used: 1 was written to variable 0, then 2.
+fn full(alloc: Global) -> Result<SimDisk, Fail> {
     let mut world = small(alloc, empty(alloc)?)?;
     fill(alloc, &mut world, 1)?;
     fill(alloc, &mut world, 2)?;
-    Ok(world)
+    Ok(world.into_disk())
 }
 
-/// How many transactions a device is found to hold, and the value of variable 0.
-fn found_on(alloc: Global, disk: SimDisk) -> Result<(u64, i64), Fail> {
-    let world = small(alloc, disk)?;
-    Ok((world.count(), world.value(0)))
+#[test]
+fn a_checkpoint_frees_a_full_log(rt: HostRuntime) -> Result<(), Fail> {
+    let acts = [
+        Act::Put(1),
+        Act::Flush,
+        Act::Put(2),
+        Act::Flush,
+        Act::Put(3),
+        Act::Flush,
+        Act::Checkpoint,
+        Act::Flush,
+        Act::Reopen,
+        Act::Get,
+    ];
+    let want = [
+        committed(0, 1),
+        Reply::Durable(1),
+        committed(1, 2),
+        Reply::Durable(2),
+        committed(2, 3),
+        Reply::Fault(Fault::LogFull),
+        Reply::Checkpointed,
+        Reply::Durable(3),
+        Reply::Opened(3),
+        seen(3, 3),
+    ];
+    assert!(rt; are_answered(rt.alloc(), empty(rt.alloc())?, &acts, &want)?);
+    Ok(())
+}
+
+/// The device behind a checkpoint of a full log, with one more transaction that waits.
+fn renewed(alloc: Global) -> Result<SimDisk, Fail> {
+    let mut world = small(alloc, full(alloc)?)?;
+    fill(alloc, &mut world, 3)?;
+    let reply = world.step(Event::Checkpoint);
+    if reply != Reply::Checkpointed {
+        return Err(Fail::new("no checkpoint"));
+    }
+    Ok(world.into_disk())
 }
 
 #[test]
 fn the_bytes_of_a_checkpoint(rt: HostRuntime) -> Result<(), Fail> {
-    let mut world = full(rt.alloc())?;
-    put(rt.alloc(), &mut world, 3)?;
-    assert!(rt; world.step(Event::Flush) == Reply::Fault(Fault::LogFull));
-    assert!(rt; world.step(Event::Checkpoint) == Reply::Checkpointed);
-    let mut disk = world.into_disk();
+    let mut disk = renewed(rt.alloc())?;
     assert_eq!(rt; disk.size(), SIZE);
     // copy 1: its gate, its generation, its count and no names; and variable 0, which is 2
     let mut image = [1; 18];
@@ -128,10 +190,19 @@ fn the_bytes_of_a_checkpoint(rt: HostRuntime) -> Result<(), Fail> {
     Ok(())
 }
 
+/// Starts a stopped device again. It is a store with the same history then, if it was one before.
+fn start_again(disk: &mut SimDisk)
+    requires { IsStopped (power_of disk.old) }
+    ensures { (program : Program) (vars slots : ℕ) (h : History) → IsStore program vars slots h (view_of disk.old) → IsStore program vars slots h (view_of disk.new) }
+{
+    crash_leaves_store::<SimDisk>();
+    disk.restart();
+}
+
 /// What a checkpoint over a full log, with one more transaction that waits, answers on a device that stops at the write of
 /// it that starts at this place, and what the stop left.
 fn torn(alloc: Global, place: u64, byte: u8) -> Result<(Reply, SimDisk), Fail> {
-    let mut disk = full(alloc)?.into_disk();
+    let mut disk = full(alloc)?;
     disk.stop_at_place(place, Fill::Byte(byte));
     let mut world = small(alloc, disk)?;
     fill(alloc, &mut world, 3)?;
@@ -140,7 +211,7 @@ fn torn(alloc: Global, place: u64, byte: u8) -> Result<(Reply, SimDisk), Fail> {
     if !disk.is_stopped() {
         return Err(Fail::new("it did not stop"));
     }
-    disk.restart();
+    start_again(&mut disk);
     Ok((reply, disk))
 }
 
@@ -163,17 +234,15 @@ fn a_torn_checkpoint_loses_nothing(rt: HostRuntime) -> Result<(), Fail> {
     for (place, byte, fault, next) in rows {
         let (reply, disk) = torn(alloc, place, byte)?;
         assert!(rt; reply == Reply::Fault(fault));
-        assert_eq!(rt; found_on(alloc, disk)?, (2, 2));
-        let (_, disk) = torn(alloc, place, byte)?;
-        let mut world = small(alloc, disk)?;
-        assert!(rt; flushed(alloc, &mut world, 3)? == next);
+        let want = [seen(2, 2), committed(2, 3), next];
+        assert!(rt; are_answered(alloc, disk, &[Act::Get, Act::Put(3), Act::Flush], &want)?);
     }
     Ok(())
 }
 
-/// What is found after a checkpoint that stopped at the gate of the new image and left it open, and an opening that
-/// stopped at the gate of slot 0.
-fn torn_twice(alloc: Global, byte: u8) -> Result<(u64, i64), Fail> {
+/// Whether the two transactions of a full log are found after a checkpoint that stopped at the gate of the new image and
+/// left it open, and an opening that stopped at the gate of slot 0.
+fn torn_twice(alloc: Global, byte: u8) -> Result<bool, Fail> {
     let (_, mut disk) = torn(alloc, GATE, 0xA5)?;
     disk.stop_at_place(SLOTS[0], Fill::Byte(byte));
     let Some((fault, mut disk)) = refused(alloc, disk) else {
@@ -182,39 +251,227 @@ fn torn_twice(alloc: Global, byte: u8) -> Result<(u64, i64), Fail> {
     if fault != Fault::Device || !disk.is_stopped() {
         return Err(Fail::new("it did not stop"));
     }
-    disk.restart();
-    found_on(alloc, disk)
+    start_again(&mut disk);
+    are_answered(alloc, disk, &[Act::Get], &[seen(2, 2)])
 }
 
 #[test]
 fn a_torn_opening_behind_a_torn_checkpoint_loses_nothing(rt: HostRuntime) -> Result<(), Fail> {
-    assert_eq!(rt; torn_twice(rt.alloc(), 0xA5)?, (2, 2));
-    assert_eq!(rt; torn_twice(rt.alloc(), 0x37)?, (2, 2));
+    assert!(rt; torn_twice(rt.alloc(), 0xA5)?);
+    assert!(rt; torn_twice(rt.alloc(), 0x37)?);
     Ok(())
 }
 
 #[test]
 fn a_torn_checkpoint_closes_the_session(rt: HostRuntime) -> Result<(), Fail> {
-    let alloc = rt.alloc();
-    let mut disk = full(alloc)?.into_disk();
+    let mut disk = full(rt.alloc())?;
     // the opening syncs once; the image is synced behind its header and its gate
     disk.fail_sync(1);
-    let mut world = small(alloc, disk)?;
-    assert!(rt; world.step(Event::Checkpoint) == Reply::Fault(Fault::Unknown));
-    assert!(rt; world.step(Event::Checkpoint) == Reply::Fault(Fault::Closed));
-    put(alloc, &mut world, 3)?;
-    assert!(rt; world.step(Event::Flush) == Reply::Fault(Fault::Closed));
-    assert!(rt; world.step(Event::Reopen) == Reply::Opened(2));
-    assert!(rt; world.step(Event::Checkpoint) == Reply::Checkpointed);
+    let acts = [
+        Act::Checkpoint,
+        Act::Checkpoint,
+        Act::Put(3),
+        Act::Flush,
+        Act::Reopen,
+        Act::Checkpoint,
+    ];
+    let want = [
+        Reply::Fault(Fault::Unknown),
+        Reply::Fault(Fault::Closed),
+        Reply::Fault(Fault::Closed),
+        Reply::Fault(Fault::Closed),
+        Reply::Opened(2),
+        Reply::Checkpointed,
+    ];
+    assert!(rt; are_answered(rt.alloc(), disk, &acts, &want)?);
+    Ok(())
+}
+
+#[test]
+fn with_no_session_there_is_no_checkpoint(rt: HostRuntime) -> Result<(), Fail> {
+    let mut disk = empty(rt.alloc())?;
+    // each opening syncs once
+    disk.fail_sync(1);
+    let acts = [Act::Reopen, Act::Checkpoint, Act::Reopen, Act::Checkpoint];
+    let want = [
+        Reply::Fault(Fault::Device),
+        Reply::Fault(Fault::Closed),
+        Reply::Opened(0),
+        Reply::Checkpointed,
+    ];
+    assert!(rt; are_answered(rt.alloc(), disk, &acts, &want)?);
     Ok(())
 }
 
 #[test]
 fn an_open_image_of_a_lesser_generation_counts_for_nothing(rt: HostRuntime) -> Result<(), Fail> {
-    let mut disk = full(rt.alloc())?.into_disk();
-    assert_eq!(rt; disk.size(), SIZE);
+    let mut disk = full(rt.alloc())?;
+    if disk.size() != SIZE {
+        return Err(Fail::new("another size"));
+    }
     // copy 1 over generation 0, which no image has
     disk.write_at(GATE, &[0xA5])?;
-    assert_eq!(rt; found_on(rt.alloc(), disk)?, (2, 2));
+    assert!(rt; are_answered(rt.alloc(), disk, &[Act::Get], &[seen(2, 2)])?);
+    Ok(())
+}
+
+/// The device behind two checkpoints with nothing between them, and another opening.
+fn renewed_twice(alloc: Global) -> Result<SimDisk, Fail> {
+    let mut world = small(alloc, full(alloc)?)?;
+    let acts = [Act::Checkpoint, Act::Checkpoint, Act::Reopen, Act::Get];
+    let want = [
+        Reply::Checkpointed,
+        Reply::Checkpointed,
+        Reply::Opened(2),
+        seen(2, 2),
+    ];
+    if answers(alloc, &mut world, &acts)?.as_slice() != want.as_slice() {
+        return Err(Fail::new("answered otherwise"));
+    }
+    Ok(world.into_disk())
+}
+
+#[test]
+fn a_checkpoint_with_nothing_behind_another(rt: HostRuntime) -> Result<(), Fail> {
+    let mut disk = renewed_twice(rt.alloc())?;
+    assert_eq!(rt; disk.size(), SIZE);
+    // the third image is in copy 0, and the second one still in copy 1
+    let mut image = [0; 2];
+    disk.read(512, &mut image)?;
+    assert_eq!(rt; image, [0xA5, 3]);
+    disk.read(GATE, &mut image)?;
+    assert_eq!(rt; image, [0xA5, 2]);
+    Ok(())
+}
+
+#[test]
+fn five_checkpoints_with_transactions_between_them(rt: HostRuntime) -> Result<(), Fail> {
+    let alloc = rt.alloc();
+    let mut world = small(alloc, empty(alloc)?)?;
+    for (number, count) in [(10, 1), (20, 2), (30, 3), (40, 4), (50, 5)] {
+        let acts = [
+            Act::Put(number),
+            Act::Flush,
+            Act::Checkpoint,
+            Act::Reopen,
+            Act::Get,
+        ];
+        let want = [
+            committed(count - 1, number),
+            Reply::Durable(count),
+            Reply::Checkpointed,
+            Reply::Opened(count),
+            seen(count, number),
+        ];
+        assert!(rt; answers(alloc, &mut world, &acts)?.as_slice() == want.as_slice());
+    }
+    Ok(())
+}
+
+/// A transaction that waits and one that has begun, a checkpoint, and then the rest of both.
+fn around_a_checkpoint(alloc: Global) -> Result<Vec<Event>, AllocError>
+    ensures { IfOk result (λ events. All NamesSlot events.items) }
+{
+    let tx = write(alloc, 0, 5)?;
+    let other = write(alloc, 0, 6)?;
+    let events = vec![in alloc;
+        Event::Begin { slot: 0, tx },
+        Event::Turn { slot: 0 },
+        Event::Settle { slot: 0 },
+        Event::Begin { slot: 1, tx: other },
+        Event::Checkpoint,
+        Event::Look,
+        Event::Turn { slot: 1 },
+        Event::Settle { slot: 1 },
+        Event::Flush,
+        Event::Reopen,
+    ]?;
+    Ok(events)
+}
+
+#[test]
+fn what_waits_at_a_checkpoint_goes_on_waiting(rt: HostRuntime) -> Result<(), Fail> {
+    let events = around_a_checkpoint(rt.alloc())?;
+    let mut world = small(rt.alloc(), empty(rt.alloc())?)?;
+    let replies = world.play(events)?;
+    let want = [
+        Reply::Begun,
+        Reply::Ended,
+        committed(0, 5),
+        Reply::Begun,
+        Reply::Checkpointed,
+        Reply::Looked(0),
+        Reply::Ended,
+        committed(1, 6),
+        Reply::Durable(2),
+        Reply::Opened(2),
+    ];
+    assert!(rt; replies.as_slice() == want.as_slice());
+    Ok(())
+}
+
+#[test]
+fn a_checkpoint_makes_nothing_durable(rt: HostRuntime) -> Result<(), Fail> {
+    let acts = [Act::Put(5), Act::Checkpoint, Act::Reopen, Act::Get];
+    let want = [
+        committed(0, 5),
+        Reply::Checkpointed,
+        Reply::Opened(0),
+        seen(0, 0),
+    ];
+    assert!(rt; are_answered(rt.alloc(), empty(rt.alloc())?, &acts, &want)?);
+    Ok(())
+}
+
+/// A store of four log slots with the greatest generation.
+fn of_the_greatest_generation(alloc: Global) -> Result<SimDisk, Fail> {
+    let mut disk = fresh(alloc)?;
+    if disk.size() != 22016 {
+        return Err(Fail::new("another size"));
+    }
+    disk.write_at(513, &[0xFF; 8])?;
+    disk.sync()?;
+    Ok(disk)
+}
+
+#[test]
+fn behind_the_greatest_generation_there_is_no_checkpoint(rt: HostRuntime) -> Result<(), Fail> {
+    let alloc = rt.alloc();
+    let disk = of_the_greatest_generation(alloc)?;
+    let mut world = opened(alloc, disk, AlwaysTrue { vars: 4 }, AlwaysRetries)?;
+    // the session stands, and its log takes what it has room for
+    let acts = [
+        Act::Get,
+        Act::Checkpoint,
+        Act::Put(1),
+        Act::Flush,
+        Act::Put(2),
+        Act::Flush,
+        Act::Put(3),
+        Act::Flush,
+        Act::Put(4),
+        Act::Flush,
+        Act::Put(5),
+        Act::Flush,
+        Act::Checkpoint,
+        Act::Reopen,
+    ];
+    let want = [
+        seen(0, 0),
+        Reply::Fault(Fault::Spent),
+        committed(0, 1),
+        Reply::Durable(1),
+        committed(1, 2),
+        Reply::Durable(2),
+        committed(2, 3),
+        Reply::Durable(3),
+        committed(3, 4),
+        Reply::Durable(4),
+        committed(4, 5),
+        Reply::Fault(Fault::LogFull),
+        Reply::Fault(Fault::Spent),
+        Reply::Opened(4),
+    ];
+    assert!(rt; answers(alloc, &mut world, &acts)?.as_slice() == want.as_slice());
     Ok(())
 }

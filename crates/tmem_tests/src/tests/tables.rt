@@ -144,7 +144,7 @@ fn eight_checks(alloc: Global, from: u8) -> Result<Tx, Fault>
 }
 
 /// Registers 64 names, 8 in a transaction.
-fn register_all<T: Invariants + Drop>(
+pub(super) fn register_all<T: Invariants + Drop>(
     rt: &impl Abort,
     alloc: Global,
     world: &mut World<SimDisk, T, AlwaysRetries>,

@@ -7,19 +7,19 @@ use Rattle.std.specs.declared.alloc.Global.{Global}
 use Rattle.tmem_record.specs.declared.effect.Effect.{Effect}
 use Rattle.tmem_tree.specs.declared.tx.Tx.{Tx}
 use Rattle.tmem_tree.specs.declared.tx.Tx.TheFolds as folds
-use Rattle.tmem_tree.specs.Limits.{depth, count, is_write, is_check, has_bad_register, has_bad_step, has_bad_arguments}
+use Rattle.tmem_tree.specs.Limits.{depth, count, is_write, is_check, has_bad_register, has_bad_step, has_bad_arguments, choices}
 use Rattle.tmem_tree.specs.Plans.{FitsSteps}
-use Rattle.tmem_tree.proofs.Laws.{count_in, depth_in, count-Seq, depth-Seq}
+use Rattle.tmem_tree.proofs.Laws.{count_in, depth_in, count-Seq, depth-Seq, choices_in, choices-Seq}
 use Rattle.tmem_tentative.specs.declared.flow.Flow.TheVariants.{Normal, Need, Retry}
 use Rattle.tmem_tentative.specs.declared.save.Save.{Save}
 use Rattle.tmem_tentative.specs.declared.attempt.Attempt.{Attempt}
 use Rattle.tmem_tentative.specs.Eval.{Goes}
 use Rattle.tmem_tentative.specs.Logs.{run_state_of}
-use Rattle.tmem_tentative.specs.Places.{WritesFit, NamesFit, LeavesRoom, LeadsTo, Covers, Enters, EntersChoice, IsPathBehind, choices, eval_from, place_of}
+use Rattle.tmem_tentative.specs.Places.{WritesFit, NamesFit, LeavesRoom, LeadsTo, Covers, Enters, EntersChoice, IsPathBehind, eval_from, place_of}
 use Rattle.tmem_tentative.proofs.PlaceRoom.{RoomIn, seq_room, seq_from, seq_leaves, seq_next, path_grows, when_then_room, when_other_room, second_room, first_room, first_leaves, child_leaves, leaf_start, leaf_leaves, leaf_path, leaf_depth}
 use Rattle.tmem_tentative.proofs.PlaceRuns.{child_leads, first_leads, retried_start, choice_first}
 use Rattle.tmem_tentative.proofs.PlaceSaves.{Parts, parts}
-use Rattle.tmem_tentative.proofs.PlaceSeq.{eval_in_on, seq_start, seq_leads, seq_goes, choices_in, choices-Seq, part_is, rest_is, here_is, count_in-drop, depth_in-drop, choices_in-drop}
+use Rattle.tmem_tentative.proofs.PlaceSeq.{eval_in_on, seq_start, seq_leads, seq_goes, part_is, rest_is, here_is, count_in-drop, depth_in-drop, choices_in-drop}
 use Rattle.tmem_tentative.proofs.walk_on.+walk_on.Goals as goal
 
 pub slice_bounds-t-items-count : goal.slice_bounds-t-items-count

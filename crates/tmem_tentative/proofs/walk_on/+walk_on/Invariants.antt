@@ -2,11 +2,11 @@ use Rattle.std.proofs.Common.{◌≡◌, ℕ, ℤ, ◌≤◌, List, drop, length
 use Rattle.tmem_tree.specs.StepAnswers.{StepMeanings}
 use Rattle.tmem_record.specs.declared.effect.Effect.{Effect}
 use Rattle.tmem_tree.specs.Limits.{is_write, is_check, has_bad_register, has_bad_step, has_bad_arguments}
-use Rattle.tmem_tree.proofs.Laws.{count_in, depth_in}
+use Rattle.tmem_tree.proofs.Laws.{count_in, depth_in, choices_in}
 use Rattle.tmem_tentative.specs.Places.{WritesFit, NamesFit, Covers, eval_from, place_of}
 use Rattle.tmem_tentative.specs.Logs.{run_state_of}
 use Rattle.tmem_tentative.proofs.PlaceRoom.{RoomIn}
-use Rattle.tmem_tentative.proofs.PlaceSeq.{eval_in_on, choices_in}
+use Rattle.tmem_tentative.proofs.PlaceSeq.{eval_in_on}
 use Rattle.tmem_tentative.proofs.walk_on.+walk_on.Given as goal
 
 abbrev pub invariant-loop-i : goal.invariant-loop-i

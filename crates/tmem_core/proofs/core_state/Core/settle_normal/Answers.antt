@@ -28,7 +28,7 @@ returns-in-Some-clause-answer g c = λ p names stated.
     let s = c.args.self.now.state in
     let e = c.args.effect.now in
     let broken = sym c.in-Some.is ∙ c.first_broken.ensures.first p.tests stated ∙ ap (λ ns. first_false p.tests ns s.names e.names (apply s e).values) (sym names) in
-    ap (λ o. unless_refused o (sound_answer s c.args.self.now.durable e c.args.registers)) broken
+    ap (λ o. unless_refused o (sound_answer s c.args.self.now.durable e c.args.registers.now)) broken
 
 pub returns-in-None-clause-answer : goal.returns-in-None-clause-answer
 returns-in-None-clause-answer g c = λ p names stated.
@@ -36,4 +36,4 @@ returns-in-None-clause-answer g c = λ p names stated.
     let e = c.args.effect.now in
     let broken = sym c.in-None.is ∙ c.first_broken.ensures.first p.tests stated ∙ ap (λ ns. first_false p.tests ns s.names e.names (apply s e).values) (sym names) in
     let answer = rw (c.first_broken.ensures.state, c.first_broken.ensures.durable) at c.accept.ensures.answer in
-    answer ∙ ap (λ o. unless_refused o (sound_answer s c.args.self.now.durable e c.args.registers)) broken
+    answer ∙ ap (λ o. unless_refused o (sound_answer s c.args.self.now.durable e c.args.registers.now)) broken

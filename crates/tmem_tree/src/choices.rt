@@ -1,15 +1,14 @@
-// How many saves a tree takes.
+// How many choices of a tree are open at once.
 
-ghost use Rattle.std.specs.Prelude.{◌<◌, ◌≤◌};
-ghost use Rattle.tmem_tree.specs.Limits.{depth};
-ghost use Rattle.tmem_tentative.specs.Places.{choices};
+ghost use Rattle.std.specs.Prelude.{◌≡◌, ◌<◌, ◌≤◌};
+ghost use Rattle.tmem_tree.specs.Limits.{depth, choices};
 
-use tmem_tree::Tx;
+use crate::tx::Tx;
 
 /// How many choices of a tree may stand in their first branch at once.
 pub(crate) fn count_choices(tx: &Tx) -> usize
     requires { depth tx.now ≤ 32 }
-    ensures enough { choices tx.now ≤ result }
+    ensures choices { result ≡ choices tx.now }
     ensures few { result < depth tx.now }
 {
     match tx {

@@ -1,0 +1,11 @@
+use Rattle.std.proofs.Common.{arith}
+use Rattle.tmem_tree.proofs.Laws.{depth-Seq, choices-Seq}
+use Rattle.tmem_tree.proofs.choices.+count_choices.Goals as goal
+
+pub loop-t-init : goal.loop-t-init
+loop-t-init t c =
+    record {
+      deep = grind (arith, depth-Seq c.in-Seq.txs);
+      few = grind (arith, depth-Seq c.in-Seq.txs);
+      choices = grind (arith, choices-Seq c.in-Seq.txs);
+    }
