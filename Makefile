@@ -9,18 +9,18 @@ run:
 build:
 	cd crates/tmem && rt run -- --version
 
-# Proves and tests everything, tries the wrong bodies, and runs what the documents show.
+# Proves and tests everything, tries the mutants of must-fail, and runs what the documents show.
 test:
 	.ci/test
 
-# Tries the wrong bodies of crates/*/wrong-bodies too, on a copy of what is committed: the prover has to refuse each.
+# Tries the mutants of crates/*/wrong-bodies too, on a copy of what is committed: the prover has to reject each.
 wrong-bodies:
 	copy=$$(mktemp -d) && trap 'rm -rf "$$copy"' EXIT && git clone -q . "$$copy" && cd "$$copy" && rm -rf crates/*/must-fail && \
 	for folder in crates/*/wrong-bodies; do mv $$folder $${folder%/*}/must-fail; done && rt must-fail
 
 # Proves the benchmarks, and runs them: nanoseconds for each transaction, and then how often each asks for memory.
 bench:
-	cd crates/tmem_bench && rt run 2> out/run.log || { cat out/run.log; false; }
+	cd crates/tmem_bench && mkdir -p out && { rt run 2> out/run.log || { cat out/run.log; false; }; }
 	$${CC:-cc} -O1 -shared -fPIC -o crates/tmem_bench/out/allocations.so crates/tmem_bench/allocations.c -ldl
 	@echo "requests for memory, in place of nanoseconds:"
 	LD_PRELOAD=$$PWD/crates/tmem_bench/out/allocations.so crates/tmem_bench/out/tmem_bench
