@@ -69,17 +69,22 @@ enum Act {
     Reopen,
 }
 
-/// What an act is answered: a transaction as it is settled.
-fn answer(alloc: Global, world: &mut Small, act: Act) -> Result<Reply, AllocError> {
+/// Whether an act is answered so: a transaction as it is settled.
+fn is_answered(
+    alloc: Global,
+    world: &mut Small,
+    act: Act,
+    want: Reply,
+) -> Result<bool, AllocError> {
     match act {
         Act::Put(number) => {
             let tx = write(alloc, 0, number)?;
-            Ok(commit(world, tx))
+            Ok(commit(world, tx) == want)
         }
-        Act::Get => Ok(get(world)),
-        Act::Flush => Ok(world.step(Event::Flush)),
-        Act::Checkpoint => Ok(world.step(Event::Checkpoint)),
-        Act::Reopen => Ok(world.step(Event::Reopen)),
+        Act::Get => Ok(get(world) == want),
+        Act::Flush => Ok(world.step(Event::Flush) == want),
+        Act::Checkpoint => Ok(world.step(Event::Checkpoint) == want),
+        Act::Reopen => Ok(world.step(Event::Reopen) == want),
     }
 }
 
@@ -92,19 +97,24 @@ fn get(world: &mut Small) -> Reply {
     world.step(Event::Settle { slot: 0 })
 }
 
-/// What acts are answered, one after another.
-fn answers(alloc: Global, world: &mut Small, acts: &[Act]) -> Result<Vec<Reply>, AllocError> {
-    let mut replies = Vec::new(alloc);
-    for act in acts {
-        replies.push(answer(alloc, world, *act)?)?;
+/// Whether acts are answered so, one after another.
+fn are_answered(
+    alloc: Global,
+    world: &mut Small,
+    rows: &[(Act, Reply)],
+) -> Result<bool, AllocError> {
+    for (act, want) in rows {
+        if !is_answered(alloc, world, *act, *want)? {
+            return Ok(false);
+        }
     }
-    Ok(replies)
+    Ok(true)
 }
 
-/// Whether acts on a device are answered so.
-fn are_answered(alloc: Global, disk: SimDisk, acts: &[Act], want: &[Reply]) -> Result<bool, Fail> {
+/// The same on a device that is opened for it.
+fn are_answered_on(alloc: Global, disk: SimDisk, rows: &[(Act, Reply)]) -> Result<bool, Fail> {
     let mut world = small(alloc, disk)?;
-    Ok(answers(alloc, &mut world, acts)?.as_slice() == want)
+    Ok(are_answered(alloc, &mut world, rows)?)
 }
 
 /// Writes a number to variable 0, and flushes.
@@ -125,31 +135,19 @@ fn full(alloc: Global) -> Result<SimDisk, Fail> {
 
 #[test]
 fn a_checkpoint_frees_a_full_log(rt: HostRuntime) -> Result<(), Fail> {
-    let acts = [
-        Act::Put(1),
-        Act::Flush,
-        Act::Put(2),
-        Act::Flush,
-        Act::Put(3),
-        Act::Flush,
-        Act::Checkpoint,
-        Act::Flush,
-        Act::Reopen,
-        Act::Get,
+    let rows = [
+        (Act::Put(1), committed(0, 1)),
+        (Act::Flush, Reply::Durable(1)),
+        (Act::Put(2), committed(1, 2)),
+        (Act::Flush, Reply::Durable(2)),
+        (Act::Put(3), committed(2, 3)),
+        (Act::Flush, Reply::Fault(Fault::LogFull)),
+        (Act::Checkpoint, Reply::Checkpointed),
+        (Act::Flush, Reply::Durable(3)),
+        (Act::Reopen, Reply::Opened(3)),
+        (Act::Get, seen(3, 3)),
     ];
-    let want = [
-        committed(0, 1),
-        Reply::Durable(1),
-        committed(1, 2),
-        Reply::Durable(2),
-        committed(2, 3),
-        Reply::Fault(Fault::LogFull),
-        Reply::Checkpointed,
-        Reply::Durable(3),
-        Reply::Opened(3),
-        seen(3, 3),
-    ];
-    assert!(rt; are_answered(rt.alloc(), empty(rt.alloc())?, &acts, &want)?);
+    assert!(rt; are_answered_on(rt.alloc(), empty(rt.alloc())?, &rows)?);
     Ok(())
 }
 
@@ -234,8 +232,12 @@ fn a_torn_checkpoint_loses_nothing(rt: HostRuntime) -> Result<(), Fail> {
     for (place, byte, fault, next) in rows {
         let (reply, disk) = torn(alloc, place, byte)?;
         assert!(rt; reply == Reply::Fault(fault));
-        let want = [seen(2, 2), committed(2, 3), next];
-        assert!(rt; are_answered(alloc, disk, &[Act::Get, Act::Put(3), Act::Flush], &want)?);
+        let behind = [
+            (Act::Get, seen(2, 2)),
+            (Act::Put(3), committed(2, 3)),
+            (Act::Flush, next),
+        ];
+        assert!(rt; are_answered_on(alloc, disk, &behind)?);
     }
     Ok(())
 }
@@ -252,7 +254,7 @@ fn torn_twice(alloc: Global, byte: u8) -> Result<bool, Fail> {
         return Err(Fail::new("it did not stop"));
     }
     start_again(&mut disk);
-    are_answered(alloc, disk, &[Act::Get], &[seen(2, 2)])
+    are_answered_on(alloc, disk, &[(Act::Get, seen(2, 2))])
 }
 
 #[test]
@@ -267,23 +269,15 @@ fn a_torn_checkpoint_closes_the_session(rt: HostRuntime) -> Result<(), Fail> {
     let mut disk = full(rt.alloc())?;
     // the opening syncs once; the image is synced behind its header and its gate
     disk.fail_sync(1);
-    let acts = [
-        Act::Checkpoint,
-        Act::Checkpoint,
-        Act::Put(3),
-        Act::Flush,
-        Act::Reopen,
-        Act::Checkpoint,
+    let rows = [
+        (Act::Checkpoint, Reply::Fault(Fault::Unknown)),
+        (Act::Checkpoint, Reply::Fault(Fault::Closed)),
+        (Act::Put(3), Reply::Fault(Fault::Closed)),
+        (Act::Flush, Reply::Fault(Fault::Closed)),
+        (Act::Reopen, Reply::Opened(2)),
+        (Act::Checkpoint, Reply::Checkpointed),
     ];
-    let want = [
-        Reply::Fault(Fault::Unknown),
-        Reply::Fault(Fault::Closed),
-        Reply::Fault(Fault::Closed),
-        Reply::Fault(Fault::Closed),
-        Reply::Opened(2),
-        Reply::Checkpointed,
-    ];
-    assert!(rt; are_answered(rt.alloc(), disk, &acts, &want)?);
+    assert!(rt; are_answered_on(rt.alloc(), disk, &rows)?);
     Ok(())
 }
 
@@ -292,14 +286,13 @@ fn with_no_session_there_is_no_checkpoint(rt: HostRuntime) -> Result<(), Fail> {
     let mut disk = empty(rt.alloc())?;
     // each opening syncs once
     disk.fail_sync(1);
-    let acts = [Act::Reopen, Act::Checkpoint, Act::Reopen, Act::Checkpoint];
-    let want = [
-        Reply::Fault(Fault::Device),
-        Reply::Fault(Fault::Closed),
-        Reply::Opened(0),
-        Reply::Checkpointed,
+    let rows = [
+        (Act::Reopen, Reply::Fault(Fault::Device)),
+        (Act::Checkpoint, Reply::Fault(Fault::Closed)),
+        (Act::Reopen, Reply::Opened(0)),
+        (Act::Checkpoint, Reply::Checkpointed),
     ];
-    assert!(rt; are_answered(rt.alloc(), disk, &acts, &want)?);
+    assert!(rt; are_answered_on(rt.alloc(), disk, &rows)?);
     Ok(())
 }
 
@@ -311,21 +304,20 @@ fn an_open_image_of_a_lesser_generation_counts_for_nothing(rt: HostRuntime) -> R
     }
     // copy 1 over generation 0, which no image has
     disk.write_at(GATE, &[0xA5])?;
-    assert!(rt; are_answered(rt.alloc(), disk, &[Act::Get], &[seen(2, 2)])?);
+    assert!(rt; are_answered_on(rt.alloc(), disk, &[(Act::Get, seen(2, 2))])?);
     Ok(())
 }
 
 /// The device behind two checkpoints with nothing between them, and another opening.
 fn renewed_twice(alloc: Global) -> Result<SimDisk, Fail> {
     let mut world = small(alloc, full(alloc)?)?;
-    let acts = [Act::Checkpoint, Act::Checkpoint, Act::Reopen, Act::Get];
-    let want = [
-        Reply::Checkpointed,
-        Reply::Checkpointed,
-        Reply::Opened(2),
-        seen(2, 2),
+    let rows = [
+        (Act::Checkpoint, Reply::Checkpointed),
+        (Act::Checkpoint, Reply::Checkpointed),
+        (Act::Reopen, Reply::Opened(2)),
+        (Act::Get, seen(2, 2)),
     ];
-    if answers(alloc, &mut world, &acts)?.as_slice() != want.as_slice() {
+    if !are_answered(alloc, &mut world, &rows)? {
         return Err(Fail::new("answered otherwise"));
     }
     Ok(world.into_disk())
@@ -349,21 +341,14 @@ fn five_checkpoints_with_transactions_between_them(rt: HostRuntime) -> Result<()
     let alloc = rt.alloc();
     let mut world = small(alloc, empty(alloc)?)?;
     for (number, count) in [(10, 1), (20, 2), (30, 3), (40, 4), (50, 5)] {
-        let acts = [
-            Act::Put(number),
-            Act::Flush,
-            Act::Checkpoint,
-            Act::Reopen,
-            Act::Get,
+        let rows = [
+            (Act::Put(number), committed(count - 1, number)),
+            (Act::Flush, Reply::Durable(count)),
+            (Act::Checkpoint, Reply::Checkpointed),
+            (Act::Reopen, Reply::Opened(count)),
+            (Act::Get, seen(count, number)),
         ];
-        let want = [
-            committed(count - 1, number),
-            Reply::Durable(count),
-            Reply::Checkpointed,
-            Reply::Opened(count),
-            seen(count, number),
-        ];
-        assert!(rt; answers(alloc, &mut world, &acts)?.as_slice() == want.as_slice());
+        assert!(rt; are_answered(alloc, &mut world, &rows)?);
     }
     Ok(())
 }
@@ -412,14 +397,13 @@ fn what_waits_at_a_checkpoint_goes_on_waiting(rt: HostRuntime) -> Result<(), Fai
 
 #[test]
 fn a_checkpoint_makes_nothing_durable(rt: HostRuntime) -> Result<(), Fail> {
-    let acts = [Act::Put(5), Act::Checkpoint, Act::Reopen, Act::Get];
-    let want = [
-        committed(0, 5),
-        Reply::Checkpointed,
-        Reply::Opened(0),
-        seen(0, 0),
+    let rows = [
+        (Act::Put(5), committed(0, 5)),
+        (Act::Checkpoint, Reply::Checkpointed),
+        (Act::Reopen, Reply::Opened(0)),
+        (Act::Get, seen(0, 0)),
     ];
-    assert!(rt; are_answered(rt.alloc(), empty(rt.alloc())?, &acts, &want)?);
+    assert!(rt; are_answered_on(rt.alloc(), empty(rt.alloc())?, &rows)?);
     Ok(())
 }
 
@@ -440,38 +424,22 @@ fn behind_the_greatest_generation_there_is_no_checkpoint(rt: HostRuntime) -> Res
     let disk = of_the_greatest_generation(alloc)?;
     let mut world = opened(alloc, disk, AlwaysTrue { vars: 4 }, AlwaysRetries)?;
     // the session stands, and its log takes what it has room for
-    let acts = [
-        Act::Get,
-        Act::Checkpoint,
-        Act::Put(1),
-        Act::Flush,
-        Act::Put(2),
-        Act::Flush,
-        Act::Put(3),
-        Act::Flush,
-        Act::Put(4),
-        Act::Flush,
-        Act::Put(5),
-        Act::Flush,
-        Act::Checkpoint,
-        Act::Reopen,
+    let rows = [
+        (Act::Get, seen(0, 0)),
+        (Act::Checkpoint, Reply::Fault(Fault::Spent)),
+        (Act::Put(1), committed(0, 1)),
+        (Act::Flush, Reply::Durable(1)),
+        (Act::Put(2), committed(1, 2)),
+        (Act::Flush, Reply::Durable(2)),
+        (Act::Put(3), committed(2, 3)),
+        (Act::Flush, Reply::Durable(3)),
+        (Act::Put(4), committed(3, 4)),
+        (Act::Flush, Reply::Durable(4)),
+        (Act::Put(5), committed(4, 5)),
+        (Act::Flush, Reply::Fault(Fault::LogFull)),
+        (Act::Checkpoint, Reply::Fault(Fault::Spent)),
+        (Act::Reopen, Reply::Opened(4)),
     ];
-    let want = [
-        seen(0, 0),
-        Reply::Fault(Fault::Spent),
-        committed(0, 1),
-        Reply::Durable(1),
-        committed(1, 2),
-        Reply::Durable(2),
-        committed(2, 3),
-        Reply::Durable(3),
-        committed(3, 4),
-        Reply::Durable(4),
-        committed(4, 5),
-        Reply::Fault(Fault::LogFull),
-        Reply::Fault(Fault::Spent),
-        Reply::Opened(4),
-    ];
-    assert!(rt; answers(alloc, &mut world, &acts)?.as_slice() == want.as_slice());
+    assert!(rt; are_answered(alloc, &mut world, &rows)?);
     Ok(())
 }
