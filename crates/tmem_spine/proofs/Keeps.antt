@@ -1,14 +1,13 @@
 -- A change of one seat's view, or a seat more, keeps the rule.
-use Rattle.std.proofs.Common.{◌≡◌, ◌≢◌, ◌⊎◌, inl, inr, ⊎_elim, ℕ, zero, suc, ◌+◌, ◌<◌, List, [], ◌∷◌, ◌++◌, length, set, refl, sym, ap, ◌∙◌, subst, arith}
+use Rattle.std.proofs.Common.{◌≡◌, ◌≢◌, ◌⊎◌, inl, inr, ⊎_elim, ℕ, zero, suc, List, [], ◌∷◌, ◌++◌, length, set, refl, sym, ap, ◌∙◌, subst, arith}
 use mathlib.Core.Option.{Option, some, some-injective, some-ne-none}
 use lib.ListN.{get_elem?}
-use Rattle.atomic_table.specs.Table.{State, Splits, Joins}
+use Rattle.atomic_table.specs.Table.{State, Joins}
 use Rattle.atomic_table.proofs.Lists.{at_set, set_else}
 use Rattle.tmem_spine.specs.declared.view.Role.TheVariants.{Pass}
 use Rattle.tmem_spine.specs.declared.view.View.{View}
 use Rattle.tmem_spine.specs.Notes.{spent}
 use Rattle.tmem_spine.specs.Rule.{History, IsHistory, Fits, Each, Apart, KeepsHistory}
-use Rattle.tmem_spine.proofs.Prefixes.{prefix_self}
 
 -- the view of a pass comes from one of these, which has the same mark
 abbrev ComesFrom : List View → ℕ → View → Type 0

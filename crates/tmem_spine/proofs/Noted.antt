@@ -1,19 +1,19 @@
 -- The seats that are made, and the notes that are written and read, keep the rule.
-use Rattle.std.proofs.Common.{◌≡◌, ◌≢◌, ◌⊎◌, ⊎_elim, ℕ, zero, suc, ◌+◌, ◌-◌, ◌<◌, ◌≤◌, ◌^◌, false, true, List, [], ◌∷◌, ◌++◌, length, set, All, AllPairs, refl, sym, ap, ◌∙◌, subst, arith}
+use Rattle.std.proofs.Common.{◌≡◌, ◌≢◌, ⊎_elim, ℕ, zero, suc, ◌+◌, ◌<◌, ◌≤◌, ◌^◌, false, true, List, [], ◌∷◌, ◌++◌, length, set, refl, sym, ap, ◌∙◌, subst, arith}
 use mathlib.Core.Option.{some, some-injective, some-ne-none}
 use lib.ListN.{get_elem?}
-use Rattle.atomic_table.specs.Table.{State, Splits, Joins, opening}
+use Rattle.atomic_table.specs.Table.{Splits, Joins, opening}
 use Rattle.atomic_table.proofs.Lists.{at_set}
 use Rattle.tmem_record.specs.Prefix.{IsPrefix}
 use Rattle.tmem_record.specs.declared.effect.Effect.{Effect}
 use Rattle.tmem_spine.specs.declared.view.Entry.{Entry}
-use Rattle.tmem_spine.specs.declared.view.Role.TheVariants.{Start, Core, Journal, Pass, Note}
+use Rattle.tmem_spine.specs.declared.view.Role.TheVariants.{Start, Core, Journal, Pass}
 use Rattle.tmem_spine.specs.declared.view.View.{View}
 use Rattle.tmem_spine.specs.History.{count, entry, longer, HasAt}
 use Rattle.tmem_spine.specs.Notes.{first_view, as_core, journal_from, pass_from, gives, note, spent, core_told, journal_told}
-use Rattle.tmem_spine.specs.Rule.{History, IsHistory, IsPass, Owns, Fits, Each, KeepsHistory}
+use Rattle.tmem_spine.specs.Rule.{History, IsPass, Fits, KeepsHistory}
 use Rattle.tmem_spine.specs.Steps.{meets_core, gains, meets_journal}
-use Rattle.tmem_spine.proofs.Prefixes.{prefix_self, prefix_trans, prefix_empty, longer_is}
+use Rattle.tmem_spine.proofs.Prefixes.{prefix_self, prefix_empty, longer_is}
 use Rattle.tmem_spine.proofs.Owning.{pass_more, pass_one}
 use Rattle.tmem_spine.proofs.Keeps.{kept_split, kept_join, IsNewMark}
 use Rattle.tmem_spine.proofs.Allowed.{durable_accepted}

@@ -1,5 +1,5 @@
 -- A pass's own effects, once it knows more.
-use Rattle.std.proofs.Common.{◌≡◌, ℕ, zero, suc, ◌+◌, ◌-◌, ◌<◌, ◌≤◌, List, [], ◌∷◌, ◌++◌, length, All, get_or, Some, slice_get, refl, ap, sym, ◌∙◌, subst, arith}
+use Rattle.std.proofs.Common.{◌≡◌, ℕ, zero, suc, ◌-◌, ◌<◌, ◌≤◌, List, [], ◌∷◌, ◌++◌, get_or, Some, slice_get, ◌∙◌, subst, arith}
 use Rattle.std.proofs.lemmas.List.Elements.{All-push}
 use Rattle.std.proofs.lemmas.List.Quantifiers.{all_pairs_push}
 use Rattle.tmem_record.specs.Prefix.{IsPrefix}
@@ -8,7 +8,7 @@ use Rattle.tmem_spine.specs.declared.view.Entry.{Entry}
 use Rattle.tmem_spine.specs.declared.view.View.{View}
 use Rattle.tmem_spine.specs.History.{count, entry, Has, HasAt}
 use Rattle.tmem_spine.specs.Rule.{IsPass, Owns}
-use Rattle.tmem_spine.proofs.Prefixes.{prefix_trans, prefix_length, get_more, get_same, get_within}
+use Rattle.tmem_spine.proofs.Prefixes.{prefix_trans, get_more, get_same, get_within}
 
 pub at_more : (start : ℕ) (xs ys : List Entry) (n : ℕ) (e : Entry) → IsPrefix xs ys → HasAt start xs n e → HasAt start ys n e
 at_more start xs ys n e p h = (h.0, get_more xs ys (n - start) e p h.1)

@@ -8,8 +8,8 @@ abbrev pub entry : ℕ → Effect → Entry
 entry mark effect = record { mark = mark; effect = effect }
 
 -- the effects of a history, without the marks
-abbrev pub effects_of : List Entry → List Effect
-effects_of log = map (λ (e : Entry). e.effect) log
+abbrev pub unmarked : List Entry → List Effect
+unmarked log = map (λ (e : Entry). e.effect) log
 
 -- how many transactions there are after a history that starts at this count
 abbrev pub count : ℕ → List Entry → ℕ

@@ -1,6 +1,5 @@
 -- The views of new seats, and what one seat tells another.
 use Rattle.std.specs.Prelude.{ℕ, ◌+◌, List, []}
-use Rattle.atomic_table.specs.Seated.{TableId}
 use Rattle.tmem_spine.specs.declared.view.Entry.{Entry}
 use Rattle.tmem_spine.specs.declared.view.Role.{Role}
 use Rattle.tmem_spine.specs.declared.view.Role.TheVariants.{Start, Core, Journal, Pass, Note, Spent}

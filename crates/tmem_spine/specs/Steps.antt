@@ -1,5 +1,5 @@
 -- The six kinds of step: what each tells its seat. A step relates the view before, the number found and the view after.
-use Rattle.std.specs.Prelude.{◌≡◌, ℕ, ◌-◌, ◌≤◌, List, [], ◌∷◌, ◌++◌, take}
+use Rattle.std.specs.Prelude.{◌≡◌, ℕ, ◌-◌, ◌≤◌, [], ◌∷◌, ◌++◌, take}
 use Rattle.atomic_table.specs.Table.{Me, Step}
 use Rattle.tmem_record.specs.Prefix.{IsPrefix}
 use Rattle.tmem_record.specs.declared.effect.Effect.{Effect}

@@ -26,3 +26,6 @@ pub use opened::Opened;
 pub use seats::{CoreSide, JournalSide, Pass};
 pub use spine::{MOST_PASSES, Spine};
 pub use view::{Entry, Law, Role, View};
+
+#[cfg(test)]
+mod tests;

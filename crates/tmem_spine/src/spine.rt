@@ -92,6 +92,7 @@ impl<N: Naming> Spine<N> {
         ensures journal { journal.new ≡ journal.old }
         ensures exact { result ≡ count N.name.start journal.old.durable }
         ensures least { core.old.trimmed ≤ result }
+        ensures most { result ≤ count N.name.start core.old.accepted }
         ensures begins { IsPrefix journal.old.durable core.old.accepted }
     {
         let note = self.journal_tells(&mut journal.place);
@@ -109,8 +110,9 @@ impl<N: Naming> Spine<N> {
         requires most { upto ≤ count N.name.start core.old.accepted }
         ensures core { core.new ≡ core.old }
         ensures journal { journal.new ≡ record journal.old { aimed = take (upto - N.name.start) core.old.accepted } }
-        ensures begins { IsPrefix journal.old.durable journal.new.aimed }
         ensures number { count N.name.start journal.new.aimed ≡ upto }
+        ensures begins { IsPrefix journal.old.durable journal.new.aimed }
+        ensures ahead { IsPrefix journal.new.aimed core.old.accepted }
     {
         let note = self.core_tells(&mut core.place);
         self.journal_hears(&mut journal.place, note);
@@ -133,6 +135,8 @@ impl<N: Naming> Spine<N> {
         ensures begins { IsPrefix pass.old.known pass.new.known }
         ensures covers { IsPrefix journal.old.durable pass.new.known }
         ensures saw { IsPrefix pass.old.seen journal.old.durable }
+        ensures least { count N.name.start pass.old.seen ≤ count N.name.start journal.old.durable }
+        ensures most { count N.name.start journal.old.durable ≤ count N.name.start pass.new.known }
         ensures stands { (number : ℕ) (effect : EffectOf) → number < count N.name.start pass.old.seen → Has pass.old.own number effect
             → HasAt N.name.start journal.old.durable number (entry pass.old.mark effect) }
     {
@@ -148,6 +152,7 @@ impl<N: Naming> Spine<N> {
         ensures pass { pass.new ≡ record pass.old { seen = pass.new.seen; known = longer pass.old.known pass.new.seen } }
         ensures answer { result ≡ count N.name.start pass.new.seen }
         ensures later { IsPrefix pass.old.seen pass.new.seen }
+        ensures least { count N.name.start pass.old.seen ≤ result }
         ensures begins { IsPrefix pass.old.known pass.new.known }
     {
         let found = self.look_step(&mut pass.place);

@@ -127,11 +127,11 @@ impl<N: Naming> Spine<N> {
         effect: &Effect,
     )
         requires role { pass.old.role ≡ role.Pass }
-        requires choice { (C.entry ≡ entry pass.old.mark effect.now) × (C.number ≡ number) }
+        requires choice { (C.entry.mark ≡ pass.old.mark) × (C.entry.effect ≡ effect.now) × (C.number ≡ number) }
         requires is_pass { IsPass N.name.start pass.old }
         requires begins { IsPrefix pass.old.known note.known }
         requires behind { count N.name.start pass.old.known ≤ number }
-        requires stands { HasAt N.name.start note.known number (entry pass.old.mark effect.now) }
+        requires stands { HasAt N.name.start note.known number C.entry }
         ensures pass { pass.new ≡ record pass.old { known = note.known; own = pass.old.own ++ (number, effect.now) ∷ [] } }
         ensures is_pass { IsPass N.name.start pass.new }
     {

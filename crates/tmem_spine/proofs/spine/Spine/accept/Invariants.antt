@@ -1,4 +1,3 @@
-use Rattle.std.proofs.Common.{◌+◌, length}
 use Rattle.tmem_spine.specs.History.{entry}
 use Rattle.tmem_spine.proofs.spine.Spine.accept.Given as goal
 

@@ -1,11 +1,11 @@
-use Rattle.std.proofs.Common.{◌≡◌, ◌+◌, ◌-◌, ◌≤◌, ◌++◌, ◌∷◌, [], List, length, arith, refl, sym, ap, ◌∙◌, subst, Some, slice_get}
+use Rattle.std.proofs.Common.{ℕ, ◌≡◌, length, arith, sym, ap, ◌∙◌, subst}
+use Rattle.atomic_table.specs.Table.{Me}
 use Rattle.tmem_record.specs.Prefix.{IsPrefix}
-use Rattle.tmem_spine.specs.declared.view.Entry.{Entry}
 use Rattle.tmem_spine.specs.declared.view.View.{View}
 use Rattle.tmem_spine.proofs.Noted.{gains_note}
 use Rattle.tmem_spine.proofs.Owning.{pass_one}
 use Rattle.tmem_spine.specs.Rule.{IsPass}
-use Rattle.tmem_spine.specs.History.{count, entry, HasAt}
+use Rattle.tmem_spine.specs.History.{entry, HasAt}
 use Rattle.tmem_spine.proofs.spine.Spine.gain_step.Goals as goal
 
 pub join_seat-requires : goal.join_seat-requires
@@ -22,9 +22,8 @@ join_seat-requires g c =
     let x = g.C.Choice.entry.effect in
     let more : IsPrefix seat.me.0.known note.me.0.known = rw (is, c.note.view_is) c.requires.begins in
     let known = ap (λ (v : View). length v.known) is in
-    let number = c.requires.choice.1 in
-    let same : entry c.args.pass.now.mark c.args.effect.now ≡ entry seat.me.0.mark x =
-    ap (λ m. entry m c.args.effect.now) (sym (ap (λ (v : View). v.mark) is)) ∙ ap (λ y. entry seat.me.0.mark y) (sym (ap (λ (e : Entry). e.effect) c.requires.choice.0)) in
+    let number = c.requires.choice.2 in
+    let same : g.C.Choice.entry ≡ entry seat.me.0.mark x = ap (λ m. entry m x) (c.requires.choice.0 ∙ sym (ap (λ (v : View). v.mark) is)) in
     let at : HasAt t.key note.me.0.known n (entry seat.me.0.mark x) = rw (c.note.view_is, spine.1, number, ← same) c.requires.stands in
     (of.table ∙ sym spine.0, from.table ∙ sym spine.0, from.empty, omega (arith, spine.2), gains_note t.key seat.id seat.me.0 note.id note.me.0 n x role more (omega (arith, c.requires.behind, known, spine.1, number)) at)
 
@@ -39,8 +38,7 @@ returns-clause-is_pass g c =
     let more : IsPrefix seat.me.0.known note.me.0.known = rw (is, c.note.view_is) c.requires.begins in
     let was : IsPass start seat.me.0 = rw is c.requires.is_pass in
     let known = ap (λ (v : View). length v.known) is in
-    let number = c.requires.choice.1 in
-    let same : entry c.args.pass.now.mark c.args.effect.now ≡ entry seat.me.0.mark x =
-    ap (λ m. entry m c.args.effect.now) (sym (ap (λ (v : View). v.mark) is)) ∙ ap (λ y. entry seat.me.0.mark y) (sym (ap (λ (e : Entry). e.effect) c.requires.choice.0)) in
+    let number = c.requires.choice.2 in
+    let same : g.C.Choice.entry ≡ entry seat.me.0.mark x = ap (λ m. entry m x) (c.requires.choice.0 ∙ sym (ap (λ (v : View). v.mark) is)) in
     let at : HasAt start note.me.0.known n (entry seat.me.0.mark x) = rw (c.note.view_is, number, ← same) c.requires.stands in
-    subst (λ (v : View). IsPass start v) (sym (ap (λ m. m.0) c.join_seat.ensures.2)) (pass_one start seat.me.0 note.me.0.known n x was more (omega (arith, c.requires.behind, known, number)) at)
+    subst (λ (m : Me ℕ View). IsPass start m.0) (sym c.join_seat.ensures.2) (pass_one start seat.me.0 note.me.0.known n x was more (omega (arith, c.requires.behind, known, number)) at)

@@ -1,6 +1,4 @@
-use Rattle.std.proofs.Common.{◌≡◌, ◌+◌, ◌-◌, ◌≤◌, ◌++◌, ◌∷◌, [], List, length, arith, refl, sym, ap, ◌∙◌, subst, Some, slice_get}
-use Rattle.tmem_record.specs.Prefix.{IsPrefix}
-use Rattle.tmem_spine.specs.declared.view.Entry.{Entry}
+use Rattle.std.proofs.Common.{arith, sym, ap, ◌∙◌}
 use Rattle.tmem_spine.specs.declared.view.View.{View}
 use Rattle.tmem_spine.proofs.Noted.{passes}
 use Rattle.tmem_spine.proofs.spine.Spine.give_step.Goals as goal

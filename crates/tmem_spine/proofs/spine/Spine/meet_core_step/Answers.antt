@@ -1,6 +1,6 @@
-use Rattle.std.proofs.Common.{◌≡◌, ◌+◌, ◌-◌, ◌≤◌, ◌++◌, ◌∷◌, [], List, length, arith, refl, sym, ap, ◌∙◌, subst, Some, slice_get}
+use Rattle.std.proofs.Common.{ℕ, arith, sym, ap, ◌∙◌, subst}
+use Rattle.atomic_table.specs.Table.{Me}
 use Rattle.tmem_record.specs.Prefix.{IsPrefix}
-use Rattle.tmem_spine.specs.declared.view.Entry.{Entry}
 use Rattle.tmem_spine.specs.declared.view.View.{View}
 use Rattle.tmem_spine.proofs.Noted.{meets_core_note}
 use Rattle.tmem_spine.proofs.Owning.{pass_more}
@@ -28,4 +28,4 @@ returns-clause-is_pass g c =
     let is = c.pass.view_is in
     let more : IsPrefix seat.me.0.known note.me.0.known = rw (is, c.note.view_is) c.requires.begins in
     let was : IsPass start seat.me.0 = rw is c.requires.is_pass in
-    subst (λ (v : View). IsPass start v) (sym (ap (λ m. m.0) c.join_seat.ensures.2)) (pass_more start seat.me.0 note.me.0.known was more)
+    subst (λ (m : Me ℕ View). IsPass start m.0) (sym c.join_seat.ensures.2) (pass_more start seat.me.0 note.me.0.known was more)
