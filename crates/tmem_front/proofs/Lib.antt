@@ -1,1 +1,2 @@
+mod Leaves
 mod Seated

@@ -1,5 +1,5 @@
 // What lies under the journal's lock.
-ghost use Rattle.std.specs.Prelude.{◌≡◌, ◌≤◌, ◌<◌, ℕ, false, [], length};
+ghost use Rattle.std.specs.Prelude.{◌≡◌, ◌⊎◌, ◌≤◌, ◌<◌, ◌+◌, ℕ, false, [], length};
 ghost use Rattle.tmem_disk.specs.Disk.{LeavesOnly};
 ghost use Rattle.tmem_record.specs.Prefix.{IsPrefix};
 ghost use Rattle.tmem_record.specs.declared.effect.Effect.{Effect as EffectOf};
@@ -10,30 +10,33 @@ ghost use Rattle.tmem_spine.specs.Views.{new_journal};
 ghost use Rattle.tmem_front.specs.Histories.{after};
 
 use crate::naming::StoreNaming;
-use std::marker::Model;
 use tmem_disk::Disk;
 use tmem_journal::Journal;
 use tmem_record::Batch;
 use tmem_spine::{JournalSide, Pass, Spine};
 
-/// The journal, beside its seat. Contracts see what it aims at, what is durable, its device and whether it is closed.
+/// The journal, beside its seat. Contracts speak of its parts by the words of `specs/Journals`.
 #[derive(Drop)]
 pub struct JournalSeat<D: Disk, N: StoreNaming> {
     journal: Journal<D>,
     side: JournalSide<N>,
     // the batch of a flush, with room from the start
     batch: Batch,
-}
 
-impl<D: Disk, N: StoreNaming> Model for JournalSeat<D, N> {
-    ghost use Rattle.tmem_journal.specs.Held.{device_of, layout_of, is_closed_of};
-    ghost use Rattle.tmem_front.specs.Seats.{JournalSeatView, IsJournalOf};
+    /// The journal's state is what the durable effects make of the opening state.
+    pub ghost state: { state_of journal ≡ after N.opening side.durable },
 
-    ghost Value = { JournalSeatView };
+    /// The history starts at the count of the opening state.
+    pub ghost starts: { N.opening.count ≡ N.name.start },
 
-    ghost view = { λ s. record { aimed = s.side.aimed; durable = s.side.durable; device = device_of s.journal; layout = layout_of s.journal; is_closed = is_closed_of s.journal } };
+    /// What an unknown outcome left in doubt is nothing, or what the journal aims at.
+    pub ghost doubt: { ∥ (doubtful_of journal ≡ after N.opening side.durable) ⊎ (doubtful_of journal ≡ after N.opening side.aimed) ∥₁ },
 
-    ghost invariant = { λ s. IsJournalOf N.name.start N.opening s.journal s.side };
+    /// What is durable begins what it aims at.
+    pub ghost begins: { IsPrefix side.durable side.aimed },
+
+    /// It is over the variables of the opening state.
+    pub ghost over: { (layout_of journal).vars ≡ length N.opening.values },
 }
 
 impl<D: Disk, N: StoreNaming> JournalSeat<D, N> {
@@ -43,7 +46,7 @@ impl<D: Disk, N: StoreNaming> JournalSeat<D, N> {
         requires sure { doubtful_of journal ≡ N.opening }
         requires over { (layout_of journal).vars ≡ length N.opening.values }
         requires fresh { side ≡ new_journal }
-        ensures { (result.aimed ≡ []) × (result.durable ≡ []) × (result.device ≡ device_of journal) × (result.is_closed ≡ is_closed_of journal) }
+        ensures { (result.side ≡ new_journal) × (result.journal ≡ journal) }
     {
         JournalSeat {
             journal,
@@ -54,21 +57,21 @@ impl<D: Disk, N: StoreNaming> JournalSeat<D, N> {
 
     /// Every crash leaves the state after what is durable, or after what the journal aims at.
     pub fn crash_leaves(&self)
-        ensures { LeavesOnly self.now.device (StandsForEither self.now.layout.vars self.now.layout.slots (after N.opening self.now.durable) (after N.opening self.now.aimed)) }
+        ensures { LeavesOnly (device_of self.now.journal)
+            (StandsForEither (layout_of self.now.journal).vars (layout_of self.now.journal).slots (after N.opening self.now.side.durable) (after N.opening self.now.side.aimed)) }
     {}
 
     /// How many are durable. The pass then knows at least these, and its own effect at the number is among them, if it saw so
     /// many.
     pub fn vouch(&mut self, spine: &Spine<N>, pass: &mut Pass<N>, number: u64) -> u64
         requires { number < count N.name.start pass.old.seen }
-        ensures same { self.new ≡ self.old }
-        ensures answer { result ≡ count N.name.start self.old.durable }
+        ensures same { (self.new.side ≡ self.old.side) × (self.new.journal ≡ self.old.journal) }
+        ensures answer { result ≡ count N.name.start self.old.side.durable }
         ensures least { count N.name.start pass.old.seen ≤ result }
         ensures most { result ≤ count N.name.start pass.new.known }
-        ensures pass { pass.new ≡ record pass.old { known = longer pass.old.known self.old.durable } }
-        ensures begins { IsPrefix pass.old.seen self.old.durable × IsPrefix pass.old.known pass.new.known }
-        ensures stands { (effect : EffectOf) → Has pass.old.own number effect → HasAt N.name.start self.old.durable number (entry pass.old.mark effect) }
-        ensures leaves { LeavesOnly self.old.device (StandsForEither self.old.layout.vars self.old.layout.slots (after N.opening self.old.durable) (after N.opening self.old.aimed)) }
+        ensures pass { pass.new ≡ record pass.old { known = longer pass.old.known self.old.side.durable } }
+        ensures begins { IsPrefix pass.old.seen self.old.side.durable × IsPrefix pass.old.known pass.new.known }
+        ensures stands { (effect : EffectOf) → Has pass.old.own number effect → HasAt N.name.start self.old.side.durable number (entry pass.old.mark effect) }
     {
         spine.meet_journal(&mut self.side, pass);
         self.journal.count()
