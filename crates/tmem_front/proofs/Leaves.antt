@@ -13,5 +13,5 @@ either_of vars slots s t u c which stands = ∥∥₁_elim which ∥∥₁_prop 
 
 pub leaves : (d : DeviceView) (vars slots : ℕ) (s s' t u : State) → s ≡ s' → ∥ (t ≡ s') ⊎ (t ≡ u) ∥₁ → LeavesOnly d (StandsForEither vars slots s t) → LeavesOnly d (StandsForEither vars slots s' u)
 leaves d vars slots s s' t u is which only = record {
-  each = λ keeps c left. either_of vars slots s' t u c which (subst (λ (x : State). StandsForEither vars slots x t c) is (only.each keeps c left))
+  each = λ keeps c left. either_of vars slots s' t u c which (subst (λ (x : State). StandsForEither vars slots x t c) is (only.each keeps c left));
 }

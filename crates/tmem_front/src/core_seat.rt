@@ -1,5 +1,5 @@
 // What lies under the core's lock.
-ghost use Rattle.std.specs.Prelude.{◌≡◌, ◌≤◌, ◌++◌, ◌∷◌, [], true, length, MatchBool, All, IsTrue, IfSome, IfNone};
+ghost use Rattle.std.specs.Prelude.{◌≡◌, ◌<◌, ◌≤◌, slice_get, Some, ◌++◌, ◌∷◌, [], true, length, MatchBool, All, IsTrue, IfSome, IfNone};
 ghost use Rattle.tmem_record.specs.Prefix.{IsPrefix};
 ghost use Rattle.tmem_record.specs.Names.{has_name};
 ghost use Rattle.tmem_record.specs.declared.effect.Effect.{Effect as EffectOf};
@@ -89,6 +89,14 @@ impl<N: StoreNaming, T: Invariants + Drop> CoreSeat<N, T> {
         ensures accepted { (self.new.accepted ≡ self.old.accepted) × (self.new.trimmed ≡ self.old.trimmed) × (self.new.is_shut ≡ self.old.is_shut) }
     {
         spine.pass(&mut self.side).ok_or(Fault::NoSeat)
+    }
+
+    /// The present value of a variable.
+    pub fn peek(&self, var: u16) -> i64
+        requires { var < length N.opening.values }
+        ensures { slice_get (after N.opening self.now.accepted).values var ≡ Some result }
+    {
+        self.core.peek(var)
     }
 
     /// Later attempts are refused as `Closed`.

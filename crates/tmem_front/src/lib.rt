@@ -8,9 +8,13 @@
 #![tactic(auto)]
 
 mod core_seat;
+mod front;
 mod journal_seat;
 mod naming;
+mod opened;
 
 pub use core_seat::CoreSeat;
+pub use front::Front;
 pub use journal_seat::JournalSeat;
 pub use naming::StoreNaming;
+pub use opened::OpenedFront;

@@ -1,0 +1,30 @@
+-- What an attempt that is settled is answered, and what the pass knows then.
+use Rattle.std.specs.Prelude.{◌≡◌, ◌≤◌, ◌++◌, ℕ, Bool, List, Result}
+use Rattle.tmem_disk.specs.declared.fault.Fault.{Fault}
+use Rattle.tmem_record.specs.Prefix.{IsPrefix}
+use Rattle.tmem_record.specs.State.{State}
+use Rattle.tmem_tree.specs.declared.settled.Settled.{Settled}
+use Rattle.tmem_tentative.specs.declared.attempt.Attempt.{Attempt}
+use Rattle.tmem_core.specs.Program.{Program}
+use Rattle.tmem_core.specs.SettleAnswer.{settle_answer, accepted_by}
+use Rattle.tmem_spine.specs.declared.view.Entry.{Entry}
+use Rattle.tmem_spine.specs.History.{count}
+use Rattle.tmem_spine.specs.Views.{PassView}
+use Rattle.tmem_front.specs.Histories.{after, marked, numbered, IsSoundState}
+
+-- There is a history that goes on from all that the pass knew. The answer is a core's in the state after it, where at least
+-- as many are known durable as the pass saw. The history gains what is accepted, once, under the mark of the pass, which
+-- then knows it whole and has what is accepted as its own. The state after that is sound.
+pub record Settles (start : ℕ) (opening : State) (program : Program) (attempt : Attempt) (old : PassView) (answer : Result Settled Fault) (new : PassView) : Type 0 where
+  pub before : List Entry
+  pub durable : ℕ
+  pub is_shut : Bool
+  pub begins : IsPrefix old.known before
+  pub saw : count start old.seen ≤ durable
+  pub number : (after opening before).count ≡ count start before
+  pub answered : answer ≡ settle_answer program is_shut (after opening before) durable attempt
+  pub pass : new ≡ record old {
+    known = before ++ marked old.mark (accepted_by answer attempt.effect);
+    own = old.own ++ numbered (count start before) (accepted_by answer attempt.effect);
+  }
+  pub sound : IsSoundState program (after opening new.known)

@@ -1,0 +1,107 @@
+// The two locks, and the spine beside them.
+ghost use Rattle.std.specs.Prelude.{◌≡◌, ◌≤◌, ◌<◌, length, All, IsTrue};
+ghost use Rattle.tmem_record.specs.Prefix.{IsPrefix};
+ghost use Rattle.tmem_record.specs.Names.{has_name};
+ghost use Rattle.tmem_tentative.specs.Fits.{IsForVariables};
+ghost use Rattle.tmem_spine.specs.History.{count, longer};
+ghost use Rattle.tmem_front.specs.Settling.{Settles};
+
+use crate::core_seat::CoreSeat;
+use crate::journal_seat::JournalSeat;
+use crate::naming::StoreNaming;
+use std::alloc::Global;
+use std::sync::{Mutex, Wait};
+use tmem_core::Settled;
+use tmem_disk::{Disk, Fault, Name};
+use tmem_invariants::Invariants;
+use tmem_spine::{Pass, Spine};
+use tmem_tentative::Attempt;
+use tmem_tree::{Plan, StoredSteps, Tx};
+
+/// A store that threads share. A pass is used with its own front, and a plan or an attempt with the front that made it.
+#[derive(Drop)]
+pub struct Front<D: Disk, N: StoreNaming, T: Invariants, S: StoredSteps> {
+    pub(crate) alloc: Global,
+    pub(crate) vars: u16,
+    pub(crate) steps: S,
+    // the names of the invariants, in the table's order
+    pub(crate) names: Vec<Name>,
+    pub(crate) spine: Spine<N>,
+    pub(crate) core: Mutex<CoreSeat<N, T>>,
+    pub(crate) journal: Mutex<JournalSeat<D, N>>,
+
+    /// It is over the variables of the opening state.
+    pub ghost over: { vars ≡ length N.opening.values },
+
+    /// The names are the program's.
+    pub ghost named: { names.items ≡ N.program.names },
+
+    /// The steps answer what they mean.
+    pub ghost stated: { ∥ S.is_stated steps N.program.steps ∥₁ },
+}
+
+impl<D: Disk + Drop, N: StoreNaming, T: Invariants + Drop, S: StoredSteps + Drop> Front<
+    D,
+    N,
+    T,
+    S,
+> {
+    /// A pass, with a mark of its own. Refused with `NoSeat` once 32 were given out, also where they were dropped.
+    pub fn pass<R: Wait>(&self, rt: &R) -> Result<Pass<N>, Fault> {
+        self.core.lock(rt).pass(&self.spine)
+    }
+
+    /// Settles an attempt in one atomic step, after all that the pass knew. Refused as a core refuses it.
+    pub fn settle<R: Wait>(
+        &self,
+        rt: &R,
+        pass: &mut Pass<N>,
+        attempt: &Attempt,
+    ) -> Result<Settled, Fault>
+        requires variables { IsForVariables (length N.opening.values) attempt.now }
+        requires names { All (λ name. IsTrue (has_name N.program.names name)) attempt.now.effect.names }
+        ensures settled { Settles N.name.start N.opening N.program attempt.now pass.old result pass.new }
+    {
+        self.core.lock(rt).settle(&self.spine, pass, attempt)
+    }
+
+    /// How many transactions are durable, all of which the pass then saw. It takes no lock.
+    pub fn look(&self, pass: &mut Pass<N>) -> u64
+        ensures pass { pass.new ≡ record pass.old { seen = pass.new.seen; known = longer pass.old.known pass.new.seen } }
+        ensures answer { result ≡ count N.name.start pass.new.seen }
+        ensures later { IsPrefix pass.old.seen pass.new.seen }
+        ensures least { count N.name.start pass.old.seen ≤ result }
+        ensures begins { IsPrefix pass.old.known pass.new.known }
+    {
+        self.spine.look(pass)
+    }
+
+    /// How many are durable, by the journal itself: every crash of the journal in hand leaves a store whose history has the
+    /// pass's own effect at this number.
+    pub fn vouch<R: Wait>(&self, rt: &R, pass: &mut Pass<N>, number: u64) -> u64
+        requires { number < count N.name.start pass.old.seen }
+        ensures least { count N.name.start pass.old.seen ≤ result }
+        ensures most { result ≤ count N.name.start pass.new.known }
+        ensures begins { IsPrefix pass.old.known pass.new.known }
+        ensures same { (pass.new.mark ≡ pass.old.mark) × (pass.new.seen ≡ pass.old.seen) × (pass.new.own ≡ pass.old.own) }
+    {
+        self.journal.lock(rt).vouch(&self.spine, pass, number)
+    }
+
+    /// Later attempts are refused as `Closed`.
+    pub fn shut<R: Wait>(&self, rt: &R) {
+        self.core.lock(rt).shut();
+    }
+
+    /// The present value of a variable, also where the front is shut.
+    pub fn peek<R: Wait>(&self, rt: &R, var: u16) -> i64
+        requires { var < length N.opening.values }
+    {
+        self.core.lock(rt).peek(var)
+    }
+
+    /// The plan of a transaction. Refused with `BadPlan` and the least cause for which it is outside the limits.
+    pub fn plan(&self, tx: Tx) -> Result<Plan, Fault> {
+        Plan::new(tx, &self.steps, self.vars, &self.names)
+    }
+}
