@@ -1,2 +1,4 @@
 mod Leaves
 mod Seated
+mod Taken
+mod Written

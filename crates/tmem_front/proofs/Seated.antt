@@ -104,3 +104,11 @@ settled_sound start opening p c c' v v' mark es was state accepted sound =
     let plain : unmarked (v.accepted ++ marked mark es) ≡ unmarked v.accepted ++ es = unmarked-append v.accepted (marked mark es) ∙ ap (λ (l : List Effect). unmarked v.accepted ++ l) (unmarked-marked mark es) in
     let state' : after opening (v.accepted ++ marked mark es) ≡ fold (after opening v.accepted) es = ap (λ (l : List Effect). fold opening l) plain ∙ fold-append opening (unmarked v.accepted) es in
     subst (λ (s : State). IsSoundState p s) (state ∙ (ap (λ (s : State). fold s es) was.state ∙ (sym state' ∙ ap (λ (l : List Entry). after opening l) (sym accepted)))) sound
+
+-- what waits behind the number that is durable now
+pub drop_again : (start n d t d' : ℕ) (durable : List Entry) (waits waited all : List Effect) → d ≡ n → n ≡ count start durable → d' ≡ t → start ≤ t → t ≤ n → waits ≡ drop (n - d') waited → waited ≡ drop (t - start) all
+    → drop (n - d) waits ≡ drop (length durable) all
+drop_again start n d t d' durable waits waited all now exact was late low here there =
+    let none : n - d ≡ 0 = omega arith in
+    let k : (t - start) + (n - d') ≡ length durable = omega arith in
+    ap (λ (m : ℕ). drop m waits) none ∙ (here ∙ (ap (λ (l : List Effect). drop (n - d') l) there ∙ (drop-drop (n - d') (t - start) all ∙ ap (λ (m : ℕ). drop m all) k)))

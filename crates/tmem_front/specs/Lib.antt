@@ -1,3 +1,4 @@
+pub mod Flushing
 pub mod Histories
 pub mod Seats
 pub mod Settling

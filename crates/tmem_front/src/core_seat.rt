@@ -8,6 +8,7 @@ ghost use Rattle.tmem_core.specs.Held.{state_of, opened_of, history_of, waiting_
 ghost use Rattle.tmem_core.specs.SettleAnswer.{settle_answer, accepted_by};
 ghost use Rattle.tmem_spine.specs.History.{count};
 ghost use Rattle.tmem_spine.specs.Views.{new_core, new_pass};
+ghost use Rattle.tmem_front.specs.Flushing.{GoesOn, TakesOldest};
 ghost use Rattle.tmem_front.specs.Histories.{after, marked, numbered, IsSoundState};
 
 use crate::naming::StoreNaming;
@@ -15,7 +16,8 @@ use std::marker::Model;
 use tmem_core::{Core, Settled};
 use tmem_disk::Fault;
 use tmem_invariants::Invariants;
-use tmem_spine::{CoreSide, Pass, Spine};
+use tmem_record::Batch;
+use tmem_spine::{CoreSide, JournalSide, Pass, Spine};
 use tmem_tentative::Attempt;
 
 /// The core, beside its seat. Contracts see what it accepted, how many are known durable, how many passes it gave out, and
@@ -97,6 +99,30 @@ impl<N: StoreNaming, T: Invariants + Drop> CoreSeat<N, T> {
         ensures { slice_get (after N.opening self.now.accepted).values var ≡ Some result }
     {
         self.core.peek(var)
+    }
+
+    /// Takes the oldest effects that wait into a batch, as long as any other would still fit, and the journal beside the core
+    /// aims at them. The core learns how many are durable.
+    pub fn take(&mut self, spine: &Spine<N>, journal: &mut JournalSide<N>, batch: &mut Batch)
+        ensures core { self.new ≡ record self.old { trimmed = count N.name.start journal.old.durable } }
+        ensures durable { journal.new.durable ≡ journal.old.durable }
+        ensures goes_on { GoesOn N.name.start N.opening journal.old.durable batch.new journal.new.aimed }
+        ensures oldest { TakesOldest self.old.accepted journal.old.durable batch.new journal.new.aimed }
+    {
+        let durable = spine.trim_beside(&mut self.side, journal);
+        self.core.note_durable(durable);
+        self.core.take(durable, batch);
+        let _count = self.core.count();
+        spine.aim(&mut self.side, journal, durable + batch.len() as u64);
+    }
+
+    /// Learns how many are durable from the journal beside it.
+    pub fn learn(&mut self, spine: &Spine<N>, journal: &mut JournalSide<N>)
+        ensures core { self.new ≡ record self.old { trimmed = count N.name.start journal.old.durable } }
+        ensures journal { journal.new ≡ journal.old }
+    {
+        let durable = spine.trim_beside(&mut self.side, journal);
+        self.core.note_durable(durable);
     }
 
     /// Later attempts are refused as `Closed`.

@@ -1,5 +1,7 @@
 // The two locks, and the spine beside them.
-ghost use Rattle.std.specs.Prelude.{◌≡◌, ◌≤◌, ◌<◌, length, All, IsTrue};
+ghost use Rattle.std.specs.Prelude.{◌≡◌, ◌≤◌, ◌<◌, ◌↔◌, false, length, All, IsTrue};
+ghost use Rattle.tmem_journal.specs.Held.{is_closed_of};
+ghost use Rattle.tmem_front.specs.Flushing.{GoesOn};
 ghost use Rattle.tmem_record.specs.Prefix.{IsPrefix};
 ghost use Rattle.tmem_record.specs.Names.{has_name};
 ghost use Rattle.tmem_tentative.specs.Fits.{IsForVariables};
@@ -86,6 +88,50 @@ impl<D: Disk + Drop, N: StoreNaming, T: Invariants + Drop, S: StoredSteps + Drop
         ensures same { (pass.new.mark ≡ pass.old.mark) × (pass.new.seen ≡ pass.old.seen) × (pass.new.own ≡ pass.old.own) }
     {
         self.journal.lock(rt).vouch(&self.spine, pass, number)
+    }
+
+    /// Makes the oldest transactions that wait durable, as long as any other would still fit into a batch, and answers how
+    /// many are durable then. It writes nothing where none waits. Refused by `Closed` once the journal is closed, and as a
+    /// journal refuses a batch. No call of the device is made under the core's lock.
+    pub fn flush_once<R: Wait>(&self, rt: &R) -> Result<u64, Fault> {
+        let mut journal = self.journal.lock(rt);
+        if journal.is_closed() {
+            return Err(Fault::Closed);
+        }
+        let is_waiting = self.aim(rt, &mut journal);
+        if !is_waiting {
+            return Ok(journal.count());
+        }
+        let flushed = journal.write(&self.spine);
+        self.tell(rt, &mut journal);
+        flushed
+    }
+
+    /// Writes the durable state as a whole, and frees every slot of the log. Refused as a journal refuses it.
+    pub fn checkpoint<R: Wait>(&self, rt: &R) -> Result<(), Fault> {
+        let mut journal = self.journal.lock(rt);
+        let written = journal.checkpoint();
+        self.tell(rt, &mut journal);
+        written
+    }
+
+    // With the core's lock too, for as long as a batch is taken.
+    fn aim<R: Wait>(&self, rt: &R, journal: &mut JournalSeat<D, N>) -> bool
+        requires { is_closed_of journal.old.journal ≡ false }
+        ensures same { (journal.new.journal ≡ journal.old.journal) × (journal.new.side.durable ≡ journal.old.side.durable) }
+        ensures goes_on { GoesOn N.name.start N.opening journal.old.side.durable journal.new.batch journal.new.side.aimed }
+        ensures some { IsTrue result ↔ (1 ≤ length journal.new.batch) }
+    {
+        let mut core = self.core.lock(rt);
+        journal.aim(&self.spine, &mut core)
+    }
+
+    // With the core's lock too, for a moment after a call of the device.
+    fn tell<R: Wait>(&self, rt: &R, journal: &mut JournalSeat<D, N>)
+        ensures { (journal.new.journal ≡ journal.old.journal) × (journal.new.side ≡ journal.old.side) }
+    {
+        let mut core = self.core.lock(rt);
+        journal.tell(&self.spine, &mut core);
     }
 
     /// Later attempts are refused as `Closed`.

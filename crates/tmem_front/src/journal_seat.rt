@@ -1,16 +1,20 @@
 // What lies under the journal's lock.
-ghost use Rattle.std.specs.Prelude.{◌≡◌, ◌⊎◌, ◌≤◌, ◌<◌, ◌+◌, ℕ, false, [], length};
-ghost use Rattle.tmem_disk.specs.Disk.{LeavesOnly};
+ghost use Rattle.std.specs.Prelude.{◌≡◌, ◌⊎◌, ◌≤◌, ◌<◌, ◌+◌, ◌↔◌, ℕ, true, false, [], length, IsTrue, IfOk, IfErr};
+ghost use Rattle.tmem_disk.specs.Disk.{LeavesOnly, AtEachMoment};
 ghost use Rattle.tmem_record.specs.Prefix.{IsPrefix};
 ghost use Rattle.tmem_record.specs.declared.effect.Effect.{Effect as EffectOf};
 ghost use Rattle.tmem_journal.specs.Held.{device_of, layout_of, state_of, doubtful_of, is_closed_of};
-ghost use Rattle.tmem_journal.specs.Stands.{StandsForEither};
+ghost use Rattle.tmem_journal.specs.Stands.{StandsForEither, StandsForState};
 ghost use Rattle.tmem_spine.specs.History.{count, entry, longer, Has, HasAt};
 ghost use Rattle.tmem_spine.specs.Views.{new_journal};
+ghost use Rattle.tmem_journal.specs.Journals.{Flushes, Checkpoints};
+ghost use Rattle.tmem_front.specs.Flushing.{GoesOn, TakesOldest};
 ghost use Rattle.tmem_front.specs.Histories.{after};
 
+use crate::core_seat::CoreSeat;
 use crate::naming::StoreNaming;
-use tmem_disk::Disk;
+use tmem_disk::{Disk, Fault};
+use tmem_invariants::Invariants;
 use tmem_journal::Journal;
 use tmem_record::Batch;
 use tmem_spine::{JournalSide, Pass, Spine};
@@ -75,5 +79,80 @@ impl<D: Disk, N: StoreNaming> JournalSeat<D, N> {
     {
         spine.meet_journal(&mut self.side, pass);
         self.journal.count()
+    }
+
+    /// Under both locks: takes the oldest effects that wait from the core, and aims at them. Answers whether there are any.
+    pub fn aim<T: Invariants + Drop>(&mut self, spine: &Spine<N>, core: &mut CoreSeat<N, T>) -> bool
+        requires { is_closed_of self.old.journal ≡ false }
+        ensures core { core.new ≡ record core.old { trimmed = count N.name.start self.old.side.durable } }
+        ensures same { (self.new.journal ≡ self.old.journal) × (self.new.side.durable ≡ self.old.side.durable) }
+        ensures goes_on { GoesOn N.name.start N.opening self.old.side.durable self.new.batch self.new.side.aimed }
+        ensures oldest { TakesOldest core.old.accepted self.old.side.durable self.new.batch self.new.side.aimed }
+        ensures some { IsTrue result ↔ (1 ≤ length self.new.batch) }
+    {
+        core.take(spine, &mut self.side, &mut self.batch);
+        self.batch.len() > 0
+    }
+
+    /// Under the journal's lock alone: makes durable what the journal aims at, and answers how many are durable then. Refused
+    /// as a journal refuses a batch. Nothing is durable then that was not, but after `Unknown` a crash may leave it.
+    pub fn write(&mut self, spine: &Spine<N>) -> Result<u64, Fault>
+        requires some { 1 ≤ length self.old.batch }
+        requires goes_on { GoesOn N.name.start N.opening self.old.side.durable self.old.batch self.old.side.aimed }
+        ensures aimed { self.new.side.aimed ≡ self.old.side.aimed }
+        ensures ok { IfOk result (λ n. (self.new.side.durable ≡ self.old.side.aimed) × (n ≡ count N.name.start self.new.side.durable)) }
+        ensures err { IfErr result (λ _. self.new.side.durable ≡ self.old.side.durable) }
+        ensures flushed { Flushes self.old.journal self.old.batch result self.new.journal }
+
+        // A crash at any moment leaves the state after what was durable, or after what the journal aims at.
+        ensures any_moment { AtEachMoment (device_of self.old.journal) (device_of self.new.journal)
+            (StandsForEither (layout_of self.old.journal).vars (layout_of self.old.journal).slots (after N.opening self.old.side.durable) (after N.opening self.old.side.aimed)) }
+    {
+        let flushed = self.journal.flush(&self.batch);
+        if flushed.is_ok() {
+            spine.harden(&mut self.side, self.batch.len() as u64);
+        }
+        flushed
+    }
+
+    /// Whether a failure of the device closed the journal.
+    pub fn is_closed(&self) -> bool
+        ensures { result ≡ is_closed_of self.now.journal }
+    {
+        self.journal.is_closed()
+    }
+
+    /// How many are durable.
+    pub fn count(&self) -> u64
+        ensures { result ≡ count N.name.start self.now.side.durable }
+    {
+        self.journal.count()
+    }
+
+    /// Under both locks, after a call of the device: the core learns how many are durable, or is shut where the journal is
+    /// closed.
+    pub fn tell<T: Invariants + Drop>(&mut self, spine: &Spine<N>, core: &mut CoreSeat<N, T>)
+        ensures journal { (self.new.journal ≡ self.old.journal) × (self.new.side ≡ self.old.side) × (self.new.batch ≡ self.old.batch) }
+        ensures shut { is_closed_of self.old.journal ≡ true → core.new ≡ record core.old { is_shut = true } }
+        ensures durable { is_closed_of self.old.journal ≡ false → core.new ≡ record core.old { trimmed = count N.name.start self.old.side.durable } }
+    {
+        if self.journal.is_closed() {
+            core.shut();
+        } else {
+            core.learn(spine, &mut self.side);
+        }
+    }
+
+    /// Writes the durable state as a whole, and frees every slot of the log. The history stays. Refused as a journal refuses a
+    /// checkpoint.
+    pub fn checkpoint(&mut self) -> Result<(), Fault>
+        ensures side { (self.new.side ≡ self.old.side) × (self.new.batch ≡ self.old.batch) }
+        ensures checkpointed { Checkpoints self.old.journal result self.new.journal }
+
+        // A crash at any moment leaves the state after what is durable.
+        ensures any_moment { is_closed_of self.old.journal ≡ false → AtEachMoment (device_of self.old.journal) (device_of self.new.journal)
+            (StandsForState (layout_of self.old.journal).vars (layout_of self.old.journal).slots (after N.opening self.old.side.durable)) }
+    {
+        self.journal.checkpoint()
     }
 }
