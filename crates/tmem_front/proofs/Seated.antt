@@ -7,7 +7,9 @@ use Rattle.tmem_record.specs.declared.effect.Effect.{Effect}
 use Rattle.tmem_record.proofs.Laws.{fold-append, count-fold, length-values-fold}
 use Rattle.tmem_core.specs.declared.core_state.Core.{Core}
 use Rattle.tmem_core.specs.Held.{state_of, waiting_of, durable_of, table_of}
-use Rattle.tmem_core.specs.SettleAnswer.{settle_answer}
+use Rattle.tmem_core.specs.SettleAnswer.{settle_answer, judged}
+use Rattle.tmem_core.specs.Verdict.{verdict}
+use Rattle.tmem_tree.specs.declared.tx.Tx.{Tx}
 use Rattle.tmem_tentative.specs.declared.attempt.Attempt.{Attempt}
 use Rattle.tmem_invariants.specs.TableNames.{has_name}
 use Rattle.tmem_core.specs.Program.{Program}
@@ -112,3 +114,7 @@ drop_again start n d t d' durable waits waited all now exact was late low here t
     let none : n - d ≡ 0 = omega arith in
     let k : (t - start) + (n - d') ≡ length durable = omega arith in
     ap (λ (m : ℕ). drop m waits) none ∙ (here ∙ (ap (λ (l : List Effect). drop (n - d') l) there ∙ (drop-drop (n - d') (t - start) all ∙ ap (λ (m : ℕ). drop m all) k)))
+
+pub same_verdict : (p : Program) (tx : Tx) (a b : Bool) (s s' : State) (n n' : ℕ) (attempt : Attempt) → a ≡ b → s ≡ s' → n ≡ n'
+    → judged a s n attempt.reads.entries (verdict p tx s) ≡ judged b s' n' attempt.reads.entries (verdict p tx s')
+same_verdict p tx a b s s' n n' attempt shut state durable = cc (shut, state, durable)

@@ -6,14 +6,17 @@ use Rattle.tmem_record.specs.State.{State}
 use Rattle.tmem_tree.specs.declared.settled.Settled.{Settled}
 use Rattle.tmem_tentative.specs.declared.attempt.Attempt.{Attempt}
 use Rattle.tmem_core.specs.Program.{Program}
-use Rattle.tmem_core.specs.SettleAnswer.{settle_answer, accepted_by}
+use Rattle.tmem_core.specs.SettleAnswer.{settle_answer, accepted_by, judged}
+use Rattle.tmem_core.specs.Verdict.{verdict as verdict_of}
+use Rattle.tmem_tentative.specs.Right.{IsRight}
+use Rattle.tmem_tree.specs.declared.tx.Tx.{Tx}
 use Rattle.tmem_spine.specs.declared.view.Entry.{Entry}
 use Rattle.tmem_spine.specs.History.{count}
 use Rattle.tmem_spine.specs.Views.{PassView}
 use Rattle.tmem_front.specs.Histories.{after, marked, numbered, IsSoundState}
 
 -- There is a history that goes on from all that the pass knew. The answer is a core's in the state after it, where at least
--- as many are known durable as the pass saw. The history gains what is accepted, once, under the mark of the pass, which
+-- as many are known durable as the pass saw: for each plan that the attempt is right for, that plan's verdict there. The history gains what is accepted, once, under the mark of the pass, which
 -- then knows it whole and has what is accepted as its own. The state after that is sound.
 pub record Settles (start : ℕ) (opening : State) (program : Program) (attempt : Attempt) (old : PassView) (answer : Result Settled Fault) (new : PassView) : Type 0 where
   pub before : List Entry
@@ -23,6 +26,7 @@ pub record Settles (start : ℕ) (opening : State) (program : Program) (attempt 
   pub saw : count start old.seen ≤ durable
   pub number : (after opening before).count ≡ count start before
   pub answered : answer ≡ settle_answer program is_shut (after opening before) durable attempt
+  pub verdict : (tx : Tx) → IsRight program.steps tx attempt → answer ≡ judged is_shut (after opening before) durable attempt.reads.entries (verdict_of program tx (after opening before))
   pub pass : new ≡ record old {
     known = before ++ marked old.mark (accepted_by answer attempt.effect);
     own = old.own ++ numbered (count start before) (accepted_by answer attempt.effect);

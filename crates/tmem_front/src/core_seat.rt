@@ -5,7 +5,10 @@ ghost use Rattle.tmem_record.specs.Names.{has_name};
 ghost use Rattle.tmem_record.specs.declared.effect.Effect.{Effect as EffectOf};
 ghost use Rattle.tmem_tentative.specs.Fits.{IsForVariables};
 ghost use Rattle.tmem_core.specs.Held.{state_of, opened_of, history_of, waiting_of, durable_of, is_shut_of, table_of};
-ghost use Rattle.tmem_core.specs.SettleAnswer.{settle_answer, accepted_by};
+ghost use Rattle.tmem_core.specs.SettleAnswer.{settle_answer, accepted_by, judged};
+ghost use Rattle.tmem_core.specs.Verdict.{verdict};
+ghost use Rattle.tmem_tentative.specs.Right.{IsRight};
+ghost use Rattle.tmem_tree.specs.declared.tx.Tx.{Tx as TxOf};
 ghost use Rattle.tmem_spine.specs.History.{count};
 ghost use Rattle.tmem_spine.specs.Views.{new_core, new_pass};
 ghost use Rattle.tmem_front.specs.Flushing.{GoesOn, TakesOldest};
@@ -66,6 +69,8 @@ impl<N: StoreNaming, T: Invariants + Drop> CoreSeat<N, T> {
         requires names { All (λ name. IsTrue (has_name N.program.names name)) attempt.now.effect.names }
         ensures trimmed { (self.old.trimmed ≤ self.new.trimmed) × (count N.name.start pass.old.seen ≤ self.new.trimmed) }
         ensures answer { result ≡ settle_answer N.program self.old.is_shut (after N.opening self.old.accepted) self.new.trimmed attempt.now }
+        ensures verdict { (tx : TxOf) → IsRight N.program.steps tx attempt.now
+            → result ≡ judged self.old.is_shut (after N.opening self.old.accepted) self.new.trimmed attempt.now.reads.entries (verdict N.program tx (after N.opening self.old.accepted)) }
         ensures number { (after N.opening self.old.accepted).count ≡ count N.name.start self.old.accepted }
         ensures accepted { self.new.accepted ≡ self.old.accepted ++ marked pass.old.mark (accepted_by result attempt.now.effect) }
         ensures pass { pass.new ≡ record pass.old { known = self.new.accepted; own = pass.old.own ++ numbered (count N.name.start self.old.accepted) (accepted_by result attempt.now.effect) } }

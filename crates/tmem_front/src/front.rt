@@ -1,10 +1,13 @@
 // The two locks, and the spine beside them.
-ghost use Rattle.std.specs.Prelude.{◌≡◌, ◌≤◌, ◌<◌, ◌↔◌, false, length, All, IsTrue};
+ghost use Rattle.std.specs.Prelude.{◌≡◌, ◌≤◌, ◌<◌, ◌↔◌, false, length, All, IsTrue, IfOk, IfErr};
 ghost use Rattle.tmem_journal.specs.Held.{is_closed_of};
 ghost use Rattle.tmem_front.specs.Flushing.{GoesOn};
 ghost use Rattle.tmem_record.specs.Prefix.{IsPrefix};
 ghost use Rattle.tmem_record.specs.Names.{has_name};
-ghost use Rattle.tmem_tentative.specs.Fits.{IsForVariables};
+ghost use Rattle.tmem_tentative.specs.Fits.{IsForVariables, IsForNames};
+ghost use Rattle.tmem_tentative.specs.Right.{IsRight};
+ghost use Rattle.tmem_tree.specs.Plans.{FitsSteps, FitsVariables, FitsNames};
+ghost use Rattle.tmem_tree.specs.StepAnswers.{StepMeanings};
 ghost use Rattle.tmem_spine.specs.History.{count, longer};
 ghost use Rattle.tmem_front.specs.Settling.{Settles};
 
@@ -17,7 +20,7 @@ use tmem_core::Settled;
 use tmem_disk::{Disk, Fault, Name};
 use tmem_invariants::Invariants;
 use tmem_spine::{Pass, Spine};
-use tmem_tentative::Attempt;
+use tmem_tentative::{Attempt, Cursor, Outcome};
 use tmem_tree::{Plan, StoredSteps, Tx};
 
 /// A store that threads share. A pass is used with its own front, and a plan or an attempt with the front that made it.
@@ -51,6 +54,30 @@ impl<D: Disk + Drop, N: StoreNaming, T: Invariants + Drop, S: StoredSteps + Drop
     /// A pass, with a mark of its own. Refused with `NoSeat` once 32 were given out, also where they were dropped.
     pub fn pass<R: Wait>(&self, rt: &R) -> Result<Pass<N>, Fault> {
         self.core.lock(rt).pass(&self.spine)
+    }
+
+    /// An attempt at a plan of this front: it is evaluated, and each value that it needs is peeked at, until it has ended.
+    /// Refused by `Memory`.
+    pub fn attempt<R: Wait>(&self, rt: &R, plan: &Plan) -> Result<Attempt, Fault>
+        requires steps { FitsSteps (S.arities self.now.steps) plan.now }
+        requires variables { FitsVariables self.now.vars plan.now }
+        requires names { FitsNames N.program.names plan.now }
+        ensures right { (m : StepMeanings) → S.is_stated self.now.steps m → IfOk result (IsRight m plan.now) }
+        ensures variables { IfOk result (IsForVariables (length N.opening.values)) }
+        ensures names { IfOk result (IsForNames N.program.names) }
+        ensures memory { IfErr result (λ fault. fault ≡ Fault.Memory) }
+    {
+        let mut cursor = Cursor::new(self.alloc, plan)?;
+        for _ in rt.forever() {
+            match cursor.resume(plan, &self.steps)? {
+                Outcome::Need(var) => {
+                    let value = self.peek(rt, var);
+                    cursor.give(var, value);
+                }
+                Outcome::Ended(attempt) => return Ok(attempt),
+            }
+        }
+        unreachable!()
     }
 
     /// Settles an attempt in one atomic step, after all that the pass knew. Refused as a core refuses it.

@@ -9,7 +9,7 @@ use Rattle.tmem_spine.specs.History.{count, entry}
 use Rattle.tmem_spine.specs.Views.{CoreView, PassView}
 use Rattle.tmem_front.specs.Histories.{after, marked, IsSoundState}
 use Rattle.tmem_front.specs.Seats.{CoreSeatView, IsCoreOf}
-use Rattle.tmem_front.proofs.Seated.{values-after, after-append, core_settled, settled_sound, same_answer, sound_core, sound_one, sound_none, self_prefix}
+use Rattle.tmem_front.proofs.Seated.{values-after, after-append, core_settled, settled_sound, same_answer, same_verdict, sound_core, sound_one, sound_none, self_prefix}
 use Rattle.tmem_front.proofs.core_seat.CoreSeat.settle.Goals as goal
 
 pub settle-answer-requires-clause-variables : goal.settle-answer-requires-clause-variables
@@ -136,3 +136,37 @@ returns-else-commits-clause-answer g c =
     note.durable ∙ sym (ap (λ (v : CoreView). v.trimmed) c.meet_core.ensures.core ∙ ap (λ (v : CoreView). v.trimmed) c.trim-durable.ensures.core) in
     c.settle-answer.ensures.answer p (sym names) stated
     ∙ same_answer p (is_shut_of c.note_durable.new.self) now.is_shut (state_of c.note_durable.new.self) (after g.N.StoreNaming.opening now.accepted) (durable_of c.note_durable.new.self) c.meet_core.new.core.trimmed c.args.attempt.now shut state trimmed
+
+pub returns-then-commits-clause-verdict : goal.returns-then-commits-clause-verdict
+returns-then-commits-clause-verdict g c =
+    let p = g.N.StoreNaming.program in
+    let was = c.self.invariant.0 in
+    let note = c.note_durable.ensures in
+    let stated = subst (λ x. g.T.Invariants.is_stated x p.tests) (sym note.table) c.self.invariant.1 in
+    let names = ap (λ x. g.T.Invariants.names x) note.table ∙ c.self.invariant.2 in
+    let now = c.args.self.now in
+    let view = c.self.view_is in
+    let shut : is_shut_of c.note_durable.new.self ≡ now.is_shut = note.shut ∙ ap (λ (v : CoreSeatView). v.is_shut) view in
+    let state : state_of c.note_durable.new.self ≡ after g.N.StoreNaming.opening now.accepted =
+    note.state ∙ (was.state ∙ ap (λ (v : CoreSeatView). after g.N.StoreNaming.opening v.accepted) view) in
+    let trimmed : durable_of c.note_durable.new.self ≡ c.accept.new.core.trimmed =
+    note.durable ∙ sym (ap (λ (v : CoreView). v.trimmed) c.accept.ensures.core ∙ ap (λ (v : CoreView). v.trimmed) c.trim-durable.ensures.core) in
+    λ tx right. c.settle-answer.ensures.verdict p tx (sym names) stated right
+    ∙ same_verdict p tx (is_shut_of c.note_durable.new.self) now.is_shut (state_of c.note_durable.new.self) (after g.N.StoreNaming.opening now.accepted) (durable_of c.note_durable.new.self) c.accept.new.core.trimmed c.args.attempt.now shut state trimmed
+
+pub returns-else-commits-clause-verdict : goal.returns-else-commits-clause-verdict
+returns-else-commits-clause-verdict g c =
+    let p = g.N.StoreNaming.program in
+    let was = c.self.invariant.0 in
+    let note = c.note_durable.ensures in
+    let stated = subst (λ x. g.T.Invariants.is_stated x p.tests) (sym note.table) c.self.invariant.1 in
+    let names = ap (λ x. g.T.Invariants.names x) note.table ∙ c.self.invariant.2 in
+    let now = c.args.self.now in
+    let view = c.self.view_is in
+    let shut : is_shut_of c.note_durable.new.self ≡ now.is_shut = note.shut ∙ ap (λ (v : CoreSeatView). v.is_shut) view in
+    let state : state_of c.note_durable.new.self ≡ after g.N.StoreNaming.opening now.accepted =
+    note.state ∙ (was.state ∙ ap (λ (v : CoreSeatView). after g.N.StoreNaming.opening v.accepted) view) in
+    let trimmed : durable_of c.note_durable.new.self ≡ c.meet_core.new.core.trimmed =
+    note.durable ∙ sym (ap (λ (v : CoreView). v.trimmed) c.meet_core.ensures.core ∙ ap (λ (v : CoreView). v.trimmed) c.trim-durable.ensures.core) in
+    λ tx right. c.settle-answer.ensures.verdict p tx (sym names) stated right
+    ∙ same_verdict p tx (is_shut_of c.note_durable.new.self) now.is_shut (state_of c.note_durable.new.self) (after g.N.StoreNaming.opening now.accepted) (durable_of c.note_durable.new.self) c.meet_core.new.core.trimmed c.args.attempt.now shut state trimmed
