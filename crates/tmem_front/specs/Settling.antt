@@ -1,6 +1,7 @@
 -- What an attempt that is settled is answered, and what the pass knows then.
-use Rattle.std.specs.Prelude.{◌≡◌, ◌≤◌, ◌++◌, ℕ, Bool, List, Result}
+use Rattle.std.specs.Prelude.{◌≡◌, ◌⊎◌, ◌≤◌, ◌++◌, ℕ, Bool, List, Result, Err}
 use Rattle.tmem_disk.specs.declared.fault.Fault.{Fault}
+use Rattle.tmem_disk.specs.declared.fault.Fault.TheVariants as fault
 use Rattle.tmem_record.specs.Prefix.{IsPrefix}
 use Rattle.tmem_record.specs.State.{State}
 use Rattle.tmem_tree.specs.declared.settled.Settled.{Settled}
@@ -32,3 +33,8 @@ pub record Settles (start : ℕ) (opening : State) (program : Program) (attempt 
     own = old.own ++ numbered (count start before) (accepted_by answer attempt.effect);
   }
   pub sound : IsSoundState program (after opening new.known)
+
+-- An attempt that is right for this plan is settled so, or there was no memory for one, and the pass stays as it was.
+abbrev pub SettlesPlan : ℕ → State → Program → Tx → PassView → Result Settled Fault → PassView → Type 0
+SettlesPlan start opening program tx old answer new =
+    ((answer ≡ Err fault.Memory) × (new ≡ old)) ⊎ ∥ ((attempt : Attempt) × IsRight program.steps tx attempt × Settles start opening program attempt old answer new) ∥₁

@@ -9,7 +9,7 @@ ghost use Rattle.tmem_tentative.specs.Right.{IsRight};
 ghost use Rattle.tmem_tree.specs.Plans.{FitsSteps, FitsVariables, FitsNames};
 ghost use Rattle.tmem_tree.specs.StepAnswers.{StepMeanings};
 ghost use Rattle.tmem_spine.specs.History.{count, longer};
-ghost use Rattle.tmem_front.specs.Settling.{Settles};
+ghost use Rattle.tmem_front.specs.Settling.{Settles, SettlesPlan};
 
 use crate::core_seat::CoreSeat;
 use crate::journal_seat::JournalSeat;
@@ -92,6 +92,22 @@ impl<D: Disk + Drop, N: StoreNaming, T: Invariants + Drop, S: StoredSteps + Drop
         ensures settled { Settles N.name.start N.opening N.program attempt.now pass.old result pass.new }
     {
         self.core.lock(rt).settle(&self.spine, pass, attempt)
+    }
+
+    /// One attempt at a plan of this front, which is settled. Refused as a core refuses it, and by `Memory`.
+    pub fn try_atomically<R: Wait>(
+        &self,
+        rt: &R,
+        pass: &mut Pass<N>,
+        plan: &Plan,
+    ) -> Result<Settled, Fault>
+        requires steps { FitsSteps (S.arities self.now.steps) plan.now }
+        requires variables { FitsVariables self.now.vars plan.now }
+        requires names { FitsNames N.program.names plan.now }
+        ensures settled { SettlesPlan N.name.start N.opening N.program plan.now pass.old result pass.new }
+    {
+        let attempt = self.attempt(rt, plan)?;
+        self.settle(rt, pass, &attempt)
     }
 
     /// How many transactions are durable, all of which the pass then saw. It takes no lock.
