@@ -1,4 +1,5 @@
 mod Leaves
+mod Planned
 mod Seated
 mod Taken
 mod Written

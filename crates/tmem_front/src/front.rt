@@ -6,7 +6,7 @@ ghost use Rattle.tmem_record.specs.Prefix.{IsPrefix};
 ghost use Rattle.tmem_record.specs.Names.{has_name};
 ghost use Rattle.tmem_tentative.specs.Fits.{IsForVariables, IsForNames};
 ghost use Rattle.tmem_tentative.specs.Right.{IsRight};
-ghost use Rattle.tmem_tree.specs.Plans.{FitsSteps, FitsVariables, FitsNames};
+ghost use Rattle.tmem_tree.specs.Plans.{BreaksNone, IsLeastBroken, FitsSteps, FitsVariables, FitsNames};
 ghost use Rattle.tmem_tree.specs.StepAnswers.{StepMeanings};
 ghost use Rattle.tmem_spine.specs.History.{count, longer};
 ghost use Rattle.tmem_front.specs.Settling.{Settles, SettlesPlan};
@@ -17,7 +17,7 @@ use crate::naming::StoreNaming;
 use std::alloc::Global;
 use std::sync::{Mutex, Wait};
 use tmem_core::Settled;
-use tmem_disk::{Disk, Fault, Name};
+use tmem_disk::{Cause, Disk, Fault, Name};
 use tmem_invariants::Invariants;
 use tmem_spine::{Pass, Spine};
 use tmem_tentative::{Attempt, Cursor, Outcome};
@@ -190,7 +190,14 @@ impl<D: Disk + Drop, N: StoreNaming, T: Invariants + Drop, S: StoredSteps + Drop
     }
 
     /// The plan of a transaction. Refused with `BadPlan` and the least cause for which it is outside the limits.
-    pub fn plan(&self, tx: Tx) -> Result<Plan, Fault> {
+    pub fn plan(&self, tx: Tx) -> Result<Plan, Fault>
+        ensures plan { IfOk result (λ plan. plan ≡ tx) }
+        ensures fine { IfOk result (λ _. BreaksNone (S.arities self.now.steps) self.now.vars N.program.names tx) }
+        ensures steps { IfOk result (FitsSteps (S.arities self.now.steps)) }
+        ensures variables { IfOk result (FitsVariables self.now.vars) }
+        ensures names { IfOk result (FitsNames N.program.names) }
+        ensures least { IfErr result (λ fault. (cause : Cause) × (fault ≡ Fault.BadPlan cause) × IsLeastBroken (S.arities self.now.steps) self.now.vars N.program.names tx cause) }
+    {
         Plan::new(tx, &self.steps, self.vars, &self.names)
     }
 }

@@ -16,5 +16,8 @@ mod opened;
 pub use core_seat::CoreSeat;
 pub use front::Front;
 pub use journal_seat::JournalSeat;
-pub use naming::StoreNaming;
+pub use naming::{ProgramNaming, StoreNaming};
 pub use opened::OpenedFront;
+
+#[cfg(test)]
+mod tests;

@@ -24,7 +24,7 @@ pub invariant_of-self : goal.invariant_of-self
 invariant_of-self g c =
     let start = g.N.Naming.name.start in
     let opening = g.N.StoreNaming.opening in
-    let p = g.N.StoreNaming.program in
+    let p = g.N.ProgramNaming.program in
     let was = c.self.invariant.0 in
     let core = c.self.inside.core in
     let side = c.self.inside.side in
@@ -60,7 +60,7 @@ pub invariant_of-self-else-commits : goal.invariant_of-self-else-commits
 invariant_of-self-else-commits g c =
     let start = g.N.Naming.name.start in
     let opening = g.N.StoreNaming.opening in
-    let p = g.N.StoreNaming.program in
+    let p = g.N.ProgramNaming.program in
     let was = c.self.invariant.0 in
     let core = c.self.inside.core in
     let side = c.self.inside.side in
@@ -96,7 +96,7 @@ pub returns-then-commits-clause-sound : goal.returns-then-commits-clause-sound
 returns-then-commits-clause-sound g c =
     let start = g.N.Naming.name.start in
     let opening = g.N.StoreNaming.opening in
-    let p = g.N.StoreNaming.program in
+    let p = g.N.ProgramNaming.program in
     let was = c.self.invariant.0 in
     let core = c.self.inside.core in
     let side = c.self.inside.side in
@@ -122,7 +122,7 @@ returns-then-commits-clause-sound g c =
 
 pub returns-else-commits-clause-answer : goal.returns-else-commits-clause-answer
 returns-else-commits-clause-answer g c =
-    let p = g.N.StoreNaming.program in
+    let p = g.N.ProgramNaming.program in
     let was = c.self.invariant.0 in
     let note = c.note_durable.ensures in
     let stated = subst (λ x. g.T.Invariants.is_stated x p.tests) (sym note.table) c.self.invariant.1 in
@@ -139,7 +139,7 @@ returns-else-commits-clause-answer g c =
 
 pub returns-then-commits-clause-verdict : goal.returns-then-commits-clause-verdict
 returns-then-commits-clause-verdict g c =
-    let p = g.N.StoreNaming.program in
+    let p = g.N.ProgramNaming.program in
     let was = c.self.invariant.0 in
     let note = c.note_durable.ensures in
     let stated = subst (λ x. g.T.Invariants.is_stated x p.tests) (sym note.table) c.self.invariant.1 in
@@ -156,7 +156,7 @@ returns-then-commits-clause-verdict g c =
 
 pub returns-else-commits-clause-verdict : goal.returns-else-commits-clause-verdict
 returns-else-commits-clause-verdict g c =
-    let p = g.N.StoreNaming.program in
+    let p = g.N.ProgramNaming.program in
     let was = c.self.invariant.0 in
     let note = c.note_durable.ensures in
     let stated = subst (λ x. g.T.Invariants.is_stated x p.tests) (sym note.table) c.self.invariant.1 in

@@ -16,5 +16,5 @@ returns-in-Ended-clause-variables g c =
 
 pub returns-in-Ended-clause-names : goal.returns-in-Ended-clause-names
 returns-in-Ended-clause-names g c =
-    let names = g.N.StoreNaming.program.names in
+    let names = g.N.ProgramNaming.program.names in
     subst (λ o. IsNamed names o) c.in-Ended.is (c.in_ok-var.ensures.named names c.requires.names)
