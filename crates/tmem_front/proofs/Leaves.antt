@@ -1,5 +1,5 @@
 -- What a crash leaves of a journal, by what its seat says.
-use Rattle.std.proofs.Common.{◌≡◌, ◌⊎◌, inl, inr, ⊎_elim, ℕ, List, subst, ap, sym, ◌∙◌}
+use Rattle.std.proofs.Common.{◌≡◌, ◌⊎◌, inl, inr, ⊎_elim, ℕ, List, subst}
 use Rattle.std.proofs.Math.Logic.{∥∥₁_map, ∥∥₁_elim, ∥∥₁_prop}
 use Rattle.tmem_disk.specs.Disk.{DeviceView, LeavesOnly}
 use Rattle.tmem_record.specs.State.{State}

@@ -1,8 +1,8 @@
 -- The core stays what its seat says, after an attempt is settled.
-use Rattle.std.proofs.Common.{◌≡◌, Bool, All, IsTrue, ◌⊎◌, inl, inr, ⊎_elim, ℕ, zero, suc, ◌+◌, ◌-◌, ◌≤◌, ◌<◌, List, [], ◌∷◌, ◌++◌, length, map, take, drop, refl, sym, ap, ◌∙◌, subst, arith, length-append}
-use Rattle.std.proofs.lemmas.List.{append-nil, length-map, map-append, take_all, take-append-le, drop-drop, drop-append-le}
+use Rattle.std.proofs.Common.{◌≡◌, Bool, All, IsTrue, ◌⊎◌, inl, inr, ⊎_elim, ℕ, ◌+◌, ◌-◌, ◌≤◌, List, [], ◌∷◌, ◌++◌, length, drop, refl, sym, ap, ◌∙◌, subst, arith}
+use Rattle.std.proofs.lemmas.List.{length-map, take_all, drop-drop, drop-append-le}
 use Rattle.tmem_record.specs.Prefix.{IsPrefix}
-use Rattle.tmem_record.specs.State.{State, fold, apply}
+use Rattle.tmem_record.specs.State.{State, fold}
 use Rattle.tmem_record.specs.declared.effect.Effect.{Effect}
 use Rattle.tmem_record.proofs.Laws.{fold-append, count-fold, length-values-fold}
 use Rattle.tmem_core.specs.declared.core_state.Core.{Core}

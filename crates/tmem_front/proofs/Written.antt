@@ -1,8 +1,8 @@
 -- The journal stays what its seat says, after it was told to write a batch.
-use Rattle.std.proofs.Common.{◌≡◌, ◌⊎◌, inl, inr, ⊎_elim, ℕ, ◌+◌, ◌≤◌, ◌<◌, ◌^◌, true, false, List, [], ◌++◌, length, refl, sym, ap, ◌∙◌, subst, arith, Result, Ok, Err, is_ok, IfOk, length-append}
+use Rattle.std.proofs.Common.{◌≡◌, ◌⊎◌, inl, inr, ⊎_elim, ℕ, ◌+◌, true, false, List, ◌++◌, length, refl, sym, ap, ◌∙◌, subst, arith, Result, Ok, Err, is_ok, IfOk, length-append}
 use Rattle.std.proofs.Props.{props}
 use Rattle.std.proofs.lemmas.List.{length-map}
-use Rattle.std.proofs.Math.Logic.{∥∥₁_map, ∥∥₁_elim, ∥∥₁_prop}
+use Rattle.std.proofs.Math.Logic.{∥∥₁_elim, ∥∥₁_prop}
 use Rattle.tmem_disk.specs.Disk.{AtEachMoment}
 use Rattle.tmem_disk.specs.declared.fault.Fault.{Fault}
 use Rattle.tmem_disk.specs.declared.fault.Fault.TheVariants as fault
@@ -14,7 +14,7 @@ use Rattle.tmem_journal.specs.Held.{device_of, layout_of, state_of, doubtful_of,
 use Rattle.tmem_journal.specs.Journals.{Flushes}
 use Rattle.tmem_journal.specs.Stands.{StandsForEither}
 use Rattle.tmem_spine.specs.declared.view.Entry.{Entry}
-use Rattle.tmem_spine.specs.History.{count, unmarked}
+use Rattle.tmem_spine.specs.History.{unmarked}
 use Rattle.tmem_front.specs.Flushing.{GoesOn}
 use Rattle.tmem_front.specs.Histories.{after}
 use Rattle.tmem_front.proofs.Leaves.{either_all}

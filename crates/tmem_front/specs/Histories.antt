@@ -1,5 +1,5 @@
 -- What a history makes of the opening state.
-use Rattle.std.specs.Prelude.{◌≡◌, ℕ, ℤ, pos, true, List, [], ◌∷◌, map}
+use Rattle.std.specs.Prelude.{ℕ, true, List, [], map}
 use Rattle.tmem_record.specs.Prefix.{IsPrefix}
 use Rattle.tmem_record.specs.State.{State, fold, first_state}
 use Rattle.tmem_record.specs.declared.effect.Effect.{Effect}

@@ -1,4 +1,4 @@
-use Rattle.std.proofs.Common.{◌≡◌, ◌+◌, ◌∷◌, [], ◌++◌, ◌∙◌, take, sym, ap, arith}
+use Rattle.std.proofs.Common.{◌∷◌, [], ◌++◌, ◌∙◌, take, sym, ap, arith}
 use Rattle.std.proofs.lemmas.List.{take_more}
 use Rattle.std.proofs.lemmas.Option.{get_or_from_slice_get, slice_get_within}
 use Rattle.tmem_front.proofs.opened.names_of.Goals as goal

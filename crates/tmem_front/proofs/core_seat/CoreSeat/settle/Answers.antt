@@ -1,15 +1,13 @@
-use Rattle.std.proofs.Common.{◌≡◌, ◌-◌, ◌++◌, ◌∷◌, [], ℕ, List, length, drop, arith, refl, sym, ap, ◌∙◌, subst}
+use Rattle.std.proofs.Common.{◌≡◌, ◌-◌, ◌++◌, ◌∷◌, [], List, length, drop, sym, ap, ◌∙◌, subst}
 use Rattle.std.proofs.lemmas.List.{append-nil}
 use Rattle.tmem_record.specs.State.{State, fold}
 use Rattle.tmem_record.specs.declared.effect.Effect.{Effect}
-use Rattle.tmem_core.specs.Held.{state_of, waiting_of, durable_of, is_shut_of, table_of}
-use Rattle.tmem_core.specs.SettleAnswer.{settle_answer, accepted_by}
-use Rattle.tmem_spine.specs.declared.view.Entry.{Entry}
-use Rattle.tmem_spine.specs.History.{count, entry}
-use Rattle.tmem_spine.specs.Views.{CoreView, PassView}
+use Rattle.tmem_core.specs.Held.{state_of, waiting_of, durable_of, is_shut_of}
+use Rattle.tmem_core.specs.SettleAnswer.{accepted_by}
+use Rattle.tmem_spine.specs.Views.{CoreView}
 use Rattle.tmem_front.specs.Histories.{after, marked, IsSoundState}
-use Rattle.tmem_front.specs.Seats.{CoreSeatView, IsCoreOf}
-use Rattle.tmem_front.proofs.Seated.{values-after, after-append, core_settled, settled_sound, same_answer, same_verdict, sound_core, sound_one, sound_none, self_prefix}
+use Rattle.tmem_front.specs.Seats.{CoreSeatView}
+use Rattle.tmem_front.proofs.Seated.{values-after, core_settled, settled_sound, same_answer, same_verdict, sound_core, sound_one, sound_none}
 use Rattle.tmem_front.proofs.core_seat.CoreSeat.settle.Goals as goal
 
 pub settle-answer-requires-clause-variables : goal.settle-answer-requires-clause-variables

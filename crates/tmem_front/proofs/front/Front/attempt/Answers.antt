@@ -1,4 +1,4 @@
-use Rattle.std.proofs.Common.{◌≡◌, ◌<◌, ℕ, length, subst}
+use Rattle.std.proofs.Common.{◌<◌, ℕ, subst}
 use Rattle.tmem_tentative.specs.Fits.{IsForVariables, IsWithin, IsNamed}
 use Rattle.tmem_front.proofs.front.Front.attempt.Goals as goal
 

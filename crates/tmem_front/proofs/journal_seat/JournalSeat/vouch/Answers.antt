@@ -1,4 +1,4 @@
-use Rattle.std.proofs.Common.{◌≡◌, ℕ, ap, ◌∙◌, arith}
+use Rattle.std.proofs.Common.{◌≡◌, ap, ◌∙◌, arith}
 use Rattle.tmem_record.specs.State.{State}
 use Rattle.tmem_spine.specs.History.{count}
 use Rattle.tmem_front.proofs.Seated.{count-after}
