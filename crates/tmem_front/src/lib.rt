@@ -5,6 +5,9 @@
 //! and is sound after each beginning of them. The journal's state is what the durable ones make, and every crash leaves
 //! that, or what those make that the journal aims at. What a call does to a seat in hand is its contract. So a call of the
 //! front has one history to speak of, though nothing is known of a seat before its lock is taken.
+//!
+//! No clause says yet what opening finds or why it refuses, nor what `flush_once` and `checkpoint` answer through the locks:
+//! the clauses of the two seats say that. The calls that wait for others are still to come.
 #![tactic(auto)]
 
 mod core_seat;
