@@ -1,4 +1,5 @@
 mod Leaves
+mod OpensStore
 mod Planned
 mod Seated
 mod Taken

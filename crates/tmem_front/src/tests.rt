@@ -1,6 +1,6 @@
 // A store is opened in two steps, and each call is made once.
 ghost use Rattle.std.specs.Prelude.{◌≡◌, ◌<◌};
-ghost use Rattle.tmem_core.specs.Held.{state_of, table_of};
+ghost use Rattle.tmem_front.specs.Held.{found_of, spine_of, steps_of, table_of};
 
 use super::*;
 use std::alloc::Global;
@@ -24,11 +24,11 @@ fn commit_and_flush<
     S: StoredSteps + Drop,
     R: Wait,
 >(rt: &R, opened: OpenedFront<D, T, S>, tx: Tx) -> Result<Answers, Fault>
-    requires spine { opened.spine ≡ N.name }
-    requires opening { state_of opened.core ≡ N.opening }
-    requires stated { T.is_stated (table_of opened.core) N.program.tests }
-    requires names { T.names (table_of opened.core) ≡ N.program.names }
-    requires steps { S.is_stated opened.steps N.program.steps }
+    requires spine { spine_of opened ≡ N.name }
+    requires opening { found_of opened ≡ N.opening }
+    requires stated { T.is_stated (table_of opened) N.program.tests }
+    requires names { T.names (table_of opened) ≡ N.program.names }
+    requires steps { S.is_stated (steps_of opened) N.program.steps }
 {
     let front = opened.named::<N>();
     let mut writer = front.pass(rt)?;
