@@ -6,6 +6,7 @@ ghost use Rattle.tmem_record.specs.Prefix.{IsPrefix};
 ghost use Rattle.tmem_record.specs.Names.{has_name};
 ghost use Rattle.tmem_tentative.specs.Fits.{IsForVariables, IsForNames};
 ghost use Rattle.tmem_tentative.specs.Right.{IsRight};
+ghost use Rattle.tmem_tentative.specs.Cursors.{HasEnded, attempt_of};
 ghost use Rattle.tmem_tree.specs.Plans.{BreaksNone, IsLeastBroken, FitsSteps, FitsVariables, FitsNames};
 ghost use Rattle.tmem_tree.specs.StepAnswers.{StepMeanings};
 ghost use Rattle.tmem_spine.specs.History.{count, longer};
@@ -14,13 +15,14 @@ ghost use Rattle.tmem_front.specs.Settling.{Settles, SettlesPlan};
 use crate::core_seat::CoreSeat;
 use crate::journal_seat::JournalSeat;
 use crate::naming::StoreNaming;
+use crate::pass::Pass;
 use std::alloc::Global;
 use std::sync::{Mutex, Wait};
 use tmem_core::Settled;
 use tmem_disk::{Cause, Disk, Fault, Name};
 use tmem_invariants::Invariants;
-use tmem_spine::{Pass, Spine};
-use tmem_tentative::{Attempt, Cursor, Outcome};
+use tmem_spine::{Pass as Seat, Spine};
+use tmem_tentative::{Attempt, Cursor, Outcome, Progress};
 use tmem_tree::{Plan, StoredSteps, Tx};
 
 /// A store that threads share. A pass is used with its own front, and a plan or an attempt with the front that made it.
@@ -53,7 +55,11 @@ impl<D: Disk + Drop, N: StoreNaming, T: Invariants + Drop, S: StoredSteps + Drop
 > {
     /// A pass, with a mark of its own. Refused with `NoSeat` once 32 were given out, also where they were dropped.
     pub fn pass<R: Wait>(&self, rt: &R) -> Result<Pass<N>, Fault> {
-        self.core.lock(rt).pass(&self.spine)
+        let seat = self.core.lock(rt).pass(&self.spine)?;
+        Ok(Pass {
+            seat,
+            cursor: Cursor::idle(self.alloc),
+        })
     }
 
     /// An attempt at a plan of this front: it is evaluated, and each value that it needs is peeked at, until it has ended.
@@ -91,10 +97,25 @@ impl<D: Disk + Drop, N: StoreNaming, T: Invariants + Drop, S: StoredSteps + Drop
         requires names { All (λ name. IsTrue (has_name N.program.names name)) attempt.now.effect.names }
         ensures settled { Settles N.name.start N.opening N.program attempt.now pass.old result pass.new }
     {
-        self.core.lock(rt).settle(&self.spine, pass, attempt)
+        self.settle_seat(rt, &mut pass.seat, attempt)
     }
 
-    /// One attempt at a plan of this front, which is settled. Refused as a core refuses it, and by `Memory`.
+    // The same for the seat of a pass.
+    fn settle_seat<R: Wait>(
+        &self,
+        rt: &R,
+        seat: &mut Seat<N>,
+        attempt: &Attempt,
+    ) -> Result<Settled, Fault>
+        requires variables { IsForVariables (length N.opening.values) attempt.now }
+        requires names { All (λ name. IsTrue (has_name N.program.names name)) attempt.now.effect.names }
+        ensures settled { Settles N.name.start N.opening N.program attempt.now seat.old result seat.new }
+    {
+        self.core.lock(rt).settle(&self.spine, seat, attempt)
+    }
+
+    /// One attempt at a plan of this front, which is settled. It is made in the memory of the pass, and not copied. Refused as
+    /// a core refuses it, and by `Memory`.
     pub fn try_atomically<R: Wait>(
         &self,
         rt: &R,
@@ -106,8 +127,33 @@ impl<D: Disk + Drop, N: StoreNaming, T: Invariants + Drop, S: StoredSteps + Drop
         requires names { FitsNames N.program.names plan.now }
         ensures settled { SettlesPlan N.name.start N.opening N.program plan.now pass.old result pass.new }
     {
-        let attempt = self.attempt(rt, plan)?;
-        self.settle(rt, pass, &attempt)
+        self.evaluate(rt, &mut pass.cursor, plan)?;
+        self.settle_seat(rt, &mut pass.seat, pass.cursor.attempt())
+    }
+
+    // Evaluates a plan in place, from its start to its end. Each value that it needs is peeked at, and the lock is held for
+    // that alone.
+    fn evaluate<R: Wait>(&self, rt: &R, cursor: &mut Cursor, plan: &Plan) -> Result<(), Fault>
+        requires steps { FitsSteps (S.arities self.now.steps) plan.now }
+        requires variables { FitsVariables self.now.vars plan.now }
+        requires names { FitsNames N.program.names plan.now }
+        ensures ended { IfOk result (λ _. HasEnded cursor.new) }
+        ensures right { (m : StepMeanings) → S.is_stated self.now.steps m → IfOk result (λ _. IsRight m plan.now (attempt_of cursor.new)) }
+        ensures variables { IfOk result (λ _. IsForVariables (length N.opening.values) (attempt_of cursor.new)) }
+        ensures names { IfOk result (λ _. IsForNames N.program.names (attempt_of cursor.new)) }
+        ensures memory { IfErr result (λ fault. fault ≡ Fault.Memory) }
+    {
+        cursor.restart(plan)?;
+        for _ in rt.forever() {
+            match cursor.advance(plan, &self.steps)? {
+                Progress::Need(var) => {
+                    let value = self.peek(rt, var);
+                    cursor.give(var, value);
+                }
+                Progress::Ended => return Ok(()),
+            }
+        }
+        unreachable!()
     }
 
     /// How many transactions are durable, all of which the pass then saw. It takes no lock.
@@ -118,7 +164,7 @@ impl<D: Disk + Drop, N: StoreNaming, T: Invariants + Drop, S: StoredSteps + Drop
         ensures least { count N.name.start pass.old.seen ≤ result }
         ensures begins { IsPrefix pass.old.known pass.new.known }
     {
-        self.spine.look(pass)
+        self.spine.look(&mut pass.seat)
     }
 
     /// How many are durable, by the journal itself: every crash of the journal in hand leaves a store whose history has the
@@ -130,7 +176,9 @@ impl<D: Disk + Drop, N: StoreNaming, T: Invariants + Drop, S: StoredSteps + Drop
         ensures begins { IsPrefix pass.old.known pass.new.known }
         ensures same { (pass.new.mark ≡ pass.old.mark) × (pass.new.seen ≡ pass.old.seen) × (pass.new.own ≡ pass.old.own) }
     {
-        self.journal.lock(rt).vouch(&self.spine, pass, number)
+        self.journal
+            .lock(rt)
+            .vouch(&self.spine, &mut pass.seat, number)
     }
 
     /// Makes the oldest transactions that wait durable, as long as any other would still fit into a batch, and answers how

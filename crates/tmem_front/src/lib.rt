@@ -15,12 +15,14 @@ mod front;
 mod journal_seat;
 mod naming;
 mod opened;
+mod pass;
 
 pub use core_seat::CoreSeat;
 pub use front::Front;
 pub use journal_seat::JournalSeat;
 pub use naming::{ProgramNaming, StoreNaming};
 pub use opened::OpenedFront;
+pub use pass::Pass;
 
 #[cfg(test)]
 mod tests;
