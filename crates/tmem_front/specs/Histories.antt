@@ -1,5 +1,5 @@
 -- What a history makes of the opening state.
-use Rattle.std.specs.Prelude.{ℕ, true, List, [], map}
+use Rattle.std.specs.Prelude.{◌≡◌, ℕ, ℤ, true, List, [], map, Some, slice_get}
 use Rattle.tmem_record.specs.Prefix.{IsPrefix}
 use Rattle.tmem_record.specs.State.{State, fold, first_state}
 use Rattle.tmem_record.specs.declared.effect.Effect.{Effect}
@@ -28,6 +28,10 @@ IsSoundState p s = IsSound p.tests p.names s.names s.values
 -- the state after each beginning of a history is sound
 abbrev pub AreSound : Program → State → List Entry → Type 0
 AreSound p opening log = (xs : List Entry) → IsPrefix xs log → IsSoundState p (after opening xs)
+
+-- a variable had this value after some history, in a sound state
+abbrev pub WasValue : Program → State → ℕ → ℤ → Type 0
+WasValue p opening var n = ∥ ((log : List Entry) × IsSoundState p (after opening log) × (slice_get (after opening log).values var ≡ Some n)) ∥₁
 
 -- the state of no store, and a program that brings nothing
 abbrev pub no_state : State

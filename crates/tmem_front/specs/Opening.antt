@@ -15,7 +15,8 @@ abbrev pub device_after : {D T S : Type 0} {d t s : _} → Result (OpenedFront D
 device_after (Ok o) = device_of o
 device_after {d = d} (Err e) = d.view e.1
 
--- Why a store was not opened: as a content is not, or else an invariant of the state that it stands for is missing or false.
+-- Why a store was not opened: as a content is not, or else an invariant of the state that it stands for is missing or
+-- false.
 abbrev pub IsWhyNot : (Fault → Type 0) → Type 0 → Fault → Type 0
 IsWhyNot refused_by unsound (Missing name) = unsound
 IsWhyNot refused_by unsound (Broken name) = unsound
@@ -29,8 +30,8 @@ TellsOfContent Geometry = Unit {0}
 TellsOfContent _ = ⊥
 
 -- Why opening was refused: by Geometry where the numbers do not fit the device; else memory or the device, or what its
--- content is refused by; or else an invariant of the state that it stands for is missing or false. Nothing was written where
--- the refusal tells of the content.
+-- content is refused by; or else an invariant of the state that it stands for is missing or false. Nothing was written
+-- where the refusal tells of the content.
 pub record OpeningRefused (old : DeviceView) (vars slots : ℕ) (unsound : Type 0) (f : Fault) (new : DeviceView) : Type 0 where
   pub numbers : ¬ FitsOn vars slots old.capacity → f ≡ Geometry
   pub why : IsWhyNot (λ g. new.keeps_model → FitsOn vars slots old.capacity → IsRefusedBy vars slots old.seen g) unsound f

@@ -9,16 +9,16 @@ use Rattle.tmem_spine.specs.History.{unmarked}
 use Rattle.tmem_spine.specs.Views.{CoreView}
 use Rattle.tmem_front.specs.Histories.{after, AreSound}
 
--- the core under its lock: what it accepted, the number that is known durable, how many passes it gave out, and whether it
--- is shut
+-- the core under its lock: what it accepted, the number that is known durable, how many passes it gave out, and whether
+-- it is shut
 pub record CoreSeatView : Type 0 where
   pub accepted : List Entry
   pub trimmed : ℕ
   pub given : ℕ
   pub is_shut : Bool
 
--- The core's state is what the accepted effects make of the opening state, and is sound after each beginning of them. Those
--- behind the number known durable wait.
+-- The core's state is what the accepted effects make of the opening state, and is sound after each beginning of them.
+-- Those behind the number known durable wait.
 pub record IsCoreOf {T : Type 0} {t : _} (start : ℕ) (opening : State) (program : Program) (c : Core T t) (v : CoreView) : Type 0 where
   pub state : core.state_of c ≡ after opening v.accepted
   pub starts : opening.count ≡ start

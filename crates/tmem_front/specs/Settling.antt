@@ -16,9 +16,10 @@ use Rattle.tmem_spine.specs.History.{count}
 use Rattle.tmem_spine.specs.Views.{PassView}
 use Rattle.tmem_front.specs.Histories.{after, marked, numbered, IsSoundState}
 
--- There is a history that goes on from all that the pass knew. The answer is a core's in the state after it, where at least
--- as many are known durable as the pass saw: for each plan that the attempt is right for, that plan's verdict there. The history gains what is accepted, once, under the mark of the pass, which
--- then knows it whole and has what is accepted as its own. The state after that is sound.
+-- There is a history that goes on from all that the pass knew. The answer is a core's in the state after it, where at
+-- least as many are known durable as the pass saw: for each plan that the attempt is right for, that plan's verdict
+-- there. The history gains what is accepted, once, under the mark of the pass, which then knows it whole and has what
+-- is accepted as its own. The state after that is sound.
 pub record Settles (start : ℕ) (opening : State) (program : Program) (attempt : Attempt) (old : PassView) (answer : Result Settled Fault) (new : PassView) : Type 0 where
   pub before : List Entry
   pub durable : ℕ

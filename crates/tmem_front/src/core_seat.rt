@@ -1,5 +1,5 @@
 // What lies under the core's lock.
-ghost use Rattle.std.specs.Prelude.{◌≡◌, ◌<◌, ◌≤◌, slice_get, Some, ◌++◌, ◌∷◌, [], true, length, MatchBool, All, IsTrue, IfSome, IfNone};
+ghost use Rattle.std.specs.Prelude.{◌≡◌, ◌+◌, ◌<◌, ◌≤◌, slice_get, IfOk, IfErr, Some, ◌++◌, ◌∷◌, [], true, length, MatchBool, All, IsTrue, IfSome, IfNone};
 ghost use Rattle.tmem_record.specs.Prefix.{IsPrefix};
 ghost use Rattle.tmem_record.specs.Names.{has_name};
 ghost use Rattle.tmem_record.specs.declared.effect.Effect.{Effect as EffectOf};
@@ -11,6 +11,7 @@ ghost use Rattle.tmem_tentative.specs.Right.{IsRight};
 ghost use Rattle.tmem_tree.specs.declared.tx.Tx.{Tx as TxOf};
 ghost use Rattle.tmem_spine.specs.History.{count};
 ghost use Rattle.tmem_spine.specs.Views.{new_core, new_pass};
+ghost use Rattle.tmem_spine.specs.declared.spine.TheConstants.{MOST_PASSES};
 ghost use Rattle.tmem_front.specs.Flushing.{GoesOn, TakesOldest};
 ghost use Rattle.tmem_front.specs.Histories.{after, marked, numbered, IsSoundState};
 
@@ -23,8 +24,8 @@ use tmem_record::Batch;
 use tmem_spine::{CoreSide, JournalSide, Pass, Spine};
 use tmem_tentative::Attempt;
 
-/// The core, beside its seat. Contracts see what it accepted, how many are known durable, how many passes it gave out, and
-/// whether it is shut.
+/// The core, beside its seat. Contracts see what it accepted, how many are known durable, how many passes it gave out,
+/// and whether it is shut.
 #[derive(Drop)]
 pub struct CoreSeat<N: StoreNaming, T: Invariants> {
     core: Core<T>,
@@ -56,9 +57,9 @@ impl<N: StoreNaming, T: Invariants + Drop> CoreSeat<N, T> {
         CoreSeat { core, side }
     }
 
-    /// Settles an attempt for a pass. The core first learns how many are durable, at least as many as the pass saw, and then
-    /// answers by its present state. What commits is accepted under the mark of the pass, which has it as its own. The pass
-    /// knows all that is accepted then.
+    /// Settles an attempt for a pass. The core first learns how many are durable, at least as many as the pass saw, and
+    /// then answers by its present state. What commits is accepted under the mark of the pass, which has it as its own.
+    /// The pass knows all that is accepted then.
     pub fn settle(
         &mut self,
         spine: &Spine<N>,
@@ -91,9 +92,12 @@ impl<N: StoreNaming, T: Invariants + Drop> CoreSeat<N, T> {
         answer
     }
 
-    /// Gives out a pass, unless as many as a spine has were given out.
+    /// Gives out a pass that knows nothing yet, under the mark that is next. Refused with `NoSeat` exactly where as
+    /// many were given out as a spine has.
     pub fn pass(&mut self, spine: &Spine<N>) -> Result<Pass<N>, Fault>
-        ensures accepted { (self.new.accepted ≡ self.old.accepted) × (self.new.trimmed ≡ self.old.trimmed) × (self.new.is_shut ≡ self.old.is_shut) }
+        ensures pass { IfOk result (λ pass. pass ≡ new_pass self.old.given) }
+        ensures given { IfOk result (λ _. (self.old.given < MOST_PASSES) × (self.new ≡ record self.old { given = self.old.given + 1 })) }
+        ensures none { IfErr result (λ fault. (fault ≡ Fault.NoSeat) × (self.old.given ≡ MOST_PASSES) × (self.new ≡ self.old)) }
     {
         spine.pass(&mut self.side).ok_or(Fault::NoSeat)
     }
@@ -101,13 +105,14 @@ impl<N: StoreNaming, T: Invariants + Drop> CoreSeat<N, T> {
     /// The present value of a variable.
     pub fn peek(&self, var: u16) -> i64
         requires { var < length N.opening.values }
-        ensures { slice_get (after N.opening self.now.accepted).values var ≡ Some result }
+        ensures value { slice_get (after N.opening self.now.accepted).values var ≡ Some result }
+        ensures sound { IsSoundState N.program (after N.opening self.now.accepted) }
     {
         self.core.peek(var)
     }
 
-    /// Takes the oldest effects that wait into a batch, as long as any other would still fit, and the journal beside the core
-    /// aims at them. The core learns how many are durable.
+    /// Takes the oldest effects that wait into a batch, as long as any other would still fit, and the journal beside
+    /// the core aims at them. The core learns how many are durable.
     pub fn take(&mut self, spine: &Spine<N>, journal: &mut JournalSide<N>, batch: &mut Batch)
         ensures core { self.new ≡ record self.old { trimmed = count N.name.start journal.old.durable } }
         ensures durable { journal.new.durable ≡ journal.old.durable }

@@ -1,7 +1,7 @@
 // The two locks, and the spine beside them.
 ghost use Rattle.std.specs.Prelude.{◌≡◌, ◌≤◌, ◌<◌, ◌↔◌, false, length, All, IsTrue, IfOk, IfErr};
 ghost use Rattle.tmem_journal.specs.Held.{is_closed_of};
-ghost use Rattle.tmem_front.specs.Flushing.{GoesOn};
+ghost use Rattle.tmem_front.specs.Flushing.{GoesOn, IsFlushRefusal, IsCheckpointRefusal};
 ghost use Rattle.tmem_record.specs.Prefix.{IsPrefix};
 ghost use Rattle.tmem_record.specs.Names.{has_name};
 ghost use Rattle.tmem_tentative.specs.Fits.{IsForVariables, IsForNames};
@@ -10,6 +10,9 @@ ghost use Rattle.tmem_tentative.specs.Cursors.{HasEnded, attempt_of};
 ghost use Rattle.tmem_tree.specs.Plans.{BreaksNone, IsLeastBroken, FitsSteps, FitsVariables, FitsNames};
 ghost use Rattle.tmem_tree.specs.StepAnswers.{StepMeanings};
 ghost use Rattle.tmem_spine.specs.History.{count, longer};
+ghost use Rattle.tmem_spine.specs.Views.{new_pass};
+ghost use Rattle.tmem_spine.specs.declared.spine.TheConstants.{MOST_PASSES};
+ghost use Rattle.tmem_front.specs.Histories.{WasValue};
 ghost use Rattle.tmem_front.specs.Settling.{Settles, SettlesPlan};
 
 use crate::core_seat::CoreSeat;
@@ -53,8 +56,14 @@ impl<D: Disk + Drop, N: StoreNaming, T: Invariants + Drop, S: StoredSteps + Drop
     T,
     S,
 > {
-    /// A pass, with a mark of its own. Refused with `NoSeat` once 32 were given out, also where they were dropped.
-    pub fn pass<R: Wait>(&self, rt: &R) -> Result<Pass<N>, Fault> {
+    ghost use Rattle.tmem_front.specs.Held.{journal_of, side_of, batch_of};
+
+    /// A pass that knows nothing yet, with a mark of its own. Refused with `NoSeat` once 32 were given out, also where
+    /// they were dropped.
+    pub fn pass<R: Wait>(&self, rt: &R) -> Result<Pass<N>, Fault>
+        ensures pass { IfOk result (λ pass. (pass ≡ new_pass pass.mark) × (pass.mark < MOST_PASSES)) }
+        ensures none { IfErr result (λ fault. fault ≡ Fault.NoSeat) }
+    {
         let seat = self.core.lock(rt).pass(&self.spine)?;
         Ok(Pass {
             seat,
@@ -62,8 +71,8 @@ impl<D: Disk + Drop, N: StoreNaming, T: Invariants + Drop, S: StoredSteps + Drop
         })
     }
 
-    /// An attempt at a plan of this front: it is evaluated, and each value that it needs is peeked at, until it has ended.
-    /// Refused by `Memory`.
+    /// An attempt at a plan of this front: it is evaluated, and each value that it needs is peeked at, until it has
+    /// ended. Refused by `Memory`.
     pub fn attempt<R: Wait>(&self, rt: &R, plan: &Plan) -> Result<Attempt, Fault>
         requires steps { FitsSteps (S.arities self.now.steps) plan.now }
         requires variables { FitsVariables self.now.vars plan.now }
@@ -114,8 +123,8 @@ impl<D: Disk + Drop, N: StoreNaming, T: Invariants + Drop, S: StoredSteps + Drop
         self.core.lock(rt).settle(&self.spine, seat, attempt)
     }
 
-    /// One attempt at a plan of this front, which is settled. It is made in the memory of the pass, and not copied. Refused as
-    /// a core refuses it, and by `Memory`.
+    /// One attempt at a plan of this front, which is settled. It is made in the memory of the pass, and not copied.
+    /// Refused as a core refuses it, and by `Memory`.
     pub fn try_atomically<R: Wait>(
         &self,
         rt: &R,
@@ -131,8 +140,8 @@ impl<D: Disk + Drop, N: StoreNaming, T: Invariants + Drop, S: StoredSteps + Drop
         self.settle_seat(rt, &mut pass.seat, pass.cursor.attempt())
     }
 
-    // Evaluates a plan in place, from its start to its end. Each value that it needs is peeked at, and the lock is held for
-    // that alone.
+    // Evaluates a plan in place, from its start to its end. Each value that it needs is peeked at, and the lock is held
+    // for that alone.
     fn evaluate<R: Wait>(&self, rt: &R, cursor: &mut Cursor, plan: &Plan) -> Result<(), Fault>
         requires steps { FitsSteps (S.arities self.now.steps) plan.now }
         requires variables { FitsVariables self.now.vars plan.now }
@@ -167,8 +176,8 @@ impl<D: Disk + Drop, N: StoreNaming, T: Invariants + Drop, S: StoredSteps + Drop
         self.spine.look(&mut pass.seat)
     }
 
-    /// How many are durable, by the journal itself: every crash of the journal in hand leaves a store whose history has the
-    /// pass's own effect at this number.
+    /// How many are durable, by the journal itself: every crash of the journal in hand leaves a store whose history has
+    /// the pass's own effect at this number.
     pub fn vouch<R: Wait>(&self, rt: &R, pass: &mut Pass<N>, number: u64) -> u64
         requires { number < count N.name.start pass.old.seen }
         ensures least { count N.name.start pass.old.seen ≤ result }
@@ -181,10 +190,13 @@ impl<D: Disk + Drop, N: StoreNaming, T: Invariants + Drop, S: StoredSteps + Drop
             .vouch(&self.spine, &mut pass.seat, number)
     }
 
-    /// Makes the oldest transactions that wait durable, as long as any other would still fit into a batch, and answers how
-    /// many are durable then. It writes nothing where none waits. Refused by `Closed` once the journal is closed, and as a
-    /// journal refuses a batch. No call of the device is made under the core's lock.
-    pub fn flush_once<R: Wait>(&self, rt: &R) -> Result<u64, Fault> {
+    /// Makes the oldest transactions that wait durable, as long as any other would still fit into a batch, and answers
+    /// how many are durable then. It writes nothing where none waits. Refused by `Closed` once the journal is closed,
+    /// and as a journal refuses a batch. No call of the device is made under the core's lock.
+    pub fn flush_once<R: Wait>(&self, rt: &R) -> Result<u64, Fault>
+        ensures least { IfOk result (λ number. N.name.start ≤ number) }
+        ensures refused { IfErr result IsFlushRefusal }
+    {
         let mut journal = self.journal.lock(rt);
         if journal.is_closed() {
             return Err(Fault::Closed);
@@ -199,7 +211,9 @@ impl<D: Disk + Drop, N: StoreNaming, T: Invariants + Drop, S: StoredSteps + Drop
     }
 
     /// Writes the durable state as a whole, and frees every slot of the log. Refused as a journal refuses it.
-    pub fn checkpoint<R: Wait>(&self, rt: &R) -> Result<(), Fault> {
+    pub fn checkpoint<R: Wait>(&self, rt: &R) -> Result<(), Fault>
+        ensures refused { IfErr result IsCheckpointRefusal }
+    {
         let mut journal = self.journal.lock(rt);
         let written = journal.checkpoint();
         self.tell(rt, &mut journal);
@@ -208,10 +222,10 @@ impl<D: Disk + Drop, N: StoreNaming, T: Invariants + Drop, S: StoredSteps + Drop
 
     // With the core's lock too, for as long as a batch is taken.
     fn aim<R: Wait>(&self, rt: &R, journal: &mut JournalSeat<D, N>) -> bool
-        requires { is_closed_of journal.old.journal ≡ false }
-        ensures same { (journal.new.journal ≡ journal.old.journal) × (journal.new.side.durable ≡ journal.old.side.durable) }
-        ensures goes_on { GoesOn N.name.start N.opening journal.old.side.durable journal.new.batch journal.new.side.aimed }
-        ensures some { IsTrue result ↔ (1 ≤ length journal.new.batch) }
+        requires { is_closed_of (journal_of journal.old) ≡ false }
+        ensures same { (journal_of journal.new ≡ journal_of journal.old) × ((side_of journal.new).durable ≡ (side_of journal.old).durable) }
+        ensures goes_on { GoesOn N.name.start N.opening (side_of journal.old).durable (batch_of journal.new) (side_of journal.new).aimed }
+        ensures some { IsTrue result ↔ (1 ≤ length (batch_of journal.new)) }
     {
         let mut core = self.core.lock(rt);
         journal.aim(&self.spine, &mut core)
@@ -219,7 +233,7 @@ impl<D: Disk + Drop, N: StoreNaming, T: Invariants + Drop, S: StoredSteps + Drop
 
     // With the core's lock too, for a moment after a call of the device.
     fn tell<R: Wait>(&self, rt: &R, journal: &mut JournalSeat<D, N>)
-        ensures { (journal.new.journal ≡ journal.old.journal) × (journal.new.side ≡ journal.old.side) }
+        ensures { (journal_of journal.new ≡ journal_of journal.old) × (side_of journal.new ≡ side_of journal.old) }
     {
         let mut core = self.core.lock(rt);
         journal.tell(&self.spine, &mut core);
@@ -233,6 +247,7 @@ impl<D: Disk + Drop, N: StoreNaming, T: Invariants + Drop, S: StoredSteps + Drop
     /// The present value of a variable, also where the front is shut.
     pub fn peek<R: Wait>(&self, rt: &R, var: u16) -> i64
         requires { var < length N.opening.values }
+        ensures { WasValue N.program N.opening var result }
     {
         self.core.lock(rt).peek(var)
     }

@@ -27,8 +27,8 @@ use tmem_record::Batch;
 use tmem_spine::Opened;
 use tmem_tree::StoredSteps;
 
-/// A store that was opened. A program hands it to a function that is generic in `StoreNaming`, and calls that at `Brand`:
-/// the name is that of the spine, with the state that was found and what its closures mean.
+/// A store that was opened. A program hands it to a function that is generic in `StoreNaming`, and calls that at
+/// `Brand`: the name is that of the spine, with the state that was found and what its closures mean.
 #[derive(Drop)]
 pub struct OpenedFront<D: Disk, T: Invariants, S: StoredSteps> {
     alloc: Global,
@@ -54,13 +54,14 @@ impl<D: Disk + Drop, T: Invariants + Drop, S: StoredSteps + Drop> OpenedFront<D,
     ghost use Rattle.tmem_front.specs.Held.{found_of, position_of, layout_of, device_of, spine_of, table_of, steps_of};
     ghost use Rattle.tmem_front.specs.Opening.{device_after, OpeningRefused, OpensEither};
 
-    /// Opens a device of these numbers: finds what its content stands for, with these invariants and stored steps. Refused by
-    /// `Geometry` where the numbers are out of limits, the device is smaller than their layout, or it was formatted for
-    /// others; by `NotFormatted` where it lacks the open block 0 with its letters; else by `Damaged` where its content stands
-    /// for no state; by `Missing` with the first registered name, by bytes, that the table lacks; by `Broken` with the first
-    /// registered invariant, in the table's order, that is false; by `Memory`; by `Device` where a call of the device failed.
-    /// The device is handed back with the refusal. Gates that read open behind the log are closed, and nothing else is
-    /// written: nothing at all before a refusal by `Geometry`, `NotFormatted` or `Damaged`.
+    /// Opens a device of these numbers: finds what its content stands for, with these invariants and stored steps.
+    /// Refused by `Geometry` where the numbers are out of limits, the device is smaller than their layout, or it was
+    /// formatted for others; by `NotFormatted` where it lacks the open block 0 with its letters; else by `Damaged`
+    /// where its content stands for no state; by `Missing` with the first registered name, by bytes, that the table
+    /// lacks; by `Broken` with the first registered invariant, in the table's order, that is false; by `Memory`; by
+    /// `Device` where a call of the device failed. The device is handed back with the refusal. Gates that read open
+    /// behind the log are closed, and nothing else is written: nothing at all before a refusal by `Geometry`,
+    /// `NotFormatted` or `Damaged`.
     pub fn open(
         alloc: Global,
         disk: D,
@@ -74,6 +75,7 @@ impl<D: Disk + Drop, T: Invariants + Drop, S: StoredSteps + Drop> OpenedFront<D,
         // The state that the content stands for is found, and no invariant that is registered in it is false there.
         ensures found { IfOk result (λ o. (device_of o).keeps_model → StandsFor vars slots (position_of o) (found_of o) (D.view disk).seen) }
         ensures sound { (m : Meanings) → T.is_stated table m → IfOk result (λ o. IsSound m (T.names table) (found_of o).names (found_of o).values) }
+        ensures values { IfOk result (λ o. length (found_of o).values ≡ vars) }
         ensures leaves { IfOk result (λ o. LeavesOnly (device_of o) (StandsFor vars slots (position_of o) (found_of o))) }
         ensures steps { IfOk result (λ o. steps_of o ≡ steps) }
         ensures table { IfOk result (λ o. table_of o ≡ table) }
@@ -84,16 +86,16 @@ impl<D: Disk + Drop, T: Invariants + Drop, S: StoredSteps + Drop> OpenedFront<D,
             × ((p : Program) → p.names ≡ T.names table → T.is_stated table p.tests → opening_fault p s ≡ Some e.0))
             e.0 (D.view e.1)) }
 
-        // Where every crash left one of two states, and both are sound, one of them is found, unless memory or the device
-        // fails.
+        // Where every crash left one of two states, and both are sound, one of them is found, unless memory or the
+        // device fails.
         ensures recovers { (program : Program) (a b : State) → program.names ≡ T.names table → T.is_stated table program.tests
             → IsSound program.tests program.names a.names a.values → IsSound program.tests program.names b.names b.values
             → FitsOn vars slots (D.view disk).capacity → LeavesOnly (D.view disk) (StandsForEither vars slots a b)
             → (device_after result).keeps_model → OpensEither result a b }
 
-        // A crash at any moment of the opening, or after it, leaves what it might have left before, but for gates behind the
-        // log that are closed in it. Nothing outside the log's slots is written, and nothing at all where these gates read
-        // closed.
+        // A crash at any moment of the opening, or after it, leaves what it might have left before, but for gates
+        // behind the log that are closed in it. Nothing outside the log's slots is written, and nothing at all where
+        // these gates read closed.
         ensures any_moment { AtEachMoment (D.view disk) (device_after result) (MendedBy vars slots (D.view disk)) }
         ensures stop { LeavesOnly (device_after result) (MendedBy vars slots (D.view disk)) }
         ensures seen { (device_after result).keeps_model → Mends vars slots (D.view disk).seen (device_after result).seen }

@@ -8,9 +8,9 @@ use std::marker::Model;
 use tmem_spine::Naming;
 use tmem_tentative::Cursor;
 
-/// A caller's seat, and the memory of its last attempt, which the next one takes again. Contracts see what the seat knows:
-/// its mark, what is accepted and what is durable as far as it knows, and its own effects. It may go to another thread, and
-/// is used with the front that gave it.
+/// A caller's seat, and the memory of its last attempt, which the next one takes again. Contracts see what the seat
+/// knows: its mark, what is accepted and what is durable as far as it knows, and its own effects. It may go to another
+/// thread, and is used with the front that gave it.
 #[derive(Drop)]
 pub struct Pass<N: Naming> {
     pub(crate) seat: tmem_spine::Pass<N>,
@@ -26,8 +26,8 @@ impl<N: Naming> Model for Pass<N> {
 }
 
 impl<N: Naming> Pass<N> {
-    /// The greatest answer that a look of this pass gave, and the opening count before any. What a pass saw begins what it
-    /// knows, and its own effects stand there, at their numbers and under its mark.
+    /// The greatest answer that a look of this pass gave, and the opening count before any. What a pass saw begins what
+    /// it knows, and its own effects stand there, at their numbers and under its mark.
     pub fn seen(&self) -> u64
         ensures seen { result ≡ count N.name.start self.now.seen }
         ensures begins { IsPrefix self.now.seen self.now.known }

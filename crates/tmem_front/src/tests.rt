@@ -13,8 +13,8 @@ use tmem_invariants::{Invariants, Table};
 use tmem_journal::{Layout, format};
 use tmem_tree::{Steps, StoredSteps, Tx};
 
-// The number that was committed, what a look answers before a flush, what the flush answers, what a look and a vouch answer
-// then, and what a look of another pass does.
+// The number that was committed, what a look answers before a flush, what the flush answers, what a look and a vouch
+// answer then, and what a look of another pass does.
 type Answers = (u64, u64, u64, u64, u64, u64);
 
 fn commit_and_flush<

@@ -33,6 +33,7 @@ impl<N: Naming> Spine<N> {
     /// Gives out a pass with a mark of its own, unless `MOST_PASSES` were given out.
     pub fn pass(&self, core: &mut CoreSide<N>) -> Option<Pass<N>>
         ensures some { IfSome result (λ p. (p ≡ new_pass core.old.given) × (core.new ≡ record core.old { given = core.old.given + 1 })) }
+        ensures few { IfSome result (λ _. core.old.given < MOST_PASSES) }
         ensures none { IfNone result ((core.old.given ≡ MOST_PASSES) × (core.new ≡ core.old)) }
     {
         if core.given == MOST_PASSES {

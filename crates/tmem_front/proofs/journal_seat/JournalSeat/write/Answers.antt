@@ -8,6 +8,7 @@ use Rattle.tmem_spine.specs.History.{count}
 use Rattle.tmem_spine.specs.Views.{JournalView}
 use Rattle.tmem_front.specs.Histories.{after}
 use Rattle.tmem_front.proofs.Seated.{count-after, self_prefix}
+use Rattle.tmem_front.proofs.Refusals.{flush_refusal}
 use Rattle.tmem_front.proofs.Written.{aimed_state, Leaves, written_ok, written_err, written_number, moments, long_aimed, both, state_left, ok_number}
 use Rattle.tmem_front.proofs.journal_seat.JournalSeat.write.Goals as goal
 
@@ -133,3 +134,9 @@ returns-else-is_ok-clause-any_moment g c =
     let was : ∥ Leaves opening durable aimed old ∥₁ = ∥∥₁_map seat.doubt (λ d. record { state = seat.state; doubt = d }) in
     let left = ∥∥₁_map seat.doubt (λ d. written_err start opening durable aimed seat.batch goes old new seat.state c.flush-flushed.result (sym c.is_ok.ensures.value ∙ c.if-is_ok.false) d flushed) in
     moments opening durable aimed durable old new was left (inl refl) c.flush-flushed.ensures.layout c.flush-flushed.ensures.any_moment
+
+pub returns-then-is_ok-clause-refused : goal.returns-then-is_ok-clause-refused
+returns-then-is_ok-clause-refused g c = flush_refusal c.args.self.now.journal c.flush-flushed.new.self c.args.self.now.batch c.flush-flushed.result c.flush-flushed.ensures.flushed
+
+pub returns-else-is_ok-clause-refused : goal.returns-else-is_ok-clause-refused
+returns-else-is_ok-clause-refused g c = flush_refusal c.args.self.now.journal c.flush-flushed.new.self c.args.self.now.batch c.flush-flushed.result c.flush-flushed.ensures.flushed
