@@ -1,0 +1,7 @@
+mod Leaves
+mod OpensStore
+mod Planned
+mod Refusals
+mod Seated
+mod Taken
+mod Written
