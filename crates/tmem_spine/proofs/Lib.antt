@@ -1,0 +1,6 @@
+mod Prefixes
+mod Owning
+mod Keeps
+mod Allowed
+mod Noted
+mod Numbers

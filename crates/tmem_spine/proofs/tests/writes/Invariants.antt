@@ -1,0 +1,6 @@
+use Rattle.std.proofs.Common.{◌≡◌, length}
+use Rattle.tmem_spine.proofs.tests.writes.Given as goal
+
+-- as many are accepted and durable as there were turns
+abbrev pub invariant-loop-turn : goal.invariant-loop-turn
+invariant-loop-turn g l = (length l.core.accepted ≡ l.turn) × (length l.journal.durable ≡ l.turn)

@@ -1,0 +1,64 @@
+-- The views of new seats, and what one seat tells another.
+use Rattle.std.specs.Prelude.{ℕ, ◌+◌, List, []}
+use Rattle.tmem_spine.specs.declared.view.Entry.{Entry}
+use Rattle.tmem_spine.specs.declared.view.Role.{Role}
+use Rattle.tmem_spine.specs.declared.view.Role.TheVariants.{Start, Core, Journal, Pass, Note, Spent}
+use Rattle.tmem_spine.specs.declared.view.View.{View}
+use Rattle.tmem_spine.specs.Views.{SpineName}
+
+-- a view that knows nothing
+abbrev pub blank : Role → ℕ → ℕ → View
+blank role start mark = record {
+  role = role;
+  start = start;
+  accepted = [];
+  given = 0;
+  aimed = [];
+  durable = [];
+  mark = mark;
+  own = [];
+  known = [];
+  seen = [];
+  trimmed = 0;
+}
+
+-- the first seat, before all steps
+abbrev pub first_view : ℕ → View
+first_view start = blank Start start 0
+
+-- the core's seat, from the first one
+abbrev pub as_core : View → View
+as_core v = record v { role = Core; trimmed = v.start }
+
+abbrev pub journal_from : View → View
+journal_from v = blank Journal v.start 0
+
+-- a new pass from the core's seat, whose mark is how many there were
+abbrev pub pass_from : View → View
+pass_from v = blank Pass v.start v.given
+
+abbrev pub gives : View → View
+gives v = record v { given = v.given + 1 }
+
+-- a note of what is accepted, of what is durable, and of how many are
+abbrev pub note : ℕ → List Entry → List Entry → ℕ → View
+note start known seen trimmed = record (blank Note start 0) { known = known; seen = seen; trimmed = trimmed }
+
+-- a note that was read
+abbrev pub spent : View
+spent = blank Spent 0 0
+
+-- the core after it read a note
+abbrev pub core_told : View → View → View
+core_told v w = record v { known = w.known; seen = w.seen }
+
+-- the journal after it read a note
+abbrev pub journal_told : View → View → View
+journal_told v w = record v { known = w.known; seen = w.seen; trimmed = w.trimmed }
+
+-- the name of no spine
+abbrev pub no_name : SpineName
+no_name = record {
+  table = record { words = 0; slots = 0; views_name = 0; atom = 0; block = 0; offset = 0; slot_names = [] };
+  start = 0;
+}

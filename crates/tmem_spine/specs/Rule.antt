@@ -1,0 +1,80 @@
+-- The rule of the history. It holds between any two steps.
+use Rattle.std.specs.Prelude.{◌≡◌, ◌≢◌, ℕ, ◌^◌, ◌<◌, ◌≤◌, Bool, true, false, List, [], ◌∷◌, All, AllPairs}
+use mathlib.Core.Option.{some}
+use lib.ListN.{get_elem?}
+use Rattle.atomic_table.specs.Table.{State}
+use Rattle.tmem_record.specs.Prefix.{IsPrefix}
+use Rattle.tmem_record.specs.declared.effect.Effect.{Effect}
+use Rattle.tmem_spine.specs.declared.view.Entry.{Entry}
+use Rattle.tmem_spine.specs.declared.view.Role.TheVariants.{Start, Core, Journal, Pass, Spent}
+use Rattle.tmem_spine.specs.declared.view.View.{View}
+use Rattle.tmem_spine.specs.History.{count, entry, HasAt}
+
+-- What is accepted, aimed at and durable, which seats are the core's and the journal's, how many passes were given out, and
+-- whether the journal has its seat.
+pub record History : Type 0 where
+  pub accepted : List Entry
+  pub aimed : List Entry
+  pub durable : List Entry
+  pub core : ℕ
+  pub journal : ℕ
+  pub given : ℕ
+  pub has_journal : Bool
+
+-- The words count what is accepted and what is durable. What is durable begins what the journal aims at, and that begins
+-- what is accepted. There are 32 passes at most.
+pub record IsHistory (start : ℕ) (h : History) (words : List ℕ) : Type 0 where
+  pub counts : words ≡ count start h.accepted ∷ count start h.durable ∷ []
+  pub room : count start h.accepted < 2 ^ 64
+  pub durable : IsPrefix h.durable h.aimed
+  pub aimed : IsPrefix h.aimed h.accepted
+  pub few : h.given ≤ 32
+
+-- a pass's own effects stand in what it knows at their numbers, which ascend, under its mark
+pub record Owns (start mark : ℕ) (known : List Entry) (own : List (ℕ × Effect)) : Type 0 where
+  pub ascend : AllPairs (λ (x y : ℕ × Effect). x.0 < y.0) own
+  pub stand : All (λ (x : ℕ × Effect). HasAt start known x.0 (entry mark x.1)) own
+
+-- what a pass saw begins what it knows, in which its own effects stand
+abbrev pub IsPass : ℕ → View → Type 0
+IsPass start v = IsPrefix v.seen v.known × Owns start v.mark v.known v.own
+
+-- the first seat sees that nothing has happened
+abbrev pub IsStart : ℕ → History → ℕ → View → Type 0
+IsStart start h id v = (id ≡ h.core) × (h.accepted ≡ []) × (h.has_journal ≡ false) × (v.accepted ≡ []) × (v.given ≡ h.given)
+
+-- the core sees what is accepted
+abbrev pub IsCore : History → ℕ → View → Type 0
+IsCore h id v = (id ≡ h.core) × (v.accepted ≡ h.accepted) × (v.given ≡ h.given)
+
+-- the journal sees what it aims at and what is durable
+abbrev pub IsJournal : History → ℕ → View → Type 0
+IsJournal h id v = (id ≡ h.journal) × (h.has_journal ≡ true) × (v.aimed ≡ h.aimed) × (v.durable ≡ h.durable)
+
+-- What a seat knows is so: what it knows begins what is accepted, what it saw begins what is durable, and at least so many
+-- are durable as it was trimmed to.
+pub record Fits (start : ℕ) (h : History) (id : ℕ) (v : View) : Type 0 where
+  pub based : v.role ≢ Spent → v.start ≡ start
+  pub known : IsPrefix v.known h.accepted
+  pub seen : IsPrefix v.seen h.durable
+  pub trimmed : v.trimmed ≤ count start h.durable
+  pub is_start : v.role ≡ Start → IsStart start h id v
+  pub is_core : v.role ≡ Core → IsCore h id v
+  pub is_journal : v.role ≡ Journal → IsJournal h id v
+  pub is_pass : v.role ≡ Pass → IsPass start v × (v.mark < h.given)
+
+-- what each seat knows is so
+abbrev pub Each : ℕ → History → List View → Type 0
+Each start h views = (id : ℕ) (v : View) → get_elem? views id ≡ some v → Fits start h id v
+
+-- no two passes have one mark
+abbrev pub Apart : List View → Type 0
+Apart views = (i j : ℕ) (v w : View) → get_elem? views i ≡ some v → get_elem? views j ≡ some w → v.role ≡ Pass → w.role ≡ Pass
+    → v.mark ≡ w.mark → i ≡ j
+
+-- there is one history, which the words count and of which each seat knows a part, and no two passes have one mark
+pub record KeepsHistory (start : ℕ) (s : State ℕ View) : Type 0 where
+  pub history : History
+  pub is_history : IsHistory start history s.words
+  pub each : Each start history s.views
+  pub apart : Apart s.views

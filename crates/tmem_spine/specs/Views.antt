@@ -1,0 +1,49 @@
+-- What the core, the journal and a pass see of the history.
+use Rattle.std.specs.Prelude.{ℕ, List, []}
+use Rattle.atomic_table.specs.Seated.{TableId}
+use Rattle.tmem_record.specs.declared.effect.Effect.{Effect}
+use Rattle.tmem_spine.specs.declared.view.Entry.{Entry}
+use Rattle.tmem_spine.specs.declared.view.View.{View}
+
+-- which spine it is: its table, and the count at which its history starts
+pub record SpineName : Type 0 where
+  pub table : TableId
+  pub start : ℕ
+
+-- the core sees what is accepted, the number up to which it was trimmed, and how many passes were given out
+pub record CoreView : Type 0 where
+  pub accepted : List Entry
+  pub trimmed : ℕ
+  pub given : ℕ
+
+-- the journal sees what it aims at, and what is durable
+pub record JournalView : Type 0 where
+  pub aimed : List Entry
+  pub durable : List Entry
+
+-- a pass sees its mark, what it knows to be accepted, what it saw to be durable, and its own effects with their numbers
+pub record PassView : Type 0 where
+  pub mark : ℕ
+  pub known : List Entry
+  pub seen : List Entry
+  pub own : List (ℕ × Effect)
+
+abbrev pub core_view : View → CoreView
+core_view v = record { accepted = v.accepted; trimmed = v.trimmed; given = v.given }
+
+abbrev pub journal_view : View → JournalView
+journal_view v = record { aimed = v.aimed; durable = v.durable }
+
+abbrev pub pass_view : View → PassView
+pass_view v = record { mark = v.mark; known = v.known; seen = v.seen; own = v.own }
+
+-- the core before it has accepted anything
+abbrev pub new_core : ℕ → CoreView
+new_core start = record { accepted = []; trimmed = start; given = 0 }
+
+abbrev pub new_journal : JournalView
+new_journal = record { aimed = []; durable = [] }
+
+-- a pass that knows nothing yet
+abbrev pub new_pass : ℕ → PassView
+new_pass mark = record { mark = mark; known = []; seen = []; own = [] }

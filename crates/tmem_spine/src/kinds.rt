@@ -1,0 +1,159 @@
+// What each step on the table tells, and how views are cut in two and joined.
+ghost use Rattle.tmem_spine.specs.Steps.{told, Accepts, Aims, Stays, Hardens, Trims, Looks, meets_core, gains, meets_journal};
+ghost use Rattle.tmem_spine.specs.Notes.{as_core, journal_from, pass_from, gives, note, spent, core_told, journal_told};
+ghost use Rattle.std.specs.Prelude.{[]};
+
+use crate::view::View;
+use atomic_table::{Join, Play, Split};
+use std::marker::{Brand, PhantomData};
+
+/// What a call picks for its step: an entry, and a number.
+pub trait Choice {
+    ghost use Rattle.std.specs.Prelude.{ℕ};
+    ghost use Rattle.tmem_spine.specs.declared.view.Entry.{Entry};
+
+    ghost entry: { Entry };
+
+    ghost number: { ℕ };
+}
+
+impl Choice for Brand {
+    ghost use Rattle.tmem_record.specs.State.{no_effect};
+    ghost use Rattle.tmem_spine.specs.History.{entry as entry_of};
+
+    ghost entry = { entry_of 0 no_effect };
+
+    ghost number = { 0 };
+}
+
+pub(crate) struct Accept<C> {
+    choice: PhantomData<C>,
+}
+
+impl<C: Choice> Play<u8, View> for Accept<C> {
+    ghost then = { told (Accepts C.entry) };
+}
+
+pub(crate) struct Aim<C> {
+    choice: PhantomData<C>,
+}
+
+impl<C: Choice> Play<u8, View> for Aim<C> {
+    ghost then = { told (Aims C.number) };
+}
+
+pub(crate) struct Stay;
+
+impl Play<u8, View> for Stay {
+    ghost then = { told Stays };
+}
+
+pub(crate) struct Harden;
+
+impl Play<u8, View> for Harden {
+    ghost then = { told Hardens };
+}
+
+pub(crate) struct Trim;
+
+impl Play<u8, View> for Trim {
+    ghost then = { told Trims };
+}
+
+pub(crate) struct Look;
+
+impl Play<u8, View> for Look {
+    ghost then = { told Looks };
+}
+
+/// The first seat becomes the core's, and the journal gets one.
+pub(crate) struct Begin;
+
+impl Split<View> for Begin {
+    ghost left = { as_core };
+
+    ghost right = { journal_from };
+}
+
+/// The core gives out a pass.
+pub(crate) struct Give;
+
+impl Split<View> for Give {
+    ghost left = { gives };
+
+    ghost right = { pass_from };
+}
+
+/// The core writes a note of what is accepted, and of how many it knows to be durable.
+pub(crate) struct CoreTells;
+
+impl Split<View> for CoreTells {
+    ghost left = { λ v. v };
+
+    ghost right = { λ v. note v.start v.accepted [] v.trimmed };
+}
+
+/// The journal writes a note of what is durable.
+pub(crate) struct JournalTells;
+
+impl Split<View> for JournalTells {
+    ghost left = { λ v. v };
+
+    ghost right = { λ v. note v.start v.durable v.durable 0 };
+}
+
+/// A pass writes a note of what it knows and what it saw.
+pub(crate) struct PassTells;
+
+impl Split<View> for PassTells {
+    ghost left = { λ v. v };
+
+    ghost right = { λ v. note v.start v.known v.seen 0 };
+}
+
+/// The core reads a note.
+pub(crate) struct CoreHears;
+
+impl Join<View> for CoreHears {
+    ghost both = { core_told };
+
+    ghost spent = { spent };
+}
+
+/// The journal reads a note.
+pub(crate) struct JournalHears;
+
+impl Join<View> for JournalHears {
+    ghost both = { journal_told };
+
+    ghost spent = { spent };
+}
+
+/// A pass meets the core, by its note.
+pub(crate) struct MeetCore;
+
+impl Join<View> for MeetCore {
+    ghost both = { meets_core };
+
+    ghost spent = { spent };
+}
+
+/// A pass meets the core, and an effect there is its own.
+pub(crate) struct Gain<C> {
+    choice: PhantomData<C>,
+}
+
+impl<C: Choice> Join<View> for Gain<C> {
+    ghost both = { gains C.number C.entry.effect };
+
+    ghost spent = { spent };
+}
+
+/// A pass meets the journal, by its note.
+pub(crate) struct MeetJournal;
+
+impl Join<View> for MeetJournal {
+    ghost both = { meets_journal };
+
+    ghost spent = { spent };
+}
