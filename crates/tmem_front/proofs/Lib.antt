@@ -1,0 +1,8 @@
+mod Again
+mod Leaves
+mod OpensStore
+mod Planned
+mod Refusals
+mod Seated
+mod Taken
+mod Written

@@ -1,0 +1,41 @@
+-- What a history makes of the opening state.
+use Rattle.std.specs.Prelude.{◌≡◌, ℕ, ℤ, true, List, [], map, Some, slice_get}
+use Rattle.tmem_record.specs.Prefix.{IsPrefix}
+use Rattle.tmem_record.specs.State.{State, fold, first_state}
+use Rattle.tmem_record.specs.declared.effect.Effect.{Effect}
+use Rattle.tmem_invariants.specs.Meanings.{IsSound}
+use Rattle.tmem_tree.specs.declared.step.StepAnswer.TheVariants.{Retry}
+use Rattle.tmem_core.specs.Program.{Program}
+use Rattle.tmem_spine.specs.declared.view.Entry.{Entry}
+use Rattle.tmem_spine.specs.History.{entry, unmarked}
+
+-- the state after a history
+abbrev pub after : State → List Entry → State
+after opening log = fold opening (unmarked log)
+
+-- effects under one mark
+abbrev pub marked : ℕ → List Effect → List Entry
+marked mark es = map (λ (e : Effect). entry mark e) es
+
+-- one effect at most, with its number
+abbrev pub numbered : ℕ → List Effect → List (ℕ × Effect)
+numbered number es = map (λ (e : Effect). (number, e)) es
+
+-- each registered name of a state is among the program's and is true there
+abbrev pub IsSoundState : Program → State → Type 0
+IsSoundState p s = IsSound p.tests p.names s.names s.values
+
+-- the state after each beginning of a history is sound
+abbrev pub AreSound : Program → State → List Entry → Type 0
+AreSound p opening log = (xs : List Entry) → IsPrefix xs log → IsSoundState p (after opening xs)
+
+-- a variable had this value after some history, in a sound state
+abbrev pub WasValue : Program → State → ℕ → ℤ → Type 0
+WasValue p opening var n = ∥ ((log : List Entry) × IsSoundState p (after opening log) × (slice_get (after opening log).values var ≡ Some n)) ∥₁
+
+-- the state of no store, and a program that brings nothing
+abbrev pub no_state : State
+no_state = first_state 0
+
+abbrev pub no_program : Program
+no_program = record { steps = λ index args. Retry; names = []; tests = record { footprint = λ name. []; test = λ name values. true } }

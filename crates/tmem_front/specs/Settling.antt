@@ -1,0 +1,51 @@
+-- What an attempt that is settled is answered, and what the pass knows then.
+use Rattle.std.specs.Prelude.{◌≡◌, ◌⊎◌, ◌≤◌, ◌++◌, ℕ, Bool, List, Result, Err}
+use Rattle.tmem_disk.specs.declared.fault.Fault.{Fault}
+use Rattle.tmem_disk.specs.declared.fault.Fault.TheVariants as fault
+use Rattle.tmem_record.specs.Prefix.{IsPrefix}
+use Rattle.tmem_record.specs.State.{State}
+use Rattle.tmem_tree.specs.declared.settled.Settled.{Settled}
+use Rattle.tmem_tentative.specs.declared.attempt.Attempt.{Attempt}
+use Rattle.tmem_core.specs.Program.{Program}
+use Rattle.tmem_core.specs.SettleAnswer.{settle_answer, accepted_by, judged}
+use Rattle.tmem_core.specs.Verdict.{verdict as verdict_of}
+use Rattle.tmem_tentative.specs.Right.{IsRight}
+use Rattle.tmem_tree.specs.declared.tx.Tx.{Tx}
+use Rattle.tmem_spine.specs.declared.view.Entry.{Entry}
+use Rattle.tmem_spine.specs.History.{count}
+use Rattle.tmem_spine.specs.Views.{PassView}
+use Rattle.tmem_front.specs.Histories.{after, marked, numbered, IsSoundState}
+
+-- There is a history that goes on from all that the pass knew. The answer is a core's in the state after it, where at
+-- least as many are known durable as the pass saw: for each plan that the attempt is right for, that plan's verdict
+-- there. The history gains what is accepted, once, under the mark of the pass, which then knows it whole and has what
+-- is accepted as its own. The state after that is sound.
+pub record Settles (start : ℕ) (opening : State) (program : Program) (attempt : Attempt) (old : PassView) (answer : Result Settled Fault) (new : PassView) : Type 0 where
+  pub before : List Entry
+  pub durable : ℕ
+  pub is_shut : Bool
+  pub begins : IsPrefix old.known before
+  pub saw : count start old.seen ≤ durable
+  pub number : (after opening before).count ≡ count start before
+  pub answered : answer ≡ settle_answer program is_shut (after opening before) durable attempt
+  pub verdict : (tx : Tx) → IsRight program.steps tx attempt → answer ≡ judged is_shut (after opening before) durable attempt.reads.entries (verdict_of program tx (after opening before))
+  pub pass : new ≡ record old {
+    known = before ++ marked old.mark (accepted_by answer attempt.effect);
+    own = old.own ++ numbered (count start before) (accepted_by answer attempt.effect);
+  }
+  pub sound : IsSoundState program (after opening new.known)
+
+-- An attempt that is right for this plan is settled so, or there was no memory for one, and the pass stays as it was.
+abbrev pub SettlesPlan : ℕ → State → Program → Tx → PassView → Result Settled Fault → PassView → Type 0
+SettlesPlan start opening program tx old answer new =
+    ((answer ≡ Err fault.Memory) × (new ≡ old)) ⊎ ∥ ((attempt : Attempt) × IsRight program.steps tx attempt × Settles start opening program attempt old answer new) ∥₁
+
+-- the pass knows at least what it knew, and the rest of it stays
+pub record KnowsMore (old new : PassView) : Type 0 where
+  pub same : new ≡ record old { known = new.known }
+  pub begins : IsPrefix old.known new.known
+
+-- The same of attempts that are made until one is settled: the pass may know more where there was no memory.
+abbrev pub SettlesAtLast : ℕ → State → Program → Tx → PassView → Result Settled Fault → PassView → Type 0
+SettlesAtLast start opening program tx old answer new =
+    ((answer ≡ Err fault.Memory) × KnowsMore old new) ⊎ ∥ ((attempt : Attempt) × IsRight program.steps tx attempt × Settles start opening program attempt old answer new) ∥₁

@@ -1,0 +1,286 @@
+// The two locks, and the spine beside them.
+ghost use Rattle.std.specs.Prelude.{◌≡◌, ◌≤◌, ◌<◌, ◌↔◌, false, length, All, IsTrue, IfOk, IfErr};
+ghost use Rattle.tmem_journal.specs.Held.{is_closed_of};
+ghost use Rattle.tmem_front.specs.Flushing.{GoesOn, IsFlushRefusal, IsCheckpointRefusal};
+ghost use Rattle.tmem_record.specs.Prefix.{IsPrefix};
+ghost use Rattle.tmem_record.specs.Names.{has_name};
+ghost use Rattle.tmem_tentative.specs.Fits.{IsForVariables, IsForNames};
+ghost use Rattle.tmem_tentative.specs.Right.{IsRight};
+ghost use Rattle.tmem_tentative.specs.Cursors.{HasEnded, attempt_of};
+ghost use Rattle.tmem_tree.specs.Plans.{BreaksNone, IsLeastBroken, FitsSteps, FitsVariables, FitsNames};
+ghost use Rattle.tmem_tree.specs.StepAnswers.{StepMeanings};
+ghost use Rattle.tmem_spine.specs.History.{count, longer};
+ghost use Rattle.tmem_spine.specs.Views.{new_pass};
+ghost use Rattle.tmem_spine.specs.declared.spine.TheConstants.{MOST_PASSES};
+ghost use Rattle.tmem_front.specs.Histories.{WasValue};
+ghost use Rattle.tmem_front.specs.Settling.{Settles, SettlesPlan};
+
+use crate::core_seat::CoreSeat;
+use crate::journal_seat::JournalSeat;
+use crate::naming::StoreNaming;
+use crate::pass::Pass;
+use std::alloc::Global;
+use std::sync::{Condvar, Mutex, Wait};
+use tmem_core::Settled;
+use tmem_disk::{Cause, Disk, Fault, Name};
+use tmem_invariants::Invariants;
+use tmem_spine::{Pass as Seat, Spine};
+use tmem_tentative::{Attempt, Cursor, Outcome, Progress};
+use tmem_tree::{Plan, StoredSteps, Tx};
+
+/// A store that threads share. A pass is used with its own front, and a plan or an attempt with the front that made it.
+#[derive(Drop)]
+pub struct Front<D: Disk, N: StoreNaming, T: Invariants, S: StoredSteps> {
+    pub(crate) alloc: Global,
+    pub(crate) vars: u16,
+    pub(crate) steps: S,
+    // the names of the invariants, in the table's order
+    pub(crate) names: Vec<Name>,
+    pub(crate) spine: Spine<N>,
+    pub(crate) core: Mutex<CoreSeat<N, T>>,
+    // what is waited for under the core's lock: a commit, and more that is durable; both are told where the front is shut
+    pub(crate) committed: Condvar,
+    pub(crate) flushed: Condvar,
+    pub(crate) journal: Mutex<JournalSeat<D, N>>,
+
+    /// It is over the variables of the opening state.
+    pub ghost over: { vars ≡ length N.opening.values },
+
+    /// The names are the program's.
+    pub ghost named: { names.items ≡ N.program.names },
+
+    /// The steps answer what they mean.
+    pub ghost stated: { ∥ S.is_stated steps N.program.steps ∥₁ },
+}
+
+impl<D: Disk + Drop, N: StoreNaming, T: Invariants + Drop, S: StoredSteps + Drop> Front<
+    D,
+    N,
+    T,
+    S,
+> {
+    ghost use Rattle.tmem_front.specs.Held.{journal_of, side_of, batch_of};
+
+    /// A pass that knows nothing yet, with a mark of its own. Refused with `NoSeat` once 32 were given out, also where
+    /// they were dropped.
+    pub fn pass<R: Wait>(&self, rt: &R) -> Result<Pass<N>, Fault>
+        ensures pass { IfOk result (λ pass. (pass ≡ new_pass pass.mark) × (pass.mark < MOST_PASSES)) }
+        ensures none { IfErr result (λ fault. fault ≡ Fault.NoSeat) }
+    {
+        let seat = self.core.lock(rt).pass(&self.spine)?;
+        Ok(Pass {
+            seat,
+            cursor: Cursor::idle(self.alloc),
+        })
+    }
+
+    /// An attempt at a plan of this front: it is evaluated, and each value that it needs is peeked at, until it has
+    /// ended. Refused by `Memory`.
+    pub fn attempt<R: Wait>(&self, rt: &R, plan: &Plan) -> Result<Attempt, Fault>
+        requires steps { FitsSteps (S.arities self.now.steps) plan.now }
+        requires variables { FitsVariables self.now.vars plan.now }
+        requires names { FitsNames N.program.names plan.now }
+        ensures right { (m : StepMeanings) → S.is_stated self.now.steps m → IfOk result (IsRight m plan.now) }
+        ensures variables { IfOk result (IsForVariables (length N.opening.values)) }
+        ensures names { IfOk result (IsForNames N.program.names) }
+        ensures memory { IfErr result (λ fault. fault ≡ Fault.Memory) }
+    {
+        let mut cursor = Cursor::new(self.alloc, plan)?;
+        for _ in rt.forever() {
+            match cursor.resume(plan, &self.steps)? {
+                Outcome::Need(var) => {
+                    let value = self.peek(rt, var);
+                    cursor.give(var, value);
+                }
+                Outcome::Ended(attempt) => return Ok(attempt),
+            }
+        }
+        unreachable!()
+    }
+
+    /// Settles an attempt in one atomic step, after all that the pass knew. Refused as a core refuses it.
+    pub fn settle<R: Wait>(
+        &self,
+        rt: &R,
+        pass: &mut Pass<N>,
+        attempt: &Attempt,
+    ) -> Result<Settled, Fault>
+        requires variables { IsForVariables (length N.opening.values) attempt.now }
+        requires names { All (λ name. IsTrue (has_name N.program.names name)) attempt.now.effect.names }
+        ensures settled { Settles N.name.start N.opening N.program attempt.now pass.old result pass.new }
+    {
+        self.settle_seat(rt, &mut pass.seat, attempt)
+    }
+
+    // The same for the seat of a pass.
+    fn settle_seat<R: Wait>(
+        &self,
+        rt: &R,
+        seat: &mut Seat<N>,
+        attempt: &Attempt,
+    ) -> Result<Settled, Fault>
+        requires variables { IsForVariables (length N.opening.values) attempt.now }
+        requires names { All (λ name. IsTrue (has_name N.program.names name)) attempt.now.effect.names }
+        ensures settled { Settles N.name.start N.opening N.program attempt.now seat.old result seat.new }
+    {
+        let answer = self.core.lock(rt).settle(&self.spine, seat, attempt);
+        if let Ok(Settled::Committed { .. }) = answer {
+            self.committed.notify_all();
+        }
+        answer
+    }
+
+    /// One attempt at a plan of this front, which is settled. It is made in the memory of the pass, and not copied.
+    /// Refused as a core refuses it, and by `Memory`.
+    pub fn try_atomically<R: Wait>(
+        &self,
+        rt: &R,
+        pass: &mut Pass<N>,
+        plan: &Plan,
+    ) -> Result<Settled, Fault>
+        requires steps { FitsSteps (S.arities self.now.steps) plan.now }
+        requires variables { FitsVariables self.now.vars plan.now }
+        requires names { FitsNames N.program.names plan.now }
+        ensures settled { SettlesPlan N.name.start N.opening N.program plan.now pass.old result pass.new }
+    {
+        self.evaluate(rt, &mut pass.cursor, plan)?;
+        self.settle_seat(rt, &mut pass.seat, pass.cursor.attempt())
+    }
+
+    // Evaluates a plan in place, from its start to its end. Each value that it needs is peeked at, and the lock is held
+    // for that alone.
+    pub(crate) fn evaluate<R: Wait>(
+        &self,
+        rt: &R,
+        cursor: &mut Cursor,
+        plan: &Plan,
+    ) -> Result<(), Fault>
+        requires steps { FitsSteps (S.arities self.now.steps) plan.now }
+        requires variables { FitsVariables self.now.vars plan.now }
+        requires names { FitsNames N.program.names plan.now }
+        ensures ended { IfOk result (λ _. HasEnded cursor.new) }
+        ensures right { (m : StepMeanings) → S.is_stated self.now.steps m → IfOk result (λ _. IsRight m plan.now (attempt_of cursor.new)) }
+        ensures variables { IfOk result (λ _. IsForVariables (length N.opening.values) (attempt_of cursor.new)) }
+        ensures names { IfOk result (λ _. IsForNames N.program.names (attempt_of cursor.new)) }
+        ensures memory { IfErr result (λ fault. fault ≡ Fault.Memory) }
+    {
+        cursor.restart(plan)?;
+        for _ in rt.forever() {
+            match cursor.advance(plan, &self.steps)? {
+                Progress::Need(var) => {
+                    let value = self.peek(rt, var);
+                    cursor.give(var, value);
+                }
+                Progress::Ended => return Ok(()),
+            }
+        }
+        unreachable!()
+    }
+
+    /// How many transactions are durable, all of which the pass then saw. It takes no lock.
+    pub fn look(&self, pass: &mut Pass<N>) -> u64
+        ensures pass { pass.new ≡ record pass.old { seen = pass.new.seen; known = longer pass.old.known pass.new.seen } }
+        ensures answer { result ≡ count N.name.start pass.new.seen }
+        ensures later { IsPrefix pass.old.seen pass.new.seen }
+        ensures least { count N.name.start pass.old.seen ≤ result }
+        ensures begins { IsPrefix pass.old.known pass.new.known }
+    {
+        self.spine.look(&mut pass.seat)
+    }
+
+    /// How many are durable, by the journal itself: every crash of the journal in hand leaves a store whose history has
+    /// the pass's own effect at this number.
+    pub fn vouch<R: Wait>(&self, rt: &R, pass: &mut Pass<N>, number: u64) -> u64
+        requires { number < count N.name.start pass.old.seen }
+        ensures least { count N.name.start pass.old.seen ≤ result }
+        ensures most { result ≤ count N.name.start pass.new.known }
+        ensures begins { IsPrefix pass.old.known pass.new.known }
+        ensures same { (pass.new.mark ≡ pass.old.mark) × (pass.new.seen ≡ pass.old.seen) × (pass.new.own ≡ pass.old.own) }
+    {
+        self.journal
+            .lock(rt)
+            .vouch(&self.spine, &mut pass.seat, number)
+    }
+
+    /// Makes the oldest transactions that wait durable, as long as any other would still fit into a batch, and answers
+    /// how many are durable then. It writes nothing where none waits. Refused by `Closed` once the journal is closed,
+    /// and as a journal refuses a batch. No call of the device is made under the core's lock.
+    pub fn flush_once<R: Wait>(&self, rt: &R) -> Result<u64, Fault>
+        ensures least { IfOk result (λ number. N.name.start ≤ number) }
+        ensures refused { IfErr result IsFlushRefusal }
+    {
+        let mut journal = self.journal.lock(rt);
+        if journal.is_closed() {
+            return Err(Fault::Closed);
+        }
+        let is_waiting = self.aim(rt, &mut journal);
+        if !is_waiting {
+            return Ok(journal.count());
+        }
+        let flushed = journal.write(&self.spine);
+        self.tell(rt, &mut journal);
+        flushed
+    }
+
+    /// Writes the durable state as a whole, and frees every slot of the log. Refused as a journal refuses it.
+    pub fn checkpoint<R: Wait>(&self, rt: &R) -> Result<(), Fault>
+        ensures refused { IfErr result IsCheckpointRefusal }
+    {
+        let mut journal = self.journal.lock(rt);
+        let written = journal.checkpoint();
+        self.tell(rt, &mut journal);
+        written
+    }
+
+    // With the core's lock too, for as long as a batch is taken.
+    fn aim<R: Wait>(&self, rt: &R, journal: &mut JournalSeat<D, N>) -> bool
+        requires { is_closed_of (journal_of journal.old) ≡ false }
+        ensures same { (journal_of journal.new ≡ journal_of journal.old) × ((side_of journal.new).durable ≡ (side_of journal.old).durable) }
+        ensures goes_on { GoesOn N.name.start N.opening (side_of journal.old).durable (batch_of journal.new) (side_of journal.new).aimed }
+        ensures some { IsTrue result ↔ (1 ≤ length (batch_of journal.new)) }
+    {
+        let mut core = self.core.lock(rt);
+        journal.aim(&self.spine, &mut core)
+    }
+
+    // With the core's lock too, for a moment after a call of the device.
+    fn tell<R: Wait>(&self, rt: &R, journal: &mut JournalSeat<D, N>)
+        ensures { (journal_of journal.new ≡ journal_of journal.old) × (side_of journal.new ≡ side_of journal.old) }
+    {
+        let mut core = self.core.lock(rt);
+        journal.tell(&self.spine, &mut core);
+        let is_shut = core.is_shut();
+        drop(core);
+        self.flushed.notify_all();
+        if is_shut {
+            self.committed.notify_all();
+        }
+    }
+
+    /// Later attempts are refused as `Closed`, and the calls that wait go on.
+    pub fn shut<R: Wait>(&self, rt: &R) {
+        self.core.lock(rt).shut();
+        self.committed.notify_all();
+        self.flushed.notify_all();
+    }
+
+    /// The present value of a variable, also where the front is shut.
+    pub fn peek<R: Wait>(&self, rt: &R, var: u16) -> i64
+        requires { var < length N.opening.values }
+        ensures { WasValue N.program N.opening var result }
+    {
+        self.core.lock(rt).peek(var)
+    }
+
+    /// The plan of a transaction. Refused with `BadPlan` and the least cause for which it is outside the limits.
+    pub fn plan(&self, tx: Tx) -> Result<Plan, Fault>
+        ensures plan { IfOk result (λ plan. plan ≡ tx) }
+        ensures fine { IfOk result (λ _. BreaksNone (S.arities self.now.steps) self.now.vars N.program.names tx) }
+        ensures steps { IfOk result (FitsSteps (S.arities self.now.steps)) }
+        ensures variables { IfOk result (FitsVariables self.now.vars) }
+        ensures names { IfOk result (FitsNames N.program.names) }
+        ensures least { IfErr result (λ fault. (cause : Cause) × (fault ≡ Fault.BadPlan cause) × IsLeastBroken (S.arities self.now.steps) self.now.vars N.program.names tx cause) }
+    {
+        Plan::new(tx, &self.steps, self.vars, &self.names)
+    }
+}

@@ -1,0 +1,38 @@
+// What a caller of a front keeps.
+ghost use Rattle.std.specs.Prelude.{◌≡◌};
+ghost use Rattle.tmem_record.specs.Prefix.{IsPrefix};
+ghost use Rattle.tmem_spine.specs.History.{count};
+ghost use Rattle.tmem_spine.specs.Rule.{Owns};
+
+use std::marker::Model;
+use tmem_spine::Naming;
+use tmem_tentative::Cursor;
+
+/// A caller's seat, and the memory of its last attempt, which the next one takes again. Contracts see what the seat
+/// knows: its mark, what is accepted and what is durable as far as it knows, and its own effects. It may go to another
+/// thread, and is used with the front that gave it.
+#[derive(Drop)]
+pub struct Pass<N: Naming> {
+    pub(crate) seat: tmem_spine::Pass<N>,
+    pub(crate) cursor: Cursor,
+}
+
+impl<N: Naming> Model for Pass<N> {
+    ghost use Rattle.tmem_spine.specs.Views.{PassView};
+
+    ghost Value = { PassView };
+
+    ghost view = { λ p. p.seat };
+}
+
+impl<N: Naming> Pass<N> {
+    /// The greatest answer that a look of this pass gave, and the opening count before any. What a pass saw begins what
+    /// it knows, and its own effects stand there, at their numbers and under its mark.
+    pub fn seen(&self) -> u64
+        ensures seen { result ≡ count N.name.start self.now.seen }
+        ensures begins { IsPrefix self.now.seen self.now.known }
+        ensures owns { Owns N.name.start self.now.mark self.now.known self.now.own }
+    {
+        self.seat.seen()
+    }
+}

@@ -1,0 +1,183 @@
+// The calls that wait for other threads.
+ghost use Rattle.std.specs.Prelude.{◌≡◌, ◌≢◌, ◌<◌, false, [], Ok, Err, IfErr, OnOk, length, All, IsTrue};
+ghost use Rattle.tmem_record.specs.declared.effect.Effect.{Effect as EffectOf};
+ghost use Rattle.tmem_core.specs.SettleAnswer.{accepted_by};
+ghost use Rattle.tmem_record.specs.Prefix.{IsPrefix};
+ghost use Rattle.tmem_tree.specs.Plans.{FitsSteps, FitsVariables, FitsNames};
+ghost use Rattle.tmem_tentative.specs.Fits.{IsForVariables};
+ghost use Rattle.tmem_record.specs.Names.{has_name};
+ghost use Rattle.tmem_spine.specs.History.{count};
+ghost use Rattle.tmem_front.specs.Flushing.{IsFlusherRefusal};
+ghost use Rattle.tmem_front.specs.Settling.{Settles, SettlesAtLast};
+
+use crate::front::Front;
+use crate::naming::StoreNaming;
+use crate::pass::Pass;
+use std::sync::Wait;
+use tmem_core::Settled;
+use tmem_disk::{Disk, Fault};
+use tmem_invariants::Invariants;
+use tmem_spine::Pass as Seat;
+use tmem_tentative::Attempt;
+use tmem_tree::{Plan, StoredSteps};
+
+/// How a flusher goes on.
+pub trait Pace {
+    /// Whether there is to be another turn. It is asked at the start of each, and may take its time, so that callers gather.
+    fn next(&mut self) -> bool;
+}
+
+impl<D: Disk + Drop, N: StoreNaming, T: Invariants + Drop, S: StoredSteps + Drop> Front<
+    D,
+    N,
+    T,
+    S,
+> {
+    /// Attempts a plan of this front until it is settled: at once after a conflict, and after a retry once another transaction
+    /// has committed. Refused as a core refuses it, but for `Conflict`, and by `Memory`.
+    pub fn atomically<R: Wait>(
+        &self,
+        rt: &R,
+        pass: &mut Pass<N>,
+        plan: &Plan,
+    ) -> Result<Settled, Fault>
+        requires steps { FitsSteps (S.arities self.now.steps) plan.now }
+        requires variables { FitsVariables self.now.vars plan.now }
+        requires names { FitsNames N.program.names plan.now }
+        ensures settled { SettlesAtLast N.name.start N.opening N.program plan.now pass.old result pass.new }
+        ensures no_conflict { result ≢ Err Fault.Conflict }
+        ensures no_retry { result ≢ Ok Settled.Retry }
+    {
+        for _ in rt.forever() {
+            self.evaluate(rt, &mut pass.cursor, plan)?;
+            let answer = self.settle_or_wait(rt, &mut pass.seat, pass.cursor.attempt());
+            if is_last(&answer) {
+                return answer;
+            }
+        }
+        unreachable!()
+    }
+
+    // Settles an attempt. Where it retries, waits under the same lock until another transaction has committed, or the front is
+    // shut.
+    fn settle_or_wait<R: Wait>(
+        &self,
+        rt: &R,
+        seat: &mut Seat<N>,
+        attempt: &Attempt,
+    ) -> Result<Settled, Fault>
+        requires variables { IsForVariables (length N.opening.values) attempt.now }
+        requires names { All (λ name. IsTrue (has_name N.program.names name)) attempt.now.effect.names }
+        ensures settled { Settles N.name.start N.opening N.program attempt.now seat.old result seat.new }
+    {
+        let mut core = self.core.lock(rt);
+        let answer = core.settle(&self.spine, seat, attempt);
+        match answer {
+            Ok(Settled::Committed { .. }) => {
+                drop(core);
+                self.committed.notify_all();
+            }
+            Ok(Settled::Retry) => {
+                let settled_at = core.count();
+                for _ in rt.forever() {
+                    if settled_at < core.count() || core.is_shut() {
+                        break;
+                    }
+                    core = self.committed.wait(rt, core);
+                }
+            }
+            _ => {}
+        }
+        answer
+    }
+
+    /// Waits until more than `number` transactions are durable. The pass saw these then. Refused by `Closed` where the front was
+    /// shut and they are not.
+    pub fn await_durable<R: Wait>(
+        &self,
+        rt: &R,
+        pass: &mut Pass<N>,
+        number: u64,
+    ) -> Result<(), Fault>
+        ensures durable { OnOk result (number < count N.name.start pass.new.seen) }
+        ensures refused { IfErr result (λ fault. fault ≡ Fault.Closed) }
+        ensures pass { pass.new ≡ record pass.old { seen = pass.new.seen; known = pass.new.known } }
+        ensures later { IsPrefix pass.old.seen pass.new.seen × IsPrefix pass.old.known pass.new.known }
+    {
+        if number < self.look(pass) {
+            return Ok(());
+        }
+        self.wait_for_durable(rt, number);
+        let durable = self.look(pass);
+        if number < durable {
+            Ok(())
+        } else {
+            Err(Fault::Closed)
+        }
+    }
+
+    // Waits until more than so many are known durable, or the front is shut.
+    fn wait_for_durable<R: Wait>(&self, rt: &R, number: u64) {
+        let mut core = self.core.lock(rt);
+        for _ in rt.forever() {
+            if number < core.durable() || core.is_shut() {
+                return;
+            }
+            core = self.flushed.wait(rt, core);
+        }
+    }
+
+    /// Makes durable what is committed, batch by batch, until the pace ends it, or the front is shut and nothing waits. Where the
+    /// log is full it makes a checkpoint. Refused as a flush or a checkpoint is.
+    pub fn run_flusher<R: Wait, P: Pace>(&self, rt: &R, pace: &mut P) -> Result<(), Fault>
+        ensures refused { IfErr result IsFlusherRefusal }
+    {
+        for _ in rt.forever() {
+            if !pace.next() || !self.wait_for_commit(rt) {
+                return Ok(());
+            }
+            self.flush_with_room(rt)?;
+        }
+        unreachable!()
+    }
+
+    // Waits until a transaction waits to be durable, and answers whether one does: none where the front is shut.
+    fn wait_for_commit<R: Wait>(&self, rt: &R) -> bool {
+        let mut core = self.core.lock(rt);
+        for _ in rt.forever() {
+            if core.durable() < core.count() {
+                return true;
+            }
+            if core.is_shut() {
+                return false;
+            }
+            core = self.committed.wait(rt, core);
+        }
+        unreachable!()
+    }
+
+    // Flushes once, and where the log is full once more after a checkpoint.
+    fn flush_with_room<R: Wait>(&self, rt: &R) -> Result<u64, Fault>
+        ensures refused { IfErr result IsFlusherRefusal }
+    {
+        match self.flush_once(rt) {
+            Err(Fault::LogFull) => {
+                self.checkpoint(rt)?;
+                self.flush_once(rt)
+            }
+            flushed => flushed,
+        }
+    }
+}
+
+// Whether a plan is not attempted again after this answer. Where it is, nothing was accepted.
+fn is_last(answer: &Result<Settled, Fault>) -> bool
+    ensures last { IsTrue result → (answer.now ≢ Err Fault.Conflict) × (answer.now ≢ Ok Settled.Retry) }
+    ensures again { (effect : EffectOf) → result ≡ false → accepted_by answer.now effect ≡ [] }
+{
+    match answer {
+        Ok(Settled::Retry) => false,
+        Ok(_) => true,
+        Err(fault) => *fault != Fault::Conflict,
+    }
+}
