@@ -1,0 +1,99 @@
+//! A store that threads share, once its device has failed or it was shut.
+ghost use Rattle.std.specs.Prelude.{◌≡◌};
+ghost use Rattle.tmem_front.specs.Held.{found_of, spine_of};
+ghost use Rattle.tmem_front_tests.specs.Examples.{adding};
+
+use super::waits::{Turns, need_one};
+use super::{New, named, new, open_on, write};
+use std::marker::Brand;
+use std::sync::Wait;
+use std::test::Fail;
+use tmem_disk::{Fault, SimDisk};
+use tmem_front::StoreNaming;
+use tmem_journal::{Layout, format};
+use tmem_tree::Tx;
+
+/// What a flush is refused by whose second sync fails, and then by what another transaction is, another flush, a checkpoint,
+/// a wait for the first transaction, a flusher, and a transaction that would wait.
+type Refusals = [Option<Fault>; 7];
+
+fn fail_a_flush<N: StoreNaming, R: Wait>(
+    rt: &R,
+    opened: New,
+    tx: Tx,
+    needs: Tx,
+) -> Result<Refusals, Fault>
+    requires spine { spine_of opened ≡ N.name }
+    requires opening { found_of opened ≡ N.opening }
+    requires program { N.program ≡ adding }
+{
+    let front = named::<N>(opened);
+    let mut pass = front.pass(rt)?;
+    let plan = front.plan(tx)?;
+    let needs = front.plan(needs)?;
+    let _ = front.try_atomically(rt, &mut pass, &plan);
+    Ok([
+        front.flush_once(rt).err(),
+        front.try_atomically(rt, &mut pass, &plan).err(),
+        front.flush_once(rt).err(),
+        front.checkpoint(rt).err(),
+        front.await_durable(rt, &mut pass, 0).err(),
+        front.run_flusher(rt, &mut Turns { left: 1 }).err(),
+        front.atomically(rt, &mut pass, &needs).err(),
+    ])
+}
+
+#[test]
+fn a_failed_sync_shuts_the_front(rt: HostRuntime) -> Result<(), Fail> {
+    let mut disk = SimDisk::new(rt.alloc(), Layout::new(4, 4)?.end())?;
+    format(&mut disk, 4, 4)?;
+    // the first sync is the one of the opening
+    disk.fail_sync(2);
+    let (writes, needs) = (write(rt.alloc(), 0, 1)?, need_one(rt.alloc())?);
+    let refusals = fail_a_flush::<Brand, _>(&rt, open_on(rt.alloc(), disk)?, writes, needs);
+    let closed = Some(Fault::Closed);
+    assert_eq!(rt;
+        refusals,
+        Ok([
+            Some(Fault::Unknown),
+            closed,
+            closed,
+            closed,
+            closed,
+            closed,
+            closed
+        ])
+    );
+    Ok(())
+}
+
+/// Whether a transaction that is durable is awaited; and by what a wait for the next one is refused, once the front is shut.
+fn await_two<N: StoreNaming, R: Wait>(
+    rt: &R,
+    opened: New,
+    tx: Tx,
+) -> Result<(bool, Option<Fault>), Fault>
+    requires spine { spine_of opened ≡ N.name }
+    requires opening { found_of opened ≡ N.opening }
+    requires program { N.program ≡ adding }
+{
+    let front = named::<N>(opened);
+    let mut pass = front.pass(rt)?;
+    let plan = front.plan(tx)?;
+    let _ = front.try_atomically(rt, &mut pass, &plan);
+    front.run_flusher(rt, &mut Turns { left: 1 })?;
+    let _ = front.try_atomically(rt, &mut pass, &plan);
+    let is_durable = front.await_durable(rt, &mut pass, 0).is_ok();
+    front.shut(rt);
+    Ok((is_durable, front.await_durable(rt, &mut pass, 1).err()))
+}
+
+#[test]
+fn what_is_durable_is_awaited_and_no_more_once_the_front_is_shut(
+    rt: HostRuntime,
+) -> Result<(), Fail> {
+    let tx = write(rt.alloc(), 0, 1)?;
+    let answers = await_two::<Brand, _>(&rt, new(rt.alloc())?, tx);
+    assert_eq!(rt; answers, Ok((true, Some(Fault::Closed))));
+    Ok(())
+}

@@ -1,0 +1,255 @@
+//! The calls that wait for other threads.
+ghost use Rattle.std.specs.Prelude.{◌≡◌, ◌<◌, length};
+ghost use Rattle.tmem_front.specs.Held.{found_of, spine_of};
+ghost use Rattle.tmem_front_tests.specs.Examples.{adding};
+
+use super::hold_disk::{Hold, HoldDisk};
+use super::no_closures::{AddsAndNeeds, AlwaysTrue};
+use super::{New, named, new, new_on, number_of, write};
+use std::alloc::{AllocError, Global};
+use std::marker::Brand;
+use std::rt::Clock;
+use std::sync::Wait;
+use std::sync::atomic::Ordering;
+use std::test::Fail;
+use std::thread::{self, Threads, join};
+use std::time::Duration;
+use tmem_core::Settled;
+use tmem_disk::{Disk, Fault, SimDisk};
+use tmem_front::{Front, OpenedFront, Pace, StoreNaming};
+use tmem_invariants::Invariants;
+use tmem_journal::Layout;
+use tmem_tree::{StoredSteps, Tx};
+
+/// A pace of so many turns.
+#[derive(Drop)]
+pub(super) struct Turns {
+    pub(super) left: u64,
+}
+
+impl Pace for Turns {
+    fn next(&mut self) -> bool {
+        let is_one_left = self.left > 0;
+        self.left = self.left.saturating_sub(1);
+        is_one_left
+    }
+}
+
+/// How many of 200 transactions are durable after two turns of a flusher.
+fn flush_twice<N: StoreNaming, R: Wait>(rt: &R, opened: New, tx: Tx) -> Result<u64, Fault>
+    requires spine { spine_of opened ≡ N.name }
+    requires opening { found_of opened ≡ N.opening }
+    requires program { N.program ≡ adding }
+{
+    let front = named::<N>(opened);
+    let mut pass = front.pass(rt)?;
+    let plan = front.plan(tx)?;
+    for _ in 0..200u64 {
+        let _ = front.try_atomically(rt, &mut pass, &plan);
+    }
+    front.run_flusher(rt, &mut Turns { left: 2 })?;
+    Ok(front.look(&mut pass))
+}
+
+#[test]
+fn a_flusher_ends_with_its_pace(rt: HostRuntime) -> Result<(), Fail> {
+    let tx = write(rt.alloc(), 0, 1)?;
+    assert_eq!(rt; flush_twice::<Brand, _>(&rt, new(rt.alloc())?, tx), Ok(128));
+    Ok(())
+}
+
+/// Reads variable 2 into register 0, and retries until it is at least 1. Register 2 has it then.
+pub(super) fn need_one(alloc: Global) -> Result<Tx, AllocError> {
+    let args = vec![in alloc; 0, 1]?;
+    let step = Tx::Step {
+        index: 1,
+        args,
+        out: 2,
+    };
+    Ok(Tx::Seq(vec![in alloc;
+        Tx::Read { var: 2, reg: 0 },
+        Tx::Put { reg: 1, number: 1 },
+        step,
+    ]?))
+}
+
+/// What a transaction that changes nothing saw: at which number, and its registers.
+type Saw = (u64, [i64; 16]);
+
+fn seen_by(answer: Result<Settled, Fault>) -> Option<Saw> {
+    match answer {
+        Ok(Settled::Seen { at, registers }) => Some((at, registers)),
+        _ => None,
+    }
+}
+
+/// What a transaction sees that waits until another one commits, and the number of that.
+type Waits = (Option<Saw>, Option<u64>);
+
+/// What two threads do with a store that they share. The function that starts them knows no more of the store.
+trait Needing {
+    /// What a transaction sees that needs variable 2 to be 1.
+    fn need<R: Wait>(&self, rt: &R, alloc: Global) -> Result<Option<Saw>, Fault>;
+
+    /// The number of a transaction that writes 1 there. The other one has retried by then, or it finds what is written.
+    fn write_later<R: Clock + Wait>(&self, rt: &R, alloc: Global) -> Result<Option<u64>, Fault>;
+}
+
+impl<D: Disk + Drop, N: StoreNaming, T: Invariants + Drop, S: StoredSteps + Drop> Needing
+    for Front<D, N, T, S> {
+    fn need<R: Wait>(&self, rt: &R, alloc: Global) -> Result<Option<Saw>, Fault> {
+        let mut pass = self.pass(rt)?;
+        let plan = self.plan(need_one(alloc)?)?;
+        Ok(seen_by(self.atomically(rt, &mut pass, &plan)))
+    }
+
+    fn write_later<R: Clock + Wait>(&self, rt: &R, alloc: Global) -> Result<Option<u64>, Fault> {
+        let mut pass = self.pass(rt)?;
+        let plan = self.plan(write(alloc, 2, 1)?)?;
+        thread::sleep(rt, Duration::from_millis(50));
+        Ok(number_of(self.try_atomically(rt, &mut pass, &plan)))
+    }
+}
+
+fn need_and_write<F: Needing + Sync, R: Clock + Threads + Wait + Sync>(
+    rt: &R,
+    alloc: Global,
+    store: &F,
+) -> Result<Waits, Fault> {
+    let (saw, wrote) = join(
+        rt,
+        || store.need(rt, alloc),
+        || store.write_later(rt, alloc),
+    );
+    Ok((saw?, wrote?))
+}
+
+fn wait_for_another<
+    D: Disk + Drop + Send,
+    N: StoreNaming + Send + Sync,
+    T: Invariants + Drop + Send,
+    S: StoredSteps + Drop + Send + Sync,
+    R: Clock + Threads + Wait + Sync,
+>(rt: &R, alloc: Global, front: &Front<D, N, T, S>) -> Result<Waits, Fault> {
+    need_and_write(rt, alloc, front)
+}
+
+fn wait_in_a_store<N: StoreNaming + Send + Sync, R: Clock + Threads + Wait + Sync>(
+    rt: &R,
+    alloc: Global,
+    opened: New,
+) -> Result<Waits, Fault>
+    requires spine { spine_of opened ≡ N.name }
+    requires opening { found_of opened ≡ N.opening }
+    requires program { N.program ≡ adding }
+{
+    wait_for_another(rt, alloc, &named::<N>(opened))
+}
+
+#[test]
+fn a_transaction_that_retries_waits_for_another(rt: HostRuntime) -> Result<(), Fail> {
+    let answers = wait_in_a_store::<Brand, _>(&rt, rt.alloc(), new(rt.alloc())?);
+    let registers = [1, 1, 1, 0, 0, 0, 0, 0, 0, 0, 0, 0, 0, 0, 0, 0];
+    assert_eq!(rt; answers, Ok((Some((1, registers)), Some(0))));
+    Ok(())
+}
+
+/// A store on a device whose syncs can be held.
+type Held<'a, R> = OpenedFront<HoldDisk<'a, SimDisk, R>, AlwaysTrue, AddsAndNeeds>;
+
+/// What a flush answers that was held in its sync, the number that was committed meanwhile, and what a look answered then.
+type Meanwhile = (u64, Option<u64>, u64);
+
+/// What two threads do with a store while a sync of its device is held.
+trait Holding {
+    fn flush<R: Wait>(&self, rt: &R) -> Result<u64, Fault>;
+
+    /// The number that is committed, and what a look answers then.
+    fn settle_meanwhile<R: Clock + Wait>(
+        &self,
+        rt: &R,
+        alloc: Global,
+        hold: &Hold,
+    ) -> Result<(Option<u64>, u64), Fault>;
+}
+
+impl<D: Disk + Drop, N: StoreNaming, T: Invariants + Drop, S: StoredSteps + Drop> Holding
+    for Front<D, N, T, S> {
+    fn flush<R: Wait>(&self, rt: &R) -> Result<u64, Fault> {
+        self.flush_once(rt)
+    }
+
+    fn settle_meanwhile<R: Clock + Wait>(
+        &self,
+        rt: &R,
+        alloc: Global,
+        hold: &Hold,
+    ) -> Result<(Option<u64>, u64), Fault> {
+        hold.wait(rt);
+        let mut pass = self.pass(rt)?;
+        let plan = self.plan(write(alloc, 0, 2)?)?;
+        let number = number_of(self.try_atomically(rt, &mut pass, &plan));
+        hold.settled.store(true, Ordering::SeqCst);
+        let looked = self.look(&mut pass);
+        hold.looked.store(true, Ordering::SeqCst);
+        Ok((number, looked))
+    }
+}
+
+fn flush_and_settle<F: Holding + Sync, R: Clock + Threads + Wait + Sync>(
+    rt: &R,
+    alloc: Global,
+    hold: &Hold,
+    store: &F,
+) -> Result<Meanwhile, Fault> {
+    let (flushed, meanwhile) = join(
+        rt,
+        || store.flush(rt),
+        || store.settle_meanwhile(rt, alloc, hold),
+    );
+    let (number, looked) = meanwhile?;
+    Ok((flushed?, number, looked))
+}
+
+fn settle_and_look<
+    D: Disk + Drop + Send,
+    N: StoreNaming + Send + Sync,
+    T: Invariants + Drop + Send,
+    S: StoredSteps + Drop + Send + Sync,
+    R: Clock + Threads + Wait + Sync,
+>(rt: &R, alloc: Global, hold: &Hold, front: &Front<D, N, T, S>) -> Result<Meanwhile, Fault> {
+    let mut pass = front.pass(rt)?;
+    let plan = front.plan(write(alloc, 0, 1)?)?;
+    let _ = front.try_atomically(rt, &mut pass, &plan);
+    hold.is_on.store(true, Ordering::SeqCst);
+    flush_and_settle(rt, alloc, hold, front)
+}
+
+fn settle_in_a_store<N: StoreNaming + Send + Sync, R: Clock + Threads + Wait + Sync>(
+    rt: &R,
+    alloc: Global,
+    hold: &Hold,
+    opened: Held<R>,
+) -> Result<Meanwhile, Fault>
+    requires spine { spine_of opened ≡ N.name }
+    requires opening { found_of opened ≡ N.opening }
+    requires program { N.program ≡ adding }
+{
+    settle_and_look(rt, alloc, hold, &opened.named::<N>())
+}
+
+#[test]
+fn settle_while_sync_held(rt: HostRuntime) -> Result<(), Fail> {
+    let hold = Hold::new();
+    let inner = SimDisk::new(rt.alloc(), Layout::new(4, 4)?.end())?;
+    let disk = HoldDisk {
+        inner,
+        rt: &rt,
+        hold: &hold,
+    };
+    let opened = new_on(rt.alloc(), disk)?;
+    let answers = settle_in_a_store::<Brand, _>(&rt, rt.alloc(), &hold, opened);
+    assert_eq!(rt; answers, Ok((1, Some(1), 0)));
+    assert!(rt; !hold.gave_up.load(Ordering::SeqCst));
+    Ok(())
+}
