@@ -6,10 +6,12 @@
 #![tactic(auto)]
 
 mod core_state;
+mod decision;
 mod history;
 mod trial;
 mod waiting;
 
 pub use core_state::Core;
+pub use decision::Decision;
 pub use tmem_tree::Settled;
 pub use waiting::MAX_WAITING;
