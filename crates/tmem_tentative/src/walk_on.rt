@@ -12,7 +12,7 @@ ghost use Rattle.tmem_tentative.specs.declared.save.Save.{Save};
 ghost use Rattle.tmem_tentative.specs.Logs.{run_state_of, flow_of};
 ghost use Rattle.tmem_tentative.specs.Places.{WritesFit, NamesFit, LeavesRoom, IsPathBehind, LeadsTo, place_of, with_child, Enters, EntersChoice, IsLeaf, read_seen};
 
-use crate::attempt::Attempt;
+use crate::attempt::{Attempt, Reads};
 use crate::flow::Flow;
 use crate::path::Path;
 use crate::save::Save;
@@ -230,11 +230,23 @@ fn read(log: &mut Attempt, var: u16, reg: u8) -> Flow
         log.registers[reg as usize] = number;
         return Flow::Normal;
     }
-    match log.reads.get(&var).copied() {
+    match value_read(&log.reads, var) {
         Some(number) => {
             log.registers[reg as usize] = number;
             Flow::Normal
         }
         None => Flow::Need(var),
     }
+}
+
+// The value that was given of a variable. Most often that is the last one that was given, or none was given at all: then
+// nothing is looked up in the map.
+fn value_read(reads: &Reads, var: u16) -> Option<i64>
+    ensures { result ≡ look reads.now.entries var }
+{
+    let (last, value) = reads.last()?;
+    if *last == var {
+        return Some(*value);
+    }
+    reads.get(&var).copied()
 }
