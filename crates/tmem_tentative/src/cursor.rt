@@ -92,7 +92,7 @@ impl Cursor {
         ensures fault { IfErr result (λ fault. fault ≡ Fault.Memory) }
     {
         make_room(&mut self.saves, plan)?;
-        self.attempt.reads.clear();
+        self.attempt.reads.truncate(0);
         self.attempt.registers = [0; REGISTERS];
         self.attempt.effect.clear();
         self.path.clear();
