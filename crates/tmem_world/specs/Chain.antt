@@ -148,8 +148,9 @@ gone_on s es rs = record { found = s.found; events = s.events ++ es; replies = s
 abbrev pub GrowsChain : Setting → WorldModel → History → List Event → List Reply → WorldModel → History → Type 0
 GrowsChain set m h es rs m' h' = (earlier : List SessionRun) (s : SessionRun) → IsChainAt set earlier s h m → IsChainAt set earlier (gone_on s es rs) h' m'
 
--- Opening found the state after a prefix of the history that has every acknowledged transaction, and a run begins there, the
--- next session of any chain that led to the history; or memory or the device failed, and the device is still a store with it.
+-- Opening found the state after a prefix of the history that is safe to find: the durable transactions, or those that may be
+-- durable in their place, with every acknowledged one, and the state is sound. A run begins there, the next session of any chain
+-- that led to the history. Or memory or the device failed, and the device is still a store with the history.
 abbrev pub FindsPrefix : {D T S : Type 0} {d t s : _} → Program → ℕ → ℕ → History → ℕ → Result (World D T S d t s) (Fault × D) → Type 0
 FindsPrefix program vars slots h failures (Ok w) =
     (n : ℕ) × (position : Position) × IsSafePrefix program vars h n × Carries program w (history_found n h) (opening (state_at program vars h n) position failures)

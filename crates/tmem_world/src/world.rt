@@ -96,7 +96,8 @@ impl<D: Disk + Drop, T: Invariants + Drop, S: StoredSteps + Drop> World<D, T, S>
         ensures looks { LooksWhereClosed vars slots (D.view disk) (device_after result) }
 
         // A store is opened with its history: what is found is the state after a prefix of it that has every acknowledged
-        // transaction, unless memory or the device fails. A crash at any moment leaves what is safe for the same history.
+        // transaction, and that state is sound, unless memory or the device fails. The world begins the next session of the
+        // history's chain there. A crash at any moment leaves what is safe for the same history.
         ensures chain { (program : Program) (h : History) → S.is_stated steps program.steps → program.names ≡ T.names table → T.is_stated table program.tests
             → IsStore program vars slots h (D.view disk) → (device_after result).keeps_model → OpensStore program vars slots h (D.view disk) result }
 
