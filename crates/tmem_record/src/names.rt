@@ -70,7 +70,10 @@ impl Names {
         ensures { self.new ≡ other.now }
     {
         let items = other.as_slice();
-        self.items[..items.len()].copy_from_slice(items);
+        // most effects have none
+        if !items.is_empty() {
+            self.items[..items.len()].copy_from_slice(items);
+        }
         self.len = items.len();
     }
 
