@@ -92,7 +92,7 @@ impl Cursor {
         ensures fault { IfErr result (λ fault. fault ≡ Fault.Memory) }
     {
         make_room(&mut self.saves, plan)?;
-        self.attempt.reads.clear();
+        self.attempt.reads.truncate(0);
         self.attempt.registers = [0; REGISTERS];
         self.attempt.effect.clear();
         self.path.clear();
@@ -103,6 +103,7 @@ impl Cursor {
     /// Goes on as far as the values allow that it was given. It answers the variable whose value it needs next, and has made
     /// room for that value then; or that it has ended. Asked once more, it answers the same. Its only fault is want of memory,
     /// and it stays as it was then.
+    #[inline(always)]
     pub fn advance<S: StoredSteps>(&mut self, plan: &Plan, steps: &S) -> Result<Progress, Fault>
         requires steps { FitsSteps (S.arities steps.now) plan.now }
         requires at { (m : StepMeanings) → S.is_stated steps.now m → IsAt m plan.now self.old }
@@ -148,6 +149,7 @@ impl Cursor {
     }
 
     /// Takes the value that it needs. It takes no memory, since the room was made.
+    #[inline(always)]
     pub fn give(&mut self, var: u16, value: i64)
         requires { NeedsValue self.old var }
         ensures at { (m : StepMeanings) (plan : Tx) → IsAt m plan self.old → IsAt m plan self.new }

@@ -1,6 +1,6 @@
 // A run that goes on from a place inside its tree.
 
-ghost use Rattle.std.specs.Prelude.{◌≡◌, ℕ, ◌+◌, ◌<◌, ◌≤◌, List, [], length, true, false, IsTrue, if◌then◌else◌};
+ghost use Rattle.std.specs.Prelude.{◌≡◌, ◌↔◌, ℕ, ◌+◌, ◌<◌, ◌≤◌, List, [], length, true, false, IsTrue, if◌then◌else◌};
 ghost use Rattle.std.specs.List.{list_any};
 ghost use Rattle.tmem_tree.specs.StepAnswers.{StepMeanings};
 ghost use Rattle.tmem_record.specs.Writes.{look};
@@ -12,7 +12,7 @@ ghost use Rattle.tmem_tentative.specs.declared.save.Save.{Save};
 ghost use Rattle.tmem_tentative.specs.Logs.{run_state_of, flow_of};
 ghost use Rattle.tmem_tentative.specs.Places.{WritesFit, NamesFit, LeavesRoom, IsPathBehind, LeadsTo, place_of, with_child, Enters, EntersChoice, IsLeaf, read_seen};
 
-use crate::attempt::Attempt;
+use crate::attempt::{Attempt, Reads};
 use crate::flow::Flow;
 use crate::path::Path;
 use crate::save::Save;
@@ -21,6 +21,7 @@ use tmem_tree::{StoredSteps, Tx};
 
 /// Goes on with a run from its place in the tree, as far as its reads allow. Where they lack a value, the path leads to the
 /// Read that wants it, and else there is none. It takes no memory: each choice that is entered takes one of the saves.
+#[cycle(walk_on)]
 pub(crate) fn walk_on<S: StoredSteps>(
     tx: &Tx,
     steps: &S,
@@ -44,7 +45,7 @@ pub(crate) fn walk_on<S: StoredSteps>(
         Tx::Seq(txs) => {
             let from = enter(path, 0);
             for (i, t) in txs[from..].iter().enumerate() {
-                let flow = walk_on(t, steps, log, path, saves);
+                let flow = walk_part(t, steps, log, path, saves);
                 if flow != Flow::Normal {
                     note(path, flow, from + i);
                     return flow;
@@ -81,6 +82,42 @@ pub(crate) fn walk_on<S: StoredSteps>(
         }
         _ => act(tx, steps, log),
     }
+}
+
+// Goes on with a part of a run, as `walk_on` does. Most parts are leaves: they are run in the frame of the sequence.
+#[cycle(walk_on)]
+#[inline(always)]
+fn walk_part<S: StoredSteps>(
+    tx: &Tx,
+    steps: &S,
+    log: &mut Attempt,
+    path: &mut Path,
+    saves: &mut [Save],
+) -> Flow
+    requires registers { count has_bad_register tx.now ≡ 0 }
+    requires steps { FitsSteps (S.arities steps.now) tx.now }
+    requires deep { depth tx.now ≤ 32 }
+    requires choices { choices tx.now ≤ length saves.old }
+    requires room { (rest : ℕ) × WritesFit rest path.old tx.now saves.old log.old.effect }
+    requires names { (rest : ℕ) × NamesFit rest path.old tx.now saves.old log.old.effect }
+    ensures reads { log.new.reads ≡ log.old.reads }
+    ensures path { IsPathBehind result (depth tx.now) path.new }
+    ensures room { (rest : ℕ) → WritesFit rest path.old tx.now saves.old log.old.effect → LeavesRoom is_write 64 (λ e. length e.writes) rest result path.new tx.now saves.new log.new.effect }
+    ensures names { (rest : ℕ) → NamesFit rest path.old tx.now saves.old log.old.effect → LeavesRoom is_check 8 (λ e. length e.names) rest result path.new tx.now saves.new log.new.effect }
+    ensures leads { (m : StepMeanings) → S.is_stated steps.now m → LeadsTo m log.old.reads.entries tx.now (place_of log.old path.old saves.old) result (place_of log.new path.new saves.new) }
+{
+    if is_leaf(tx) {
+        act(tx, steps, log)
+    } else {
+        walk_on(tx, steps, log, path, saves)
+    }
+}
+
+// Whether a transaction has no parts.
+fn is_leaf(tx: &Tx) -> bool
+    ensures { IsTrue result ↔ IsLeaf tx.now }
+{
+    !matches!(tx, Tx::Seq(_) | Tx::When { .. } | Tx::OrElse(..))
 }
 
 // The child that is entered: the first of the path, or at the start of the tree this one.
@@ -146,6 +183,7 @@ fn go_back(log: &mut Attempt, save: &Save)
 }
 
 // Runs a leaf of the tree.
+#[inline(always)]
 fn act<S: StoredSteps>(tx: &Tx, steps: &S, log: &mut Attempt) -> Flow
     requires leaf { IsLeaf tx.now }
     requires registers { count has_bad_register tx.now ≡ 0 }
@@ -192,11 +230,23 @@ fn read(log: &mut Attempt, var: u16, reg: u8) -> Flow
         log.registers[reg as usize] = number;
         return Flow::Normal;
     }
-    match log.reads.get(&var).copied() {
+    match value_read(&log.reads, var) {
         Some(number) => {
             log.registers[reg as usize] = number;
             Flow::Normal
         }
         None => Flow::Need(var),
     }
+}
+
+// The value that was given of a variable. Most often that is the last one that was given, or none was given at all: then
+// nothing is looked up in the map.
+fn value_read(reads: &Reads, var: u16) -> Option<i64>
+    ensures { result ≡ look reads.now.entries var }
+{
+    let (last, value) = reads.get_index(reads.len().saturating_sub(1))?;
+    if *last == var {
+        return Some(*value);
+    }
+    reads.get(&var).copied()
 }

@@ -9,8 +9,8 @@ use Rattle.tmem_tentative.proofs.PlaceRoom.{RoomIn}
 use Rattle.tmem_tentative.proofs.PlaceSeq.{eval_in_on}
 use Rattle.tmem_tentative.proofs.walk_on.+walk_on.Given as goal
 
-abbrev pub invariant-loop-i : goal.invariant-loop-i
-invariant-loop-i g l =
+abbrev pub invariant-walk_on-loop-i : goal.invariant-walk_on-loop-i
+invariant-walk_on-loop-i g l =
     let arities = g.S.StoredSteps.arities l.steps in
     let rest = drop l.i l.t-items in
     record {

@@ -9,7 +9,7 @@ use Rattle.tmem_tentative.proofs.cursor.Cursor.restart.Goals as goal
 
 pub returns-clause-at : goal.returns-clause-at
 returns-clause-at c = λ m.
-    start_stands m c.args.plan.now _ _ c.clear-3.ensures refl c.clear-2.ensures c.clear.ensures.empty c.in_ok-make_room.ensures.enough c.make_room.ensures.limits
+    start_stands m c.args.plan.now _ _ c.clear-2.ensures refl c.clear.ensures c.truncate.ensures.entries c.in_ok-make_room.ensures.enough c.make_room.ensures.limits
 
 -- what holds whatever the answer is
 on_err : {T E : Type 0} (r : Result T E) (P : Type 0) → P → IfErr r (λ _. P)
