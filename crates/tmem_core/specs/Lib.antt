@@ -1,3 +1,4 @@
+pub mod Decisions
 pub mod History
 pub mod Held
 pub mod Opening

@@ -1,5 +1,5 @@
 // The core.
-ghost use Rattle.std.specs.Prelude.{◌≡◌, ◌≢◌, ◌≤◌, ◌<◌, ◌↔◌, ◌+◌, ◌-◌, true, false, [], ◌++◌, length, drop, slice_get, Some, All, IsTrue, IfOk, IfErr};
+ghost use Rattle.std.specs.Prelude.{List, ℤ, ◌≡◌, ◌≢◌, ◌≤◌, ◌<◌, ◌↔◌, ◌+◌, ◌-◌, true, false, [], ◌++◌, length, drop, slice_get, Some, All, IsTrue, IfOk, IfErr};
 ghost use Rattle.std.specs.Map.{keys_of};
 ghost use Rattle.std.proofs.Props.{props};
 ghost use Rattle.tmem_record.specs.Names.{has_name, with_names, AreRegistered, AreRegistered-prop};
@@ -15,6 +15,7 @@ ghost use Rattle.tmem_record.specs.Loggable.{IsLoggable, IsLoggable-prop};
 ghost use Rattle.tmem_core.specs.History.{IsFolded, effects_of};
 ghost use Rattle.tmem_core.specs.Taking.{IsTaken, HasRoom};
 
+use crate::decision::Decision;
 use crate::history::History;
 use crate::trial::first_false;
 use crate::waiting::{MAX_WAITING, Waiting};
@@ -24,7 +25,7 @@ use tmem_disk::{Fault, Name};
 use tmem_invariants::{Invariants, places_of};
 use tmem_record::{BATCH_BYTES, Batch, Effect, MAX_RECORD_BYTES, MAX_RECORDS, MAX_WRITES, State};
 use tmem_tentative::{Attempt, Ending, Reads};
-use tmem_tree::{REGISTERS, Settled};
+use tmem_tree::Settled;
 
 /// The present state, and the effects that are accepted and not known durable. Contracts speak of its parts by the words
 /// of `specs/Held`.
@@ -79,6 +80,7 @@ impl<T: Invariants + Drop> Core<T> {
     ghost use Rattle.tmem_core.specs.Program.{Program};
     ghost use Rattle.tmem_core.specs.Verdict.{verdict};
     ghost use Rattle.tmem_core.specs.SettleAnswer.{settle_answer, normal_answer, sound_answer, accepted_by, judged, IsRefusal, IsAdded};
+    ghost use Rattle.tmem_core.specs.Decisions.{answer_of, taken_by};
 
     /// A core of this state, all of it durable, with room for all that may wait: no other call takes memory. Refused with
     /// `Missing` and the first registered name, by bytes, that the table lacks; else with `Broken` and the first one in
@@ -203,6 +205,30 @@ impl<T: Invariants + Drop> Core<T> {
         ensures added { (p : Program) (tx : Tx) → p.names ≡ T.names (table_of self.old) → T.is_stated (table_of self.old) p.tests → IsRight p.steps tx attempt.now
             → IsAdded p tx (state_of self.old) attempt.now result }
     {
+        let decision = self.decide(attempt)?;
+        Ok(decision.settled(&attempt.registers))
+    }
+
+    /// Settles an attempt as `settle` does, and is refused as it is. The answer leaves out the registers: they are those of the
+    /// attempt, and are not copied.
+    pub fn decide(&mut self, attempt: &Attempt) -> Result<Decision, Fault>
+        requires variables { IsForVariables (length (state_of self.old).values) attempt.now }
+        requires names { All (λ name. IsTrue (has_name (T.names (table_of self.old)) name)) attempt.now.effect.names }
+        ensures answer { (p : Program) → p.names ≡ T.names (table_of self.old) → T.is_stated (table_of self.old) p.tests
+            → answer_of result attempt.now.registers ≡ settle_answer p (is_shut_of self.old) (state_of self.old) (durable_of self.old) attempt.now }
+        ensures refused { IfErr result IsRefusal }
+        ensures state { state_of self.new ≡ fold (state_of self.old) (taken_by result attempt.now.effect) }
+        ensures history { (opened_of self.new ≡ opened_of self.old) × (history_of self.new ≡ history_of self.old ++ taken_by result attempt.now.effect) }
+        ensures waiting { waiting_of self.new ≡ waiting_of self.old ++ taken_by result attempt.now.effect }
+        ensures durable { durable_of self.new ≡ durable_of self.old }
+        ensures shut { is_shut_of self.new ≡ is_shut_of self.old }
+        ensures table { table_of self.new ≡ table_of self.old }
+        ensures vars { length (state_of self.new).values ≡ length (state_of self.old).values }
+        ensures verdict { (p : Program) (tx : Tx) → p.names ≡ T.names (table_of self.old) → T.is_stated (table_of self.old) p.tests → IsRight p.steps tx attempt.now
+            → answer_of result attempt.now.registers ≡ judged (is_shut_of self.old) (state_of self.old) (durable_of self.old) attempt.now.reads.entries (verdict p tx (state_of self.old)) }
+        ensures added { (p : Program) (tx : Tx) → p.names ≡ T.names (table_of self.old) → T.is_stated (table_of self.old) p.tests → IsRight p.steps tx attempt.now
+            → IsAdded p tx (state_of self.old) attempt.now (answer_of result attempt.now.registers) }
+    {
         if self.is_shut {
             return Err(Fault::Closed);
         }
@@ -210,26 +236,22 @@ impl<T: Invariants + Drop> Core<T> {
             return Err(Fault::Conflict);
         }
         match attempt.ending {
-            Ending::Normal => self.settle_normal(&attempt.effect, &attempt.registers),
-            Ending::Retry => Ok(Settled::Retry),
-            Ending::Abort(code) => Ok(Settled::Aborted(code)),
+            Ending::Normal => self.settle_normal(&attempt.effect),
+            Ending::Retry => Ok(Decision::Retry),
+            Ending::Abort(code) => Ok(Decision::Aborted(code)),
         }
     }
 
     // Settles an attempt that ended normally on the present values.
-    fn settle_normal(
-        &mut self,
-        effect: &Effect,
-        registers: &[i64; REGISTERS],
-    ) -> Result<Settled, Fault>
+    fn settle_normal(&mut self, effect: &Effect) -> Result<Decision, Fault>
         requires variables { All (λ var. var < length (state_of self.old).values) (keys_of effect.now.writes) }
         requires names { All (λ name. IsTrue (has_name (T.names (table_of self.old)) name)) effect.now.names }
         ensures answer { (p : Program) → p.names ≡ T.names (table_of self.old) → T.is_stated (table_of self.old) p.tests
-            → result ≡ normal_answer p (state_of self.old) (durable_of self.old) effect.now registers.now }
+            → (registers : List ℤ) → answer_of result registers ≡ normal_answer p (state_of self.old) (durable_of self.old) effect.now registers }
         ensures refused { IfErr result IsRefusal }
-        ensures state { state_of self.new ≡ fold (state_of self.old) (accepted_by result effect.now) }
-        ensures history { (opened_of self.new ≡ opened_of self.old) × (history_of self.new ≡ history_of self.old ++ accepted_by result effect.now) }
-        ensures waiting { waiting_of self.new ≡ waiting_of self.old ++ accepted_by result effect.now }
+        ensures state { state_of self.new ≡ fold (state_of self.old) (taken_by result effect.now) }
+        ensures history { (opened_of self.new ≡ opened_of self.old) × (history_of self.new ≡ history_of self.old ++ taken_by result effect.now) }
+        ensures waiting { waiting_of self.new ≡ waiting_of self.old ++ taken_by result effect.now }
         ensures durable { durable_of self.new ≡ durable_of self.old }
         ensures shut { is_shut_of self.new ≡ is_shut_of self.old }
         ensures table { table_of self.new ≡ table_of self.old }
@@ -237,8 +259,8 @@ impl<T: Invariants + Drop> Core<T> {
     {
         let proposed = places_of(&self.table, effect.names.as_slice());
         match self.first_broken(effect, proposed) {
-            Some(name) => Ok(Settled::Refused(name)),
-            None => self.accept(effect, proposed, registers),
+            Some(name) => Ok(Decision::Refused(name)),
+            None => self.accept(effect, proposed),
         }
     }
 
@@ -264,22 +286,17 @@ impl<T: Invariants + Drop> Core<T> {
     }
 
     // Settles an effect of which every invariant stays true, and whose names have these places.
-    fn accept(
-        &mut self,
-        effect: &Effect,
-        proposed: u64,
-        registers: &[i64; REGISTERS],
-    ) -> Result<Settled, Fault>
+    fn accept(&mut self, effect: &Effect, proposed: u64) -> Result<Decision, Fault>
         requires variables { All (λ var. var < length (state_of self.old).values) (keys_of effect.now.writes) }
         requires proposed { ArePlacesOf effect.now.names (T.names (table_of self.old)) proposed }
         requires room { length (with_names (state_of self.old).names effect.now.names) ≤ MAX_NAMES }
         requires known { All (λ name. IsTrue (has_name (T.names (table_of self.old)) name)) (apply (state_of self.old) effect.now).names }
         requires sound { (m : Meanings) → T.is_stated (table_of self.old) m → AllHold m (apply (state_of self.old) effect.now).names (apply (state_of self.old) effect.now).values }
-        ensures answer { result ≡ sound_answer (state_of self.old) (durable_of self.old) effect.now registers.now }
+        ensures answer { (registers : List ℤ) → answer_of result registers ≡ sound_answer (state_of self.old) (durable_of self.old) effect.now registers }
         ensures refused { IfErr result IsRefusal }
-        ensures state { state_of self.new ≡ fold (state_of self.old) (accepted_by result effect.now) }
-        ensures history { (opened_of self.new ≡ opened_of self.old) × (history_of self.new ≡ history_of self.old ++ accepted_by result effect.now) }
-        ensures waiting { waiting_of self.new ≡ waiting_of self.old ++ accepted_by result effect.now }
+        ensures state { state_of self.new ≡ fold (state_of self.old) (taken_by result effect.now) }
+        ensures history { (opened_of self.new ≡ opened_of self.old) × (history_of self.new ≡ history_of self.old ++ taken_by result effect.now) }
+        ensures waiting { waiting_of self.new ≡ waiting_of self.old ++ taken_by result effect.now }
         ensures durable { durable_of self.new ≡ durable_of self.old }
         ensures shut { is_shut_of self.new ≡ is_shut_of self.old }
         ensures table { table_of self.new ≡ table_of self.old }
@@ -287,10 +304,7 @@ impl<T: Invariants + Drop> Core<T> {
     {
         let number = self.state.count();
         if effect.is_empty() {
-            return Ok(Settled::Seen {
-                at: number,
-                registers: *registers,
-            });
+            return Ok(Decision::Seen(number));
         }
         if number - self.durable == MAX_WAITING as u64 {
             return Err(Fault::Full);
@@ -302,10 +316,7 @@ impl<T: Invariants + Drop> Core<T> {
         self.places |= proposed;
         self.waiting.push(effect);
         self.history = History::with(&self.history, effect);
-        Ok(Settled::Committed {
-            number,
-            registers: *registers,
-        })
+        Ok(Decision::Committed(number))
     }
 
     /// Empties the batch and puts in what waits from this number on: each next record as long as the batch has fewer than 64

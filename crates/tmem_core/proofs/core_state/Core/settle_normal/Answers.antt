@@ -24,16 +24,16 @@ accept-requires-clause-sound g c = λ m stated.
     rw c.first_broken.ensures.state (AllHold-with_names m (g.T.Invariants.names core.table) core.state.names e.names (apply core.state e).values core.known c.requires.names none)
 
 pub returns-in-Some-clause-answer : goal.returns-in-Some-clause-answer
-returns-in-Some-clause-answer g c = λ p names stated.
+returns-in-Some-clause-answer g c = λ p names stated registers.
     let s = c.args.self.now.state in
     let e = c.args.effect.now in
     let broken = sym c.in-Some.is ∙ c.first_broken.ensures.first p.tests stated ∙ ap (λ ns. first_false p.tests ns s.names e.names (apply s e).values) (sym names) in
-    ap (λ o. unless_refused o (sound_answer s c.args.self.now.durable e c.args.registers.now)) broken
+    ap (λ o. unless_refused o (sound_answer s c.args.self.now.durable e registers)) broken
 
 pub returns-in-None-clause-answer : goal.returns-in-None-clause-answer
-returns-in-None-clause-answer g c = λ p names stated.
+returns-in-None-clause-answer g c = λ p names stated registers.
     let s = c.args.self.now.state in
     let e = c.args.effect.now in
     let broken = sym c.in-None.is ∙ c.first_broken.ensures.first p.tests stated ∙ ap (λ ns. first_false p.tests ns s.names e.names (apply s e).values) (sym names) in
     let answer = rw (c.first_broken.ensures.state, c.first_broken.ensures.durable) at c.accept.ensures.answer in
-    answer ∙ ap (λ o. unless_refused o (sound_answer s c.args.self.now.durable e c.args.registers.now)) broken
+    answer registers ∙ ap (λ o. unless_refused o (sound_answer s c.args.self.now.durable e registers)) broken

@@ -1,0 +1,26 @@
+-- What an attempt is answered, told apart from the registers that it ended with.
+use Rattle.std.specs.Prelude.{ℤ, List, [], ◌∷◌, Result, Ok, Err}
+use Rattle.tmem_disk.specs.declared.fault.Fault.{Fault}
+use Rattle.tmem_record.specs.declared.effect.Effect.{Effect}
+use Rattle.tmem_tree.specs.declared.settled.Settled.{Settled}
+use Rattle.tmem_tree.specs.declared.settled.Settled.TheVariants as settled
+use Rattle.tmem_core.specs.declared.decision.Decision.{Decision}
+use Rattle.tmem_core.specs.declared.decision.Decision.TheVariants.{Committed, Seen, Retry, Aborted, Refused}
+
+-- the whole answer: a decision with the registers of its attempt
+abbrev pub settled_of : Decision → List ℤ → Settled
+settled_of (Committed number) registers = settled.Committed number registers
+settled_of (Seen at) registers = settled.Seen at registers
+settled_of Retry registers = settled.Retry
+settled_of (Aborted code) registers = settled.Aborted code
+settled_of (Refused name) registers = settled.Refused name
+
+-- the same where the attempt may be refused
+abbrev pub answer_of : Result Decision Fault → List ℤ → Result Settled Fault
+answer_of (Ok decision) registers = Ok (settled_of decision registers)
+answer_of (Err f) registers = Err f
+
+-- the effects that are accepted: only Committed accepts the effect
+abbrev pub taken_by : Result Decision Fault → Effect → List Effect
+taken_by (Ok (Committed number)) e = e ∷ []
+taken_by _ e = []
