@@ -1,10 +1,11 @@
 -- Attempts that are made again until one is settled.
-use Rattle.std.proofs.Common.{◌≡◌, ℕ, ◌≤◌, List, [], ◌++◌, length, take, drop, Result, refl, ap, sym, ◌∙◌, subst, arith, length-append}
-use Rattle.std.proofs.lemmas.List.{append-nil, take-append-drop, take-take}
+use Rattle.std.proofs.Common.{◌≡◌, ℕ, ◌≤◌, List, [], ◌++◌, Result, refl, ap, sym, ◌∙◌, subst}
+use Rattle.std.proofs.lemmas.List.{append-nil}
 use Rattle.tmem_disk.specs.declared.fault.Fault.{Fault}
 use Rattle.tmem_record.specs.Prefix.{IsPrefix}
 use Rattle.tmem_record.specs.State.{State}
 use Rattle.tmem_record.specs.declared.effect.Effect.{Effect}
+use Rattle.tmem_record.proofs.Laws.{IsPrefix-self, IsPrefix-trans}
 use Rattle.tmem_tree.specs.declared.settled.Settled.{Settled}
 use Rattle.tmem_tentative.specs.declared.attempt.Attempt.{Attempt}
 use Rattle.tmem_core.specs.Program.{Program}
@@ -14,13 +15,6 @@ use Rattle.tmem_spine.specs.History.{count}
 use Rattle.tmem_spine.specs.Views.{PassView}
 use Rattle.tmem_front.specs.Histories.{marked, numbered}
 use Rattle.tmem_front.specs.Settling.{Settles, KnowsMore}
-use Rattle.tmem_front.proofs.Seated.{self_prefix}
-
-prefix_length : (xs ys : List Entry) → IsPrefix xs ys → length xs ≤ length ys
-prefix_length xs ys p = omega (arith, ap length (take-append-drop (length xs) ys), length-append (take (length xs) ys) (drop (length xs) ys), ap length p)
-
-prefix_trans : (xs ys zs : List Entry) → IsPrefix xs ys → IsPrefix ys zs → IsPrefix xs zs
-prefix_trans xs ys zs p q = sym (take-take (length xs) (length ys) zs (prefix_length xs ys p)) ∙ (ap (λ (l : List Entry). take (length xs) l) q ∙ p)
 
 -- a pass that knows more settles as it would have before
 pub settles_later : (start : ℕ) (opening : State) (program : Program) (attempt : Attempt) (old mid : PassView) (answer : Result Settled Fault) (new : PassView)
@@ -29,7 +23,7 @@ settles_later start opening program attempt old mid answer new more s = record {
   before = s.before;
   durable = s.durable;
   is_shut = s.is_shut;
-  begins = prefix_trans old.known mid.known s.before more.begins s.begins;
+  begins = IsPrefix-trans old.known mid.known s.before more.begins s.begins;
   saw = subst (λ (l : List Entry). count start l ≤ s.durable) (ap (λ (v : PassView). v.seen) more.same) s.saw;
   number = s.number;
   answered = s.answered;
@@ -53,4 +47,4 @@ knows_more start opening program attempt old answer new none s =
     }
 
 pub knows_still : (old : PassView) → KnowsMore old old
-knows_still old = record { same = refl; begins = self_prefix old.known }
+knows_still old = record { same = refl; begins = IsPrefix-self old.known }

@@ -1,6 +1,6 @@
 -- The core stays what its seat says, after an attempt is settled.
 use Rattle.std.proofs.Common.{◌≡◌, Bool, All, IsTrue, ◌⊎◌, inl, inr, ⊎_elim, ℕ, ◌+◌, ◌-◌, ◌≤◌, List, [], ◌∷◌, ◌++◌, length, drop, refl, sym, ap, ◌∙◌, subst, arith}
-use Rattle.std.proofs.lemmas.List.{length-map, take_all, drop-drop, drop-append-le}
+use Rattle.std.proofs.lemmas.List.{length-map, drop-drop, drop-append-le}
 use Rattle.tmem_record.specs.Prefix.{IsPrefix}
 use Rattle.tmem_record.specs.State.{State, fold}
 use Rattle.tmem_record.specs.declared.effect.Effect.{Effect}
@@ -95,9 +95,6 @@ sound_one p opening log log' mark e is each last =
 
 pub sound_none : (p : Program) (opening : State) (log log' : List Entry) → log' ≡ log → AreSound p opening log → AreSound p opening log'
 sound_none p opening log log' is each = subst (λ (l : List Entry). AreSound p opening l) (sym is) each
-
-pub self_prefix : (xs : List Entry) → IsPrefix xs xs
-self_prefix xs = take_all (length xs) xs (omega arith)
 
 -- a core that accepted these effects, one at most, is sound where its state is
 pub settled_sound : {T : Type 0} {t : _} (start : ℕ) (opening : State) (p : Program) (c c' : Core T t) (v v' : CoreView) (mark : ℕ) (es : List Effect) → IsCoreOf start opening p c v

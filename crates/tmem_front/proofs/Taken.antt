@@ -5,7 +5,7 @@ use Rattle.tmem_record.specs.Loggable.{IsLoggable}
 use Rattle.tmem_record.specs.Prefix.{IsPrefix}
 use Rattle.tmem_record.specs.State.{State}
 use Rattle.tmem_record.specs.declared.effect.Effect.{Effect}
-use Rattle.tmem_record.proofs.Laws.{length-names-fold-le}
+use Rattle.tmem_record.proofs.Laws.{IsPrefix-rest, length-names-fold-le}
 use Rattle.tmem_spine.specs.declared.view.Entry.{Entry}
 use Rattle.tmem_spine.specs.History.{count, unmarked}
 use Rattle.tmem_front.specs.Flushing.{GoesOn}
@@ -15,7 +15,7 @@ use Rattle.tmem_front.proofs.Seated.{after-append}
 -- the state after a prefix has no more names
 names_before : (opening : State) (xs ys : List Entry) → IsPrefix xs ys → length (after opening xs).names ≤ length (after opening ys).names
 names_before opening xs ys begins =
-    let whole : ys ≡ xs ++ drop (length xs) ys = sym (take-append-drop (length xs) ys) ∙ ap (λ (l : List Entry). l ++ drop (length xs) ys) begins in
+    let whole : ys ≡ xs ++ drop (length xs) ys = IsPrefix-rest xs ys begins in
     let state = ap (λ (l : List Entry). after opening l) whole ∙ after-append opening xs (drop (length xs) ys) in
     omega (arith, ap (λ (s : State). length s.names) state, length-names-fold-le (after opening xs) (unmarked (drop (length xs) ys)))
 

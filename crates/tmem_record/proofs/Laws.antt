@@ -2,6 +2,8 @@
 
 -- what effects make of a state
 pub use Rattle.tmem_record.proofs.StateLaws.{fold-append, fold-push, count-fold, length-written, length-values-apply, length-values-fold, length-names-fold-le}
+-- prefixes of lists
+pub use Rattle.tmem_record.proofs.PrefixLaws.{IsPrefix-append, IsPrefix-rest, IsPrefix-self, IsPrefix-length, IsPrefix-trans}
 -- lists of names
 pub use Rattle.tmem_record.proofs.NamesLaws.{has_name-with_names, AreAscending-with_names, AreDistinct-ascending, AreRegistered-nil, AreRegistered-with_names}
 -- the bytes that spell numbers, values, names and batches

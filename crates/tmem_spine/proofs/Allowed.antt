@@ -4,6 +4,7 @@ use Rattle.std.proofs.lemmas.List.{length-take-le}
 use mathlib.Core.Option.{none}
 use Rattle.atomic_table.specs.Table.{step, keeps, Allows}
 use Rattle.tmem_record.specs.Prefix.{IsPrefix}
+use Rattle.tmem_record.proofs.Laws.{IsPrefix-self, IsPrefix-length, IsPrefix-trans}
 use Rattle.tmem_spine.specs.declared.view.Entry.{Entry}
 use Rattle.tmem_spine.specs.declared.view.Role.{Role}
 use Rattle.tmem_spine.specs.declared.view.Role.TheVariants.{Core, Journal, Pass, Spent}
@@ -11,7 +12,7 @@ use Rattle.tmem_spine.specs.declared.view.View.{View}
 use Rattle.tmem_spine.specs.History.{count, longer}
 use Rattle.tmem_spine.specs.Rule.{History, IsHistory, IsPass, Fits, KeepsHistory}
 use Rattle.tmem_spine.specs.Steps.{told, Accepts, Aims, Stays, Hardens, Trims, Looks}
-use Rattle.tmem_spine.proofs.Prefixes.{prefix_self, prefix_length, prefix_trans, prefix_shorter, prefix_more, longer_is}
+use Rattle.tmem_spine.proofs.Prefixes.{prefix_shorter, prefix_more, longer_is}
 use Rattle.tmem_spine.proofs.Owning.{owns_more}
 use Rattle.tmem_spine.proofs.Keeps.{kept_step}
 
@@ -19,9 +20,9 @@ use Rattle.tmem_spine.proofs.Keeps.{kept_step}
 pub unread : {r q : Role} → r ≡ q → q ≢ Spent → r ≢ Spent
 unread is other spent = other (sym is ∙ spent)
 
--- what is durable begins what is accepted
+-- what is durable is a prefix of what is accepted
 pub durable_accepted : (start : ℕ) (h : History) (words : List ℕ) → IsHistory start h words → IsPrefix h.durable h.accepted
-durable_accepted start h words is = prefix_trans h.durable h.aimed h.accepted is.durable is.aimed
+durable_accepted start h words is = IsPrefix-trans h.durable h.aimed h.accepted is.durable is.aimed
 
 -- a load leaves the words
 loaded : (start : ℕ) (h : History) (words : List ℕ) (i : ℕ) → i < 2 → IsHistory start h words → IsHistory start h (set words i (slice_index words i))
@@ -115,7 +116,7 @@ aims start slots id v carried upto role low high s kept len at small =
     let h' : History = record h { aimed = xs } in
     let long : length xs ≡ upto - v.start = length-take-le (upto - v.start) v.known (omega arith) in
     let begins : IsPrefix xs v.known = ap (λ (k : ℕ). take k v.known) long in
-    let within : IsPrefix xs h.accepted = prefix_trans xs v.known h.accepted begins f.known in
+    let within : IsPrefix xs h.accepted = IsPrefix-trans xs v.known h.accepted begins f.known in
     let same : length v.durable ≡ length h.durable = ap length mine.3 in
     let durable : IsPrefix h.durable xs = prefix_shorter h.durable xs h.accepted (durable_accepted start h s.words is) within (omega arith) in (
       record v { aimed = xs },
@@ -159,12 +160,12 @@ stays start slots id v carried role s kept len at small =
 -- what the others know fits once what the journal aims at is durable
 durable_else : (start : ℕ) (h : History) (j : ℕ) (u : View) → h.journal ≢ j → IsPrefix h.durable h.aimed → Fits start h j u → Fits start (record h { durable = h.aimed }) j u
 durable_else start h j u other more f =
-    let longer : length h.durable ≤ length h.aimed = prefix_length h.durable h.aimed more in
+    let longer : length h.durable ≤ length h.aimed = IsPrefix-length h.durable h.aimed more in
     let trimmed : u.trimmed ≤ count start h.durable = f.trimmed in
     record {
       based = f.based;
       known = f.known;
-      seen = prefix_trans u.seen h.durable h.aimed f.seen more;
+      seen = IsPrefix-trans u.seen h.durable h.aimed f.seen more;
       trimmed = omega arith;
       is_start = f.is_start;
       is_core = f.is_core;
@@ -182,8 +183,8 @@ hardens start slots id v carried by role sum s kept len at small =
     let word = second_word start h s.words is in
     let aimed : length v.aimed ≡ length h.aimed = ap length mine.2 in
     let durable : length v.durable ≡ length h.durable = ap length mine.3 in
-    let all : length h.aimed ≤ length h.accepted = prefix_length h.aimed h.accepted is.aimed in
-    let longer : length h.durable ≤ length h.aimed = prefix_length h.durable h.aimed is.durable in
+    let all : length h.aimed ≤ length h.accepted = IsPrefix-length h.aimed h.accepted is.aimed in
+    let longer : length h.durable ≤ length h.aimed = IsPrefix-length h.durable h.aimed is.durable in
     let room : count start h.accepted < 18446744073709551616 = is.room in
     let trimmed : v.trimmed ≤ count start h.durable = f.trimmed in
     let h' : History = record h { durable = h.aimed } in
@@ -195,7 +196,7 @@ hardens start slots id v carried by role sum s kept len at small =
           (record {
             counts = ap (λ (ws : List ℕ). set ws 1 ((slice_index s.words 1 + by) % 2 ^ 64)) is.counts ∙ ap (λ (k : ℕ). count start h.accepted ∷ k ∷ []) next;
             room = is.room;
-            durable = prefix_self h.aimed;
+            durable = IsPrefix-self h.aimed;
             aimed = is.aimed;
             few = is.few;
           })
@@ -203,7 +204,7 @@ hardens start slots id v carried by role sum s kept len at small =
           (record {
             based = f.based;
             known = f.known;
-            seen = prefix_trans v.seen h.durable h.aimed f.seen is.durable;
+            seen = IsPrefix-trans v.seen h.durable h.aimed f.seen is.durable;
             trimmed = omega arith;
             is_start = f.is_start;
             is_core = f.is_core;
@@ -224,9 +225,9 @@ trims start slots id v carried role s kept len at small =
     let based = f.based (unread role (λ r. absurd (cc r))) in
     let word = second_word start h s.words is in
     let within = durable_accepted start h s.words is in
-    let all : length h.durable ≤ length h.accepted = prefix_length h.durable h.accepted within in
+    let all : length h.durable ≤ length h.accepted = IsPrefix-length h.durable h.accepted within in
     let same : length v.accepted ≡ length h.accepted = ap length mine.1 in
-    let seen : length v.seen ≤ length h.durable = prefix_length v.seen h.durable f.seen in
+    let seen : length v.seen ≤ length h.durable = IsPrefix-length v.seen h.durable f.seen in
     let less : v.trimmed ≤ count start h.durable = f.trimmed in (
       record v { trimmed = slice_index s.words 1 },
       keeps,
@@ -252,7 +253,7 @@ trims start slots id v carried role s kept len at small =
           omega arith,
           omega arith,
           subst (λ (xs : List Entry). IsPrefix v.known xs) (sym mine.1) f.known,
-          subst (λ (xs : List Entry). IsPrefix v.seen xs) (sym mine.1) (prefix_trans v.seen h.durable h.accepted f.seen within),
+          subst (λ (xs : List Entry). IsPrefix v.seen xs) (sym mine.1) (IsPrefix-trans v.seen h.durable h.accepted f.seen within),
         ),
       ),
     )
@@ -276,7 +277,7 @@ looks start slots id v carried role s kept len at small =
           (record {
             based = f.based;
             known = l.2;
-            seen = prefix_self h.durable;
+            seen = IsPrefix-self h.durable;
             trimmed = f.trimmed;
             is_start = λ r. absurd (cc (r, role));
             is_core = λ r. absurd (cc (r, role));

@@ -6,6 +6,7 @@ use Rattle.atomic_table.specs.Table.{Splits, Joins, opening}
 use Rattle.atomic_table.proofs.Lists.{at_set}
 use Rattle.tmem_record.specs.Prefix.{IsPrefix}
 use Rattle.tmem_record.specs.declared.effect.Effect.{Effect}
+use Rattle.tmem_record.proofs.Laws.{IsPrefix-self}
 use Rattle.tmem_spine.specs.declared.view.Entry.{Entry}
 use Rattle.tmem_spine.specs.declared.view.Role.TheVariants.{Start, Core, Journal, Pass}
 use Rattle.tmem_spine.specs.declared.view.View.{View}
@@ -13,7 +14,7 @@ use Rattle.tmem_spine.specs.History.{count, entry, longer, HasAt}
 use Rattle.tmem_spine.specs.Notes.{first_view, as_core, journal_from, pass_from, gives, note, spent, core_told, journal_told}
 use Rattle.tmem_spine.specs.Rule.{History, IsPass, Fits, KeepsHistory}
 use Rattle.tmem_spine.specs.Steps.{meets_core, gains, meets_journal}
-use Rattle.tmem_spine.proofs.Prefixes.{prefix_self, prefix_empty, longer_is}
+use Rattle.tmem_spine.proofs.Prefixes.{prefix_empty, longer_is}
 use Rattle.tmem_spine.proofs.Owning.{pass_more, pass_one}
 use Rattle.tmem_spine.proofs.Keeps.{kept_split, kept_join, IsNewMark}
 use Rattle.tmem_spine.proofs.Allowed.{durable_accepted}
@@ -162,12 +163,12 @@ noted start id v known seen trimmed based so s kept at =
 
 pub core_notes : (start id : ℕ) (v : View) → v.role ≡ Core → v.start ≡ start → Splits (KeepsHistory start) id v v (note v.start v.accepted [] v.trimmed)
 core_notes start id v role based = noted start id v v.accepted [] v.trimmed based (λ h all f.
-    (subst (λ (xs : List Entry). IsPrefix xs h.accepted) (sym (f.is_core role).1) (prefix_self h.accepted), refl, f.trimmed))
+    (subst (λ (xs : List Entry). IsPrefix xs h.accepted) (sym (f.is_core role).1) (IsPrefix-self h.accepted), refl, f.trimmed))
 
 pub journal_notes : (start id : ℕ) (v : View) → v.role ≡ Journal → v.start ≡ start → Splits (KeepsHistory start) id v v (note v.start v.durable v.durable 0)
 journal_notes start id v role based = noted start id v v.durable v.durable 0 based (λ h all f.
     let durable = sym (f.is_journal role).3 in
-    (subst (λ (xs : List Entry). IsPrefix xs h.accepted) durable all, subst (λ (xs : List Entry). IsPrefix xs h.durable) durable (prefix_self h.durable), omega arith))
+    (subst (λ (xs : List Entry). IsPrefix xs h.accepted) durable all, subst (λ (xs : List Entry). IsPrefix xs h.durable) durable (IsPrefix-self h.durable), omega arith))
 
 pub pass_notes : (start id : ℕ) (v : View) → v.start ≡ start → Splits (KeepsHistory start) id v v (note v.start v.known v.seen 0)
 pass_notes start id v based = noted start id v v.known v.seen 0 based (λ h all f. (f.known, f.seen, omega arith))

@@ -4,11 +4,12 @@ use Rattle.std.proofs.lemmas.List.Elements.{All-push}
 use Rattle.std.proofs.lemmas.List.Quantifiers.{all_pairs_push}
 use Rattle.tmem_record.specs.Prefix.{IsPrefix}
 use Rattle.tmem_record.specs.declared.effect.Effect.{Effect}
+use Rattle.tmem_record.proofs.Laws.{IsPrefix-trans}
 use Rattle.tmem_spine.specs.declared.view.Entry.{Entry}
 use Rattle.tmem_spine.specs.declared.view.View.{View}
 use Rattle.tmem_spine.specs.History.{count, entry, Has, HasAt}
 use Rattle.tmem_spine.specs.Rule.{IsPass, Owns}
-use Rattle.tmem_spine.proofs.Prefixes.{prefix_trans, get_more, get_same, get_within}
+use Rattle.tmem_spine.proofs.Prefixes.{get_more, get_same, get_within}
 
 pub at_more : (start : ℕ) (xs ys : List Entry) (n : ℕ) (e : Entry) → IsPrefix xs ys → HasAt start xs n e → HasAt start ys n e
 at_more start xs ys n e p h = (h.0, get_more xs ys (n - start) e p h.1)
@@ -32,11 +33,11 @@ owns_one start mark xs ys own n e p behind at o = record {
 }
 
 pub pass_more : (start : ℕ) (v : View) (ys : List Entry) → IsPass start v → IsPrefix v.known ys → IsPass start (record v { known = ys })
-pass_more start v ys is more = (prefix_trans v.seen v.known ys is.0 more, owns_more start v.mark v.known ys v.own more is.1)
+pass_more start v ys is more = (IsPrefix-trans v.seen v.known ys is.0 more, owns_more start v.mark v.known ys v.own more is.1)
 
 pub pass_one : (start : ℕ) (v : View) (ys : List Entry) (n : ℕ) (e : Effect) → IsPass start v → IsPrefix v.known ys → count start v.known ≤ n → HasAt start ys n (entry v.mark e)
     → IsPass start (record v { known = ys; own = v.own ++ (n, e) ∷ [] })
-pass_one start v ys n e is more behind at = (prefix_trans v.seen v.known ys is.0 more, owns_one start v.mark v.known ys v.own n e more behind at is.1)
+pass_one start v ys n e is more behind at = (IsPrefix-trans v.seen v.known ys is.0 more, owns_one start v.mark v.known ys v.own n e more behind at is.1)
 
 get_or_is : (own : List (ℕ × Effect)) (k : ℕ) (x : ℕ × Effect) → slice_get own k ≡ Some x → get_or own k x ≡ x
 get_or_is [] k x h = absurd (cc h)

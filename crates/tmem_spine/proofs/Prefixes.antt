@@ -1,29 +1,20 @@
 -- Laws of prefixes, and of what stands at a place of a list.
-use Rattle.std.proofs.Common.{◌≡◌, ℕ, zero, suc, ◌<◌, ◌≤◌, Bool, true, false, nat_lt, if◌then◌else◌, List, [], ◌∷◌, ◌++◌, length, take, drop, Some, slice_get, refl, ap, sym, ◌∙◌, arith, length-append}
+use Rattle.std.proofs.Common.{◌≡◌, ℕ, zero, suc, ◌<◌, ◌≤◌, Bool, true, false, nat_lt, if◌then◌else◌, List, [], ◌∷◌, ◌++◌, length, take, Some, slice_get, refl, ap, sym, ◌∙◌, arith}
 use Rattle.std.proofs.lemmas.Bool.Decides.{nat_tests}
-use Rattle.std.proofs.lemmas.List.{take-append-drop, take_all, take-take, take-append-le}
+use Rattle.std.proofs.lemmas.List.{take_all, take-take, take-append-le}
 use Rattle.tmem_record.specs.Prefix.{IsPrefix}
+use Rattle.tmem_record.proofs.Laws.{IsPrefix-self, IsPrefix-length}
 use Rattle.tmem_spine.specs.declared.view.Entry.{Entry}
 use Rattle.tmem_spine.specs.History.{longer}
 
 module _ {X : Type 0} where
-  pub prefix_self : (xs : List X) → IsPrefix xs xs
-  prefix_self xs = take_all (length xs) xs (omega arith)
-
-  pub prefix_length : (xs ys : List X) → IsPrefix xs ys → length xs ≤ length ys
-  prefix_length xs ys p = omega (arith, ap length (take-append-drop (length xs) ys), length-append (take (length xs) ys) (drop (length xs) ys), ap length p)
-
-  pub prefix_trans : (xs ys zs : List X) → IsPrefix xs ys → IsPrefix ys zs → IsPrefix xs zs
-  prefix_trans xs ys zs p q =
-      sym (take-take (length xs) (length ys) zs (prefix_length xs ys p)) ∙ (ap (λ (l : List X). take (length xs) l) q ∙ p)
-
   -- of two prefixes of one list the shorter is a prefix of the longer
   pub prefix_shorter : (xs ys zs : List X) → IsPrefix xs zs → IsPrefix ys zs → length xs ≤ length ys → IsPrefix xs ys
   prefix_shorter xs ys zs p q le =
       ap (λ (l : List X). take (length xs) l) (sym q) ∙ (take-take (length xs) (length ys) zs le ∙ p)
 
   pub prefix_more : (xs ys zs : List X) → IsPrefix xs ys → IsPrefix xs (ys ++ zs)
-  prefix_more xs ys zs p = take-append-le (length xs) ys zs (prefix_length xs ys p) ∙ p
+  prefix_more xs ys zs p = take-append-le (length xs) ys zs (IsPrefix-length xs ys p) ∙ p
 
   -- a prefix as long as the whole is the whole
   pub prefix_whole : (xs ys : List X) → IsPrefix xs ys → length ys ≤ length xs → xs ≡ ys
@@ -60,8 +51,8 @@ module _ {X : Type 0} where
 
 longer_by : (b : Bool) (xs ys zs : List Entry) → nat_lt (length xs) (length ys) ≡ b → IsPrefix xs zs → IsPrefix ys zs
     → IsPrefix xs (if b then ys else xs) × IsPrefix ys (if b then ys else xs) × IsPrefix (if b then ys else xs) zs
-longer_by true xs ys zs is p q = (prefix_shorter xs ys zs p q (grind (arith, nat_tests)), prefix_self ys, q)
-longer_by false xs ys zs is p q = (prefix_self xs, prefix_shorter ys xs zs q p (grind (arith, nat_tests)), p)
+longer_by true xs ys zs is p q = (prefix_shorter xs ys zs p q (grind (arith, nat_tests)), IsPrefix-self ys, q)
+longer_by false xs ys zs is p q = (IsPrefix-self xs, prefix_shorter ys xs zs q p (grind (arith, nat_tests)), p)
 
 -- of two prefixes of one history each is a prefix of the longer, which is one too
 pub longer_is : (xs ys zs : List Entry) → IsPrefix xs zs → IsPrefix ys zs

@@ -21,8 +21,8 @@ pub record History : Type 0 where
   pub given : ℕ
   pub has_journal : Bool
 
--- The words count what is accepted and what is durable. What is durable begins what the journal aims at, and that begins
--- what is accepted. There are 32 passes at most.
+-- The words count what is accepted and what is durable. What is durable is a prefix of what the journal aims at, and that is
+-- a prefix of what is accepted. There are 32 passes at most.
 pub record IsHistory (start : ℕ) (h : History) (words : List ℕ) : Type 0 where
   pub counts : words ≡ count start h.accepted ∷ count start h.durable ∷ []
   pub room : count start h.accepted < 2 ^ 64
@@ -35,7 +35,7 @@ pub record Owns (start mark : ℕ) (known : List Entry) (own : List (ℕ × Effe
   pub ascend : AllPairs (λ (x y : ℕ × Effect). x.0 < y.0) own
   pub stand : All (λ (x : ℕ × Effect). HasAt start known x.0 (entry mark x.1)) own
 
--- what a pass saw begins what it knows, in which its own effects stand
+-- what a pass saw is a prefix of what it knows, in which its own effects stand
 abbrev pub IsPass : ℕ → View → Type 0
 IsPass start v = IsPrefix v.seen v.known × Owns start v.mark v.known v.own
 
@@ -51,8 +51,8 @@ IsCore h id v = (id ≡ h.core) × (v.accepted ≡ h.accepted) × (v.given ≡ h
 abbrev pub IsJournal : History → ℕ → View → Type 0
 IsJournal h id v = (id ≡ h.journal) × (h.has_journal ≡ true) × (v.aimed ≡ h.aimed) × (v.durable ≡ h.durable)
 
--- What a seat knows is so: what it knows begins what is accepted, what it saw begins what is durable, and at least so many
--- are durable as it was trimmed to.
+-- What a seat knows is so: what it knows is a prefix of what is accepted, what it saw is a prefix of what is durable, and at
+-- least so many are durable as it was trimmed to.
 pub record Fits (start : ℕ) (h : History) (id : ℕ) (v : View) : Type 0 where
   pub based : v.role ≢ Spent → v.start ≡ start
   pub known : IsPrefix v.known h.accepted

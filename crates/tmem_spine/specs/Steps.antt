@@ -19,12 +19,12 @@ told kind st m n m' = (m'.1 ≡ m.1) × kind m.0 n m'.0
 abbrev pub Accepts : Entry → Kind
 Accepts e v n w = (w ≡ record v { accepted = v.accepted ++ e ∷ [] }) × (n ≡ count v.start v.accepted)
 
--- aim: the journal aims at what it was told is accepted, up to a number. What is durable begins that.
+-- aim: the journal aims at what it was told is accepted, up to a number. What is durable is a prefix of that.
 abbrev pub Aims : ℕ → Kind
 Aims upto v n w = (w ≡ record v { aimed = take (upto - v.start) v.known }) × IsPrefix v.durable w.aimed
 
 -- aim, where the journal stays with what it aims at: what it was told of what is durable is so, and what it was told is
--- accepted begins what is durable, or goes on from it
+-- accepted is a prefix of what is durable, or goes on from it
 abbrev pub Stays : Kind
 Stays v n w =
     (w ≡ v) × IsPrefix v.seen v.durable × (v.trimmed ≤ count v.start v.durable) × IsPrefix v.known (longer v.known v.durable)
@@ -35,7 +35,7 @@ abbrev pub Hardens : Kind
 Hardens v n w = w ≡ record v { durable = v.aimed }
 
 -- trim: the core learns the durable word, which is not less than before, nor than what it was told is durable. What it was
--- told begins what is accepted.
+-- told is a prefix of what is accepted.
 abbrev pub Trims : Kind
 Trims v n w =
     (w ≡ record v { trimmed = n }) × (v.trimmed ≤ n) × (count v.start v.seen ≤ n) × (n ≤ count v.start v.accepted)

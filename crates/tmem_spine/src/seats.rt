@@ -74,8 +74,8 @@ impl<N: Naming> CoreSide<N> {
 }
 
 impl<N: Naming> Pass<N> {
-    /// The greatest answer that a look of this pass gave, and the opening count before any. What a pass saw begins what it
-    /// knows, and its own effects stand there, at their numbers and under its mark.
+    /// The greatest answer that a look of this pass gave, and the opening count before any. What a pass saw is a prefix of
+    /// what it knows, and its own effects stand there, at their numbers and under its mark.
     pub fn seen(&self) -> u64
         ensures seen { result ≡ count N.name.start self.now.seen }
         ensures begins { IsPrefix self.now.seen self.now.known }

@@ -48,7 +48,7 @@ impl<N: Naming> Spine<N> {
     }
 
     /// The core learns how many are durable, for a pass beside it: at least as many as it knew of, and as the pass saw. What
-    /// the pass knows begins what is accepted.
+    /// the pass knows is a prefix of what is accepted.
     pub fn trim(&self, core: &mut CoreSide<N>, pass: &mut Pass<N>) -> u64
         ensures core { core.new ≡ record core.old { trimmed = result } }
         ensures pass { pass.new ≡ pass.old }
@@ -87,7 +87,7 @@ impl<N: Naming> Spine<N> {
     }
 
     /// The core learns how many are durable, with the journal beside it, so it is exactly as many as the journal has. These
-    /// begin what is accepted.
+    /// are a prefix of what is accepted.
     pub fn trim_beside(&self, core: &mut CoreSide<N>, journal: &mut JournalSide<N>) -> u64
         ensures core { core.new ≡ record core.old { trimmed = result } }
         ensures journal { journal.new ≡ journal.old }
@@ -128,8 +128,8 @@ impl<N: Naming> Spine<N> {
         self.harden_step(&mut journal.place, more);
     }
 
-    /// A pass meets the journal: it knows at least what is durable. What it saw begins that, so its own effects below the
-    /// number that it saw are durable, at their numbers.
+    /// A pass meets the journal: it knows at least what is durable. What it saw is a prefix of that, so its own effects below
+    /// the number that it saw are durable, at their numbers.
     pub fn meet_journal(&self, journal: &mut JournalSide<N>, pass: &mut Pass<N>)
         ensures journal { journal.new ≡ journal.old }
         ensures pass { pass.new ≡ record pass.old { known = longer pass.old.known journal.old.durable } }

@@ -1,10 +1,11 @@
 use Rattle.std.proofs.Common.{◌≡◌, List, length, ap, ◌∙◌, subst}
 use Rattle.tmem_record.specs.State.{State}
 use Rattle.tmem_core.specs.Held.{state_of}
+use Rattle.tmem_record.proofs.Laws.{IsPrefix-self}
 use Rattle.tmem_spine.specs.declared.view.Entry.{Entry}
 use Rattle.tmem_front.specs.Histories.{after, IsSoundState}
 use Rattle.tmem_front.specs.Seats.{CoreSeatView}
-use Rattle.tmem_front.proofs.Seated.{values-after, self_prefix}
+use Rattle.tmem_front.proofs.Seated.{values-after}
 use Rattle.tmem_front.proofs.core_seat.CoreSeat.peek.Goals as goal
 
 pub peek-requires : goal.peek-requires
@@ -17,4 +18,4 @@ peek-requires g c =
 pub returns-clause-sound : goal.returns-clause-sound
 returns-clause-sound g c =
     let log = c.self.inside.side.accepted in
-    subst (λ (l : List Entry). IsSoundState g.N.ProgramNaming.program (after g.N.StoreNaming.opening l)) (ap (λ (v : CoreSeatView). v.accepted) c.self.view_is) (c.self.invariant.0.sound log (self_prefix log))
+    subst (λ (l : List Entry). IsSoundState g.N.ProgramNaming.program (after g.N.StoreNaming.opening l)) (ap (λ (v : CoreSeatView). v.accepted) c.self.view_is) (c.self.invariant.0.sound log (IsPrefix-self log))

@@ -3,11 +3,12 @@ use Rattle.std.proofs.Math.Logic.{∥∥₁_map}
 use Rattle.tmem_record.specs.Prefix.{IsPrefix}
 use Rattle.tmem_record.specs.State.{State, fold}
 use Rattle.tmem_record.specs.declared.layout.Layout.{Layout}
+use Rattle.tmem_record.proofs.Laws.{IsPrefix-self}
 use Rattle.tmem_spine.specs.declared.view.Entry.{Entry}
 use Rattle.tmem_spine.specs.History.{count}
 use Rattle.tmem_spine.specs.Views.{JournalView}
 use Rattle.tmem_front.specs.Histories.{after}
-use Rattle.tmem_front.proofs.Seated.{count-after, self_prefix}
+use Rattle.tmem_front.proofs.Seated.{count-after}
 use Rattle.tmem_front.proofs.Refusals.{flush_refusal}
 use Rattle.tmem_front.proofs.Written.{aimed_state, Leaves, written_ok, written_err, written_number, moments, long_aimed, both, state_left, ok_number}
 use Rattle.tmem_front.proofs.journal_seat.JournalSeat.write.Goals as goal
@@ -52,7 +53,7 @@ invariant_of-self g c =
       state = left.state ∙ ap (λ (l : List Entry). after opening l) (sym now_durable);
       starts = seat.starts;
       doubt = ∣ inl (both left.doubt ∙ ap (λ (l : List Entry). after opening l) (sym now_durable)) ∣₁;
-      begins = subst (λ (l : List Entry). IsPrefix l c.harden.new.journal.aimed) (now_aimed ∙ sym now_durable) (self_prefix c.harden.new.journal.aimed);
+      begins = subst (λ (l : List Entry). IsPrefix l c.harden.new.journal.aimed) (now_aimed ∙ sym now_durable) (IsPrefix-self c.harden.new.journal.aimed);
       over = over;
     }
 

@@ -1,0 +1,231 @@
+// What the bank does with its store.
+ghost use Rattle.std.specs.Prelude.{◌≡◌, ◌<◌, length};
+ghost use Rattle.tmem_front.specs.Held.{found_of, spine_of, steps_of, table_of};
+ghost use Rattle.tmem_bank.specs.Accounts.{bank};
+
+use crate::device::SLOTS;
+use crate::transfers::{Transfer, balances, deposits};
+use std::alloc::Global;
+use std::marker::Brand;
+use std::sync::Wait;
+use std::thread::{Threads, join};
+use tmem_core::Settled;
+use tmem_disk::{Disk, Fault};
+use tmem_front::{Front, OpenedFront, Pace, Pass, StoreNaming};
+use tmem_invariants::Invariants;
+use tmem_tree::StoredSteps;
+
+/// How many accounts there are.
+pub const ACCOUNTS: u16 = 4;
+
+/// How often each thread moves money.
+const TRANSFERS: u64 = 25;
+
+/// Opens the store, and serves there.
+pub fn open<
+    R: Print + Threads + Wait + Sync,
+    D: Disk + Drop + Send,
+    T: Invariants + Drop + Send,
+    S: StoredSteps + Drop + Send + Sync,
+>(rt: &R, alloc: Global, disk: D, table: T, steps: S) -> Result<(), Fault>
+    requires vars { T.vars table ≡ 4 }
+    requires names { T.names table ≡ bank.names }
+    requires tests { T.is_stated table bank.tests }
+    requires steps { S.is_stated steps bank.steps }
+{
+    match OpenedFront::open(alloc, disk, ACCOUNTS, SLOTS, table, steps) {
+        Ok(opened) => serve::<Brand, D, T, S, R>(rt, alloc, opened),
+        Err((fault, _disk)) => Err(fault),
+    }
+}
+
+// Puts money into new accounts, moves some alone, and lets four threads move more.
+fn serve<
+    N: StoreNaming + Send + Sync,
+    D: Disk + Drop + Send,
+    T: Invariants + Drop + Send,
+    S: StoredSteps + Drop + Send + Sync,
+    R: Print + Threads + Wait + Sync,
+>(rt: &R, alloc: Global, opened: OpenedFront<D, T, S>) -> Result<(), Fault>
+    requires spine { spine_of opened ≡ N.name }
+    requires opening { found_of opened ≡ N.opening }
+    requires program { N.program ≡ bank }
+    requires values { length (found_of opened).values ≡ 4 }
+    requires names { T.names (table_of opened) ≡ bank.names }
+    requires stated { T.is_stated (table_of opened) bank.tests }
+    requires steps { S.is_stated (steps_of opened) bank.steps }
+{
+    let front = opened.named::<N>();
+    let mut clerk = front.pass(rt)?;
+    let found = front.look(&mut clerk);
+    let _ = println!(rt; "found {found}");
+    if found == 0 {
+        let opening = front.plan(deposits(alloc)?)?;
+        say(rt, &front.try_atomically(rt, &mut clerk, &opening));
+    }
+    say(rt, &front.audit(rt, alloc));
+    move_alone(rt, alloc, &front, &mut clerk)?;
+    let (((a, b), (c, d)), last) = move_and_flush(rt, alloc, &front)?;
+    front.checkpoint(rt)?;
+    let _ = println!(rt; "moved {a} {b} {c} {d}");
+    say(rt, &Ok(last));
+    let _ = println!(rt; "durable {}", front.look(&mut clerk));
+    Ok(())
+}
+
+// Moves money by one pass: again and again, once more after a conflict, and more than there is.
+fn move_alone<
+    N: StoreNaming,
+    D: Disk + Drop,
+    T: Invariants + Drop,
+    S: StoredSteps + Drop,
+    R: Print + Wait,
+>(rt: &R, alloc: Global, front: &Front<D, N, T, S>, pass: &mut Pass<N>) -> Result<(), Fault> {
+    let transfer = front.plan(Transfer::new(0, 1, 1).tx(alloc)?)?;
+    let overdraft = front.plan(Transfer::new(0, 1, 5000).tx(alloc)?)?;
+    say(rt, &front.try_atomically(rt, pass, &transfer));
+    say(rt, &front.try_atomically(rt, pass, &transfer));
+    let late = front.attempt(rt, &transfer)?;
+    let _ = println!(rt; "attempted");
+    say(rt, &front.try_atomically(rt, pass, &transfer));
+    say(rt, &front.settle(rt, pass, &late));
+    say(rt, &front.try_atomically(rt, pass, &transfer));
+    say(rt, &front.try_atomically(rt, pass, &overdraft));
+    Ok(())
+}
+
+// Prints what a transaction was answered.
+fn say<R: Print>(rt: &R, answer: &Result<Settled, Fault>) {
+    let _ = match answer {
+        Ok(Settled::Committed { number, .. }) => println!(rt; "committed {number}"),
+        Ok(Settled::Seen { registers, .. }) => println!(rt;
+            "balances {} {} {} {}, together {}",
+            registers[0], registers[1], registers[2], registers[3], registers[4]
+        ),
+        Ok(Settled::Retry) => println!(rt; "retry"),
+        Ok(Settled::Aborted(code)) => println!(rt; "aborted {code}"),
+        Ok(Settled::Refused(name)) => println!(rt; "refused {name}"),
+        Err(fault) => println!(rt; "{fault}"),
+    };
+}
+
+// A flusher that goes on for as long as there is something to flush.
+#[derive(Drop)]
+struct Always;
+
+impl Pace for Always {
+    fn next(&mut self) -> bool {
+        true
+    }
+}
+
+// How many transfers each of four threads made.
+type Moved = ((u64, u64), (u64, u64));
+
+// What threads do with the store that they share. The functions that start threads know no more of it.
+trait Moving {
+    // Makes a transfer many times, and waits each time until it is durable. Answers how often the store accepted it.
+    fn send<R: Wait>(&self, rt: &R, alloc: Global, transfer: Transfer) -> Result<u64, Fault>;
+
+    // Makes durable what is committed, until the store is shut.
+    fn flush<R: Wait>(&self, rt: &R) -> Result<(), Fault>;
+
+    // Reads all accounts, as they stand at one moment.
+    fn audit<R: Wait>(&self, rt: &R, alloc: Global) -> Result<Settled, Fault>;
+
+    // Nothing is settled any more.
+    fn close<R: Wait>(&self, rt: &R);
+}
+
+impl<D: Disk + Drop, N: StoreNaming, T: Invariants + Drop, S: StoredSteps + Drop> Moving
+    for Front<D, N, T, S> {
+    fn send<R: Wait>(&self, rt: &R, alloc: Global, transfer: Transfer) -> Result<u64, Fault> {
+        let mut pass = self.pass(rt)?;
+        let transfer = self.plan(transfer.tx(alloc)?)?;
+        let mut sent = 0u64;
+        for _ in 0..TRANSFERS {
+            if let Settled::Committed { number, .. } = self.atomically(rt, &mut pass, &transfer)? {
+                self.await_durable(rt, &mut pass, number)?;
+                sent = sent.saturating_add(1);
+            }
+        }
+        Ok(sent)
+    }
+
+    fn flush<R: Wait>(&self, rt: &R) -> Result<(), Fault> {
+        let flushed = self.run_flusher(rt, &mut Always);
+        self.shut(rt);
+        flushed
+    }
+
+    fn audit<R: Wait>(&self, rt: &R, alloc: Global) -> Result<Settled, Fault> {
+        let mut pass = self.pass(rt)?;
+        let audit = self.plan(balances(alloc)?)?;
+        self.atomically(rt, &mut pass, &audit)
+    }
+
+    fn close<R: Wait>(&self, rt: &R) {
+        self.shut(rt);
+    }
+}
+
+// Four threads move money beside a flusher, which ends once they have ended and all is durable. Answers with what the accounts
+// have then.
+fn move_and_flush<F: Moving + Sync, R: Threads + Wait + Sync>(
+    rt: &R,
+    alloc: Global,
+    store: &F,
+) -> Result<(Moved, Settled), Fault> {
+    let (flushed, moved) = join(
+        rt,
+        || store.flush(rt),
+        || {
+            let moved = move_by_four(rt, alloc, store);
+            let last = store.audit(rt, alloc);
+            store.close(rt);
+            Ok((moved?, last?))
+        },
+    );
+    flushed?;
+    moved
+}
+
+fn move_by_four<F: Moving + Sync, R: Threads + Wait + Sync>(
+    rt: &R,
+    alloc: Global,
+    store: &F,
+) -> Result<Moved, Fault> {
+    let (first, last) = join(
+        rt,
+        || move_by_two(
+            rt,
+            alloc,
+            store,
+            Transfer::new(0, 1, 1),
+            Transfer::new(1, 2, 2),
+        ),
+        || move_by_two(
+            rt,
+            alloc,
+            store,
+            Transfer::new(2, 3, 3),
+            Transfer::new(3, 0, 4),
+        ),
+    );
+    Ok((first?, last?))
+}
+
+fn move_by_two<F: Moving + Sync, R: Threads + Wait + Sync>(
+    rt: &R,
+    alloc: Global,
+    store: &F,
+    one: Transfer,
+    other: Transfer,
+) -> Result<(u64, u64), Fault> {
+    let (one, other) = join(
+        rt,
+        || store.send(rt, alloc, one),
+        || store.send(rt, alloc, other),
+    );
+    Ok((one?, other?))
+}
