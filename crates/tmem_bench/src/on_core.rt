@@ -10,7 +10,7 @@ use anyhow::Result;
 use std::alloc::{AllocError, Global};
 use std::rt::Clock;
 use std::time::{Duration, Instant};
-use tmem_core::{Core, Settled};
+use tmem_core::{Core, Decision, Settled};
 use tmem_disk::{Fault, Name};
 use tmem_invariants::Invariants;
 use tmem_record::{NameSet, State};
@@ -107,7 +107,7 @@ impl<T: Invariants + Drop, S: StoredSteps + Drop> OnCore<T, S> {
     }
 
     /// Evaluates the plan by the cursor, which is used again, and settles it.
-    pub fn by_cursor(&mut self) -> Result<Settled, Fault> {
+    pub fn by_cursor(&mut self) -> Result<Decision, Fault> {
         self.cursor.restart(&self.plan)?;
         for _ in 0..=MAX_NODES {
             match self.cursor.advance(&self.plan, &self.steps)? {
@@ -115,7 +115,7 @@ impl<T: Invariants + Drop, S: StoredSteps + Drop> OnCore<T, S> {
                     let value = self.core.peek(var);
                     self.cursor.give(var, value);
                 }
-                Progress::Ended => return self.core.settle(self.cursor.attempt()),
+                Progress::Ended => return self.core.decide(self.cursor.attempt()),
             }
         }
         Err(Fault::Conflict)

@@ -9,6 +9,7 @@ use crate::timing::Rounds;
 use anyhow::Result;
 use std::alloc::Global;
 use std::rt::Clock;
+use tmem_core::Decision;
 use tmem_disk::SimDisk;
 use tmem_invariants::Invariants;
 use tmem_tree::StoredSteps;
@@ -119,7 +120,7 @@ fn line_of_core<R: Clock + Print, T: Invariants + Drop, S: StoredSteps + Drop>(
     let had = core.measure(rt, rounds)?;
     let name = format!(in alloc; "{}{among}", job.name())?;
     if wish.is_once {
-        let (by_evaluate, by_cursor) = (word(core.by_evaluate()?), word(core.by_cursor()?));
+        let (by_evaluate, by_cursor) = (word(core.by_evaluate()?), decided(core.by_cursor()?));
         println!(rt; "{name:<28}{by_evaluate:>12}{by_cursor:>12}")?;
         return Ok(());
     }
@@ -181,6 +182,17 @@ fn line_of_world<R: Clock + Print, T: Invariants + Drop, S: StoredSteps + Drop>(
     }
     println!(rt; "{name:<28}{:>12.1}{:>12.1}", had.play, had.flush)?;
     Ok(())
+}
+
+// What a transaction was answered, without its registers.
+fn decided(decision: Decision) -> &'static str {
+    match decision {
+        Decision::Committed(_) => "committed",
+        Decision::Seen(_) => "seen",
+        Decision::Retry => "retry",
+        Decision::Aborted(_) => "aborted",
+        Decision::Refused(_) => "refused",
+    }
 }
 
 // What a transaction was answered.

@@ -5,7 +5,8 @@ ghost use Rattle.tmem_record.specs.Names.{has_name};
 ghost use Rattle.tmem_record.specs.declared.effect.Effect.{Effect as EffectOf};
 ghost use Rattle.tmem_tentative.specs.Fits.{IsForVariables};
 ghost use Rattle.tmem_core.specs.Held.{state_of, opened_of, history_of, waiting_of, durable_of, is_shut_of, table_of};
-ghost use Rattle.tmem_core.specs.SettleAnswer.{settle_answer, accepted_by, judged};
+ghost use Rattle.tmem_core.specs.SettleAnswer.{settle_answer, judged};
+ghost use Rattle.tmem_core.specs.Decisions.{answer_of, taken_by};
 ghost use Rattle.tmem_core.specs.Verdict.{verdict};
 ghost use Rattle.tmem_tentative.specs.Right.{IsRight};
 ghost use Rattle.tmem_tree.specs.declared.tx.Tx.{Tx as TxOf};
@@ -17,7 +18,7 @@ ghost use Rattle.tmem_front.specs.Histories.{after, marked, numbered, IsSoundSta
 
 use crate::naming::StoreNaming;
 use std::marker::Model;
-use tmem_core::{Core, Settled};
+use tmem_core::{Core, Decision};
 use tmem_disk::Fault;
 use tmem_invariants::Invariants;
 use tmem_record::Batch;
@@ -58,38 +59,38 @@ impl<N: StoreNaming, T: Invariants + Drop> CoreSeat<N, T> {
     }
 
     /// Settles an attempt for a pass. The core first learns how many are durable, at least as many as the pass saw, and
-    /// then answers by its present state. What commits is accepted under the mark of the pass, which has it as its own.
-    /// The pass knows all that is accepted then.
-    pub fn settle(
+    /// then answers by its present state. The answer leaves out the registers, which are those of the attempt. What commits
+    /// is accepted under the mark of the pass, which has it as its own. The pass knows all that is accepted then.
+    pub fn decide(
         &mut self,
         spine: &Spine<N>,
         pass: &mut Pass<N>,
         attempt: &Attempt,
-    ) -> Result<Settled, Fault>
+    ) -> Result<Decision, Fault>
         requires variables { IsForVariables (length N.opening.values) attempt.now }
         requires names { All (λ name. IsTrue (has_name N.program.names name)) attempt.now.effect.names }
         ensures trimmed { (self.old.trimmed ≤ self.new.trimmed) × (count N.name.start pass.old.seen ≤ self.new.trimmed) }
-        ensures answer { result ≡ settle_answer N.program self.old.is_shut (after N.opening self.old.accepted) self.new.trimmed attempt.now }
+        ensures answer { answer_of result attempt.now.registers ≡ settle_answer N.program self.old.is_shut (after N.opening self.old.accepted) self.new.trimmed attempt.now }
         ensures verdict { (tx : TxOf) → IsRight N.program.steps tx attempt.now
-            → result ≡ judged self.old.is_shut (after N.opening self.old.accepted) self.new.trimmed attempt.now.reads.entries (verdict N.program tx (after N.opening self.old.accepted)) }
+            → answer_of result attempt.now.registers ≡ judged self.old.is_shut (after N.opening self.old.accepted) self.new.trimmed attempt.now.reads.entries (verdict N.program tx (after N.opening self.old.accepted)) }
         ensures number { (after N.opening self.old.accepted).count ≡ count N.name.start self.old.accepted }
-        ensures accepted { self.new.accepted ≡ self.old.accepted ++ marked pass.old.mark (accepted_by result attempt.now.effect) }
-        ensures pass { pass.new ≡ record pass.old { known = self.new.accepted; own = pass.old.own ++ numbered (count N.name.start self.old.accepted) (accepted_by result attempt.now.effect) } }
+        ensures accepted { self.new.accepted ≡ self.old.accepted ++ marked pass.old.mark (taken_by result attempt.now.effect) }
+        ensures pass { pass.new ≡ record pass.old { known = self.new.accepted; own = pass.old.own ++ numbered (count N.name.start self.old.accepted) (taken_by result attempt.now.effect) } }
         ensures begins { IsPrefix pass.old.known self.old.accepted }
         ensures sound { IsSoundState N.program (after N.opening self.new.accepted) }
         ensures rest { (self.new.given ≡ self.old.given) × (self.new.is_shut ≡ self.old.is_shut) }
     {
         let durable = spine.trim(&mut self.side, pass);
         self.core.note_durable(durable);
-        let answer = self.core.settle(attempt);
-        if commits(&answer) {
+        let decision = self.core.decide(attempt);
+        if commits(&decision) {
             // that the count has room for it is why the core accepted it
             let _count = self.core.count();
             spine.accept(&mut self.side, pass, &attempt.effect);
         } else {
             spine.meet_core(&mut self.side, pass);
         }
-        answer
+        decision
     }
 
     /// Gives out a pass that knows nothing yet, under the mark that is next. Refused with `NoSeat` exactly where as
@@ -164,16 +165,16 @@ impl<N: StoreNaming, T: Invariants + Drop> CoreSeat<N, T> {
     }
 }
 
-// Whether an answer accepts the effect of its attempt.
-fn commits(answer: &Result<Settled, Fault>) -> bool
-    ensures { (effect : EffectOf) → MatchBool result (accepted_by answer.now effect ≡ effect ∷ []) (accepted_by answer.now effect ≡ []) }
+// Whether a decision accepts the effect of its attempt.
+fn commits(decision: &Result<Decision, Fault>) -> bool
+    ensures { (effect : EffectOf) → MatchBool result (taken_by decision.now effect ≡ effect ∷ []) (taken_by decision.now effect ≡ []) }
 {
-    match answer {
-        Ok(Settled::Committed { .. }) => true,
-        Ok(Settled::Seen { .. }) => false,
-        Ok(Settled::Retry) => false,
-        Ok(Settled::Aborted(_)) => false,
-        Ok(Settled::Refused(_)) => false,
+    match decision {
+        Ok(Decision::Committed(_)) => true,
+        Ok(Decision::Seen(_)) => false,
+        Ok(Decision::Retry) => false,
+        Ok(Decision::Aborted(_)) => false,
+        Ok(Decision::Refused(_)) => false,
         Err(_) => false,
     }
 }

@@ -3,6 +3,9 @@ ghost use Rattle.std.specs.Prelude.{◌≡◌, ◌≤◌, ◌<◌, ◌↔◌, fa
 ghost use Rattle.tmem_journal.specs.Held.{is_closed_of};
 ghost use Rattle.tmem_front.specs.Flushing.{GoesOn, IsFlushRefusal, IsCheckpointRefusal};
 ghost use Rattle.tmem_record.specs.Prefix.{IsPrefix};
+ghost use Rattle.tmem_record.specs.declared.effect.Effect.{Effect as EffectOf};
+ghost use Rattle.tmem_core.specs.SettleAnswer.{accepted_by};
+ghost use Rattle.tmem_core.specs.Decisions.{answer_of, taken_by};
 ghost use Rattle.tmem_record.specs.Names.{has_name};
 ghost use Rattle.tmem_tentative.specs.Fits.{IsForVariables, IsForNames};
 ghost use Rattle.tmem_tentative.specs.Right.{IsRight};
@@ -21,7 +24,7 @@ use crate::naming::StoreNaming;
 use crate::pass::Pass;
 use std::alloc::Global;
 use std::sync::{Condvar, Mutex, Wait};
-use tmem_core::Settled;
+use tmem_core::{Decision, Settled};
 use tmem_disk::{Cause, Disk, Fault, Name};
 use tmem_invariants::Invariants;
 use tmem_spine::{Pass as Seat, Spine};
@@ -123,11 +126,11 @@ impl<D: Disk + Drop, N: StoreNaming, T: Invariants + Drop, S: StoredSteps + Drop
         requires names { All (λ name. IsTrue (has_name N.program.names name)) attempt.now.effect.names }
         ensures settled { Settles N.name.start N.opening N.program attempt.now seat.old result seat.new }
     {
-        let answer = self.core.lock(rt).settle(&self.spine, seat, attempt);
-        if let Ok(Settled::Committed { .. }) = answer {
+        let decision = self.core.lock(rt).decide(&self.spine, seat, attempt);
+        if let Ok(Decision::Committed(_)) = decision {
             self.committed.notify_all();
         }
-        answer
+        with_registers(decision, attempt)
     }
 
     /// One attempt at a plan of this front, which is settled. It is made in the memory of the pass, and not copied.
@@ -283,4 +286,15 @@ impl<D: Disk + Drop, N: StoreNaming, T: Invariants + Drop, S: StoredSteps + Drop
     {
         Plan::new(tx, &self.steps, self.vars, &self.names)
     }
+}
+
+// The whole answer to an attempt. The registers are copied here, and not under the core's lock.
+pub(crate) fn with_registers(
+    decision: Result<Decision, Fault>,
+    attempt: &Attempt,
+) -> Result<Settled, Fault>
+    ensures answer { result ≡ answer_of decision attempt.now.registers }
+    ensures accepted { (effect : EffectOf) → accepted_by result effect ≡ taken_by decision effect }
+{
+    Ok(decision?.settled(&attempt.registers))
 }

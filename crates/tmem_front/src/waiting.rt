@@ -10,11 +10,11 @@ ghost use Rattle.tmem_spine.specs.History.{count};
 ghost use Rattle.tmem_front.specs.Flushing.{IsFlusherRefusal};
 ghost use Rattle.tmem_front.specs.Settling.{Settles, SettlesAtLast};
 
-use crate::front::Front;
+use crate::front::{Front, with_registers};
 use crate::naming::StoreNaming;
 use crate::pass::Pass;
 use std::sync::Wait;
-use tmem_core::Settled;
+use tmem_core::{Decision, Settled};
 use tmem_disk::{Disk, Fault};
 use tmem_invariants::Invariants;
 use tmem_spine::Pass as Seat;
@@ -71,13 +71,13 @@ impl<D: Disk + Drop, N: StoreNaming, T: Invariants + Drop, S: StoredSteps + Drop
         ensures settled { Settles N.name.start N.opening N.program attempt.now seat.old result seat.new }
     {
         let mut core = self.core.lock(rt);
-        let answer = core.settle(&self.spine, seat, attempt);
-        match answer {
-            Ok(Settled::Committed { .. }) => {
+        let decision = core.decide(&self.spine, seat, attempt);
+        match decision {
+            Ok(Decision::Committed(_)) => {
                 drop(core);
                 self.committed.notify_all();
             }
-            Ok(Settled::Retry) => {
+            Ok(Decision::Retry) => {
                 let settled_at = core.count();
                 for _ in rt.forever() {
                     if settled_at < core.count() || core.is_shut() {
@@ -86,9 +86,9 @@ impl<D: Disk + Drop, N: StoreNaming, T: Invariants + Drop, S: StoredSteps + Drop
                     core = self.committed.wait(rt, core);
                 }
             }
-            _ => {}
+            _ => drop(core),
         }
-        answer
+        with_registers(decision, attempt)
     }
 
     /// Waits until more than `number` transactions are durable. The pass saw these then. Refused by `Closed` where the front was
