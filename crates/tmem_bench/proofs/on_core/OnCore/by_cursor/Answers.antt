@@ -8,14 +8,14 @@ peek-value-requires g c =
     let within = c.in_ok-var.ensures.within 1024 c.loop.self.fits_variables in
     subst (λ n. c.in-Need.var < n) (sym c.loop.self.sized) (subst (λ p. IsWithin 1024 (outcome_of c.advance.new.self p)) c.in-Need.is within)
 
-pub settle-requires-clause-variables : goal.settle-requires-clause-variables
-settle-requires-clause-variables g c =
+pub decide-requires-clause-variables : goal.decide-requires-clause-variables
+decide-requires-clause-variables g c =
     let within = c.in_ok-var.ensures.within 1024 c.loop.self.fits_variables in
     let ended = subst (λ p. IsWithin 1024 (outcome_of c.advance.new.self p)) c.in-Ended.is within in
     subst (λ n. IsForVariables n c.attempt.result.now) (sym c.loop.self.sized) (subst (IsForVariables 1024) (sym c.attempt.ensures.attempt) ended)
 
-pub settle-requires-clause-names : goal.settle-requires-clause-names
-settle-requires-clause-names g c =
+pub decide-requires-clause-names : goal.decide-requires-clause-names
+decide-requires-clause-names g c =
     let names = c.loop.self.names.items in
     let named = c.in_ok-var.ensures.named names c.loop.self.fits_names in
     let ended = subst (λ p. IsNamed names (outcome_of c.advance.new.self p)) c.in-Ended.is named in
