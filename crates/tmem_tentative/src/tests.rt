@@ -5,6 +5,8 @@ ghost use Rattle.tmem_tree.specs.StepAnswers.{StepMeanings};
 ghost use Rattle.tmem_tree.specs.Plans.{FitsSteps};
 ghost use Rattle.tmem_tentative.specs.Cursors.{IsAt};
 
+mod script_trees;
+
 use crate::{Attempt, Cursor, Ending, Outcome, Reads, evaluate};
 use std::alloc::{AllocError, Global};
 use std::cell::Cell;
@@ -143,22 +145,28 @@ fn no_step_is_taken_twice(rt: HostRuntime) -> Result<(), Fail> {
     Ok(())
 }
 
-/// Whether two attempts are equal: their endings, their registers, how much they read, and their effects.
+/// Whether two attempts are equal: their reads, in order, their endings, their registers and their effects.
 fn are_alike(one: &Attempt, other: &Attempt) -> bool {
     one.ending == other.ending
         && one.registers == other.registers
-        && one.reads.len() == other.reads.len()
+        && are_read_alike(&one.reads, &other.reads)
         && one.effect.writes.as_slice() == other.effect.writes.as_slice()
         && one.effect.names.as_slice() == other.effect.names.as_slice()
 }
 
+/// Whether the same variables were read, with the same values, in the same order.
+fn are_read_alike(one: &Reads, other: &Reads) -> bool {
+    one.len() == other.len()
+        && (0..one.len()).all(|index| one.get_index(index) == other.get_index(index))
+}
+
 /// How one evaluation from the start and one that goes on compare.
-#[derive(Clone, Copy, Debug, PartialEq, Eq)]
+#[derive(Drop)]
 enum Comparison {
-    /// Both need the value of one variable, and were given its number.
+    /// Both need the value of one variable, and were given it.
     BothNeed,
-    /// Both have ended, and alike.
-    BothEnded,
+    /// Both have ended with this attempt.
+    BothEnded(Attempt),
     /// They differ.
     Differ,
 }
@@ -168,6 +176,7 @@ fn both<S: StoredSteps>(
     alloc: Global,
     plan: &Plan,
     steps: &S,
+    values: &[i64],
     cursor: &mut Cursor,
     reads: &mut Reads,
 ) -> Result<Comparison, Fault>
@@ -183,23 +192,44 @@ fn both<S: StoredSteps>(
             if plain != var {
                 return Ok(Comparison::Differ);
             }
-            let value = i64::from(var);
+            let value = values.get(usize::from(var)).copied().unwrap_or(0);
             reads.insert(var, value)?;
             cursor.give(var, value);
             Ok(Comparison::BothNeed)
         }
-        (Outcome::Ended(plain), Outcome::Ended(attempt)) => Ok(compared(&plain, &attempt)),
+        (Outcome::Ended(plain), Outcome::Ended(attempt)) => Ok(compared(&plain, attempt)),
         _ => Ok(Comparison::Differ),
     }
 }
 
 /// How two attempts compare.
-fn compared(one: &Attempt, other: &Attempt) -> Comparison {
-    if are_alike(one, other) {
-        Comparison::BothEnded
+fn compared(plain: &Attempt, attempt: Attempt) -> Comparison {
+    if are_alike(plain, &attempt) {
+        Comparison::BothEnded(attempt)
     } else {
         Comparison::Differ
     }
+}
+
+/// The attempt that the two answer alike in the end, which is after a value of each variable at the most.
+fn ended_alike<S: StoredSteps>(
+    alloc: Global,
+    plan: &Plan,
+    steps: &S,
+    values: &[i64],
+) -> Result<Option<Attempt>, Fault>
+    requires { FitsSteps (S.arities steps.now) plan.now }
+{
+    let mut reads = Reads::new(alloc);
+    let mut cursor = Cursor::new(alloc, plan)?;
+    for _ in 0..5 {
+        match both(alloc, plan, steps, values, &mut cursor, &mut reads)? {
+            Comparison::BothNeed => {}
+            Comparison::BothEnded(attempt) => return Ok(Some(attempt)),
+            Comparison::Differ => return Ok(None),
+        }
+    }
+    Ok(None)
 }
 
 /// Whether the two answer alike to the end, and need so many values on the way. Variable n holds n.
@@ -208,15 +238,10 @@ fn are_evaluated_alike(alloc: Global, tx: Tx, values: usize) -> Result<bool, Fau
         calls: Cell::new(0),
     };
     let plan = Plan::new(tx, &steps, 4, &[Name::new("ab")?])?;
-    let mut reads = Reads::new(alloc);
-    let mut cursor = Cursor::new(alloc, &plan)?;
-    for _ in 0..values {
-        if both(alloc, &plan, &steps, &mut cursor, &mut reads)? != Comparison::BothNeed {
-            return Ok(false);
-        }
+    match ended_alike(alloc, &plan, &steps, &[0, 1, 2, 3])? {
+        Some(attempt) => Ok(attempt.reads.len() == values),
+        None => Ok(false),
     }
-    let last = both(alloc, &plan, &steps, &mut cursor, &mut reads)?;
-    Ok(last == Comparison::BothEnded)
 }
 
 fn or_else(alloc: Global, first: Tx, second: Tx) -> Result<Tx, AllocError> {
