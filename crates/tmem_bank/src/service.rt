@@ -8,7 +8,7 @@ use crate::transfers::{Transfer, balances, deposits};
 use std::alloc::Global;
 use std::marker::Brand;
 use std::sync::Wait;
-use std::thread::{Threads, join};
+use std::thread::{self, Threads, join};
 use tmem_core::Settled;
 use tmem_disk::{Disk, Fault};
 use tmem_front::{Front, OpenedFront, Pace, Pass, StoreNaming};
@@ -61,14 +61,14 @@ fn serve<
     let _ = println!(rt; "found {found}");
     if found == 0 {
         let opening = front.plan(deposits(alloc)?)?;
-        say(rt, &front.try_atomically(rt, &mut clerk, &opening));
+        say(rt, &front.atomically(rt, &mut clerk, &opening)?);
     }
-    say(rt, &front.audit(rt, alloc));
+    say(rt, &front.audit(rt, alloc)?);
     move_alone(rt, alloc, &front, &mut clerk)?;
     let (((a, b), (c, d)), last) = move_and_flush(rt, alloc, &front)?;
     front.checkpoint(rt)?;
     let _ = println!(rt; "moved {a} {b} {c} {d}");
-    say(rt, &Ok(last));
+    say(rt, &last);
     let _ = println!(rt; "durable {}", front.look(&mut clerk));
     Ok(())
 }
@@ -83,29 +83,30 @@ fn move_alone<
 >(rt: &R, alloc: Global, front: &Front<D, N, T, S>, pass: &mut Pass<N>) -> Result<(), Fault> {
     let transfer = front.plan(Transfer::new(0, 1, 1).tx(alloc)?)?;
     let overdraft = front.plan(Transfer::new(0, 1, 5000).tx(alloc)?)?;
-    say(rt, &front.try_atomically(rt, pass, &transfer));
-    say(rt, &front.try_atomically(rt, pass, &transfer));
+    say(rt, &front.atomically(rt, pass, &transfer)?);
+    say(rt, &front.atomically(rt, pass, &transfer)?);
     let late = front.attempt(rt, &transfer)?;
     let _ = println!(rt; "attempted");
-    say(rt, &front.try_atomically(rt, pass, &transfer));
-    say(rt, &front.settle(rt, pass, &late));
-    say(rt, &front.try_atomically(rt, pass, &transfer));
-    say(rt, &front.try_atomically(rt, pass, &overdraft));
+    say(rt, &front.atomically(rt, pass, &transfer)?);
+    if let Err(fault) = front.settle(rt, pass, &late) {
+        let _ = println!(rt; "{fault}");
+    }
+    say(rt, &front.atomically(rt, pass, &transfer)?);
+    say(rt, &front.atomically(rt, pass, &overdraft)?);
     Ok(())
 }
 
-// Prints what a transaction was answered.
-fn say<R: Print>(rt: &R, answer: &Result<Settled, Fault>) {
-    let _ = match answer {
-        Ok(Settled::Committed { number, .. }) => println!(rt; "committed {number}"),
-        Ok(Settled::Seen { registers, .. }) => println!(rt;
+// Prints how a transaction ended.
+fn say<R: Print>(rt: &R, settled: &Settled) {
+    let _ = match settled {
+        Settled::Committed { number, .. } => println!(rt; "committed {number}"),
+        Settled::Seen { registers, .. } => println!(rt;
             "balances {} {} {} {}, together {}",
             registers[0], registers[1], registers[2], registers[3], registers[4]
         ),
-        Ok(Settled::Retry) => println!(rt; "retry"),
-        Ok(Settled::Aborted(code)) => println!(rt; "aborted {code}"),
-        Ok(Settled::Refused(name)) => println!(rt; "refused {name}"),
-        Err(fault) => println!(rt; "{fault}"),
+        Settled::Retry => println!(rt; "retry"),
+        Settled::Aborted(code) => println!(rt; "aborted {code}"),
+        Settled::Refused(name) => println!(rt; "refused {name}"),
     };
 }
 
@@ -169,25 +170,23 @@ impl<D: Disk + Drop, N: StoreNaming, T: Invariants + Drop, S: StoredSteps + Drop
     }
 }
 
-// Four threads move money beside a flusher, which ends once they have ended and all is durable. Answers with what the accounts
-// have then.
+// Four threads move money beside a flusher in a thread of its own, which ends once they have ended and all is durable. Answers
+// with what the accounts have then.
 fn move_and_flush<F: Moving + Sync, R: Threads + Wait + Sync>(
     rt: &R,
     alloc: Global,
     store: &F,
 ) -> Result<(Moved, Settled), Fault> {
-    let (flushed, moved) = join(
-        rt,
-        || store.flush(rt),
-        || {
-            let moved = move_by_four(rt, alloc, store);
-            let last = store.audit(rt, alloc);
-            store.close(rt);
-            Ok((moved?, last?))
-        },
-    );
-    flushed?;
-    moved
+    thread::scope(thread::scope_env(), rt, |scope| {
+        let Ok(flusher) = scope.spawn(move || store.flush(rt)) else {
+            return Err(Fault::Memory);
+        };
+        let moved = move_by_four(rt, alloc, store);
+        let last = store.audit(rt, alloc);
+        store.close(rt);
+        flusher.join(rt)?;
+        Ok((moved?, last?))
+    })
 }
 
 fn move_by_four<F: Moving + Sync, R: Threads + Wait + Sync>(
