@@ -1,3 +1,5 @@
+pub mod Laws
+pub mod Sharing
 mod Again
 mod Leaves
 mod OpensStore

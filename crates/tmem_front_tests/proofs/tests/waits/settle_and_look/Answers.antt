@@ -1,5 +1,5 @@
 use denote.Param.Send.{sendable}
-use Rattle.tmem_front_tests.proofs.Crosses.{front_sync}
+use Rattle.tmem_front.proofs.Laws.{front_sync}
 use Rattle.tmem_front_tests.proofs.tests.waits.settle_and_look.Goals as goal
 
 pub flush_and_settle-requires-sync-F : goal.flush_and_settle-requires-sync-F
