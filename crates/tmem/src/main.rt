@@ -1,4 +1,4 @@
-//! `tmem`: plays scripts of durable transactions, and prints a line for each event.
+//! `tmem`: plays scripts of durable transactions, and prints a line for each event; or lets threads count up.
 #![tactic(auto)]
 
 mod command_line;

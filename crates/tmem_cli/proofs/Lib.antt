@@ -1,4 +1,5 @@
 mod Listing
+mod Numbers
 mod Opening
 mod Outcomes
 mod Playing

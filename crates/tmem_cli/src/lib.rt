@@ -1,11 +1,14 @@
-//! What the program `tmem` does: it plays scripts of durable transactions, and prints a line for each event.
+//! What the program `tmem` does: it plays scripts of durable transactions, and prints a line for each event; or it lets threads
+//! count up, and prints their totals.
 //!
-//! `args` says which words a command line may have, `words` does what they say, `play` plays a script on a device, which
-//! `device` makes or opens, and `print` prints its lines. `chain` has a law of what a crash of a run leaves.
+//! `args` says which words a command line may have, and `words` does what they say: `play` plays a script on a device, and
+//! `count` lets threads count up there. `device` makes or opens the device, and `print` prints the lines. `chain` has a law of
+//! what a crash of a run leaves.
 #![tactic(auto)]
 
 mod args;
 mod chain;
+mod count;
 mod device;
 mod play;
 mod print;
