@@ -1,6 +1,6 @@
 -- What a transaction adds to a pass.
 use Rattle.std.proofs.Common.{◌≡◌, ℕ, ◌<◌, ◌≤◌, ◌+◌, ◌-◌, ◌==◌, Bool, true, false, List, [], ◌∷◌, ◌++◌, length, Option, Some, None, Result, Ok, Err, inl, inr, refl, ap, sym, ◌∙◌, subst, arith, length-append}
-use Rattle.std.specs.Prelude.{ℤ, All, if◌then◌else◌}
+use Rattle.std.specs.Prelude.{ℤ, if◌then◌else◌}
 use Rattle.std.proofs.lemmas.List.{append-nil, append_assoc}
 use Rattle.std.proofs.lemmas.List.Elements.{All-nil, All-cons, All-append, All-weaker}
 use Rattle.std.proofs.Math.Logic.{∥∥₁_map, ∥∥₁_elim, ∥∥₁_prop}
@@ -110,7 +110,7 @@ one start opening p attempt old mid new settled n s is same later durable =
     record {
       added = (n, attempt.effect) ∷ [];
       own = ap (λ (v : PassView). v.own) same ∙ (ap (λ (v : PassView). v.own) s.pass
-      ∙ (ap (λ (es : List Effect). old.own ++ numbered (count start s.before) es) (accepts_one settled attempt.effect n is) ∙ ap (λ (k : ℕ). old.own ++ (k, attempt.effect) ∷ []) (sym at)));
+          ∙ (ap (λ (es : List Effect). old.own ++ numbered (count start s.before) es) (accepts_one settled attempt.effect n is) ∙ ap (λ (k : ℕ). old.own ++ (k, attempt.effect) ∷ []) (sym at)));
       many = refl;
       durable = All-cons (λ (it : ℕ × Effect). it.0 < count start new.seen) (n, attempt.effect) [] durable (All-nil (λ (it : ℕ × Effect). it.0 < count start new.seen));
       later = subst (λ (l : List Entry). count start l ≤ count start new.seen) (ap (λ (v : PassView). v.seen) s.pass) (prefix_count start mid.seen new.seen later);
@@ -144,8 +144,8 @@ both start old mid new n m k a b is = record {
   own = b.own ∙ (ap (λ (l : List (ℕ × Effect)). l ++ b.added) a.own ∙ append_assoc old.own a.added b.added);
   many = length-append a.added b.added ∙ (ap (λ (l : ℕ). l + length b.added) a.many ∙ (ap (λ (l : ℕ). n + l) b.many ∙ sym is));
   durable = All-append (λ (it : ℕ × Effect). it.0 < count start new.seen) a.added b.added
-  (All-weaker (λ (it : ℕ × Effect). it.0 < count start mid.seen) (λ (it : ℕ × Effect). it.0 < count start new.seen) (λ it less. let more = b.later in omega (arith, less, more)) a.added a.durable)
-  b.durable;
+      (All-weaker (λ (it : ℕ × Effect). it.0 < count start mid.seen) (λ (it : ℕ × Effect). it.0 < count start new.seen) (λ it less. let more = b.later in omega (arith, less, more)) a.added a.durable)
+      b.durable;
   later = let x = a.later in let y = b.later in omega (arith, x, y);
 }
 

@@ -54,13 +54,7 @@ impl<D: Disk + Drop, N: StoreNaming, T: Invariants + Drop, S: StoredSteps + Drop
 }
 
 // Adds so often by one pass.
-fn add_turns<
-    R: Wait,
-    D: Disk + Drop,
-    N: StoreNaming,
-    T: Invariants + Drop,
-    S: StoredSteps + Drop,
->(
+fn add_turns<R: Wait, D: Disk + Drop, N: StoreNaming, T: Invariants + Drop, S: StoredSteps + Drop>(
     rt: &R,
     front: &Front<D, N, T, S>,
     pass: &mut Pass<N>,
@@ -83,13 +77,7 @@ fn add_turns<
 }
 
 // Adds once, and awaits that. Answers whether it was committed.
-fn add_once<
-    R: Wait,
-    D: Disk + Drop,
-    N: StoreNaming,
-    T: Invariants + Drop,
-    S: StoredSteps + Drop,
->(
+fn add_once<R: Wait, D: Disk + Drop, N: StoreNaming, T: Invariants + Drop, S: StoredSteps + Drop>(
     rt: &R,
     front: &Front<D, N, T, S>,
     pass: &mut Pass<N>,

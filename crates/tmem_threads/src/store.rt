@@ -116,14 +116,7 @@ fn count_with<
     D: Disk + Drop + Send,
     T: Invariants + Drop + Send,
     S: StoredSteps + Drop + Send + Sync,
->(
-    rt: &R,
-    alloc: Global,
-    disk: D,
-    table: T,
-    steps: S,
-    work: Work,
-) -> Result<Totals, Fault>
+>(rt: &R, alloc: Global, disk: D, table: T, steps: S, work: Work) -> Result<Totals, Fault>
     requires vars { T.vars table ≡ VARS }
     requires names { T.names table ≡ counting.names }
     requires tests { T.is_stated table counting.tests }
@@ -160,13 +153,12 @@ fn count_in<
 }
 
 // The totals, where so many were answered to have committed.
-fn last_look<
-    N: StoreNaming,
-    D: Disk + Drop,
-    T: Invariants + Drop,
-    S: StoredSteps + Drop,
-    R: Wait,
->(rt: &R, front: &Front<D, N, T, S>, pass: &mut Pass<N>, committed: u64) -> Totals
+fn last_look<N: StoreNaming, D: Disk + Drop, T: Invariants + Drop, S: StoredSteps + Drop, R: Wait>(
+    rt: &R,
+    front: &Front<D, N, T, S>,
+    pass: &mut Pass<N>,
+    committed: u64,
+) -> Totals
     requires { 0 < length N.opening.values }
     ensures committed { result.committed ≡ committed }
     ensures value { WasValue N.program N.opening 0 result.value }

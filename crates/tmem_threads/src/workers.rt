@@ -26,18 +26,22 @@ pub(crate) fn work_and_flush<F: Counting + Sync, R: Threads + Wait + Clock + Syn
 ) -> Result<u64, Fault>
     ensures { IfOk result (λ committed. committed ≤ work.workers * work.turns) }
 {
-    thread::scope(thread::scope_env(), rt, |scope| -> Result<u64, Fault>
-        ensures { IfOk result (λ committed. committed ≤ work.workers * work.turns) }
-    {
-        let is_shared = work.workers > 1;
-        let Ok(flusher) = scope.spawn(move || store.flush(rt, is_shared)) else {
-            return Err(Fault::Memory);
-        };
-        let committed = work_all(rt, alloc, store, work);
-        store.close(rt);
-        flusher.join(rt)?;
-        committed
-    })
+    thread::scope(
+        thread::scope_env(),
+        rt,
+        |scope| -> Result<u64, Fault>
+            ensures { IfOk result (λ committed. committed ≤ work.workers * work.turns) }
+        {
+            let is_shared = work.workers > 1;
+            let Ok(flusher) = scope.spawn(move || store.flush(rt, is_shared)) else {
+                return Err(Fault::Memory);
+            };
+            let committed = work_all(rt, alloc, store, work);
+            store.close(rt);
+            flusher.join(rt)?;
+            committed
+        },
+    )
 }
 
 fn work_all<F: Counting + Sync, R: Threads + Wait + Sync>(
@@ -49,9 +53,14 @@ fn work_all<F: Counting + Sync, R: Threads + Wait + Sync>(
     ensures { IfOk result (λ committed. committed ≤ work.workers * work.turns) }
 {
     let turns = work.turns;
-    let answers = map_indices(rt, alloc, usize::from(work.workers), &|_| -> Result<u64, Fault>
-        ensures { IfOk result (λ committed. committed ≤ turns) }
-    { store.add(rt, alloc, turns) })?;
+    let answers = map_indices(
+        rt,
+        alloc,
+        usize::from(work.workers),
+        &|_| -> Result<u64, Fault>
+            ensures { IfOk result (λ committed. committed ≤ turns) }
+        { store.add(rt, alloc, turns) },
+    )?;
     sum_of(answers.as_slice())
 }
 

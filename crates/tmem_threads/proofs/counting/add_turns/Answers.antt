@@ -1,4 +1,4 @@
-use Rattle.std.proofs.Common.{◌≡◌, ℕ, ◌+◌, ap, sym, subst, refl, arith, ◌∙◌}
+use Rattle.std.proofs.Common.{◌≡◌, ℕ, ◌+◌, ap, subst, arith}
 use Rattle.tmem_threads.specs.Counting.{AddsDurable, once}
 use Rattle.tmem_threads.proofs.Added.{both_held, nothing}
 use Rattle.tmem_threads.proofs.counting.add_turns.Goals as goal

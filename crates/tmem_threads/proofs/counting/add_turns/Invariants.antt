@@ -1,4 +1,4 @@
-use Rattle.std.proofs.Common.{◌≡◌, ◌≤◌}
+use Rattle.std.proofs.Common.{◌≤◌}
 use Rattle.tmem_threads.specs.Counting.{AddsDurable}
 use Rattle.tmem_threads.proofs.counting.add_turns.Given as goal
 

@@ -5,9 +5,9 @@ use Rattle.tmem_spine.specs.History.{count}
 use Rattle.tmem_spine.specs.Views.{PassView, SpineName}
 use Rattle.tmem_front.specs.Held.{found_of}
 use Rattle.tmem_front.specs.Histories.{WasValue}
+use Rattle.tmem_front.proofs.Laws.{front_sync}
 use Rattle.tmem_threads.specs.Counting.{counting}
 use denote.Param.Send.{sendable}
-use Rattle.tmem_threads.proofs.Crosses.{front_sync}
 use Rattle.tmem_threads.proofs.store.count_in.Goals as goal
 
 pub work_and_flush-requires-sync-F : goal.work_and_flush-requires-sync-F
