@@ -1,3 +1,4 @@
+mod Asking
 mod Listing
 mod Numbers
 mod Opening

@@ -4,9 +4,10 @@ ghost use Rattle.clap.specs.declared.builder.command.Command.TheViews.{out-Comma
 ghost use Rattle.clap.specs.Kinds.{FailsBy};
 ghost use Rattle.clap.specs.Matches.{found_of};
 ghost use Rattle.clap.specs.Simple.{app_of};
-ghost use Rattle.clap.specs.Walk.{first_of, one_of, rows_of};
-ghost use Rattle.tmem_cli.specs.CommandLine.{IsAsked, IsNumberOf, ReadsPlainly, command_line, run_words, threads_words, why_not_done};
+ghost use Rattle.clap.specs.Walk.{first_of, one_of, rows_of, rule_of};
+ghost use Rattle.tmem_cli.specs.CommandLine.{IsAsked, IsNumberOf, ReadsPlainly, bench_words, command_line, disk_words, parsed_word, run_words, threads_words, why_not_done};
 
+use clap::builder::ValueParser;
 use clap::{Arg, ArgMatches, Command, value_parser};
 use std::alloc::{AllocError, Global};
 use tmem_threads::Work;
@@ -30,6 +31,8 @@ pub(crate) enum Asked<'a> {
     Run(Paths<'a>),
     /// Threads are to count up.
     Threads(Counting<'a>),
+    /// The jobs of a service are to be timed, in the file of this path or of the usual one.
+    Bench(Option<&'a str>),
 }
 
 /// How threads are to count up.
@@ -51,6 +54,9 @@ pub(crate) fn asked_of<'a>(alloc: Global, words: &'a [String]) -> Result<Asked<'
     if let Some(threads) = matches.subcommand_matches("threads") {
         return Ok(Asked::Threads(counting_of(threads)));
     }
+    if let Some(bench) = matches.subcommand_matches("bench") {
+        return Ok(Asked::Bench(disk_of(bench)));
+    }
     let Some((_, run)) = matches.subcommand() else {
         return Ok(Asked::Run(Paths {
             script: None,
@@ -67,7 +73,7 @@ fn paths_of<'a>(run: &ArgMatches<'a>) -> Paths<'a>
 {
     Paths {
         script: run.get_str("script"),
-        disk: run.get_str("disk"),
+        disk: disk_of(run),
     }
 }
 
@@ -82,8 +88,15 @@ fn counting_of<'a>(threads: &ArgMatches<'a>) -> Counting<'a>
             workers: number_in(threads, "workers"),
             turns: number_in(threads, "turns"),
         },
-        disk: threads.get_str("disk"),
+        disk: disk_of(threads),
     }
+}
+
+// The path behind `--disk`.
+fn disk_of<'a>(matches: &ArgMatches<'a>) -> Option<&'a str>
+    ensures { option_map (λ text. text.now) result ≡ first_of (codes "disk") (rows_of (found_of matches.now)) }
+{
+    matches.get_str("disk")
 }
 
 // The number that an argument is given: the parser has seen that it is one.
@@ -102,7 +115,8 @@ fn command<'a>(alloc: Global) -> Result<Command<'a>, AllocError>
         .about("Durable transactions, played from scripts")
         .subcommand_required(true)
         .subcommand(run_command(alloc)?)?
-        .subcommand(threads_command(alloc)?)
+        .subcommand(threads_command(alloc)?)?
+        .subcommand(bench_command(alloc)?)
 }
 
 fn run_command<'a>(alloc: Global) -> Result<Command<'a>, AllocError>
@@ -116,38 +130,69 @@ fn run_command<'a>(alloc: Global) -> Result<Command<'a>, AllocError>
                 .value_name("SCRIPT")
                 .help("The file with the script [default: standard input]"),
         )?
-        .arg(
-            Arg::new(alloc, "disk").long("disk").value_name("PATH").help(
-                "The file of the store, made if it is missing [default: a device in memory]",
-            ),
-        )
+        .arg(disk_arg(
+            alloc,
+            "The file of the store, made if it is missing [default: a device in memory]",
+        ))
 }
 
 fn threads_command<'a>(alloc: Global) -> Result<Command<'a>, AllocError>
     ensures app { IfOk result (λ command. app_of command ≡ record { top = threads_words; subs = [] }) }
     ensures local { IfOk result (λ command. (fields_of command).has_globals ≡ false) }
 {
+    let workers = value_parser!(u16).range(1..=16);
+    let turns = value_parser!(u16).range(1..=1000);
     Command::new(alloc, "threads")
         .about("Lets threads count up in a new store in a file or in memory")
-        .arg(
-            Arg::new(alloc, "workers")
-                .required(true)
-                .value_name("WORKERS")
-                .value_parser(value_parser!(u16).range(1..=16))
-                .help("How many threads count, from 1 to 16"),
-        )?
-        .arg(
-            Arg::new(alloc, "turns")
-                .required(true)
-                .value_name("TURNS")
-                .value_parser(value_parser!(u16).range(1..=1000))
-                .help("How often each of them adds 1, from 1 to 1000"),
-        )?
-        .arg(
-            Arg::new(alloc, "disk").long("disk").value_name("PATH").help(
-                "The file of the store, which must not be there yet [default: a device in memory]",
-            ),
-        )
+        .arg(number_arg(alloc, "workers", "WORKERS", workers).help(
+            "How many threads count, from 1 to 16",
+        ))?
+        .arg(number_arg(alloc, "turns", "TURNS", turns).help(
+            "How often each of them adds 1, from 1 to 1000",
+        ))?
+        .arg(disk_arg(
+            alloc,
+            "The file of the store, which must not be there yet [default: a device in memory]",
+        ))
+}
+
+fn bench_command<'a>(alloc: Global) -> Result<Command<'a>, AllocError>
+    ensures app { IfOk result (λ command. app_of command ≡ record { top = bench_words; subs = [] }) }
+    ensures local { IfOk result (λ command. (fields_of command).has_globals ≡ false) }
+{
+    Command::new(alloc, "bench")
+        .about("Times the jobs of a service on a store in memory and in a file")
+        .arg(disk_arg(
+            alloc,
+            "The file of the timed stores, which must not be there yet [default: tmem-bench.store]",
+        ))
+}
+
+// A number, which has to be given.
+fn number_arg<'a>(
+    alloc: Global,
+    id: &'a str,
+    value_name: &'a str,
+    numbers: ValueParser<'a>,
+) -> Arg<'a>
+    ensures rule { rule_of result ≡ parsed_word id.entry.now numbers.entry }
+    ensures local { result.global ≡ false }
+{
+    Arg::new(alloc, id)
+        .required(true)
+        .value_name(value_name)
+        .value_parser(numbers)
+}
+
+// `--disk` with a path.
+fn disk_arg<'a>(alloc: Global, help: &'a str) -> Arg<'a>
+    ensures rule { rule_of result ≡ disk_words }
+    ensures local { result.global ≡ false }
+{
+    Arg::new(alloc, "disk")
+        .long("disk")
+        .value_name("PATH")
+        .help(help)
 }
 
 /// How plain command lines are read. It does nothing: a caller's proof takes the law from its contract.

@@ -1,7 +1,8 @@
 //! Lets threads count up in a new store.
-ghost use Rattle.std.specs.Prelude.{IfOk};
+ghost use Rattle.std.specs.Prelude.{IfOk, option_map};
 ghost use Rattle.tmem_record.specs.State.{State};
 ghost use Rattle.tmem_threads.specs.Counting.{AreTotals};
+ghost use Rattle.tmem_cli.specs.Outcomes.{IsMadeAt};
 
 use crate::device::{device_in_memory, made_file};
 use std::fs::{File, Files};
@@ -18,7 +19,8 @@ pub(crate) fn count_on<R: Files<File = File> + AllocGlobal + Threads + Wait + Cl
     work: Work,
     path: Option<&str>,
 ) -> Result<Totals, Fault>
-    ensures { IfOk result (λ totals. (opening : State) × AreTotals opening work totals) }
+    ensures made { IfOk result (λ _. IsMadeAt (option_map (λ text. text.now) path.entry)) }
+    ensures totals { IfOk result (λ totals. (opening : State) × AreTotals opening work totals) }
 {
     let layout = Layout::new(VARS, SLOTS)?;
     match path {

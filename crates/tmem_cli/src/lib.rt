@@ -1,12 +1,13 @@
 //! What the program `tmem` does: it plays scripts of durable transactions, and prints a line for each event; or it lets threads
-//! count up, and prints their totals.
+//! count up, and prints their totals; or it times the jobs of a service.
 //!
-//! `args` says which words a command line may have, and `words` does what they say: `play` plays a script on a device, and
-//! `count` lets threads count up there. `device` makes or opens the device, and `print` prints the lines. `chain` has a law of
-//! what a crash of a run leaves.
+//! `args` says which words a command line may have, and `words` does what they say: `play` plays a script on a device,
+//! `count` lets threads count up there, and `bench` has the jobs timed. `device` makes or opens the device, and `print` prints
+//! the lines. `chain` has a law of what a crash of a run leaves.
 #![tactic(auto)]
 
 mod args;
+mod bench;
 mod chain;
 mod count;
 mod device;

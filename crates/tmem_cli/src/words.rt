@@ -7,9 +7,10 @@ ghost use Rattle.tmem_script.specs.Scripts.{IsScriptText};
 ghost use Rattle.tmem_script.specs.Statuses.{status_of};
 ghost use Rattle.tmem_script.specs.declared.failure.Failure.TheVariants.{Output};
 ghost use Rattle.tmem_cli.specs.CommandLine.{AreRefused, AsksToPlay, IsRequest, path_in};
-ghost use Rattle.tmem_cli.specs.Outcomes.{IsDone, IsStopped, HasNoScript, CountsUp, IsWhyNotCounted, IsWhyNotPlayed, IsWhyNotRead, MayBeRead, PlaysRead};
+ghost use Rattle.tmem_cli.specs.Outcomes.{IsDone, IsStopped, HasNoScript, CountsUp, IsWhyNotCounted, IsWhyNotPlayed, IsWhyNotRead, IsWhyNotTimed, MayBeRead, PlaysRead};
 
 use crate::args::{Asked, Counting, Paths, asked_of};
+use crate::bench::run_bench;
 use crate::count::count_on;
 use crate::play::play;
 use crate::print::{TotalsText, print_line};
@@ -23,7 +24,7 @@ use std::thread::Threads;
 use tmem_script::{Failure, Script, ScriptError, WordsError, report};
 
 /// Does what the words of a command line say, the program's name first, and answers the status: 0 where help or the
-/// version was printed, a script was played to its end, or threads counted up; 1 where that failed on the way; 2 where the
+/// version was printed, a script was played to its end, threads counted up, or jobs were timed; 1 where that failed on the way; 2 where the
 /// words were refused, or memory did not suffice to read them; 3 where there was no script to play.
 pub fn run_words<R: Read, W: Write, E: Write>(
     rt: &(impl Files<File = File> + AllocGlobal + Threads + Wait + Clock + Sync),
@@ -50,6 +51,7 @@ pub fn run_words<R: Read, W: Write, E: Write>(
     match asked_of(rt.alloc(), words.as_slice()) {
         Ok(Asked::Run(paths)) => conclude(run(rt, paths, input, out), err),
         Ok(Asked::Threads(counting)) => conclude(count(rt, counting, out), err),
+        Ok(Asked::Bench(path)) => conclude(bench(rt, path, out), err),
         Err(refusal) => answer(&refusal, out, err),
     }
 }
@@ -125,11 +127,23 @@ fn count<W: Write>(
     counting: Counting,
     out: &mut W,
 ) -> Result<(), Failure>
-    ensures counted { OnOk result (CountsUp counting.entry.work (W.contents out.old) (W.contents out.new)) }
+    ensures counted { OnOk result (CountsUp counting.entry.work (option_map (λ text. text.now) counting.entry.disk) (W.contents out.old) (W.contents out.new)) }
     ensures failed { IfErr result IsWhyNotCounted }
 {
     let totals = count_on(rt, counting.work, counting.disk)?;
     print_line(out, TotalsText(totals))?;
+    flush(out)
+}
+
+/// Times the jobs of a service, in memory and in a file, and prints what each came to.
+fn bench<W: Write>(
+    rt: &(impl Files<File = File> + AllocGlobal + Threads + Wait + Clock + Sync),
+    path: Option<&str>,
+    out: &mut W,
+) -> Result<(), Failure>
+    ensures { IfErr result IsWhyNotTimed }
+{
+    run_bench(rt, path, out)?;
     flush(out)
 }
 

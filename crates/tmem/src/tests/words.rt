@@ -13,6 +13,7 @@ Usage: tmem <COMMAND>
 Commands:
   run      Plays a script on a store in a file or in memory
   threads  Lets threads count up in a new store in a file or in memory
+  bench    Times the jobs of a service on a store in memory and in a file
   help     Print this message or the help of the given subcommand(s)
 
 Options:
@@ -45,8 +46,17 @@ Options:
   -h, --help         Print help
 ";
 
+const BENCH_HELP: &str = "Times the jobs of a service on a store in memory and in a file
+
+Usage: tmem bench [OPTIONS]
+
+Options:
+      --disk <PATH>  The file of the timed stores, which must not be there yet [default: tmem-bench.store]
+  -h, --help         Print help
+";
+
 const NO_COMMAND: &str = "error: 'tmem' requires a subcommand but one was not provided
-  [subcommands: run, threads, help]
+  [subcommands: run, threads, bench, help]
 
 Usage: tmem <COMMAND>
 
@@ -108,6 +118,21 @@ const MANY_TURNS: &str = "error: invalid value '1001' for '<TURNS>': 1001 is not
 For more information, try '--help'.
 ";
 
+const ONE_NUMBER: &str = "error: the following required arguments were not provided:
+  <TURNS>
+
+Usage: tmem threads <WORKERS> <TURNS>
+
+For more information, try '--help'.
+";
+
+const TIMED_NUMBER: &str = "error: unexpected argument '4' found
+
+Usage: tmem bench [OPTIONS]
+
+For more information, try '--help'.
+";
+
 const NO_NUMBER: &str = "error: invalid value 'four' for '<WORKERS>': invalid digit found in string
 
 For more information, try '--help'.
@@ -143,6 +168,10 @@ fn help_goes_to_standard_output(rt: HostRuntime) -> Result<(), Fail> {
     for words in of_threads {
         run(&rt, words, b"")?.expect(format_args!("{words:?}"), 0, THREADS_HELP, "")?;
     }
+    let of_bench: &[&[&str]] = &[&["bench", "--help"], &["help", "bench"]];
+    for words in of_bench {
+        run(&rt, words, b"")?.expect(format_args!("{words:?}"), 0, BENCH_HELP, "")?;
+    }
     Ok(())
 }
 
@@ -160,6 +189,8 @@ fn refused_words_are_status_two(rt: HostRuntime) -> Result<(), Fail> {
         (&["threads", "4", "0"], NO_TURN),
         (&["threads", "4", "1001"], MANY_TURNS),
         (&["threads", "four", "100"], NO_NUMBER),
+        (&["threads", "4"], ONE_NUMBER),
+        (&["bench", "4"], TIMED_NUMBER),
     ];
     for (words, text) in table {
         run(&rt, words, FIRST.as_bytes())?.expect(format_args!("{words:?}"), 2, "", text)?;
