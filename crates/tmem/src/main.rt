@@ -1,4 +1,5 @@
-//! `tmem`: plays scripts of durable transactions, and prints a line for each event.
+//! `tmem`: plays scripts of durable transactions, and prints a line for each event; or lets threads count up; or times the jobs
+//! of a service.
 #![tactic(auto)]
 
 mod command_line;

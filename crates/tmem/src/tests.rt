@@ -3,6 +3,7 @@
 mod scripts;
 mod stores;
 mod streams;
+mod threads;
 mod words;
 
 use std::alloc::{AllocError, Global};

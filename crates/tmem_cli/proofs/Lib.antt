@@ -1,4 +1,6 @@
+mod Asking
 mod Listing
+mod Numbers
 mod Opening
 mod Outcomes
 mod Playing

@@ -12,7 +12,7 @@ use Rattle.tmem_journal.specs.Stands.{Position, first_position}
 use Rattle.tmem_script.specs.Errors.{IsUnread}
 use Rattle.tmem_script.specs.Statuses.{status_of}
 use Rattle.tmem_script.specs.declared.failure.Failure.{Failure}
-use Rattle.tmem_script.specs.declared.failure.Failure.TheVariants.{Script, Refused, Output, Words}
+use Rattle.tmem_script.specs.declared.failure.Failure.TheVariants.{Script, Refused, Output, Clock, Words}
 use Rattle.tmem_script.specs.declared.script.Entry.{Entry}
 use Rattle.tmem_script.specs.declared.script.ScriptError.{ScriptError}
 use Rattle.tmem_script.specs.declared.script.ScriptError.TheVariants.{Memory, Unreadable, NoScript}
@@ -110,6 +110,7 @@ not_done (Script Unreadable) is = cc
 not_done (Script NoScript) is = cc
 not_done (Refused fault) is = cc
 not_done Output is = cc
+not_done Clock is = cc
 not_done (Words e) is = cc
 
 module _ {T : Type 0} (P : Type 0) (Q : Failure → Type 0) (n : ℕ) where

@@ -1,12 +1,11 @@
 -- Entries that are played on a store that has a history.
-use Rattle.std.proofs.Common.{◌≡◌, ◌⊎◌, ⊎_elim, inl, inr, ℕ, ◌≤◌, List, [], ◌∷◌, ◌++◌, refl, sym, ap, subst, ◌∙◌, append_assoc, append-nil}
+use Rattle.std.proofs.Common.{◌≡◌, ⊎_elim, inl, inr, ℕ, ◌≤◌, List, [], ◌∷◌, ◌++◌, refl, sym, ap, subst, ◌∙◌, append_assoc, append-nil}
 use Rattle.std.specs.Prelude.{Ok}
 use Rattle.std.proofs.Math.Logic.{∥∥₁_map}
 use Rattle.tmem_disk.specs.Disk.{DeviceView, IsDevice, AtEachMoment, Elapses}
 use Rattle.tmem_disk.proofs.Laws.{either_time}
 use Rattle.tmem_record.specs.declared.layout.Layout.{Layout}
 use Rattle.tmem_core.specs.Program.{Program}
-use Rattle.tmem_event.specs.declared.event.Event.{Event}
 use Rattle.tmem_event.specs.declared.event.Reply.{Reply}
 use Rattle.tmem_event.specs.declared.event.Reply.TheVariants as reply
 use Rattle.tmem_script.specs.Lines.{line_of}

@@ -1,7 +1,10 @@
 -- What became of a command line, as its status says.
 use Rattle.std.specs.Prelude.{◌≡◌, ◌⊎◌, ⊤, ℕ, List, Option, Some, None}
 use Rattle.clap.specs.Walk.{Text}
+use Rattle.std.specs.Io.KnownBytes.{Appends}
+use Rattle.tmem_disk.specs.declared.fault.Fault.{Fault}
 use Rattle.tmem_record.specs.Layout.{IsLayout}
+use Rattle.tmem_record.specs.State.{State}
 use Rattle.tmem_script.specs.Scripts.{IsScriptText}
 use Rattle.tmem_script.specs.Statuses.{status_of}
 use Rattle.tmem_script.specs.declared.failure.Failure.{Failure}
@@ -9,8 +12,16 @@ use Rattle.tmem_script.specs.declared.failure.Failure.TheVariants as failure
 use Rattle.tmem_script.specs.declared.script.Entry.{Entry}
 use Rattle.tmem_script.specs.declared.script.ScriptError.{ScriptError}
 use Rattle.tmem_script.specs.declared.script.ScriptError.TheVariants as error
-use Rattle.tmem_cli.specs.CommandLine.{AsksToPlay, AsksForHelp, path_in, disk_in}
-use Rattle.tmem_cli.specs.Stored.{PlaysWhere, StopsPlaying}
+use Rattle.tmem_bench.specs.declared.error.BenchError.{BenchError}
+use Rattle.tmem_bench.specs.declared.error.BenchError.TheVariants as bench
+use Rattle.tmem_threads.specs.Counting.{AreTotals}
+use Rattle.tmem_file.specs.declared.disk.FileDisk.{FileDisk}
+use Rattle.tmem_threads.specs.declared.store.TheConstants.{VARS, SLOTS}
+use Rattle.tmem_threads.specs.declared.store.Totals.{Totals}
+use Rattle.tmem_threads.specs.declared.workers.Work.{Work}
+use Rattle.tmem_cli.specs.CommandLine.{AsksToPlay, AsksToCount, AsksToBench, AsksForHelp, IsWorkIn, path_in, disk_in}
+use Rattle.tmem_cli.specs.Printed.{line, totals_text}
+use Rattle.tmem_cli.specs.Stored.{IsMade, PlaysWhere, StopsPlaying}
 
 -- A text that may have been read: from the input what was left there, where that is known, and from a file any.
 abbrev pub MayBeRead : Option Text → Option (List ℕ) → List ℕ → Type 0
@@ -54,13 +65,47 @@ IsWhyNotPlayed IsRead disk f =
 abbrev pub FailsWith : ℕ → (List ℕ → Type 0) → Option Text → Type 0
 FailsWith status IsRead disk = (f : Failure) × (status_of f ≡ status) × IsWhyNotPlayed IsRead disk f
 
--- Status 0: help or the version was asked for, or a script was, and it was played to its end.
+-- With a path a file was made for the workers.
+abbrev pub IsMadeAt : Option Text → Type 0
+IsMadeAt None = ⊤
+IsMadeAt (Some path) = (made : FileDisk) × IsMade VARS SLOTS made
+
+-- Workers counted up in a store that was opened in some state, and their totals were printed.
+abbrev pub CountsUp : Work → Option Text → Option (List ℕ) → Option (List ℕ) → Type 0
+CountsUp work disk before after =
+    IsMadeAt disk × ((opening : State) × (totals : Totals) × AreTotals opening work totals × Appends before after (line (totals_text totals)))
+
+-- the same of as many workers and turns as the words say, in the store that they name
+abbrev pub CountsAs : List Text → Option (List ℕ) → Option (List ℕ) → Type 0
+CountsAs words before after = (work : Work) × IsWorkIn words work × CountsUp work (disk_in words) before after
+
+-- why they did not: the output failed, or a fault was met
+abbrev pub IsWhyNotCounted : Failure → Type 0
+IsWhyNotCounted f = (f ≡ failure.Output) ⊎ ((fault : Fault) × (f ≡ failure.Refused fault))
+
+-- why the jobs of a service were not timed: the same, or the clock was not read
+abbrev pub IsWhyNotTimed : Failure → Type 0
+IsWhyNotTimed f = (f ≡ failure.Clock) ⊎ IsWhyNotCounted f
+
+-- what the user is told where the jobs ended early
+abbrev pub failure_of : BenchError → Failure
+failure_of (bench.Refused fault) = failure.Refused fault
+failure_of bench.Output = failure.Output
+failure_of bench.Clock = failure.Clock
+
+-- Status 0: help or the version was asked for; or a script was, and it was played to its end; or threads were, and they counted up; or the jobs of a service were.
 abbrev pub IsDone : List Text → Option (List ℕ) → Option (List ℕ) → Option (List ℕ) → Type 0
-IsDone words left before after = AsksForHelp words ⊎ (AsksToPlay words × PlaysRead (MayBeRead (path_in words) left) (disk_in words) before after)
+IsDone words left before after =
+    AsksForHelp words
+    ⊎ ((AsksToPlay words × PlaysRead (MayBeRead (path_in words) left) (disk_in words) before after)
+    ⊎ ((AsksToCount words × CountsAs words before after) ⊎ AsksToBench words))
 
 -- Status 1: the same was asked for, and it failed on the way.
 abbrev pub IsStopped : List Text → Option (List ℕ) → Type 0
-IsStopped words left = AsksForHelp words ⊎ (AsksToPlay words × FailsWith 1 (MayBeRead (path_in words) left) (disk_in words))
+IsStopped words left =
+    AsksForHelp words
+    ⊎ ((AsksToPlay words × FailsWith 1 (MayBeRead (path_in words) left) (disk_in words))
+    ⊎ ((AsksToCount words × ((f : Failure) × (status_of f ≡ 1) × IsWhyNotCounted f)) ⊎ (AsksToBench words × ((f : Failure) × (status_of f ≡ 1) × IsWhyNotTimed f))))
 
 -- Status 3: a script was asked for, and there was none.
 abbrev pub HasNoScript : List Text → Option (List ℕ) → Type 0

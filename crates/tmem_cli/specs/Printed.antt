@@ -20,6 +20,7 @@ use Rattle.tmem_journal.specs.Stands.{Position, first_position}
 use Rattle.tmem_world.specs.WorldModel.{Setting, WorldModel, SessionStatus, Gone, Allows, present, opening}
 use Rattle.tmem_world.specs.declared.world.World.{World}
 use Rattle.tmem_world.specs.Represents.{Represents, Means, setting_of, view_of}
+use Rattle.tmem_threads.specs.declared.store.Totals.{Totals}
 use Rattle.tmem_cli.specs.Builtin.{builtin_setting}
 
 -- a text with its line break
@@ -82,3 +83,7 @@ PlaysScript vars slots entries before after = (end : WorldModel) × PlaysFrom va
 -- a run was stopped: the output failed, memory was refused, or a call of the device failed
 abbrev pub IsStop : Failure → Type 0
 IsStop f = (f ≡ failure.Output) ⊎ ((f ≡ failure.Refused fault.Memory) ⊎ (f ≡ failure.Refused fault.Device))
+
+-- what threads did: how many transactions they were answered to have committed, the value of variable 0, and how many are durable
+abbrev pub totals_text : Totals → List ℕ
+totals_text t = codes "committed " ++ decimal t.committed ++ codes "\nvalue " ++ signed_decimal t.value ++ codes "\ndurable " ++ decimal t.durable

@@ -1,12 +1,16 @@
 //! Which words a command line may have.
-ghost use Rattle.std.specs.Prelude.{◌≡◌, false, [], IfOk, map, option_map, string_bytes, ℕ, List};
+ghost use Rattle.std.specs.Prelude.{◌≡◌, false, [], IfOk, codes, map, option_map, string_bytes, ℕ, List};
 ghost use Rattle.clap.specs.declared.builder.command.Command.TheViews.{out-Command as fields_of};
 ghost use Rattle.clap.specs.Kinds.{FailsBy};
+ghost use Rattle.clap.specs.Matches.{found_of};
 ghost use Rattle.clap.specs.Simple.{app_of};
-ghost use Rattle.tmem_cli.specs.CommandLine.{ReadsPlainly, command_line, run_words, why_not_run, path_in, disk_in};
+ghost use Rattle.clap.specs.Walk.{first_of, one_of, rows_of, rule_of};
+ghost use Rattle.tmem_cli.specs.CommandLine.{IsAsked, IsNumberOf, ReadsPlainly, bench_words, command_line, disk_words, parsed_word, run_words, threads_words, why_not_done};
 
-use clap::{Arg, Command};
+use clap::builder::ValueParser;
+use clap::{Arg, ArgMatches, Command, value_parser};
 use std::alloc::{AllocError, Global};
+use tmem_threads::Work;
 
 // What `--version` prints behind the program's name.
 const VERSION: &str = "0.1.0";
@@ -20,25 +24,86 @@ pub(crate) struct Paths<'a> {
     pub(crate) disk: Option<&'a str>,
 }
 
-/// The files of the run that is asked for. Refused with what is to be told of the words: help or the version where it was
-/// asked for, else what is wrong with them.
-pub(crate) fn paths_of<'a>(alloc: Global, words: &'a [String]) -> Result<Paths<'a>, clap::Error>
-    ensures script { IfOk result (λ paths. option_map (λ text. text.now) paths.script ≡ path_in (map string_bytes words.now)) }
-    ensures disk { IfOk result (λ paths. option_map (λ text. text.now) paths.disk ≡ disk_in (map string_bytes words.now)) }
-    ensures refused { FailsBy (why_not_run (map string_bytes words.now)) result }
+/// What the words ask for.
+#[derive(Clone, Copy)]
+pub(crate) enum Asked<'a> {
+    /// A script is to be played.
+    Run(Paths<'a>),
+    /// Threads are to count up.
+    Threads(Counting<'a>),
+    /// The jobs of a service are to be timed, in the file of this path or of the usual one.
+    Bench(Option<&'a str>),
+}
+
+/// How threads are to count up.
+#[derive(Clone, Copy)]
+pub(crate) struct Counting<'a> {
+    pub(crate) work: Work,
+    /// The store, or none for a device in memory.
+    pub(crate) disk: Option<&'a str>,
+}
+
+/// What is asked for. Refused with what is to be told of the words: help or the version where it was asked for, else what is
+/// wrong with them.
+pub(crate) fn asked_of<'a>(alloc: Global, words: &'a [String]) -> Result<Asked<'a>, clap::Error>
+    ensures asked { IfOk result (IsAsked (map string_bytes words.now)) }
+    ensures refused { FailsBy (why_not_done (map string_bytes words.now)) result }
 {
     let command = command(alloc)?;
     let matches = command.try_get_matches_from(words)?;
+    if let Some(threads) = matches.subcommand_matches("threads") {
+        return Ok(Asked::Threads(counting_of(threads)));
+    }
+    if let Some(bench) = matches.subcommand_matches("bench") {
+        return Ok(Asked::Bench(disk_of(bench)));
+    }
     let Some((_, run)) = matches.subcommand() else {
-        return Ok(Paths {
+        return Ok(Asked::Run(Paths {
             script: None,
             disk: None,
-        });
+        }));
     };
-    Ok(Paths {
+    Ok(Asked::Run(paths_of(run)))
+}
+
+// The files that `run` is given.
+fn paths_of<'a>(run: &ArgMatches<'a>) -> Paths<'a>
+    ensures script { option_map (λ text. text.now) result.script ≡ first_of (codes "script") (rows_of (found_of run.now)) }
+    ensures disk { option_map (λ text. text.now) result.disk ≡ first_of (codes "disk") (rows_of (found_of run.now)) }
+{
+    Paths {
         script: run.get_str("script"),
-        disk: run.get_str("disk"),
-    })
+        disk: disk_of(run),
+    }
+}
+
+// What `threads` is given.
+fn counting_of<'a>(threads: &ArgMatches<'a>) -> Counting<'a>
+    ensures workers { IsNumberOf (one_of (codes "workers") (rows_of (found_of threads.now))) result.work.workers }
+    ensures turns { IsNumberOf (one_of (codes "turns") (rows_of (found_of threads.now))) result.work.turns }
+    ensures disk { option_map (λ text. text.now) result.disk ≡ first_of (codes "disk") (rows_of (found_of threads.now)) }
+{
+    Counting {
+        work: Work {
+            workers: number_in(threads, "workers"),
+            turns: number_in(threads, "turns"),
+        },
+        disk: disk_of(threads),
+    }
+}
+
+// The path behind `--disk`.
+fn disk_of<'a>(matches: &ArgMatches<'a>) -> Option<&'a str>
+    ensures { option_map (λ text. text.now) result ≡ first_of (codes "disk") (rows_of (found_of matches.now)) }
+{
+    matches.get_str("disk")
+}
+
+// The number that an argument is given: the parser has seen that it is one.
+fn number_in(matches: &ArgMatches, id: &str) -> u16
+    ensures { IsNumberOf (one_of id.now (rows_of (found_of matches.now))) result }
+{
+    matches.get_one(id).unwrap_or(0)
 }
 
 fn command<'a>(alloc: Global) -> Result<Command<'a>, AllocError>
@@ -49,7 +114,9 @@ fn command<'a>(alloc: Global) -> Result<Command<'a>, AllocError>
         .version(VERSION)
         .about("Durable transactions, played from scripts")
         .subcommand_required(true)
-        .subcommand(run_command(alloc)?)
+        .subcommand(run_command(alloc)?)?
+        .subcommand(threads_command(alloc)?)?
+        .subcommand(bench_command(alloc)?)
 }
 
 fn run_command<'a>(alloc: Global) -> Result<Command<'a>, AllocError>
@@ -63,11 +130,69 @@ fn run_command<'a>(alloc: Global) -> Result<Command<'a>, AllocError>
                 .value_name("SCRIPT")
                 .help("The file with the script [default: standard input]"),
         )?
-        .arg(
-            Arg::new(alloc, "disk").long("disk").value_name("PATH").help(
-                "The file of the store, made if it is missing [default: a device in memory]",
-            ),
-        )
+        .arg(disk_arg(
+            alloc,
+            "The file of the store, made if it is missing [default: a device in memory]",
+        ))
+}
+
+fn threads_command<'a>(alloc: Global) -> Result<Command<'a>, AllocError>
+    ensures app { IfOk result (λ command. app_of command ≡ record { top = threads_words; subs = [] }) }
+    ensures local { IfOk result (λ command. (fields_of command).has_globals ≡ false) }
+{
+    let workers = value_parser!(u16).range(1..=16);
+    let turns = value_parser!(u16).range(1..=1000);
+    Command::new(alloc, "threads")
+        .about("Lets threads count up in a new store in a file or in memory")
+        .arg(number_arg(alloc, "workers", "WORKERS", workers).help(
+            "How many threads count, from 1 to 16",
+        ))?
+        .arg(number_arg(alloc, "turns", "TURNS", turns).help(
+            "How often each of them adds 1, from 1 to 1000",
+        ))?
+        .arg(disk_arg(
+            alloc,
+            "The file of the store, which must not be there yet [default: a device in memory]",
+        ))
+}
+
+fn bench_command<'a>(alloc: Global) -> Result<Command<'a>, AllocError>
+    ensures app { IfOk result (λ command. app_of command ≡ record { top = bench_words; subs = [] }) }
+    ensures local { IfOk result (λ command. (fields_of command).has_globals ≡ false) }
+{
+    Command::new(alloc, "bench")
+        .about("Times the jobs of a service on a store in memory and in a file")
+        .arg(disk_arg(
+            alloc,
+            "The file of the timed stores, which must not be there yet [default: tmem-bench.store]",
+        ))
+}
+
+// A number, which has to be given.
+fn number_arg<'a>(
+    alloc: Global,
+    id: &'a str,
+    value_name: &'a str,
+    numbers: ValueParser<'a>,
+) -> Arg<'a>
+    ensures rule { rule_of result ≡ parsed_word id.entry.now numbers.entry }
+    ensures local { result.global ≡ false }
+{
+    Arg::new(alloc, id)
+        .required(true)
+        .value_name(value_name)
+        .value_parser(numbers)
+}
+
+// `--disk` with a path.
+fn disk_arg<'a>(alloc: Global, help: &'a str) -> Arg<'a>
+    ensures rule { rule_of result ≡ disk_words }
+    ensures local { result.global ≡ false }
+{
+    Arg::new(alloc, "disk")
+        .long("disk")
+        .value_name("PATH")
+        .help(help)
 }
 
 /// How plain command lines are read. It does nothing: a caller's proof takes the law from its contract.

@@ -43,8 +43,8 @@ pub(crate) fn device_in_file<R: Files<File = File> + AllocGlobal>(
     }
 }
 
-// A file that gets this path once it is formatted.
-fn made_file<R: Files<File = File> + AllocGlobal>(
+/// A new file, which gets this path once it is formatted. Refused by `Device` where something has the path.
+pub(crate) fn made_file<R: Files<File = File> + AllocGlobal>(
     rt: &R,
     path: &str,
     layout: Layout,

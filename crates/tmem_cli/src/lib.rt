@@ -1,11 +1,15 @@
-//! What the program `tmem` does: it plays scripts of durable transactions, and prints a line for each event.
+//! What the program `tmem` does: it plays scripts of durable transactions, and prints a line for each event; or it lets threads
+//! count up, and prints their totals; or it times the jobs of a service.
 //!
-//! `args` says which words a command line may have, `words` does what they say, `play` plays a script on a device, which
-//! `device` makes or opens, and `print` prints its lines. `chain` has a law of what a crash of a run leaves.
+//! `args` says which words a command line may have, and `words` does what they say: `play` plays a script on a device,
+//! `count` lets threads count up there, and `bench` has the jobs timed. `device` makes or opens the device, and `print` prints
+//! the lines. `chain` has a law of what a crash of a run leaves.
 #![tactic(auto)]
 
 mod args;
+mod bench;
 mod chain;
+mod count;
 mod device;
 mod play;
 mod print;

@@ -7,12 +7,13 @@ ghost use Rattle.tmem_world.specs.WorldModel.{WorldModel, present};
 ghost use Rattle.tmem_world.specs.Represents.{Represents, numbers_of, HoldsSession};
 ghost use Rattle.tmem_cli.specs.Printed.{line, listed, registered, values_text, shown};
 
-use std::fmt::Display;
+use std::fmt::{self, Display};
 use std::io::Write;
 use tmem_builtins::names;
 use tmem_disk::{Disk, Fault};
 use tmem_invariants::Invariants;
 use tmem_script::{Failure, ReplyLine};
+use tmem_threads::Totals;
 use tmem_tree::StoredSteps;
 use tmem_world::{Reply, World};
 
@@ -103,4 +104,24 @@ fn print_text<W: Write, T: Display + Drop>(out: &mut W, text: T) -> Result<(), F
     ensures failed { IfErr result (λ failure. failure ≡ Output) }
 {
     write!(out, "{text}").map_err(|_| Failure::Output)
+}
+
+/// What threads did, as its lines but for the last line break.
+#[derive(Drop)]
+pub(crate) struct TotalsText(pub(crate) Totals);
+
+impl fmt::Display for TotalsText {
+    ghost use Rattle.std.specs.Prelude.{Some};
+    ghost use Rattle.tmem_cli.specs.Printed.{totals_text};
+
+    ghost output = { λ text. Some (totals_text text.0) };
+
+    fn fmt<W: fmt::Write>(&self, f: &mut fmt::Formatter<W>) -> fmt::Result {
+        let Totals {
+            committed,
+            value,
+            durable,
+        } = self.0;
+        write!(f, "committed {committed}\nvalue {value}\ndurable {durable}")
+    }
 }

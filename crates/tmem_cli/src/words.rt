@@ -7,21 +7,27 @@ ghost use Rattle.tmem_script.specs.Scripts.{IsScriptText};
 ghost use Rattle.tmem_script.specs.Statuses.{status_of};
 ghost use Rattle.tmem_script.specs.declared.failure.Failure.TheVariants.{Output};
 ghost use Rattle.tmem_cli.specs.CommandLine.{AreRefused, AsksToPlay, IsRequest, path_in};
-ghost use Rattle.tmem_cli.specs.Outcomes.{IsDone, IsStopped, HasNoScript, IsWhyNotPlayed, IsWhyNotRead, MayBeRead, PlaysRead};
+ghost use Rattle.tmem_cli.specs.Outcomes.{IsDone, IsStopped, HasNoScript, CountsUp, IsWhyNotCounted, IsWhyNotPlayed, IsWhyNotRead, IsWhyNotTimed, MayBeRead, PlaysRead};
 
-use crate::args::{Paths, paths_of};
+use crate::args::{Asked, Counting, Paths, asked_of};
+use crate::bench::run_bench;
+use crate::count::count_on;
 use crate::play::play;
+use crate::print::{TotalsText, print_line};
 use clap::error::ErrorKind;
 use std::alloc::Global;
 use std::fs::{self, File, Files};
 use std::io::{Read, Write};
+use std::rt::Clock;
+use std::sync::Wait;
+use std::thread::Threads;
 use tmem_script::{Failure, Script, ScriptError, WordsError, report};
 
 /// Does what the words of a command line say, the program's name first, and answers the status: 0 where help or the
-/// version was printed, or a script was played to its end; 1 where that failed on the way; 2 where the words were refused,
-/// or memory did not suffice to read them; 3 where there was no script to play.
+/// version was printed, a script was played to its end, threads counted up, or jobs were timed; 1 where that failed on the way; 2 where the
+/// words were refused, or memory did not suffice to read them; 3 where there was no script to play.
 pub fn run_words<R: Read, W: Write, E: Write>(
-    rt: &(impl Files<File = File> + AllocGlobal),
+    rt: &(impl Files<File = File> + AllocGlobal + Threads + Wait + Clock + Sync),
     words: Vec<String>,
     input: &mut R,
     out: &mut W,
@@ -42,8 +48,10 @@ pub fn run_words<R: Read, W: Write, E: Write>(
     ensures unread { result ≡ 2 → input.new ≡ input.old }
     ensures other_file { IsSome (path_in (map string_bytes words.items)) → input.new ≡ input.old }
 {
-    match paths_of(rt.alloc(), words.as_slice()) {
-        Ok(paths) => conclude(run(rt, paths, input, out), err),
+    match asked_of(rt.alloc(), words.as_slice()) {
+        Ok(Asked::Run(paths)) => conclude(run(rt, paths, input, out), err),
+        Ok(Asked::Threads(counting)) => conclude(count(rt, counting, out), err),
+        Ok(Asked::Bench(path)) => conclude(bench(rt, path, out), err),
         Err(refusal) => answer(&refusal, out, err),
     }
 }
@@ -110,6 +118,32 @@ fn run<R: Read, W: Write>(
 {
     let script = script_of(rt, paths.script, input)?;
     play(rt, script, paths.disk, out)?;
+    flush(out)
+}
+
+/// Lets threads count up, and prints their totals.
+fn count<W: Write>(
+    rt: &(impl Files<File = File> + AllocGlobal + Threads + Wait + Clock + Sync),
+    counting: Counting,
+    out: &mut W,
+) -> Result<(), Failure>
+    ensures counted { OnOk result (CountsUp counting.entry.work (option_map (λ text. text.now) counting.entry.disk) (W.contents out.old) (W.contents out.new)) }
+    ensures failed { IfErr result IsWhyNotCounted }
+{
+    let totals = count_on(rt, counting.work, counting.disk)?;
+    print_line(out, TotalsText(totals))?;
+    flush(out)
+}
+
+/// Times the jobs of a service, in memory and in a file, and prints what each came to.
+fn bench<W: Write>(
+    rt: &(impl Files<File = File> + AllocGlobal + Threads + Wait + Clock + Sync),
+    path: Option<&str>,
+    out: &mut W,
+) -> Result<(), Failure>
+    ensures { IfErr result IsWhyNotTimed }
+{
+    run_bench(rt, path, out)?;
     flush(out)
 }
 

@@ -3,7 +3,7 @@ use Rattle.std.specs.Prelude.{ℕ, List, [], ◌∷◌, ◌++◌, codes}
 use Rattle.tmem_disk.specs.Fault.{text_of}
 use Rattle.tmem_disk.specs.declared.fault.Fault.TheVariants as fault
 use Rattle.tmem_script.specs.declared.failure.Failure.{Failure}
-use Rattle.tmem_script.specs.declared.failure.Failure.TheVariants.{Script, Refused, Output, Words}
+use Rattle.tmem_script.specs.declared.failure.Failure.TheVariants.{Script, Refused, Output, Clock, Words}
 use Rattle.tmem_script.specs.declared.failure.WordsError.{WordsError}
 use Rattle.tmem_script.specs.declared.failure.WordsError.TheVariants as words_error
 use Rattle.tmem_script.specs.declared.script.ScriptError.{ScriptError}
@@ -16,6 +16,7 @@ status_of (Script NoScript) = 3
 status_of (Script (Memory e)) = 1
 status_of (Refused fault) = 1
 status_of Output = 1
+status_of Clock = 1
 status_of (Words e) = 2
 
 -- the text of why a script was not read
@@ -34,6 +35,7 @@ abbrev pub failure_text : Failure → List ℕ
 failure_text (Script error) = script_error_text error
 failure_text (Refused f) = text_of f
 failure_text Output = codes "output failed"
+failure_text Clock = codes "no clock"
 failure_text (Words error) = words_error_text error
 
 -- the line that the user is told

@@ -16,6 +16,8 @@ pub enum Failure {
     /// The device, its format or its opening was refused, or memory for the way there.
     Refused(Fault),
     Output,
+    /// The clock was not read.
+    Clock,
     /// The words of the command line were not read.
     Words(WordsError),
 }
@@ -31,6 +33,7 @@ impl fmt::Display for Failure {
             Failure::Script(error) => write!(f, "{error}"),
             Failure::Refused(fault) => write!(f, "{fault}"),
             Failure::Output => write!(f, "output failed"),
+            Failure::Clock => write!(f, "no clock"),
             Failure::Words(error) => write!(f, "{error}"),
         }
     }
@@ -91,7 +94,10 @@ impl Failure {
         match self {
             Failure::Script(ScriptError::Unreadable | ScriptError::NoScript) => 3,
             Failure::Words(_) => 2,
-            Failure::Script(ScriptError::Memory(_)) | Failure::Refused(_) | Failure::Output => 1,
+            Failure::Script(ScriptError::Memory(_))
+            | Failure::Refused(_)
+            | Failure::Output
+            | Failure::Clock => 1,
         }
     }
 }

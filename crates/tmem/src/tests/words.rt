@@ -11,8 +11,10 @@ const HELP: &str = "Durable transactions, played from scripts
 Usage: tmem <COMMAND>
 
 Commands:
-  run   Plays a script on a store in a file or in memory
-  help  Print this message or the help of the given subcommand(s)
+  run      Plays a script on a store in a file or in memory
+  threads  Lets threads count up in a new store in a file or in memory
+  bench    Times the jobs of a service on a store in memory and in a file
+  help     Print this message or the help of the given subcommand(s)
 
 Options:
   -h, --help     Print help
@@ -31,8 +33,30 @@ Options:
   -h, --help         Print help
 ";
 
+const THREADS_HELP: &str = "Lets threads count up in a new store in a file or in memory
+
+Usage: tmem threads [OPTIONS] <WORKERS> <TURNS>
+
+Arguments:
+  <WORKERS>  How many threads count, from 1 to 16
+  <TURNS>    How often each of them adds 1, from 1 to 1000
+
+Options:
+      --disk <PATH>  The file of the store, which must not be there yet [default: a device in memory]
+  -h, --help         Print help
+";
+
+const BENCH_HELP: &str = "Times the jobs of a service on a store in memory and in a file
+
+Usage: tmem bench [OPTIONS]
+
+Options:
+      --disk <PATH>  The file of the timed stores, which must not be there yet [default: tmem-bench.store]
+  -h, --help         Print help
+";
+
 const NO_COMMAND: &str = "error: 'tmem' requires a subcommand but one was not provided
-  [subcommands: run, help]
+  [subcommands: run, threads, bench, help]
 
 Usage: tmem <COMMAND>
 
@@ -74,6 +98,46 @@ Usage: tmem run [OPTIONS] [SCRIPT]
 For more information, try '--help'.
 ";
 
+const NO_WORKER: &str = "error: invalid value '0' for '<WORKERS>': 0 is not in 1..=16
+
+For more information, try '--help'.
+";
+
+const MANY_WORKERS: &str = "error: invalid value '17' for '<WORKERS>': 17 is not in 1..=16
+
+For more information, try '--help'.
+";
+
+const NO_TURN: &str = "error: invalid value '0' for '<TURNS>': 0 is not in 1..=1000
+
+For more information, try '--help'.
+";
+
+const MANY_TURNS: &str = "error: invalid value '1001' for '<TURNS>': 1001 is not in 1..=1000
+
+For more information, try '--help'.
+";
+
+const ONE_NUMBER: &str = "error: the following required arguments were not provided:
+  <TURNS>
+
+Usage: tmem threads <WORKERS> <TURNS>
+
+For more information, try '--help'.
+";
+
+const TIMED_NUMBER: &str = "error: unexpected argument '4' found
+
+Usage: tmem bench [OPTIONS]
+
+For more information, try '--help'.
+";
+
+const NO_NUMBER: &str = "error: invalid value 'four' for '<WORKERS>': invalid digit found in string
+
+For more information, try '--help'.
+";
+
 #[test]
 fn variables_and_slots_out_of_limits(rt: HostRuntime) -> Result<(), Fail> {
     for (vars, slots) in [(0, 4), (1025, 4), (4, 0), (4, 1), (4, 65), (65535, 65535)] {
@@ -100,6 +164,14 @@ fn help_goes_to_standard_output(rt: HostRuntime) -> Result<(), Fail> {
     for words in of_run {
         run(&rt, words, b"")?.expect(format_args!("{words:?}"), 0, RUN_HELP, "")?;
     }
+    let of_threads: &[&[&str]] = &[&["threads", "--help"], &["help", "threads"]];
+    for words in of_threads {
+        run(&rt, words, b"")?.expect(format_args!("{words:?}"), 0, THREADS_HELP, "")?;
+    }
+    let of_bench: &[&[&str]] = &[&["bench", "--help"], &["help", "bench"]];
+    for words in of_bench {
+        run(&rt, words, b"")?.expect(format_args!("{words:?}"), 0, BENCH_HELP, "")?;
+    }
     Ok(())
 }
 
@@ -112,6 +184,13 @@ fn refused_words_are_status_two(rt: HostRuntime) -> Result<(), Fail> {
         (&["run", "--fast"], UNKNOWN_OPTION),
         (&["run", "--disk"], NO_PATH),
         (&["run", "--disk", "a", "--disk", "b"], TWO_STORES),
+        (&["threads", "0", "100"], NO_WORKER),
+        (&["threads", "17", "100"], MANY_WORKERS),
+        (&["threads", "4", "0"], NO_TURN),
+        (&["threads", "4", "1001"], MANY_TURNS),
+        (&["threads", "four", "100"], NO_NUMBER),
+        (&["threads", "4"], ONE_NUMBER),
+        (&["bench", "4"], TIMED_NUMBER),
     ];
     for (words, text) in table {
         run(&rt, words, FIRST.as_bytes())?.expect(format_args!("{words:?}"), 2, "", text)?;

@@ -1,17 +1,15 @@
-use Rattle.std.proofs.Common.{◌≡◌, ◌⊎◌, ℕ, List, [], ◌∷◌, ◌++◌, refl, sym, ap, subst, inl, inr, ◌∙◌}
+use Rattle.std.proofs.Common.{◌⊎◌, ℕ, [], ◌++◌, refl, sym, ap, subst, inl, inr, ◌∙◌}
 use Rattle.std.specs.Prelude.{OnOk, IfErr}
 use Rattle.std.specs.Io.KnownBytes.{Appends}
-use Rattle.tmem_disk.specs.Disk.{DeviceView}
 use Rattle.tmem_record.specs.declared.layout.Layout.{Layout}
 use Rattle.tmem_event.specs.declared.event.Reply.TheVariants as reply
 use Rattle.tmem_script.specs.Lines.{line_of}
 use Rattle.tmem_script.specs.declared.failure.Failure.{Failure}
 use Rattle.tmem_world.specs.WorldModel.{opening}
 use Rattle.tmem_world.specs.Represents.{Represents, device_of, view_of}
-use Rattle.tmem_world.specs.Chain.{History, IsStore, OpensStore, history_found, state_at}
+use Rattle.tmem_world.specs.Chain.{history_found, state_at}
 use Rattle.tmem_world.proofs.Laws.{WritesInStore-refl, count_at}
 use Rattle.tmem_cli.specs.Builtin.{builtin_program}
-use Rattle.tmem_cli.specs.Chains.{LeavesStore}
 use Rattle.tmem_cli.specs.Printed.{line}
 use Rattle.tmem_cli.specs.Stored.{PlaysOver, StopsOver, RefusesOver}
 use Rattle.tmem_cli.proofs.Opening.{OpeningRefused-weaker}

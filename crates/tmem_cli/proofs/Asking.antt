@@ -1,0 +1,43 @@
+-- What a command line was read as.
+use Rattle.std.proofs.Common.{◌≡◌, false, List, [], Option, Some, None, option_map, option_and_then, codes, refl, sym, ap, ◌∙◌}
+use Rattle.std.specs.Prelude.{Box}
+use Rattle.clap.specs.Matches.{subcommand_name_of}
+use Rattle.clap.specs.Walk.{Row, Text}
+use Rattle.clap.specs.Built.{AddsSubcommand}
+use Rattle.clap.specs.Simple.{App, Shape, app_of, subcommand_of, subcommand_rows, subcommand_rows_of, with_subcommand}
+use Rattle.clap.specs.declared.builder.command.Command.{Command}
+use Rattle.clap.specs.declared.builder.command.Command.TheViews.{out-Command as fields_of}
+use Rattle.std.specs.Box.{box_value}
+use Rattle.clap.specs.declared.parser.matches.SubCommand.{SubCommand}
+use Rattle.clap.specs.declared.parser.matches.ArgMatches.{ArgMatches}
+use Rattle.clap.specs.declared.parser.matches.ArgMatches.TheViews.{out-ArgMatches, out-SubCommand}
+use Rattle.tmem_cli.specs.CommandLine.{NamesNoOther, command_in, command_line}
+
+-- a command with one more subcommand, which has none itself
+pub joined : (old sub new : Command) (before : App) (s : Shape) → AddsSubcommand old sub new → (fields_of sub).has_globals ≡ false → app_of old ≡ before
+    → app_of sub ≡ record { top = s; subs = [] } → app_of new ≡ with_subcommand before s
+joined old sub new before s adds local is same =
+    adds.shape local ∙ ap (λ a. with_subcommand a (app_of sub).top) is ∙ ap (λ (a : App). with_subcommand before a.top) same
+
+-- what a function of the rows of the subcommand gives
+pub of_rows : {A : Type 0} (f : List Row → Option A) (found : Option (Text × List Row)) → option_and_then f (option_map (λ p. p.1) found) ≡ option_and_then (λ p. f p.1) found
+of_rows f None = refl
+of_rows f (Some p) = refl
+
+-- the name of the subcommand
+name_of : {Z : Type 0} (o : Option (Box SubCommand Z)) → option_map (λ p. p.0) (subcommand_rows o) ≡ option_map (λ b. (out-SubCommand (box_value b)).name.now) o
+name_of None = refl
+name_of (Some b) = refl
+
+module _ (matches : ArgMatches) (words : List Text) (same : subcommand_rows_of matches ≡ subcommand_of command_line words) where
+  -- the words name the subcommand that was met
+  pub named : command_in words ≡ subcommand_name_of matches
+  named = ap (option_map (λ p. p.0)) (sym same) ∙ name_of (out-ArgMatches matches).subcommand
+
+  pub names_no_other : (subcommand_name_of matches ≡ Some (codes "threads") → ⊥) → (subcommand_name_of matches ≡ Some (codes "bench") → ⊥) → NamesNoOther words
+  names_no_other no_threads no_bench = (λ is. no_threads (sym named ∙ is), λ is. no_bench (sym named ∙ is))
+
+  -- what was read of its rows is what the words give it
+  pub given : {A : Type 0} (f : List Row → Option A) (rows : Option (List Row)) → rows ≡ option_map (λ p. p.1) (subcommand_rows_of matches)
+      → option_and_then f rows ≡ option_and_then (λ p. f p.1) (subcommand_of command_line words)
+  given f rows is = ap (option_and_then f) (is ∙ ap (option_map (λ p. p.1)) same) ∙ of_rows f (subcommand_of command_line words)

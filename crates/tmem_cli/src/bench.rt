@@ -1,0 +1,38 @@
+//! Times the jobs of a service.
+ghost use Rattle.std.specs.Prelude.{◌≡◌, IfErr};
+ghost use Rattle.tmem_cli.specs.Outcomes.{IsWhyNotTimed, failure_of};
+
+use std::fs::{File, Files};
+use std::io::Write;
+use std::rt::Clock;
+use std::sync::Wait;
+use std::thread::Threads;
+use tmem_jobs::{BenchError, run_jobs};
+use tmem_script::Failure;
+
+// The file of the timed stores, where the words name none.
+const STORE: &str = "tmem-bench.store";
+
+/// Times the jobs on stores in memory and in a file, which must not be there yet, and prints what each came to.
+pub(crate) fn run_bench<
+    R: Files<File = File> + AllocGlobal + Threads + Wait + Clock + Sync,
+    W: Write,
+>(rt: &R, path: Option<&str>, out: &mut W) -> Result<(), Failure>
+    ensures { IfErr result IsWhyNotTimed }
+{
+    match run_jobs(rt, path.unwrap_or(STORE), out) {
+        Ok(()) => Ok(()),
+        Err(error) => Err(failure(error)),
+    }
+}
+
+// What the user is told where the jobs ended early.
+fn failure(error: BenchError) -> Failure
+    ensures { result ≡ failure_of error }
+{
+    match error {
+        BenchError::Refused(fault) => Failure::Refused(fault),
+        BenchError::Output => Failure::Output,
+        BenchError::Clock => Failure::Clock,
+    }
+}

@@ -1,0 +1,30 @@
+//! Lets threads count up in a new store.
+ghost use Rattle.std.specs.Prelude.{IfOk, option_map};
+ghost use Rattle.tmem_record.specs.State.{State};
+ghost use Rattle.tmem_threads.specs.Counting.{AreTotals};
+ghost use Rattle.tmem_cli.specs.Outcomes.{IsMadeAt};
+
+use crate::device::{device_in_memory, made_file};
+use std::fs::{File, Files};
+use std::rt::Clock;
+use std::sync::Wait;
+use std::thread::Threads;
+use tmem_disk::Fault;
+use tmem_threads::{SLOTS, Totals, VARS, Work, count_up};
+use tmem_world::Layout;
+
+/// Lets workers count up in a store that is made for them: in memory, or in a file that is not there yet.
+pub(crate) fn count_on<R: Files<File = File> + AllocGlobal + Threads + Wait + Clock + Sync>(
+    rt: &R,
+    work: Work,
+    path: Option<&str>,
+) -> Result<Totals, Fault>
+    ensures made { IfOk result (λ _. IsMadeAt (option_map (λ text. text.now) path.entry)) }
+    ensures totals { IfOk result (λ totals. (opening : State) × AreTotals opening work totals) }
+{
+    let layout = Layout::new(VARS, SLOTS)?;
+    match path {
+        None => count_up(rt, rt.alloc(), device_in_memory(rt.alloc(), layout)?, work),
+        Some(path) => count_up(rt, rt.alloc(), made_file(rt, path, layout)?, work),
+    }
+}

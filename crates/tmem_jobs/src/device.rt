@@ -1,0 +1,120 @@
+// Where a store is kept.
+ghost use Rattle.std.specs.Prelude.{◌≡◌, ◌≤◌, length, IfOk};
+
+use crate::error::BenchError;
+use crate::figures::{Count, Figures, now, since};
+use std::alloc::AllocGlobal;
+use std::fs::{self, File, Files};
+use std::rt::Clock;
+use std::time::Duration;
+use tmem_disk::{Disk, Fault, SimDisk};
+use tmem_file::{FileDisk, NewFile};
+
+// The loop of two syncs goes on for so long.
+const SYNC_MILLIS: u64 = 250;
+
+// As many bytes as a batch of the log has at most.
+const BLOCK: usize = 4096;
+
+/// What makes devices, one after another.
+pub trait Medium<D: Disk> {
+    /// What a line of the table calls it.
+    fn name(&self) -> &'static str;
+
+    /// A new device of so many zeros.
+    fn device<R: Files<File = File> + AllocGlobal>(&self, rt: &R, size: u64) -> Result<D, Fault>
+        ensures { IfOk result (λ disk. (D.view disk).capacity ≡ size) };
+
+    /// Removes what is left of a device that was dropped.
+    fn clear<R: Files<File = File>>(&self, rt: &R) -> Result<(), Fault>;
+}
+
+/// Devices in memory.
+#[derive(Drop)]
+pub struct InMemory;
+
+impl Medium<SimDisk> for InMemory {
+    fn name(&self) -> &'static str {
+        "memory"
+    }
+
+    fn device<R: Files<File = File> + AllocGlobal>(
+        &self,
+        rt: &R,
+        size: u64,
+    ) -> Result<SimDisk, Fault> {
+        Ok(SimDisk::new(rt.alloc(), size)?)
+    }
+
+    fn clear<R: Files<File = File>>(&self, _rt: &R) -> Result<(), Fault> {
+        Ok(())
+    }
+}
+
+/// Devices in a file, which is not there before and is removed after.
+#[derive(Drop)]
+pub struct InFile<'a> {
+    pub path: &'a str,
+}
+
+impl<'a> Medium<FileDisk> for InFile<'a> {
+    fn name(&self) -> &'static str {
+        "file"
+    }
+
+    fn device<R: Files<File = File> + AllocGlobal>(
+        &self,
+        rt: &R,
+        size: u64,
+    ) -> Result<FileDisk, Fault> {
+        NewFile::create(rt, self.path, size)?.place(rt)
+    }
+
+    fn clear<R: Files<File = File>>(&self, rt: &R) -> Result<(), Fault> {
+        fs::remove_file(rt, self.path).map_err(|_| Fault::Device)
+    }
+}
+
+/// What a new device does by two syncs alone: write, sync, write, sync, again and again.
+pub fn two_syncs<D: Disk + Drop, M: Medium<D>, R: Clock + Files<File = File> + AllocGlobal>(
+    rt: &R,
+    medium: &M,
+) -> Result<Figures, BenchError> {
+    let mut disk = medium.device(rt, BLOCK as u64)?;
+    let figures = sync_on(rt, &mut disk)?;
+    drop(disk);
+    medium.clear(rt)?;
+    Ok(figures)
+}
+
+// Writes a block, and then a byte, as a flush does.
+fn sync_on<D: Disk, R: Clock>(rt: &R, disk: &mut D) -> Result<Figures, BenchError>
+    requires { BLOCK ≤ (D.view disk.old).capacity }
+{
+    let start = now(rt)?;
+    let mut count = Count::zero();
+    let block = [1; BLOCK];
+    for _ in 0..u64::MAX {
+        put(disk, &block)?;
+        put(disk, &block[..1])?;
+        count.operations = count.operations.saturating_add(1);
+        if since(rt, start)? >= Duration::from_millis(SYNC_MILLIS) {
+            break;
+        }
+    }
+    Ok(Figures {
+        count,
+        time: since(rt, start)?,
+    })
+}
+
+// Writes at the start of a device, and syncs.
+fn put<D: Disk>(disk: &mut D, bytes: &[u8]) -> Result<(), Fault>
+    requires { length bytes.now ≤ (D.view disk.old).capacity }
+    ensures { (D.view disk.new).capacity ≡ (D.view disk.old).capacity }
+{
+    if disk.write_at(0, bytes).is_err() || disk.sync().is_err() {
+        return Err(Fault::Device);
+    }
+    Ok(())
+}

@@ -1,0 +1,90 @@
+// What is counted, and how long it took.
+ghost use Rattle.std.specs.Prelude.{◌≡◌, ◌+◌, ◌<◌, ◌^◌};
+
+use crate::error::BenchError;
+use std::num::nearest_u64_to_f64;
+use std::rt::Clock;
+use std::time::{Duration, Instant};
+
+/// What was done, and in how many flushes.
+#[derive(Clone, Copy)]
+pub struct Count {
+    pub operations: u64,
+    pub flushes: u64,
+}
+
+impl Count {
+    pub fn zero() -> Count
+        ensures { (result.operations ≡ 0) × (result.flushes ≡ 0) }
+    {
+        Count {
+            operations: 0,
+            flushes: 0,
+        }
+    }
+
+    /// Both together, or the greatest number where that is more.
+    pub fn with(self, other: Count) -> Count
+        ensures operations { self.operations + other.operations < 2 ^ 64 → result.operations ≡ self.operations + other.operations }
+        ensures flushes { self.flushes + other.flushes < 2 ^ 64 → result.flushes ≡ self.flushes + other.flushes }
+    {
+        Count {
+            operations: self.operations.saturating_add(other.operations),
+            flushes: self.flushes.saturating_add(other.flushes),
+        }
+    }
+}
+
+/// How often something was done, in some time.
+#[derive(Clone, Copy)]
+pub struct Figures {
+    pub count: Count,
+    pub time: Duration,
+}
+
+impl Figures {
+    pub fn zero() -> Figures
+        ensures { result.count.operations ≡ 0 }
+    {
+        Figures {
+            count: Count::zero(),
+            time: Duration::ZERO,
+        }
+    }
+
+    /// Of one that took so long.
+    pub fn once(time: Duration) -> Figures
+        ensures { (result.count.operations ≡ 1) × (result.time ≡ time) }
+    {
+        let count = Count {
+            operations: 1,
+            flushes: 0,
+        };
+        Figures { count, time }
+    }
+
+    /// How much is done in a second.
+    pub fn rate(self) -> f64 {
+        nearest_u64_to_f64(self.count.operations) / self.time.as_secs_f64()
+    }
+
+    /// Of both times together.
+    pub fn with(self, other: Figures) -> Figures
+        ensures { self.count.operations + other.count.operations < 2 ^ 64 → result.count.operations ≡ self.count.operations + other.count.operations }
+    {
+        Figures {
+            count: self.count.with(other.count),
+            time: self.time.saturating_add(other.time),
+        }
+    }
+}
+
+/// The time now.
+pub fn now<R: Clock>(rt: &R) -> Result<Instant, BenchError> {
+    Instant::now(rt).map_err(|_| BenchError::Clock)
+}
+
+/// How much time has passed.
+pub fn since<R: Clock>(rt: &R, start: Instant) -> Result<Duration, BenchError> {
+    start.elapsed(rt).map_err(|_| BenchError::Clock)
+}

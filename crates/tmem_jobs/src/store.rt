@@ -1,0 +1,140 @@
+// A store for the jobs, with what its closures mean.
+ghost use Rattle.std.specs.Prelude.{◌≡◌, ◌<◌, length};
+ghost use Rattle.std.specs.List.{list_any};
+ghost use Rattle.tmem_builtins.specs.Steps.{sum_of, difference_of, at_least};
+ghost use Rattle.tmem_front.specs.Held.{found_of, spine_of, steps_of as steps_held, table_of};
+ghost use Rattle.tmem_jobs.specs.Accounts.{bank, has_no_negative, is_negative};
+
+use crate::figures::Count;
+use crate::jobs::{Job, PAYEE, PAYER, SLOTS, SOLVENT};
+use crate::service::{Service, serve};
+use std::alloc::Global;
+use std::marker::Brand;
+use std::rt::Clock;
+use std::sync::Wait;
+use std::thread::Threads;
+use std::time::Instant;
+use tmem_builtins::{add, need, steps_of, sub};
+use tmem_disk::{Disk, Fault, Name};
+use tmem_front::{OpenedFront, StoreNaming};
+use tmem_invariants::{Invariant, Invariants, Table};
+use tmem_tree::{StepAnswer, StoredSteps};
+
+/// What is done with a store once it is open.
+#[derive(Clone, Copy)]
+pub enum Task {
+    Serve(Job, Instant),
+    /// Fills the log.
+    Fill,
+    /// Nothing.
+    Open,
+}
+
+/// Opens the store of a device, which was formatted for so many variables.
+pub fn with_store<D: Disk + Drop + Send, R: Clock + Threads + Wait + Sync>(
+    rt: &R,
+    alloc: Global,
+    disk: D,
+    vars: u16,
+    task: Task,
+) -> Result<Count, Fault> {
+    let solvent = Box::new(
+        alloc,
+        |accounts: &[i64]| -> bool
+            ensures { result ≡ has_no_negative accounts.now }
+        { !has_negative(accounts) },
+    )?;
+    let solvent = Invariant::new(Name::new(SOLVENT)?, vec![in alloc; PAYER, PAYEE]?, solvent)?;
+    let table = Table::of(alloc, vec![in alloc; solvent]?, vars)?;
+    with_steps(rt, alloc, disk, vars, task, table)
+}
+
+// Whether an account is below zero.
+fn has_negative(accounts: &[i64]) -> bool
+    ensures { result ≡ list_any is_negative accounts.now }
+{
+    accounts.iter().any(|account| *account < 0)
+}
+
+// Makes the stored steps.
+fn with_steps<D: Disk + Drop + Send, T: Invariants + Drop + Send, R: Clock + Threads + Wait + Sync>(
+    rt: &R,
+    alloc: Global,
+    disk: D,
+    vars: u16,
+    task: Task,
+    table: T,
+) -> Result<Count, Fault>
+    requires vars { T.vars table ≡ vars }
+    requires names { T.names table ≡ bank.names }
+    requires stated { T.is_stated table bank.tests }
+{
+    let total = Box::new(
+        alloc,
+        |args: &[i64]| -> StepAnswer
+            requires { length args.now ≡ 2 }
+            ensures { result ≡ sum_of args.now }
+        { add(args) },
+    )?;
+    let difference = Box::new(
+        alloc,
+        |args: &[i64]| -> StepAnswer
+            requires { length args.now ≡ 2 }
+            ensures { result ≡ difference_of args.now }
+        { sub(args) },
+    )?;
+    let floor = Box::new(
+        alloc,
+        |args: &[i64]| -> StepAnswer
+            requires { length args.now ≡ 2 }
+            ensures { result ≡ at_least args.now }
+        { need(args) },
+    )?;
+    let steps = steps_of(alloc, total, difference, floor)?;
+    open(rt, alloc, disk, vars, task, table, steps)
+}
+
+fn open<
+    D: Disk + Drop + Send,
+    T: Invariants + Drop + Send,
+    S: StoredSteps + Drop + Send + Sync,
+    R: Clock + Threads + Wait + Sync,
+>(rt: &R, alloc: Global, disk: D, vars: u16, task: Task, table: T, steps: S) -> Result<Count, Fault>
+    requires vars { T.vars table ≡ vars }
+    requires names { T.names table ≡ bank.names }
+    requires stated { T.is_stated table bank.tests }
+    requires steps { S.is_stated steps bank.steps }
+{
+    match OpenedFront::open(alloc, disk, vars, SLOTS, table, steps) {
+        Ok(opened) => with_front::<Brand, D, T, S, R>(rt, alloc, opened, task),
+        Err((fault, _disk)) => Err(fault),
+    }
+}
+
+fn with_front<
+    N: StoreNaming + Send + Sync,
+    D: Disk + Drop + Send,
+    T: Invariants + Drop + Send,
+    S: StoredSteps + Drop + Send + Sync,
+    R: Clock + Threads + Wait + Sync,
+>(rt: &R, alloc: Global, opened: OpenedFront<D, T, S>, task: Task) -> Result<Count, Fault>
+    requires spine { spine_of opened ≡ N.name }
+    requires opening { found_of opened ≡ N.opening }
+    requires program { N.program ≡ bank }
+    requires names { T.names (table_of opened) ≡ bank.names }
+    requires stated { T.is_stated (table_of opened) bank.tests }
+    requires steps { S.is_stated (steps_held opened) bank.steps }
+{
+    let front = opened.named::<N>();
+    match task {
+        Task::Serve(job, start) => {
+            front.prepare(rt, alloc)?;
+            serve(rt, alloc, &front, job, start)
+        }
+        Task::Fill => {
+            front.fill(rt, alloc)?;
+            Ok(Count::zero())
+        }
+        Task::Open => Ok(Count::zero()),
+    }
+}

@@ -1,0 +1,39 @@
+-- Sums of what workers answered.
+use Rattle.std.proofs.Common.{◌≡◌, ℕ, ◌<◌, ◌≤◌, ◌+◌, ◌*◌, List, length, take, Result, Ok, Err, get_or, arith, ap, refl, sym, subst, ◌∙◌}
+use Rattle.std.specs.Prelude.{IfOk, IsOk, All}
+use Rattle.std.specs.Result.{result_unwrap_or}
+use Rattle.std.proofs.lemmas.Nat.{mul-le}
+use Rattle.std.proofs.lemmas.List.Elements.{All-more, All-weaker}
+use Rattle.std.proofs.lemmas.List.Sums.{sum_by-le, sum_by_more}
+use Rattle.tmem_disk.specs.declared.fault.Fault.{Fault}
+use Rattle.tmem_threads.specs.Counting.{sum_of}
+
+-- the number of an answer
+abbrev number : Result ℕ Fault → ℕ
+number answer = result_unwrap_or answer 0
+
+at_most : (turns : ℕ) (r : Result ℕ Fault) → IfOk r (λ n. n ≤ turns) → number r ≤ turns
+at_most turns (Ok n) most = most
+at_most turns (Err f) most = omega arith
+
+-- as many answers, each of so much at most
+pub sum_at_most : (answers : List (Result ℕ Fault)) (turns : ℕ) → All (λ r. IfOk r (λ n. n ≤ turns)) answers → sum_of answers ≤ length answers * turns
+sum_at_most answers turns each =
+    sum_by-le number turns answers (All-weaker (λ (r : Result ℕ Fault). IfOk r (λ n. n ≤ turns)) (λ (r : Result ℕ Fault). number r ≤ turns) (at_most turns) answers each)
+
+-- a sum of some of them, and the next one
+pub sum_more : (answers : List (Result ℕ Fault)) (i n : ℕ) (r : Result ℕ Fault) → i < length answers → r ≡ get_or answers i r → r ≡ Ok n → sum_of (take i answers) + n ≡ sum_of (take (i + 1) answers)
+sum_more answers i n r less at is =
+    sym (sum_by_more number answers i r less ∙ ap (λ (x : Result ℕ Fault). sum_of (take i answers) + number x) (sym at ∙ is))
+
+pub all_more : (answers : List (Result ℕ Fault)) (i n : ℕ) (r : Result ℕ Fault) → i < length answers → r ≡ get_or answers i r → r ≡ Ok n → All (λ a. IsOk a) (take i answers) → All (λ a. IsOk a) (take (i + 1) answers)
+all_more answers i n r less at is all =
+    let here : Ok n ≡ get_or answers i r = sym is ∙ at in
+    All-more (λ (a : Result ℕ Fault). IsOk a) answers i r less all (subst (λ (a : Result ℕ Fault). IsOk a) here refl)
+
+-- it is a number of 64 bits
+pub sum_fits : (answers : List (Result ℕ Fault)) (workers turns : ℕ) → All (λ r. IfOk r (λ n. n ≤ turns)) answers → length answers ≡ workers → workers < 65536 → turns < 65536 → sum_of answers < 18446744073709551616
+sum_fits answers workers turns each many few short =
+    let most = sum_at_most answers turns each in
+    let part : length answers * turns ≤ 65536 * 65536 = mul-le (length answers) turns 65536 65536 (omega (arith, many, few)) (omega (arith, short)) in
+    omega (arith, most, part)

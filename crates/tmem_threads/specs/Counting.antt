@@ -1,0 +1,48 @@
+-- What workers that count up did, as far as a pass and a store tell.
+use Rattle.std.specs.Prelude.{◌≡◌, ◌<◌, ◌≤◌, ◌*◌, ◌++◌, ℕ, Bool, List, Result, length, All, Option, Some, None, if◌then◌else◌}
+use Rattle.std.specs.Result.{result_unwrap_or}
+use Rattle.std.specs.List.{sum_by}
+use Rattle.tmem_builtins.specs.Builtins.{builtin_steps, builtin_names, builtin_tests}
+use Rattle.tmem_core.specs.Program.{Program}
+use Rattle.tmem_disk.specs.declared.fault.Fault.{Fault}
+use Rattle.tmem_front.specs.Histories.{WasValue}
+use Rattle.tmem_record.specs.State.{State}
+use Rattle.tmem_record.specs.declared.effect.Effect.{Effect}
+use Rattle.tmem_spine.specs.History.{count}
+use Rattle.tmem_spine.specs.Views.{PassView}
+use Rattle.tmem_tree.specs.declared.settled.Settled.{Settled}
+use Rattle.tmem_tree.specs.declared.settled.Settled.TheVariants.{Committed}
+use Rattle.tmem_threads.specs.declared.store.Totals.{Totals}
+use Rattle.tmem_threads.specs.declared.workers.Work.{Work}
+
+-- what the store's steps answer and its invariants mean
+abbrev pub counting : Program
+counting = record { steps = builtin_steps; names = builtin_names 4; tests = builtin_tests }
+
+-- The pass has so many more transactions of its own, each of which it has seen to be durable, and it forgot nothing that it saw.
+pub record AddsDurable (start : ℕ) (old : PassView) (n : ℕ) (new : PassView) : Type 0 where
+  pub added : List (ℕ × Effect)
+  pub own : new.own ≡ old.own ++ added
+  pub many : length added ≡ n
+  pub durable : All (λ it. it.0 < count start new.seen) added
+  pub later : count start old.seen ≤ count start new.seen
+
+-- the number of a transaction that was committed
+abbrev pub number_in : Settled → Option ℕ
+number_in (Committed number registers) = Some number
+number_in _ = None
+
+-- one or none
+abbrev pub once : Bool → ℕ
+once is = if is then 1 else 0
+
+-- what the workers committed together, where each was answered its own number
+abbrev pub sum_of : List (Result ℕ Fault) → ℕ
+sum_of answers = sum_by (λ answer. result_unwrap_or answer 0) answers
+
+-- What is told of a store that was opened in this state: no more was committed than was to be, variable 0 had this value after some
+-- history, in a sound state, and at least as many transactions are durable as the state counts.
+pub record AreTotals (opening : State) (work : Work) (t : Totals) : Type 0 where
+  pub most : t.committed ≤ work.workers * work.turns
+  pub value : WasValue counting opening 0 t.value
+  pub durable : opening.count ≤ t.durable

@@ -1,0 +1,128 @@
+// What the threads do with the store that they share.
+ghost use Rattle.std.specs.Prelude.{◌≡◌, ◌≤◌, IfOk, IfErr};
+ghost use Rattle.tmem_disk.specs.declared.fault.Fault.TheVariants as fault;
+ghost use Rattle.tmem_front.specs.Flushing.{IsFlusherRefusal};
+ghost use Rattle.tmem_tree.specs.Plans.{FitsSteps, FitsVariables, FitsNames};
+ghost use Rattle.tmem_threads.specs.Counting.{AddsDurable, number_in, once};
+
+use crate::pace::Gathering;
+use std::alloc::{AllocError, Global};
+use std::rt::Clock;
+use std::sync::Wait;
+use tmem_core::Settled;
+use tmem_disk::{Disk, Fault};
+use tmem_front::{Front, Pass, StoreNaming};
+use tmem_invariants::Invariants;
+use tmem_tree::{Plan, StoredSteps, Tx};
+
+/// What the threads do with a store. The functions that start threads know no more of it.
+pub(crate) trait Counting {
+    /// Adds 1 to variable 0 so often, each time by a transaction that is awaited until it is durable. Answers how many of them
+    /// were committed.
+    fn add<R: Wait>(&self, rt: &R, alloc: Global, turns: u16) -> Result<u64, Fault>
+        ensures { IfOk result (λ committed. committed ≤ turns) };
+
+    /// Makes durable what is committed, until the store is shut. It is shut where that fails.
+    fn flush<R: Wait + Clock>(&self, rt: &R, is_shared: bool) -> Result<(), Fault>
+        ensures { IfErr result IsFlusherRefusal };
+
+    /// Nothing is settled any more.
+    fn close<R: Wait>(&self, rt: &R);
+}
+
+impl<D: Disk + Drop, N: StoreNaming, T: Invariants + Drop, S: StoredSteps + Drop> Counting
+    for Front<D, N, T, S> {
+    fn add<R: Wait>(&self, rt: &R, alloc: Global, turns: u16) -> Result<u64, Fault> {
+        let mut pass = self.pass(rt)?;
+        let plan = self.plan(add_one(alloc)?)?;
+        add_turns(rt, self, &mut pass, &plan, turns)
+    }
+
+    fn flush<R: Wait + Clock>(&self, rt: &R, is_shared: bool) -> Result<(), Fault> {
+        let mut pace = Gathering {
+            clock: rt,
+            is_shared,
+        };
+        let flushed = self.run_flusher(rt, &mut pace);
+        self.shut(rt);
+        flushed
+    }
+
+    fn close<R: Wait>(&self, rt: &R) {
+        self.shut(rt);
+    }
+}
+
+// Adds so often by one pass.
+fn add_turns<R: Wait, D: Disk + Drop, N: StoreNaming, T: Invariants + Drop, S: StoredSteps + Drop>(
+    rt: &R,
+    front: &Front<D, N, T, S>,
+    pass: &mut Pass<N>,
+    plan: &Plan,
+    turns: u16,
+) -> Result<u64, Fault>
+    requires steps { FitsSteps (S.arities front.now.steps) plan.now }
+    requires variables { FitsVariables front.now.vars plan.now }
+    requires names { FitsNames N.program.names plan.now }
+    ensures added { IfOk result (λ committed. ∥ AddsDurable N.name.start pass.old committed pass.new ∥₁) }
+    ensures most { IfOk result (λ committed. committed ≤ turns) }
+{
+    let mut committed = 0;
+    for _turn in 0..turns {
+        if add_once(rt, front, pass, plan)? {
+            committed += 1;
+        }
+    }
+    Ok(committed)
+}
+
+// Adds once, and awaits that. Answers whether it was committed.
+fn add_once<R: Wait, D: Disk + Drop, N: StoreNaming, T: Invariants + Drop, S: StoredSteps + Drop>(
+    rt: &R,
+    front: &Front<D, N, T, S>,
+    pass: &mut Pass<N>,
+    plan: &Plan,
+) -> Result<bool, Fault>
+    requires steps { FitsSteps (S.arities front.now.steps) plan.now }
+    requires variables { FitsVariables front.now.vars plan.now }
+    requires names { FitsNames N.program.names plan.now }
+    ensures { IfOk result (λ is_committed. ∥ AddsDurable N.name.start pass.old (once is_committed) pass.new ∥₁) }
+{
+    let settled = front.atomically(rt, pass, plan)?;
+    match number_of(&settled) {
+        Some(number) => {
+            front.await_durable(rt, pass, number)?;
+            Ok(true)
+        }
+        None => Ok(false),
+    }
+}
+
+// The number of a transaction that was committed.
+fn number_of(settled: &Settled) -> Option<u64>
+    ensures { result ≡ number_in settled.now }
+{
+    match settled {
+        Settled::Committed { number, .. } => Some(*number),
+        _ => None,
+    }
+}
+
+// The stored step that adds.
+const ADD: u16 = 0;
+
+// Adds 1 to variable 0.
+fn add_one(alloc: Global) -> Result<Tx, AllocError> {
+    let args = vec![in alloc; 0, 1]?;
+    let step = Tx::Step {
+        index: ADD,
+        args,
+        out: 0,
+    };
+    Ok(Tx::Seq(vec![in alloc;
+        Tx::Read { var: 0, reg: 0 },
+        Tx::Put { reg: 1, number: 1 },
+        step,
+        Tx::Write { var: 0, reg: 0 },
+    ]?))
+}

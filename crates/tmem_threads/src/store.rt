@@ -1,0 +1,173 @@
+// A store for the threads, from its opening to their totals.
+ghost use Rattle.std.specs.Prelude.{◌≡◌, ◌<◌, ◌≤◌, ◌∷◌, [], length, IfOk};
+ghost use Rattle.tmem_builtins.specs.Builtins.{builtin_steps, builtin_names, builtin_tests};
+ghost use Rattle.tmem_builtins.specs.Invariants.{is_not_negative, add_to_hundred, are_ordered};
+ghost use Rattle.tmem_builtins.specs.Steps.{sum_of, difference_of, at_least};
+ghost use Rattle.tmem_front.specs.Held.{found_of, spine_of, steps_of as held_steps, table_of as held_table};
+ghost use Rattle.tmem_front.specs.Histories.{WasValue};
+ghost use Rattle.tmem_record.specs.State.{State};
+ghost use Rattle.tmem_spine.specs.History.{count};
+ghost use Rattle.tmem_threads.specs.Counting.{AreTotals, counting};
+ghost use Rattle.tmem_threads.specs.declared.store.TheConstants.{VARS};
+
+use crate::workers::{Work, work_and_flush};
+use std::alloc::Global;
+use std::marker::Brand;
+use std::rt::Clock;
+use std::sync::Wait;
+use std::thread::Threads;
+use tmem_builtins::{add, need, nonneg, ordered, steps_of, sub, sum, table_of};
+use tmem_disk::{Disk, Fault};
+use tmem_front::{Front, OpenedFront, Pass, StoreNaming};
+use tmem_invariants::Invariants;
+use tmem_tree::{StepAnswer, StoredSteps};
+
+/// How many variables the store has.
+pub const VARS: u16 = 4;
+
+/// How many batches the log takes between two checkpoints.
+pub const SLOTS: u16 = 4;
+
+/// What the threads did.
+#[derive(Clone, Copy, Debug, PartialEq, Eq)]
+pub struct Totals {
+    /// How many transactions the workers were answered to have committed.
+    pub committed: u64,
+    /// The value of variable 0 after the last of them.
+    pub value: i64,
+    /// How many transactions are durable.
+    pub durable: u64,
+}
+
+/// Opens the store of a device, lets workers count up there beside a flusher, and answers their totals once all threads have
+/// ended.
+pub fn count_up<R: Threads + Wait + Clock + Sync, D: Disk + Drop + Send>(
+    rt: &R,
+    alloc: Global,
+    disk: D,
+    work: Work,
+) -> Result<Totals, Fault>
+    ensures { IfOk result (λ totals. (opening : State) × AreTotals opening work totals) }
+{
+    let at_least_zero = Box::new(
+        alloc,
+        |values: &[i64]| -> bool
+            requires { length values.now ≡ 1 }
+            ensures { result ≡ is_not_negative values.now }
+        { nonneg(values) },
+    )?;
+    let a_hundred = Box::new(
+        alloc,
+        |values: &[i64]| -> bool
+            requires { length values.now ≡ 2 }
+            ensures { result ≡ add_to_hundred values.now }
+        { sum(values) },
+    )?;
+    let in_order = Box::new(
+        alloc,
+        |values: &[i64]| -> bool
+            requires { length values.now ≡ 2 }
+            ensures { result ≡ are_ordered values.now }
+        { ordered(values) },
+    )?;
+    let table = table_of(alloc, VARS, at_least_zero, a_hundred, in_order)?;
+    count_under(rt, alloc, disk, table, work)
+}
+
+// The same under these invariants.
+fn count_under<
+    R: Threads + Wait + Clock + Sync,
+    D: Disk + Drop + Send,
+    T: Invariants + Drop + Send,
+>(rt: &R, alloc: Global, disk: D, table: T, work: Work) -> Result<Totals, Fault>
+    requires vars { T.vars table ≡ VARS }
+    requires names { T.names table ≡ counting.names }
+    requires stated { T.is_stated table counting.tests }
+    ensures { IfOk result (λ totals. (opening : State) × AreTotals opening work totals) }
+{
+    let total = Box::new(
+        alloc,
+        |args: &[i64]| -> StepAnswer
+            requires { length args.now ≡ 2 }
+            ensures { result ≡ sum_of args.now }
+        { add(args) },
+    )?;
+    let difference = Box::new(
+        alloc,
+        |args: &[i64]| -> StepAnswer
+            requires { length args.now ≡ 2 }
+            ensures { result ≡ difference_of args.now }
+        { sub(args) },
+    )?;
+    let floor = Box::new(
+        alloc,
+        |args: &[i64]| -> StepAnswer
+            requires { length args.now ≡ 2 }
+            ensures { result ≡ at_least args.now }
+        { need(args) },
+    )?;
+    let steps = steps_of(alloc, total, difference, floor)?;
+    count_with(rt, alloc, disk, table, steps, work)
+}
+
+// The same under these invariants and with these steps.
+fn count_with<
+    R: Threads + Wait + Clock + Sync,
+    D: Disk + Drop + Send,
+    T: Invariants + Drop + Send,
+    S: StoredSteps + Drop + Send + Sync,
+>(rt: &R, alloc: Global, disk: D, table: T, steps: S, work: Work) -> Result<Totals, Fault>
+    requires vars { T.vars table ≡ VARS }
+    requires names { T.names table ≡ counting.names }
+    requires tests { T.is_stated table counting.tests }
+    requires steps { S.is_stated steps counting.steps }
+    ensures { IfOk result (λ totals. (opening : State) × AreTotals opening work totals) }
+{
+    match OpenedFront::open(alloc, disk, VARS, SLOTS, table, steps) {
+        Ok(opened) => count_in::<Brand, D, T, S, R>(rt, alloc, opened, work),
+        Err((fault, _disk)) => Err(fault),
+    }
+}
+
+// The same in a store that was opened.
+fn count_in<
+    N: StoreNaming + Send + Sync,
+    D: Disk + Drop + Send,
+    T: Invariants + Drop + Send,
+    S: StoredSteps + Drop + Send + Sync,
+    R: Threads + Wait + Clock + Sync,
+>(rt: &R, alloc: Global, opened: OpenedFront<D, T, S>, work: Work) -> Result<Totals, Fault>
+    requires spine { spine_of opened ≡ N.name }
+    requires opening { found_of opened ≡ N.opening }
+    requires program { N.program ≡ counting }
+    requires values { length (found_of opened).values ≡ VARS }
+    requires names { T.names (held_table opened) ≡ counting.names }
+    requires stated { T.is_stated (held_table opened) counting.tests }
+    requires steps { S.is_stated (held_steps opened) counting.steps }
+    ensures { IfOk result (AreTotals (found_of opened) work) }
+{
+    let front = opened.named::<N>();
+    let mut pass = front.pass(rt)?;
+    let committed = work_and_flush(rt, alloc, &front, work)?;
+    Ok(last_look(rt, &front, &mut pass, committed))
+}
+
+// The totals, where so many were answered to have committed.
+fn last_look<N: StoreNaming, D: Disk + Drop, T: Invariants + Drop, S: StoredSteps + Drop, R: Wait>(
+    rt: &R,
+    front: &Front<D, N, T, S>,
+    pass: &mut Pass<N>,
+    committed: u64,
+) -> Totals
+    requires { 0 < length N.opening.values }
+    ensures committed { result.committed ≡ committed }
+    ensures value { WasValue N.program N.opening 0 result.value }
+    ensures durable { result.durable ≡ count N.name.start pass.new.seen }
+    ensures least { count N.name.start pass.old.seen ≤ result.durable }
+{
+    Totals {
+        committed,
+        value: front.peek(rt, 0),
+        durable: front.look(pass),
+    }
+}

@@ -1,0 +1,82 @@
+// The threads.
+ghost use Rattle.std.specs.Prelude.{◌≡◌, ◌<◌, ◌≤◌, ◌*◌, ◌^◌, Err, IsOk, IfOk, IfErr, All, Contains, length};
+ghost use Rattle.tmem_threads.specs.Counting.{sum_of as sum};
+
+use crate::counting::Counting;
+use std::alloc::Global;
+use std::rt::Clock;
+use std::sync::Wait;
+use std::thread::{self, Threads, map_indices};
+use tmem_disk::Fault;
+
+/// How many workers there are, and how often each of them adds.
+#[derive(Clone, Copy, Debug, PartialEq, Eq)]
+pub struct Work {
+    pub workers: u16,
+    pub turns: u16,
+}
+
+/// Lets the workers add beside a flusher, each in a thread of its own, and answers how many transactions they committed once all
+/// have ended. The flusher's refusal comes before those that follow from it. With no thread for the flusher nobody works.
+pub(crate) fn work_and_flush<F: Counting + Sync, R: Threads + Wait + Clock + Sync>(
+    rt: &R,
+    alloc: Global,
+    store: &F,
+    work: Work,
+) -> Result<u64, Fault>
+    ensures { IfOk result (λ committed. committed ≤ work.workers * work.turns) }
+{
+    thread::scope(
+        thread::scope_env(),
+        rt,
+        |scope| -> Result<u64, Fault>
+            ensures { IfOk result (λ committed. committed ≤ work.workers * work.turns) }
+        {
+            let is_shared = work.workers > 1;
+            let Ok(flusher) = scope.spawn(move || store.flush(rt, is_shared)) else {
+                return Err(Fault::Memory);
+            };
+            let committed = work_all(rt, alloc, store, work);
+            store.close(rt);
+            flusher.join(rt)?;
+            committed
+        },
+    )
+}
+
+fn work_all<F: Counting + Sync, R: Threads + Wait + Sync>(
+    rt: &R,
+    alloc: Global,
+    store: &F,
+    work: Work,
+) -> Result<u64, Fault>
+    ensures { IfOk result (λ committed. committed ≤ work.workers * work.turns) }
+{
+    let turns = work.turns;
+    let answers = map_indices(
+        rt,
+        alloc,
+        usize::from(work.workers),
+        &|_| -> Result<u64, Fault>
+            ensures { IfOk result (λ committed. committed ≤ turns) }
+        { store.add(rt, alloc, turns) },
+    )?;
+    sum_of(answers.as_slice())
+}
+
+// The sum of what the workers answered, or the first refusal among them.
+fn sum_of(answers: &[Result<u64, Fault>]) -> Result<u64, Fault>
+    requires { sum answers.now < 2 ^ 64 }
+    ensures sum { IfOk result (λ committed. committed ≡ sum answers.now) }
+    ensures all { IfOk result (λ committed. All (λ answer. IsOk answer) answers.now) }
+    ensures refused { IfErr result (λ fault. Contains answers.now (Err fault)) }
+{
+    let mut committed = 0;
+    for answer in answers {
+        match answer {
+            Ok(number) => committed += *number,
+            Err(fault) => return Err(*fault),
+        }
+    }
+    Ok(committed)
+}
