@@ -18,7 +18,7 @@ use std::thread::yield_now;
 use tmem_core::{Decision, Settled};
 use tmem_disk::{Disk, Fault};
 use tmem_invariants::Invariants;
-use tmem_spine::Pass as Seat;
+use tmem_spine::Pass as SpinePass;
 use tmem_tentative::Attempt;
 use tmem_tree::{Plan, StoredSteps};
 
@@ -67,7 +67,7 @@ impl<D: Disk + Drop, N: StoreNaming, T: Invariants + Drop, S: StoredSteps + Drop
     fn settle_or_wait<R: Wait>(
         &self,
         rt: &R,
-        seat: &mut Seat<N>,
+        seat: &mut SpinePass<N>,
         attempt: &Attempt,
     ) -> Result<Settled, Fault>
         requires variables { IsForVariables (length N.opening.values) attempt.now }
