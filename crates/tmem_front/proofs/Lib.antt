@@ -2,6 +2,7 @@ pub mod Laws
 pub mod Sharing
 mod Again
 mod Leaves
+mod Looks
 mod OpensStore
 mod Planned
 mod Refusals

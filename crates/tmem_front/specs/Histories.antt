@@ -29,9 +29,9 @@ IsSoundState p s = IsSound p.tests p.names s.names s.values
 abbrev pub AreSound : Program → State → List Entry → Type 0
 AreSound p opening log = (xs : List Entry) → IsPrefix xs log → IsSoundState p (after opening xs)
 
--- a variable had this value after some history, in a sound state
-abbrev pub WasValue : Program → State → ℕ → ℤ → Type 0
-WasValue p opening var n = ∥ ((log : List Entry) × IsSoundState p (after opening log) × (slice_get (after opening log).values var ≡ Some n)) ∥₁
+-- some list of effects makes of the opening state a sound one, in which the variable has this value
+abbrev pub IsPossibleValue : Program → State → ℕ → ℤ → Type 0
+IsPossibleValue p opening var n = ∥ ((log : List Entry) × IsSoundState p (after opening log) × (slice_get (after opening log).values var ≡ Some n)) ∥₁
 
 -- the state of no store, and a program that brings nothing
 abbrev pub no_state : State

@@ -15,7 +15,7 @@ ghost use Rattle.tmem_tree.specs.StepAnswers.{StepMeanings};
 ghost use Rattle.tmem_spine.specs.History.{count, longer};
 ghost use Rattle.tmem_spine.specs.Views.{new_pass};
 ghost use Rattle.tmem_spine.specs.declared.spine.TheConstants.{MOST_PASSES};
-ghost use Rattle.tmem_front.specs.Histories.{WasValue};
+ghost use Rattle.tmem_front.specs.Histories.{IsPossibleValue};
 ghost use Rattle.tmem_front.specs.Settling.{Settles, SettlesPlan};
 
 use crate::core_seat::CoreSeat;
@@ -27,7 +27,7 @@ use std::sync::{Condvar, Mutex, Wait};
 use tmem_core::{Decision, Settled};
 use tmem_disk::{Cause, Disk, Fault, Name};
 use tmem_invariants::Invariants;
-use tmem_spine::{Pass as Seat, Spine};
+use tmem_spine::{Pass as SpinePass, Spine};
 use tmem_tentative::{Attempt, Cursor, Outcome, Progress};
 use tmem_tree::{Plan, StoredSteps, Tx};
 
@@ -119,7 +119,7 @@ impl<D: Disk + Drop, N: StoreNaming, T: Invariants + Drop, S: StoredSteps + Drop
     fn settle_seat<R: Wait>(
         &self,
         rt: &R,
-        seat: &mut Seat<N>,
+        seat: &mut SpinePass<N>,
         attempt: &Attempt,
     ) -> Result<Settled, Fault>
         requires variables { IsForVariables (length N.opening.values) attempt.now }
@@ -191,8 +191,8 @@ impl<D: Disk + Drop, N: StoreNaming, T: Invariants + Drop, S: StoredSteps + Drop
         self.spine.look(&mut pass.seat)
     }
 
-    /// How many are durable, by the journal itself: every crash of the journal in hand leaves a store whose history has
-    /// the pass's own effect at this number.
+    /// How many are durable, by the journal itself. Where the pass has an own effect at this number, `JournalSeat::vouch`
+    /// states that it is among these, and `JournalSeat::crash_leaves` that every crash leaves a state after them.
     pub fn vouch<R: Wait>(&self, rt: &R, pass: &mut Pass<N>, number: u64) -> u64
         requires { number < count N.name.start pass.old.seen }
         ensures least { count N.name.start pass.old.seen ≤ result }
@@ -267,10 +267,11 @@ impl<D: Disk + Drop, N: StoreNaming, T: Invariants + Drop, S: StoredSteps + Drop
         self.flushed.notify_all();
     }
 
-    /// The present value of a variable, also where the front is shut.
+    /// The present value of a variable, also where the front is shut. The clause says no more than that it may be one:
+    /// which it is, is known under the lock alone (`CoreSeat::peek`).
     pub fn peek<R: Wait>(&self, rt: &R, var: u16) -> i64
         requires { var < length N.opening.values }
-        ensures { WasValue N.program N.opening var result }
+        ensures { IsPossibleValue N.program N.opening var result }
     {
         self.core.lock(rt).peek(var)
     }

@@ -14,12 +14,16 @@ use crate::front::{Front, with_registers};
 use crate::naming::StoreNaming;
 use crate::pass::Pass;
 use std::sync::Wait;
+use std::thread::yield_now;
 use tmem_core::{Decision, Settled};
 use tmem_disk::{Disk, Fault};
 use tmem_invariants::Invariants;
-use tmem_spine::Pass as Seat;
+use tmem_spine::Pass as SpinePass;
 use tmem_tentative::Attempt;
 use tmem_tree::{Plan, StoredSteps};
+
+// So often a caller looks before it sleeps. To wake a thread takes about as long as a flush of a fast disk.
+const LOOKS: u32 = 100;
 
 /// How a flusher goes on.
 pub trait Pace {
@@ -63,7 +67,7 @@ impl<D: Disk + Drop, N: StoreNaming, T: Invariants + Drop, S: StoredSteps + Drop
     fn settle_or_wait<R: Wait>(
         &self,
         rt: &R,
-        seat: &mut Seat<N>,
+        seat: &mut SpinePass<N>,
         attempt: &Attempt,
     ) -> Result<Settled, Fault>
         requires variables { IsForVariables (length N.opening.values) attempt.now }
@@ -104,7 +108,7 @@ impl<D: Disk + Drop, N: StoreNaming, T: Invariants + Drop, S: StoredSteps + Drop
         ensures pass { pass.new ≡ record pass.old { seen = pass.new.seen; known = pass.new.known } }
         ensures later { IsPrefix pass.old.seen pass.new.seen × IsPrefix pass.old.known pass.new.known }
     {
-        if number < self.look(pass) {
+        if number < self.look_again(pass, number) {
             return Ok(());
         }
         self.wait_for_durable(rt, number);
@@ -114,6 +118,22 @@ impl<D: Disk + Drop, N: StoreNaming, T: Invariants + Drop, S: StoredSteps + Drop
         } else {
             Err(Fault::Closed)
         }
+    }
+
+    // Looks until more than so many are durable, and lets other threads run in between. It gives up after a while.
+    fn look_again(&self, pass: &mut Pass<N>, number: u64) -> u64
+        ensures answer { result ≡ count N.name.start pass.new.seen }
+        ensures pass { pass.new ≡ record pass.old { seen = pass.new.seen; known = pass.new.known } }
+        ensures later { IsPrefix pass.old.seen pass.new.seen × IsPrefix pass.old.known pass.new.known }
+    {
+        for _ in 0..LOOKS {
+            let durable = self.look(pass);
+            if number < durable {
+                return durable;
+            }
+            yield_now();
+        }
+        self.look(pass)
     }
 
     // Waits until more than so many are known durable, or the front is shut.
