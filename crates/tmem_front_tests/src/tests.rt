@@ -4,9 +4,11 @@ ghost use Rattle.tmem_front.specs.Held.{found_of, spine_of};
 ghost use Rattle.tmem_front_tests.specs.Examples.{adding};
 
 mod failures;
+mod flushers;
 mod hold_disk;
 mod no_closures;
 mod passes;
+mod slow_disk;
 mod threads;
 mod waits;
 
@@ -16,7 +18,7 @@ use tmem_core::Settled;
 use tmem_disk::{Disk, Fault, SimDisk};
 use tmem_front::{Front, OpenedFront, StoreNaming};
 use tmem_journal::{Layout, format};
-use tmem_tree::Tx;
+use tmem_tree::{StoredSteps, Tx};
 
 /// A store of four variables and four slots that holds nothing yet.
 type New = OpenedFront<SimDisk, AlwaysTrue, AddsAndNeeds>;
@@ -32,12 +34,24 @@ fn new(alloc: Global) -> Result<New, Fault>
 /// The same on a device that is large enough.
 fn new_on<D: Disk + Drop>(
     alloc: Global,
-    mut disk: D,
+    disk: D,
 ) -> Result<OpenedFront<D, AlwaysTrue, AddsAndNeeds>, Fault>
     ensures { IfOk result (λ o. length (found_of o).values ≡ 4) }
 {
-    format(&mut disk, 4, 4)?;
-    open_on(alloc, disk)
+    new_with(alloc, disk, 4, AddsAndNeeds)
+}
+
+/// The same with so many slots, and these steps.
+fn new_with<D: Disk + Drop, S: StoredSteps + Drop>(
+    alloc: Global,
+    mut disk: D,
+    slots: u16,
+    steps: S,
+) -> Result<OpenedFront<D, AlwaysTrue, S>, Fault>
+    ensures { IfOk result (λ o. length (found_of o).values ≡ 4) }
+{
+    format(&mut disk, 4, slots)?;
+    open_with(alloc, disk, slots, steps)
 }
 
 /// Opens the one that is there.
@@ -47,7 +61,19 @@ fn open_on<D: Disk + Drop>(
 ) -> Result<OpenedFront<D, AlwaysTrue, AddsAndNeeds>, Fault>
     ensures { IfOk result (λ o. length (found_of o).values ≡ 4) }
 {
-    let opened = OpenedFront::open(alloc, disk, 4, 4, AlwaysTrue { vars: 4 }, AddsAndNeeds);
+    open_with(alloc, disk, 4, AddsAndNeeds)
+}
+
+/// Opens one of so many slots, with these steps.
+fn open_with<D: Disk + Drop, S: StoredSteps + Drop>(
+    alloc: Global,
+    disk: D,
+    slots: u16,
+    steps: S,
+) -> Result<OpenedFront<D, AlwaysTrue, S>, Fault>
+    ensures { IfOk result (λ o. length (found_of o).values ≡ 4) }
+{
+    let opened = OpenedFront::open(alloc, disk, 4, slots, AlwaysTrue { vars: 4 }, steps);
     match opened {
         Ok(opened) => Ok(opened),
         Err(refusal) => Err(refusal.0),

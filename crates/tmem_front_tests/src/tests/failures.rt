@@ -97,3 +97,34 @@ fn what_is_durable_is_awaited_and_no_more_once_the_front_is_shut(
     assert_eq!(rt; answers, Ok((true, Some(Fault::Closed))));
     Ok(())
 }
+
+/// What three flushes answer: after a commit, with nothing waiting, and after another commit.
+fn flush_three_times<N: StoreNaming, R: Wait>(
+    rt: &R,
+    opened: New,
+    tx: Tx,
+) -> Result<[Result<u64, Fault>; 3], Fault>
+    requires spine { spine_of opened ≡ N.name }
+    requires opening { found_of opened ≡ N.opening }
+    requires program { N.program ≡ adding }
+{
+    let front = named::<N>(opened);
+    let mut pass = front.pass(rt)?;
+    let plan = front.plan(tx)?;
+    let _ = front.try_atomically(rt, &mut pass, &plan);
+    let (first, idle) = (front.flush_once(rt), front.flush_once(rt));
+    let _ = front.try_atomically(rt, &mut pass, &plan);
+    Ok([first, idle, front.flush_once(rt)])
+}
+
+#[test]
+fn a_flush_with_nothing_waiting_writes_nothing(rt: HostRuntime) -> Result<(), Fail> {
+    let mut disk = SimDisk::new(rt.alloc(), Layout::new(4, 4)?.end())?;
+    format(&mut disk, 4, 4)?;
+    // a flush makes two writes, so it is the first one of the second batch
+    disk.fail_write(2);
+    let tx = write(rt.alloc(), 0, 1)?;
+    let answers = flush_three_times::<Brand, _>(&rt, open_on(rt.alloc(), disk)?, tx);
+    assert_eq!(rt; answers, Ok([Ok(1), Ok(1), Err(Fault::Device)]));
+    Ok(())
+}

@@ -2,6 +2,7 @@
 //! closure. Each method of theirs can be called, which it could not where there were none.
 ghost use Rattle.std.specs.Prelude.{◌≡◌, ◌∷◌, [], ℕ, ℤ, List, true, codes};
 
+use std::sync::atomic::{AtomicU64, Ordering};
 use tmem_builtins::{add, need};
 use tmem_disk::Name;
 use tmem_invariants::Invariants;
@@ -101,6 +102,46 @@ impl StoredSteps for AddsAndNeeds {
 
     fn answer(&self, index: usize, args: &[i64]) -> StepAnswer {
         if index == 0 { add(args) } else { need(args) }
+    }
+
+    ghost use Rattle.std.proofs.Common.{lit≤, refl};
+    ghost use Rattle.tmem_front_tests.specs.Examples.{two_small};
+
+    ghost few = { λ _. lit≤ tt };
+
+    ghost small = { λ _. two_small };
+
+    ghost has_meanings = { λ _. ∣ (adds_and_needs, λ _ _. refl) ∣₁ };
+}
+
+/// The same two steps. How often the second one is called is counted.
+#[derive(Drop)]
+pub(super) struct CountsNeeds<'a> {
+    pub(super) needs: &'a AtomicU64,
+}
+
+impl<'a> StoredSteps for CountsNeeds<'a> {
+    ghost use Rattle.tmem_front_tests.specs.Examples.{adds_and_needs};
+
+    ghost arities = { λ _. 2 ∷ 2 ∷ [] };
+
+    ghost is_stated = { λ _ m. (index : ℕ) (args : List ℤ) → m index args ≡ adds_and_needs index args };
+
+    fn len(&self) -> usize {
+        2
+    }
+
+    fn arity(&self, _index: usize) -> usize {
+        2
+    }
+
+    fn answer(&self, index: usize, args: &[i64]) -> StepAnswer {
+        if index == 0 {
+            add(args)
+        } else {
+            self.needs.fetch_add(1, Ordering::SeqCst);
+            need(args)
+        }
     }
 
     ghost use Rattle.std.proofs.Common.{lit≤, refl};

@@ -4,13 +4,13 @@ ghost use Rattle.tmem_front.specs.Held.{found_of, spine_of};
 ghost use Rattle.tmem_front_tests.specs.Examples.{adding};
 
 use super::hold_disk::{Hold, HoldDisk};
-use super::no_closures::{AddsAndNeeds, AlwaysTrue};
-use super::{New, named, new, new_on, number_of, write};
+use super::no_closures::{AddsAndNeeds, AlwaysTrue, CountsNeeds};
+use super::{New, named, new, new_on, new_with, number_of, write};
 use std::alloc::{AllocError, Global};
 use std::marker::Brand;
 use std::rt::Clock;
 use std::sync::Wait;
-use std::sync::atomic::Ordering;
+use std::sync::atomic::{AtomicU64, Ordering};
 use std::test::Fail;
 use std::thread::{self, Threads, join};
 use std::time::Duration;
@@ -134,23 +134,31 @@ fn wait_for_another<
     need_and_write(rt, alloc, front)
 }
 
+/// A store that counts how often a number is needed.
+type Counting<'a> = OpenedFront<SimDisk, AlwaysTrue, CountsNeeds<'a>>;
+
 fn wait_in_a_store<N: StoreNaming + Send + Sync, R: Clock + Threads + Wait + Sync>(
     rt: &R,
     alloc: Global,
-    opened: New,
+    opened: Counting,
 ) -> Result<Waits, Fault>
     requires spine { spine_of opened ≡ N.name }
     requires opening { found_of opened ≡ N.opening }
     requires program { N.program ≡ adding }
 {
-    wait_for_another(rt, alloc, &named::<N>(opened))
+    wait_for_another(rt, alloc, &opened.named::<N>())
 }
 
 #[test]
 fn a_transaction_that_retries_waits_for_another(rt: HostRuntime) -> Result<(), Fail> {
-    let answers = wait_in_a_store::<Brand, _>(&rt, rt.alloc(), new(rt.alloc())?);
+    let needs = AtomicU64::new(0);
+    let disk = SimDisk::new(rt.alloc(), Layout::new(4, 4)?.end())?;
+    let opened = new_with(rt.alloc(), disk, 4, CountsNeeds { needs: &needs })?;
+    let answers = wait_in_a_store::<Brand, _>(&rt, rt.alloc(), opened);
     let registers = [1, 1, 1, 0, 0, 0, 0, 0, 0, 0, 0, 0, 0, 0, 0, 0];
     assert_eq!(rt; answers, Ok((Some((1, registers)), Some(0))));
+    // once after the other one committed, and once before it at the most
+    assert!(rt; needs.load(Ordering::SeqCst) <= 2);
     Ok(())
 }
 
