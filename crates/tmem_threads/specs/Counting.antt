@@ -5,7 +5,7 @@ use Rattle.std.specs.List.{sum_by}
 use Rattle.tmem_builtins.specs.Builtins.{builtin_steps, builtin_names, builtin_tests}
 use Rattle.tmem_core.specs.Program.{Program}
 use Rattle.tmem_disk.specs.declared.fault.Fault.{Fault}
-use Rattle.tmem_front.specs.Histories.{WasValue}
+use Rattle.tmem_front.specs.Histories.{IsPossibleValue}
 use Rattle.tmem_record.specs.State.{State}
 use Rattle.tmem_record.specs.declared.effect.Effect.{Effect}
 use Rattle.tmem_spine.specs.History.{count}
@@ -40,9 +40,9 @@ once is = if is then 1 else 0
 abbrev pub sum_of : List (Result ℕ Fault) → ℕ
 sum_of answers = sum_by (λ answer. result_unwrap_or answer 0) answers
 
--- What is told of a store that was opened in this state: no more was committed than was to be, variable 0 had this value after some
--- history, in a sound state, and at least as many transactions are durable as the state counts.
+-- What is told of a store that was opened in this state: no more was committed than was to be, variable 0 has a value that it may have,
+-- and at least as many transactions are durable as the state counts.
 pub record AreTotals (opening : State) (work : Work) (t : Totals) : Type 0 where
   pub most : t.committed ≤ work.workers * work.turns
-  pub value : WasValue counting opening 0 t.value
+  pub value : IsPossibleValue counting opening 0 t.value
   pub durable : opening.count ≤ t.durable

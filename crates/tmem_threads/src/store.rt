@@ -4,7 +4,7 @@ ghost use Rattle.tmem_builtins.specs.Builtins.{builtin_steps, builtin_names, bui
 ghost use Rattle.tmem_builtins.specs.Invariants.{is_not_negative, add_to_hundred, are_ordered};
 ghost use Rattle.tmem_builtins.specs.Steps.{sum_of, difference_of, at_least};
 ghost use Rattle.tmem_front.specs.Held.{found_of, spine_of, steps_of as held_steps, table_of as held_table};
-ghost use Rattle.tmem_front.specs.Histories.{WasValue};
+ghost use Rattle.tmem_front.specs.Histories.{IsPossibleValue};
 ghost use Rattle.tmem_record.specs.State.{State};
 ghost use Rattle.tmem_spine.specs.History.{count};
 ghost use Rattle.tmem_threads.specs.Counting.{AreTotals, counting};
@@ -161,7 +161,7 @@ fn last_look<N: StoreNaming, D: Disk + Drop, T: Invariants + Drop, S: StoredStep
 ) -> Totals
     requires { 0 < length N.opening.values }
     ensures committed { result.committed ≡ committed }
-    ensures value { WasValue N.program N.opening 0 result.value }
+    ensures value { IsPossibleValue N.program N.opening 0 result.value }
     ensures durable { result.durable ≡ count N.name.start pass.new.seen }
     ensures least { count N.name.start pass.old.seen ≤ result.durable }
 {

@@ -1,4 +1,4 @@
-//! The trees that the scripts of this repository begin, each evaluated from the start and by a cursor.
+//! Trees of each shape that the scripts of this repository begin, each evaluated from the start and by a cursor.
 
 ghost use Rattle.std.specs.Prelude.{◌≡◌, ◌∷◌, [], ℕ, ℤ, List, length};
 ghost use Rattle.tmem_tentative.specs.Examples.{arithmetic, sum_of, difference_of, at_least};

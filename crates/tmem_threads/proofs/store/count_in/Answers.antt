@@ -4,7 +4,7 @@ use Rattle.tmem_core.specs.Program.{Program}
 use Rattle.tmem_spine.specs.History.{count}
 use Rattle.tmem_spine.specs.Views.{PassView, SpineName}
 use Rattle.tmem_front.specs.Held.{found_of}
-use Rattle.tmem_front.specs.Histories.{WasValue}
+use Rattle.tmem_front.specs.Histories.{IsPossibleValue}
 use Rattle.tmem_front.proofs.Laws.{front_sync}
 use Rattle.tmem_threads.specs.Counting.{counting}
 use denote.Param.Send.{sendable}
@@ -20,12 +20,12 @@ returns g c =
     let told = c.last_look.ensures in
     let new = c.in_ok-pass.ensures.pass.0 in
     let committed = c.in_ok-committed.ensures in
-    let value : WasValue counting g.N.StoreNaming.opening 0 c.last_look.result.value = subst (λ (p : Program). WasValue p g.N.StoreNaming.opening 0 c.last_look.result.value) c.requires.program told.value in
+    let value : IsPossibleValue counting g.N.StoreNaming.opening 0 c.last_look.result.value = subst (λ (p : Program). IsPossibleValue p g.N.StoreNaming.opening 0 c.last_look.result.value) c.requires.program told.value in
     let begun : count start c.in_ok-pass.pass.seen ≡ start = ap (λ (v : PassView). count start v.seen) new ∙ (omega arith) in
     let named : start ≡ found.count = ap (λ (n : SpineName). n.start) (sym c.requires.spine) ∙ c.args.opened.starts in
     let least = told.least in
     record {
       most = subst (λ (n : ℕ). n ≤ c.args.work.workers * c.args.work.turns) (sym told.committed) committed;
-      value = subst (λ (s : State). WasValue counting s 0 c.last_look.result.value) (sym c.requires.opening) value;
+      value = subst (λ (s : State). IsPossibleValue counting s 0 c.last_look.result.value) (sym c.requires.opening) value;
       durable = omega (arith, least, begun, named);
     }
