@@ -8,7 +8,11 @@ mod words;
 
 use std::alloc::{AllocError, Global};
 use std::fmt::Display;
+use std::fs::{File, Files};
+use std::rt::Clock;
+use std::sync::Wait;
 use std::test::Fail;
+use std::thread::Threads;
 use tmem_cli::run_words;
 
 /// One write, made durable and found again.
@@ -53,7 +57,11 @@ impl Outcome {
 }
 
 /// Runs the program on the words after its name, with an input in memory.
-fn run(rt: &HostRuntime, words: &[&str], mut input: &[u8]) -> Result<Outcome, Fail> {
+fn run<R: Files<File = File> + AllocGlobal + Threads + Wait + Clock + Sync>(
+    rt: &R,
+    words: &[&str],
+    mut input: &[u8],
+) -> Result<Outcome, Fail> {
     let mut out = Vec::new(rt.alloc());
     let mut err = Vec::new(rt.alloc());
     let words = with_name(rt.alloc(), words)?;
@@ -73,6 +81,9 @@ fn with_name(alloc: Global, words: &[&str]) -> Result<Vec<String>, AllocError> {
 }
 
 /// Plays a script from the input.
-fn play(rt: &HostRuntime, script: &str) -> Result<Outcome, Fail> {
+fn play<R: Files<File = File> + AllocGlobal + Threads + Wait + Clock + Sync>(
+    rt: &R,
+    script: &str,
+) -> Result<Outcome, Fail> {
     run(rt, &["run"], script.as_bytes())
 }
