@@ -127,9 +127,9 @@ impl<D: Disk + Drop, N: StoreNaming, T: Invariants + Drop, S: StoredSteps + Drop
         ensures later { IsPrefix pass.old.seen pass.new.seen × IsPrefix pass.old.known pass.new.known }
     {
         for _ in 0..LOOKS {
-            let durable = self.look(pass);
-            if number < durable {
-                return durable;
+            let seen = self.look(pass);
+            if number < seen {
+                return seen;
             }
             yield_now();
         }
