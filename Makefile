@@ -18,11 +18,12 @@ wrong-bodies:
 	copy=$$(mktemp -d) && trap 'rm -rf "$$copy"' EXIT && git clone -q . "$$copy" && cd "$$copy" && rm -rf crates/*/must-fail && \
 	for folder in crates/*/wrong-bodies; do mv $$folder $${folder%/*}/must-fail; done && rt must-fail
 
-# Proves the benchmarks, and runs them: nanoseconds for each transaction, and then how often each asks for memory.
-bench:
-	cd crates/tmem_bench && mkdir -p out && { rt run 2> out/run.log || { cat out/run.log; false; }; }
-	$${CC:-cc} -O1 -shared -fPIC -o crates/tmem_bench/out/allocations.so crates/tmem_bench/allocations.c -ldl
+# Proves the program, and times transactions and the jobs of a service. Then counts how often a transaction asks for memory.
+bench: build
+	crates/tmem/out/tmem bench
+	cd crates/tmem_transactions && mkdir -p out && { rt run -- once > out/run.log 2>&1 || { cat out/run.log; false; }; }
+	$${CC:-cc} -O1 -shared -fPIC -o crates/tmem_transactions/out/allocations.so crates/tmem_transactions/allocations.c -ldl
 	@echo "requests for memory, in place of nanoseconds:"
-	LD_PRELOAD=$$PWD/crates/tmem_bench/out/allocations.so crates/tmem_bench/out/tmem_bench
+	LD_PRELOAD=$$PWD/crates/tmem_transactions/out/allocations.so crates/tmem_transactions/out/tmem_transactions
 
 .PHONY: run build test wrong-bodies bench

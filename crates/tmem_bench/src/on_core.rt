@@ -4,12 +4,12 @@ ghost use Rattle.tmem_core.specs.Held.{state_of, table_of};
 ghost use Rattle.tmem_tree.specs.Plans.{FitsSteps, FitsVariables, FitsNames};
 ghost use Rattle.tmem_tentative.specs.Fits.{IsForVariables, IsWithin, IsNamed};
 
+use crate::error::BenchError;
 use crate::jobs::{VARS, deposit};
-use crate::timing::{Rounds, each};
-use anyhow::Result;
+use crate::timing::{Rounds, each, now, since};
 use std::alloc::{AllocError, Global};
 use std::rt::Clock;
-use std::time::{Duration, Instant};
+use std::time::Duration;
 use tmem_core::{Core, Decision, Settled};
 use tmem_disk::{Fault, Name};
 use tmem_invariants::Invariants;
@@ -122,15 +122,15 @@ impl<T: Invariants + Drop, S: StoredSteps + Drop> OnCore<T, S> {
     }
 
     /// Runs all rounds of the plan. The best one counts.
-    pub fn measure<C: Clock>(&mut self, rt: &C, rounds: Rounds) -> Result<Figures> {
+    pub fn measure<C: Clock>(&mut self, rt: &C, rounds: Rounds) -> Result<Figures, BenchError> {
         let (mut evaluated, mut resumed) = (Duration::MAX, Duration::MAX);
         for _ in 0..rounds.count {
-            let start = Instant::now(rt)?;
+            let start = now(rt)?;
             self.round_by_evaluate(rounds.length)?;
-            evaluated = evaluated.min(start.elapsed(rt)?);
-            let start = Instant::now(rt)?;
+            evaluated = evaluated.min(since(rt, start)?);
+            let start = now(rt)?;
             self.round_by_cursor(rounds.length)?;
-            resumed = resumed.min(start.elapsed(rt)?);
+            resumed = resumed.min(since(rt, start)?);
         }
         Ok(Figures {
             evaluate: each(evaluated, rounds.length),
@@ -139,7 +139,11 @@ impl<T: Invariants + Drop, S: StoredSteps + Drop> OnCore<T, S> {
     }
 
     /// What it takes to settle the plan, in nanoseconds, where it reads and checks nothing: it is evaluated once.
-    pub fn measure_settling<C: Clock>(&mut self, rt: &C, rounds: Rounds) -> Result<f64> {
+    pub fn measure_settling<C: Clock>(
+        &mut self,
+        rt: &C,
+        rounds: Rounds,
+    ) -> Result<f64, BenchError> {
         let reads = Reads::new(self.alloc);
         let attempt = match self.outcome(&reads)? {
             Outcome::Ended(attempt) => attempt,
@@ -150,9 +154,9 @@ impl<T: Invariants + Drop, S: StoredSteps + Drop> OnCore<T, S> {
         }
         let mut settled = Duration::MAX;
         for _ in 0..rounds.count {
-            let start = Instant::now(rt)?;
+            let start = now(rt)?;
             self.round_of_settlings(&attempt, rounds.length)?;
-            settled = settled.min(start.elapsed(rt)?);
+            settled = settled.min(since(rt, start)?);
         }
         Ok(each(settled, rounds.length))
     }

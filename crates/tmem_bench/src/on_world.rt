@@ -1,12 +1,12 @@
 //! Transactions through a world, over a device in memory.
 ghost use Rattle.std.specs.Prelude.{◌≡◌, ◌<◌};
 
+use crate::error::BenchError;
 use crate::jobs::{Job, VARS};
-use crate::timing::{Rounds, each};
-use anyhow::Result;
+use crate::timing::{Rounds, each, now, since};
 use std::alloc::{AllocError, Global};
 use std::rt::Clock;
-use std::time::{Duration, Instant};
+use std::time::Duration;
 use tmem_disk::{Fault, SimDisk};
 use tmem_invariants::Invariants;
 use tmem_tree::{MAX_NODES, StoredSteps, Tx};
@@ -75,16 +75,16 @@ pub fn measure<C: Clock, T: Invariants + Drop, S: StoredSteps + Drop>(
     world: &mut World<SimDisk, T, S>,
     job: Job,
     rounds: Rounds,
-) -> Result<Figures> {
+) -> Result<Figures, BenchError> {
     let (mut played, mut flushed) = (Duration::MAX, Duration::MAX);
     for round in 0..rounds.count {
         let txs = trees(alloc, job, rounds.length)?;
-        let start = Instant::now(rt)?;
+        let start = now(rt)?;
         play(world, job.slot(), txs);
-        played = played.min(start.elapsed(rt)?);
-        let start = Instant::now(rt)?;
+        played = played.min(since(rt, start)?);
+        let start = now(rt)?;
         world.step(Event::Flush);
-        flushed = flushed.min(start.elapsed(rt)?);
+        flushed = flushed.min(since(rt, start)?);
         if round % FLUSHES == 0 {
             world.step(Event::Checkpoint);
         }

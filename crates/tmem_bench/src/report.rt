@@ -1,12 +1,11 @@
 //! The lines that are printed.
-ghost use Rattle.std.specs.Prelude.{◌≡◌, IfOk};
+ghost use Rattle.std.specs.Prelude.{◌≡◌};
 
+use crate::error::BenchError;
 use crate::jobs::{Job, deposit};
 use crate::on_core::OnCore;
 use crate::on_world::{clear_log, measure, new_store, transact};
 use crate::registering::{all, first};
-use crate::timing::Rounds;
-use anyhow::Result;
 use std::alloc::Global;
 use std::rt::Clock;
 use tmem_core::Decision;
@@ -29,159 +28,130 @@ const WITH_ONE: [Job; 7] = [
 // What is run again with all 64 registered.
 const WITH_ALL: [Job; 3] = [Job::Add, Job::Transfer, Job::Write];
 
-/// What is asked for.
-#[derive(Drop)]
-pub struct Wish {
-    /// Each kind of transaction is run once, and what it was answered is printed.
-    pub is_once: bool,
-    /// Kinds of other names are left out.
-    pub only: Option<String>,
-}
-
-impl Wish {
-    // How often a kind of transaction is run.
-    fn rounds_of(&self, job: Job) -> Rounds {
-        let Rounds { count, length } = job.rounds();
-        Rounds {
-            count: if self.is_once { 1 } else { count },
-            length,
-        }
-    }
-
-    // Whether a kind of transaction is run.
-    fn has(&self, job: Job) -> bool {
-        match &self.only {
-            Some(name) => name.as_str() == job.name(),
-            None => true,
-        }
-    }
-}
-
-/// Runs all benchmarks, and prints a line for each.
-pub fn report<R: Clock + Print, T: Invariants + Drop, S: StoredSteps + Drop>(
+/// Runs all kinds of transactions. Answers a line for each, below a head for those on the core and one for those through a
+/// world.
+pub fn report<R: Clock, T: Invariants + Drop, S: StoredSteps + Drop>(
     rt: &R,
     alloc: Global,
     table: T,
     steps: S,
-    wish: &Wish,
-) -> Result<()>
+    is_once: bool,
+) -> Result<Vec<String>, BenchError>
     requires { T.vars table ≡ 1024 }
 {
-    let (table, steps) = report_core(rt, alloc, table, steps, wish)?;
+    let mut lines = Vec::new(alloc);
+    let mut core = OnCore::new(alloc, table, steps)?;
+    report_core(rt, alloc, &mut core, is_once, &mut lines)?;
+    let (table, steps) = core.into_parts();
     let mut world = new_store(alloc, table, steps)?;
-    report_world(rt, alloc, &mut world, wish)
+    report_world(rt, alloc, &mut world, is_once, &mut lines)?;
+    Ok(lines)
 }
 
 // Runs those on the core.
-fn report_core<R: Clock + Print, T: Invariants + Drop, S: StoredSteps + Drop>(
+fn report_core<R: Clock, T: Invariants + Drop, S: StoredSteps + Drop>(
     rt: &R,
     alloc: Global,
-    table: T,
-    steps: S,
-    wish: &Wish,
-) -> Result<(T, S)>
-    requires { T.vars table ≡ 1024 }
-    ensures { IfOk result (λ parts. T.vars parts.0 ≡ 1024) }
-{
-    println!(rt; "{:<28}{:>12}{:>12}", "on the core", "evaluate", "cursor")?;
-    let mut core = OnCore::new(alloc, table, steps)?;
+    core: &mut OnCore<T, S>,
+    is_once: bool,
+    lines: &mut Vec<String>,
+) -> Result<(), BenchError> {
+    lines.push(format!(in alloc; "{:<28}{:>12}{:>12}", "on the core", "evaluate", "cursor")?)?;
     core.take(first(alloc)?)?;
     core.by_evaluate()?;
     for job in WITH_ONE {
-        line_of_core(rt, alloc, &mut core, job, "", wish)?;
+        lines.push(line_of_core(rt, alloc, core, job, "", is_once)?)?;
+    }
+    if !is_once {
+        lines.push(settled_alone(rt, alloc, core)?)?;
     }
     for tx in all(alloc)? {
         core.take(tx)?;
         core.by_evaluate()?;
     }
     for job in WITH_ALL {
-        line_of_core(rt, alloc, &mut core, job, ", 64 registered", wish)?;
+        lines.push(line_of_core(rt, alloc, core, job, ", 64 registered", is_once)?)?;
     }
-    Ok(core.into_parts())
+    Ok(())
 }
 
 // One kind of transaction on the core.
-fn line_of_core<R: Clock + Print, T: Invariants + Drop, S: StoredSteps + Drop>(
+fn line_of_core<R: Clock, T: Invariants + Drop, S: StoredSteps + Drop>(
     rt: &R,
     alloc: Global,
     core: &mut OnCore<T, S>,
     job: Job,
     among: &str,
-    wish: &Wish,
-) -> Result<()> {
-    if !wish.has(job) {
-        return Ok(());
-    }
+    is_once: bool,
+) -> Result<String, BenchError> {
     core.take(job.tree(alloc)?)?;
     if job != Job::AddAfter {
         core.renew()?;
     }
-    let rounds = wish.rounds_of(job);
-    let had = core.measure(rt, rounds)?;
     let name = format!(in alloc; "{}{among}", job.name())?;
-    if wish.is_once {
+    if is_once {
         let (by_evaluate, by_cursor) = (word(core.by_evaluate()?), decided(core.by_cursor()?));
-        println!(rt; "{name:<28}{by_evaluate:>12}{by_cursor:>12}")?;
-        return Ok(());
+        return Ok(format!(in alloc; "{name:<28}{by_evaluate:>12}{by_cursor:>12}")?);
     }
-    println!(rt; "{name:<28}{:>12.1}{:>12.1}", had.evaluate, had.cursor)?;
-    if job == Job::Write {
-        let settled = core.measure_settling(rt, rounds)?;
-        println!(rt; "{:<28}{:>12}{settled:>12.1}", "  settled alone", "")?;
-    }
-    Ok(())
+    let had = core.measure(rt, job.rounds())?;
+    Ok(format!(in alloc; "{name:<28}{:>12.1}{:>12.1}", had.evaluate, had.cursor)?)
+}
+
+// Settling alone, of the transaction that was run last.
+fn settled_alone<R: Clock, T: Invariants + Drop, S: StoredSteps + Drop>(
+    rt: &R,
+    alloc: Global,
+    core: &mut OnCore<T, S>,
+) -> Result<String, BenchError> {
+    let settled = core.measure_settling(rt, Job::Write.rounds())?;
+    Ok(format!(in alloc; "{:<28}{:>12}{settled:>12.1}", "  settled alone", "")?)
 }
 
 // Runs those through a world.
-fn report_world<R: Clock + Print, T: Invariants + Drop, S: StoredSteps + Drop>(
+fn report_world<R: Clock, T: Invariants + Drop, S: StoredSteps + Drop>(
     rt: &R,
     alloc: Global,
     world: &mut World<SimDisk, T, S>,
-    wish: &Wish,
-) -> Result<()> {
-    println!(rt; "{:<28}{:>12}{:>12}", "through a world", "play", "flush")?;
+    is_once: bool,
+    lines: &mut Vec<String>,
+) -> Result<(), BenchError> {
+    lines.push(format!(in alloc; "{:<28}{:>12}{:>12}", "through a world", "play", "flush")?)?;
     transact(world, 0, deposit(alloc)?);
     transact(world, 0, first(alloc)?);
     clear_log(world);
     for job in WITH_ONE {
-        line_of_world(rt, alloc, world, job, "", wish)?;
+        lines.push(line_of_world(rt, alloc, world, job, "", is_once)?)?;
     }
     for tx in all(alloc)? {
         transact(world, 0, tx);
     }
     clear_log(world);
     for job in WITH_ALL {
-        line_of_world(rt, alloc, world, job, ", 64 registered", wish)?;
+        lines.push(line_of_world(rt, alloc, world, job, ", 64 registered", is_once)?)?;
     }
     Ok(())
 }
 
 // One kind of transaction through a world.
-fn line_of_world<R: Clock + Print, T: Invariants + Drop, S: StoredSteps + Drop>(
+fn line_of_world<R: Clock, T: Invariants + Drop, S: StoredSteps + Drop>(
     rt: &R,
     alloc: Global,
     world: &mut World<SimDisk, T, S>,
     job: Job,
     among: &str,
-    wish: &Wish,
-) -> Result<()> {
-    if !wish.has(job) {
-        return Ok(());
-    }
-    let rounds = wish.rounds_of(job);
-    let had = measure(rt, alloc, world, job, rounds)?;
+    is_once: bool,
+) -> Result<String, BenchError> {
     let name = format!(in alloc; "{}{among}", job.name())?;
-    if wish.is_once {
+    if is_once {
         let answer = transact(world, job.slot(), job.tree(alloc)?);
         let word = match answer {
             Reply::Settled(settled) => word(settled),
             _ => "not settled",
         };
-        println!(rt; "{name:<28}{word:>12}")?;
-        return Ok(());
+        return Ok(format!(in alloc; "{name:<28}{word:>12}")?);
     }
-    println!(rt; "{name:<28}{:>12.1}{:>12.1}", had.play, had.flush)?;
-    Ok(())
+    let had = measure(rt, alloc, world, job, job.rounds())?;
+    Ok(format!(in alloc; "{name:<28}{:>12.1}{:>12.1}", had.play, had.flush)?)
 }
 
 // What a transaction was answered, without its registers.

@@ -1,6 +1,8 @@
 //! How long something took.
 
-use std::time::Duration;
+use crate::error::BenchError;
+use std::rt::Clock;
+use std::time::{Duration, Instant};
 
 /// How often something is run. The best round counts.
 #[derive(Clone, Copy)]
@@ -9,6 +11,16 @@ pub struct Rounds {
     pub count: u32,
     /// How many transactions a round has. A flush makes so many durable.
     pub length: u32,
+}
+
+/// The time now.
+pub fn now<R: Clock>(rt: &R) -> Result<Instant, BenchError> {
+    Instant::now(rt).map_err(|_| BenchError::Clock)
+}
+
+/// How much time has passed.
+pub fn since<R: Clock>(rt: &R, start: Instant) -> Result<Duration, BenchError> {
+    start.elapsed(rt).map_err(|_| BenchError::Clock)
 }
 
 /// What each of so many transactions took, in nanoseconds.

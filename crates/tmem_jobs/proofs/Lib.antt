@@ -1,1 +1,1 @@
-pub mod Crosses
+mod Telling

@@ -1,20 +1,20 @@
 // Where a store is kept.
 ghost use Rattle.std.specs.Prelude.{◌≡◌, ◌≤◌, length, IfOk};
 
-use crate::error::BenchError;
-use crate::figures::{Count, Figures, now, since};
+use crate::figures::{Count, Figures};
 use std::alloc::AllocGlobal;
 use std::fs::{self, File, Files};
 use std::rt::Clock;
 use std::time::Duration;
+use tmem_bench::{BenchError, now, since};
 use tmem_disk::{Disk, Fault, SimDisk};
 use tmem_file::{FileDisk, NewFile};
 
 // The loop of two syncs goes on for so long.
 const SYNC_MILLIS: u64 = 250;
 
-// As many bytes as a batch of the log has at most.
-const BLOCK: usize = 4096;
+// About as many bytes as a batch of one transaction has.
+const BATCH: usize = 32;
 
 /// What makes devices, one after another.
 pub trait Medium<D: Disk> {
@@ -75,28 +75,38 @@ impl<'a> Medium<FileDisk> for InFile<'a> {
     }
 }
 
+/// What came of work on a device that was dropped, once what is left of the device is removed, also where the work failed.
+pub fn cleared<D: Disk, M: Medium<D>, R: Files<File = File>, X: Drop>(
+    rt: &R,
+    medium: &M,
+    had: Result<X, BenchError>,
+) -> Result<X, BenchError> {
+    let cleared = medium.clear(rt);
+    let had = had?;
+    cleared?;
+    Ok(had)
+}
+
 /// What a new device does by two syncs alone: write, sync, write, sync, again and again.
 pub fn two_syncs<D: Disk + Drop, M: Medium<D>, R: Clock + Files<File = File> + AllocGlobal>(
     rt: &R,
     medium: &M,
 ) -> Result<Figures, BenchError> {
-    let mut disk = medium.device(rt, BLOCK as u64)?;
-    let figures = sync_on(rt, &mut disk)?;
-    drop(disk);
-    medium.clear(rt)?;
-    Ok(figures)
+    let disk = medium.device(rt, BATCH as u64)?;
+    let had = sync_on(rt, disk);
+    cleared(rt, medium, had)
 }
 
-// Writes a block, and then a byte, as a flush does.
-fn sync_on<D: Disk, R: Clock>(rt: &R, disk: &mut D) -> Result<Figures, BenchError>
-    requires { BLOCK ≤ (D.view disk.old).capacity }
+// Writes a batch, and then a byte, as a flush does.
+fn sync_on<D: Disk + Drop, R: Clock>(rt: &R, mut disk: D) -> Result<Figures, BenchError>
+    requires { BATCH ≤ (D.view disk).capacity }
 {
     let start = now(rt)?;
     let mut count = Count::zero();
-    let block = [1; BLOCK];
+    let batch = [1; BATCH];
     for _ in 0..u64::MAX {
-        put(disk, &block)?;
-        put(disk, &block[..1])?;
+        put(&mut disk, &batch)?;
+        put(&mut disk, &batch[..1])?;
         count.operations = count.operations.saturating_add(1);
         if since(rt, start)? >= Duration::from_millis(SYNC_MILLIS) {
             break;

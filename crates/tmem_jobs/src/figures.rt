@@ -1,10 +1,8 @@
 // What is counted, and how long it took.
 ghost use Rattle.std.specs.Prelude.{◌≡◌, ◌+◌, ◌<◌, ◌^◌};
 
-use crate::error::BenchError;
 use std::num::nearest_u64_to_f64;
-use std::rt::Clock;
-use std::time::{Duration, Instant};
+use std::time::Duration;
 
 /// What was done, and in how many flushes.
 #[derive(Clone, Copy)]
@@ -77,14 +75,4 @@ impl Figures {
             time: self.time.saturating_add(other.time),
         }
     }
-}
-
-/// The time now.
-pub fn now<R: Clock>(rt: &R) -> Result<Instant, BenchError> {
-    Instant::now(rt).map_err(|_| BenchError::Clock)
-}
-
-/// How much time has passed.
-pub fn since<R: Clock>(rt: &R, start: Instant) -> Result<Duration, BenchError> {
-    start.elapsed(rt).map_err(|_| BenchError::Clock)
 }

@@ -76,21 +76,51 @@ impl Act {
     }
 }
 
+/// Who does it.
+#[derive(Clone, Copy)]
+pub enum Callers {
+    /// One that flushes itself, with no flusher beside it.
+    Alone,
+    /// So many threads, beside a flusher.
+    Beside(usize),
+}
+
+impl Callers {
+    /// How many there are.
+    pub fn count(self) -> usize {
+        match self {
+            Callers::Alone => 1,
+            Callers::Beside(callers) => callers,
+        }
+    }
+
+    /// How many flushers are beside them, as a word.
+    pub fn flusher(self) -> &'static str {
+        match self {
+            Callers::Alone => "none",
+            Callers::Beside(_) => "one",
+        }
+    }
+}
+
 /// What so many callers do.
 #[derive(Clone, Copy)]
 pub struct Job {
     pub act: Act,
-    /// How many threads call.
-    pub callers: usize,
-    /// Whether the caller, who is alone, flushes in place of a flusher beside it.
-    pub flushes_itself: bool,
+    pub callers: Callers,
 }
 
 /// What the callers of a job do, in the order of the lines.
 pub const ACTS: [Act; 4] = [Act::Add, Act::AddMany, Act::Transfer, Act::Look];
 
-/// How many do it at once.
-pub const CALLERS: [usize; 4] = [1, 2, 4, 16];
+/// Who does it, in the order of the lines.
+pub const CALLERS: [Callers; 5] = [
+    Callers::Alone,
+    Callers::Beside(1),
+    Callers::Beside(2),
+    Callers::Beside(4),
+    Callers::Beside(16),
+];
 
 /// Puts something into both accounts, and registers the invariant.
 pub fn deposits(alloc: Global) -> Result<Tx, Fault> {

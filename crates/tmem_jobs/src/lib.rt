@@ -1,17 +1,17 @@
 //! The jobs of a service on a store that threads share, timed: on a device in memory, and in a file.
 //!
 //! `jobs` says what callers do, `service` lets threads do it beside a flusher, `store` opens a store for that, `device`
-//! makes its device, `figures` counts, and `run` runs every job and prints the table. What is timed is beside what the same
-//! device does by two syncs alone.
+//! makes its device, `opening` opens a store again and again, `figures` counts, and `run` runs every job and prints the table. What
+//! is timed is beside what the same device does by two syncs alone.
 #![tactic(auto)]
 
 mod device;
-mod error;
 mod figures;
 mod jobs;
+mod opening;
 mod run;
 mod service;
 mod store;
 
-pub use error::BenchError;
 pub use run::run_jobs;
+pub use tmem_bench::BenchError;

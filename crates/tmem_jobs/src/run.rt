@@ -1,20 +1,23 @@
 // Runs the jobs, and prints what they did.
-use crate::device::{InFile, InMemory, Medium, two_syncs};
-use crate::error::BenchError;
-use crate::figures::{Figures, now, since};
-use crate::jobs::{ACTS, Act, CALLERS, Job, MANY, SLOTS, VARS};
-use crate::service::{JOB_MILLIS, is_over};
+ghost use Rattle.std.specs.Prelude.{◌≡◌, ◌++◌, ℕ, List, OnOk, length, map, string_bytes};
+ghost use Rattle.std.specs.Io.KnownBytes.{Appends};
+ghost use Rattle.tmem_bench.specs.Printed.{printed};
+ghost use Rattle.tmem_jobs.specs.Printed.{Tells, table};
+
+use crate::device::{InFile, InMemory, Medium, cleared, two_syncs};
+use crate::figures::Figures;
+use crate::jobs::{ACTS, Act, CALLERS, Callers, Job, SLOTS, VARS};
+use crate::opening::open_again;
 use crate::store::{Task, with_store};
 use std::alloc::AllocGlobal;
 use std::fmt;
-use std::fs::{self, File, Files};
+use std::fs::{File, Files};
 use std::io::Write;
 use std::rt::Clock;
 use std::sync::Wait;
 use std::thread::Threads;
-use std::time::Duration;
-use tmem_disk::{Disk, Fault};
-use tmem_file::FileDisk;
+use tmem_bench::{BenchError, print_line, print_lines, run_transactions};
+use tmem_disk::Disk;
 use tmem_journal::{Layout, format};
 
 // The head of the table.
@@ -23,12 +26,11 @@ const HEAD: &str =
 
 // What a job did, beside something that the same device did in the same minute: two syncs alone, before the job and after it; or
 // for openings, two reads of the file.
-#[derive(Clone, Copy)]
+#[derive(Drop)]
 struct Line {
     device: &'static str,
     name: &'static str,
-    callers: usize,
-    flusher: &'static str,
+    callers: Callers,
     had: Figures,
     beside: Figures,
 }
@@ -36,51 +38,41 @@ struct Line {
 impl fmt::Display for Line {
     fn fmt<W: fmt::Write>(&self, f: &mut fmt::Formatter<W>) -> fmt::Result {
         let (had, beside) = (self.had.rate(), self.beside.rate());
+        write!(f, "{:<8}{:<25}", self.device, self.name)?;
         write!(
             f,
-            "{:<8}{:<25}{:>7}  {:<9}",
-            self.device, self.name, self.callers, self.flusher
+            "{:>7}  {:<9}",
+            self.callers.count(),
+            self.callers.flusher()
         )?;
         write!(f, "{had:>15.0}{:>9}", self.had.count.flushes)?;
         write!(f, "{beside:>12.0}{:>8.2}", had / beside)
     }
 }
 
-/// Runs all jobs in memory, and where a path is given also in a file, which must not be there: it is made for each job, and
-/// removed after it. Prints a line as each job ends, and the table at the end.
+/// Times transactions of several kinds, and then the jobs of a service on a device in memory and in a file, which is made for
+/// each job and removed after it, also where the job fails. Prints a line as each job ends, and the table at the end. Refused by
+/// `Device`, before anything is run or touched, where something has the path or no file can be made there.
 pub fn run_jobs<R: Clock + Files<File = File> + AllocGlobal + Threads + Wait + Sync, W: Write>(
     rt: &R,
-    path: Option<&str>,
+    path: &str,
     out: &mut W,
-) -> Result<(), BenchError> {
+) -> Result<(), BenchError>
+    ensures printed { OnOk result ((timed lines : List (List ℕ)) × (length lines ≡ 41)
+        × Appends (W.contents out.old) (W.contents out.new) (printed (timed ++ (table lines ++ table lines)))) }
+{
+    let file = InFile { path };
+    two_syncs(rt, &file)?;
+    run_transactions(rt, false, out)?;
+    print_line(out, "")?;
+    print_line(out, HEAD)?;
     let mut lines = Vec::new(rt.alloc());
-    print(out, HEAD)?;
     run_on(rt, &InMemory, &mut lines, out)?;
-    if let Some(path) = path {
-        run_on(rt, &InFile { path }, &mut lines, out)?;
-        let (opened, read) = open_again(rt, path)?;
-        let line = Line {
-            device: "file",
-            name: "open, beside two reads",
-            callers: 1,
-            flusher: "none",
-            had: opened,
-            beside: read,
-        };
-        print(out, &line)?;
-        lines.push(line)?;
-    }
-    print(out, "")?;
-    print(out, HEAD)?;
-    for line in &lines {
-        print(out, line)?;
-    }
-    Ok(())
-}
-
-// Prints a line.
-fn print<W: Write, T: fmt::Display + Drop>(out: &mut W, text: T) -> Result<(), BenchError> {
-    writeln!(out, "{text}").map_err(|_| BenchError::Output)
+    run_on(rt, &file, &mut lines, out)?;
+    tell(line_of_openings(rt, &file)?, &mut lines, out)?;
+    print_line(out, "")?;
+    print_line(out, HEAD)?;
+    print_lines(out, &lines)
 }
 
 // Runs all jobs on devices of a kind.
@@ -89,33 +81,46 @@ fn run_on<
     M: Medium<D>,
     R: Clock + Files<File = File> + AllocGlobal + Threads + Wait + Sync,
     W: Write,
->(rt: &R, medium: &M, lines: &mut Vec<Line>, out: &mut W) -> Result<(), BenchError> {
-    let alone = Job {
-        act: Act::Add,
-        callers: 1,
-        flushes_itself: true,
-    };
-    run_beside_syncs(rt, medium, alone, lines, out)?;
+>(rt: &R, medium: &M, lines: &mut Vec<String>, out: &mut W) -> Result<(), BenchError>
+    ensures told { OnOk result (Tells (map string_bytes lines.old.items) (map string_bytes lines.new.items) (W.contents out.old) (W.contents out.new) 20) }
+{
     for act in ACTS {
-        for callers in CALLERS {
-            let job = Job {
-                act,
-                callers,
-                flushes_itself: false,
-            };
-            run_beside_syncs(rt, medium, job, lines, out)?;
-        }
+        run_act(rt, medium, act, lines, out)?;
     }
     Ok(())
 }
 
-// Runs a job between two loops of syncs, and prints its line.
-fn run_beside_syncs<
+// Lets different callers do the same.
+fn run_act<
     D: Disk + Drop + Send,
     M: Medium<D>,
     R: Clock + Files<File = File> + AllocGlobal + Threads + Wait + Sync,
     W: Write,
->(rt: &R, medium: &M, job: Job, lines: &mut Vec<Line>, out: &mut W) -> Result<(), BenchError> {
+>(rt: &R, medium: &M, act: Act, lines: &mut Vec<String>, out: &mut W) -> Result<(), BenchError>
+    ensures told { OnOk result (Tells (map string_bytes lines.old.items) (map string_bytes lines.new.items) (W.contents out.old) (W.contents out.new) 5) }
+{
+    for callers in CALLERS {
+        let line = line_of_job(rt, medium, Job { act, callers })?;
+        tell(line, lines, out)?;
+    }
+    Ok(())
+}
+
+// Prints a line, and keeps it for the table.
+fn tell<W: Write>(line: String, lines: &mut Vec<String>, out: &mut W) -> Result<(), BenchError>
+    ensures told { OnOk result (Tells (map string_bytes lines.old.items) (map string_bytes lines.new.items) (W.contents out.old) (W.contents out.new) 1) }
+{
+    print_line(out, line.as_str())?;
+    lines.push(line)?;
+    Ok(())
+}
+
+// Runs a job between two loops of syncs.
+fn line_of_job<
+    D: Disk + Drop + Send,
+    M: Medium<D>,
+    R: Clock + Files<File = File> + AllocGlobal + Threads + Wait + Sync,
+>(rt: &R, medium: &M, job: Job) -> Result<String, BenchError> {
     let before = two_syncs(rt, medium)?;
     let had = run(rt, medium, job)?;
     let after = two_syncs(rt, medium)?;
@@ -123,73 +128,45 @@ fn run_beside_syncs<
         device: medium.name(),
         name: job.act.name(),
         callers: job.callers,
-        flusher: if job.flushes_itself { "none" } else { "one" },
         had,
         beside: before.with(after),
     };
-    print(out, &line)?;
-    lines.push(line)?;
-    Ok(())
+    Ok(format!(in rt.alloc(); "{line}")?)
 }
 
-// Runs a job on a new store.
+// Runs a job on a new device.
 fn run<
     D: Disk + Drop + Send,
     M: Medium<D>,
     R: Clock + Files<File = File> + AllocGlobal + Threads + Wait + Sync,
 >(rt: &R, medium: &M, job: Job) -> Result<Figures, BenchError> {
-    let mut disk = medium.device(rt, Layout::new(VARS, SLOTS)?.end())?;
+    let disk = medium.device(rt, Layout::new(VARS, SLOTS)?.end())?;
+    let had = run_in(rt, disk, job);
+    cleared(rt, medium, had)
+}
+
+// Runs a job in a new store.
+fn run_in<D: Disk + Drop + Send, R: Clock + AllocGlobal + Threads + Wait + Sync>(
+    rt: &R,
+    mut disk: D,
+    job: Job,
+) -> Result<Figures, BenchError> {
     format(&mut disk, VARS, SLOTS)?;
-    let start = now(rt)?;
-    let count = with_store(rt, rt.alloc(), disk, VARS, Task::Serve(job, start))?;
-    let time = since(rt, start)?;
-    medium.clear(rt)?;
-    Ok(Figures { count, time })
+    with_store(rt, rt.alloc(), disk, VARS, Task::Serve(job))
 }
 
-// Fills the log of a file, and then opens it and reads it twice, again and again. Answers what both came to.
-fn open_again<R: Clock + Files<File = File> + AllocGlobal + Threads + Wait + Sync>(
+// Opens a store again and again.
+fn line_of_openings<R: Clock + Files<File = File> + AllocGlobal + Threads + Wait + Sync>(
     rt: &R,
-    path: &str,
-) -> Result<(Figures, Figures), BenchError> {
-    let medium = InFile { path };
-    let mut disk = medium.device(rt, Layout::new(MANY, SLOTS)?.end())?;
-    format(&mut disk, MANY, SLOTS)?;
-    with_store(rt, rt.alloc(), disk, MANY, Task::Fill)?;
-    let start = now(rt)?;
-    let (mut opened, mut read) = (Figures::zero(), Figures::zero());
-    for _ in 0..u64::MAX {
-        if is_over(rt, start, Duration::from_millis(JOB_MILLIS)) {
-            break;
-        }
-        opened = opened.with(open_once(rt, path)?);
-        read = read.with(read_twice(rt, path)?);
-    }
-    medium.clear(rt)?;
-    Ok((opened, read))
-}
-
-// Opens a store, and drops it.
-fn open_once<R: Clock + Files<File = File> + AllocGlobal + Threads + Wait + Sync>(
-    rt: &R,
-    path: &str,
-) -> Result<Figures, BenchError> {
-    let start = now(rt)?;
-    let disk = FileDisk::open(rt, path)?;
-    with_store(rt, rt.alloc(), disk, MANY, Task::Open)?;
-    Ok(Figures::once(since(rt, start)?))
-}
-
-// Reads a file, twice.
-fn read_twice<R: Clock + Files<File = File> + AllocGlobal>(
-    rt: &R,
-    path: &str,
-) -> Result<Figures, BenchError> {
-    let start = now(rt)?;
-    for _ in 0..2u8 {
-        if fs::read(rt, path).is_err() {
-            return Err(BenchError::Refused(Fault::Device));
-        }
-    }
-    Ok(Figures::once(since(rt, start)?))
+    file: &InFile<'_>,
+) -> Result<String, BenchError> {
+    let (had, beside) = open_again(rt, file)?;
+    let line = Line {
+        device: file.name(),
+        name: "open, beside two reads",
+        callers: Callers::Alone,
+        had,
+        beside,
+    };
+    Ok(format!(in rt.alloc(); "{line}")?)
 }

@@ -1,36 +1,39 @@
 // Threads that share a store.
 ghost use Rattle.std.specs.Prelude.{◌≡◌, ◌+◌, ◌<◌, ◌^◌, true};
+ghost use Rattle.tmem_tree.specs.Plans.{FitsSteps, FitsVariables, FitsNames};
 
-use crate::figures::Count;
-use crate::jobs::{Job, MANY, SLOTS, deposits, write_one};
+use crate::figures::{Count, Figures};
+use crate::jobs::{Callers, Job, MANY, SLOTS, deposits, write_one};
 use std::alloc::Global;
 use std::rt::Clock;
 use std::sync::Wait;
-use std::thread::{self, Threads, join, map_indices};
+use std::thread::{self, Threads, map_indices};
 use std::time::{Duration, Instant};
+use tmem_bench::{BenchError, now, since};
 use tmem_core::Settled;
 use tmem_disk::{Disk, Fault};
-use tmem_front::{Front, Pace, StoreNaming};
+use tmem_front::{Front, Pace, Pass, StoreNaming};
 use tmem_invariants::Invariants;
-use tmem_tree::StoredSteps;
+use tmem_tree::{Plan, StoredSteps};
 
-/// A job goes on for so long.
-pub const JOB_MILLIS: u64 = 1000;
+// A job goes on for so long.
+const JOB_MILLIS: u64 = 1000;
 
 // A batch has so many records at most.
 const RECORDS: u16 = 64;
 
-// For so long a flusher lets callers gather.
+// A flusher lets callers gather for so long: much less than a sync takes, and enough for one that was just woken to commit
+// again.
 const GATHER_MICROS: u64 = 10;
 
-// The clock is asked no more often while they do.
+// No clock keeps a flusher from its flush by standing still.
 const GATHER_TURNS: u32 = 1000;
 
-// The pace of a flusher beside so many callers. It lets them gather where there are several, and counts its turns.
+// The pace of a flusher. It lets callers gather where there are several, and counts its turns.
 #[derive(Drop)]
 struct Gather<'a, R: Clock> {
     rt: &'a R,
-    callers: usize,
+    has_several: bool,
     turns: u64,
 }
 
@@ -39,7 +42,7 @@ impl<'a, R: Clock> Pace for Gather<'a, R> {
         ensures on { result ≡ true }
         ensures turns { self.old.turns + 1 < 2 ^ 64 → self.new.turns ≡ self.old.turns + 1 }
     {
-        if self.callers > 1 {
+        if self.has_several {
             let_others_in(self.rt);
         }
         self.turns = self.turns.saturating_add(1);
@@ -53,15 +56,20 @@ fn let_others_in<R: Clock>(rt: &R) {
         return;
     };
     for _ in 0..GATHER_TURNS {
-        if is_over(rt, start, Duration::from_micros(GATHER_MICROS)) {
+        thread::yield_now();
+        if has_passed(rt, start, Duration::from_micros(GATHER_MICROS)) {
             return;
         }
-        thread::yield_now();
     }
 }
 
-/// Whether so much time has passed, or the clock cannot be read.
-pub fn is_over<R: Clock>(rt: &R, start: Instant, time: Duration) -> bool {
+/// Whether a job that began then is over.
+pub fn is_over<R: Clock>(rt: &R, start: Instant) -> bool {
+    has_passed(rt, start, Duration::from_millis(JOB_MILLIS))
+}
+
+// Whether so much time has passed, or the clock cannot be read.
+fn has_passed<R: Clock>(rt: &R, start: Instant, time: Duration) -> bool {
     match start.elapsed(rt) {
         Ok(elapsed) => elapsed >= time,
         Err(_) => true,
@@ -82,8 +90,8 @@ pub trait Service {
         start: Instant,
     ) -> Result<Count, Fault>;
 
-    /// Makes durable what is committed, until the store is shut. Answers in how many flushes.
-    fn flush<R: Clock + Wait>(&self, rt: &R, callers: usize) -> Result<u64, Fault>;
+    /// Makes durable what is committed by one caller or by several, until the store is shut. Answers in how many flushes.
+    fn flush<R: Clock + Wait>(&self, rt: &R, has_several: bool) -> Result<u64, Fault>;
 
     /// Nothing is settled any more.
     fn close<R: Wait>(&self, rt: &R);
@@ -114,14 +122,7 @@ impl<D: Disk + Drop, N: StoreNaming, T: Invariants + Drop, S: StoredSteps + Drop
         let stride = job.act.stride();
         let mut count = Count::zero();
         for _ in rt.forever() {
-            let settled = match self.atomically(rt, &mut pass, &plan) {
-                Err(Fault::Full) => {
-                    let oldest = self.look(&mut pass);
-                    self.await_durable(rt, &mut pass, oldest)?;
-                    continue;
-                }
-                settled => settled?,
-            };
+            let settled = settle_with_room(rt, self, &mut pass, &plan)?;
             if !is_done(&settled) {
                 return Ok(count);
             }
@@ -130,24 +131,24 @@ impl<D: Disk + Drop, N: StoreNaming, T: Invariants + Drop, S: StoredSteps + Drop
                 continue;
             }
             if let Settled::Committed { number, .. } = settled {
-                if job.flushes_itself {
-                    flush_with_room(self, rt)?;
+                if matches!(job.callers, Callers::Alone) {
+                    flush_with_room(rt, self)?;
                     count.flushes = count.flushes.saturating_add(1);
                 } else {
                     self.await_durable(rt, &mut pass, number)?;
                 }
             }
-            if is_over(rt, start, Duration::from_millis(JOB_MILLIS)) {
+            if is_over(rt, start) {
                 return Ok(count);
             }
         }
         unreachable!()
     }
 
-    fn flush<R: Clock + Wait>(&self, rt: &R, callers: usize) -> Result<u64, Fault> {
+    fn flush<R: Clock + Wait>(&self, rt: &R, has_several: bool) -> Result<u64, Fault> {
         let mut pace = Gather {
             rt,
-            callers,
+            has_several,
             turns: 0,
         };
         let flushed = self.run_flusher(rt, &mut pace);
@@ -179,6 +180,30 @@ fn is_done(settled: &Settled) -> bool {
     matches!(settled, Settled::Committed { .. } | Settled::Seen { .. })
 }
 
+// Attempts a plan until it is settled. Where as many transactions wait as may, it waits until the oldest of them is durable.
+fn settle_with_room<
+    D: Disk + Drop,
+    N: StoreNaming,
+    T: Invariants + Drop,
+    S: StoredSteps + Drop,
+    R: Wait,
+>(rt: &R, front: &Front<D, N, T, S>, pass: &mut Pass<N>, plan: &Plan) -> Result<Settled, Fault>
+    requires steps { FitsSteps (S.arities front.now.steps) plan.now }
+    requires variables { FitsVariables front.now.vars plan.now }
+    requires names { FitsNames N.program.names plan.now }
+{
+    for _ in rt.forever() {
+        match front.atomically(rt, pass, plan) {
+            Err(Fault::Full) => {
+                let oldest = front.look(pass);
+                front.await_durable(rt, pass, oldest)?;
+            }
+            settled => return settled,
+        }
+    }
+    unreachable!()
+}
+
 // Flushes once, and where the log is full once more after a checkpoint.
 fn flush_with_room<
     D: Disk + Drop,
@@ -186,7 +211,7 @@ fn flush_with_room<
     T: Invariants + Drop,
     S: StoredSteps + Drop,
     R: Wait,
->(front: &Front<D, N, T, S>, rt: &R) -> Result<u64, Fault> {
+>(rt: &R, front: &Front<D, N, T, S>) -> Result<u64, Fault> {
     match front.flush_once(rt) {
         Err(Fault::LogFull) => {
             front.checkpoint(rt)?;
@@ -196,46 +221,58 @@ fn flush_with_room<
     }
 }
 
-/// Runs a job on a store: its callers, beside a flusher unless the one caller flushes itself.
+/// Runs a job on a store, until all that it committed is durable.
 pub fn serve<F: Service + Sync, R: Clock + Threads + Wait + Sync>(
     rt: &R,
     alloc: Global,
     store: &F,
     job: Job,
-    start: Instant,
-) -> Result<Count, Fault> {
-    if job.flushes_itself {
-        return store.work(rt, alloc, job, start);
-    }
-    let (flushes, count) = join(
-        rt,
-        || store.flush(rt, job.callers),
-        || {
-            let count = call(rt, alloc, store, job, start);
-            store.close(rt);
-            count
-        },
-    );
-    Ok(Count {
-        operations: count?.operations,
-        flushes: flushes?,
+) -> Result<Figures, BenchError> {
+    let start = now(rt)?;
+    let count = match job.callers {
+        Callers::Alone => store.work(rt, alloc, job, start)?,
+        Callers::Beside(callers) => work_beside(rt, alloc, store, job, callers, start)?,
+    };
+    Ok(Figures {
+        count,
+        time: since(rt, start)?,
     })
 }
 
-// All callers of a job.
-fn call<F: Service + Sync, R: Clock + Threads + Wait + Sync>(
+// Callers beside a flusher in a thread of its own, which ends once they have ended and all is durable. Its refusal comes before
+// those that follow from it. With no thread for it nobody calls.
+fn work_beside<F: Service + Sync, R: Clock + Threads + Wait + Sync>(
     rt: &R,
     alloc: Global,
     store: &F,
     job: Job,
+    callers: usize,
     start: Instant,
 ) -> Result<Count, Fault> {
-    let counts = map_indices(
-        rt,
-        alloc,
-        job.callers,
-        &|_| store.work(rt, alloc, job, start),
-    )?;
+    thread::scope(thread::scope_env(), rt, |scope| {
+        let Ok(flusher) = scope.spawn(move || store.flush(rt, callers > 1)) else {
+            return Err(Fault::Memory);
+        };
+        let count = work_all(rt, alloc, store, job, callers, start);
+        store.close(rt);
+        let flushes = flusher.join(rt)?;
+        Ok(Count {
+            operations: count?.operations,
+            flushes,
+        })
+    })
+}
+
+// All callers, each in a thread of its own.
+fn work_all<F: Service + Sync, R: Clock + Threads + Wait + Sync>(
+    rt: &R,
+    alloc: Global,
+    store: &F,
+    job: Job,
+    callers: usize,
+    start: Instant,
+) -> Result<Count, Fault> {
+    let counts = map_indices(rt, alloc, callers, &|_| store.work(rt, alloc, job, start))?;
     let mut sum = Count::zero();
     for count in counts {
         sum = sum.with(count?);

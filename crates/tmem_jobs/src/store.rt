@@ -5,7 +5,7 @@ ghost use Rattle.tmem_builtins.specs.Steps.{sum_of, difference_of, at_least};
 ghost use Rattle.tmem_front.specs.Held.{found_of, spine_of, steps_of as steps_held, table_of};
 ghost use Rattle.tmem_jobs.specs.Accounts.{bank, has_no_negative, is_negative};
 
-use crate::figures::Count;
+use crate::figures::Figures;
 use crate::jobs::{Job, PAYEE, PAYER, SLOTS, SOLVENT};
 use crate::service::{Service, serve};
 use std::alloc::Global;
@@ -13,9 +13,9 @@ use std::marker::Brand;
 use std::rt::Clock;
 use std::sync::Wait;
 use std::thread::Threads;
-use std::time::Instant;
+use tmem_bench::BenchError;
 use tmem_builtins::{add, need, steps_of, sub};
-use tmem_disk::{Disk, Fault, Name};
+use tmem_disk::{Disk, Name};
 use tmem_front::{OpenedFront, StoreNaming};
 use tmem_invariants::{Invariant, Invariants, Table};
 use tmem_tree::{StepAnswer, StoredSteps};
@@ -23,7 +23,8 @@ use tmem_tree::{StepAnswer, StoredSteps};
 /// What is done with a store once it is open.
 #[derive(Clone, Copy)]
 pub enum Task {
-    Serve(Job, Instant),
+    /// Runs a job.
+    Serve(Job),
     /// Fills the log.
     Fill,
     /// Nothing.
@@ -37,7 +38,7 @@ pub fn with_store<D: Disk + Drop + Send, R: Clock + Threads + Wait + Sync>(
     disk: D,
     vars: u16,
     task: Task,
-) -> Result<Count, Fault> {
+) -> Result<Figures, BenchError> {
     let solvent = Box::new(
         alloc,
         |accounts: &[i64]| -> bool
@@ -64,7 +65,7 @@ fn with_steps<D: Disk + Drop + Send, T: Invariants + Drop + Send, R: Clock + Thr
     vars: u16,
     task: Task,
     table: T,
-) -> Result<Count, Fault>
+) -> Result<Figures, BenchError>
     requires vars { T.vars table ≡ vars }
     requires names { T.names table ≡ bank.names }
     requires stated { T.is_stated table bank.tests }
@@ -99,7 +100,15 @@ fn open<
     T: Invariants + Drop + Send,
     S: StoredSteps + Drop + Send + Sync,
     R: Clock + Threads + Wait + Sync,
->(rt: &R, alloc: Global, disk: D, vars: u16, task: Task, table: T, steps: S) -> Result<Count, Fault>
+>(
+    rt: &R,
+    alloc: Global,
+    disk: D,
+    vars: u16,
+    task: Task,
+    table: T,
+    steps: S,
+) -> Result<Figures, BenchError>
     requires vars { T.vars table ≡ vars }
     requires names { T.names table ≡ bank.names }
     requires stated { T.is_stated table bank.tests }
@@ -107,7 +116,7 @@ fn open<
 {
     match OpenedFront::open(alloc, disk, vars, SLOTS, table, steps) {
         Ok(opened) => with_front::<Brand, D, T, S, R>(rt, alloc, opened, task),
-        Err((fault, _disk)) => Err(fault),
+        Err((fault, _disk)) => Err(BenchError::Refused(fault)),
     }
 }
 
@@ -117,7 +126,7 @@ fn with_front<
     T: Invariants + Drop + Send,
     S: StoredSteps + Drop + Send + Sync,
     R: Clock + Threads + Wait + Sync,
->(rt: &R, alloc: Global, opened: OpenedFront<D, T, S>, task: Task) -> Result<Count, Fault>
+>(rt: &R, alloc: Global, opened: OpenedFront<D, T, S>, task: Task) -> Result<Figures, BenchError>
     requires spine { spine_of opened ≡ N.name }
     requires opening { found_of opened ≡ N.opening }
     requires program { N.program ≡ bank }
@@ -127,14 +136,14 @@ fn with_front<
 {
     let front = opened.named::<N>();
     match task {
-        Task::Serve(job, start) => {
+        Task::Serve(job) => {
             front.prepare(rt, alloc)?;
-            serve(rt, alloc, &front, job, start)
+            serve(rt, alloc, &front, job)
         }
         Task::Fill => {
             front.fill(rt, alloc)?;
-            Ok(Count::zero())
+            Ok(Figures::zero())
         }
-        Task::Open => Ok(Count::zero()),
+        Task::Open => Ok(Figures::zero()),
     }
 }

@@ -1,5 +1,5 @@
 use denote.Param.Send.{sendable}
-use Rattle.tmem_jobs.proofs.Crosses.{front_sync}
+use Rattle.tmem_front.proofs.Laws.{front_sync}
 use Rattle.tmem_jobs.proofs.store.with_front.Goals as goal
 
 pub serve-requires-sync-F : goal.serve-requires-sync-F

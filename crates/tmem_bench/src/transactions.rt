@@ -1,45 +1,33 @@
-//! Benchmarks: how long transactions of several kinds take, on the core alone and through a world.
-//!
-//! A line has nanoseconds for each transaction. With the name of a kind as a word, only that one is run; with the word `once`
-//! what the transactions are answered is printed in place of times.
-#![tactic(auto)]
-
-ghost use Rattle.std.specs.Prelude.{◌≡◌, length};
+//! The store that the transactions are run on: its invariants and stored steps.
+ghost use Rattle.std.specs.Prelude.{◌≡◌, List, ℕ, OnOk, length};
 ghost use Rattle.std.specs.List.{list_any};
+ghost use Rattle.std.specs.Io.KnownBytes.{Appends};
 ghost use Rattle.tmem_bench.specs.Accounts.{has_no_negative, is_negative};
+ghost use Rattle.tmem_bench.specs.Printed.{printed};
 ghost use Rattle.tmem_builtins.specs.Steps.{sum_of, difference_of, at_least};
 
-mod jobs;
-mod on_core;
-mod on_world;
-mod registering;
-mod report;
-mod timing;
-
-use anyhow::Result;
-use jobs::{INVARIANTS, VARS, footprint};
-use registering::name_at;
-use report::{Wish, report};
-use std::alloc::Global;
-use std::env;
+use crate::error::BenchError;
+use crate::jobs::{INVARIANTS, VARS, footprint};
+use crate::print::print_lines;
+use crate::registering::name_at;
+use crate::report::report;
+use std::alloc::{AllocGlobal, Global};
+use std::io::Write;
 use std::rt::Clock;
 use tmem_builtins::{add, need, steps_of, sub};
 use tmem_invariants::{Invariant, Invariants, Table};
 use tmem_tree::StepAnswer;
 
-fn main(rt: HostRuntime) -> Result<()> {
+/// Times transactions of several kinds, and prints a line for each kind: nanoseconds for a transaction. With `is_once` each
+/// kind is run once, and what it was answered is printed in place of times.
+pub fn run_transactions<R: Clock + AllocGlobal, W: Write>(
+    rt: &R,
+    is_once: bool,
+    out: &mut W,
+) -> Result<(), BenchError>
+    ensures printed { OnOk result ((lines : List (List ℕ)) × Appends (W.contents out.old) (W.contents out.new) (printed lines)) }
+{
     let alloc = rt.alloc();
-    let mut wish = Wish {
-        is_once: false,
-        only: None,
-    };
-    for word in env::args(&rt)?.skip(1) {
-        if word.as_str() == "once" {
-            wish.is_once = true;
-        } else {
-            wish.only = Some(word);
-        }
-    }
     let mut invariants = Vec::new(alloc);
     for place in 0..INVARIANTS {
         let test = Box::new(
@@ -52,7 +40,8 @@ fn main(rt: HostRuntime) -> Result<()> {
         invariants.push(invariant)?;
     }
     let table = Table::of(alloc, invariants, VARS)?;
-    with_steps(&rt, alloc, table, &wish)
+    let lines = lines_with(rt, alloc, table, is_once)?;
+    print_lines(out, &lines)
 }
 
 // Whether one of the values is below 0.
@@ -62,13 +51,13 @@ fn has_negative(values: &[i64]) -> bool
     values.iter().any(|value| *value < 0)
 }
 
-// Makes the stored steps, and runs all benchmarks.
-fn with_steps<R: Clock + Print, T: Invariants + Drop>(
+// Makes the stored steps. Answers the lines of all kinds.
+fn lines_with<R: Clock, T: Invariants + Drop>(
     rt: &R,
     alloc: Global,
     table: T,
-    wish: &Wish,
-) -> Result<()>
+    is_once: bool,
+) -> Result<Vec<String>, BenchError>
     requires { T.vars table ≡ 1024 }
 {
     let total = Box::new(
@@ -93,5 +82,5 @@ fn with_steps<R: Clock + Print, T: Invariants + Drop>(
         { need(args) },
     )?;
     let steps = steps_of(alloc, total, difference, floor)?;
-    report(rt, alloc, table, steps, wish)
+    report(rt, alloc, table, steps, is_once)
 }
