@@ -110,7 +110,7 @@ fn say<R: Print>(rt: &R, settled: &Settled) {
     };
 }
 
-// A flusher that goes on for as long as there is something to flush.
+// A flusher that goes on until the store is shut, and does not let callers gather before a flush.
 #[derive(Drop)]
 struct Always;
 

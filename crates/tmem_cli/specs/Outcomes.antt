@@ -1,5 +1,5 @@
 -- What became of a command line, as its status says.
-use Rattle.std.specs.Prelude.{◌≡◌, ◌⊎◌, ⊤, ℕ, List, Option, Some, None}
+use Rattle.std.specs.Prelude.{◌≡◌, ◌⊎◌, ◌++◌, ⊤, ℕ, List, length, Option, Some, None}
 use Rattle.clap.specs.Walk.{Text}
 use Rattle.std.specs.Io.KnownBytes.{Appends}
 use Rattle.tmem_disk.specs.declared.fault.Fault.{Fault}
@@ -14,6 +14,8 @@ use Rattle.tmem_script.specs.declared.script.ScriptError.{ScriptError}
 use Rattle.tmem_script.specs.declared.script.ScriptError.TheVariants as error
 use Rattle.tmem_bench.specs.declared.error.BenchError.{BenchError}
 use Rattle.tmem_bench.specs.declared.error.BenchError.TheVariants as bench
+use Rattle.tmem_bench.specs.Printed.{printed}
+use Rattle.tmem_jobs.specs.Printed.{table}
 use Rattle.tmem_threads.specs.Counting.{AreTotals}
 use Rattle.tmem_file.specs.declared.disk.FileDisk.{FileDisk}
 use Rattle.tmem_threads.specs.declared.store.TheConstants.{VARS, SLOTS}
@@ -65,12 +67,13 @@ IsWhyNotPlayed IsRead disk f =
 abbrev pub FailsWith : ℕ → (List ℕ → Type 0) → Option Text → Type 0
 FailsWith status IsRead disk = (f : Failure) × (status_of f ≡ status) × IsWhyNotPlayed IsRead disk f
 
--- With a path a file was made for the workers.
+-- With a path a file was made. (That the workers counted there is tested.)
 abbrev pub IsMadeAt : Option Text → Type 0
 IsMadeAt None = ⊤
 IsMadeAt (Some path) = (made : FileDisk) × IsMade VARS SLOTS made
 
--- Workers counted up in a store that was opened in some state, and their totals were printed.
+-- Workers counted up in a store that was opened in some state, and three totals were printed, of which the first is at most what the
+-- work allows.
 abbrev pub CountsUp : Work → Option Text → Option (List ℕ) → Option (List ℕ) → Type 0
 CountsUp work disk before after =
     IsMadeAt disk × ((opening : State) × (totals : Totals) × AreTotals opening work totals × Appends before after (line (totals_text totals)))
@@ -87,18 +90,23 @@ IsWhyNotCounted f = (f ≡ failure.Output) ⊎ ((fault : Fault) × (f ≡ failur
 abbrev pub IsWhyNotTimed : Failure → Type 0
 IsWhyNotTimed f = (f ≡ failure.Clock) ⊎ IsWhyNotCounted f
 
+-- Lines were printed, and then the jobs' lines below a head, and those again as a table.
+abbrev pub TimesJobs : Option (List ℕ) → Option (List ℕ) → Type 0
+TimesJobs before after = (timed lines : List (List ℕ)) × (length lines ≡ 41) × Appends before after (printed (timed ++ (table lines ++ table lines)))
+
 -- what the user is told where the jobs ended early
 abbrev pub failure_of : BenchError → Failure
 failure_of (bench.Refused fault) = failure.Refused fault
 failure_of bench.Output = failure.Output
 failure_of bench.Clock = failure.Clock
 
--- Status 0: help or the version was asked for; or a script was, and it was played to its end; or threads were, and they counted up; or the jobs of a service were.
+-- Status 0: help or the version was asked for; or a script was, and it was played to its end; or threads were, and they
+-- counted up; or the jobs of a service were, and they were timed.
 abbrev pub IsDone : List Text → Option (List ℕ) → Option (List ℕ) → Option (List ℕ) → Type 0
 IsDone words left before after =
     AsksForHelp words
     ⊎ ((AsksToPlay words × PlaysRead (MayBeRead (path_in words) left) (disk_in words) before after)
-    ⊎ ((AsksToCount words × CountsAs words before after) ⊎ AsksToBench words))
+    ⊎ ((AsksToCount words × CountsAs words before after) ⊎ (AsksToBench words × TimesJobs before after)))
 
 -- Status 1: the same was asked for, and it failed on the way.
 abbrev pub IsStopped : List Text → Option (List ℕ) → Type 0

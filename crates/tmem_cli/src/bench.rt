@@ -1,6 +1,6 @@
 //! Times the jobs of a service.
-ghost use Rattle.std.specs.Prelude.{◌≡◌, IfErr};
-ghost use Rattle.tmem_cli.specs.Outcomes.{IsWhyNotTimed, failure_of};
+ghost use Rattle.std.specs.Prelude.{◌≡◌, IfErr, OnOk};
+ghost use Rattle.tmem_cli.specs.Outcomes.{IsWhyNotTimed, TimesJobs, failure_of};
 
 use std::fs::{File, Files};
 use std::io::Write;
@@ -18,7 +18,8 @@ pub(crate) fn run_bench<
     R: Files<File = File> + AllocGlobal + Threads + Wait + Clock + Sync,
     W: Write,
 >(rt: &R, path: Option<&str>, out: &mut W) -> Result<(), Failure>
-    ensures { IfErr result IsWhyNotTimed }
+    ensures timed { OnOk result (TimesJobs (W.contents out.old) (W.contents out.new)) }
+    ensures failed { IfErr result IsWhyNotTimed }
 {
     match run_jobs(rt, path.unwrap_or(STORE), out) {
         Ok(()) => Ok(()),

@@ -1,4 +1,4 @@
-//! The devices that scripts are played on.
+//! The devices of stores: for scripts, and for threads that count.
 ghost use Rattle.std.specs.Prelude.{◌≡◌, ◌⊎◌, IfErr, IfOk};
 ghost use Rattle.tmem_disk.specs.Disk.{LeavesOnly};
 ghost use Rattle.tmem_disk.specs.SimParts.{view_of as memory_of};

@@ -7,7 +7,7 @@ ghost use Rattle.tmem_script.specs.Scripts.{IsScriptText};
 ghost use Rattle.tmem_script.specs.Statuses.{status_of};
 ghost use Rattle.tmem_script.specs.declared.failure.Failure.TheVariants.{Output};
 ghost use Rattle.tmem_cli.specs.CommandLine.{AreRefused, AsksToPlay, IsRequest, path_in};
-ghost use Rattle.tmem_cli.specs.Outcomes.{IsDone, IsStopped, HasNoScript, CountsUp, IsWhyNotCounted, IsWhyNotPlayed, IsWhyNotRead, IsWhyNotTimed, MayBeRead, PlaysRead};
+ghost use Rattle.tmem_cli.specs.Outcomes.{IsDone, IsStopped, HasNoScript, CountsUp, IsWhyNotCounted, IsWhyNotPlayed, IsWhyNotRead, IsWhyNotTimed, MayBeRead, PlaysRead, TimesJobs};
 
 use crate::args::{Asked, Counting, Paths, asked_of};
 use crate::bench::run_bench;
@@ -24,8 +24,8 @@ use std::thread::Threads;
 use tmem_script::{Failure, Script, ScriptError, WordsError, report};
 
 /// Does what the words of a command line say, the program's name first, and answers the status: 0 where help or the
-/// version was printed, a script was played to its end, threads counted up, or jobs were timed; 1 where that failed on the way; 2 where the
-/// words were refused, or memory did not suffice to read them; 3 where there was no script to play.
+/// version was printed, a script was played to its end, threads counted up, or jobs were timed; 1 where that failed on the
+/// way; 2 where the words were refused, or memory did not suffice to read them; 3 where there was no script to play.
 pub fn run_words<R: Read, W: Write, E: Write>(
     rt: &(impl Files<File = File> + AllocGlobal + Threads + Wait + Clock + Sync),
     words: Vec<String>,
@@ -68,7 +68,7 @@ fn conclude<E: Write>(outcome: Result<(), Failure>, err: &mut E) -> u8
     }
 }
 
-/// Prints what the words are answered where no script is to be played: what was asked for, or what is wrong with them.
+/// Prints what the words are answered where nothing is to be done: what was asked for, or what is wrong with them.
 /// Answers the status.
 fn answer<W: Write, E: Write>(refusal: &clap::Error, out: &mut W, err: &mut E) -> u8
     ensures request { result ≤ 1 → IsRequest (kind_of refusal.now) }
@@ -141,7 +141,8 @@ fn bench<W: Write>(
     path: Option<&str>,
     out: &mut W,
 ) -> Result<(), Failure>
-    ensures { IfErr result IsWhyNotTimed }
+    ensures timed { OnOk result (TimesJobs (W.contents out.old) (W.contents out.new)) }
+    ensures failed { IfErr result IsWhyNotTimed }
 {
     run_bench(rt, path, out)?;
     flush(out)

@@ -81,7 +81,8 @@ pub trait Service {
     /// Puts something into the accounts, registers the invariant, and frees the log.
     fn prepare<R: Wait>(&self, rt: &R, alloc: Global) -> Result<(), Fault>;
 
-    /// Does a caller's part of a job, until the time from the start is over.
+    /// Does a caller's part of a job, until the time from the start is over. It ends early where a transaction neither commits
+    /// nor sees.
     fn work<R: Clock + Wait>(
         &self,
         rt: &R,
@@ -180,7 +181,8 @@ fn is_done(settled: &Settled) -> bool {
     matches!(settled, Settled::Committed { .. } | Settled::Seen { .. })
 }
 
-// Attempts a plan until it is settled. Where as many transactions wait as may, it waits until the oldest of them is durable.
+// Attempts a plan until it is settled. Where as many transactions wait as may, it waits until more are durable than before the
+// attempt: 256 more were committed then, so that there is one to wait for.
 fn settle_with_room<
     D: Disk + Drop,
     N: StoreNaming,
@@ -193,11 +195,9 @@ fn settle_with_room<
     requires names { FitsNames N.program.names plan.now }
 {
     for _ in rt.forever() {
+        let durable = front.look(pass);
         match front.atomically(rt, pass, plan) {
-            Err(Fault::Full) => {
-                let oldest = front.look(pass);
-                front.await_durable(rt, pass, oldest)?;
-            }
+            Err(Fault::Full) => front.await_durable(rt, pass, durable)?,
             settled => return settled,
         }
     }
@@ -263,7 +263,7 @@ fn work_beside<F: Service + Sync, R: Clock + Threads + Wait + Sync>(
     })
 }
 
-// All callers, each in a thread of its own.
+// All callers, each in a thread of its own where one can be made, and else one after another.
 fn work_all<F: Service + Sync, R: Clock + Threads + Wait + Sync>(
     rt: &R,
     alloc: Global,

@@ -11,7 +11,7 @@ const GATHERING_MICROS: u64 = 10;
 // No clock keeps a flusher from its flush by standing still.
 const MOST_YIELDS: u32 = 1000;
 
-/// A flusher that goes on until the store is shut. Where callers share the store, it lets them in before each flush, so that one
+/// A flusher that goes on until the store is shut. Where the store has several callers, it lets them in before each flush, so that one
 /// flush makes the transactions of several durable.
 #[derive(Drop)]
 pub(crate) struct Gathering<'a, R: Clock> {

@@ -1,4 +1,4 @@
-//! Times transactions of several kinds, and nothing else. With the word `once` each is run once, and what it was answered is
+//! Times transactions of several kinds, and nothing else. With a word behind its name, such as `once`, each is run once, and what it was answered is
 //! printed in place of times.
 #![tactic(auto)]
 
