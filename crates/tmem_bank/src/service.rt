@@ -131,7 +131,7 @@ trait Moving {
     // Makes durable what is committed, until the store is shut.
     fn flush<R: Wait>(&self, rt: &R) -> Result<(), Fault>;
 
-    // Reads all accounts, as they stand at one moment.
+    // Reads all accounts, as they stand at one moment. It takes a pass at each call, and there are 32: a service would keep one.
     fn audit<R: Wait>(&self, rt: &R, alloc: Global) -> Result<Settled, Fault>;
 
     // Nothing is settled any more.
