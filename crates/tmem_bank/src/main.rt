@@ -18,6 +18,7 @@ use service::{ACCOUNTS, open};
 use std::alloc::{AllocGlobal, Global};
 use std::env;
 use std::fs::{File, Files};
+use std::rt::Clock;
 use std::sync::Wait;
 use std::thread::Threads;
 use tmem_builtins::{add, need, steps_of, sub};
@@ -48,7 +49,7 @@ fn has_negative(accounts: &[i64]) -> bool
 
 // Makes the stored steps.
 fn with_steps<
-    R: AllocGlobal + Files<File = File> + Print + Threads + Wait + Sync,
+    R: AllocGlobal + Clock + Files<File = File> + Print + Threads + Wait + Sync,
     T: Invariants + Drop + Send,
 >(rt: &R, alloc: Global, path: Option<&str>, table: T) -> Result<()>
     requires vars { T.vars table ≡ 4 }
@@ -82,7 +83,7 @@ fn with_steps<
 
 // Chooses the device.
 fn with_device<
-    R: AllocGlobal + Files<File = File> + Print + Threads + Wait + Sync,
+    R: AllocGlobal + Clock + Files<File = File> + Print + Threads + Wait + Sync,
     T: Invariants + Drop + Send,
     S: StoredSteps + Drop + Send + Sync,
 >(rt: &R, alloc: Global, path: Option<&str>, table: T, steps: S) -> Result<()>

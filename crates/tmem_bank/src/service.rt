@@ -7,11 +7,12 @@ use crate::device::SLOTS;
 use crate::transfers::{Transfer, balances, deposits};
 use std::alloc::Global;
 use std::marker::Brand;
+use std::rt::Clock;
 use std::sync::Wait;
 use std::thread::{self, Threads, join};
 use tmem_core::Settled;
 use tmem_disk::{Disk, Fault};
-use tmem_front::{Front, OpenedFront, Pace, Pass, StoreNaming};
+use tmem_front::{Front, Gathering, OpenedFront, Pass, StoreNaming};
 use tmem_invariants::Invariants;
 use tmem_tree::StoredSteps;
 
@@ -23,7 +24,7 @@ const TRANSFERS: u64 = 25;
 
 /// Opens the store, and serves there.
 pub fn open<
-    R: Print + Threads + Wait + Sync,
+    R: Clock + Print + Threads + Wait + Sync,
     D: Disk + Drop + Send,
     T: Invariants + Drop + Send,
     S: StoredSteps + Drop + Send + Sync,
@@ -45,7 +46,7 @@ fn serve<
     D: Disk + Drop + Send,
     T: Invariants + Drop + Send,
     S: StoredSteps + Drop + Send + Sync,
-    R: Print + Threads + Wait + Sync,
+    R: Clock + Print + Threads + Wait + Sync,
 >(rt: &R, alloc: Global, opened: OpenedFront<D, T, S>) -> Result<(), Fault>
     requires spine { spine_of opened ≡ N.name }
     requires opening { found_of opened ≡ N.opening }
@@ -110,16 +111,6 @@ fn say<R: Print>(rt: &R, settled: &Settled) {
     };
 }
 
-// A flusher that goes on until the store is shut, and does not let callers gather before a flush.
-#[derive(Drop)]
-struct Always;
-
-impl Pace for Always {
-    fn next(&mut self) -> bool {
-        true
-    }
-}
-
 // How many transfers each of four threads made.
 type Moved = ((u64, u64), (u64, u64));
 
@@ -129,7 +120,7 @@ trait Moving {
     fn send<R: Wait>(&self, rt: &R, alloc: Global, transfer: Transfer) -> Result<u64, Fault>;
 
     // Makes durable what is committed, until the store is shut.
-    fn flush<R: Wait>(&self, rt: &R) -> Result<(), Fault>;
+    fn flush<R: Clock + Wait>(&self, rt: &R) -> Result<(), Fault>;
 
     // Reads all accounts, as they stand at one moment. It takes a pass at each call, and there are 32: a service would keep one.
     fn audit<R: Wait>(&self, rt: &R, alloc: Global) -> Result<Settled, Fault>;
@@ -153,8 +144,8 @@ impl<D: Disk + Drop, N: StoreNaming, T: Invariants + Drop, S: StoredSteps + Drop
         Ok(sent)
     }
 
-    fn flush<R: Wait>(&self, rt: &R) -> Result<(), Fault> {
-        let flushed = self.run_flusher(rt, &mut Always);
+    fn flush<R: Clock + Wait>(&self, rt: &R) -> Result<(), Fault> {
+        let flushed = self.run_flusher(rt, &mut Gathering::new(rt, true));
         self.shut(rt);
         flushed
     }
@@ -172,7 +163,7 @@ impl<D: Disk + Drop, N: StoreNaming, T: Invariants + Drop, S: StoredSteps + Drop
 
 // Four threads move money beside a flusher in a thread of its own, which ends once they have ended and all is durable. Answers
 // with what the accounts have then.
-fn move_and_flush<F: Moving + Sync, R: Threads + Wait + Sync>(
+fn move_and_flush<F: Moving + Sync, R: Clock + Threads + Wait + Sync>(
     rt: &R,
     alloc: Global,
     store: &F,

@@ -159,7 +159,7 @@ fn decided(decision: Decision) -> &'static str {
     match decision {
         Decision::Committed(_) => "committed",
         Decision::Seen(_) => "seen",
-        Decision::Retry => "retry",
+        Decision::Retry(_) => "retry",
         Decision::Aborted(_) => "aborted",
         Decision::Refused(_) => "refused",
     }

@@ -1,5 +1,5 @@
 -- What an attempt is answered, told apart from the registers that it ended with.
-use Rattle.std.specs.Prelude.{ℤ, List, [], ◌∷◌, Result, Ok, Err}
+use Rattle.std.specs.Prelude.{◌≡◌, ℕ, ℤ, List, [], ◌∷◌, Result, Ok, Err}
 use Rattle.tmem_disk.specs.declared.fault.Fault.{Fault}
 use Rattle.tmem_record.specs.declared.effect.Effect.{Effect}
 use Rattle.tmem_tree.specs.declared.settled.Settled.{Settled}
@@ -11,7 +11,7 @@ use Rattle.tmem_core.specs.declared.decision.Decision.TheVariants.{Committed, Se
 abbrev pub settled_of : Decision → List ℤ → Settled
 settled_of (Committed number) registers = settled.Committed number registers
 settled_of (Seen at) registers = settled.Seen at registers
-settled_of Retry registers = settled.Retry
+settled_of (Retry at) registers = settled.Retry
 settled_of (Aborted code) registers = settled.Aborted code
 settled_of (Refused name) registers = settled.Refused name
 
@@ -19,6 +19,11 @@ settled_of (Refused name) registers = settled.Refused name
 abbrev pub answer_of : Result Decision Fault → List ℤ → Result Settled Fault
 answer_of (Ok decision) registers = Ok (settled_of decision registers)
 answer_of (Err f) registers = Err f
+
+-- where the attempt asks to be run again, so many were accepted
+abbrev pub RetriesAt : ℕ → Result Decision Fault → Type 0
+RetriesAt count (Ok (Retry at)) = at ≡ count
+RetriesAt count _ = Unit {0}
 
 -- the effects that are accepted: only Committed accepts the effect
 abbrev pub taken_by : Result Decision Fault → Effect → List Effect

@@ -80,7 +80,7 @@ impl<T: Invariants + Drop> Core<T> {
     ghost use Rattle.tmem_core.specs.Program.{Program};
     ghost use Rattle.tmem_core.specs.Verdict.{verdict};
     ghost use Rattle.tmem_core.specs.SettleAnswer.{settle_answer, normal_answer, sound_answer, accepted_by, judged, IsRefusal, IsAdded};
-    ghost use Rattle.tmem_core.specs.Decisions.{answer_of, taken_by};
+    ghost use Rattle.tmem_core.specs.Decisions.{answer_of, taken_by, RetriesAt};
 
     /// A core of this state, all of it durable, with room for all that may wait: no other call takes memory. Refused with
     /// `Missing` and the first registered name, by bytes, that the table lacks; else with `Broken` and the first one in
@@ -217,6 +217,7 @@ impl<T: Invariants + Drop> Core<T> {
         ensures answer { (p : Program) → p.names ≡ T.names (table_of self.old) → T.is_stated (table_of self.old) p.tests
             → answer_of result attempt.now.registers ≡ settle_answer p (is_shut_of self.old) (state_of self.old) (durable_of self.old) attempt.now }
         ensures refused { IfErr result IsRefusal }
+        ensures retries { RetriesAt (state_of self.old).count result }
         ensures state { state_of self.new ≡ fold (state_of self.old) (taken_by result attempt.now.effect) }
         ensures history { (opened_of self.new ≡ opened_of self.old) × (history_of self.new ≡ history_of self.old ++ taken_by result attempt.now.effect) }
         ensures waiting { waiting_of self.new ≡ waiting_of self.old ++ taken_by result attempt.now.effect }
@@ -237,7 +238,7 @@ impl<T: Invariants + Drop> Core<T> {
         }
         match attempt.ending {
             Ending::Normal => self.settle_normal(&attempt.effect),
-            Ending::Retry => Ok(Decision::Retry),
+            Ending::Retry => Ok(Decision::Retry(self.state.count())),
             Ending::Abort(code) => Ok(Decision::Aborted(code)),
         }
     }
@@ -249,6 +250,7 @@ impl<T: Invariants + Drop> Core<T> {
         ensures answer { (p : Program) → p.names ≡ T.names (table_of self.old) → T.is_stated (table_of self.old) p.tests
             → (registers : List ℤ) → answer_of result registers ≡ normal_answer p (state_of self.old) (durable_of self.old) effect.now registers }
         ensures refused { IfErr result IsRefusal }
+        ensures retries { RetriesAt (state_of self.old).count result }
         ensures state { state_of self.new ≡ fold (state_of self.old) (taken_by result effect.now) }
         ensures history { (opened_of self.new ≡ opened_of self.old) × (history_of self.new ≡ history_of self.old ++ taken_by result effect.now) }
         ensures waiting { waiting_of self.new ≡ waiting_of self.old ++ taken_by result effect.now }
@@ -294,6 +296,7 @@ impl<T: Invariants + Drop> Core<T> {
         requires sound { (m : Meanings) → T.is_stated (table_of self.old) m → AllHold m (apply (state_of self.old) effect.now).names (apply (state_of self.old) effect.now).values }
         ensures answer { (registers : List ℤ) → answer_of result registers ≡ sound_answer (state_of self.old) (durable_of self.old) effect.now registers }
         ensures refused { IfErr result IsRefusal }
+        ensures retries { RetriesAt (state_of self.old).count result }
         ensures state { state_of self.new ≡ fold (state_of self.old) (taken_by result effect.now) }
         ensures history { (opened_of self.new ≡ opened_of self.old) × (history_of self.new ≡ history_of self.old ++ taken_by result effect.now) }
         ensures waiting { waiting_of self.new ≡ waiting_of self.old ++ taken_by result effect.now }

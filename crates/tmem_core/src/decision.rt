@@ -12,8 +12,8 @@ pub enum Decision {
     Committed(u64),
     /// It changes nothing. It was settled after so many accepted ones.
     Seen(u64),
-    /// It asks to be run again once some value that it read has changed.
-    Retry,
+    /// It asks to be run again once some value that it read has changed. So many were accepted by then.
+    Retry(u64),
     /// It gave up, with this code.
     Aborted(u16),
     /// This invariant would be false: the first in the table's order of those that are registered or checked.
@@ -34,7 +34,7 @@ impl Decision {
                 at,
                 registers: *registers,
             },
-            Decision::Retry => Settled::Retry,
+            Decision::Retry(_) => Settled::Retry,
             Decision::Aborted(code) => Settled::Aborted(code),
             Decision::Refused(name) => Settled::Refused(name),
         }

@@ -1,11 +1,11 @@
 -- What lies under the core's lock, and what it stands for.
-use Rattle.std.specs.Prelude.{◌≡◌, ℕ, ◌-◌, ◌≤◌, Bool, List, drop}
+use Rattle.std.specs.Prelude.{◌≡◌, ◌⊎◌, ℕ, ◌-◌, ◌<◌, ◌≤◌, Bool, true, List, drop}
 use Rattle.tmem_record.specs.State.{State}
 use Rattle.tmem_core.specs.declared.core_state.Core.{Core}
 use Rattle.tmem_core.specs.Held as core
 use Rattle.tmem_core.specs.Program.{Program}
 use Rattle.tmem_spine.specs.declared.view.Entry.{Entry}
-use Rattle.tmem_spine.specs.History.{unmarked}
+use Rattle.tmem_spine.specs.History.{count, unmarked}
 use Rattle.tmem_spine.specs.Views.{CoreView}
 use Rattle.tmem_front.specs.Histories.{after, AreSound}
 
@@ -26,3 +26,15 @@ pub record IsCoreOf {T : Type 0} {t : _} (start : ℕ) (opening : State) (progra
   pub waits : core.waiting_of c ≡ drop (v.trimmed - start) (unmarked v.accepted)
   pub late : start ≤ v.trimmed
   pub sound : AreSound program opening v.accepted
+
+-- more than so many are accepted, or the front is shut
+abbrev pub HasMoreThan : ℕ → ℕ → CoreSeatView → Type 0
+HasMoreThan start n v = (n < count start v.accepted) ⊎ (v.is_shut ≡ true)
+
+-- more than so many are known durable, or the front is shut
+abbrev pub HasFlushed : ℕ → CoreSeatView → Type 0
+HasFlushed n v = (n < v.trimmed) ⊎ (v.is_shut ≡ true)
+
+-- a transaction waits to be durable, or the front is shut
+abbrev pub HasWork : ℕ → CoreSeatView → Type 0
+HasWork start v = (v.trimmed < count start v.accepted) ⊎ (v.is_shut ≡ true)

@@ -1,12 +1,12 @@
 // What lies under the core's lock.
-ghost use Rattle.std.specs.Prelude.{◌≡◌, ◌+◌, ◌<◌, ◌≤◌, slice_get, IfOk, IfErr, Some, ◌++◌, ◌∷◌, [], true, length, MatchBool, All, IsTrue, IfSome, IfNone};
+ghost use Rattle.std.specs.Prelude.{◌≡◌, ◌↔◌, ◌+◌, ◌<◌, ◌≤◌, slice_get, IfOk, IfErr, Some, ◌++◌, ◌∷◌, [], true, length, MatchBool, All, IsTrue, IfSome, IfNone};
 ghost use Rattle.tmem_record.specs.Prefix.{IsPrefix};
 ghost use Rattle.tmem_record.specs.Names.{has_name};
 ghost use Rattle.tmem_record.specs.declared.effect.Effect.{Effect as EffectOf};
 ghost use Rattle.tmem_tentative.specs.Fits.{IsForVariables};
 ghost use Rattle.tmem_core.specs.Held.{state_of, opened_of, history_of, waiting_of, durable_of, is_shut_of, table_of};
 ghost use Rattle.tmem_core.specs.SettleAnswer.{settle_answer, judged};
-ghost use Rattle.tmem_core.specs.Decisions.{answer_of, taken_by};
+ghost use Rattle.tmem_core.specs.Decisions.{answer_of, taken_by, RetriesAt};
 ghost use Rattle.tmem_core.specs.Verdict.{verdict};
 ghost use Rattle.tmem_tentative.specs.Right.{IsRight};
 ghost use Rattle.tmem_tree.specs.declared.tx.Tx.{Tx as TxOf};
@@ -74,6 +74,7 @@ impl<N: StoreNaming, T: Invariants + Drop> CoreSeat<N, T> {
         ensures verdict { (tx : TxOf) → IsRight N.program.steps tx attempt.now
             → answer_of result attempt.now.registers ≡ judged self.old.is_shut (after N.opening self.old.accepted) self.new.trimmed attempt.now.reads.entries (verdict N.program tx (after N.opening self.old.accepted)) }
         ensures number { (after N.opening self.old.accepted).count ≡ count N.name.start self.old.accepted }
+        ensures retries { RetriesAt (count N.name.start self.old.accepted) result }
         ensures accepted { self.new.accepted ≡ self.old.accepted ++ marked pass.old.mark (taken_by result attempt.now.effect) }
         ensures pass { pass.new ≡ record pass.old { known = self.new.accepted; own = pass.old.own ++ numbered (count N.name.start self.old.accepted) (taken_by result attempt.now.effect) } }
         ensures begins { IsPrefix pass.old.known self.old.accepted }
@@ -150,6 +151,13 @@ impl<N: StoreNaming, T: Invariants + Drop> CoreSeat<N, T> {
         self.core.durable()
     }
 
+    /// Whether some of them are not known durable.
+    pub fn has_waiting(&self) -> bool
+        ensures { IsTrue result ↔ (self.now.trimmed < count N.name.start self.now.accepted) }
+    {
+        self.durable() < self.count()
+    }
+
     /// Whether it was shut.
     pub fn is_shut(&self) -> bool
         ensures { result ≡ self.now.is_shut }
@@ -172,7 +180,7 @@ fn commits(decision: &Result<Decision, Fault>) -> bool
     match decision {
         Ok(Decision::Committed(_)) => true,
         Ok(Decision::Seen(_)) => false,
-        Ok(Decision::Retry) => false,
+        Ok(Decision::Retry(_)) => false,
         Ok(Decision::Aborted(_)) => false,
         Ok(Decision::Refused(_)) => false,
         Err(_) => false,

@@ -251,8 +251,7 @@ impl<D: Disk + Drop, N: StoreNaming, T: Invariants + Drop, S: StoredSteps + Drop
         ensures { (journal_of journal.new ≡ journal_of journal.old) × (side_of journal.new ≡ side_of journal.old) }
     {
         let mut core = self.core.lock(rt);
-        journal.tell(&self.spine, &mut core);
-        let is_shut = core.is_shut();
+        let is_shut = journal.tell(&self.spine, &mut core);
         drop(core);
         self.flushed.notify_all();
         if is_shut {

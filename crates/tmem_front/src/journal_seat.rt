@@ -135,8 +135,13 @@ impl<D: Disk, N: StoreNaming> JournalSeat<D, N> {
     }
 
     /// Under both locks, after a call of the device: the core learns how many are durable, or is shut where the journal
-    /// is closed.
-    pub fn tell<T: Invariants + Drop>(&mut self, spine: &Spine<N>, core: &mut CoreSeat<N, T>)
+    /// is closed. Answers whether it is shut then.
+    pub fn tell<T: Invariants + Drop>(
+        &mut self,
+        spine: &Spine<N>,
+        core: &mut CoreSeat<N, T>,
+    ) -> bool
+        ensures told { result ≡ core.new.is_shut }
         ensures journal { (journal_of self.new ≡ journal_of self.old) × (side_of self.new ≡ side_of self.old) × (batch_of self.new ≡ batch_of self.old) }
         ensures shut { is_closed_of (journal_of self.old) ≡ true → core.new ≡ record core.old { is_shut = true } }
         ensures durable { is_closed_of (journal_of self.old) ≡ false → core.new ≡ record core.old { trimmed = count N.name.start (side_of self.old).durable } }
@@ -146,6 +151,7 @@ impl<D: Disk, N: StoreNaming> JournalSeat<D, N> {
         } else {
             core.learn(spine, &mut self.side);
         }
+        core.is_shut()
     }
 
     /// Writes the durable state as a whole, and frees every slot of the log. The history stays. Refused as a journal

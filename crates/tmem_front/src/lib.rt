@@ -16,6 +16,7 @@ mod front;
 mod journal_seat;
 mod naming;
 mod opened;
+mod pace;
 mod pass;
 mod waiting;
 
@@ -24,5 +25,5 @@ pub use front::Front;
 pub use journal_seat::JournalSeat;
 pub use naming::{ProgramNaming, StoreNaming};
 pub use opened::OpenedFront;
+pub use pace::{Gathering, Pace};
 pub use pass::Pass;
-pub use waiting::Pace;

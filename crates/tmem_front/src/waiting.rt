@@ -7,13 +7,17 @@ ghost use Rattle.tmem_tree.specs.Plans.{FitsSteps, FitsVariables, FitsNames};
 ghost use Rattle.tmem_tentative.specs.Fits.{IsForVariables};
 ghost use Rattle.tmem_record.specs.Names.{has_name};
 ghost use Rattle.tmem_spine.specs.History.{count};
+ghost use Rattle.std.specs.Sync.Mutex.{mutex_guard_value};
 ghost use Rattle.tmem_front.specs.Flushing.{IsFlusherRefusal};
+ghost use Rattle.tmem_front.specs.Seats.{HasMoreThan, HasFlushed, HasWork};
 ghost use Rattle.tmem_front.specs.Settling.{Settles, SettlesAtLast};
 
+use crate::core_seat::CoreSeat;
 use crate::front::{Front, with_registers};
 use crate::naming::StoreNaming;
+use crate::pace::Pace;
 use crate::pass::Pass;
-use std::sync::Wait;
+use std::sync::{MutexGuard, Wait};
 use std::thread::yield_now;
 use tmem_core::{Decision, Settled};
 use tmem_disk::{Disk, Fault};
@@ -24,12 +28,6 @@ use tmem_tree::{Plan, StoredSteps};
 
 // So often a caller looks before it sleeps. To wake a thread takes about as long as a flush of a fast disk.
 const LOOKS: u32 = 100;
-
-/// How a flusher goes on.
-pub trait Pace {
-    /// Whether there is to be another turn. It is asked at the start of each, and may take its time, so that callers gather.
-    fn next(&mut self) -> bool;
-}
 
 impl<D: Disk + Drop, N: StoreNaming, T: Invariants + Drop, S: StoredSteps + Drop> Front<
     D,
@@ -81,18 +79,28 @@ impl<D: Disk + Drop, N: StoreNaming, T: Invariants + Drop, S: StoredSteps + Drop
                 drop(core);
                 self.committed.notify_all();
             }
-            Ok(Decision::Retry) => {
-                let settled_at = core.count();
-                for _ in rt.forever() {
-                    if settled_at < core.count() || core.is_shut() {
-                        break;
-                    }
-                    core = self.committed.wait(rt, core);
-                }
-            }
+            Ok(Decision::Retry(at)) => drop(self.wait_for_another(rt, core, at)),
             _ => drop(core),
         }
         with_registers(decision, attempt)
+    }
+
+    // Waits under the core's lock until more than so many are accepted, or the front is shut.
+    fn wait_for_another<'a, R: Wait>(
+        &self,
+        rt: &R,
+        mut core: MutexGuard<'a, CoreSeat<N, T>>,
+        at: u64,
+    ) -> MutexGuard<'a, CoreSeat<N, T>>
+        ensures { HasMoreThan N.name.start at (mutex_guard_value result) }
+    {
+        for _ in rt.forever() {
+            if at < core.count() || core.is_shut() {
+                return core;
+            }
+            core = self.committed.wait(rt, core);
+        }
+        unreachable!()
     }
 
     /// Waits until more than `number` transactions are durable. The pass saw these then. Refused by `Closed` where the front was
@@ -111,7 +119,7 @@ impl<D: Disk + Drop, N: StoreNaming, T: Invariants + Drop, S: StoredSteps + Drop
         if number < self.look_again(pass, number) {
             return Ok(());
         }
-        self.wait_for_durable(rt, number);
+        drop(self.wait_for_flush(rt, self.core.lock(rt), number));
         let durable = self.look(pass);
         if number < durable {
             Ok(())
@@ -136,15 +144,22 @@ impl<D: Disk + Drop, N: StoreNaming, T: Invariants + Drop, S: StoredSteps + Drop
         self.look(pass)
     }
 
-    // Waits until more than so many are known durable, or the front is shut.
-    fn wait_for_durable<R: Wait>(&self, rt: &R, number: u64) {
-        let mut core = self.core.lock(rt);
+    // Waits under the core's lock until more than so many are known durable, or the front is shut.
+    fn wait_for_flush<'a, R: Wait>(
+        &self,
+        rt: &R,
+        mut core: MutexGuard<'a, CoreSeat<N, T>>,
+        number: u64,
+    ) -> MutexGuard<'a, CoreSeat<N, T>>
+        ensures { HasFlushed number (mutex_guard_value result) }
+    {
         for _ in rt.forever() {
             if number < core.durable() || core.is_shut() {
-                return;
+                return core;
             }
             core = self.flushed.wait(rt, core);
         }
+        unreachable!()
     }
 
     /// Makes durable what is committed, batch by batch, until the pace ends it, or the front is shut and nothing waits. Where the
@@ -153,7 +168,13 @@ impl<D: Disk + Drop, N: StoreNaming, T: Invariants + Drop, S: StoredSteps + Drop
         ensures refused { IfErr result IsFlusherRefusal }
     {
         for _ in rt.forever() {
-            if !pace.next() || !self.wait_for_commit(rt) {
+            if !pace.next() {
+                return Ok(());
+            }
+            let core = self.wait_for_commit(rt, self.core.lock(rt));
+            let is_waiting = core.has_waiting();
+            drop(core);
+            if !is_waiting {
                 return Ok(());
             }
             self.flush_with_room(rt)?;
@@ -161,23 +182,25 @@ impl<D: Disk + Drop, N: StoreNaming, T: Invariants + Drop, S: StoredSteps + Drop
         unreachable!()
     }
 
-    // Waits until a transaction waits to be durable, and answers whether one does: none where the front is shut.
-    fn wait_for_commit<R: Wait>(&self, rt: &R) -> bool {
-        let mut core = self.core.lock(rt);
+    // Waits under the core's lock until a transaction waits to be durable, or the front is shut.
+    fn wait_for_commit<'a, R: Wait>(
+        &self,
+        rt: &R,
+        mut core: MutexGuard<'a, CoreSeat<N, T>>,
+    ) -> MutexGuard<'a, CoreSeat<N, T>>
+        ensures { HasWork N.name.start (mutex_guard_value result) }
+    {
         for _ in rt.forever() {
-            if core.durable() < core.count() {
-                return true;
-            }
-            if core.is_shut() {
-                return false;
+            if core.has_waiting() || core.is_shut() {
+                return core;
             }
             core = self.committed.wait(rt, core);
         }
         unreachable!()
     }
 
-    // Flushes once, and where the log is full once more after a checkpoint.
-    fn flush_with_room<R: Wait>(&self, rt: &R) -> Result<u64, Fault>
+    /// Flushes once, and where the log is full once more after a checkpoint. Refused as these are.
+    pub fn flush_with_room<R: Wait>(&self, rt: &R) -> Result<u64, Fault>
         ensures refused { IfErr result IsFlusherRefusal }
     {
         match self.flush_once(rt) {

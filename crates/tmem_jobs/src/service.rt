@@ -12,7 +12,7 @@ use std::time::{Duration, Instant};
 use tmem_bench::{BenchError, now, since};
 use tmem_core::Settled;
 use tmem_disk::{Disk, Fault};
-use tmem_front::{Front, Pace, Pass, StoreNaming};
+use tmem_front::{Front, Gathering, Pace, Pass, StoreNaming};
 use tmem_invariants::Invariants;
 use tmem_tree::{Plan, StoredSteps};
 
@@ -22,56 +22,27 @@ const JOB_MILLIS: u64 = 1000;
 // A batch has so many records at most.
 const RECORDS: u16 = 64;
 
-// A flusher lets callers gather for so long: much less than a sync takes, and enough for one that was just woken to commit
-// again.
-const GATHER_MICROS: u64 = 10;
-
-// No clock keeps a flusher from its flush by standing still.
-const GATHER_TURNS: u32 = 1000;
-
-// The pace of a flusher. It lets callers gather where there are several, and counts its turns.
+// The pace of a flusher that counts its turns.
 #[derive(Drop)]
-struct Gather<'a, R: Clock> {
-    rt: &'a R,
-    has_several: bool,
+struct Counted<'a, R: Clock> {
+    pace: Gathering<'a, R>,
     turns: u64,
 }
 
-impl<'a, R: Clock> Pace for Gather<'a, R> {
+impl<R: Clock> Pace for Counted<'_, R> {
     fn next(&mut self) -> bool
         ensures on { result ≡ true }
         ensures turns { self.old.turns + 1 < 2 ^ 64 → self.new.turns ≡ self.old.turns + 1 }
     {
-        if self.has_several {
-            let_others_in(self.rt);
-        }
         self.turns = self.turns.saturating_add(1);
-        true
+        self.pace.next()
     }
 }
 
-// Lets other threads in for a while.
-fn let_others_in<R: Clock>(rt: &R) {
-    let Ok(start) = Instant::now(rt) else {
-        return;
-    };
-    for _ in 0..GATHER_TURNS {
-        thread::yield_now();
-        if has_passed(rt, start, Duration::from_micros(GATHER_MICROS)) {
-            return;
-        }
-    }
-}
-
-/// Whether a job that began then is over.
+/// Whether a job that began then is over, or the clock cannot be read.
 pub fn is_over<R: Clock>(rt: &R, start: Instant) -> bool {
-    has_passed(rt, start, Duration::from_millis(JOB_MILLIS))
-}
-
-// Whether so much time has passed, or the clock cannot be read.
-fn has_passed<R: Clock>(rt: &R, start: Instant, time: Duration) -> bool {
     match start.elapsed(rt) {
-        Ok(elapsed) => elapsed >= time,
+        Ok(elapsed) => elapsed >= Duration::from_millis(JOB_MILLIS),
         Err(_) => true,
     }
 }
@@ -133,7 +104,7 @@ impl<D: Disk + Drop, N: StoreNaming, T: Invariants + Drop, S: StoredSteps + Drop
             }
             if let Settled::Committed { number, .. } = settled {
                 if matches!(job.callers, Callers::Alone) {
-                    flush_with_room(rt, self)?;
+                    self.flush_with_room(rt)?;
                     count.flushes = count.flushes.saturating_add(1);
                 } else {
                     self.await_durable(rt, &mut pass, number)?;
@@ -147,9 +118,8 @@ impl<D: Disk + Drop, N: StoreNaming, T: Invariants + Drop, S: StoredSteps + Drop
     }
 
     fn flush<R: Clock + Wait>(&self, rt: &R, has_several: bool) -> Result<u64, Fault> {
-        let mut pace = Gather {
-            rt,
-            has_several,
+        let mut pace = Counted {
+            pace: Gathering::new(rt, has_several),
             turns: 0,
         };
         let flushed = self.run_flusher(rt, &mut pace);
@@ -202,23 +172,6 @@ fn settle_with_room<
         }
     }
     unreachable!()
-}
-
-// Flushes once, and where the log is full once more after a checkpoint.
-fn flush_with_room<
-    D: Disk + Drop,
-    N: StoreNaming,
-    T: Invariants + Drop,
-    S: StoredSteps + Drop,
-    R: Wait,
->(rt: &R, front: &Front<D, N, T, S>) -> Result<u64, Fault> {
-    match front.flush_once(rt) {
-        Err(Fault::LogFull) => {
-            front.checkpoint(rt)?;
-            front.flush_once(rt)
-        }
-        flushed => flushed,
-    }
 }
 
 /// Runs a job on a store, until all that it committed is durable.

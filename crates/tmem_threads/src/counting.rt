@@ -5,13 +5,12 @@ ghost use Rattle.tmem_front.specs.Flushing.{IsFlusherRefusal};
 ghost use Rattle.tmem_tree.specs.Plans.{FitsSteps, FitsVariables, FitsNames};
 ghost use Rattle.tmem_threads.specs.Counting.{AddsDurable, number_in, once};
 
-use crate::pace::Gathering;
 use std::alloc::{AllocError, Global};
 use std::rt::Clock;
 use std::sync::Wait;
 use tmem_core::Settled;
 use tmem_disk::{Disk, Fault};
-use tmem_front::{Front, Pass, StoreNaming};
+use tmem_front::{Front, Gathering, Pass, StoreNaming};
 use tmem_invariants::Invariants;
 use tmem_tree::{Plan, StoredSteps, Tx};
 
@@ -39,11 +38,7 @@ impl<D: Disk + Drop, N: StoreNaming, T: Invariants + Drop, S: StoredSteps + Drop
     }
 
     fn flush<R: Wait + Clock>(&self, rt: &R, is_shared: bool) -> Result<(), Fault> {
-        let mut pace = Gathering {
-            clock: rt,
-            is_shared,
-        };
-        let flushed = self.run_flusher(rt, &mut pace);
+        let flushed = self.run_flusher(rt, &mut Gathering::new(rt, is_shared));
         self.shut(rt);
         flushed
     }

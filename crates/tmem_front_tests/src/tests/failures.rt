@@ -3,8 +3,9 @@ ghost use Rattle.std.specs.Prelude.{◌≡◌};
 ghost use Rattle.tmem_front.specs.Held.{found_of, spine_of};
 ghost use Rattle.tmem_front_tests.specs.Examples.{adding};
 
+use super::no_closures::AddsAndNeeds;
 use super::waits::{Turns, need_one};
-use super::{New, named, new, open_on, write};
+use super::{New, named, new, open_on, open_with, write};
 use std::marker::Brand;
 use std::sync::Wait;
 use std::test::Fail;
@@ -126,5 +127,41 @@ fn a_flush_with_nothing_waiting_writes_nothing(rt: HostRuntime) -> Result<(), Fa
     let tx = write(rt.alloc(), 0, 1)?;
     let answers = flush_three_times::<Brand, _>(&rt, open_on(rt.alloc(), disk)?, tx);
     assert_eq!(rt; answers, Ok([Ok(1), Ok(1), Err(Fault::Device)]));
+    Ok(())
+}
+
+/// By what a flusher is refused after each of three commits, of which each takes a slot of the log.
+fn flush_after_each<N: StoreNaming, R: Wait>(
+    rt: &R,
+    opened: New,
+    tx: Tx,
+) -> Result<[Option<Fault>; 3], Fault>
+    requires spine { spine_of opened ≡ N.name }
+    requires opening { found_of opened ≡ N.opening }
+    requires program { N.program ≡ adding }
+{
+    let front = named::<N>(opened);
+    let mut pass = front.pass(rt)?;
+    let plan = front.plan(tx)?;
+    let mut refusals = [None; 3];
+    for refusal in &mut refusals {
+        let _ = front.try_atomically(rt, &mut pass, &plan);
+        *refusal = front.run_flusher(rt, &mut Turns { left: 1 }).err();
+    }
+    Ok(refusals)
+}
+
+#[test]
+fn a_flusher_is_refused_as_its_checkpoint_is(rt: HostRuntime) -> Result<(), Fail> {
+    let mut disk = SimDisk::new(rt.alloc(), Layout::new(4, 2)?.end())?;
+    format(&mut disk, 4, 2)?;
+    // two flushes make four writes, and fill the log: the next one is the first of a checkpoint
+    disk.fail_write(4);
+    let (tx, opened) = (
+        write(rt.alloc(), 0, 1)?,
+        open_with(rt.alloc(), disk, 2, AddsAndNeeds)?,
+    );
+    let refusals = flush_after_each::<Brand, _>(&rt, opened, tx);
+    assert_eq!(rt; refusals, Ok([None, None, Some(Fault::Device)]));
     Ok(())
 }
