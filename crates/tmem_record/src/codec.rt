@@ -44,6 +44,17 @@ pub struct Decoded {
     pub length: usize,
 }
 
+/// What stands before the records of a batch that was read, and how many bytes spell the whole of it.
+#[derive(Clone, Copy, Debug, PartialEq, Eq)]
+pub struct Head {
+    /// The generation of the image that the batch changes.
+    pub generation: u64,
+    /// The number of its first record.
+    pub first: u64,
+    /// How many bytes spell the batch.
+    pub length: usize,
+}
+
 // Spells writes from a place on, and returns the place behind them.
 fn put_writes(into: &mut [u8], start: usize, writes: &[(u16, i64)]) -> usize
     requires { start + 10 * length writes.now ≤ length into.old }
@@ -381,6 +392,23 @@ pub fn read_head(bytes: &[u8; HEAD_BYTES]) -> (u64, u64, u16)
     (generation, first, count)
 }
 
+/// Reads a batch over so many variables from the front of the bytes into one that is lent, whose own records are forgotten
+/// before. `None` where no prefix of the bytes spells one, and then what the lent batch holds is open. It takes no memory.
+pub fn read_batch(bytes: &[u8], vars: u16, batch: &mut Batch) -> Option<Head>
+    ensures found { IfSome result (λ head. SpellsBatch vars head.generation head.first batch.new (take head.length bytes.now)) }
+    ensures within { IfSome result (λ head. head.length ≤ length bytes.now) }
+    ensures none { IfNone result ((generation first n : ℕ) (es : List EffectOf) → SpellsBatch vars generation first es (take n bytes.now) → ⊥) }
+{
+    batch.clear();
+    let mut effect = Effect::new();
+    let (generation, first, rest) = batch_of(bytes, vars, &mut effect, batch)?;
+    Some(Head {
+        generation,
+        first,
+        length: bytes.len() - rest.len(),
+    })
+}
+
 /// Reads a batch over so many variables from the front of the bytes. `None` where no prefix of them spells one. The only
 /// error is want of memory.
 pub fn decode_batch(alloc: Global, bytes: &[u8], vars: u16) -> Result<Option<Decoded>, Fault>
@@ -389,16 +417,15 @@ pub fn decode_batch(alloc: Global, bytes: &[u8], vars: u16) -> Result<Option<Dec
     ensures none { IfOk result (λ found. IfNone found ((generation first n : ℕ) (es : List EffectOf) → SpellsBatch vars generation first es (take n bytes.now) → ⊥)) }
     ensures refused { IfErr result (λ fault. fault ≡ Fault.Memory) }
 {
-    let mut effect = Effect::new();
     let mut effects = Batch::new(alloc)?;
-    let Some((generation, first, rest)) = batch_of(bytes, vars, &mut effect, &mut effects) else {
+    let Some(head) = read_batch(bytes, vars, &mut effects) else {
         return Ok(None);
     };
     Ok(Some(Decoded {
-        generation,
-        first,
+        generation: head.generation,
+        first: head.first,
         effects,
-        length: bytes.len() - rest.len(),
+        length: head.length,
     }))
 }
 

@@ -16,8 +16,8 @@ mod writes;
 
 pub use batch::{BATCH_BYTES, Batch, MAX_RECORD_BYTES, MAX_RECORDS};
 pub use codec::{
-    BATCH_ROOM, Decoded, HEAD_BYTES, NAME_ROOM, decode_batch, encode_batch, one_spelling,
-    read_head, read_name, read_name_set, write_name, write_names,
+    BATCH_ROOM, Decoded, HEAD_BYTES, Head, NAME_ROOM, decode_batch, encode_batch, one_spelling,
+    read_batch, read_head, read_name, read_name_set, write_name, write_names,
 };
 pub use effect::Effect;
 pub use layout::{BLOCK_SIZE, LEAST_SLOTS, Layout, MOST_SLOTS, MOST_VARS, SLOT_SIZE};

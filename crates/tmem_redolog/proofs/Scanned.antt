@@ -161,6 +161,10 @@ module _ (vars slots generation : ℕ) (few : vars ≤ 2 ^ 16) (fits : generatio
           let empty : length left.rest ≡ 0 = ap length (no_batch left.rest left.holds) in
           stale_in_slot vars slots log c is k below generation (left.holds.behind k (omega (arith, empty, above)) below)
 
+-- damage says why nothing was found where there is none
+pub as_damaged : {P : Type 0} (f : Fault) → f ≡ fault.Damaged → P → IsWhyNone P f
+as_damaged {P} f is none = subst (IsWhyNone P) (sym is) none
+
 -- why there is no log may be said of another thing that follows
 pub why_weaker : {P Q : Type 0} (f : Fault) → (P → Q) → IsWhyNone P f → IsWhyNone Q f
 why_weaker fault.Memory from why = tt

@@ -1,17 +1,16 @@
 // The batch of one slot, and what it makes of a state.
-ghost use Rattle.std.specs.Prelude.{◌≡◌, ◌⊎◌, ◌↔◌, ◌<◌, ◌≤◌, ◌^◌, ℕ, List, length, All, IsTrue, OnOk, IfErr};
+ghost use Rattle.std.specs.Prelude.{◌≡◌, ◌↔◌, ◌<◌, ◌≤◌, ◌^◌, ℕ, List, length, All, IsTrue, OnOk, OnErr, IfErr};
 ghost use Rattle.std.specs.Bool.{OnTrue};
 ghost use Rattle.tmem_gate.specs.Gate.{IsOpenAt, HasBody, IsOpenOver};
 ghost use Rattle.tmem_record.specs.Spelling.{number_bytes};
 ghost use Rattle.tmem_record.specs.State.{apply, fold};
 ghost use Rattle.tmem_record.specs.declared.effect.Effect.{Effect as EffectOf};
 ghost use Rattle.tmem_redolog.specs.Log.{IsStale, IsWithin};
-ghost use Rattle.tmem_redolog.specs.Scans.{IsWhyNone, Replays, MayReplay};
+ghost use Rattle.tmem_redolog.specs.Scans.{Replays, MayReplay};
 
-use std::alloc::Global;
 use tmem_disk::Fault;
 use tmem_gate::GATE_OPEN;
-use tmem_record::{Effect, HEAD_BYTES, State, decode_batch, read_head};
+use tmem_record::{Batch, Effect, HEAD_BYTES, State, read_batch, read_head};
 
 // Whether the gate of a slot is open.
 fn is_open(slot: &[u8]) -> bool
@@ -49,29 +48,29 @@ pub(crate) fn is_stale(slot: &[u8], generation: u64) -> bool
 }
 
 /// Replays the batch that an open slot begins with: it has this generation, and its first number is the count of the
-/// state. `Damaged` where there is none, or where its effects take the state past the limits; and `Memory`. After a refusal
-/// the state is of no use.
+/// state. The batch is read into the one that is lent, which may hold anything before and after. `Damaged` where there is
+/// none, or where its effects take the state past the limits: the one refusal. After it the state is of no use.
 pub(crate) fn replay_slot(
-    alloc: Global,
     slot: &[u8],
     vars: u16,
     generation: u64,
+    batch: &mut Batch,
     state: &mut State,
 ) -> Result<(), Fault>
     requires long { length slot.now ≡ 4096 }
     requires open { IsOpenAt 0 slot.now }
     requires sized { length state.old.values ≡ vars }
-    ensures errors { IfErr result (λ f. (f ≡ Fault.Memory) ⊎ (f ≡ Fault.Damaged)) }
+    ensures errors { IfErr result (λ f. f ≡ Fault.Damaged) }
     ensures replayed { OnOk result (Replays vars generation state.old slot.now state.new) }
-    ensures refused { IfErr result (IsWhyNone ((es : List EffectOf) → MayReplay vars generation state.old slot.now es → ⊥)) }
+    ensures refused { OnErr result ((es : List EffectOf) → MayReplay vars generation state.old slot.now es → ⊥) }
 {
-    let Some(batch) = decode_batch(alloc, &slot[1..], vars)? else {
+    let Some(head) = read_batch(&slot[1..], vars, batch) else {
         return Err(Fault::Damaged);
     };
-    if batch.generation != generation || batch.first != state.count() {
+    if head.generation != generation || head.first != state.count() {
         return Err(Fault::Damaged);
     }
-    if !accept_all(state, batch.effects.effects()) {
+    if !accept_all(state, batch.effects()) {
         return Err(Fault::Damaged);
     }
     Ok(())

@@ -13,7 +13,7 @@ use crate::replay::{carries, is_stale, replay_slot};
 use std::alloc::Global;
 use tmem_disk::{Disk, Fault};
 use tmem_gate::device::read_piece;
-use tmem_record::{Layout, SLOT_SIZE, State};
+use tmem_record::{Batch, Layout, SLOT_SIZE, State};
 
 /// Reads the log over an image of this generation, and brings the image's state to the state after it. The log is read in
 /// one piece. `Damaged` where the device holds no log over that image; `Memory`; and `Device` where the read failed. After
@@ -58,7 +58,8 @@ fn slot_of(log: &[u8], k: u16) -> &[u8]
 }
 
 // Replays the slots from the first one on, as long as they are open and of this generation, and answers how many there
-// are. `Damaged` where one of them cannot be replayed; and `Memory`.
+// are. `Damaged` where one of them cannot be replayed; and `Memory` where there is no room for one batch, into which each
+// slot is read in turn.
 fn replay(
     alloc: Global,
     log: &[u8],
@@ -79,12 +80,13 @@ fn replay(
         HoldsFrom layout.vars layout.slots generation 0 state.old batches c → ⊥)) }
 {
     recall_limits(state);
+    let mut batch = Batch::new(alloc)?;
     for k in 0..layout.slots {
         let slot = slot_of(log, k);
         if !carries(slot, generation) {
             return Ok(k);
         }
-        replay_slot(alloc, slot, layout.vars, generation, state)?;
+        replay_slot(slot, layout.vars, generation, &mut batch, state)?;
     }
     Ok(layout.slots)
 }
