@@ -27,8 +27,8 @@ pub struct FileDisk {
 impl FileDisk {
     ghost use Rattle.tmem_file.specs.FileView.{view_of};
 
-    /// Opens a file that is there, of any size, and locks it for as long as the device lives. It is synced and read once as a
-    /// whole. Refused by `Device` where it is missing, is no regular file, may not be read and written, or is open as a
+    /// Opens a file that is there, of any size, and locks it for as long as the device lives. It is read once as a whole, and
+    /// then synced. Refused by `Device` where it is missing, is no regular file, may not be read and written, or is open as a
     /// device already, and where a call fails.
     pub fn open<R: Files<File = File>>(rt: &R, path: &str) -> Result<FileDisk, Fault>
         ensures opened { IfOk result (λ disk. IsOpened (view_of disk)) }

@@ -29,12 +29,12 @@ pub(crate) struct RecordedFile {
 }
 
 impl RecordedFile {
-    /// A file that is there, with the bytes that it gives.
+    /// A file that is there, with the bytes that it gives. They may stand in the system's memory alone: the record says that
+    /// a crash leaves them only once a sync has succeeded.
     pub(crate) fn found(file: File) -> io::Result<RecordedFile>
         requires { pos 2 <ℤ file_raw_fd file }
         ensures { IfOk result (λ found. events_of found.calls ≡ []) }
     {
-        file.sync_all()?;
         let size = file.metadata()?.len();
         let bytes = find(&file, 0, size)?;
         Ok(RecordedFile {
