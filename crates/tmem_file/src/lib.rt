@@ -13,8 +13,6 @@ mod naming;
 mod new_file;
 mod record;
 mod recorded;
-#[cfg(test)]
-mod tests;
 
 pub use disk::FileDisk;
 pub use new_file::NewFile;

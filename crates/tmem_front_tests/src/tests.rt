@@ -9,6 +9,7 @@ mod hold_disk;
 mod no_closures;
 mod passes;
 mod slow_disk;
+mod spine;
 mod threads;
 mod waits;
 

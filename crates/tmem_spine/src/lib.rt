@@ -26,6 +26,3 @@ pub use opened::Opened;
 pub use seats::{CoreSide, JournalSide, Pass};
 pub use spine::{MOST_PASSES, Spine};
 pub use view::{Entry, Law, Role, View};
-
-#[cfg(test)]
-mod tests;

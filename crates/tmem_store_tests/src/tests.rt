@@ -3,5 +3,6 @@ mod batches;
 mod counting;
 mod disks;
 mod failures;
+mod files;
 mod images;
 mod journals;

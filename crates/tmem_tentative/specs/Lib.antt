@@ -2,7 +2,6 @@ pub mod CursorFacts
 pub mod Cursors
 pub mod Ends
 pub mod Eval
-pub mod Examples
 pub mod Fits
 pub mod Laws
 pub mod Logs

@@ -19,6 +19,3 @@ pub use attempt::{Attempt, Ending, Outcome, Progress, Reads};
 pub use cursor::Cursor;
 pub use evaluation::evaluate;
 pub use laws::or_else_laws;
-
-#[cfg(test)]
-mod tests;

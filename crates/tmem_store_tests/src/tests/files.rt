@@ -1,11 +1,12 @@
+//! A file as a device.
 ghost use Rattle.std.specs.Prelude.{◌≡◌, ◌+◌, ◌≤◌, length};
 
-use crate::{FileDisk, NewFile};
 use std::io::ErrorKind;
 use std::path::PathBuf;
 use std::test::Fail;
 use std::{env, fs};
 use tmem_disk::{DeviceFault, Disk, Fault};
+use tmem_file::{FileDisk, NewFile};
 
 const SIZE: u64 = 10_000;
 

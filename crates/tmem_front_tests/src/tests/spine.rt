@@ -1,13 +1,13 @@
-// Each call once, what no clause says, and threads.
+//! The calls of the spine: each once, what no clause says, and threads.
 ghost use Rattle.std.specs.Prelude.{◌≡◌, ◌+◌, ◌<◌, ◌≤◌, ◌^◌, [], length};
 ghost use Rattle.tmem_spine.specs.History.{count};
 ghost use Rattle.tmem_spine.specs.Views.{new_core, new_journal};
 
-use super::*;
 use std::marker::Brand;
 use std::test::Fail;
 use std::thread::{Threads, join};
 use tmem_record::Effect;
+use tmem_spine::{CoreSide, JournalSide, Naming, Opened, Pass, Spine};
 
 const START: u64 = 5;
 

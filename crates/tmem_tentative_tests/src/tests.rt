@@ -7,11 +7,11 @@ ghost use Rattle.tmem_tentative.specs.Cursors.{IsAt};
 
 mod script_trees;
 
-use crate::{Attempt, Cursor, Ending, Outcome, Reads, evaluate};
 use std::alloc::{AllocError, Global};
 use std::cell::Cell;
 use std::test::Fail;
 use tmem_disk::{Fault, Name};
+use tmem_tentative::{Attempt, Cursor, Ending, Outcome, Reads, evaluate};
 use tmem_tree::{Plan, StepAnswer, StoredSteps, Tx};
 
 /// One stored step, of one argument, that always retries and counts its calls.
@@ -41,7 +41,7 @@ impl StoredSteps for CountedRetry {
     }
 
     ghost use Rattle.std.proofs.Common.{lit≤, refl};
-    ghost use Rattle.tmem_tentative.specs.Examples.{one_small};
+    ghost use Rattle.tmem_tentative_tests.specs.Examples.{one_small};
 
     ghost few = { λ _. lit≤ tt };
 

@@ -1,13 +1,13 @@
 //! Trees of each shape that the scripts of this repository begin, each evaluated from the start and by a cursor.
 
 ghost use Rattle.std.specs.Prelude.{◌≡◌, ◌∷◌, [], ℕ, ℤ, List, length};
-ghost use Rattle.tmem_tentative.specs.Examples.{arithmetic, sum_of, difference_of, at_least};
+ghost use Rattle.tmem_tentative_tests.specs.Examples.{arithmetic, sum_of, difference_of, at_least};
 
 use super::ended_alike;
-use crate::{Attempt, Ending};
 use std::alloc::{AllocError, Global};
 use std::test::Fail;
 use tmem_disk::{Fault, Name};
+use tmem_tentative::{Attempt, Ending};
 use tmem_tree::{Plan, StepAnswer, StoredSteps, Tx};
 
 /// The steps that scripts name: a sum, a difference, and a number once it is at least another.
@@ -79,7 +79,7 @@ impl StoredSteps for Arithmetic {
     }
 
     ghost use Rattle.std.proofs.Common.{lit≤, refl};
-    ghost use Rattle.tmem_tentative.specs.Examples.{three_small};
+    ghost use Rattle.tmem_tentative_tests.specs.Examples.{three_small};
 
     ghost few = { λ _. lit≤ tt };
 
