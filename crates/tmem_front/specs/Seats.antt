@@ -28,13 +28,13 @@ pub record IsCoreOf {T : Type 0} {t : _} (start : ℕ) (opening : State) (progra
   pub sound : AreSound program opening v.accepted
 
 -- more than so many are accepted, or the front is shut
-abbrev pub HasMoreThan : ℕ → ℕ → CoreSeatView → Type 0
-HasMoreThan start n v = (n < count start v.accepted) ⊎ (v.is_shut ≡ true)
+abbrev pub HasMoreOrShut : ℕ → ℕ → CoreSeatView → Type 0
+HasMoreOrShut start n v = (n < count start v.accepted) ⊎ (v.is_shut ≡ true)
 
 -- more than so many are known durable, or the front is shut
-abbrev pub HasFlushed : ℕ → CoreSeatView → Type 0
-HasFlushed n v = (n < v.trimmed) ⊎ (v.is_shut ≡ true)
+abbrev pub HasFlushedOrShut : ℕ → CoreSeatView → Type 0
+HasFlushedOrShut n v = (n < v.trimmed) ⊎ (v.is_shut ≡ true)
 
 -- a transaction waits to be durable, or the front is shut
-abbrev pub HasWork : ℕ → CoreSeatView → Type 0
-HasWork start v = (v.trimmed < count start v.accepted) ⊎ (v.is_shut ≡ true)
+abbrev pub HasWorkOrShut : ℕ → CoreSeatView → Type 0
+HasWorkOrShut start v = (v.trimmed < count start v.accepted) ⊎ (v.is_shut ≡ true)

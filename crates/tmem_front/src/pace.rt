@@ -5,11 +5,10 @@ use std::rt::Clock;
 use std::thread::yield_now;
 use std::time::{Duration, Instant};
 
-// So long others are let in before a flush: much less than a sync takes, and enough for a caller that was just woken to commit
-// again.
+// How long other threads are let in: much less than a sync takes, and enough for a caller that was just woken to commit again.
 const GATHERING_MICROS: u64 = 10;
 
-// No clock keeps a flusher from its flush by standing still.
+// A clock that stands still must not keep a flusher from its flush.
 const MOST_YIELDS: u32 = 1000;
 
 /// How a flusher goes on.

@@ -1,5 +1,5 @@
 // The calls that wait for other threads.
-ghost use Rattle.std.specs.Prelude.{◌≡◌, ◌≢◌, ◌<◌, false, [], Ok, Err, IfErr, OnOk, length, All, IsTrue};
+ghost use Rattle.std.specs.Prelude.{◌≡◌, ◌≢◌, ◌<◌, ◌≤◌, false, [], Ok, Err, IfOk, IfErr, OnOk, length, All, IsTrue};
 ghost use Rattle.tmem_record.specs.declared.effect.Effect.{Effect as EffectOf};
 ghost use Rattle.tmem_core.specs.SettleAnswer.{accepted_by};
 ghost use Rattle.tmem_record.specs.Prefix.{IsPrefix};
@@ -9,7 +9,7 @@ ghost use Rattle.tmem_record.specs.Names.{has_name};
 ghost use Rattle.tmem_spine.specs.History.{count};
 ghost use Rattle.std.specs.Sync.Mutex.{mutex_guard_value};
 ghost use Rattle.tmem_front.specs.Flushing.{IsFlusherRefusal};
-ghost use Rattle.tmem_front.specs.Seats.{HasMoreThan, HasFlushed, HasWork};
+ghost use Rattle.tmem_front.specs.Seats.{HasMoreOrShut, HasFlushedOrShut, HasWorkOrShut};
 ghost use Rattle.tmem_front.specs.Settling.{Settles, SettlesAtLast};
 
 use crate::core_seat::CoreSeat;
@@ -26,7 +26,7 @@ use tmem_spine::Pass as SpinePass;
 use tmem_tentative::Attempt;
 use tmem_tree::{Plan, StoredSteps};
 
-// So often a caller looks before it sleeps. To wake a thread takes about as long as a flush of a fast disk.
+// How often a caller looks before it sleeps. To wake a thread takes about as long as a flush of a fast disk.
 const LOOKS: u32 = 100;
 
 impl<D: Disk + Drop, N: StoreNaming, T: Invariants + Drop, S: StoredSteps + Drop> Front<
@@ -92,7 +92,7 @@ impl<D: Disk + Drop, N: StoreNaming, T: Invariants + Drop, S: StoredSteps + Drop
         mut core: MutexGuard<'a, CoreSeat<N, T>>,
         at: u64,
     ) -> MutexGuard<'a, CoreSeat<N, T>>
-        ensures { HasMoreThan N.name.start at (mutex_guard_value result) }
+        ensures { HasMoreOrShut N.name.start at (mutex_guard_value result) }
     {
         for _ in rt.forever() {
             if at < core.count() || core.is_shut() {
@@ -151,7 +151,7 @@ impl<D: Disk + Drop, N: StoreNaming, T: Invariants + Drop, S: StoredSteps + Drop
         mut core: MutexGuard<'a, CoreSeat<N, T>>,
         number: u64,
     ) -> MutexGuard<'a, CoreSeat<N, T>>
-        ensures { HasFlushed number (mutex_guard_value result) }
+        ensures { HasFlushedOrShut number (mutex_guard_value result) }
     {
         for _ in rt.forever() {
             if number < core.durable() || core.is_shut() {
@@ -188,7 +188,7 @@ impl<D: Disk + Drop, N: StoreNaming, T: Invariants + Drop, S: StoredSteps + Drop
         rt: &R,
         mut core: MutexGuard<'a, CoreSeat<N, T>>,
     ) -> MutexGuard<'a, CoreSeat<N, T>>
-        ensures { HasWork N.name.start (mutex_guard_value result) }
+        ensures { HasWorkOrShut N.name.start (mutex_guard_value result) }
     {
         for _ in rt.forever() {
             if core.has_waiting() || core.is_shut() {
@@ -201,6 +201,7 @@ impl<D: Disk + Drop, N: StoreNaming, T: Invariants + Drop, S: StoredSteps + Drop
 
     /// Flushes once, and where the log is full once more after a checkpoint. Refused as these are.
     pub fn flush_with_room<R: Wait>(&self, rt: &R) -> Result<u64, Fault>
+        ensures least { IfOk result (λ number. N.name.start ≤ number) }
         ensures refused { IfErr result IsFlusherRefusal }
     {
         match self.flush_once(rt) {

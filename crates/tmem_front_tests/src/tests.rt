@@ -3,6 +3,7 @@ ghost use Rattle.std.specs.Prelude.{◌≡◌, length, IfOk};
 ghost use Rattle.tmem_front.specs.Held.{found_of, spine_of};
 ghost use Rattle.tmem_front_tests.specs.Examples.{adding};
 
+mod endings;
 mod failures;
 mod flushers;
 mod hold_disk;

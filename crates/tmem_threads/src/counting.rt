@@ -21,8 +21,9 @@ pub(crate) trait Counting {
     fn add<R: Wait>(&self, rt: &R, alloc: Global, turns: u16) -> Result<u64, Fault>
         ensures { IfOk result (λ committed. committed ≤ turns) };
 
-    /// Makes durable what is committed, until the store is shut. It is shut where that fails.
-    fn flush<R: Wait + Clock>(&self, rt: &R, is_shared: bool) -> Result<(), Fault>
+    /// Makes durable what is committed by one caller or by several, until the store is shut. It is shut at the end, also after a
+    /// fault.
+    fn flush<R: Wait + Clock>(&self, rt: &R, has_several: bool) -> Result<(), Fault>
         ensures { IfErr result IsFlusherRefusal };
 
     /// Nothing is settled any more.
@@ -37,8 +38,8 @@ impl<D: Disk + Drop, N: StoreNaming, T: Invariants + Drop, S: StoredSteps + Drop
         add_turns(rt, self, &mut pass, &plan, turns)
     }
 
-    fn flush<R: Wait + Clock>(&self, rt: &R, is_shared: bool) -> Result<(), Fault> {
-        let flushed = self.run_flusher(rt, &mut Gathering::new(rt, is_shared));
+    fn flush<R: Wait + Clock>(&self, rt: &R, has_several: bool) -> Result<(), Fault> {
+        let flushed = self.run_flusher(rt, &mut Gathering::new(rt, has_several));
         self.shut(rt);
         flushed
     }

@@ -32,8 +32,8 @@ pub(crate) fn work_and_flush<F: Counting + Sync, R: Threads + Wait + Clock + Syn
         |scope| -> Result<u64, Fault>
             ensures { IfOk result (λ committed. committed ≤ work.workers * work.turns) }
         {
-            let is_shared = work.workers > 1;
-            let Ok(flusher) = scope.spawn(move || store.flush(rt, is_shared)) else {
+            let has_several = work.workers > 1;
+            let Ok(flusher) = scope.spawn(move || store.flush(rt, has_several)) else {
                 return Err(Fault::Memory);
             };
             let committed = work_all(rt, alloc, store, work);
