@@ -16,6 +16,11 @@ pub enum BenchError {
 }
 
 impl fmt::Display for BenchError {
+    ghost use Rattle.std.specs.Prelude.{Some};
+    ghost use Rattle.tmem_bench.specs.Printed.{error_text};
+
+    ghost output = { λ error. Some (error_text error) };
+
     fn fmt<W: fmt::Write>(&self, f: &mut fmt::Formatter<W>) -> fmt::Result {
         match self {
             BenchError::Refused(fault) => write!(f, "{fault}"),
@@ -26,18 +31,35 @@ impl fmt::Display for BenchError {
 }
 
 impl From<Fault> for BenchError {
+    ghost use Rattle.std.specs.Prelude.{◌≡◌};
+    ghost use Rattle.tmem_bench.specs.declared.error.BenchError.TheVariants.{Refused};
+
+    ghost from_gives = { λ fault error. error ≡ Refused fault };
+
     fn from(fault: Fault) -> BenchError {
         BenchError::Refused(fault)
     }
 }
 
 impl From<AllocError> for BenchError {
+    ghost use Rattle.std.specs.Prelude.{◌≡◌};
+    ghost use Rattle.tmem_bench.specs.declared.error.BenchError.TheVariants.{Refused};
+    ghost use Rattle.tmem_disk.specs.declared.fault.Fault.TheVariants.{Memory};
+
+    ghost from_gives = { λ _ error. error ≡ Refused Memory };
+
     fn from(_: AllocError) -> BenchError {
         BenchError::Refused(Fault::Memory)
     }
 }
 
 impl<T: Drop> From<AllocFailed<T>> for BenchError {
+    ghost use Rattle.std.specs.Prelude.{◌≡◌};
+    ghost use Rattle.tmem_bench.specs.declared.error.BenchError.TheVariants.{Refused};
+    ghost use Rattle.tmem_disk.specs.declared.fault.Fault.TheVariants.{Memory};
+
+    ghost from_gives = { λ _ error. error ≡ Refused Memory };
+
     fn from(_: AllocFailed<T>) -> BenchError {
         BenchError::Refused(Fault::Memory)
     }

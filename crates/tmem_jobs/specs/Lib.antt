@@ -1,2 +1,3 @@
 pub mod Accounts
+pub mod Figures
 pub mod Printed

@@ -1,5 +1,5 @@
 // Where a store is kept.
-ghost use Rattle.std.specs.Prelude.{◌≡◌, ◌≤◌, length, IfOk};
+ghost use Rattle.std.specs.Prelude.{◌≡◌, ◌≤◌, length, Ok, Err, IfOk, IfErr};
 
 use crate::figures::{Count, Figures};
 use std::alloc::AllocGlobal;
@@ -80,7 +80,10 @@ pub fn cleared<D: Disk, M: Medium<D>, R: Files<File = File>, X: Drop>(
     rt: &R,
     medium: &M,
     had: Result<X, BenchError>,
-) -> Result<X, BenchError> {
+) -> Result<X, BenchError>
+    ensures had { IfOk result (λ x. had ≡ Ok x) }
+    ensures failed { IfErr had (λ error. result ≡ Err error) }
+{
     let cleared = medium.clear(rt);
     let had = had?;
     cleared?;

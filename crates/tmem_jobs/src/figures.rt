@@ -1,5 +1,9 @@
 // What is counted, and how long it took.
-ghost use Rattle.std.specs.Prelude.{◌≡◌, ◌+◌, ◌<◌, ◌^◌};
+ghost use Rattle.std.specs.Prelude.{◌≡◌, ◌+◌, ◌<◌, ◌^◌, min};
+ghost use Rattle.std.specs.Duration.{as_nanos, max_nanos};
+ghost use Rattle.std.specs.Float.{binary64};
+ghost use Rattle.std.specs.Float.Ieee;
+ghost use Rattle.tmem_jobs.specs.Figures.{rate_of};
 
 use std::num::nearest_u64_to_f64;
 use std::time::Duration;
@@ -42,7 +46,9 @@ pub struct Figures {
 
 impl Figures {
     pub fn zero() -> Figures
-        ensures { result.count.operations ≡ 0 }
+        ensures operations { result.count.operations ≡ 0 }
+        ensures flushes { result.count.flushes ≡ 0 }
+        ensures time { as_nanos result.time ≡ 0 }
     {
         Figures {
             count: Count::zero(),
@@ -52,7 +58,8 @@ impl Figures {
 
     /// Of one that took so long.
     pub fn once(time: Duration) -> Figures
-        ensures { (result.count.operations ≡ 1) × (result.time ≡ time) }
+        ensures count { (result.count.operations ≡ 1) × (result.count.flushes ≡ 0) }
+        ensures time { result.time ≡ time }
     {
         let count = Count {
             operations: 1,
@@ -62,13 +69,24 @@ impl Figures {
     }
 
     /// How much is done in a second.
-    pub fn rate(self) -> f64 {
+    pub fn rate(self) -> f64
+        ensures { result ≡ rate_of self }
+    {
         nearest_u64_to_f64(self.count.operations) / self.time.as_secs_f64()
+    }
+
+    /// How much is done in a second, divided by the same of the other.
+    pub fn ratio(self, other: Figures) -> f64
+        ensures { result ≡ Ieee.div binary64 (rate_of self) (rate_of other) }
+    {
+        self.rate() / other.rate()
     }
 
     /// Of both times together.
     pub fn with(self, other: Figures) -> Figures
-        ensures { self.count.operations + other.count.operations < 2 ^ 64 → result.count.operations ≡ self.count.operations + other.count.operations }
+        ensures operations { self.count.operations + other.count.operations < 2 ^ 64 → result.count.operations ≡ self.count.operations + other.count.operations }
+        ensures flushes { self.count.flushes + other.count.flushes < 2 ^ 64 → result.count.flushes ≡ self.count.flushes + other.count.flushes }
+        ensures time { as_nanos result.time ≡ min (as_nanos self.time + as_nanos other.time) max_nanos }
     {
         Figures {
             count: self.count.with(other.count),

@@ -1,5 +1,6 @@
 // What the callers of a store do.
-ghost use Rattle.std.specs.Prelude.{◌<◌};
+ghost use Rattle.std.specs.Prelude.{◌≡◌, ◌<◌};
+ghost use Rattle.tmem_jobs.specs.Figures.{callers_of, stride_of};
 
 use std::alloc::{AllocError, Global};
 use tmem_disk::{Fault, Name};
@@ -58,7 +59,8 @@ impl Act {
 
     /// After so many a caller waits until the last of them is durable, and looks at the clock.
     pub fn stride(self) -> u64
-        ensures { 0 < result }
+        ensures stride { result ≡ stride_of self }
+        ensures least { 0 < result }
     {
         match self {
             Act::Add | Act::Transfer => 1,
@@ -87,7 +89,9 @@ pub enum Callers {
 
 impl Callers {
     /// How many there are.
-    pub fn count(self) -> usize {
+    pub fn count(self) -> usize
+        ensures { result ≡ callers_of self }
+    {
         match self {
             Callers::Alone => 1,
             Callers::Beside(callers) => callers,

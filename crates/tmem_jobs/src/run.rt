@@ -37,7 +37,6 @@ struct Line {
 
 impl fmt::Display for Line {
     fn fmt<W: fmt::Write>(&self, f: &mut fmt::Formatter<W>) -> fmt::Result {
-        let (had, beside) = (self.had.rate(), self.beside.rate());
         write!(f, "{:<8}{:<25}", self.device, self.name)?;
         write!(
             f,
@@ -45,8 +44,13 @@ impl fmt::Display for Line {
             self.callers.count(),
             self.callers.flusher()
         )?;
-        write!(f, "{had:>15.0}{:>9}", self.had.count.flushes)?;
-        write!(f, "{beside:>12.0}{:>8.2}", had / beside)
+        write!(f, "{:>15.0}{:>9}", self.had.rate(), self.had.count.flushes)?;
+        write!(
+            f,
+            "{:>12.0}{:>8.2}",
+            self.beside.rate(),
+            self.had.ratio(self.beside)
+        )
     }
 }
 
@@ -169,4 +173,42 @@ fn line_of_openings<R: Clock + Files<File = File> + AllocGlobal + Threads + Wait
         beside,
     };
     Ok(format!(in rt.alloc(); "{line}")?)
+}
+
+#[cfg(test)]
+mod tests {
+    use super::Line;
+    use crate::figures::{Count, Figures};
+    use crate::jobs::Callers;
+    use std::test::Fail;
+    use std::time::Duration;
+
+    #[test]
+    fn a_line_has_a_column_for_each_figure(rt: HostRuntime) -> Result<(), Fail> {
+        let line = Line {
+            device: "file",
+            name: "add, each awaited",
+            callers: Callers::Beside(16),
+            had: Figures {
+                count: Count {
+                    operations: 600,
+                    flushes: 150,
+                },
+                time: Duration::from_secs(2),
+            },
+            beside: Figures {
+                count: Count {
+                    operations: 100,
+                    flushes: 0,
+                },
+                time: Duration::from_millis(500),
+            },
+        };
+        let text = format!(in rt.alloc(); "{line}")?;
+        // 300 a second, in 150 flushes, beside 200 a second
+        let columns =
+            "file    add, each awaited             16  one                  300      150         200    1.50";
+        assert!(rt; text.as_str() == columns, "{text}");
+        Ok(())
+    }
 }

@@ -1,5 +1,6 @@
 // Threads that share a store.
 ghost use Rattle.std.specs.Prelude.{◌≡◌, ◌+◌, ◌<◌, ◌^◌, true};
+ghost use Rattle.tmem_jobs.specs.Figures.{is_committed_or_seen};
 ghost use Rattle.tmem_tree.specs.Plans.{FitsSteps, FitsVariables, FitsNames};
 
 use crate::figures::{Count, Figures};
@@ -147,7 +148,9 @@ impl<D: Disk + Drop, N: StoreNaming, T: Invariants + Drop, S: StoredSteps + Drop
 }
 
 // Whether a transaction did what it was to do.
-fn is_done(settled: &Settled) -> bool {
+fn is_done(settled: &Settled) -> bool
+    ensures { result ≡ is_committed_or_seen settled.now }
+{
     matches!(settled, Settled::Committed { .. } | Settled::Seen { .. })
 }
 

@@ -3,10 +3,11 @@ use Rattle.std.proofs.Common.{◌≡◌, ℕ, ◌<◌, ◌≤◌, ◌+◌, ◌*�
 use Rattle.std.specs.Prelude.{IfOk, IsOk, All}
 use Rattle.std.specs.Result.{result_unwrap_or}
 use Rattle.std.proofs.lemmas.Nat.{mul-le}
+use Rattle.std.proofs.lemmas.Result.{IfOk-weaker}
 use Rattle.std.proofs.lemmas.List.Elements.{All-more, All-weaker}
 use Rattle.std.proofs.lemmas.List.Sums.{sum_by-le, sum_by_more}
 use Rattle.tmem_disk.specs.declared.fault.Fault.{Fault}
-use Rattle.tmem_threads.specs.Counting.{sum_of}
+use Rattle.tmem_threads.specs.Counting.{AreCounted, sum_of}
 
 -- the number of an answer
 abbrev number : Result ℕ Fault → ℕ
@@ -20,6 +21,18 @@ at_most turns (Err f) most = omega arith
 pub sum_at_most : (answers : List (Result ℕ Fault)) (turns : ℕ) → All (λ r. IfOk r (λ n. n ≤ turns)) answers → sum_of answers ≤ length answers * turns
 sum_at_most answers turns each =
     sum_by-le number turns answers (All-weaker (λ (r : Result ℕ Fault). IfOk r (λ n. n ≤ turns)) (λ (r : Result ℕ Fault). number r ≤ turns) (at_most turns) answers each)
+
+-- so many workers, of which each answered so much at most
+pub counted_at_most : (IsAnswer : ℕ → Type 0) (workers turns committed : ℕ) → ((n : ℕ) → IsAnswer n → n ≤ turns) → AreCounted IsAnswer workers committed → committed ≤ workers * turns
+counted_at_most IsAnswer workers turns committed most counted =
+    let each = All-weaker (λ (r : Result ℕ Fault). IfOk r IsAnswer) (λ (r : Result ℕ Fault). IfOk r (λ n. n ≤ turns)) (λ r is. IfOk-weaker r _ _ most is) counted.answers counted.each in
+    let sum : sum_of counted.answers ≤ workers * turns = subst (λ (n : ℕ). sum_of counted.answers ≤ n * turns) counted.many (sum_at_most counted.answers turns each) in
+    subst (λ (n : ℕ). n ≤ workers * turns) (sym counted.sum) sum
+
+-- what was answered, where a sum is
+pub are_counted : (IsAnswer : ℕ → Type 0) (answers : List (Result ℕ Fault)) (workers : ℕ) (r : Result ℕ Fault) → length answers ≡ workers → All (λ answer. IfOk answer IsAnswer) answers → IfOk r (λ n. n ≡ sum_of answers) → IfOk r (λ _. All (λ answer. IsOk answer) answers) → IfOk r (AreCounted IsAnswer workers)
+are_counted IsAnswer answers workers (Ok n) many each sum all = record { answers = answers; many = many; all = all; each = each; sum = sum }
+are_counted IsAnswer answers workers (Err f) many each sum all = tt
 
 -- a sum of some of them, and the next one
 pub sum_more : (answers : List (Result ℕ Fault)) (i n : ℕ) (r : Result ℕ Fault) → i < length answers → r ≡ get_or answers i r → r ≡ Ok n → sum_of (take i answers) + n ≡ sum_of (take (i + 1) answers)

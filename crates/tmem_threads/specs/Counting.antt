@@ -1,5 +1,5 @@
 -- What workers that count up did, as far as a pass and a store tell.
-use Rattle.std.specs.Prelude.{◌≡◌, ◌<◌, ◌≤◌, ◌*◌, ◌++◌, ℕ, Bool, List, Result, length, All, Option, Some, None, if◌then◌else◌}
+use Rattle.std.specs.Prelude.{◌≡◌, ◌<◌, ◌≤◌, ◌*◌, ◌++◌, ℕ, Bool, List, Result, length, All, IsOk, IfOk, Option, Some, None, if◌then◌else◌}
 use Rattle.std.specs.Result.{result_unwrap_or}
 use Rattle.std.specs.List.{sum_by}
 use Rattle.tmem_builtins.specs.Builtins.{builtin_steps, builtin_names, builtin_tests}
@@ -40,6 +40,14 @@ once is = if is then 1 else 0
 -- what the workers committed together, where each was answered its own number
 abbrev pub sum_of : List (Result ℕ Fault) → ℕ
 sum_of answers = sum_by (λ answer. result_unwrap_or answer 0) answers
+
+-- so many workers were each answered a number like that, and these add up to this one
+pub record AreCounted (IsAnswer : ℕ → Type 0) (workers committed : ℕ) : Type 0 where
+  pub answers : List (Result ℕ Fault)
+  pub many : length answers ≡ workers
+  pub all : All (λ answer. IsOk answer) answers
+  pub each : All (λ answer. IfOk answer IsAnswer) answers
+  pub sum : committed ≡ sum_of answers
 
 -- What is told of a store that was opened in this state: no more was committed than was to be, variable 0 has a value that it may have,
 -- and at least as many transactions are durable as the state counts. Where nothing is registered in that state, any value may be.

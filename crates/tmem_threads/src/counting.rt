@@ -1,5 +1,5 @@
 // What the threads do with the store that they share.
-ghost use Rattle.std.specs.Prelude.{◌≡◌, ◌≤◌, IfOk, IfErr};
+ghost use Rattle.std.specs.Prelude.{◌≡◌, ◌≤◌, ℕ, IfOk, IfErr};
 ghost use Rattle.tmem_disk.specs.declared.fault.Fault.TheVariants as fault;
 ghost use Rattle.tmem_front.specs.Flushing.{IsFlusherRefusal};
 ghost use Rattle.tmem_tree.specs.Plans.{FitsSteps, FitsVariables, FitsNames};
@@ -16,10 +16,16 @@ use tmem_tree::{Plan, StoredSteps, Tx};
 
 /// What the threads do with a store. The functions that start threads know no more of it.
 pub(crate) trait Counting {
+    /// One who was to add so often may be answered that so many were committed.
+    ghost is_answer: { Self → ℕ → ℕ → Type 0 };
+
+    /// No more than were to be.
+    ghost most: { (store : Self) (turns committed : ℕ) → is_answer store turns committed → committed ≤ turns };
+
     /// Adds 1 to variable 0 so often, each time by a transaction that is awaited until it is durable. Answers how many of them
     /// were committed.
     fn add<R: Wait>(&self, rt: &R, alloc: Global, turns: u16) -> Result<u64, Fault>
-        ensures { IfOk result (λ committed. committed ≤ turns) };
+        ensures { IfOk result (is_answer self.now turns) };
 
     /// Makes durable what is committed by one caller or by several, until the store is shut. It is shut at the end, also after a
     /// fault.
@@ -32,6 +38,10 @@ pub(crate) trait Counting {
 
 impl<D: Disk + Drop, N: StoreNaming, T: Invariants + Drop, S: StoredSteps + Drop> Counting
     for Front<D, N, T, S> {
+    ghost is_answer = { λ front turns committed. committed ≤ turns };
+
+    ghost most = { λ front turns committed most. most };
+
     fn add<R: Wait>(&self, rt: &R, alloc: Global, turns: u16) -> Result<u64, Fault> {
         let mut pass = self.pass(rt)?;
         let plan = self.plan(add_one(alloc)?)?;

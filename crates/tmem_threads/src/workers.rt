@@ -1,6 +1,6 @@
 // The threads.
-ghost use Rattle.std.specs.Prelude.{◌≡◌, ◌<◌, ◌≤◌, ◌*◌, ◌^◌, Err, IsOk, IfOk, IfErr, All, Contains, length};
-ghost use Rattle.tmem_threads.specs.Counting.{sum_of as sum};
+ghost use Rattle.std.specs.Prelude.{◌≡◌, ◌<◌, ◌^◌, Err, IsOk, IfOk, IfErr, All, Contains};
+ghost use Rattle.tmem_threads.specs.Counting.{AreCounted, sum_of as sum};
 
 use crate::counting::Counting;
 use std::alloc::Global;
@@ -24,13 +24,13 @@ pub(crate) fn work_and_flush<F: Counting + Sync, R: Threads + Wait + Clock + Syn
     store: &F,
     work: Work,
 ) -> Result<u64, Fault>
-    ensures { IfOk result (λ committed. committed ≤ work.workers * work.turns) }
+    ensures { IfOk result (AreCounted (F.is_answer store.now work.turns) work.workers) }
 {
     thread::scope(
         thread::scope_env(),
         rt,
         |scope| -> Result<u64, Fault>
-            ensures { IfOk result (λ committed. committed ≤ work.workers * work.turns) }
+            ensures { IfOk result (AreCounted (F.is_answer store.entry.now work.turns) work.workers) }
         {
             let has_several = work.workers > 1;
             let Ok(flusher) = scope.spawn(move || store.flush(rt, has_several)) else {
@@ -50,7 +50,7 @@ fn work_all<F: Counting + Sync, R: Threads + Wait + Sync>(
     store: &F,
     work: Work,
 ) -> Result<u64, Fault>
-    ensures { IfOk result (λ committed. committed ≤ work.workers * work.turns) }
+    ensures { IfOk result (AreCounted (F.is_answer store.now work.turns) work.workers) }
 {
     let turns = work.turns;
     let answers = map_indices(
@@ -58,7 +58,7 @@ fn work_all<F: Counting + Sync, R: Threads + Wait + Sync>(
         alloc,
         usize::from(work.workers),
         &|_| -> Result<u64, Fault>
-            ensures { IfOk result (λ committed. committed ≤ turns) }
+            ensures { IfOk result (F.is_answer store.entry.now turns) }
         { store.add(rt, alloc, turns) },
     )?;
     sum_of(answers.as_slice())

@@ -7,6 +7,7 @@ use Rattle.tmem_front.specs.Held.{found_of}
 use Rattle.tmem_front.specs.Histories.{IsPossibleValue}
 use Rattle.tmem_front.proofs.Laws.{front_sync}
 use Rattle.tmem_threads.specs.Counting.{counting}
+use Rattle.tmem_threads.proofs.Summed.{counted_at_most}
 use denote.Param.Send.{sendable}
 use Rattle.tmem_threads.proofs.store.count_in.Goals as goal
 
@@ -19,7 +20,7 @@ returns g c =
     let start = g.N.Naming.name.start in
     let told = c.last_look.ensures in
     let new = c.in_ok-pass.ensures.pass.0 in
-    let committed = c.in_ok-committed.ensures in
+    let committed = counted_at_most (λ n. n ≤ c.args.work.turns) c.args.work.workers c.args.work.turns c.in_ok-committed.committed (λ n most. most) c.in_ok-committed.ensures in
     let value : IsPossibleValue counting g.N.StoreNaming.opening 0 c.last_look.result.value = subst (λ (p : Program). IsPossibleValue p g.N.StoreNaming.opening 0 c.last_look.result.value) c.requires.program told.value in
     let begun : count start c.in_ok-pass.pass.seen ≡ start = ap (λ (v : PassView). count start v.seen) new ∙ (omega arith) in
     let named : start ≡ found.count = ap (λ (n : SpineName). n.start) (sym c.requires.spine) ∙ c.args.opened.starts in
