@@ -50,7 +50,8 @@ pub record AreCounted (IsAnswer : ℕ → Type 0) (workers committed : ℕ) : Ty
   pub sum : committed ≡ sum_of answers
 
 -- What is told of a store that was opened in this state: no more was committed than was to be, variable 0 has a value that it may have,
--- and at least as many transactions are durable as the state counts. Where nothing is registered in that state, any value may be.
+-- and at least as many transactions are durable as the state counts. Where nothing is registered in that state, any value may be. So
+-- for a caller that does not know the state, as one of `count_up`, this binds the first number alone: tests see the other two.
 pub record AreTotals (opening : State) (work : Work) (t : Totals) : Type 0 where
   pub most : t.committed ≤ work.workers * work.turns
   pub value : IsPossibleValue counting opening 0 t.value
