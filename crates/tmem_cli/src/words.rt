@@ -72,6 +72,7 @@ fn conclude<E: Write>(outcome: Result<(), Failure>, err: &mut E) -> u8
 /// Answers the status.
 fn answer<W: Write, E: Write>(refusal: &clap::Error, out: &mut W, err: &mut E) -> u8
     ensures request { result ≤ 1 → IsRequest (kind_of refusal.now) }
+    ensures given { IsRequest (kind_of refusal.now) → result ≤ 1 }
     ensures refused { ¬ IsRequest (kind_of refusal.now) → result ≡ 2 }
     ensures most { result ≤ 2 }
     ensures untold { result ≡ 0 → err.new ≡ err.old }

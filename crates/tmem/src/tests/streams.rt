@@ -9,6 +9,9 @@ const FAILED: &str = "tmem: output failed\n";
 
 const UNREADABLE: &str = "tmem: cannot read script\n";
 
+/// What one worker of one turn prints.
+const COUNTED_OUT: &str = "committed 1\nvalue 1\ndurable 1\n";
+
 /// Gives its bytes and then fails.
 #[derive(Drop)]
 struct Cut<'a>(&'a [u8]);
@@ -114,13 +117,19 @@ fn a_script_that_cannot_be_read(rt: HostRuntime) -> Result<(), Fail> {
 
 #[test]
 fn output_that_fails(rt: HostRuntime) -> Result<(), Fail> {
-    for room in [0, 1, 9, 20, FIRST_OUT.len() - 1, FIRST_OUT.len()] {
-        let mut out = Narrow { room };
-        let mut err = Vec::new(rt.alloc());
-        let words = with_name(rt.alloc(), &["run"])?;
-        let status = run_words(&rt, words, &mut FIRST.as_bytes(), &mut out, &mut err);
-        assert_eq!(rt; status, 1, "with room for {room}");
-        assert!(rt; err.as_slice() == FAILED.as_bytes(), "with room for {room}");
+    let table: [(&[&str], &str); 2] = [
+        (&["run"], FIRST_OUT),
+        (&["threads", "1", "1"], COUNTED_OUT),
+    ];
+    for (words, text) in table {
+        for room in [0, 1, 9, 20, text.len() - 1, text.len()] {
+            let mut out = Narrow { room };
+            let mut err = Vec::new(rt.alloc());
+            let words = with_name(rt.alloc(), words)?;
+            let status = run_words(&rt, words, &mut FIRST.as_bytes(), &mut out, &mut err);
+            assert_eq!(rt; status, 1, "with room for {room}");
+            assert!(rt; err.as_slice() == FAILED.as_bytes(), "with room for {room}");
+        }
     }
     let mut err = Vec::new(rt.alloc());
     let words = with_name(rt.alloc(), &["--help"])?;
