@@ -1,5 +1,6 @@
 //! The program as its user sees it: words and input go in, and a status and two texts come out.
 
+mod jobs;
 mod scripts;
 mod stores;
 mod streams;

@@ -2,7 +2,7 @@
 //!
 //! `jobs` says what callers do, `service` lets threads do it beside a flusher, `store` opens a store for that, `device`
 //! makes its device, `opening` opens a store again and again, `figures` counts, and `run` runs every job and prints the table. What
-//! is timed is beside what the same device does by two syncs alone.
+//! is timed is beside what the same device does by two syncs alone. A `Line` of the table is public for its test, in crate `tmem`.
 #![tactic(auto)]
 
 mod device;
@@ -13,5 +13,7 @@ mod run;
 mod service;
 mod store;
 
-pub use run::run_jobs;
+pub use figures::{Count, Figures};
+pub use jobs::Callers;
+pub use run::{Line, run_jobs};
 pub use tmem_bench::BenchError;

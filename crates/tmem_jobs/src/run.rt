@@ -24,15 +24,15 @@ use tmem_journal::{Layout, format};
 const HEAD: &str =
     "device  job                      callers  flusher         a second  flushes      beside   ratio";
 
-// What a job did, beside something that the same device did in the same minute: two syncs alone, before the job and after it; or
-// for openings, two reads of the file.
+/// What a job did, beside something that the same device did in the same minute: two syncs alone, before the job and after it; or
+/// for openings, two reads of the file.
 #[derive(Drop)]
-struct Line {
-    device: &'static str,
-    name: &'static str,
-    callers: Callers,
-    had: Figures,
-    beside: Figures,
+pub struct Line {
+    pub device: &'static str,
+    pub name: &'static str,
+    pub callers: Callers,
+    pub had: Figures,
+    pub beside: Figures,
 }
 
 impl fmt::Display for Line {
@@ -173,42 +173,4 @@ fn line_of_openings<R: Clock + Files<File = File> + AllocGlobal + Threads + Wait
         beside,
     };
     Ok(format!(in rt.alloc(); "{line}")?)
-}
-
-#[cfg(test)]
-mod tests {
-    use super::Line;
-    use crate::figures::{Count, Figures};
-    use crate::jobs::Callers;
-    use std::test::Fail;
-    use std::time::Duration;
-
-    #[test]
-    fn a_line_has_a_column_for_each_figure(rt: HostRuntime) -> Result<(), Fail> {
-        let line = Line {
-            device: "file",
-            name: "add, each awaited",
-            callers: Callers::Beside(16),
-            had: Figures {
-                count: Count {
-                    operations: 600,
-                    flushes: 150,
-                },
-                time: Duration::from_secs(2),
-            },
-            beside: Figures {
-                count: Count {
-                    operations: 100,
-                    flushes: 0,
-                },
-                time: Duration::from_millis(500),
-            },
-        };
-        let text = format!(in rt.alloc(); "{line}")?;
-        // 300 a second, in 150 flushes, beside 200 a second
-        let columns =
-            "file    add, each awaited             16  one                  300      150         200    1.50";
-        assert!(rt; text.as_str() == columns, "{text}");
-        Ok(())
-    }
 }
