@@ -72,8 +72,8 @@ abbrev pub IsMadeAt : Option Text → Type 0
 IsMadeAt None = ⊤
 IsMadeAt (Some path) = (made : FileDisk) × IsMade VARS SLOTS made
 
--- Workers counted up in a store that was opened in some state, and three totals were printed, of which the first is at most what the
--- work allows.
+-- Workers counted up in a store that was opened in some state, and three totals were printed, of which the first is at
+-- most what the work allows.
 abbrev pub CountsUp : Work → Option Text → Option (List ℕ) → Option (List ℕ) → Type 0
 CountsUp work disk before after =
     IsMadeAt disk × ((opening : State) × (totals : Totals) × AreTotals opening work totals × Appends before after (line (totals_text totals)))

@@ -53,7 +53,8 @@ abbrev pub shown : ℕ → SessionStatus → State → List ℕ
 shown vars Gone state = text_of fault.Closed
 shown vars _ state = state_text vars state
 
--- At this point of a run the entry may be answered by this text, and leads to that point: an event by the line of a reply that is allowed, `show` by the line of the present state.
+-- At this point of a run the entry may be answered by this text, and leads to that point: an event by the line of a reply
+-- that is allowed, `show` by the line of the present state.
 abbrev pub Answers : Setting → WorldModel → Entry → List ℕ → WorldModel → Type 0
 Answers set m (entry.Event it) text m' = (reply : Reply) × Allows set m it.event reply m' × (text ≡ line (line_of reply))
 Answers set m entry.Show text m' = (text ≡ line (shown set.vars m.session (present set.program m))) × (m' ≡ m)
@@ -64,13 +65,16 @@ Prints set m [] text m' = (text ≡ []) × (m' ≡ m)
 Prints set m (e ∷ es) text m' =
     (mid : WorldModel) × (first : List ℕ) × (rest : List ℕ) × Answers set m e first mid × Prints set mid es rest m' × (text ≡ first ++ rest)
 
--- Whatever the closures mean, by their statement: from each point of a run that the old world is at, the entries may be answered by what was written meanwhile, and the new world is at the point that they lead to. It rests on the disk model, since an entry may open the device again.
+-- Whatever the closures mean, by their statement: from each point of a run that the old world is at, the entries may be
+-- answered by what was written meanwhile, and the new world is at the point that they lead to. It rests on the disk
+-- model, since an entry may open the device again.
 abbrev pub PlaysEntries : {D T S : Type 0} {d t s : _} → World D T S d t s → Option (List ℕ) → List Entry → World D T S d t s → Option (List ℕ) → Type 0
 PlaysEntries old before entries new after =
     (program : Program) → Means old program → (m : WorldModel) → Represents program old m → (view_of new).keeps_model
     → (m' : WorldModel) × (text : List ℕ) × Prints (setting_of old program) m entries text m' × Represents program new m' × Appends before after text
 
--- A whole script on a store that was opened in this state, at that position: the line of the opening, and then what its entries may be answered by from there, up to that point.
+-- A whole script on a store that was opened in this state, at that position: the line of the opening, and then what its
+-- entries may be answered by from there, up to that point.
 pub record PlaysFrom (vars slots : ℕ) (found : State) (position : Position) (entries : List Entry) (end : WorldModel) (before after : Option (List ℕ)) : Type 0 where
   pub text : List ℕ
   pub prints : Prints (builtin_setting vars slots) (opening found position 0) entries text end

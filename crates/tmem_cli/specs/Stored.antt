@@ -50,7 +50,8 @@ RefusesOver view vars slots old new f =
     (g : Fault) × (f ≡ failure.Refused g) × OpeningRefused (view old) vars slots (IsUnsound vars slots (view old) (view new) g) g (view new)
     × ((h : History) → IsStore (builtin_program vars) vars slots h (view old) → (view new).keeps_model → StaysStore vars slots h (view old) (view new))
 
--- The output failed. If the first device was a store with a history, some of the first entries were played on it, and it became this one.
+-- The output failed. If the first device was a store with a history, some of the first entries were played on it, and it
+-- became this one.
 abbrev pub StopsOver : {D : Type 0} → (D → DeviceView) → ℕ → ℕ → List Entry → D → D → Failure → Type 0
 StopsOver view vars slots entries old new f = (f ≡ failure.Output) × LeavesStore vars slots entries (view old) (view new)
 

@@ -20,8 +20,8 @@ const HEADER_SIZE: u64 = 2048;
 /// Writes an image of this generation and state to a copy: closes its gate where it reads open, and syncs; writes the
 /// pages, then the header without its gate, and syncs; opens the gate, and syncs. `Device` where a read failed, or a write
 /// of anything but the gate that is opened: no crash leaves the image. `Unknown` where a sync or the write of that gate
-/// failed: a crash leaves the image or not; where it was that write, the whole image stands behind the gate. Nothing outside the copy is written. The device is synced, and the image is of
-/// as many values as the layout has variables.
+/// failed: a crash leaves the image or not; where it was that write, the whole image stands behind the gate. Nothing
+/// outside the copy is written. The device is synced, and the image is of as many values as the layout has variables.
 pub fn write_spare<D: Disk>(
     disk: &mut D,
     layout: Layout,

@@ -5,7 +5,7 @@ use Rattle.tmem_bench.specs.Printed.{printed}
 
 -- the names of the columns
 abbrev pub head : List ℕ
-head = codes "device  job                      callers  flusher         a second  flushes      beside   ratio"
+head = codes "device  job                      callers  flusher         a second  flushes    baseline   ratio"
 
 -- an empty line, the names of the columns, and a line for each job
 abbrev pub table : List (List ℕ) → List (List ℕ)

@@ -22,17 +22,17 @@ use tmem_journal::{Layout, format};
 
 // The head of the table.
 const HEAD: &str =
-    "device  job                      callers  flusher         a second  flushes      beside   ratio";
+    "device  job                      callers  flusher         a second  flushes    baseline   ratio";
 
-/// What a job did, beside something that the same device did in the same minute: two syncs alone, before the job and after it; or
-/// for openings, two reads of the file.
+/// What a job did, and as its baseline what the same device did in the same minute: two syncs alone, before the job and after
+/// it; or for openings, two reads of the file.
 #[derive(Drop)]
 pub struct Line {
     pub device: &'static str,
     pub name: &'static str,
     pub callers: Callers,
     pub had: Figures,
-    pub beside: Figures,
+    pub baseline: Figures,
 }
 
 impl fmt::Display for Line {
@@ -48,8 +48,8 @@ impl fmt::Display for Line {
         write!(
             f,
             "{:>12.0}{:>8.2}",
-            self.beside.rate(),
-            self.had.ratio(self.beside)
+            self.baseline.rate(),
+            self.had.ratio(self.baseline)
         )
     }
 }
@@ -133,7 +133,7 @@ fn line_of_job<
         name: job.act.name(),
         callers: job.callers,
         had,
-        beside: before.with(after),
+        baseline: before.with(after),
     };
     Ok(format!(in rt.alloc(); "{line}")?)
 }
@@ -164,13 +164,13 @@ fn line_of_openings<R: Clock + Files<File = File> + AllocGlobal + Threads + Wait
     rt: &R,
     file: &InFile<'_>,
 ) -> Result<String, BenchError> {
-    let (had, beside) = open_again(rt, file)?;
+    let (had, baseline) = open_again(rt, file)?;
     let line = Line {
         device: file.name(),
-        name: "open, beside two reads",
+        name: "open 1024 variables",
         callers: Callers::Alone,
         had,
-        beside,
+        baseline,
     };
     Ok(format!(in rt.alloc(); "{line}")?)
 }

@@ -58,7 +58,8 @@ abbrev pub FindsEither : {D : Type 0} {d : _} → Result (Journal D d) (Fault ×
 FindsEither (Ok j) s t = ∥ (state_of j ≡ s) ⊎ (state_of j ≡ t) ∥₁
 FindsEither (Err e) s t = (e.0 ≡ fault.Memory) ⊎ (e.0 ≡ fault.Device)
 
--- Why opening was refused: by Geometry where the numbers do not fit the device; else memory or the device, or what its content is refused by.
+-- Why opening was refused: by Geometry where the numbers do not fit the device; else memory or the device, or what its
+-- content is refused by.
 pub record IsOpeningRefused (old : DeviceView) (vars slots : ℕ) (f : Fault) (new : DeviceView) : Type 0 where
   pub numbers : ¬ FitsOn vars slots old.capacity → f ≡ fault.Geometry
   pub why : IsWhy (λ g. new.keeps_model → FitsOn vars slots old.capacity → IsRefusedBy vars slots old.seen g) f

@@ -19,8 +19,8 @@ use Rattle.tmem_threads.specs.declared.workers.Work.{Work}
 abbrev pub counting : Program
 counting = record { steps = builtin_steps; names = builtin_names 4; tests = builtin_tests }
 
--- The pass has so many more transactions of its own, each of which it has seen to be durable, and it has seen at least as many to be
--- durable as before.
+-- The pass has so many more transactions of its own, each of which it has seen to be durable, and it has seen at least as
+-- many to be durable as before.
 pub record AddsDurable (start : ℕ) (old : PassView) (n : ℕ) (new : PassView) : Type 0 where
   pub added : List (ℕ × Effect)
   pub own : new.own ≡ old.own ++ added
@@ -49,9 +49,10 @@ pub record AreCounted (IsAnswer : ℕ → Type 0) (workers committed : ℕ) : Ty
   pub each : All (λ answer. IfOk answer IsAnswer) answers
   pub sum : committed ≡ sum_of answers
 
--- What is told of a store that was opened in this state: no more was committed than was to be, variable 0 has a value that it may have,
--- and at least as many transactions are durable as the state counts. Where nothing is registered in that state, any value may be. So
--- for a caller that does not know the state, as one of `count_up`, this binds the first number alone: tests see the other two.
+-- What is told of a store that was opened in this state: no more was committed than was to be, variable 0 has a value
+-- that it may have, and at least as many transactions are durable as the state counts. Where nothing is registered in
+-- that state, any value may be. So for a caller that does not know the state, as one of `count_up`, this binds the first
+-- number alone: tests see the other two.
 pub record AreTotals (opening : State) (work : Work) (t : Totals) : Type 0 where
   pub most : t.committed ≤ work.workers * work.turns
   pub value : IsPossibleValue counting opening 0 t.value

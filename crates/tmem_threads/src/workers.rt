@@ -16,8 +16,9 @@ pub struct Work {
     pub turns: u16,
 }
 
-/// Lets the workers add beside a flusher, each in a thread of its own where one can be made, and else one after another. Answers how
-/// many transactions they committed once all have ended. The flusher's refusal comes before those that follow from it. With no thread for the flusher nobody works.
+/// Lets the workers add beside a flusher, each in a thread of its own where one can be made, and else one after another.
+/// Answers how many transactions they committed once all have ended. The flusher's refusal comes before those that follow
+/// from it. With no thread for the flusher nobody works.
 pub(crate) fn work_and_flush<F: Counting + Sync, R: Threads + Wait + Clock + Sync>(
     rt: &R,
     alloc: Global,

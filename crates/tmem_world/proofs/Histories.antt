@@ -25,8 +25,8 @@ use Rattle.tmem_world.specs.Chain.{History, GoesOn, ended_plan, accepted_after, 
 use Rattle.tmem_world.proofs.Prefixes.{count_found, take_behind}
 use Rattle.tmem_world.proofs.Serial.{take-append, take-again}
 
--- A run goes on by an event: behind what was accepted before its opening, it has accepted what the history says, and the order cut at
--- its numbers is what it was before.
+-- A run goes on by an event: behind what was accepted before its opening, it has accepted what the history says, and the
+-- order cut at its numbers is what it was before.
 pub record Moves (m : WorldModel) (e : Event) (r : Reply) (m' : WorldModel) : Type 0 where
   pub opened : m'.opened ≡ m.opened
   pub accepted : (found : List Tx) → length found ≡ m.opened.count → accepted_after m e r (found ++ m.accepted) ≡ found ++ m'.accepted

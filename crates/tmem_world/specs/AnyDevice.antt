@@ -67,7 +67,9 @@ pub record ReopeningRefused {D T S : Type 0} {d t s : _} (old : World D T S d t 
   pub slots : HoldsNoTransaction new
   pub point : (program : Program) (m : WorldModel) → Represents program old m → Represents program new (dropped_by f m)
 
--- What Reopen is answered, and where the world is then. After Opened it is where a run begins, at a state of that count: the one that the content stands for, where the device keeps the model. Where the gates behind its log read closed, nothing was written.
+-- What Reopen is answered, and where the world is then. After Opened it is where a run begins, at a state of that count:
+-- the one that the content stands for, where the device keeps the model. Where the gates behind its log read closed,
+-- nothing was written.
 abbrev pub IsReopened : {D T S : Type 0} {d t s : _} → World D T S d t s → Reply → World D T S d t s → Type 0
 IsReopened old (reply.Opened n) new =
     (s : State) × (position : Position) × (s.count ≡ n)
@@ -82,7 +84,8 @@ abbrev pub Reopens : {D T S : Type 0} {d t s : _} → World D T S d t s → Even
 Reopens old event.Reopen r new = IsReopened old r new
 Reopens old _ r new = ⊤
 
--- Whatever the closures mean, by their statement: from each point of a run that the old world is at, the events may be answered so on any device, and the new world is at the point that they lead to.
+-- Whatever the closures mean, by their statement: from each point of a run that the old world is at, the events may be
+-- answered so on any device, and the new world is at the point that they lead to.
 abbrev pub PlaysOnAnyDevice : {D T S : Type 0} {d t s : _} → World D T S d t s → List Event → List Reply → World D T S d t s → Type 0
 PlaysOnAnyDevice old es rs new =
     (program : Program) → Means old program

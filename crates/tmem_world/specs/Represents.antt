@@ -119,7 +119,8 @@ pub record IsNumbered (program : Program) (m : WorldModel) : Type 0 where
 abbrev pub StandsCut : Program → ℕ → ℕ → WorldModel → List ℕ → Type 0
 StandsCut program vars slots m c = StandsForEither vars slots (cut program m m.durable) (cut program m m.doubtful) c
 
--- The world is at this point of a run, and every crash leaves on its device the serial order cut at the durable number or at the doubtful one.
+-- The world is at this point of a run, and every crash leaves on its device the serial order cut at the durable number or
+-- at the doubtful one.
 pub record Represents {D T S : Type 0} {d t s : _} (program : Program) (w : World D T S d t s) (m : WorldModel) : Type 0 where
   pub numbers : IsNumbered program m
   pub slots : AllZip (SlotIs program) w.slots.items m.slots
@@ -142,7 +143,8 @@ abbrev pub RestsOn : Type 0 → Event → Type 0
 RestsOn premise event.Reopen = premise
 RestsOn premise _ = ⊤
 
--- Whatever the closures mean, by their statement: from each point of a run that the old world is at, the event may be answered so, and the new world is at the next point.
+-- Whatever the closures mean, by their statement: from each point of a run that the old world is at, the event may be
+-- answered so, and the new world is at the next point.
 abbrev pub IsStep : {D T S : Type 0} {d t s : _} → World D T S d t s → Event → Reply → World D T S d t s → Type 0
 IsStep old e r new =
     (program : Program) → Means old program
@@ -181,7 +183,9 @@ TellsOfContent Damaged = ⊤
 TellsOfContent Geometry = ⊤
 TellsOfContent _ = ⊥
 
--- Why opening was refused, and what it left of the device: by Geometry where the numbers do not fit it; else memory or the device, or what its content is refused by; or else an invariant of the state that it stands for is missing or false.
+-- Why opening was refused, and what it left of the device: by Geometry where the numbers do not fit it; else memory or
+-- the device, or what its content is refused by; or else an invariant of the state that it stands for is missing or
+-- false.
 pub record OpeningRefused (old : DeviceView) (vars slots : ℕ) (unsound : Type 0) (f : Fault) (new : DeviceView) : Type 0 where
   pub uses : Uses {T = Unit {0}} old new (Err f)
   pub numbers : ¬ FitsOn vars slots old.capacity → f ≡ Geometry

@@ -159,7 +159,8 @@ pub record IsBatchEnd (program : Program) (m : WorldModel) (n : ℕ) : Type 0 wh
   pub accepted : n ≤ (present program m).count
   pub taken : IsTaken (not_durable program m) (take (n - m.durable) (not_durable program m))
 
--- A batch is made durable, or the device fails and the session is closed. After an unknown outcome the doubtful number is what the batch would have reached.
+-- A batch is made durable, or the device fails and the session is closed. After an unknown outcome the doubtful number is
+-- what the batch would have reached.
 abbrev pub AllowsFlushOfSome : Program → WorldModel → Reply → WorldModel → Type 0
 AllowsFlushOfSome program m (reply.Durable n) m' =
     IsBatchEnd program m n × (m' ≡ record m { durable = n; doubtful = n; position = next_slot m.position })

@@ -3,8 +3,9 @@
 //! `World` is what callers see. Its replies are those of a run of the model (`WorldModel` in `specs/`), and every stop of
 //! its device leaves a content that stands for the serial order of accepted transactions, cut at a number that holds all
 //! that was acknowledged (`Represents`). What a stop leaves, and which state a reopening finds, rests on the disk model; on
-//! a device that breaks it a reopening begins another run (`AnyDevice`). `Chain` says all this through any chain of sessions. Transactions, their evaluation, the core and what
-//! stands on the device are crates of their own; `session` joins a core to a journal.
+//! a device that breaks it a reopening begins another run (`AnyDevice`). `Chain` says all this through any chain of
+//! sessions. Transactions, their evaluation, the core and what stands on the device are crates of their own; `session`
+//! joins a core to a journal.
 #![tactic(auto)]
 
 mod chain;

@@ -16,7 +16,7 @@ fn a_line_has_a_column_for_each_figure(rt: HostRuntime) -> Result<(), Fail> {
             },
             time: Duration::from_secs(2),
         },
-        beside: Figures {
+        baseline: Figures {
             count: Count {
                 operations: 100,
                 flushes: 0,
@@ -25,7 +25,7 @@ fn a_line_has_a_column_for_each_figure(rt: HostRuntime) -> Result<(), Fail> {
         },
     };
     let text = format!(in rt.alloc(); "{line}")?;
-    // 300 a second, in 150 flushes, beside 200 a second
+    // 300 a second, in 150 flushes, where the baseline is 200 a second
     let columns =
         "file    add, each awaited             16  one                  300      150         200    1.50";
     assert!(rt; text.as_str() == columns, "{text}");
