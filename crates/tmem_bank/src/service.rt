@@ -116,7 +116,7 @@ type Moved = ((u64, u64), (u64, u64));
 
 // What threads do with the store that they share. The functions that start threads know no more of it.
 trait Moving {
-    // Makes a transfer many times, and waits each time until it is durable. Answers how often the store accepted it.
+    // Makes a transfer many times, and waits each time until it is durable. Answers how many of them are durable.
     fn send<R: Wait>(&self, rt: &R, alloc: Global, transfer: Transfer) -> Result<u64, Fault>;
 
     // Makes durable what is committed, until the store is shut.

@@ -17,8 +17,8 @@ pub trait Pace {
     fn next(&mut self) -> bool;
 }
 
-/// A pace with no end: the flusher goes on until the store is shut. Where a store has several callers, it lets them in before each
-/// flush, for some ten microseconds, so that one flush makes the transactions of several durable.
+/// A pace with no end: the flusher goes on until the store is shut. Where a store has several callers, it lets them in for
+/// some ten microseconds at the start of each turn, so that one flush makes the transactions of several durable.
 #[derive(Drop)]
 pub struct Gathering<'a, R: Clock> {
     clock: &'a R,

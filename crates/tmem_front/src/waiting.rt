@@ -113,6 +113,7 @@ impl<D: Disk + Drop, N: StoreNaming, T: Invariants + Drop, S: StoredSteps + Drop
     ) -> Result<(), Fault>
         ensures durable { OnOk result (number < count N.name.start pass.new.seen) }
         ensures refused { IfErr result (λ fault. fault ≡ Fault.Closed) }
+        ensures unseen { IfErr result (λ _. count N.name.start pass.new.seen ≤ number) }
         ensures pass { pass.new ≡ record pass.old { seen = pass.new.seen; known = pass.new.known } }
         ensures later { IsPrefix pass.old.seen pass.new.seen × IsPrefix pass.old.known pass.new.known }
     {

@@ -14,6 +14,10 @@ fn no_turn_of_a_thread_is_lost(rt: HostRuntime) -> Result<(), Fail> {
             &["threads", "16", "5"],
             "committed 80\nvalue 80\ndurable 80\n",
         ),
+        (
+            &["threads", "+2", "03"],
+            "committed 6\nvalue 6\ndurable 6\n",
+        ),
     ];
     for (words, out) in rows {
         run(&rt, words, b"")?.expect(format_args!("{words:?}"), 0, out, "")?;

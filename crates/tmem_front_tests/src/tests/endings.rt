@@ -77,19 +77,25 @@ fn room_is_made_in_a_full_log(rt: HostRuntime) -> Result<(), Fail> {
     Ok(())
 }
 
-/// What two threads do with a store that they share. The function that starts them knows no more of the store.
+/// What four threads do with a store that they share. The functions that start them know no more of the store.
 trait Ending {
-    /// By what a wait for a flush is refused.
+    /// By what a wait for the first transaction is refused.
     fn await_one<R: Wait>(&self, rt: &R) -> Result<Option<Fault>, Fault>;
 
     /// By what a transaction is refused that retries.
     fn retry<R: Wait>(&self, rt: &R, alloc: Global) -> Result<Option<Fault>, Fault>;
 
-    /// Shuts the store once the other thread waits.
-    fn shut_later<R: Clock + Wait>(&self, rt: &R);
+    /// By what a turn of a flusher is refused.
+    fn flush_next<R: Wait>(&self, rt: &R) -> Option<Fault>;
 
-    /// Commits once the other thread waits, and flushes. Answers by what the flush is refused.
-    fn flush_later<R: Clock + Wait>(&self, rt: &R, alloc: Global) -> Result<Option<Fault>, Fault>;
+    /// Once the others wait: commits and flushes, if it is to. Then it shuts the store, unless a failed flush has done so. Answers
+    /// by what the flush is refused.
+    fn end_later<R: Clock + Wait>(
+        &self,
+        rt: &R,
+        alloc: Global,
+        flushes: bool,
+    ) -> Result<Option<Fault>, Fault>;
 }
 
 impl<D: Disk + Drop, N: StoreNaming, T: Invariants + Drop, S: StoredSteps + Drop> Ending
@@ -105,102 +111,134 @@ impl<D: Disk + Drop, N: StoreNaming, T: Invariants + Drop, S: StoredSteps + Drop
         Ok(self.atomically(rt, &mut pass, &plan).err())
     }
 
-    fn shut_later<R: Clock + Wait>(&self, rt: &R) {
-        thread::sleep(rt, Duration::from_millis(50));
-        self.shut(rt);
+    fn flush_next<R: Wait>(&self, rt: &R) -> Option<Fault> {
+        self.run_flusher(rt, &mut Turns { left: 1 }).err()
     }
 
-    fn flush_later<R: Clock + Wait>(&self, rt: &R, alloc: Global) -> Result<Option<Fault>, Fault> {
+    fn end_later<R: Clock + Wait>(
+        &self,
+        rt: &R,
+        alloc: Global,
+        flushes: bool,
+    ) -> Result<Option<Fault>, Fault> {
         let mut pass = self.pass(rt)?;
         let plan = self.plan(write(alloc, 0, 1)?)?;
         thread::sleep(rt, Duration::from_millis(50));
-        let _ = self.try_atomically(rt, &mut pass, &plan);
-        Ok(self.flush_once(rt).err())
+        let mut refused = None;
+        if flushes {
+            let _ = self.try_atomically(rt, &mut pass, &plan);
+            // the others look at what was committed, and wait again
+            thread::sleep(rt, Duration::from_millis(50));
+            refused = self.flush_once(rt).err();
+        }
+        if refused.is_none() {
+            self.shut(rt);
+        }
+        Ok(refused)
     }
 }
 
-/// What ended each of two waits: the front was shut, and the device failed.
-type Ended = (Option<Fault>, Option<Fault>);
+/// By what is refused: a wait for a flush, a transaction that retries, a flusher or, beside a flush, another one that retries, and
+/// the flush.
+type Refused = (
+    (Option<Fault>, Option<Fault>),
+    (Option<Fault>, Option<Fault>),
+);
 
-fn await_and_shut<F: Ending + Sync, R: Clock + Threads + Wait + Sync>(
-    rt: &R,
-    store: &F,
-) -> Result<Option<Fault>, Fault> {
-    let (refused, ()) = join(rt, || store.await_one(rt), || store.shut_later(rt));
-    refused
-}
-
-fn retry_and_fail<F: Ending + Sync, R: Clock + Threads + Wait + Sync>(
+fn await_and_retry<F: Ending + Sync, R: Threads + Wait + Sync>(
     rt: &R,
     alloc: Global,
     store: &F,
-) -> Result<Ended, Fault> {
-    let (retried, flushed) = join(
+) -> Result<(Option<Fault>, Option<Fault>), Fault> {
+    let (awaited, retried) = join(rt, || store.await_one(rt), || store.retry(rt, alloc));
+    Ok((awaited?, retried?))
+}
+
+fn wait_and_end<F: Ending + Sync, R: Clock + Threads + Wait + Sync>(
+    rt: &R,
+    alloc: Global,
+    store: &F,
+    flushes: bool,
+) -> Result<(Option<Fault>, Option<Fault>), Fault> {
+    let (waited, ended) = join(
         rt,
-        || store.retry(rt, alloc),
-        || store.flush_later(rt, alloc),
+        || {
+            if flushes {
+                store.retry(rt, alloc)
+            } else {
+                Ok(store.flush_next(rt))
+            }
+        },
+        || store.end_later(rt, alloc, flushes),
     );
-    Ok((flushed?, retried?))
+    Ok((waited?, ended?))
 }
 
-fn shut_front<
-    D: Disk + Drop + Send,
-    N: StoreNaming + Send + Sync,
-    T: Invariants + Drop + Send,
-    S: StoredSteps + Drop + Send + Sync,
-    R: Clock + Threads + Wait + Sync,
->(rt: &R, front: &Front<D, N, T, S>) -> Result<Option<Fault>, Fault> {
-    await_and_shut(rt, front)
-}
-
-fn failing_front<
-    D: Disk + Drop + Send,
-    N: StoreNaming + Send + Sync,
-    T: Invariants + Drop + Send,
-    S: StoredSteps + Drop + Send + Sync,
-    R: Clock + Threads + Wait + Sync,
->(rt: &R, alloc: Global, front: &Front<D, N, T, S>) -> Result<Ended, Fault> {
-    retry_and_fail(rt, alloc, front)
-}
-
-fn shut_a_store<N: StoreNaming + Send + Sync, R: Clock + Threads + Wait + Sync>(
+fn end_by_four<F: Ending + Sync, R: Clock + Threads + Wait + Sync>(
     rt: &R,
-    opened: New,
-) -> Result<Option<Fault>, Fault>
-    requires spine { spine_of opened ≡ N.name }
-    requires opening { found_of opened ≡ N.opening }
-    requires program { N.program ≡ adding }
-{
-    shut_front(rt, &named::<N>(opened))
+    alloc: Global,
+    store: &F,
+    flushes: bool,
+) -> Result<Refused, Fault> {
+    let (two, others) = join(
+        rt,
+        || await_and_retry(rt, alloc, store),
+        || wait_and_end(rt, alloc, store, flushes),
+    );
+    Ok((two?, others?))
 }
 
-fn fail_a_store<N: StoreNaming + Send + Sync, R: Clock + Threads + Wait + Sync>(
+fn end_waits<
+    D: Disk + Drop + Send,
+    N: StoreNaming + Send + Sync,
+    T: Invariants + Drop + Send,
+    S: StoredSteps + Drop + Send + Sync,
+    R: Clock + Threads + Wait + Sync,
+>(rt: &R, alloc: Global, front: &Front<D, N, T, S>, flushes: bool) -> Result<Refused, Fault> {
+    end_by_four(rt, alloc, front, flushes)
+}
+
+fn end_in_a_store<N: StoreNaming + Send + Sync, R: Clock + Threads + Wait + Sync>(
     rt: &R,
     alloc: Global,
     opened: New,
-) -> Result<Ended, Fault>
+    flushes: bool,
+) -> Result<Refused, Fault>
     requires spine { spine_of opened ≡ N.name }
     requires opening { found_of opened ≡ N.opening }
     requires program { N.program ≡ adding }
 {
-    failing_front(rt, alloc, &named::<N>(opened))
+    end_waits(rt, alloc, &named::<N>(opened), flushes)
 }
 
 #[test]
-fn a_wait_for_a_flush_ends_once_the_front_is_shut(rt: HostRuntime) -> Result<(), Fail> {
-    let ended = shut_a_store::<Brand, _>(&rt, new(rt.alloc())?);
-    assert_eq!(rt; ended, Ok(Some(Fault::Closed)));
+fn each_wait_ends_once_the_front_is_shut(rt: HostRuntime) -> Result<(), Fail> {
+    let refused = end_in_a_store::<Brand, _>(&rt, rt.alloc(), new(rt.alloc())?, false);
+    let closed = Some(Fault::Closed);
+    assert_eq!(rt; refused, Ok(((closed, closed), (None, None))));
     Ok(())
 }
 
 #[test]
-fn a_retry_ends_once_the_device_has_failed(rt: HostRuntime) -> Result<(), Fail> {
+fn what_is_durable_is_awaited_though_the_front_is_shut_then(rt: HostRuntime) -> Result<(), Fail> {
+    let refused = end_in_a_store::<Brand, _>(&rt, rt.alloc(), new(rt.alloc())?, true);
+    let closed = Some(Fault::Closed);
+    assert_eq!(rt; refused, Ok(((None, closed), (closed, None))));
+    Ok(())
+}
+
+#[test]
+fn each_wait_ends_once_the_device_has_failed(rt: HostRuntime) -> Result<(), Fail> {
     let mut disk = SimDisk::new(rt.alloc(), Layout::new(4, 4)?.end())?;
     format(&mut disk, 4, 4)?;
     // the first sync is the one of the opening
     disk.fail_sync(2);
     let opened = open_on(rt.alloc(), disk)?;
-    let ended = fail_a_store::<Brand, _>(&rt, rt.alloc(), opened);
-    assert_eq!(rt; ended, Ok((Some(Fault::Unknown), Some(Fault::Closed))));
+    let refused = end_in_a_store::<Brand, _>(&rt, rt.alloc(), opened, true);
+    let closed = Some(Fault::Closed);
+    assert_eq!(rt;
+        refused,
+        Ok(((closed, closed), (closed, Some(Fault::Unknown))))
+    );
     Ok(())
 }

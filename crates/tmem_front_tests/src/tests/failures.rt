@@ -5,7 +5,7 @@ ghost use Rattle.tmem_front_tests.specs.Examples.{adding};
 
 use super::no_closures::AddsAndNeeds;
 use super::waits::{Turns, need_one};
-use super::{New, named, new, open_on, open_with, write};
+use super::{New, named, new, new_with, open_on, open_with, write};
 use std::marker::Brand;
 use std::sync::Wait;
 use std::test::Fail;
@@ -130,12 +130,13 @@ fn a_flush_with_nothing_waiting_writes_nothing(rt: HostRuntime) -> Result<(), Fa
     Ok(())
 }
 
-/// By what a flusher is refused after each of three commits, of which each takes a slot of the log.
+/// By what a turn of a flusher is refused after each of three commits, of which each takes a slot of the log, and what a look
+/// answers then.
 fn flush_after_each<N: StoreNaming, R: Wait>(
     rt: &R,
     opened: New,
     tx: Tx,
-) -> Result<[Option<Fault>; 3], Fault>
+) -> Result<([Option<Fault>; 3], u64), Fault>
     requires spine { spine_of opened ≡ N.name }
     requires opening { found_of opened ≡ N.opening }
     requires program { N.program ≡ adding }
@@ -148,7 +149,7 @@ fn flush_after_each<N: StoreNaming, R: Wait>(
         let _ = front.try_atomically(rt, &mut pass, &plan);
         *refusal = front.run_flusher(rt, &mut Turns { left: 1 }).err();
     }
-    Ok(refusals)
+    Ok((refusals, front.look(&mut pass)))
 }
 
 #[test]
@@ -162,6 +163,18 @@ fn a_flusher_is_refused_as_its_checkpoint_is(rt: HostRuntime) -> Result<(), Fail
         open_with(rt.alloc(), disk, 2, AddsAndNeeds)?,
     );
     let refusals = flush_after_each::<Brand, _>(&rt, opened, tx);
-    assert_eq!(rt; refusals, Ok([None, None, Some(Fault::Device)]));
+    assert_eq!(rt; refusals, Ok(([None, None, Some(Fault::Device)], 2)));
+    Ok(())
+}
+
+#[test]
+fn a_flusher_flushes_again_once_there_is_room(rt: HostRuntime) -> Result<(), Fail> {
+    let disk = SimDisk::new(rt.alloc(), Layout::new(4, 2)?.end())?;
+    let (tx, opened) = (
+        write(rt.alloc(), 0, 1)?,
+        new_with(rt.alloc(), disk, 2, AddsAndNeeds)?,
+    );
+    let refusals = flush_after_each::<Brand, _>(&rt, opened, tx);
+    assert_eq!(rt; refusals, Ok(([None, None, None], 3)));
     Ok(())
 }

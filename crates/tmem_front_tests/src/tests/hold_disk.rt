@@ -1,26 +1,29 @@
-//! A device whose syncs can be held.
+//! A device whose syncs can be held, and what holds them, and a step.
 ghost use Rattle.std.specs.Prelude.{◌≡◌};
 
 use std::rt::Clock;
 use std::sync::atomic::{AtomicBool, Ordering};
-use std::thread;
+use std::thread::{self, yield_now};
 use std::time::Duration;
 use tmem_disk::{DeviceFault, Disk};
 
 /// How many milliseconds a sync is held at the most.
 const TURNS: u64 = 10_000;
 
+/// How often a step that is held lets others run, at the most.
+const YIELDS: u64 = 20_000_000;
+
 /// What threads say to a device, and hear from it.
 #[derive(Drop)]
 pub(super) struct Hold {
-    /// The next syncs are held.
+    /// The next syncs and additions are held.
     pub(super) is_on: AtomicBool,
-    /// A sync is under way.
+    /// A sync or an addition is under way.
     pub(super) is_held: AtomicBool,
     /// A settle was answered, and a look.
     pub(super) settled: AtomicBool,
     pub(super) looked: AtomicBool,
-    /// A sync was held for as long as it may be.
+    /// It was held for as long as it may be.
     pub(super) gave_up: AtomicBool,
 }
 
@@ -36,7 +39,7 @@ impl Hold {
         }
     }
 
-    /// Waits until a sync is held, for as long as it may be.
+    /// Waits until something is held, for as long as it may be.
     pub(super) fn wait<R: Clock>(&self, rt: &R) {
         for _ in 0..TURNS {
             if self.is_held.load(Ordering::SeqCst) {
@@ -44,6 +47,21 @@ impl Hold {
             }
             thread::sleep(rt, Duration::from_millis(1));
         }
+    }
+
+    /// Holds a step until a settle was answered. A step has no runtime, so it does not sleep.
+    pub(super) fn hold_step(&self) {
+        if !self.is_on.load(Ordering::SeqCst) {
+            return;
+        }
+        self.is_held.store(true, Ordering::SeqCst);
+        for _ in 0..YIELDS {
+            if self.settled.load(Ordering::SeqCst) {
+                return;
+            }
+            yield_now();
+        }
+        self.gave_up.store(true, Ordering::SeqCst);
     }
 
     // Holds a sync until both were answered.

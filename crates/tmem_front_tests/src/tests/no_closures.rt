@@ -2,6 +2,7 @@
 //! closure. Each method of theirs can be called, which it could not where there were none.
 ghost use Rattle.std.specs.Prelude.{◌≡◌, ◌∷◌, [], ℕ, ℤ, List, true, codes};
 
+use super::hold_disk::Hold;
 use std::sync::atomic::{AtomicU64, Ordering};
 use tmem_builtins::{add, need};
 use tmem_disk::Name;
@@ -114,13 +115,14 @@ impl StoredSteps for AddsAndNeeds {
     ghost has_meanings = { λ _. ∣ (adds_and_needs, λ _ _. refl) ∣₁ };
 }
 
-/// The same two steps. How often the second one is called is counted.
+/// The same two steps. The first one can be held, and how often the second one is called is counted.
 #[derive(Drop)]
-pub(super) struct CountsNeeds<'a> {
+pub(super) struct Watched<'a> {
     pub(super) needs: &'a AtomicU64,
+    pub(super) hold: &'a Hold,
 }
 
-impl<'a> StoredSteps for CountsNeeds<'a> {
+impl<'a> StoredSteps for Watched<'a> {
     ghost use Rattle.tmem_front_tests.specs.Examples.{adds_and_needs};
 
     ghost arities = { λ _. 2 ∷ 2 ∷ [] };
@@ -137,6 +139,7 @@ impl<'a> StoredSteps for CountsNeeds<'a> {
 
     fn answer(&self, index: usize, args: &[i64]) -> StepAnswer {
         if index == 0 {
+            self.hold.hold_step();
             add(args)
         } else {
             self.needs.fetch_add(1, Ordering::SeqCst);

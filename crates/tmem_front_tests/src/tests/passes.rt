@@ -137,9 +137,9 @@ fn a_full_front_takes_more_once_a_batch_is_durable(rt: HostRuntime) -> Result<()
     Ok(())
 }
 
-/// What an attempt is refused by once another pass has committed, what it is refused by once the front is shut, and the
-/// present value then.
-type Refusals = (Option<Fault>, Option<Fault>, i64);
+/// The number of an attempt that is settled at once, what another one is refused by once another pass has committed, what it is
+/// refused by once the front is shut, and the present value then.
+type Refusals = (Option<u64>, Option<Fault>, Option<Fault>, i64);
 
 fn settle_late<N: StoreNaming, R: Wait>(rt: &R, opened: New, tx: Tx) -> Result<Refusals, Fault>
     requires spine { spine_of opened ≡ N.name }
@@ -152,11 +152,13 @@ fn settle_late<N: StoreNaming, R: Wait>(rt: &R, opened: New, tx: Tx) -> Result<R
     let mut other = front.pass(rt)?;
     let plan = front.plan(tx)?;
     let attempt = front.attempt(rt, &plan)?;
+    let number = number_of(front.settle(rt, &mut late, &attempt));
+    let attempt = front.attempt(rt, &plan)?;
     let _ = front.try_atomically(rt, &mut other, &plan);
     let stale = front.settle(rt, &mut late, &attempt).err();
     front.shut(rt);
     let shut = front.settle(rt, &mut late, &attempt).err();
-    Ok((stale, shut, front.peek(rt, 0)))
+    Ok((number, stale, shut, front.peek(rt, 0)))
 }
 
 #[test]
@@ -165,7 +167,7 @@ fn a_late_attempt_is_refused(rt: HostRuntime) -> Result<(), Fail> {
     let answers = settle_late::<Brand, _>(&rt, new(rt.alloc())?, tx);
     assert_eq!(rt;
         answers,
-        Ok((Some(Fault::Conflict), Some(Fault::Closed), 1))
+        Ok((Some(0), Some(Fault::Conflict), Some(Fault::Closed), 2))
     );
     Ok(())
 }

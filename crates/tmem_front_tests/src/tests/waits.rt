@@ -4,8 +4,8 @@ ghost use Rattle.tmem_front.specs.Held.{found_of, spine_of};
 ghost use Rattle.tmem_front_tests.specs.Examples.{adding};
 
 use super::hold_disk::{Hold, HoldDisk};
-use super::no_closures::{AddsAndNeeds, AlwaysTrue, CountsNeeds};
-use super::{New, named, new, new_on, new_with, number_of, write};
+use super::no_closures::{AlwaysTrue, Watched};
+use super::{New, add_one, named, new, new_with, number_of, write};
 use std::alloc::{AllocError, Global};
 use std::marker::Brand;
 use std::rt::Clock;
@@ -83,16 +83,19 @@ fn seen_by(answer: Result<Settled, Fault>) -> Option<Saw> {
     }
 }
 
-/// What a transaction sees that waits until another one commits, and the number of that.
-type Waits = (Option<Saw>, Option<u64>);
+/// What a transaction sees that waits until another one commits, the number of that, and what a look answers once it was flushed.
+type Waits = (Option<Saw>, Option<u64>, u64);
 
-/// What two threads do with a store that they share. The function that starts them knows no more of the store.
+/// What three threads do with a store that they share. The functions that start them know no more of the store.
 trait Needing {
     /// What a transaction sees that needs variable 2 to be 1.
     fn need<R: Wait>(&self, rt: &R, alloc: Global) -> Result<Option<Saw>, Fault>;
 
     /// The number of a transaction that writes 1 there. The other one has retried by then, or it finds what is written.
     fn write_later<R: Clock + Wait>(&self, rt: &R, alloc: Global) -> Result<Option<u64>, Fault>;
+
+    /// A turn of a flusher, which waits for a transaction.
+    fn flush_next<R: Wait>(&self, rt: &R) -> Result<(), Fault>;
 }
 
 impl<D: Disk + Drop, N: StoreNaming, T: Invariants + Drop, S: StoredSteps + Drop> Needing
@@ -109,17 +112,31 @@ impl<D: Disk + Drop, N: StoreNaming, T: Invariants + Drop, S: StoredSteps + Drop
         thread::sleep(rt, Duration::from_millis(50));
         Ok(number_of(self.try_atomically(rt, &mut pass, &plan)))
     }
+
+    fn flush_next<R: Wait>(&self, rt: &R) -> Result<(), Fault> {
+        self.run_flusher(rt, &mut Turns { left: 1 })
+    }
+}
+
+fn flush_and_write<F: Needing + Sync, R: Clock + Threads + Wait + Sync>(
+    rt: &R,
+    alloc: Global,
+    store: &F,
+) -> Result<Option<u64>, Fault> {
+    let (flushed, wrote) = join(rt, || store.flush_next(rt), || store.write_later(rt, alloc));
+    flushed?;
+    wrote
 }
 
 fn need_and_write<F: Needing + Sync, R: Clock + Threads + Wait + Sync>(
     rt: &R,
     alloc: Global,
     store: &F,
-) -> Result<Waits, Fault> {
+) -> Result<(Option<Saw>, Option<u64>), Fault> {
     let (saw, wrote) = join(
         rt,
         || store.need(rt, alloc),
-        || store.write_later(rt, alloc),
+        || flush_and_write(rt, alloc, store),
     );
     Ok((saw?, wrote?))
 }
@@ -131,11 +148,16 @@ fn wait_for_another<
     S: StoredSteps + Drop + Send + Sync,
     R: Clock + Threads + Wait + Sync,
 >(rt: &R, alloc: Global, front: &Front<D, N, T, S>) -> Result<Waits, Fault> {
-    need_and_write(rt, alloc, front)
+    let mut pass = front.pass(rt)?;
+    let plan = front.plan(write(alloc, 0, 1)?)?;
+    let _ = front.try_atomically(rt, &mut pass, &plan);
+    front.flush_once(rt)?;
+    let (saw, wrote) = need_and_write(rt, alloc, front)?;
+    Ok((saw, wrote, front.look(&mut pass)))
 }
 
 /// A store that counts how often a number is needed.
-type Counting<'a> = OpenedFront<SimDisk, AlwaysTrue, CountsNeeds<'a>>;
+type Counting<'a> = OpenedFront<SimDisk, AlwaysTrue, Watched<'a>>;
 
 fn wait_in_a_store<N: StoreNaming + Send + Sync, R: Clock + Threads + Wait + Sync>(
     rt: &R,
@@ -150,41 +172,63 @@ fn wait_in_a_store<N: StoreNaming + Send + Sync, R: Clock + Threads + Wait + Syn
 }
 
 #[test]
-fn a_transaction_that_retries_waits_for_another(rt: HostRuntime) -> Result<(), Fail> {
+fn a_commit_wakes_each_thread_that_waits_for_one(rt: HostRuntime) -> Result<(), Fail> {
     let needs = AtomicU64::new(0);
+    let hold = Hold::new();
     let disk = SimDisk::new(rt.alloc(), Layout::new(4, 4)?.end())?;
-    let opened = new_with(rt.alloc(), disk, 4, CountsNeeds { needs: &needs })?;
+    let steps = Watched {
+        needs: &needs,
+        hold: &hold,
+    };
+    let opened = new_with(rt.alloc(), disk, 4, steps)?;
     let answers = wait_in_a_store::<Brand, _>(&rt, rt.alloc(), opened);
     let registers = [1, 1, 1, 0, 0, 0, 0, 0, 0, 0, 0, 0, 0, 0, 0, 0];
-    assert_eq!(rt; answers, Ok((Some((1, registers)), Some(0))));
+    assert_eq!(rt; answers, Ok((Some((2, registers)), Some(1), 2)));
     // once after the other one committed, and once before it at the most
     assert!(rt; needs.load(Ordering::SeqCst) <= 2);
     Ok(())
 }
 
-/// A store on a device whose syncs can be held.
-type Held<'a, R> = OpenedFront<HoldDisk<'a, SimDisk, R>, AlwaysTrue, AddsAndNeeds>;
+/// A store on a device whose syncs can be held, with a step that can be.
+type Held<'a, R> = OpenedFront<HoldDisk<'a, SimDisk, R>, AlwaysTrue, Watched<'a>>;
 
-/// What a flush answers that was held in its sync, the number that was committed meanwhile, and what a look answered then.
-type Meanwhile = (u64, Option<u64>, u64);
+/// What a thread does that is held.
+#[derive(Clone, Copy)]
+enum Act {
+    Flush,
+    Checkpoint,
+    Attempt,
+}
 
-/// What two threads do with a store while a sync of its device is held.
+/// The numbers that are committed while another thread is held, and what a look answers then.
+type Meanwhile = ([Option<u64>; 2], u64);
+
+/// What two threads do with a store while one of them is held.
 trait Holding {
-    fn flush<R: Wait>(&self, rt: &R) -> Result<u64, Fault>;
+    /// By what it is refused.
+    fn do_held<R: Wait>(&self, rt: &R, alloc: Global, act: Act) -> Result<Option<Fault>, Fault>;
 
-    /// The number that is committed, and what a look answers then.
+    /// Commits once by each way, and looks.
     fn settle_meanwhile<R: Clock + Wait>(
         &self,
         rt: &R,
         alloc: Global,
         hold: &Hold,
-    ) -> Result<(Option<u64>, u64), Fault>;
+    ) -> Result<Meanwhile, Fault>;
 }
 
 impl<D: Disk + Drop, N: StoreNaming, T: Invariants + Drop, S: StoredSteps + Drop> Holding
     for Front<D, N, T, S> {
-    fn flush<R: Wait>(&self, rt: &R) -> Result<u64, Fault> {
-        self.flush_once(rt)
+    fn do_held<R: Wait>(&self, rt: &R, alloc: Global, act: Act) -> Result<Option<Fault>, Fault> {
+        match act {
+            Act::Flush => Ok(self.flush_once(rt).err()),
+            Act::Checkpoint => Ok(self.checkpoint(rt).err()),
+            Act::Attempt => {
+                let mut pass = self.pass(rt)?;
+                let plan = self.plan(add_one(alloc)?)?;
+                Ok(self.try_atomically(rt, &mut pass, &plan).err())
+            }
+        }
     }
 
     fn settle_meanwhile<R: Clock + Wait>(
@@ -192,31 +236,37 @@ impl<D: Disk + Drop, N: StoreNaming, T: Invariants + Drop, S: StoredSteps + Drop
         rt: &R,
         alloc: Global,
         hold: &Hold,
-    ) -> Result<(Option<u64>, u64), Fault> {
+    ) -> Result<Meanwhile, Fault> {
         hold.wait(rt);
         let mut pass = self.pass(rt)?;
         let plan = self.plan(write(alloc, 0, 2)?)?;
-        let number = number_of(self.try_atomically(rt, &mut pass, &plan));
+        let numbers = [
+            number_of(self.try_atomically(rt, &mut pass, &plan)),
+            number_of(self.atomically(rt, &mut pass, &plan)),
+        ];
         hold.settled.store(true, Ordering::SeqCst);
         let looked = self.look(&mut pass);
         hold.looked.store(true, Ordering::SeqCst);
-        Ok((number, looked))
+        Ok((numbers, looked))
     }
 }
 
-fn flush_and_settle<F: Holding + Sync, R: Clock + Threads + Wait + Sync>(
+/// By what the thread that was held is refused, what the other one is answered meanwhile, and what a look answers at the end.
+type Around = (Option<Fault>, Meanwhile, u64);
+
+fn hold_and_settle<F: Holding + Sync, R: Clock + Threads + Wait + Sync>(
     rt: &R,
     alloc: Global,
     hold: &Hold,
     store: &F,
-) -> Result<Meanwhile, Fault> {
-    let (flushed, meanwhile) = join(
+    act: Act,
+) -> Result<(Option<Fault>, Meanwhile), Fault> {
+    let (refused, meanwhile) = join(
         rt,
-        || store.flush(rt),
+        || store.do_held(rt, alloc, act),
         || store.settle_meanwhile(rt, alloc, hold),
     );
-    let (number, looked) = meanwhile?;
-    Ok((flushed?, number, looked))
+    Ok((refused?, meanwhile?))
 }
 
 fn settle_and_look<
@@ -225,12 +275,19 @@ fn settle_and_look<
     T: Invariants + Drop + Send,
     S: StoredSteps + Drop + Send + Sync,
     R: Clock + Threads + Wait + Sync,
->(rt: &R, alloc: Global, hold: &Hold, front: &Front<D, N, T, S>) -> Result<Meanwhile, Fault> {
+>(
+    rt: &R,
+    alloc: Global,
+    hold: &Hold,
+    front: &Front<D, N, T, S>,
+    act: Act,
+) -> Result<Around, Fault> {
     let mut pass = front.pass(rt)?;
     let plan = front.plan(write(alloc, 0, 1)?)?;
     let _ = front.try_atomically(rt, &mut pass, &plan);
     hold.is_on.store(true, Ordering::SeqCst);
-    flush_and_settle(rt, alloc, hold, front)
+    let (refused, meanwhile) = hold_and_settle(rt, alloc, hold, front, act)?;
+    Ok((refused, meanwhile, front.look(&mut pass)))
 }
 
 fn settle_in_a_store<N: StoreNaming + Send + Sync, R: Clock + Threads + Wait + Sync>(
@@ -238,26 +295,59 @@ fn settle_in_a_store<N: StoreNaming + Send + Sync, R: Clock + Threads + Wait + S
     alloc: Global,
     hold: &Hold,
     opened: Held<R>,
-) -> Result<Meanwhile, Fault>
+    act: Act,
+) -> Result<Around, Fault>
     requires spine { spine_of opened ≡ N.name }
     requires opening { found_of opened ≡ N.opening }
     requires program { N.program ≡ adding }
 {
-    settle_and_look(rt, alloc, hold, &opened.named::<N>())
+    settle_and_look(rt, alloc, hold, &opened.named::<N>(), act)
+}
+
+/// A new store whose syncs and additions are held, once the hold is on.
+fn new_held<'a, R: Clock>(
+    rt: &'a R,
+    alloc: Global,
+    hold: &'a Hold,
+    needs: &'a AtomicU64,
+) -> Result<Held<'a, R>, Fault> {
+    let inner = SimDisk::new(alloc, Layout::new(4, 4)?.end())?;
+    new_with(
+        alloc,
+        HoldDisk { inner, rt, hold },
+        4,
+        Watched { needs, hold },
+    )
 }
 
 #[test]
 fn settle_while_sync_held(rt: HostRuntime) -> Result<(), Fail> {
-    let hold = Hold::new();
-    let inner = SimDisk::new(rt.alloc(), Layout::new(4, 4)?.end())?;
-    let disk = HoldDisk {
-        inner,
-        rt: &rt,
-        hold: &hold,
-    };
-    let opened = new_on(rt.alloc(), disk)?;
-    let answers = settle_in_a_store::<Brand, _>(&rt, rt.alloc(), &hold, opened);
-    assert_eq!(rt; answers, Ok((1, Some(1), 0)));
+    let (hold, needs) = (Hold::new(), AtomicU64::new(0));
+    let opened = new_held(&rt, rt.alloc(), &hold, &needs)?;
+    let answers = settle_in_a_store::<Brand, _>(&rt, rt.alloc(), &hold, opened, Act::Flush);
+    assert_eq!(rt; answers, Ok((None, ([Some(1), Some(2)], 0), 1)));
+    assert!(rt; !hold.gave_up.load(Ordering::SeqCst));
+    Ok(())
+}
+
+#[test]
+fn settle_while_the_sync_of_a_checkpoint_is_held(rt: HostRuntime) -> Result<(), Fail> {
+    let (hold, needs) = (Hold::new(), AtomicU64::new(0));
+    let opened = new_held(&rt, rt.alloc(), &hold, &needs)?;
+    let answers = settle_in_a_store::<Brand, _>(&rt, rt.alloc(), &hold, opened, Act::Checkpoint);
+    // a checkpoint makes nothing durable that waits
+    assert_eq!(rt; answers, Ok((None, ([Some(1), Some(2)], 0), 0)));
+    assert!(rt; !hold.gave_up.load(Ordering::SeqCst));
+    Ok(())
+}
+
+#[test]
+fn an_attempt_is_made_once_where_another_commits_meanwhile(rt: HostRuntime) -> Result<(), Fail> {
+    let (hold, needs) = (Hold::new(), AtomicU64::new(0));
+    let opened = new_held(&rt, rt.alloc(), &hold, &needs)?;
+    let answers = settle_in_a_store::<Brand, _>(&rt, rt.alloc(), &hold, opened, Act::Attempt);
+    let conflict = Some(Fault::Conflict);
+    assert_eq!(rt; answers, Ok((conflict, ([Some(1), Some(2)], 0), 0)));
     assert!(rt; !hold.gave_up.load(Ordering::SeqCst));
     Ok(())
 }
