@@ -39,20 +39,23 @@ fn transfer<T: Invariants + Drop, S: StoredSteps + Drop>(
 ) -> Result<(bool, (i64, i64)), Fault>
     requires { T.vars table ≡ 2 }
 {
+    let (moves, loses) = (move_thirty(alloc)?, write(alloc, 1, 0)?);
     let mut world = new_store(alloc, table, steps)?;
-    let (from, to) = (write(alloc, 0, -30)?, write(alloc, 1, 30)?);
-    let name = Name::new("balanced")?;
-    commit(
-        &mut world,
-        Tx::Seq(vec![in alloc; from, to, Tx::Check { name }]?),
-    );
-    let lost = commit(&mut world, write(alloc, 1, 0)?);
+    commit(&mut world, moves);
+    let lost = commit(&mut world, loses);
     world.step(Event::Flush);
     world.step(Event::Reopen);
     if !world.is_open() {
         return Err(Fault::Closed);
     }
     Ok((lost, accounts(&world)))
+}
+
+/// The transaction that moves 30 from account 0 to account 1, and registers the invariant.
+fn move_thirty(alloc: Global) -> Result<Tx, Fault> {
+    let (from, to) = (write(alloc, 0, -30)?, write(alloc, 1, 30)?);
+    let name = Name::new("balanced")?;
+    Ok(Tx::Seq(vec![in alloc; from, to, Tx::Check { name }]?))
 }
 
 /// A store of two variables on a device in memory.
