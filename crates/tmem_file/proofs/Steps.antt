@@ -1,8 +1,9 @@
 -- One call more of a file, as every device shows it.
-use Rattle.std.proofs.Common.{◌≡◌, ⊎_elim, ℕ, ◌+◌, ◌≤◌, List, ◌∷◌, length, sym, subst}
+use Rattle.std.proofs.Common.{◌≡◌, ⊎_elim, ℕ, ◌+◌, ◌≤◌, Bool, true, false, not, List, [], ◌∷◌, length, sym, subst}
+use Rattle.std.proofs.lemmas.Bool.{false≢true}
 use Rattle.tmem_disk.specs.Disk.{SameOutside}
 use Rattle.tmem_disk.proofs.Laws.{SameOutside-overwritten, SameOutside-refl}
-use Rattle.tmem_file.specs.Record.{Event, holds, synced, seen_after, has_lost, LeftAfter, reach}
+use Rattle.tmem_file.specs.Record.{Event, gave, holds, tore, synced, lost, seen_after, has_lost, is_synced, by_case, LeftAfter, reach}
 use Rattle.tmem_file.specs.Recorded.{Spoils}
 use Rattle.tmem_file.specs.Held.{seen_long, seen_stays, from_case}
 
@@ -30,3 +31,17 @@ module _ (start start' : List ℕ) (before after : List Event) (same : start' �
   synced_leaves is c left = from_case (has_lost before) (λ was. was)
       (λ seen. subst (λ (b : List ℕ). LeftAfter start before b) (sym seen) (seen_stays start before within))
       (subst (λ (es : List Event). LeftAfter start es c) is (subst (λ (s : List ℕ). LeftAfter s after c) same left))
+
+-- the second of two facts, where the first is ruled out
+second : (P Q : Type 0) (b : Bool) → not b ≡ true → by_case b P Q → Q
+second P Q true is case = absurd (false≢true is)
+second P Q false is case = case
+
+-- where nothing was written since a sync that succeeded, a stop leaves what a read gives
+pub nothing_to_sync : (start : List ℕ) (events : List Event) → is_synced events ≡ true → (c : List ℕ) → LeftAfter start events c → c ≡ seen_after start events
+nothing_to_sync start [] is c left = absurd (false≢true is)
+nothing_to_sync start (gave at bytes ∷ earlier) is c left = nothing_to_sync start earlier is c left
+nothing_to_sync start (holds at bytes ∷ earlier) is c left = absurd (false≢true is)
+nothing_to_sync start (tore at n ∷ earlier) is c left = absurd (false≢true is)
+nothing_to_sync start (synced ∷ earlier) is c left = second _ _ (has_lost earlier) is left
+nothing_to_sync start (lost ∷ earlier) is c left = absurd (false≢true is)

@@ -1,6 +1,6 @@
 -- What a run knows of a file: the bytes that it gave when it was opened, and what its calls did since. What it holds, what
 -- a stop (a crash) may leave of it, and whether its answers agree, are read off that.
-use Rattle.std.specs.Prelude.{◌≡◌, ◌⊎◌, ⊤, ℕ, ◌+◌, ◌≤◌, max, Bool, true, false, ◌||◌, List, [], ◌∷◌, length, slice_range}
+use Rattle.std.specs.Prelude.{◌≡◌, ◌⊎◌, ⊤, ℕ, ◌+◌, ◌≤◌, max, Bool, true, false, not, ◌||◌, List, [], ◌∷◌, length, slice_range}
 use Rattle.tmem_disk.specs.Disk.{overwritten, SameOutside}
 
 -- What came of a call.
@@ -39,6 +39,15 @@ is_loss lost = true
 abbrev pub has_lost : List Event → Bool
 has_lost [] = false
 has_lost (event ∷ earlier) = is_loss event || has_lost earlier
+
+-- a sync succeeded, nothing was written since, and it is known for sure what the file holds
+abbrev pub is_synced : List Event → Bool
+is_synced [] = false
+is_synced (gave at bytes ∷ earlier) = is_synced earlier
+is_synced (holds at bytes ∷ earlier) = false
+is_synced (tore at n ∷ earlier) = false
+is_synced (synced ∷ earlier) = not (has_lost earlier)
+is_synced (lost ∷ earlier) = false
 
 -- one fact or another
 abbrev pub by_case : Bool → Type 0 → Type 0 → Type 0

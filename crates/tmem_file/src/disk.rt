@@ -110,7 +110,11 @@ impl Disk for FileDisk {
         Ok(())
     }
 
+    // The system is not asked where it has nothing to sync.
     fn sync(&mut self) -> Result<(), DeviceFault> {
+        if self.file.is_synced() {
+            return Ok(());
+        }
         if self.file.sync().is_err() {
             self.note(DeviceFault::Sync);
             return Err(DeviceFault::Sync);

@@ -55,7 +55,7 @@ impl NewFile {
         }
     }
 
-    /// Syncs the file, gives it its name, and syncs the folder. It never takes the name from a file that has it. Refused by
+    /// Syncs the file where that is left to do, gives it its name, and syncs the folder. It never takes the name from a file that has it. Refused by
     /// `Device` where a call fails: this file has the name then, whole, or does not have it.
     pub fn place<R: Files<File = File>>(self, rt: &R) -> Result<FileDisk, Fault>
         ensures placed { IfOk result (λ disk. IsPlaced (view_of self.disk) (view_of disk)) }

@@ -3,7 +3,7 @@
 ghost use Rattle.std.specs.Prelude.{◌≡◌, false, ◌+◌, ◌≤◌, ◌<◌, ◌^◌, pos, List, [], ◌∷◌, length, replicate, IfOk, OnOk, OnErr};
 ghost use Rattle.std.specs.Int.Signed.{◌<ℤ◌};
 ghost use Rattle.std.specs.Fd.{file_raw_fd};
-ghost use Rattle.tmem_file.specs.Record.{Event, gave, holds, synced, lost, has_lost};
+ghost use Rattle.tmem_file.specs.Record.{Event, gave, holds, synced, lost, has_lost, is_synced};
 ghost use Rattle.tmem_file.specs.Recorded.{bytes_of, event_of, start_of, events_of, Spoils};
 
 use crate::record::{Bytes, Call, Calls};
@@ -11,8 +11,9 @@ use std::fs::File;
 use std::io::{self, ErrorKind};
 use std::os::unix::fs::FileExt;
 
-// So many bytes of a file are read or written at once as it is opened or made.
-const PIECE: usize = 4096;
+// So many bytes of a file are read or written at once where that is done for the record: as it is opened or made, and after a
+// write that failed.
+const PIECE: usize = 65536;
 
 /// An open file and the record of its calls.
 #[derive(Drop)]
@@ -22,9 +23,12 @@ pub(crate) struct RecordedFile {
     pub(crate) calls: Calls,
     // It is no longer known for sure what the file holds.
     unsure: bool,
+    // A sync succeeded, nothing was written since, and it is known for sure what the file holds.
+    synced: bool,
     ghost long: { length (start_of calls) ≡ size },
     ghost fits: { length (start_of calls) < 2 ^ 64 },
     ghost doubt: { has_lost (events_of calls) ≡ unsure },
+    ghost rest: { is_synced (events_of calls) ≡ synced },
     ghost number: { pos 2 <ℤ file_raw_fd file },
 }
 
@@ -42,6 +46,7 @@ impl RecordedFile {
             size,
             calls: Calls::Start(bytes),
             unsure: false,
+            synced: false,
         })
     }
 
@@ -57,6 +62,7 @@ impl RecordedFile {
             size,
             calls: Calls::Start(bytes),
             unsure: false,
+            synced: false,
         })
     }
 
@@ -65,6 +71,13 @@ impl RecordedFile {
         ensures { result ≡ length (start_of self.now.calls) }
     {
         self.size
+    }
+
+    /// Has a sync succeeded, was nothing written since, and is it known for sure what the file holds? A sync has nothing to do.
+    pub(crate) fn is_synced(&self) -> bool
+        ensures { result ≡ is_synced (events_of self.now.calls) }
+    {
+        self.synced
     }
 
     /// Fills a buffer with the bytes from a place on.
@@ -134,6 +147,11 @@ impl RecordedFile {
         ensures start { start_of self.new.calls ≡ start_of self.old.calls }
         ensures events { events_of self.new.calls ≡ event_of call.now ∷ events_of self.old.calls }
     {
+        self.synced = match call {
+            Call::Gave(_, _) => self.synced,
+            Call::Synced => !self.unsure,
+            _ => false,
+        };
         self.unsure = call.is_loss() || self.unsure;
         self.calls = self.calls.with(call);
     }

@@ -6,8 +6,8 @@ pub loop-done-preserved : goal.loop-done-preserved
 loop-done-preserved c =
     let done = c.loop-done.done in
     let n = c.min-n.result in
-    let short : n ≤ 4096 = search rules in
+    let short : n ≤ 65536 = search rules in
     record {
       within = search rules;
-      so_far = c.and-written.ensures ∙ ap (λ (l : List ℕ). l ++ take n (replicate 4096 0)) c.loop-done.invariant.so_far ∙ ap (λ (l : List ℕ). replicate done 0 ++ l) (take-replicate n 4096 0 short) ∙ replicate-append-replicate done n 0;
+      so_far = c.and-written.ensures ∙ ap (λ (l : List ℕ). l ++ take n (replicate 65536 0)) c.loop-done.invariant.so_far ∙ ap (λ (l : List ℕ). replicate done 0 ++ l) (take-replicate n 65536 0 short) ∙ replicate-append-replicate done n 0;
     }

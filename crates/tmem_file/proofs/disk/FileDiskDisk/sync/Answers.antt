@@ -1,8 +1,13 @@
-use Rattle.std.proofs.Common.{rules, ◌≡◌, ◌∷◌}
-use Rattle.tmem_file.specs.Record.{synced}
-use Rattle.tmem_file.specs.Recorded.{events_of}
-use Rattle.tmem_file.proofs.Steps.{synced_leaves}
+use Rattle.std.proofs.Common.{rules, ◌≡◌, ◌∷◌, true}
+use Rattle.tmem_file.specs.Record.{synced, is_synced}
+use Rattle.tmem_file.specs.Recorded.{start_of, events_of}
+use Rattle.tmem_file.proofs.Steps.{synced_leaves, nothing_to_sync}
 use Rattle.tmem_file.proofs.disk.FileDiskDisk.sync.Goals as goal
+
+pub returns-then-is_synced-clause-durable : goal.returns-then-is_synced-clause-durable
+returns-then-is_synced-clause-durable c =
+    let is : is_synced (events_of c.args.self.now.file.calls) ≡ true = search rules in
+    λ k left it. nothing_to_sync (start_of c.args.self.now.file.calls) (events_of c.args.self.now.file.calls) is left it
 
 pub returns-clause-stop : goal.returns-clause-stop
 returns-clause-stop c =
