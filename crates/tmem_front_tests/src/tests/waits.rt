@@ -86,13 +86,25 @@ fn seen_by(answer: Result<Settled, Fault>) -> Option<Saw> {
 /// What a transaction sees that waits until another one commits, the number of that, and what a look answers once it was flushed.
 type Waits = (Option<Saw>, Option<u64>, u64);
 
+/// By which call a transaction is committed.
+#[derive(Clone, Copy)]
+enum By {
+    TryAtomically,
+    Atomically,
+}
+
 /// What three threads do with a store that they share. The functions that start them know no more of the store.
 trait Needing {
     /// What a transaction sees that needs variable 2 to be 1.
     fn need<R: Wait>(&self, rt: &R, alloc: Global) -> Result<Option<Saw>, Fault>;
 
     /// The number of a transaction that writes 1 there. The other one has retried by then, or it finds what is written.
-    fn write_later<R: Clock + Wait>(&self, rt: &R, alloc: Global) -> Result<Option<u64>, Fault>;
+    fn write_later<R: Clock + Wait>(
+        &self,
+        rt: &R,
+        alloc: Global,
+        by: By,
+    ) -> Result<Option<u64>, Fault>;
 
     /// A turn of a flusher, which waits for a transaction.
     fn flush_next<R: Wait>(&self, rt: &R) -> Result<(), Fault>;
@@ -106,11 +118,20 @@ impl<D: Disk + Drop, N: StoreNaming, T: Invariants + Drop, S: StoredSteps + Drop
         Ok(seen_by(self.atomically(rt, &mut pass, &plan)))
     }
 
-    fn write_later<R: Clock + Wait>(&self, rt: &R, alloc: Global) -> Result<Option<u64>, Fault> {
+    fn write_later<R: Clock + Wait>(
+        &self,
+        rt: &R,
+        alloc: Global,
+        by: By,
+    ) -> Result<Option<u64>, Fault> {
         let mut pass = self.pass(rt)?;
         let plan = self.plan(write(alloc, 2, 1)?)?;
         thread::sleep(rt, Duration::from_millis(50));
-        Ok(number_of(self.try_atomically(rt, &mut pass, &plan)))
+        let answer = match by {
+            By::TryAtomically => self.try_atomically(rt, &mut pass, &plan),
+            By::Atomically => self.atomically(rt, &mut pass, &plan),
+        };
+        Ok(number_of(answer))
     }
 
     fn flush_next<R: Wait>(&self, rt: &R) -> Result<(), Fault> {
@@ -122,8 +143,13 @@ fn flush_and_write<F: Needing + Sync, R: Clock + Threads + Wait + Sync>(
     rt: &R,
     alloc: Global,
     store: &F,
+    by: By,
 ) -> Result<Option<u64>, Fault> {
-    let (flushed, wrote) = join(rt, || store.flush_next(rt), || store.write_later(rt, alloc));
+    let (flushed, wrote) = join(
+        rt,
+        || store.flush_next(rt),
+        || store.write_later(rt, alloc, by),
+    );
     flushed?;
     wrote
 }
@@ -132,11 +158,12 @@ fn need_and_write<F: Needing + Sync, R: Clock + Threads + Wait + Sync>(
     rt: &R,
     alloc: Global,
     store: &F,
+    by: By,
 ) -> Result<(Option<Saw>, Option<u64>), Fault> {
     let (saw, wrote) = join(
         rt,
         || store.need(rt, alloc),
-        || flush_and_write(rt, alloc, store),
+        || flush_and_write(rt, alloc, store, by),
     );
     Ok((saw?, wrote?))
 }
@@ -147,12 +174,12 @@ fn wait_for_another<
     T: Invariants + Drop + Send,
     S: StoredSteps + Drop + Send + Sync,
     R: Clock + Threads + Wait + Sync,
->(rt: &R, alloc: Global, front: &Front<D, N, T, S>) -> Result<Waits, Fault> {
+>(rt: &R, alloc: Global, front: &Front<D, N, T, S>, by: By) -> Result<Waits, Fault> {
     let mut pass = front.pass(rt)?;
     let plan = front.plan(write(alloc, 0, 1)?)?;
     let _ = front.try_atomically(rt, &mut pass, &plan);
     front.flush_once(rt)?;
-    let (saw, wrote) = need_and_write(rt, alloc, front)?;
+    let (saw, wrote) = need_and_write(rt, alloc, front, by)?;
     Ok((saw, wrote, front.look(&mut pass)))
 }
 
@@ -163,29 +190,54 @@ fn wait_in_a_store<N: StoreNaming + Send + Sync, R: Clock + Threads + Wait + Syn
     rt: &R,
     alloc: Global,
     opened: Counting,
+    by: By,
 ) -> Result<Waits, Fault>
     requires spine { spine_of opened ≡ N.name }
     requires opening { found_of opened ≡ N.opening }
     requires program { N.program ≡ adding }
 {
-    wait_for_another(rt, alloc, &opened.named::<N>())
+    wait_for_another(rt, alloc, &opened.named::<N>(), by)
 }
 
-#[test]
-fn a_commit_wakes_each_thread_that_waits_for_one(rt: HostRuntime) -> Result<(), Fail> {
+/// What three threads answer in a new store, and how often the number is needed.
+fn wait_by<R: Clock + Threads + Wait + Sync>(
+    rt: &R,
+    alloc: Global,
+    by: By,
+) -> Result<(Waits, u64), Fault> {
     let needs = AtomicU64::new(0);
     let hold = Hold::new();
-    let disk = SimDisk::new(rt.alloc(), Layout::new(4, 4)?.end())?;
+    let disk = SimDisk::new(alloc, Layout::new(4, 4)?.end())?;
     let steps = Watched {
         needs: &needs,
         hold: &hold,
     };
-    let opened = new_with(rt.alloc(), disk, 4, steps)?;
-    let answers = wait_in_a_store::<Brand, _>(&rt, rt.alloc(), opened);
+    let opened = new_with(alloc, disk, 4, steps)?;
+    let waits = wait_in_a_store::<Brand, _>(rt, alloc, opened, by)?;
+    Ok((waits, needs.load(Ordering::SeqCst)))
+}
+
+/// The one that waited sees what the other one wrote, and that is durable. The number is needed once after that, and once before
+/// at the most.
+fn are_all_woken(answer: Result<(Waits, u64), Fault>) -> bool {
     let registers = [1, 1, 1, 0, 0, 0, 0, 0, 0, 0, 0, 0, 0, 0, 0, 0];
-    assert_eq!(rt; answers, Ok((Some((2, registers)), Some(1), 2)));
-    // once after the other one committed, and once before it at the most
-    assert!(rt; needs.load(Ordering::SeqCst) <= 2);
+    match answer {
+        Ok((waits, needs)) => waits == (Some((2, registers)), Some(1), 2) && needs <= 2,
+        Err(_) => false,
+    }
+}
+
+#[test]
+fn a_commit_wakes_each_thread_that_waits_for_one(rt: HostRuntime) -> Result<(), Fail> {
+    assert!(rt; are_all_woken(wait_by(&rt, rt.alloc(), By::TryAtomically)));
+    Ok(())
+}
+
+#[test]
+fn a_commit_of_atomically_wakes_each_thread_that_waits_for_one(
+    rt: HostRuntime,
+) -> Result<(), Fail> {
+    assert!(rt; are_all_woken(wait_by(&rt, rt.alloc(), By::Atomically)));
     Ok(())
 }
 

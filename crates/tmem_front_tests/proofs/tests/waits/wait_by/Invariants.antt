@@ -1,6 +1,6 @@
 use Rattle.tmem_front.specs.Held.{found_of, spine_of}
 use Rattle.tmem_front_tests.specs.Examples.{adding}
-use Rattle.tmem_front_tests.proofs.tests.waits.a_commit_wakes_each_thread_that_waits_for_one.Given as goal
+use Rattle.tmem_front_tests.proofs.tests.waits.wait_by.Given as goal
 
 -- the store that was just opened
 abbrev pub ghosts-wait_in_a_store-N-Naming : goal.ghosts-wait_in_a_store-N-Naming
