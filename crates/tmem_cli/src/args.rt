@@ -161,10 +161,10 @@ fn bench_command<'a>(alloc: Global) -> Result<Command<'a>, AllocError>
     ensures local { IfOk result (λ command. (fields_of command).has_globals ≡ false) }
 {
     Command::new(alloc, "bench")
-        .about("Times the jobs of a service on a store in memory and in a file")
+        .about("Times transactions and the jobs of a service, which takes over a minute")
         .arg(disk_arg(
             alloc,
-            "The file of the timed stores, which must not be there yet [default: tmem-bench.store]",
+            "The file of the timed stores, which must not be there yet, and is removed again [default: tmem-bench.store]",
         ))
 }
 

@@ -1,5 +1,5 @@
 -- What the columns of the table say.
-use Rattle.std.specs.Prelude.{ℕ, Bool, true, false, pos}
+use Rattle.std.specs.Prelude.{ℕ, List, Bool, true, false, pos, codes}
 use Rattle.std.specs.Duration.{as_secs_f64}
 use Rattle.std.specs.Float.{Float, binary64}
 use Rattle.std.specs.Float.Ieee.{div, of_int}
@@ -19,6 +19,18 @@ rate_of figures = div binary64 (of_int binary64 (pos figures.count.operations)) 
 abbrev pub callers_of : Callers → ℕ
 callers_of callers.Alone = 1
 callers_of (callers.Beside n) = n
+
+-- how many flushers are beside them, as a word
+abbrev pub flusher_of : Callers → List ℕ
+flusher_of callers.Alone = codes "none"
+flusher_of (callers.Beside n) = codes "one"
+
+-- what a line of the table calls what they do
+abbrev pub name_of : Act → List ℕ
+name_of act.Add = codes "add, each awaited"
+name_of act.AddMany = codes "add, each 64th awaited"
+name_of act.Transfer = codes "transfer, each awaited"
+name_of act.Look = codes "two reads"
 
 -- after how many operations a caller waits until the last of them is durable
 abbrev pub stride_of : Act → ℕ

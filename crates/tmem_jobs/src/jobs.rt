@@ -1,6 +1,6 @@
 // What the callers of a store do.
 ghost use Rattle.std.specs.Prelude.{◌≡◌, ◌<◌};
-ghost use Rattle.tmem_jobs.specs.Figures.{callers_of, stride_of};
+ghost use Rattle.tmem_jobs.specs.Figures.{callers_of, flusher_of, name_of, stride_of};
 
 use std::alloc::{AllocError, Global};
 use tmem_disk::{Fault, Name};
@@ -48,7 +48,9 @@ pub enum Act {
 
 impl Act {
     /// What a line of the table calls it.
-    pub fn name(self) -> &'static str {
+    pub fn name(self) -> &'static str
+        ensures { result.now ≡ name_of self }
+    {
         match self {
             Act::Add => "add, each awaited",
             Act::AddMany => "add, each 64th awaited",
@@ -99,7 +101,9 @@ impl Callers {
     }
 
     /// How many flushers are beside them, as a word.
-    pub fn flusher(self) -> &'static str {
+    pub fn flusher(self) -> &'static str
+        ensures { result.now ≡ flusher_of self }
+    {
         match self {
             Callers::Alone => "none",
             Callers::Beside(_) => "one",

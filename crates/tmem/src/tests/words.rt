@@ -13,7 +13,7 @@ Usage: tmem <COMMAND>
 Commands:
   run      Plays a script on a store in a file or in memory
   threads  Lets threads count up in a new store in a file or in memory
-  bench    Times the jobs of a service on a store in memory and in a file
+  bench    Times transactions and the jobs of a service, which takes over a minute
   help     Print this message or the help of the given subcommand(s)
 
 Options:
@@ -46,12 +46,12 @@ Options:
   -h, --help         Print help
 ";
 
-const BENCH_HELP: &str = "Times the jobs of a service on a store in memory and in a file
+const BENCH_HELP: &str = "Times transactions and the jobs of a service, which takes over a minute
 
 Usage: tmem bench [OPTIONS]
 
 Options:
-      --disk <PATH>  The file of the timed stores, which must not be there yet [default: tmem-bench.store]
+      --disk <PATH>  The file of the timed stores, which must not be there yet, and is removed again [default: tmem-bench.store]
   -h, --help         Print help
 ";
 
