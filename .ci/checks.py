@@ -45,19 +45,19 @@ def listed(*patterns):
 def run(words, given=b"", room=None, **env):
     """Runs a program on an input: its status, its output, and what it says on the error stream."""
     try:
-        it = subprocess.run(words, input=given, stdout=subprocess.PIPE, stderr=subprocess.PIPE, cwd=room, env={**os.environ, **env}, timeout=300)
+        it = subprocess.run(words, input=given, stdout=subprocess.PIPE, stderr=subprocess.PIPE, cwd=room, env={**os.environ, **env}, timeout=120)
     except subprocess.TimeoutExpired:
         return "no end", b"", b""
     return it.returncode, it.stdout, it.stderr
 
 
 def watched(room, words, given=b"", **env):
-    """Runs a program under watch.c with these variables: what it does, and its calls (name, file, place, bytes)."""
+    """Runs a program in a folder, under watch.c with these variables: what it does, and its calls (name, file, place, bytes)."""
     library, calls = f"{room}/watch.so", f"{room}/calls"
     if not os.path.exists(library):
         subprocess.run([os.environ.get("CC", "cc"), "-O1", "-shared", "-fPIC", "-o", library, ".ci/watch.c", "-ldl"], check=True)
     open(calls, "w", encoding="utf-8").close()
-    told = run(words, given, LD_PRELOAD=library, CALLS=calls, **env)
+    told = run(words, given, room, LD_PRELOAD=library, CALLS=calls, **env)
     with open(calls, encoding="utf-8") as lines:
         return told, [(call, name, int(at), int(count)) for call, name, at, count in map(str.split, lines)]
 

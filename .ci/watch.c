@@ -74,17 +74,12 @@ ssize_t pread(int file, void *bytes, size_t count, off_t at) {
   return real(file, bytes, few(count), at);
 }
 
-int fsync(int file) {
-  REAL(fsync);
-  say_of("sync", file, 0, 0);
-  return fails() ? -1 : real(file);
-}
-
-int fdatasync(int file) {
-  REAL(fdatasync);
-  say_of("sync", file, 0, 0);
-  return fails() ? -1 : real(file);
-}
+#define SYNC(call) int call(int file) { \
+  REAL(call); \
+  say_of("sync", file, 0, 0); \
+  return fails() ? -1 : real(file); }
+SYNC(fsync)
+SYNC(fdatasync)
 
 int link(const char *old, const char *new) {
   REAL(link);
