@@ -1,0 +1,169 @@
+//! A world that is open, and what is played on it.
+ghost use Rattle.std.specs.Prelude.{◌≡◌, IfOk};
+ghost use Rattle.tmem_world.specs.Represents.{numbers_of, HoldsSession};
+
+use crate::Mode;
+use crate::calls::{Calls, counted};
+use crate::failure::Failure;
+use crate::printing::{print_item, print_line, print_text};
+use crate::row::{Events, Numbers, Part};
+use std::alloc::Global;
+use std::io::Write;
+use tmem_builtins::names;
+use tmem_disk::{Fault, SimDisk};
+use tmem_invariants::Invariants;
+use tmem_script::ReplyLine;
+use tmem_tree::StoredSteps;
+use tmem_world::{Reply, World};
+
+/// A world, and how many variables it has.
+#[derive(Drop)]
+struct Session<T: Invariants, S: StoredSteps> {
+    world: World<SimDisk, T, S>,
+    vars: u16,
+    ghost fits: { (numbers_of world).vars ≡ vars },
+}
+
+/// Opens a device, plays parts on it, and hands it back. What an opening is refused by is a line too.
+pub(crate) fn play_session<T: Invariants + Drop, S: StoredSteps + Drop, W: Write>(
+    alloc: Global,
+    mode: Mode,
+    disk: SimDisk,
+    numbers: Numbers,
+    parts: Vec<Part>,
+    table: T,
+    steps: S,
+    calls: &Calls,
+    out: &mut W,
+) -> Result<SimDisk, Failure>
+    requires { T.vars table ≡ numbers.vars }
+{
+    match opened(alloc, disk, numbers, table, steps) {
+        Ok(session) => play_parts(session, mode, parts, calls, out),
+        Err((fault, disk)) => {
+            print_line(out, fault)?;
+            if parts.is_empty() {
+                Ok(disk)
+            } else {
+                Err(Failure::NoSession)
+            }
+        }
+    }
+}
+
+fn opened<T: Invariants + Drop, S: StoredSteps + Drop>(
+    alloc: Global,
+    disk: SimDisk,
+    numbers: Numbers,
+    table: T,
+    steps: S,
+) -> Result<Session<T, S>, (Fault, SimDisk)>
+    requires { T.vars table ≡ numbers.vars }
+    ensures { IfOk result (λ session. HoldsSession session.world) }
+{
+    let vars = numbers.vars;
+    match World::open(alloc, disk, vars, numbers.slots, table, steps) {
+        Ok(world) => Ok(Session { world, vars }),
+        Err(refusal) => Err(refusal),
+    }
+}
+
+// Prints how many transactions were found, and plays parts.
+fn play_parts<T: Invariants + Drop, S: StoredSteps + Drop, W: Write>(
+    mut session: Session<T, S>,
+    mode: Mode,
+    parts: Vec<Part>,
+    calls: &Calls,
+    out: &mut W,
+) -> Result<SimDisk, Failure>
+    requires { HoldsSession session.world }
+{
+    let opening = Reply::Opened(session.world.count());
+    print_line(out, ReplyLine(opening))?;
+    for part in parts {
+        session.play_part(mode, part, calls, out)?;
+    }
+    Ok(session.into_disk())
+}
+
+impl<T: Invariants + Drop, S: StoredSteps + Drop> Session<T, S> {
+    fn play_part<W: Write>(
+        &mut self,
+        mode: Mode,
+        part: Part,
+        calls: &Calls,
+        out: &mut W,
+    ) -> Result<(), Failure> {
+        match part {
+            Part::Show => self.show(out),
+            Part::Calls => print_line(
+                out,
+                format_args!(
+                    "calls invariants={} steps={}",
+                    counted(&calls.tests),
+                    counted(&calls.steps)
+                ),
+            ),
+            Part::Events(events) => match mode {
+                Mode::Step => self.step_all(events, out),
+                Mode::Play => self.play_all(events, out),
+            },
+        }
+    }
+
+    // Plays events one by one.
+    fn step_all<W: Write>(&mut self, events: Events, out: &mut W) -> Result<(), Failure> {
+        let Events { list } = events;
+        for event in list {
+            let reply = self.world.step(event);
+            print_line(out, ReplyLine(reply))?;
+        }
+        Ok(())
+    }
+
+    // Plays events as one list.
+    fn play_all<W: Write>(&mut self, events: Events, out: &mut W) -> Result<(), Failure> {
+        let Events { list } = events;
+        let replies = self.world.play(list)?;
+        for reply in replies {
+            print_line(out, ReplyLine(reply))?;
+        }
+        Ok(())
+    }
+
+    // Prints the present state.
+    fn show<W: Write>(&self, out: &mut W) -> Result<(), Failure> {
+        if !self.world.is_open() {
+            return print_line(out, ReplyLine(Reply::Fault(Fault::Closed)));
+        }
+        print_text(
+            out,
+            format_args!("state count={} names=", self.world.count()),
+        )?;
+        self.print_names(out)?;
+        print_text(out, " values=")?;
+        for var in 0..self.vars {
+            print_item(out, var == 0, self.world.value(var))?;
+        }
+        print_line(out, "")
+    }
+
+    // Prints the names that are registered.
+    fn print_names<W: Write>(&self, out: &mut W) -> Result<(), Failure>
+        requires { HoldsSession self.now.world }
+    {
+        let mut is_first = true;
+        for name in &names() {
+            if self.world.has(name) {
+                print_item(out, is_first, *name)?;
+                is_first = false;
+            }
+        }
+        Ok(())
+    }
+
+    fn into_disk(self) -> SimDisk {
+        let Session { world, .. } = self;
+        world.into_disk()
+    }
+}
