@@ -37,13 +37,14 @@ pub(crate) fn evaluate_twice<S: StoredSteps, W: Write>(
     let by_plain = counted(&calls.steps);
     let other = by_cursor(alloc, &plan, steps, values)?;
     let by_other = counted(&calls.steps);
-    match (plain, other) {
-        (Some(plain), Some(other)) if are_alike(&plain, &other) => {
-            print_attempt(&plain, out)?;
-            print_line(out, format_args!(" calls={by_plain},{by_other}"))
-        }
-        _ => print_line(out, "differ"),
+    let (Some(plain), Some(other)) = (plain, other) else {
+        return print_line(out, "differ");
+    };
+    if !are_alike(&plain, &other) {
+        return print_line(out, "differ");
     }
+    print_attempt(&plain, out)?;
+    print_line(out, format_args!(" calls={by_plain},{by_other}"))
 }
 
 // The value of a variable.

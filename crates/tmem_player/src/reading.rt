@@ -76,6 +76,7 @@ fn add_one(alloc: Global, entry: &Value, draft: &mut Draft) -> Result<(), FormEr
 fn add_word(word: &str, draft: &mut Draft) -> Result<(), FormError> {
     match word {
         "show" => draft.add_part(Part::Show),
+        "registers" => draft.add_part(Part::Registers),
         "calls" => draft.add_part(Part::Calls),
         "restart" => draft.add_act(Act::Touch(Touch::Restart)),
         "flush" => draft.add_event(Event::Flush),

@@ -77,6 +77,8 @@ pub(crate) enum Job {
 pub(crate) enum Part {
     Events(Events),
     Show,
+    /// Prints the registers of the last transaction that was answered with some.
+    Registers,
     /// Prints how often closures were called since the last time.
     Calls,
 }

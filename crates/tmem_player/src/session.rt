@@ -13,14 +13,16 @@ use tmem_builtins::names;
 use tmem_disk::{Fault, SimDisk};
 use tmem_invariants::Invariants;
 use tmem_script::ReplyLine;
-use tmem_tree::StoredSteps;
-use tmem_world::{Reply, World};
+use tmem_tree::{REGISTERS, StoredSteps};
+use tmem_world::{Reply, Settled, World};
 
 /// A world, and how many variables it has.
 #[derive(Drop)]
 struct Session<T: Invariants, S: StoredSteps> {
     world: World<SimDisk, T, S>,
     vars: u16,
+    // of the last transaction that was answered with some
+    registers: [i64; REGISTERS],
     ghost fits: { (numbers_of world).vars ≡ vars },
 }
 
@@ -63,7 +65,11 @@ fn opened<T: Invariants + Drop, S: StoredSteps + Drop>(
 {
     let vars = numbers.vars;
     match World::open(alloc, disk, vars, numbers.slots, table, steps) {
-        Ok(world) => Ok(Session { world, vars }),
+        Ok(world) => Ok(Session {
+            world,
+            vars,
+            registers: [0; REGISTERS],
+        }),
         Err(refusal) => Err(refusal),
     }
 }
@@ -96,6 +102,7 @@ impl<T: Invariants + Drop, S: StoredSteps + Drop> Session<T, S> {
     ) -> Result<(), Failure> {
         match part {
             Part::Show => self.show(out),
+            Part::Registers => print_registers(&self.registers, out),
             Part::Calls => print_line(
                 out,
                 format_args!(
@@ -116,7 +123,7 @@ impl<T: Invariants + Drop, S: StoredSteps + Drop> Session<T, S> {
         let Events { list } = events;
         for event in list {
             let reply = self.world.step(event);
-            print_line(out, ReplyLine(reply))?;
+            self.tell(reply, out)?;
         }
         Ok(())
     }
@@ -126,9 +133,20 @@ impl<T: Invariants + Drop, S: StoredSteps + Drop> Session<T, S> {
         let Events { list } = events;
         let replies = self.world.play(list)?;
         for reply in replies {
-            print_line(out, ReplyLine(reply))?;
+            self.tell(reply, out)?;
         }
         Ok(())
+    }
+
+    // Prints what an event was answered.
+    fn tell<W: Write>(&mut self, reply: Reply, out: &mut W) -> Result<(), Failure> {
+        if let Reply::Settled(
+            Settled::Committed { registers, .. } | Settled::Seen { registers, .. },
+        ) = reply
+        {
+            self.registers = registers;
+        }
+        print_line(out, ReplyLine(reply))
     }
 
     // Prints the present state.
@@ -166,4 +184,13 @@ impl<T: Invariants + Drop, S: StoredSteps + Drop> Session<T, S> {
         let Session { world, .. } = self;
         world.into_disk()
     }
+}
+
+// Prints registers, joined by commas.
+fn print_registers<W: Write>(registers: &[i64; REGISTERS], out: &mut W) -> Result<(), Failure> {
+    print_text(out, "registers ")?;
+    for (i, register) in registers.iter().enumerate() {
+        print_item(out, i == 0, *register)?;
+    }
+    print_line(out, "")
 }
