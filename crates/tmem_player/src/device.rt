@@ -1,5 +1,5 @@
 //! What a row does to its device.
-ghost use Rattle.std.specs.Prelude.{◌≤◌, ◌+◌, length};
+ghost use Rattle.std.specs.Prelude.{◌≡◌, ◌≤◌, ◌+◌, true};
 ghost use Rattle.tmem_disk.specs.SimParts.{view_of};
 
 use crate::failure::Failure;

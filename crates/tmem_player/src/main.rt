@@ -1,11 +1,34 @@
 //! `tmem_player`: plays a row of behavior, which is a JSON file beside its output. It is a tool for tests.
 //!
-//! A row is a script of the program `tmem`, with entries more that only a device in memory has: crashes, failures, bytes
-//! (`row`). `tmem_player step < ROW` plays each event by `World::step`, and `tmem_player play < ROW` hands each longest run of
-//! events to `World::play`. Both print the same.
+//! A row is a script of the program `tmem`, played on a device in memory that was formatted for its numbers. The device is
+//! opened first, as the program does, unless the row begins with an entry that ends a session. These entries are a row's own:
+//!
+//! | Entry | What it does, and prints |
+//! |---|---|
+//! | `"registers"` | prints the registers of the last transaction that was committed or seen |
+//! | `"calls"` | prints how often closures were called since the last time: of invariants, and of stored steps |
+//! | `{"times":[N,[ENTRY,..]]}` | these entries, N times |
+//!
+//! Each of these ends the session, if there is one, and leaves the device as it is:
+//!
+//! | Entry | What it does, and prints |
+//! |---|---|
+//! | `{"open":TABLE}`, `{"open":[TABLE,VARS,SLOTS]}` | opens the device with the invariants of the program (`"builtin"`), with none (`"none"`) or with a `nonneg` that is always false (`"broken"`): `opened COUNT` or a fault |
+//! | `{"fail":[CALL,K]}` | lets call number K from now fail, a `"read"`, a `"write"` or a `"sync"`; prints nothing |
+//! | `{"crash":["write",K,FILL]}`, `{"crash":["place",AT,FILL]}` | stops the device at write number K from now, or at the next one that starts at a place; prints nothing. FILL is `"old"`, `"new"` or a byte, for what was written since the last sync |
+//! | `{"crash":["now",FILL]}` | stops it now; prints nothing |
+//! | `"restart"` | starts the device again: `restarted`, or `not stopped` |
+//! | `{"bytes":[AT,COUNT]}` | prints bytes in hexadecimal |
+//! | `{"write":[AT,[BYTE,..]]}`, `{"copy":[FROM,COUNT,TO]}` | writes bytes, and syncs: `written` or a fault |
+//! | `{"blank":SIZE}` | puts a device of zeros in its place; prints nothing |
+//! | `{"format":[VARS,SLOTS]}` | `formatted` or a fault |
+//! | `{"evaluate":[[VALUE,..],TX]}` | evaluates a transaction where variable 0, 1 and so on have these values, by `evaluate` from the start each time, and by a `Cursor`. Prints what it comes to, and how often each called a stored step; or `differ` |
+//!
+//! `tmem_player step < ROW` plays each event by `World::step`. `tmem_player play < ROW` hands each longest run of events to
+//! `World::play`. Both print the same. A bad row has status 3, and what was printed before it was found bad stays.
 //!
 //! `reading` reads a row, and `draft` puts its entries together. `device` does what they do with the device, `handing` makes the
-//! closures that a world is opened with, `session` plays the events, and `evaluating` evaluates a transaction in two ways.
+//! closures that a world is opened with, `session` plays the events, and `evaluating` evaluates transactions.
 #![tactic(auto)]
 
 mod calls;
