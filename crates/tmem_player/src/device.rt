@@ -88,9 +88,10 @@ fn read(alloc: Global, disk: &mut SimDisk, at: u64, count: u64) -> Result<Vec<u8
     }
     let len = count as usize;
     let mut bytes = vec![in alloc; 0; len]?;
-    disk.read(at, bytes.as_mut_slice())
-        .map_err(|_| Fault::Device)?;
-    Ok(bytes)
+    match disk.read(at, bytes.as_mut_slice()) {
+        Ok(()) => Ok(bytes),
+        Err(_) => Err(Failure::Refused(Fault::Device)),
+    }
 }
 
 // Writes bytes, and syncs.

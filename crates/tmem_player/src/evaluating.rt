@@ -126,8 +126,15 @@ fn are_alike(one: &Attempt, other: &Attempt) -> bool {
 
 // Whether the same variables were read, with the same values, in the same order.
 fn are_read_alike(one: &Reads, other: &Reads) -> bool {
-    one.len() == other.len()
-        && (0..one.len()).all(|index| one.get_index(index) == other.get_index(index))
+    if one.len() != other.len() {
+        return false;
+    }
+    for index in 0..one.len() {
+        if one.get_index(index) != other.get_index(index) {
+            return false;
+        }
+    }
+    true
 }
 
 // Prints an attempt, without the end of its line.

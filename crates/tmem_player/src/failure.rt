@@ -1,32 +1,32 @@
 //! Why a row is not played to its end.
 
 use std::alloc::{AllocError, AllocFailed};
-use std::fmt;
+use std::{fmt, io};
 use tmem_disk::Fault;
 use tmem_forms::FormError;
 
 /// Why a row was not played to its end. Its text is what the user is told.
-#[derive(Debug, Drop)]
+#[derive(Drop)]
 pub(crate) enum Failure {
     /// The command line is another one than `step` or `play`.
     Words,
-    Unreadable,
     /// The input is no row.
     NoRow,
     /// There are events for a world that was not opened.
     NoSession,
     /// A device was not made or not formatted, or memory did not suffice.
     Refused(Fault),
-    Output,
+    /// The input was not read, or a line not printed.
+    Io,
 }
 
 impl Failure {
     /// The status that the program ends with: 3 where the row is bad, 2 where the words are, and else 1.
     pub(crate) fn status(&self) -> u8 {
         match self {
-            Failure::Unreadable | Failure::NoRow | Failure::NoSession => 3,
+            Failure::NoRow | Failure::NoSession => 3,
             Failure::Words => 2,
-            Failure::Refused(_) | Failure::Output => 1,
+            Failure::Refused(_) | Failure::Io => 1,
         }
     }
 }
@@ -35,11 +35,10 @@ impl fmt::Display for Failure {
     fn fmt<W: fmt::Write>(&self, f: &mut fmt::Formatter<W>) -> fmt::Result {
         match self {
             Failure::Words => write!(f, "say step or play"),
-            Failure::Unreadable => write!(f, "cannot read the row"),
             Failure::NoRow => write!(f, "bad row"),
             Failure::NoSession => write!(f, "bad row: events for a world that was not opened"),
             Failure::Refused(fault) => write!(f, "{fault}"),
-            Failure::Output => write!(f, "output failed"),
+            Failure::Io => write!(f, "input or output failed"),
         }
     }
 }
@@ -68,5 +67,11 @@ impl From<FormError> for Failure {
             FormError::Memory(_) => Failure::Refused(Fault::Memory),
             FormError::NoForm => Failure::NoRow,
         }
+    }
+}
+
+impl From<io::Error> for Failure {
+    fn from(_: io::Error) -> Failure {
+        Failure::Io
     }
 }

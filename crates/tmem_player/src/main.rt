@@ -52,7 +52,7 @@ use std::io::{BufWriter, Read, Write};
 use std::process::ExitCode;
 
 /// How the events of a row are played.
-#[derive(Clone, Copy, Debug, PartialEq, Eq)]
+#[derive(Clone, Copy)]
 pub(crate) enum Mode {
     /// One after another.
     Step,
@@ -81,17 +81,16 @@ fn run<R: Read, W: Write>(
     let mode = mode_of(rt)?;
     let text = read_all(rt.alloc(), input)?;
     let row = row_of(rt.alloc(), &text)?;
-    let mut out = BufWriter::new(rt.alloc(), output).map_err(|_| Failure::Output)?;
+    let mut out = BufWriter::new(rt.alloc(), output)?;
     let played = play(rt.alloc(), mode, row, &mut out);
-    out.flush().map_err(|_| Failure::Output)?;
+    out.flush()?;
     played
 }
 
 // The one word of the command line.
 fn mode_of(rt: &(impl Env + AllocGlobal)) -> Result<Mode, Failure> {
-    let words = env::args(rt).map_err(|_| Failure::Words)?;
-    let word: Vec<String> = words.collect(rt.alloc()).map_err(|_| Failure::Words)?;
-    match word.get(1).map(|word| word.as_str()) {
+    let word = env::args(rt)?.nth(1);
+    match word.as_deref() {
         Some("step") => Ok(Mode::Step),
         Some("play") => Ok(Mode::Play),
         _ => Err(Failure::Words),
@@ -101,8 +100,6 @@ fn mode_of(rt: &(impl Env + AllocGlobal)) -> Result<Mode, Failure> {
 // Reads all that is left of the input.
 fn read_all<R: Read>(alloc: Global, input: &mut R) -> Result<Vec<u8>, Failure> {
     let mut text = Vec::new(alloc);
-    input
-        .read_to_end(&mut text)
-        .map_err(|_| Failure::Unreadable)?;
+    input.read_to_end(&mut text)?;
     Ok(text)
 }

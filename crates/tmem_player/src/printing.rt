@@ -6,12 +6,14 @@ use std::io::Write;
 
 /// Prints a text and a line break.
 pub(crate) fn print_line<W: Write, T: Display + Drop>(out: &mut W, text: T) -> Result<(), Failure> {
-    writeln!(out, "{text}").map_err(|_| Failure::Output)
+    writeln!(out, "{text}")?;
+    Ok(())
 }
 
 /// Prints a text.
 pub(crate) fn print_text<W: Write, T: Display + Drop>(out: &mut W, text: T) -> Result<(), Failure> {
-    write!(out, "{text}").map_err(|_| Failure::Output)
+    write!(out, "{text}")?;
+    Ok(())
 }
 
 /// Prints one of several texts: behind a comma, unless it is the first.

@@ -15,7 +15,7 @@ pub(crate) struct Row {
 }
 
 /// The numbers of a store.
-#[derive(Clone, Copy, Debug)]
+#[derive(Clone, Copy)]
 pub(crate) struct Numbers {
     pub(crate) vars: u16,
     pub(crate) slots: u16,
@@ -54,7 +54,7 @@ pub(crate) enum Touch {
 }
 
 /// Which invariants a world is opened with.
-#[derive(Clone, Copy, Debug)]
+#[derive(Clone, Copy)]
 pub(crate) enum Handed {
     /// Those of the program.
     Builtin,

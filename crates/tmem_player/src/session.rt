@@ -17,7 +17,6 @@ use tmem_tree::{REGISTERS, StoredSteps};
 use tmem_world::{Reply, Settled, World};
 
 /// A world, and how many variables it has.
-#[derive(Drop)]
 struct Session<T: Invariants, S: StoredSteps> {
     world: World<SimDisk, T, S>,
     vars: u16,
@@ -41,7 +40,12 @@ pub(crate) fn play_session<T: Invariants + Drop, S: StoredSteps + Drop, W: Write
     requires { T.vars table ≡ numbers.vars }
 {
     match opened(alloc, disk, numbers, table, steps) {
-        Ok(session) => play_parts(session, mode, parts, calls, out),
+        Ok(mut session) => {
+            let played = session.play_parts(mode, parts, calls, out);
+            let disk = session.into_disk();
+            played?;
+            Ok(disk)
+        }
         Err((fault, disk)) => {
             print_line(out, fault)?;
             if parts.is_empty() {
@@ -74,25 +78,25 @@ fn opened<T: Invariants + Drop, S: StoredSteps + Drop>(
     }
 }
 
-// Prints how many transactions were found, and plays parts.
-fn play_parts<T: Invariants + Drop, S: StoredSteps + Drop, W: Write>(
-    mut session: Session<T, S>,
-    mode: Mode,
-    parts: Vec<Part>,
-    calls: &Calls,
-    out: &mut W,
-) -> Result<SimDisk, Failure>
-    requires { HoldsSession session.world }
-{
-    let opening = Reply::Opened(session.world.count());
-    print_line(out, ReplyLine(opening))?;
-    for part in parts {
-        session.play_part(mode, part, calls, out)?;
-    }
-    Ok(session.into_disk())
-}
-
 impl<T: Invariants + Drop, S: StoredSteps + Drop> Session<T, S> {
+    // Prints how many transactions were found, and plays parts.
+    fn play_parts<W: Write>(
+        &mut self,
+        mode: Mode,
+        parts: Vec<Part>,
+        calls: &Calls,
+        out: &mut W,
+    ) -> Result<(), Failure>
+        requires { HoldsSession self.old.world }
+    {
+        let opening = Reply::Opened(self.world.count());
+        print_line(out, ReplyLine(opening))?;
+        for part in parts {
+            self.play_part(mode, part, calls, out)?;
+        }
+        Ok(())
+    }
+
     fn play_part<W: Write>(
         &mut self,
         mode: Mode,
@@ -181,7 +185,11 @@ impl<T: Invariants + Drop, S: StoredSteps + Drop> Session<T, S> {
     }
 
     fn into_disk(self) -> SimDisk {
-        let Session { world, .. } = self;
+        let Session {
+            world,
+            vars: _,
+            registers: _,
+        } = self;
         world.into_disk()
     }
 }
