@@ -2,15 +2,11 @@
 ghost use Rattle.std.specs.Prelude.{◌≡◌, IfOk};
 ghost use Rattle.tmem_world.specs.Represents.{numbers_of, HoldsSession};
 
-mod at_limits;
-mod checkpoints;
-mod contents;
-mod devices;
+mod crashes;
 mod index;
 mod limits;
 mod long_runs;
 mod no_closures;
-mod plays;
 mod tables;
 
 use std::alloc::{AllocError, Global};

@@ -1,0 +1,122 @@
+//! What a row does to its device.
+ghost use Rattle.std.specs.Prelude.{◌≡◌, ◌≤◌, ◌+◌, true};
+ghost use Rattle.tmem_disk.specs.SimParts.{view_of};
+
+use crate::failure::Failure;
+use crate::printing::{print_line, print_text};
+use crate::row::{Numbers, Touch};
+use std::alloc::Global;
+use std::io::Write;
+use tmem_disk::{DeviceFault, Disk, Fault, SimDisk};
+use tmem_world::format;
+
+/// Does something to a device that needs no store.
+pub(crate) fn touch<W: Write>(
+    alloc: Global,
+    disk: &mut SimDisk,
+    act: Touch,
+    out: &mut W,
+) -> Result<(), Failure> {
+    match act {
+        Touch::Format(numbers) => tell(out, "formatted", formatted(disk, numbers)),
+        Touch::Restart => restart(disk, out),
+        Touch::Bytes(at, count) => print_bytes(alloc, disk, at, count, out),
+        Touch::Write(at, bytes) => {
+            let written = write(disk, at, &bytes)?;
+            tell(out, "written", written)
+        }
+        Touch::Copy(from, count, to) => {
+            let bytes = read(alloc, disk, from, count)?;
+            let written = write(disk, to, &bytes)?;
+            tell(out, "written", written)
+        }
+        armed => {
+            arm(disk, armed);
+            Ok(())
+        }
+    }
+}
+
+// Prints what was done, or the fault.
+fn tell<W: Write>(out: &mut W, done: &str, outcome: Result<(), Fault>) -> Result<(), Failure> {
+    match outcome {
+        Ok(()) => print_line(out, done),
+        Err(fault) => print_line(out, fault),
+    }
+}
+
+// Arms a crash or a failure.
+fn arm(disk: &mut SimDisk, act: Touch) {
+    match act {
+        Touch::Fail(DeviceFault::Read, k) => disk.fail_read(k),
+        Touch::Fail(DeviceFault::Write, k) => disk.fail_write(k),
+        Touch::Fail(DeviceFault::Sync, k) => disk.fail_sync(k),
+        Touch::CrashAtWrite(k, fill) => disk.stop_at_write(k, fill),
+        Touch::CrashAtPlace(at, fill) => disk.stop_at_place(at, fill),
+        Touch::CrashNow(fill) => disk.stop_now(fill),
+        _ => {}
+    }
+}
+
+fn formatted(disk: &mut SimDisk, numbers: Numbers) -> Result<(), Fault> {
+    format(disk, numbers.vars, numbers.slots)
+}
+
+// Starts a device again, and says whether it was stopped.
+fn restart<W: Write>(disk: &mut SimDisk, out: &mut W) -> Result<(), Failure> {
+    if !disk.is_stopped() {
+        return print_line(out, "not stopped");
+    }
+    disk.restart();
+    print_line(out, "restarted")
+}
+
+// Whether a device has so many bytes from a place on.
+fn has_range(disk: &SimDisk, at: u64, count: u64) -> bool
+    ensures { result ≡ true → at + count ≤ (view_of disk.now).capacity }
+{
+    match at.checked_add(count) {
+        Some(end) => end <= disk.size(),
+        None => false,
+    }
+}
+
+// The bytes that a read gives. The row is bad where the device has none there, or a fault is met.
+fn read(alloc: Global, disk: &mut SimDisk, at: u64, count: u64) -> Result<Vec<u8>, Failure> {
+    if !has_range(disk, at, count) {
+        return Err(Failure::NoRow);
+    }
+    let len = count as usize;
+    let mut bytes = vec![in alloc; 0; len]?;
+    match disk.read(at, bytes.as_mut_slice()) {
+        Ok(()) => Ok(bytes),
+        Err(_) => Err(Failure::Refused(Fault::Device)),
+    }
+}
+
+// Writes bytes, and syncs.
+fn write(disk: &mut SimDisk, at: u64, bytes: &[u8]) -> Result<Result<(), Fault>, Failure> {
+    if !has_range(disk, at, bytes.len() as u64) {
+        return Err(Failure::NoRow);
+    }
+    if disk.write_at(at, bytes).is_err() || disk.sync().is_err() {
+        return Ok(Err(Fault::Device));
+    }
+    Ok(Ok(()))
+}
+
+// Prints bytes in hexadecimal.
+fn print_bytes<W: Write>(
+    alloc: Global,
+    disk: &mut SimDisk,
+    at: u64,
+    count: u64,
+    out: &mut W,
+) -> Result<(), Failure> {
+    let bytes = read(alloc, disk, at, count)?;
+    print_text(out, "bytes")?;
+    for byte in &bytes {
+        print_text(out, format_args!(" {byte:02x}"))?;
+    }
+    print_line(out, "")
+}

@@ -1,0 +1,105 @@
+//! `tmem_player`: plays a row of behavior, which is a JSON file beside its output. It is a tool for tests.
+//!
+//! A row is a script of the program `tmem`, played on a device in memory that was formatted for its numbers. The device is
+//! opened first, as the program does, unless the row begins with an entry that ends a session. These entries are a row's own:
+//!
+//! | Entry | What it does, and prints |
+//! |---|---|
+//! | `"registers"` | prints the registers of the last transaction that was committed or seen |
+//! | `"calls"` | prints how often closures were called since the last time: of invariants, and of stored steps |
+//! | `{"times":[N,[ENTRY,..]]}` | these entries, N times |
+//!
+//! Each of these ends the session, if there is one, and leaves the device as it is:
+//!
+//! | Entry | What it does, and prints |
+//! |---|---|
+//! | `{"open":TABLE}`, `{"open":[TABLE,VARS,SLOTS]}` | opens the device with the invariants of the program (`"builtin"`), with none (`"none"`) or with a `nonneg` that is always false (`"broken"`): `opened COUNT` or a fault |
+//! | `{"fail":[CALL,K]}` | lets call number K from now fail, a `"read"`, a `"write"` or a `"sync"`; prints nothing |
+//! | `{"crash":["write",K,FILL]}`, `{"crash":["place",AT,FILL]}` | stops the device at write number K from now, or at the next one that starts at a place; prints nothing. FILL is `"old"`, `"new"` or a byte, for what was written since the last sync |
+//! | `{"crash":["now",FILL]}` | stops it now; prints nothing |
+//! | `"restart"` | starts the device again: `restarted`, or `not stopped` |
+//! | `{"bytes":[AT,COUNT]}` | prints bytes in hexadecimal |
+//! | `{"write":[AT,[BYTE,..]]}`, `{"copy":[FROM,COUNT,TO]}` | writes bytes, and syncs: `written` or a fault |
+//! | `{"blank":SIZE}` | puts a device of zeros in its place; prints nothing |
+//! | `{"format":[VARS,SLOTS]}` | `formatted` or a fault |
+//! | `{"evaluate":[[VALUE,..],TX]}` | evaluates a transaction where variable 0, 1 and so on have these values, by `evaluate` from the start each time, and by a `Cursor`. Prints what it comes to, and how often each called a stored step; or `differ` |
+//!
+//! `tmem_player step < ROW` plays each event by `World::step`. `tmem_player play < ROW` hands each longest run of events to
+//! `World::play`. Both print the same. A bad row has status 3, and what was printed before it was found bad stays.
+//!
+//! `reading` reads a row, and `draft` puts its entries together. `device` does what they do with the device, `handing` makes the
+//! closures that a world is opened with, `session` plays the events, and `evaluating` evaluates transactions.
+#![tactic(auto)]
+
+mod calls;
+mod device;
+mod draft;
+mod evaluating;
+mod failure;
+mod handing;
+mod playing;
+mod printing;
+mod reading;
+mod row;
+mod session;
+
+use failure::Failure;
+use playing::play;
+use reading::row_of;
+use std::alloc::Global;
+use std::env::{self, Env};
+use std::io::{BufWriter, Read, Write};
+use std::process::ExitCode;
+
+/// How the events of a row are played.
+#[derive(Clone, Copy)]
+pub(crate) enum Mode {
+    /// One after another.
+    Step,
+    /// Each longest run of them as one list.
+    Play,
+}
+
+fn main(rt: HostRuntime) -> ExitCode {
+    let (mut input, mut output, mut err) = (rt.stdin(), rt.stdout(), rt.stderr());
+    match run(&rt, &mut input, &mut output) {
+        Ok(()) => ExitCode::from(0),
+        Err(failure) => {
+            // where this fails too, nobody is left to tell
+            let _ = writeln!(&mut err, "tmem_player: {failure}");
+            ExitCode::from(failure.status())
+        }
+    }
+}
+
+// Plays the row on the input.
+fn run<R: Read, W: Write>(
+    rt: &(impl Env + AllocGlobal),
+    input: &mut R,
+    output: &mut W,
+) -> Result<(), Failure> {
+    let mode = mode_of(rt)?;
+    let text = read_all(rt.alloc(), input)?;
+    let row = row_of(rt.alloc(), &text)?;
+    let mut out = BufWriter::new(rt.alloc(), output)?;
+    let played = play(rt.alloc(), mode, row, &mut out);
+    out.flush()?;
+    played
+}
+
+// The one word of the command line.
+fn mode_of(rt: &(impl Env + AllocGlobal)) -> Result<Mode, Failure> {
+    let word = env::args(rt)?.nth(1);
+    match word.as_deref() {
+        Some("step") => Ok(Mode::Step),
+        Some("play") => Ok(Mode::Play),
+        _ => Err(Failure::Words),
+    }
+}
+
+// Reads all that is left of the input.
+fn read_all<R: Read>(alloc: Global, input: &mut R) -> Result<Vec<u8>, Failure> {
+    let mut text = Vec::new(alloc);
+    input.read_to_end(&mut text)?;
+    Ok(text)
+}
