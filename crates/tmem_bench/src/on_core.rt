@@ -36,10 +36,7 @@ pub fn run_on_core<R: Clock, T: Invariants + Drop, S: StoredSteps + Drop>(
     let mut had = Figures::zero();
     let start = now(rt)?;
     for _ in 0..u64::MAX {
-        for _ in 0..ROUND {
-            settle(&mut core, &mut cursor, &plan, &steps, vars)?;
-        }
-        core.note_durable(core.count());
+        settle_round(&mut core, &mut cursor, &plan, &steps, vars)?;
         had.operations = had.operations.saturating_add(ROUND);
         if is_over(rt, start) {
             break;
@@ -63,7 +60,28 @@ fn new_core<T: Invariants + Drop>(alloc: Global, vars: u16, table: T) -> Result<
     }
 }
 
-// Evaluates a plan, and settles it.
+// Settles a plan again and again, and notes all of that as durable.
+fn settle_round<T: Invariants + Drop, S: StoredSteps>(
+    core: &mut Core<T>,
+    cursor: &mut Cursor,
+    plan: &Plan,
+    steps: &S,
+    vars: u16,
+) -> Result<(), Fault>
+    requires sized { length (state_of core.old).values ≡ vars }
+    requires steps { FitsSteps (S.arities steps.now) plan.now }
+    requires variables { FitsVariables vars plan.now }
+    requires names { FitsNames [] plan.now }
+    ensures { length (state_of core.new).values ≡ vars }
+{
+    for _ in 0..ROUND {
+        settle(core, cursor, plan, steps, vars)?;
+    }
+    core.note_durable(core.count());
+    Ok(())
+}
+
+// Evaluates a plan over so many variables, and settles it.
 fn settle<T: Invariants + Drop, S: StoredSteps>(
     core: &mut Core<T>,
     cursor: &mut Cursor,

@@ -131,8 +131,22 @@ fn settle_once<
     R: Wait,
 >(rt: &R, front: &Front<D, N, T, S>, pass: &mut Pass<N>, tx: Tx) -> Result<(), Fault> {
     let plan = front.plan(tx)?;
-    front.atomically(rt, pass, &plan)?;
+    settle(rt, front, pass, &plan)?;
     Ok(())
+}
+
+// Settles a plan.
+fn settle<D: Disk + Drop, N: StoreNaming, T: Invariants + Drop, S: StoredSteps + Drop, R: Wait>(
+    rt: &R,
+    front: &Front<D, N, T, S>,
+    pass: &mut Pass<N>,
+    plan: &Plan,
+) -> Result<Settled, Fault>
+    requires steps { FitsSteps (S.arities front.now.steps) plan.now }
+    requires variables { FitsVariables front.now.vars plan.now }
+    requires names { FitsNames N.program.names plan.now }
+{
+    front.atomically(rt, pass, plan)
 }
 
 // Settles a plan as often as a job does until it waits, and waits.
@@ -202,7 +216,7 @@ fn settle_with_room<
 {
     for _ in rt.forever() {
         let durable = front.look(pass);
-        match front.atomically(rt, pass, plan) {
+        match settle(rt, front, pass, plan) {
             Err(Fault::Full) => front.await_durable(rt, pass, durable)?,
             settled => return settled,
         }
