@@ -18,12 +18,8 @@ wrong-bodies:
 	copy=$$(mktemp -d) && trap 'rm -rf "$$copy"' EXIT && git clone -q . "$$copy" && cd "$$copy" && rm -rf crates/*/must-fail && \
 	for folder in crates/*/wrong-bodies; do mv $$folder $${folder%/*}/must-fail; done && rt must-fail
 
-# Proves the program, and times transactions and the jobs of a service. Then counts how often a transaction asks for memory.
+# Proves the program, and times the jobs of a service. bench/check compares what it prints with a simulated clock.
 bench: build
 	crates/tmem/out/tmem bench
-	cd crates/tmem_transactions && mkdir -p out && { rt run -- once > out/run.log 2>&1 || { cat out/run.log; false; }; }
-	$${CC:-cc} -O1 -shared -fPIC -o crates/tmem_transactions/out/allocations.so crates/tmem_transactions/allocations.c -ldl
-	@echo "requests for memory, in place of nanoseconds:"
-	LD_PRELOAD=$$PWD/crates/tmem_transactions/out/allocations.so crates/tmem_transactions/out/tmem_transactions
 
 .PHONY: run build test wrong-bodies bench

@@ -1,6 +1,7 @@
 // What the bank does with its store.
-ghost use Rattle.std.specs.Prelude.{◌≡◌, ◌<◌, length};
+ghost use Rattle.std.specs.Prelude.{◌≡◌};
 ghost use Rattle.tmem_front.specs.Held.{found_of, spine_of, steps_of, table_of};
+ghost use Rattle.tmem_tree.specs.Plans.{FitsSteps, FitsVariables, FitsNames};
 ghost use Rattle.tmem_bank.specs.Accounts.{bank};
 
 use crate::device::SLOTS;
@@ -14,7 +15,7 @@ use tmem_core::Settled;
 use tmem_disk::{Disk, Fault};
 use tmem_front::{Front, Gathering, OpenedFront, Pass, StoreNaming};
 use tmem_invariants::Invariants;
-use tmem_tree::StoredSteps;
+use tmem_tree::{Plan, StoredSteps};
 
 /// How many accounts there are.
 pub const ACCOUNTS: u16 = 4;
@@ -35,13 +36,13 @@ pub fn open<
     requires steps { S.is_stated steps bank.steps }
 {
     match OpenedFront::open(alloc, disk, ACCOUNTS, SLOTS, table, steps) {
-        Ok(opened) => serve::<Brand, D, T, S, R>(rt, alloc, opened),
+        Ok(opened) => with_front::<Brand, D, T, S, R>(rt, alloc, opened),
         Err((fault, _disk)) => Err(fault),
     }
 }
 
-// Puts money into new accounts, moves some alone, and lets four threads move more.
-fn serve<
+// Gives the store its name in the types, and serves there.
+fn with_front<
     N: StoreNaming + Send + Sync,
     D: Disk + Drop + Send,
     T: Invariants + Drop + Send,
@@ -51,22 +52,32 @@ fn serve<
     requires spine { spine_of opened ≡ N.name }
     requires opening { found_of opened ≡ N.opening }
     requires program { N.program ≡ bank }
-    requires values { length (found_of opened).values ≡ 4 }
     requires names { T.names (table_of opened) ≡ bank.names }
     requires stated { T.is_stated (table_of opened) bank.tests }
     requires steps { S.is_stated (steps_of opened) bank.steps }
 {
     let front = opened.named::<N>();
+    serve(rt, alloc, &front)
+}
+
+// Puts money into new accounts, moves some alone, and lets four threads move more.
+fn serve<
+    N: StoreNaming + Send + Sync,
+    D: Disk + Drop + Send,
+    T: Invariants + Drop + Send,
+    S: StoredSteps + Drop + Send + Sync,
+    R: Clock + Print + Threads + Wait + Sync,
+>(rt: &R, alloc: Global, front: &Front<D, N, T, S>) -> Result<(), Fault> {
     let mut clerk = front.pass(rt)?;
     let found = front.look(&mut clerk);
     let _ = println!(rt; "found {found}");
     if found == 0 {
         let opening = front.plan(deposits(alloc)?)?;
-        say(rt, &front.atomically(rt, &mut clerk, &opening)?);
+        settle(rt, front, &mut clerk, &opening)?;
     }
     say(rt, &front.audit(rt, alloc)?);
-    move_alone(rt, alloc, &front, &mut clerk)?;
-    let (((a, b), (c, d)), last) = move_and_flush(rt, alloc, &front)?;
+    move_alone(rt, alloc, front, &mut clerk)?;
+    let (((a, b), (c, d)), last) = move_and_flush(rt, alloc, front)?;
     front.checkpoint(rt)?;
     let _ = println!(rt; "moved {a} {b} {c} {d}");
     say(rt, &last);
@@ -84,16 +95,31 @@ fn move_alone<
 >(rt: &R, alloc: Global, front: &Front<D, N, T, S>, pass: &mut Pass<N>) -> Result<(), Fault> {
     let transfer = front.plan(Transfer::new(0, 1, 1).tx(alloc)?)?;
     let overdraft = front.plan(Transfer::new(0, 1, 5000).tx(alloc)?)?;
-    say(rt, &front.atomically(rt, pass, &transfer)?);
-    say(rt, &front.atomically(rt, pass, &transfer)?);
+    settle(rt, front, pass, &transfer)?;
+    settle(rt, front, pass, &transfer)?;
     let late = front.attempt(rt, &transfer)?;
     let _ = println!(rt; "attempted");
-    say(rt, &front.atomically(rt, pass, &transfer)?);
+    settle(rt, front, pass, &transfer)?;
     if let Err(fault) = front.settle(rt, pass, &late) {
         let _ = println!(rt; "{fault}");
     }
-    say(rt, &front.atomically(rt, pass, &transfer)?);
-    say(rt, &front.atomically(rt, pass, &overdraft)?);
+    settle(rt, front, pass, &transfer)?;
+    settle(rt, front, pass, &overdraft)
+}
+
+// Settles a plan, and prints how that ended.
+fn settle<
+    N: StoreNaming,
+    D: Disk + Drop,
+    T: Invariants + Drop,
+    S: StoredSteps + Drop,
+    R: Print + Wait,
+>(rt: &R, front: &Front<D, N, T, S>, pass: &mut Pass<N>, plan: &Plan) -> Result<(), Fault>
+    requires steps { FitsSteps (S.arities front.now.steps) plan.now }
+    requires variables { FitsVariables front.now.vars plan.now }
+    requires names { FitsNames N.program.names plan.now }
+{
+    say(rt, &front.atomically(rt, pass, plan)?);
     Ok(())
 }
 

@@ -1,8 +1,6 @@
 -- What is printed.
-use Rattle.std.specs.Prelude.{ℕ, List, [], ◌∷◌, ◌++◌, codes, flat_map}
-use Rattle.tmem_bench.specs.declared.error.BenchError.{BenchError}
-use Rattle.tmem_bench.specs.declared.error.BenchError.TheVariants as error
-use Rattle.tmem_disk.specs.Fault.{text_of}
+use Rattle.std.specs.Prelude.{◌≡◌, ℕ, List, [], ◌∷◌, ◌++◌, Option, codes, flat_map, length}
+use Rattle.std.specs.Io.KnownBytes.{Appends}
 
 -- a text with its line break
 abbrev pub line : List ℕ → List ℕ
@@ -12,8 +10,12 @@ line text = text ++ 10 ∷ []
 abbrev pub printed : List (List ℕ) → List ℕ
 printed texts = flat_map line texts
 
--- what the user is told where the jobs end early
-abbrev pub error_text : BenchError → List ℕ
-error_text (error.Refused fault) = text_of fault
-error_text error.Output = codes "output failed"
-error_text error.Clock = codes "no clock"
+-- the names of the columns
+abbrev pub head : List ℕ
+head = codes "device  job                      callers  flusher         a second  flushes    baseline   ratio"
+
+-- the head of a table and so many lines were printed
+pub record Prints (before after : Option (List ℕ)) (count : ℕ) : Type 0 where
+  pub lines : List (List ℕ)
+  pub many : length lines ≡ count
+  pub told : Appends before after (printed (head ∷ lines))

@@ -1,124 +1,152 @@
-//! The transactions that are timed.
-ghost use Rattle.std.specs.Prelude.{◌<◌};
-
-use crate::timing::Rounds;
+// What the callers of a store do.
 use std::alloc::{AllocError, Global};
+use tmem_disk::{Fault, Name};
 use tmem_tree::Tx;
 
-/// How many variables the store has.
-pub const VARS: u16 = 1024;
+/// How many variables the store of a job has: a counter, two accounts, and others that nothing changes.
+pub const VARS: u16 = 16;
 
-/// How many invariants the table has.
-pub const INVARIANTS: u16 = 64;
+/// How many variables the store has that is opened again and again.
+pub const MANY: u16 = 1024;
 
-// The first variables are accounts, under the first invariant.
-const ACCOUNTS: u16 = 16;
+/// How many batches a log takes.
+pub const SLOTS: u16 = 64;
 
-// Each other invariant is over so many variables of its own.
-const SMALL: u16 = 8;
+const COUNTER: u16 = 0;
 
-// The variables from here on are under no invariant.
-const FREE: u16 = 520;
+/// The account that pays, and the one that is paid. Neither may go below 0.
+pub const PAYER: u16 = 1;
 
-// How many variables the largest transaction reads.
-const READS: u16 = 500;
+pub const PAYEE: u16 = 2;
 
-// What the first account has at the start.
-const DEPOSIT: i64 = 1_000_000_000_000;
+/// The name of that invariant.
+pub const SOLVENT: &str = "solvent";
 
-/// A kind of transaction.
+/// What is in an account at the start.
+pub const DEPOSIT: i64 = 1_000_000_000_000;
+
+// The stored step that adds, and the one that subtracts.
+const ADD: u16 = 0;
+
+const SUB: u16 = 1;
+
+/// What a caller does again and again.
 #[derive(Clone, Copy, PartialEq, Eq)]
-pub enum Job {
-    /// Reads a variable, adds 1 by a stored step, and writes it.
+pub enum Act {
+    /// Adds 1 to the counter, and waits until that is durable.
     Add,
-    /// Moves 1 between two accounts, by two stored steps.
+    /// Adds 1 to the counter, and waits at each 64th time.
+    AddMany,
+    /// Moves 1 between the accounts, and waits until that is durable.
     Transfer,
-    /// Reads two accounts.
+    /// Reads the accounts.
     Look,
-    /// A choice whose first branch reads a variable and retries. The second one adds 1 to another.
-    Choice,
-    /// Reads 500 variables.
-    Reads,
-    /// The same as `Add`, where the one before was `Reads`.
-    AddAfter,
-    /// Writes a variable, and reads none.
-    Write,
 }
 
-impl Job {
+impl Act {
     /// What a line of the table calls it.
     pub fn name(self) -> &'static str {
         match self {
-            Job::Add => "add",
-            Job::Transfer => "transfer",
-            Job::Look => "two reads",
-            Job::Choice => "choice",
-            Job::Reads => "500 reads",
-            Job::AddAfter => "add after 500 reads",
-            Job::Write => "write",
+            Act::Add => "add, each awaited",
+            Act::AddMany => "add, each 64th awaited",
+            Act::Transfer => "transfer, each awaited",
+            Act::Look => "two reads",
         }
     }
 
-    /// The attempt slot that it is run in: one of its own, but where it comes after another.
-    pub fn slot(self) -> u8
-        ensures { result < 16 }
-    {
+    /// After so many a caller waits until the last of them is durable, and looks at the clock.
+    pub fn stride(self) -> u64 {
         match self {
-            Job::Add => 0,
-            Job::Transfer => 1,
-            Job::Look => 2,
-            Job::Choice => 3,
-            Job::Reads | Job::AddAfter => 4,
-            Job::Write => 5,
-        }
-    }
-
-    /// How often it is run.
-    pub fn rounds(self) -> Rounds {
-        match self {
-            Job::Reads => Rounds {
-                count: 20,
-                length: 4,
-            },
-            _ => Rounds {
-                count: 2000,
-                length: 64,
-            },
+            Act::Add | Act::Transfer => 1,
+            Act::AddMany | Act::Look => 64,
         }
     }
 
     /// Its transaction.
-    pub fn tree(self, alloc: Global) -> Result<Tx, AllocError> {
+    pub fn transaction(self, alloc: Global) -> Result<Tx, AllocError> {
         match self {
-            Job::Add | Job::AddAfter => add_one(alloc),
-            Job::Transfer => transfer(alloc),
-            Job::Look => two_reads(alloc),
-            Job::Choice => choice(alloc),
-            Job::Reads => many_reads(alloc),
-            Job::Write => write(alloc, FREE, 1),
+            Act::Add | Act::AddMany => add_one(alloc),
+            Act::Transfer => transfer(alloc),
+            Act::Look => two_reads(alloc),
         }
     }
 }
 
-/// Puts something into the first account.
-pub fn deposit(alloc: Global) -> Result<Tx, AllocError> {
-    write(alloc, 0, DEPOSIT)
+/// Who does it.
+#[derive(Clone, Copy)]
+pub enum Callers {
+    /// One that flushes itself, with no flusher beside it.
+    Alone,
+    /// So many threads, beside a flusher.
+    Beside(usize),
 }
 
-/// The variables that an invariant is over.
-pub fn footprint(alloc: Global, place: u16) -> Result<Vec<u16>, AllocError> {
-    let (first, end) = if place == 0 {
-        (0, ACCOUNTS)
-    } else {
-        let first = ACCOUNTS.saturating_add((place - 1).saturating_mul(SMALL));
-        (first, first.saturating_add(SMALL))
-    };
-    (first..end).collect(alloc)
+impl Callers {
+    /// How many there are.
+    pub fn count(self) -> usize {
+        match self {
+            Callers::Alone => 1,
+            Callers::Beside(callers) => callers,
+        }
+    }
+
+    /// How many flushers are beside them, as a word.
+    pub fn flusher(self) -> &'static str {
+        match self {
+            Callers::Alone => "none",
+            Callers::Beside(_) => "one",
+        }
+    }
 }
 
-// Writes a number to a variable.
-fn write(alloc: Global, var: u16, number: i64) -> Result<Tx, AllocError> {
-    Ok(Tx::Seq(vec![in alloc; Tx::Put { reg: 0, number }, Tx::Write { var, reg: 0 }]?))
+/// What so many callers do.
+#[derive(Clone, Copy)]
+pub struct Job {
+    pub act: Act,
+    pub callers: Callers,
+}
+
+const ACTS: [Act; 4] = [Act::Add, Act::AddMany, Act::Transfer, Act::Look];
+
+const CALLERS: [Callers; 5] = [
+    Callers::Alone,
+    Callers::Beside(1),
+    Callers::Beside(2),
+    Callers::Beside(4),
+    Callers::Beside(16),
+];
+
+/// How many jobs there are.
+pub const JOBS: usize = 20;
+
+impl Job {
+    /// The jobs, in the order of the table.
+    pub fn at(place: usize) -> Job {
+        Job {
+            act: ACTS[place / 5 % 4],
+            callers: CALLERS[place % 5],
+        }
+    }
+}
+
+/// Puts something into both accounts, and registers the invariant.
+pub fn deposits(alloc: Global) -> Result<Tx, Fault> {
+    Ok(Tx::Seq(vec![in alloc;
+        Tx::Put {
+            reg: 0,
+            number: DEPOSIT
+        },
+        Tx::Write { var: PAYER, reg: 0 },
+        Tx::Write { var: PAYEE, reg: 0 },
+        Tx::Check {
+            name: Name::new(SOLVENT)?
+        },
+    ]?))
+}
+
+/// Writes 1 to a variable.
+pub fn write_one(alloc: Global, var: u16) -> Result<Tx, AllocError> {
+    Ok(Tx::Seq(vec![in alloc; Tx::Put { reg: 0, number: 1 }, Tx::Write { var, reg: 0 }]?))
 }
 
 // Calls a stored step on two registers, and puts what it answers into the first.
@@ -131,56 +159,38 @@ fn step(alloc: Global, index: u16, first: u8, second: u8) -> Result<Tx, AllocErr
     })
 }
 
-// Adds 1 to a variable.
 fn add_one(alloc: Global) -> Result<Tx, AllocError> {
-    let sum = step(alloc, 0, 0, 1)?;
+    let sum = step(alloc, ADD, 0, 1)?;
     Ok(Tx::Seq(vec![in alloc;
-        Tx::Read { var: FREE, reg: 0 },
-        Tx::Put { reg: 1, number: 1 },
-        sum,
-        Tx::Write { var: FREE, reg: 0 },
-    ]?))
-}
-
-// Moves 1 from the first account to the second.
-fn transfer(alloc: Global) -> Result<Tx, AllocError> {
-    let (less, more) = (step(alloc, 1, 0, 2)?, step(alloc, 0, 1, 2)?);
-    Ok(Tx::Seq(vec![in alloc;
-        Tx::Read { var: 0, reg: 0 },
-        Tx::Read { var: 1, reg: 1 },
-        Tx::Put { reg: 2, number: 1 },
-        less,
-        more,
-        Tx::Write { var: 0, reg: 0 },
-        Tx::Write { var: 1, reg: 1 },
-    ]?))
-}
-
-// Reads two accounts.
-fn two_reads(alloc: Global) -> Result<Tx, AllocError> {
-    Ok(Tx::Seq(vec![in alloc; Tx::Read { var: 0, reg: 0 }, Tx::Read { var: 1, reg: 1 }]?))
-}
-
-// Retries, since its variable is always 0, and then adds 1 to another one.
-fn choice(alloc: Global) -> Result<Tx, AllocError> {
-    let need = step(alloc, 2, 0, 1)?;
-    let first = Tx::Seq(vec![in alloc;
         Tx::Read {
-            var: FREE + 1,
+            var: COUNTER,
             reg: 0
         },
         Tx::Put { reg: 1, number: 1 },
-        need,
-    ]?);
-    let second = add_one(alloc)?;
-    Ok(Tx::OrElse(Box::new(alloc, first)?, Box::new(alloc, second)?))
+        sum,
+        Tx::Write {
+            var: COUNTER,
+            reg: 0
+        },
+    ]?))
 }
 
-// Reads one variable after another.
-fn many_reads(alloc: Global) -> Result<Tx, AllocError> {
-    let mut txs = Vec::with_capacity(alloc, READS as usize)?;
-    for var in FREE..FREE + READS {
-        txs.push(Tx::Read { var, reg: 0 })?;
-    }
-    Ok(Tx::Seq(txs))
+fn transfer(alloc: Global) -> Result<Tx, AllocError> {
+    let (less, more) = (step(alloc, SUB, 0, 2)?, step(alloc, ADD, 1, 2)?);
+    Ok(Tx::Seq(vec![in alloc;
+        Tx::Read { var: PAYER, reg: 0 },
+        Tx::Read { var: PAYEE, reg: 1 },
+        Tx::Put { reg: 2, number: 1 },
+        less,
+        more,
+        Tx::Write { var: PAYER, reg: 0 },
+        Tx::Write { var: PAYEE, reg: 1 },
+    ]?))
+}
+
+fn two_reads(alloc: Global) -> Result<Tx, AllocError> {
+    Ok(Tx::Seq(vec![in alloc;
+        Tx::Read { var: PAYER, reg: 0 },
+        Tx::Read { var: PAYEE, reg: 1 },
+    ]?))
 }

@@ -1,21 +1,22 @@
-//! How long transactions of several kinds take, on the core alone and through a world.
+//! The jobs of a service, timed: the command `tmem bench`, by which an operator sizes a store.
 //!
-//! `run_transactions` times each kind and prints a line for it. `jobs` has the transactions, `registering` those that
-//! register the invariants, `on_core` and `on_world` run them, and `report` makes the lines. `error`, `print` and `timing`
-//! serve the other benchmarks too.
+//! `jobs` says what callers do. `on_core` does it on the core alone. `service` lets threads do it beside a flusher, on a store that
+//! `store` opens. `device` makes the devices, `opening` opens a store again and again, and `run` runs every job and prints a
+//! line for each. The baseline of a job is what the same device does by two syncs alone. A `Line` is public for its test, in
+//! crate `tmem`.
 #![tactic(auto)]
 
+mod device;
 mod error;
+mod figures;
 mod jobs;
 mod on_core;
-mod on_world;
-mod print;
-mod registering;
-mod report;
-mod timing;
-mod transactions;
+mod opening;
+mod run;
+mod service;
+mod store;
 
 pub use error::BenchError;
-pub use print::{print_line, print_lines};
-pub use timing::{now, since};
-pub use transactions::run_transactions;
+pub use figures::{Figures, Line};
+pub use jobs::Callers;
+pub use run::run_jobs;

@@ -1,5 +1,5 @@
 -- What became of a command line, as its status says.
-use Rattle.std.specs.Prelude.{◌≡◌, ◌⊎◌, ◌++◌, ⊤, ℕ, List, length, Option, Some, None}
+use Rattle.std.specs.Prelude.{◌≡◌, ◌⊎◌, ◌∷◌, ⊤, ℕ, List, length, Option, Some, None}
 use Rattle.clap.specs.Walk.{Text}
 use Rattle.std.specs.Io.KnownBytes.{Appends}
 use Rattle.tmem_disk.specs.declared.fault.Fault.{Fault}
@@ -14,8 +14,7 @@ use Rattle.tmem_script.specs.declared.script.ScriptError.{ScriptError}
 use Rattle.tmem_script.specs.declared.script.ScriptError.TheVariants as error
 use Rattle.tmem_bench.specs.declared.error.BenchError.{BenchError}
 use Rattle.tmem_bench.specs.declared.error.BenchError.TheVariants as bench
-use Rattle.tmem_bench.specs.Printed.{printed}
-use Rattle.tmem_jobs.specs.Printed.{table}
+use Rattle.tmem_bench.specs.Printed.{head, printed}
 use Rattle.tmem_threads.specs.Counting.{AreTotals}
 use Rattle.tmem_file.specs.declared.disk.FileDisk.{FileDisk}
 use Rattle.tmem_threads.specs.declared.store.TheConstants.{VARS, SLOTS}
@@ -90,9 +89,9 @@ IsWhyNotCounted f = (f ≡ failure.Output) ⊎ ((fault : Fault) × (f ≡ failur
 abbrev pub IsWhyNotTimed : Failure → Type 0
 IsWhyNotTimed f = (f ≡ failure.Clock) ⊎ IsWhyNotCounted f
 
--- Lines were printed, and then the jobs' lines below a head, and those again as a table.
+-- The head of a table was printed, and below it a line for each job.
 abbrev pub TimesJobs : Option (List ℕ) → Option (List ℕ) → Type 0
-TimesJobs before after = (timed lines : List (List ℕ)) × (length lines ≡ 41) × Appends before after (printed (timed ++ (table lines ++ table lines)))
+TimesJobs before after = (lines : List (List ℕ)) × (length lines ≡ 43) × Appends before after (printed (head ∷ lines))
 
 -- what the user is told where the jobs ended early
 abbrev pub failure_of : BenchError → Failure

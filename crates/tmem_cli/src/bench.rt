@@ -7,7 +7,7 @@ use std::io::Write;
 use std::rt::Clock;
 use std::sync::Wait;
 use std::thread::Threads;
-use tmem_jobs::{BenchError, run_jobs};
+use tmem_bench::{BenchError, run_jobs};
 use tmem_script::Failure;
 
 // The file of the timed stores, where the words name none.

@@ -3,11 +3,11 @@ use Rattle.tmem_bank.specs.Accounts.{bank}
 use Rattle.tmem_bank.proofs.service.open.Given as goal
 
 -- the store that was just opened
-abbrev pub ghosts-serve-N-Naming : goal.ghosts-serve-N-Naming
-ghosts-serve-N-Naming g a = record { name = spine_of a.opened }
+abbrev pub ghosts-with_front-N-Naming : goal.ghosts-with_front-N-Naming
+ghosts-with_front-N-Naming g a = record { name = spine_of a.opened }
 
-abbrev pub ghosts-serve-N-ProgramNaming : goal.ghosts-serve-N-ProgramNaming
-ghosts-serve-N-ProgramNaming g a = record { program = bank }
+abbrev pub ghosts-with_front-N-ProgramNaming : goal.ghosts-with_front-N-ProgramNaming
+ghosts-with_front-N-ProgramNaming g a = record { program = bank }
 
-abbrev pub ghosts-serve-N-StoreNaming : goal.ghosts-serve-N-StoreNaming
-ghosts-serve-N-StoreNaming g a = record { opening = found_of a.opened }
+abbrev pub ghosts-with_front-N-StoreNaming : goal.ghosts-with_front-N-StoreNaming
+ghosts-with_front-N-StoreNaming g a = record { opening = found_of a.opened }

@@ -1,6 +1,0 @@
-use Rattle.tmem_tree.specs.StepAnswers.{StepMeanings}
-use Rattle.tmem_tentative.specs.Cursors.{IsAt}
-use Rattle.tmem_bench.proofs.on_core.OnCore.by_cursor.Given as goal
-
-abbrev pub invariant-loop : goal.invariant-loop
-invariant-loop g l = (m : StepMeanings) → g.S.StoredSteps.is_stated l.self.steps m → IsAt m l.self.plan l.self.cursor

@@ -1,0 +1,27 @@
+use Rattle.std.proofs.Common.{◌≡◌, ◌<◌, [], ℕ, List, true, sym, subst}
+use Rattle.std.proofs.lemmas.List.Elements.{All-weaker}
+use Rattle.tmem_record.specs.Names.{has_name}
+use Rattle.tmem_tentative.specs.Cursors.{outcome_of}
+use Rattle.tmem_tentative.specs.Fits.{IsForVariables, IsForNames, IsWithin, IsNamed}
+use Rattle.tmem_bench.proofs.on_core.settle.Goals as goal
+
+pub peek-requires : goal.peek-requires
+peek-requires g c =
+    let vars = c.args.vars in
+    let within = subst (λ p. IsWithin vars (outcome_of c.advance.new.self p)) c.in-Need.is (c.in_ok-var.ensures.within vars c.requires.variables) in
+    subst (λ (n : ℕ). c.in-Need.var < n) (sym c.loop.invariant.0) within
+
+pub decide-requires-clause-variables : goal.decide-requires-clause-variables
+decide-requires-clause-variables g c =
+    let vars = c.args.vars in
+    let ended = subst (λ p. IsWithin vars (outcome_of c.advance.new.self p)) c.in-Ended.is (c.in_ok-var.ensures.within vars c.requires.variables) in
+    subst (λ (n : ℕ). IsForVariables n c.attempt.result.now) (sym c.loop.invariant.0) (subst (IsForVariables vars) (sym c.attempt.ensures.attempt) ended)
+
+-- it names none
+unnamed : (names : List (List ℕ)) (name : List ℕ) → has_name [] name ≡ true → has_name names name ≡ true
+unnamed names name has = absurd cc
+
+pub decide-requires-clause-names : goal.decide-requires-clause-names
+decide-requires-clause-names g c =
+    let ended = subst (λ p. IsNamed [] (outcome_of c.advance.new.self p)) c.in-Ended.is (c.in_ok-var.ensures.named [] c.requires.names) in
+    All-weaker _ _ (unnamed _) _ (subst (IsForNames []) (sym c.attempt.ensures.attempt) ended)

@@ -1,0 +1,105 @@
+// Where a store is kept.
+ghost use Rattle.std.specs.Prelude.{◌≡◌, ◌≤◌, length, IfOk};
+
+use crate::error::{BenchError, now, since};
+use crate::figures::Figures;
+use std::alloc::AllocGlobal;
+use std::fs::{self, File, Files};
+use std::rt::Clock;
+use std::time::Duration;
+use tmem_disk::{Disk, Fault, SimDisk};
+use tmem_file::{FileDisk, NewFile};
+
+// The loop of two syncs goes on for so long.
+const SYNC_MILLIS: u64 = 250;
+
+// About as many bytes as a batch of one transaction has.
+const BATCH: usize = 32;
+
+/// Where the device of a store is.
+#[derive(Clone, Copy)]
+pub enum Place<'a> {
+    Memory,
+    /// In a file, which is not there before and is removed after.
+    File(&'a str),
+}
+
+impl Place<'_> {
+    /// What a line of the table calls it.
+    pub fn name(self) -> &'static str {
+        match self {
+            Place::Memory => "memory",
+            Place::File(_) => "file",
+        }
+    }
+}
+
+/// A new file of so many zeros. Refused by `Device` where something has the path.
+pub fn new_file<R: Files<File = File> + AllocGlobal>(
+    rt: &R,
+    path: &str,
+    size: u64,
+) -> Result<FileDisk, Fault>
+    ensures { IfOk result (λ disk. (⟦<FileDisk as Disk>⟧.view disk).capacity ≡ size) }
+{
+    NewFile::create(rt, path, size)?.place(rt)
+}
+
+/// What came of work on a file, once the file is removed, also where the work failed.
+pub fn removed<R: Files<File = File>, X: Drop>(
+    rt: &R,
+    path: &str,
+    had: Result<X, BenchError>,
+) -> Result<X, BenchError> {
+    let removed = fs::remove_file(rt, path);
+    let had = had?;
+    match removed {
+        Ok(()) => Ok(had),
+        Err(_) => Err(BenchError::Refused(Fault::Device)),
+    }
+}
+
+/// What a new device does by two syncs alone: write, sync, write, sync, again and again.
+pub fn two_syncs<R: Clock + Files<File = File> + AllocGlobal>(
+    rt: &R,
+    place: Place<'_>,
+) -> Result<Figures, BenchError> {
+    match place {
+        Place::Memory => sync_on(rt, SimDisk::new(rt.alloc(), BATCH as u64)?),
+        Place::File(path) => {
+            let disk = new_file(rt, path, BATCH as u64)?;
+            let had = sync_on(rt, disk);
+            removed(rt, path, had)
+        }
+    }
+}
+
+// Writes a batch, and then a byte, as a flush does.
+fn sync_on<D: Disk + Drop, R: Clock>(rt: &R, mut disk: D) -> Result<Figures, BenchError>
+    requires { BATCH ≤ (D.view disk).capacity }
+{
+    let start = now(rt)?;
+    let mut had = Figures::zero();
+    let batch = [1; BATCH];
+    for _ in 0..u64::MAX {
+        put(&mut disk, &batch)?;
+        put(&mut disk, &batch[..1])?;
+        had.operations = had.operations.saturating_add(1);
+        if since(rt, start)? >= Duration::from_millis(SYNC_MILLIS) {
+            break;
+        }
+    }
+    had.time = since(rt, start)?;
+    Ok(had)
+}
+
+// Writes at the start of a device, and syncs.
+fn put<D: Disk>(disk: &mut D, bytes: &[u8]) -> Result<(), Fault>
+    requires { length bytes.now ≤ (D.view disk.old).capacity }
+    ensures { (D.view disk.new).capacity ≡ (D.view disk.old).capacity }
+{
+    if disk.write_at(0, bytes).is_err() || disk.sync().is_err() {
+        return Err(Fault::Device);
+    }
+    Ok(())
+}

@@ -1,0 +1,70 @@
+// Opens a store again and again.
+use crate::device::{new_file, removed};
+use crate::error::{BenchError, now, since};
+use crate::figures::Figures;
+use crate::jobs::{MANY, SLOTS};
+use crate::service::is_over;
+use crate::store::{On, Task, with_bank};
+use std::alloc::AllocGlobal;
+use std::fs::{self, File, Files};
+use std::rt::Clock;
+use std::sync::Wait;
+use std::thread::Threads;
+use tmem_disk::Fault;
+use tmem_file::FileDisk;
+use tmem_journal::{Layout, format};
+
+/// What openings of a store whose log is full came to, and what as many times two reads of its file came to.
+pub fn open_again<R: Clock + Files<File = File> + AllocGlobal + Threads + Wait + Sync>(
+    rt: &R,
+    path: &str,
+) -> Result<(Figures, Figures), BenchError> {
+    let disk = new_file(rt, path, Layout::new(MANY, SLOTS)?.end())?;
+    let had = fill_and_open(rt, disk, path);
+    removed(rt, path, had)
+}
+
+// Fills the log of a new file, and then opens it and reads it, again and again.
+fn fill_and_open<R: Clock + Files<File = File> + AllocGlobal + Threads + Wait + Sync>(
+    rt: &R,
+    mut disk: FileDisk,
+    path: &str,
+) -> Result<(Figures, Figures), BenchError> {
+    format(&mut disk, MANY, SLOTS)?;
+    with_bank(rt, MANY, On::Store(disk, Task::Fill))?;
+    let start = now(rt)?;
+    let (mut opened, mut read) = (Figures::zero(), Figures::zero());
+    for _ in 0..u64::MAX {
+        if is_over(rt, start) {
+            break;
+        }
+        opened = opened.with(open_once(rt, path)?);
+        read = read.with(read_twice(rt, path)?);
+    }
+    Ok((opened, read))
+}
+
+// Opens a store, and drops it.
+fn open_once<R: Clock + Files<File = File> + AllocGlobal + Threads + Wait + Sync>(
+    rt: &R,
+    path: &str,
+) -> Result<Figures, BenchError> {
+    let start = now(rt)?;
+    let disk = FileDisk::open(rt, path)?;
+    with_bank(rt, MANY, On::Store(disk, Task::Open))?;
+    Ok(Figures::once(since(rt, start)?))
+}
+
+// Reads a file, twice.
+fn read_twice<R: Clock + Files<File = File> + AllocGlobal>(
+    rt: &R,
+    path: &str,
+) -> Result<Figures, BenchError> {
+    let start = now(rt)?;
+    for _ in 0..2u8 {
+        if fs::read(rt, path).is_err() {
+            return Err(BenchError::Refused(Fault::Device));
+        }
+    }
+    Ok(Figures::once(since(rt, start)?))
+}

@@ -1,0 +1,280 @@
+// Threads that share a store.
+ghost use Rattle.tmem_tree.specs.Plans.{FitsSteps, FitsVariables, FitsNames};
+
+use crate::error::{BenchError, now, since};
+use crate::figures::Figures;
+use crate::jobs::{Callers, Job, MANY, SLOTS, deposits, write_one};
+use std::alloc::Global;
+use std::rt::Clock;
+use std::sync::Wait;
+use std::thread::{self, Threads, map_indices};
+use std::time::{Duration, Instant};
+use tmem_core::Settled;
+use tmem_disk::{Disk, Fault};
+use tmem_front::{Front, Gathering, Pace, Pass, StoreNaming};
+use tmem_invariants::Invariants;
+use tmem_tree::{Plan, StoredSteps, Tx};
+
+// A job goes on for so long.
+const JOB_MILLIS: u64 = 1000;
+
+// A batch has so many records at most.
+const RECORDS: u16 = 64;
+
+/// Whether a job that began then is over, or the clock cannot be read.
+pub fn is_over<R: Clock>(rt: &R, start: Instant) -> bool {
+    match start.elapsed(rt) {
+        Ok(elapsed) => elapsed >= Duration::from_millis(JOB_MILLIS),
+        Err(_) => true,
+    }
+}
+
+// The pace of a flusher that counts its turns.
+#[derive(Drop)]
+struct Counted<'a, R: Clock> {
+    pace: Gathering<'a, R>,
+    turns: u64,
+}
+
+impl<R: Clock> Pace for Counted<'_, R> {
+    fn next(&mut self) -> bool {
+        self.turns = self.turns.saturating_add(1);
+        self.pace.next()
+    }
+}
+
+/// What threads do with a store that they share. The functions that start threads know no more of it.
+pub trait Service {
+    /// Puts something into the accounts, registers the invariant, and frees the log.
+    fn prepare<R: Wait>(&self, rt: &R, alloc: Global) -> Result<(), Fault>;
+
+    /// Does a caller's part of a job, until the time from the start is over.
+    fn work<R: Clock + Wait>(
+        &self,
+        rt: &R,
+        alloc: Global,
+        job: Job,
+        start: Instant,
+    ) -> Result<Figures, Fault>;
+
+    /// Makes durable what is committed by one caller or by several, until the store is shut. Answers in how many flushes.
+    fn flush<R: Clock + Wait>(&self, rt: &R, has_several: bool) -> Result<u64, Fault>;
+
+    /// Nothing is settled any more.
+    fn close<R: Wait>(&self, rt: &R);
+
+    /// Fills the log of a store of many variables.
+    fn fill<R: Wait>(&self, rt: &R, alloc: Global) -> Result<(), Fault>;
+}
+
+impl<D: Disk + Drop, N: StoreNaming, T: Invariants + Drop, S: StoredSteps + Drop> Service
+    for Front<D, N, T, S> {
+    fn prepare<R: Wait>(&self, rt: &R, alloc: Global) -> Result<(), Fault> {
+        settle_once(rt, self, &mut self.pass(rt)?, deposits(alloc)?)?;
+        self.flush_once(rt)?;
+        self.checkpoint(rt)
+    }
+
+    fn work<R: Clock + Wait>(
+        &self,
+        rt: &R,
+        alloc: Global,
+        job: Job,
+        start: Instant,
+    ) -> Result<Figures, Fault> {
+        let mut pass = self.pass(rt)?;
+        let plan = self.plan(job.act.transaction(alloc)?)?;
+        let mut had = Figures::zero();
+        for _ in rt.forever() {
+            settle_some(rt, self, &mut pass, &plan, job, &mut had)?;
+            if is_over(rt, start) {
+                return Ok(had);
+            }
+        }
+        unreachable!()
+    }
+
+    fn flush<R: Clock + Wait>(&self, rt: &R, has_several: bool) -> Result<u64, Fault> {
+        let mut pace = Counted {
+            pace: Gathering::new(rt, has_several),
+            turns: 0,
+        };
+        let flushed = self.run_flusher(rt, &mut pace);
+        self.shut(rt);
+        flushed?;
+        // the last turn found nothing to flush
+        Ok(pace.turns.saturating_sub(1))
+    }
+
+    fn close<R: Wait>(&self, rt: &R) {
+        self.shut(rt);
+    }
+
+    fn fill<R: Wait>(&self, rt: &R, alloc: Global) -> Result<(), Fault> {
+        let mut pass = self.pass(rt)?;
+        for place in 0..SLOTS * RECORDS {
+            settle_once(rt, self, &mut pass, write_one(alloc, place % MANY)?)?;
+            if place % RECORDS == RECORDS - 1 {
+                self.flush_once(rt)?;
+            }
+        }
+        Ok(())
+    }
+}
+
+// Settles a transaction.
+fn settle_once<
+    D: Disk + Drop,
+    N: StoreNaming,
+    T: Invariants + Drop,
+    S: StoredSteps + Drop,
+    R: Wait,
+>(rt: &R, front: &Front<D, N, T, S>, pass: &mut Pass<N>, tx: Tx) -> Result<(), Fault> {
+    let plan = front.plan(tx)?;
+    settle(rt, front, pass, &plan)?;
+    Ok(())
+}
+
+// Settles a plan.
+fn settle<D: Disk + Drop, N: StoreNaming, T: Invariants + Drop, S: StoredSteps + Drop, R: Wait>(
+    rt: &R,
+    front: &Front<D, N, T, S>,
+    pass: &mut Pass<N>,
+    plan: &Plan,
+) -> Result<Settled, Fault>
+    requires steps { FitsSteps (S.arities front.now.steps) plan.now }
+    requires variables { FitsVariables front.now.vars plan.now }
+    requires names { FitsNames N.program.names plan.now }
+{
+    front.atomically(rt, pass, plan)
+}
+
+// Settles a plan as often as a job does until it waits, and waits.
+fn settle_some<
+    D: Disk + Drop,
+    N: StoreNaming,
+    T: Invariants + Drop,
+    S: StoredSteps + Drop,
+    R: Wait,
+>(
+    rt: &R,
+    front: &Front<D, N, T, S>,
+    pass: &mut Pass<N>,
+    plan: &Plan,
+    job: Job,
+    had: &mut Figures,
+) -> Result<(), Fault>
+    requires steps { FitsSteps (S.arities front.now.steps) plan.now }
+    requires variables { FitsVariables front.now.vars plan.now }
+    requires names { FitsNames N.program.names plan.now }
+{
+    let mut last = None;
+    for _ in 0..job.act.stride() {
+        let settled = settle_with_room(rt, front, pass, plan)?;
+        if is_done(&settled) {
+            had.operations = had.operations.saturating_add(1);
+        }
+        last = number_of(&settled);
+    }
+    let Some(number) = last else {
+        return Ok(());
+    };
+    if matches!(job.callers, Callers::Alone) {
+        had.flushes = had.flushes.saturating_add(1);
+        front.flush_with_room(rt)?;
+    } else {
+        front.await_durable(rt, pass, number)?;
+    }
+    Ok(())
+}
+
+// Whether a transaction did what it was to do.
+fn is_done(settled: &Settled) -> bool {
+    matches!(settled, Settled::Committed { .. } | Settled::Seen { .. })
+}
+
+// The number of a transaction that committed.
+fn number_of(settled: &Settled) -> Option<u64> {
+    match settled {
+        Settled::Committed { number, .. } => Some(*number),
+        _ => None,
+    }
+}
+
+// Attempts a plan until it is settled. Where as many transactions wait as may, it waits until more are durable than before the
+// attempt: 256 more were committed then, so that there is one to wait for.
+fn settle_with_room<
+    D: Disk + Drop,
+    N: StoreNaming,
+    T: Invariants + Drop,
+    S: StoredSteps + Drop,
+    R: Wait,
+>(rt: &R, front: &Front<D, N, T, S>, pass: &mut Pass<N>, plan: &Plan) -> Result<Settled, Fault>
+    requires steps { FitsSteps (S.arities front.now.steps) plan.now }
+    requires variables { FitsVariables front.now.vars plan.now }
+    requires names { FitsNames N.program.names plan.now }
+{
+    for _ in rt.forever() {
+        let durable = front.look(pass);
+        match settle(rt, front, pass, plan) {
+            Err(Fault::Full) => front.await_durable(rt, pass, durable)?,
+            settled => return settled,
+        }
+    }
+    unreachable!()
+}
+
+/// Runs a job on a new store, until all that it committed is durable.
+pub fn serve<F: Service + Sync, R: Clock + Threads + Wait + Sync>(
+    rt: &R,
+    alloc: Global,
+    store: &F,
+    job: Job,
+) -> Result<Figures, BenchError> {
+    store.prepare(rt, alloc)?;
+    let start = now(rt)?;
+    let mut had = match job.callers {
+        Callers::Alone => store.work(rt, alloc, job, start)?,
+        Callers::Beside(callers) => work_beside(rt, alloc, store, job, callers, start)?,
+    };
+    had.time = since(rt, start)?;
+    Ok(had)
+}
+
+// Callers beside a flusher in a thread of its own, which ends once they have ended and all is durable. Its refusal comes before
+// those that follow from it. With no thread for it nobody calls.
+fn work_beside<F: Service + Sync, R: Clock + Threads + Wait + Sync>(
+    rt: &R,
+    alloc: Global,
+    store: &F,
+    job: Job,
+    callers: usize,
+    start: Instant,
+) -> Result<Figures, Fault> {
+    thread::scope(thread::scope_env(), rt, |scope| {
+        let Ok(flusher) = scope.spawn(move || store.flush(rt, callers > 1)) else {
+            return Err(Fault::Memory);
+        };
+        let had = work_all(rt, alloc, store, job, callers, start);
+        store.close(rt);
+        let flushes = flusher.join(rt)?;
+        Ok(Figures { flushes, ..had? })
+    })
+}
+
+// All callers, each in a thread of its own where one can be made, and else one after another.
+fn work_all<F: Service + Sync, R: Clock + Threads + Wait + Sync>(
+    rt: &R,
+    alloc: Global,
+    store: &F,
+    job: Job,
+    callers: usize,
+    start: Instant,
+) -> Result<Figures, Fault> {
+    let all = map_indices(rt, alloc, callers, &|_| store.work(rt, alloc, job, start))?;
+    let mut sum = Figures::zero();
+    for had in all {
+        sum = sum.with(had?);
+    }
+    Ok(sum)
+}

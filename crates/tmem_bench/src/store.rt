@@ -1,0 +1,157 @@
+// A store for the jobs, with what its closures mean.
+ghost use Rattle.std.specs.Prelude.{◌≡◌, length};
+ghost use Rattle.std.specs.List.{list_any};
+ghost use Rattle.tmem_builtins.specs.Steps.{sum_of, difference_of, at_least};
+ghost use Rattle.tmem_front.specs.Held.{found_of, spine_of, steps_of as steps_held, table_of};
+ghost use Rattle.tmem_bench.specs.Accounts.{bank, has_no_negative, is_negative};
+
+use crate::error::BenchError;
+use crate::figures::Figures;
+use crate::jobs::{Act, Job, PAYEE, PAYER, SLOTS, SOLVENT};
+use crate::on_core::run_on_core;
+use crate::service::{Service, serve};
+use std::alloc::{AllocGlobal, Global};
+use std::marker::Brand;
+use std::rt::Clock;
+use std::sync::Wait;
+use std::thread::Threads;
+use tmem_builtins::{add, need, steps_of, sub};
+use tmem_disk::{Disk, Name};
+use tmem_front::{OpenedFront, StoreNaming};
+use tmem_invariants::{Invariant, Invariants, Table};
+use tmem_tree::{StepAnswer, StoredSteps};
+
+/// What is done with a store once it is open.
+#[derive(Clone, Copy)]
+pub enum Task {
+    /// Runs a job.
+    Serve(Job),
+    /// Fills the log.
+    Fill,
+    /// Nothing.
+    Open,
+}
+
+/// Where something is done with the invariants and the steps.
+#[derive(Drop)]
+pub enum On<D: Disk> {
+    /// On a core alone.
+    Core(Act),
+    /// On the store of a device, which was formatted.
+    Store(D, Task),
+}
+
+/// Makes the invariants and the steps for so many variables, and does it.
+pub fn with_bank<D: Disk + Drop + Send, R: Clock + AllocGlobal + Threads + Wait + Sync>(
+    rt: &R,
+    vars: u16,
+    on: On<D>,
+) -> Result<Figures, BenchError> {
+    let alloc = rt.alloc();
+    let solvent = Box::new(
+        alloc,
+        |accounts: &[i64]| -> bool
+            ensures { result ≡ has_no_negative accounts.now }
+        { !has_negative(accounts) },
+    )?;
+    let solvent = Invariant::new(Name::new(SOLVENT)?, vec![in alloc; PAYER, PAYEE]?, solvent)?;
+    let table = Table::of(alloc, vec![in alloc; solvent]?, vars)?;
+    with_steps(rt, alloc, vars, on, table)
+}
+
+// Whether an account is below zero.
+fn has_negative(accounts: &[i64]) -> bool
+    ensures { result ≡ list_any is_negative accounts.now }
+{
+    accounts.iter().any(|account| *account < 0)
+}
+
+// Makes the stored steps.
+fn with_steps<D: Disk + Drop + Send, T: Invariants + Drop + Send, R: Clock + Threads + Wait + Sync>(
+    rt: &R,
+    alloc: Global,
+    vars: u16,
+    on: On<D>,
+    table: T,
+) -> Result<Figures, BenchError>
+    requires vars { T.vars table ≡ vars }
+    requires names { T.names table ≡ bank.names }
+    requires stated { T.is_stated table bank.tests }
+{
+    let total = Box::new(
+        alloc,
+        |args: &[i64]| -> StepAnswer
+            requires { length args.now ≡ 2 }
+            ensures { result ≡ sum_of args.now }
+        { add(args) },
+    )?;
+    let difference = Box::new(
+        alloc,
+        |args: &[i64]| -> StepAnswer
+            requires { length args.now ≡ 2 }
+            ensures { result ≡ difference_of args.now }
+        { sub(args) },
+    )?;
+    let floor = Box::new(
+        alloc,
+        |args: &[i64]| -> StepAnswer
+            requires { length args.now ≡ 2 }
+            ensures { result ≡ at_least args.now }
+        { need(args) },
+    )?;
+    let steps = steps_of(alloc, total, difference, floor)?;
+    match on {
+        On::Core(act) => run_on_core(rt, alloc, vars, act, table, steps),
+        On::Store(disk, task) => open(rt, alloc, vars, disk, task, table, steps),
+    }
+}
+
+fn open<
+    D: Disk + Drop + Send,
+    T: Invariants + Drop + Send,
+    S: StoredSteps + Drop + Send + Sync,
+    R: Clock + Threads + Wait + Sync,
+>(
+    rt: &R,
+    alloc: Global,
+    vars: u16,
+    disk: D,
+    task: Task,
+    table: T,
+    steps: S,
+) -> Result<Figures, BenchError>
+    requires vars { T.vars table ≡ vars }
+    requires names { T.names table ≡ bank.names }
+    requires stated { T.is_stated table bank.tests }
+    requires steps { S.is_stated steps bank.steps }
+{
+    match OpenedFront::open(alloc, disk, vars, SLOTS, table, steps) {
+        Ok(opened) => with_front::<Brand, D, T, S, R>(rt, alloc, opened, task),
+        Err((fault, _disk)) => Err(BenchError::Refused(fault)),
+    }
+}
+
+fn with_front<
+    N: StoreNaming + Send + Sync,
+    D: Disk + Drop + Send,
+    T: Invariants + Drop + Send,
+    S: StoredSteps + Drop + Send + Sync,
+    R: Clock + Threads + Wait + Sync,
+>(rt: &R, alloc: Global, opened: OpenedFront<D, T, S>, task: Task) -> Result<Figures, BenchError>
+    requires spine { spine_of opened ≡ N.name }
+    requires opening { found_of opened ≡ N.opening }
+    requires program { N.program ≡ bank }
+    requires names { T.names (table_of opened) ≡ bank.names }
+    requires stated { T.is_stated (table_of opened) bank.tests }
+    requires steps { S.is_stated (steps_held opened) bank.steps }
+{
+    let front = opened.named::<N>();
+    match task {
+        Task::Serve(job) => serve(rt, alloc, &front, job),
+        Task::Fill => {
+            front.fill(rt, alloc)?;
+            Ok(Figures::zero())
+        }
+        Task::Open => Ok(Figures::zero()),
+    }
+}

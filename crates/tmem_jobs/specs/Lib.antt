@@ -1,3 +1,0 @@
-pub mod Accounts
-pub mod Figures
-pub mod Printed
