@@ -1,6 +1,6 @@
 use Rattle.std.proofs.Common.{List, ℕ, sym, subst, arith}
 use Rattle.tmem_disk.specs.SimParts.{view_of, is_device_of}
-use Rattle.tmem_tests.proofs.tests.checkpoints.start_again.Goals as goal
+use Rattle.tmem_tests.proofs.tests.crashes.start_again.Goals as goal
 
 pub returns : goal.returns
 returns c = λ program vars slots h store.
