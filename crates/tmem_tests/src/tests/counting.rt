@@ -1,6 +1,4 @@
 //! A device that counts its calls.
-ghost use Rattle.std.specs.Prelude.{◌≡◌};
-
 use tmem_disk::{DeviceFault, Disk};
 
 /// How often each call was made.
@@ -11,31 +9,36 @@ pub(super) struct Calls {
     pub(super) syncs: u64,
 }
 
-/// So many reads, writes and syncs.
-pub(super) fn made(reads: u64, writes: u64, syncs: u64) -> Calls {
-    Calls {
-        reads,
-        writes,
-        syncs,
-    }
-}
+/// No call.
+const NONE: Calls = Calls {
+    reads: 0,
+    writes: 0,
+    syncs: 0,
+};
 
 /// A device round another, which counts the calls that it passes on.
 #[derive(Drop)]
 pub(super) struct CountDisk<D: Disk> {
     pub(super) inner: D,
     pub(super) calls: Calls,
+    /// What was counted before the last `count_anew`.
+    pub(super) before: Calls,
 }
 
 impl<D: Disk> CountDisk<D> {
     /// A device of which no call was made.
-    pub(super) fn new(inner: D) -> CountDisk<D>
-        ensures { result.inner ≡ inner }
-    {
+    pub(super) fn new(inner: D) -> CountDisk<D> {
         CountDisk {
             inner,
-            calls: made(0, 0, 0),
+            calls: NONE,
+            before: NONE,
         }
+    }
+
+    /// Sets aside what was counted.
+    pub(super) fn count_anew(&mut self) {
+        self.before = self.calls;
+        self.calls = NONE;
     }
 }
 

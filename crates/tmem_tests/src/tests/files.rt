@@ -1,16 +1,16 @@
 //! A file as a device.
-ghost use Rattle.std.specs.Prelude.{◌≡◌, ◌+◌, ◌≤◌, length};
-
+use super::acts::Act::{Reads, Size, Syncs, Writes};
+use super::acts::{Act, are_so};
 use std::io::ErrorKind;
 use std::path::PathBuf;
 use std::test::Fail;
 use std::{env, fs};
-use tmem_disk::{DeviceFault, Disk, Fault};
+use tmem_disk::Fault;
 use tmem_file::{FileDisk, NewFile};
 
 const SIZE: u64 = 10_000;
 
-// A new folder in the system's folder for such files.
+/// A new folder in the system's folder for such files.
 fn make_folder(rt: &HostRuntime) -> Result<PathBuf, Fail> {
     let all = env::temp_dir(rt)?;
     for number in 0..1000 {
@@ -25,7 +25,7 @@ fn make_folder(rt: &HostRuntime) -> Result<PathBuf, Fail> {
     Err(Fail::from("no folder to test in"))
 }
 
-// How many files are in a folder.
+/// How many files are in a folder.
 fn files_in(rt: &HostRuntime, folder: &PathBuf) -> Result<u64, Fail> {
     let mut count = 0u64;
     for entry in fs::read_dir(rt, folder.as_str())? {
@@ -35,25 +35,29 @@ fn files_in(rt: &HostRuntime, folder: &PathBuf) -> Result<u64, Fail> {
     Ok(count)
 }
 
-// Writes and syncs, as whoever knows only a device does.
-fn put<D: Disk>(disk: &mut D, at: u64, bytes: &[u8]) -> Result<(), DeviceFault>
-    requires { at + length bytes.now ≤ (D.view disk.old).capacity }
-    ensures { (D.view disk.new).capacity ≡ (D.view disk.old).capacity }
-{
-    disk.write_at(at, bytes)?;
-    disk.sync()
-}
+/// What is done to a file that is new, to the same once it is placed, and to it in another opening.
+const NEW: &[Act<'static>] = &[
+    Size(SIZE),
+    Reads(9994, &[0, 0, 0, 0, 0, 0]),
+    Writes(4094, b"abcd"),
+    Syncs,
+];
+
+const PLACED: &[Act<'static>] = &[Writes(0, b"xy"), Syncs];
+
+const AGAIN: &[Act<'static>] = &[
+    Size(SIZE),
+    Reads(4093, b"\0abcd\0"),
+    Reads(0, b"xy\0\0\0\0"),
+];
 
 #[test]
 fn a_placed_file_is_read_by_the_next_opening(rt: HostRuntime) -> Result<(), Fail> {
+    let alloc = rt.alloc();
     let folder = make_folder(&rt)?;
-    let path = folder.join(rt.alloc(), "store")?;
+    let path = folder.join(alloc, "store")?;
     let mut new = NewFile::create(&rt, path.as_str(), SIZE)?;
-    assert_eq!(rt; new.disk.size(), SIZE);
-    let mut back = [1u8; 6];
-    new.disk.read(SIZE - 6, &mut back)?;
-    assert_eq!(rt; back, [0; 6]);
-    put(&mut new.disk, 4094, b"abcd")?;
+    assert!(rt; are_so(alloc, &mut new.disk, NEW)?);
     // Until it is placed, another may be made.
     let other = NewFile::create(&rt, path.as_str(), 1)?;
     assert_eq!(rt; files_in(&rt, &folder)?, 2);
@@ -63,19 +67,12 @@ fn a_placed_file_is_read_by_the_next_opening(rt: HostRuntime) -> Result<(), Fail
     assert_eq!(rt; files_in(&rt, &folder)?, 1);
     assert!(rt; fs::exists(&rt, path.as_str())?);
     // While it is open nobody else opens it.
-    assert_eq!(rt;
-        FileDisk::open(&rt, path.as_str()).err(),
-        Some(Fault::Device)
-    );
-    disk.write_at(0, b"xy")?;
-    disk.sync()?;
+    let second = FileDisk::open(&rt, path.as_str()).err();
+    assert_eq!(rt; second, Some(Fault::Device));
+    assert!(rt; are_so(alloc, &mut disk, PLACED)?);
     drop(disk);
     let mut again = FileDisk::open(&rt, path.as_str())?;
-    assert_eq!(rt; again.size(), SIZE);
-    again.read(4093, &mut back)?;
-    assert_eq!(rt; back, *b"\0abcd\0");
-    again.read(0, &mut back)?;
-    assert_eq!(rt; back, *b"xy\0\0\0\0");
+    assert!(rt; are_so(alloc, &mut again, AGAIN)?);
     drop(again);
     fs::remove_dir_all(&rt, folder.as_str())?;
     Ok(())
@@ -109,7 +106,9 @@ fn refuses_what_is_no_file(rt: HostRuntime) -> Result<(), Fail> {
     }
     assert_eq!(rt; files_in(&rt, &folder)?, 0);
     fs::write(&rt, missing.as_str(), b"".as_slice())?;
-    assert_eq!(rt; FileDisk::open(&rt, missing.as_str())?.size(), 0);
+    let mut empty = FileDisk::open(&rt, missing.as_str())?;
+    assert!(rt; are_so(rt.alloc(), &mut empty, &[Size(0)])?);
+    drop(empty);
     fs::remove_dir_all(&rt, folder.as_str())?;
     Ok(())
 }

@@ -1,0 +1,380 @@
+//! What a test does to a device, to an image on it or to its journal, as data: each act says what it is answered.
+ghost use Rattle.std.specs.Prelude.{◌≡◌, length, IfOk};
+
+use super::counting::CountDisk;
+use std::alloc::Global;
+use std::process::Abort;
+use std::test::Fail;
+use tmem_disk::{DeviceFault, Disk, Fault, Fill, Name, SimDisk};
+use tmem_image::{ImageState, choose, load, write_spare};
+use tmem_journal::{Journal, Layout, format};
+use tmem_record::{Batch, Effect, NameSet, State};
+
+/// An act, with what it is answered. Those of a session are for a journal that is open, all others for a device.
+#[derive(Clone, Copy)]
+pub(super) enum Act<'a> {
+    /// A new device of so many zeros, in the place of any other.
+    Makes(u64),
+    /// It holds so many bytes.
+    Size(u64),
+    /// A read from a place on gives these bytes.
+    Reads(u64, &'a [u8]),
+    /// A read of so many bytes from a place on fails.
+    ReadFails(u64, usize),
+    /// These bytes are written from a place on.
+    Writes(u64, &'a [u8]),
+    /// That fails.
+    WriteFails(u64, &'a [u8]),
+    Syncs,
+    SyncFails,
+    /// Arms a read, a write or a sync to fail, by its number from now.
+    FailRead(u64),
+    FailWrite(u64),
+    FailSync(u64),
+    /// Arms a stop, at a write by its number from now, or by the place where it starts.
+    StopAtWrite(u64, Fill),
+    StopAtPlace(u64, Fill),
+    /// Stops it now.
+    StopNow(Fill),
+    /// It stands at a stop.
+    IsStopped,
+    /// It stands at a stop, and is started again.
+    Restarts,
+    /// Counts its calls anew.
+    CountsAnew,
+    /// It was called so often since then: reads beyond those that were counted before, where they matter, writes and syncs.
+    Made(Option<u64>, u64, u64),
+    /// Is formatted for so many variables and slots.
+    Formats(u16, u16, Result<(), &'a str>),
+    /// The copy of the image that is chosen on a device of `IMAGE_VARS` variables.
+    Chooses(Result<u8, &'a str>),
+    /// Writes the image of `state` to a copy, with a generation, on a device that is synced before.
+    Puts(u8, u64, Result<(), &'a str>),
+    /// The generation of a copy of the image, which holds what formatting wrote where it is 1, and else `state`.
+    Loads(u8, Result<u64, &'a str>),
+    /// A session is begun for so many variables and slots, and so many transactions are found. Where it is refused, the
+    /// device is handed back.
+    Opens(u16, u16, Result<u64, &'a str>),
+    /// In a session: a batch of one record is flushed, which writes a number to variable 0.
+    Flushes(i64, Result<u64, &'a str>),
+    /// In a session.
+    Checkpoints(Result<(), &'a str>),
+    /// In a session: so many transactions are durable, with this number in variable 0.
+    Holds(u64, i64),
+    /// Whether a session was closed by a failure.
+    IsClosed(bool),
+    /// Ends a session.
+    Closes,
+}
+
+/// A case: what is done first, and then each of some rows in the place of the others.
+#[derive(Clone, Copy)]
+pub(super) struct Case<'a> {
+    pub(super) name: &'a str,
+    pub(super) first: &'a [Act<'a>],
+    pub(super) rows: &'a [&'a [Act<'a>]],
+}
+
+/// What the acts are done to.
+type Device = CountDisk<SimDisk>;
+
+/// Between two acts.
+#[derive(Drop)]
+enum Store {
+    Closed(Device),
+    Session(Journal<Device>),
+}
+
+/// Does what the cases say, and fails where an act is answered otherwise.
+pub(super) fn play(rt: &impl Abort, alloc: Global, cases: &[Case]) -> Result<(), Fail> {
+    for case in cases {
+        play_rows(rt, alloc, case)?;
+    }
+    Ok(())
+}
+
+fn play_rows(rt: &impl Abort, alloc: Global, case: &Case) -> Result<(), Fail> {
+    for (row, rest) in case.rows.iter().enumerate() {
+        let mut acts = Vec::from_slice(alloc, case.first)?;
+        acts.extend_from_slice(rest)?;
+        let other = first_other(alloc, &acts)?;
+        assert_eq!(rt; other, None, "{}, row {row}", case.name);
+    }
+    Ok(())
+}
+
+/// The place of the first act that is answered otherwise.
+fn first_other(alloc: Global, acts: &[Act]) -> Result<Option<usize>, Fail> {
+    let mut store = Store::Closed(CountDisk::new(SimDisk::new(alloc, 0)?));
+    for (place, act) in acts.iter().enumerate() {
+        let next = match store {
+            Store::Closed(disk) => after_device(alloc, disk, act)?,
+            Store::Session(journal) => after_session(alloc, journal, act)?,
+        };
+        match next {
+            Some(next) => store = next,
+            None => return Ok(Some(place)),
+        }
+    }
+    Ok(None)
+}
+
+/// The store after an act, unless it is answered otherwise.
+fn after_session(
+    alloc: Global,
+    mut journal: Journal<Device>,
+    act: &Act,
+) -> Result<Option<Store>, Fail> {
+    let is_so = match act {
+        Act::Flushes(number, answer) => is_same(flush(alloc, &mut journal, *number)?, *answer),
+        Act::Checkpoints(answer) => is_same(journal.checkpoint(), *answer),
+        Act::Holds(count, number) => {
+            journal.count() == *count && journal.state().values().first() == Some(number)
+        }
+        Act::IsClosed(is_closed) => journal.is_closed() == *is_closed,
+        Act::Closes => return Ok(Some(Store::Closed(journal.into_disk()))),
+        _ => false,
+    };
+    Ok(if is_so {
+        Some(Store::Session(journal))
+    } else {
+        None
+    })
+}
+
+/// Flushes a batch of one record, which writes a number to variable 0.
+fn flush(
+    alloc: Global,
+    journal: &mut Journal<Device>,
+    number: i64,
+) -> Result<Result<u64, Fault>, Fail> {
+    let mut effect = Effect::new();
+    effect.writes.put(0, number);
+    let has_room = journal.state().has_room_for(effect.names.as_slice());
+    let mut batch = Batch::new(alloc)?;
+    if effect.is_empty() || !batch.push(&effect) || !has_room || journal.count() == u64::MAX {
+        return Err(Fail::new("no batch for the journal"));
+    }
+    Ok(journal.flush(&batch))
+}
+
+fn after_device(alloc: Global, mut disk: Device, act: &Act) -> Result<Option<Store>, Fail> {
+    match act {
+        Act::Makes(size) => {
+            let disk = CountDisk::new(SimDisk::new(alloc, *size)?);
+            Ok(Some(Store::Closed(disk)))
+        }
+        Act::Opens(vars, slots, answer) => Ok(opened(alloc, disk, *vars, *slots, *answer)),
+        _ => {
+            let is_so = is_so_of_any(alloc, &mut disk, act)?
+                || is_so_of_power(&mut disk, act)
+                || is_so_of_images(alloc, &mut disk, act)?;
+            Ok(if is_so {
+                Some(Store::Closed(disk))
+            } else {
+                None
+            })
+        }
+    }
+}
+
+/// The session of a device, or the device that is handed back, if opening it is answered so.
+fn opened(
+    alloc: Global,
+    disk: Device,
+    vars: u16,
+    slots: u16,
+    answer: Result<u64, &str>,
+) -> Option<Store> {
+    match Journal::open(alloc, disk, vars, slots) {
+        Ok(journal) => {
+            let numbers = journal.layout();
+            let had = (numbers.vars, numbers.slots, journal.is_closed());
+            if had != (vars, slots, false) || answer != Ok(journal.count()) {
+                return None;
+            }
+            Some(Store::Session(journal))
+        }
+        Err((fault, disk)) => {
+            if answer != Err(word(fault)) {
+                return None;
+            }
+            Some(Store::Closed(disk))
+        }
+    }
+}
+
+/// Whether calls of a device, as whoever knows only a device makes them, are answered so.
+pub(super) fn are_so<D: Disk>(alloc: Global, disk: &mut D, acts: &[Act]) -> Result<bool, Fail> {
+    for act in acts {
+        if !is_so_of_any(alloc, disk, act)? {
+            return Ok(false);
+        }
+    }
+    Ok(true)
+}
+
+fn is_so_of_any<D: Disk>(alloc: Global, disk: &mut D, act: &Act) -> Result<bool, Fail> {
+    match act {
+        Act::Size(size) => Ok(disk.size() == *size),
+        Act::Reads(at, wanted) => {
+            let mut had = vec![in alloc; 0xEE; wanted.len()]?;
+            Ok(read(disk, *at, &mut had) == Some(Ok(())) && had.as_slice() == *wanted)
+        }
+        Act::ReadFails(at, count) => {
+            let mut had = vec![in alloc; 0xEE; *count]?;
+            Ok(read(disk, *at, &mut had) == Some(Err(DeviceFault::Read)))
+        }
+        Act::Writes(at, bytes) => Ok(write(disk, *at, bytes) == Some(Ok(()))),
+        Act::WriteFails(at, bytes) => Ok(write(disk, *at, bytes) == Some(Err(DeviceFault::Write))),
+        Act::Syncs => Ok(disk.sync() == Ok(())),
+        Act::SyncFails => Ok(disk.sync() == Err(DeviceFault::Sync)),
+        _ => Ok(false),
+    }
+}
+
+/// What a read answers, where it is within the device.
+fn read<D: Disk>(disk: &mut D, at: u64, into: &mut [u8]) -> Option<Result<(), DeviceFault>> {
+    if disk.size() < at.checked_add(into.len() as u64)? {
+        return None;
+    }
+    Some(disk.read(at, into))
+}
+
+/// What a write answers, where it is within the device.
+fn write<D: Disk>(disk: &mut D, at: u64, bytes: &[u8]) -> Option<Result<(), DeviceFault>> {
+    if disk.size() < at.checked_add(bytes.len() as u64)? {
+        return None;
+    }
+    Some(disk.write_at(at, bytes))
+}
+
+/// Whether it counts, fails and stops so.
+fn is_so_of_power(disk: &mut Device, act: &Act) -> bool {
+    match act {
+        Act::FailRead(k) => disk.inner.fail_read(*k),
+        Act::FailWrite(k) => disk.inner.fail_write(*k),
+        Act::FailSync(k) => disk.inner.fail_sync(*k),
+        Act::StopAtWrite(k, fill) => disk.inner.stop_at_write(*k, *fill),
+        Act::StopAtPlace(at, fill) => disk.inner.stop_at_place(*at, *fill),
+        Act::StopNow(fill) => disk.inner.stop_now(*fill),
+        Act::IsStopped => return disk.inner.is_stopped(),
+        Act::Restarts => {
+            if !disk.inner.is_stopped() {
+                return false;
+            }
+            disk.inner.restart();
+        }
+        Act::CountsAnew => disk.count_anew(),
+        Act::Made(reads, writes, syncs) => {
+            let more = disk.calls.reads.checked_sub(disk.before.reads);
+            return (disk.calls.writes, disk.calls.syncs) == (*writes, *syncs)
+                && (reads.is_none() || *reads == more);
+        }
+        _ => return false,
+    }
+    true
+}
+
+/// How many variables a device has on which images are tested: two pages of them.
+const IMAGE_VARS: u16 = 70;
+
+/// A state of 258 transactions with two names. None of its values at the edges of the pages is 0.
+fn state(alloc: Global) -> Result<State, Fail>
+    ensures { IfOk result (λ state. length state.values ≡ 70) }
+{
+    let mut names = NameSet::new(alloc)?;
+    if !names.push(&Name::new("ab")?) || !names.push(&Name::new("b")?) {
+        return Err(Fail::new("no names"));
+    }
+    let mut values = vec![in alloc; 3; 70]?;
+    values[0] = -1;
+    values[63] = i64::MAX;
+    values[64] = i64::MIN;
+    values[69] = 1000;
+    Ok(State::of(258, names, values))
+}
+
+fn is_so_of_images(alloc: Global, disk: &mut Device, act: &Act) -> Result<bool, Fail> {
+    if let Act::Formats(vars, slots, answer) = act {
+        return Ok(is_same(format(disk, *vars, *slots), *answer));
+    }
+    let layout = Layout::new(IMAGE_VARS, 2)?;
+    if disk.size() < layout.end() {
+        return Ok(false);
+    }
+    match act {
+        Act::Chooses(answer) => Ok(is_same(choose(disk, layout), *answer)),
+        Act::Puts(copy, generation, answer) => {
+            Ok(is_same(put(alloc, disk, layout, *copy, *generation)?, *answer))
+        }
+        Act::Loads(copy, answer) if *copy <= 1 => {
+            let had = load(alloc, disk, layout, *copy);
+            Ok(is_same(generation_of(alloc, had)?, *answer))
+        }
+        _ => Ok(false),
+    }
+}
+
+/// Writes the image of `state` to a copy, with a generation.
+fn put(
+    alloc: Global,
+    disk: &mut Device,
+    layout: Layout,
+    copy: u8,
+    generation: u64,
+) -> Result<Result<(), Fault>, Fail> {
+    let state = state(alloc)?;
+    disk.sync()?;
+    if copy > 1 || generation == 0 || disk.size() < layout.end() || layout.vars != IMAGE_VARS {
+        return Err(Fail::new("no such image"));
+    }
+    Ok(write_spare(disk, layout, copy, generation, &state))
+}
+
+/// The generation of an image, which holds what formatting wrote where that is 1, and else `state`.
+fn generation_of(
+    alloc: Global,
+    had: Result<ImageState, Fault>,
+) -> Result<Result<u64, Fault>, Fail> {
+    let image = match had {
+        Ok(image) => image,
+        Err(fault) => return Ok(Err(fault)),
+    };
+    let wanted = if image.generation == 1 {
+        State::of(0, NameSet::new(alloc)?, vec![in alloc; 0; 70]?)
+    } else {
+        state(alloc)?
+    };
+    let is_so = image.state.count() == wanted.count()
+        && image.state.names() == wanted.names()
+        && image.state.values() == wanted.values();
+    if !is_so {
+        return Err(Fail::new("it holds another state"));
+    }
+    Ok(Ok(image.generation))
+}
+
+/// Whether an answer is this one, where a refusal is known by its word.
+fn is_same<T: PartialEq + Drop>(had: Result<T, Fault>, wanted: Result<T, &str>) -> bool {
+    match (had, wanted) {
+        (Ok(had), Ok(wanted)) => had == wanted,
+        (Err(fault), Err(wanted)) => word(fault) == wanted,
+        _ => false,
+    }
+}
+
+/// The word of a refusal.
+fn word(fault: Fault) -> &'static str {
+    match fault {
+        Fault::Device => "device",
+        Fault::Closed => "closed",
+        Fault::Unknown => "unknown",
+        Fault::LogFull => "logfull",
+        Fault::NotFormatted => "notformatted",
+        Fault::Damaged => "damaged",
+        Fault::Spent => "spent",
+        Fault::Geometry => "geometry",
+        _ => "another",
+    }
+}
