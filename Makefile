@@ -13,13 +13,12 @@ build:
 test:
 	.ci/test
 
-# Tries the mutants of crates/*/wrong-bodies too, on a copy of what is committed: the prover has to reject each.
-wrong-bodies:
-	copy=$$(mktemp -d) && trap 'rm -rf "$$copy"' EXIT && git clone -q . "$$copy" && cd "$$copy" && rm -rf crates/*/must-fail && \
-	for folder in crates/*/wrong-bodies; do mv $$folder $${folder%/*}/must-fail; done && rt must-fail
+# Tries all mutants, those of must-fail, mutants and test-mutants: of the crates that CRATES names, or of all.
+mutants:
+	.ci/mutants $(CRATES)
 
 # Proves the program, and times the jobs of a service. bench/check compares what it prints with a simulated clock.
 bench: build
 	crates/tmem/out/tmem bench
 
-.PHONY: run build test wrong-bodies bench
+.PHONY: run build test mutants bench
