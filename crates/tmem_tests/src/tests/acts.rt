@@ -167,7 +167,8 @@ fn after_device(alloc: Global, mut disk: Device, act: &Act) -> Result<Option<Sto
         Act::Opens(vars, slots, answer) => Ok(opened(alloc, disk, *vars, *slots, *answer)),
         _ => {
             let is_so = is_so_of_any(alloc, &mut disk, act)?
-                || is_so_of_power(&mut disk, act)
+                || is_so_of_counting(&mut disk, act)
+                || is_so_of_power(&mut disk.inner, act)
                 || is_so_of_images(alloc, &mut disk, act)?;
             Ok(if is_so {
                 Some(Store::Closed(disk))
@@ -249,27 +250,37 @@ fn write<D: Disk>(disk: &mut D, at: u64, bytes: &[u8]) -> Option<Result<(), Devi
     Some(disk.write_at(at, bytes))
 }
 
-/// Whether it counts, fails and stops so.
-fn is_so_of_power(disk: &mut Device, act: &Act) -> bool {
+/// Whether it was called so often.
+fn is_so_of_counting(disk: &mut Device, act: &Act) -> bool {
     match act {
-        Act::FailRead(k) => disk.inner.fail_read(*k),
-        Act::FailWrite(k) => disk.inner.fail_write(*k),
-        Act::FailSync(k) => disk.inner.fail_sync(*k),
-        Act::StopAtWrite(k, fill) => disk.inner.stop_at_write(*k, *fill),
-        Act::StopAtPlace(at, fill) => disk.inner.stop_at_place(*at, *fill),
-        Act::StopNow(fill) => disk.inner.stop_now(*fill),
-        Act::IsStopped => return disk.inner.is_stopped(),
-        Act::Restarts => {
-            if !disk.inner.is_stopped() {
-                return false;
-            }
-            disk.inner.restart();
+        Act::CountsAnew => {
+            disk.count_anew();
+            true
         }
-        Act::CountsAnew => disk.count_anew(),
         Act::Made(reads, writes, syncs) => {
             let more = disk.calls.reads.checked_sub(disk.before.reads);
-            return (disk.calls.writes, disk.calls.syncs) == (*writes, *syncs)
-                && (reads.is_none() || *reads == more);
+            (disk.calls.writes, disk.calls.syncs) == (*writes, *syncs)
+                && (reads.is_none() || *reads == more)
+        }
+        _ => false,
+    }
+}
+
+/// Whether it fails and stops so.
+fn is_so_of_power(disk: &mut SimDisk, act: &Act) -> bool {
+    match act {
+        Act::FailRead(k) => disk.fail_read(*k),
+        Act::FailWrite(k) => disk.fail_write(*k),
+        Act::FailSync(k) => disk.fail_sync(*k),
+        Act::StopAtWrite(k, fill) => disk.stop_at_write(*k, *fill),
+        Act::StopAtPlace(at, fill) => disk.stop_at_place(*at, *fill),
+        Act::StopNow(fill) => disk.stop_now(*fill),
+        Act::IsStopped => return disk.is_stopped(),
+        Act::Restarts => {
+            if !disk.is_stopped() {
+                return false;
+            }
+            disk.restart();
         }
         _ => return false,
     }
@@ -377,4 +388,71 @@ fn word(fault: Fault) -> &'static str {
         Fault::Geometry => "geometry",
         _ => "another",
     }
+}
+
+/// A device of which the next sync fails, one with an image, and a session on that.
+const ARMED: [Act<'static>; 2] = [Act::Makes(4), Act::FailSync(0)];
+
+const FORMATTED: [Act<'static>; 2] = [Act::Makes(14848), Act::Formats(70, 2, Ok(()))];
+
+const SESSION: [Act<'static>; 3] = [
+    Act::Makes(14848),
+    Act::Formats(70, 2, Ok(())),
+    Act::Opens(70, 2, Ok(0)),
+];
+
+/// What is answered otherwise behind each of these.
+const NOT_ARMED: [Act<'static>; 15] = [
+    Act::Size(5),
+    Act::Reads(0, &[1]),
+    Act::Reads(4, &[0]),
+    Act::ReadFails(0, 1),
+    Act::Writes(4, &[0]),
+    Act::WriteFails(0, &[0]),
+    Act::Syncs,
+    Act::IsStopped,
+    Act::Restarts,
+    Act::Made(None, 0, 1),
+    Act::Made(None, 1, 0),
+    Act::Made(Some(1), 0, 0),
+    Act::Formats(4, 2, Ok(())),
+    Act::Flushes(5, Ok(1)),
+    Act::Closes,
+];
+
+const NOT_FORMATTED: [Act<'static>; 8] = [
+    Act::SyncFails,
+    Act::Formats(4, 2, Err("geometry")),
+    Act::Chooses(Ok(1)),
+    Act::Puts(1, 2, Err("device")),
+    Act::Loads(0, Ok(2)),
+    Act::Opens(70, 2, Ok(1)),
+    Act::Opens(71, 2, Ok(0)),
+    Act::Opens(71, 2, Err("damaged")),
+];
+
+const NOT_IN_SESSION: [Act<'static>; 6] = [
+    Act::Syncs,
+    Act::Flushes(5, Ok(2)),
+    Act::Checkpoints(Err("spent")),
+    Act::Holds(0, 1),
+    Act::Holds(1, 0),
+    Act::IsClosed(true),
+];
+
+/// Fails where one of these acts is answered as it says, behind the first ones.
+fn none_is_so(rt: &impl Abort, alloc: Global, first: &[Act], others: &[Act]) -> Result<(), Fail> {
+    for (row, other) in others.iter().enumerate() {
+        let mut acts = Vec::from_slice(alloc, first)?;
+        acts.push(*other)?;
+        assert_eq!(rt; first_other(alloc, &acts)?, Some(first.len()), "row {row}");
+    }
+    Ok(())
+}
+
+#[test]
+fn an_act_that_is_answered_otherwise_is_found(rt: HostRuntime) -> Result<(), Fail> {
+    none_is_so(&rt, rt.alloc(), &ARMED, &NOT_ARMED)?;
+    none_is_so(&rt, rt.alloc(), &FORMATTED, &NOT_FORMATTED)?;
+    none_is_so(&rt, rt.alloc(), &SESSION, &NOT_IN_SESSION)
 }

@@ -58,9 +58,13 @@ fn effect_of(puts: &[(u16, i64)], checks: &[&str]) -> Result<Effect, Fail> {
     Ok(effect)
 }
 
+/// The generation 1, and the first number 0.
+const HEAD: [u8; 16] = [1, 0, 0, 0, 0, 0, 0, 0, 0, 0, 0, 0, 0, 0, 0, 0];
+
 /// The head of a batch of generation 1, with number 0 and so many records, and these bytes behind it.
 fn behind_head(alloc: Global, count: u8, records: &[u8]) -> Result<Vec<u8>, Fail> {
-    let mut bytes = vec![in alloc; 1, 0, 0, 0, 0, 0, 0, 0, 0, 0, 0, 0, 0, 0, 0, 0, count, 0]?;
+    let mut bytes = Vec::from_slice(alloc, &HEAD)?;
+    bytes.extend_from_slice(&[count, 0])?;
     bytes.extend_from_slice(records)?;
     Ok(bytes)
 }

@@ -7,7 +7,7 @@ use super::acts::{Case, play};
 use std::test::Fail;
 use tmem_disk::Fill::{Byte, New, Old};
 
-const DISKS: &[Case<'static>] = &[
+const CONTENTS: &[Case<'static>] = &[
     Case {
         name: "another device meets the trait",
         first: &[],
@@ -54,6 +54,16 @@ const DISKS: &[Case<'static>] = &[
             ],
         ],
     },
+];
+
+#[test]
+fn a_read_gives_what_was_written_and_a_stop_leaves_what_was_synced(
+    rt: HostRuntime,
+) -> Result<(), Fail> {
+    play(&rt, rt.alloc(), CONTENTS)
+}
+
+const FAILURES: &[Case<'static>] = &[
     Case {
         name: "the read that is armed fails once",
         first: &[Makes(4), Writes(1, &[5]), FailRead(1)],
@@ -123,6 +133,14 @@ const DISKS: &[Case<'static>] = &[
             ],
         ],
     },
+];
+
+#[test]
+fn a_call_that_is_armed_fails_once(rt: HostRuntime) -> Result<(), Fail> {
+    play(&rt, rt.alloc(), FAILURES)
+}
+
+const STOPS: &[Case<'static>] = &[
     Case {
         name: "a device that is stopped now, with the bytes of the last sync, fails until its restart",
         first: &[
@@ -197,6 +215,14 @@ const DISKS: &[Case<'static>] = &[
             Reads(0, &[1, 2, 3, 0]),
         ]],
     },
+];
+
+#[test]
+fn a_stopped_device_fails_until_its_restart(rt: HostRuntime) -> Result<(), Fail> {
+    play(&rt, rt.alloc(), STOPS)
+}
+
+const PLACES: &[Case<'static>] = &[
     Case {
         // one that covers the place, one before it and one behind it; and it is met once
         name: "only a write that starts at the place meets its stop",
@@ -262,6 +288,6 @@ const DISKS: &[Case<'static>] = &[
 ];
 
 #[test]
-fn what_is_read_fails_and_is_left_by_a_stop(rt: HostRuntime) -> Result<(), Fail> {
-    play(&rt, rt.alloc(), DISKS)
+fn a_stop_is_met_at_its_place(rt: HostRuntime) -> Result<(), Fail> {
+    play(&rt, rt.alloc(), PLACES)
 }

@@ -10,16 +10,22 @@ use tmem_file::{FileDisk, NewFile};
 
 const SIZE: u64 = 10_000;
 
-/// A new folder in the system's folder for such files.
+/// A folder of this number in the system's folder for such files, unless it is there.
+fn new_folder(rt: &HostRuntime, number: u16) -> Result<Option<PathBuf>, Fail> {
+    let name = format!(in rt.alloc(); "tmem_file_test_{number}")?;
+    let folder = env::temp_dir(rt)?.join(rt.alloc(), name.as_str())?;
+    match fs::create_dir(rt, folder.as_str()) {
+        Ok(()) => Ok(Some(folder)),
+        Err(error) if error.kind() == ErrorKind::AlreadyExists => Ok(None),
+        Err(error) => Err(Fail::from(error)),
+    }
+}
+
+/// A new folder.
 fn make_folder(rt: &HostRuntime) -> Result<PathBuf, Fail> {
-    let all = env::temp_dir(rt)?;
     for number in 0..1000 {
-        let name = format!(in rt.alloc(); "tmem_file_test_{number}")?;
-        let folder = all.join(rt.alloc(), name.as_str())?;
-        match fs::create_dir(rt, folder.as_str()) {
-            Ok(()) => return Ok(folder),
-            Err(error) if error.kind() == ErrorKind::AlreadyExists => {}
-            Err(error) => return Err(Fail::from(error)),
+        if let Some(folder) = new_folder(rt, number)? {
+            return Ok(folder);
         }
     }
     Err(Fail::from("no folder to test in"))
@@ -78,32 +84,31 @@ fn a_placed_file_is_read_by_the_next_opening(rt: HostRuntime) -> Result<(), Fail
     Ok(())
 }
 
+/// Whether a path is neither opened nor, where it is asked, made.
+fn is_refused(rt: &HostRuntime, path: &str, is_made: bool) -> bool {
+    let refused = Some(Fault::Device);
+    FileDisk::open(rt, path).err() == refused
+        && (!is_made || NewFile::create(rt, path, SIZE).err() == refused)
+}
+
+/// Whether what is no file is refused, and so is a missing file, by this name in a folder.
+fn are_refused(rt: &HostRuntime, folder: &PathBuf, missing: &PathBuf) -> Result<bool, Fail> {
+    let far = missing.join(rt.alloc(), "store")?;
+    Ok(
+        is_refused(rt, folder.as_str(), true)
+            && is_refused(rt, far.as_str(), true)
+            && is_refused(rt, "/dev/full", true)
+            && is_refused(rt, missing.as_str(), false)
+            && is_refused(rt, "", false)
+            && is_refused(rt, "/dev/zero", false),
+    )
+}
+
 #[test]
 fn refuses_what_is_no_file(rt: HostRuntime) -> Result<(), Fail> {
     let folder = make_folder(&rt)?;
     let missing = folder.join(rt.alloc(), "missing")?;
-    let far = folder.join(rt.alloc(), "missing/store")?;
-    for path in [
-        folder.as_str(),
-        missing.as_str(),
-        far.as_str(),
-        "",
-        "/dev/zero",
-        "/dev/full",
-    ] {
-        assert_eq!(rt;
-            FileDisk::open(&rt, path).err(),
-            Some(Fault::Device),
-            "{path}"
-        );
-    }
-    for path in [folder.as_str(), far.as_str(), "/dev/full"] {
-        assert_eq!(rt;
-            NewFile::create(&rt, path, SIZE).err(),
-            Some(Fault::Device),
-            "{path}"
-        );
-    }
+    assert!(rt; are_refused(&rt, &folder, &missing)?);
     assert_eq!(rt; files_in(&rt, &folder)?, 0);
     fs::write(&rt, missing.as_str(), b"".as_slice())?;
     let mut empty = FileDisk::open(&rt, missing.as_str())?;

@@ -48,6 +48,14 @@ const IMAGES: &[Case<'static>] = &[
             Chooses(Err("damaged")),
         ]],
     },
+];
+
+#[test]
+fn the_greater_open_image_is_chosen(rt: HostRuntime) -> Result<(), Fail> {
+    play(&rt, rt.alloc(), IMAGES)
+}
+
+const STOPS: &[Case<'static>] = &[
     Case {
         // the two pages, and the header
         name: "a stop before the gate leaves the old image",
@@ -237,6 +245,6 @@ const IMAGES: &[Case<'static>] = &[
 ];
 
 #[test]
-fn an_image_is_whole_or_not_chosen(rt: HostRuntime) -> Result<(), Fail> {
-    play(&rt, rt.alloc(), IMAGES)
+fn a_stop_leaves_the_old_image_or_the_new_one(rt: HostRuntime) -> Result<(), Fail> {
+    play(&rt, rt.alloc(), STOPS)
 }

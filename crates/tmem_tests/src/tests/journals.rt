@@ -190,7 +190,7 @@ const FLUSHES: &[Case<'static>] = &[
         ],
     },
     Case {
-        name: "the same with four slots",
+        name: "a stop at the gate of a second batch of four leaves the first",
         first: EMPTY_OF_FOUR,
         rows: &[
             &[
@@ -224,7 +224,7 @@ fn a_flush_is_durable_or_as_before(rt: HostRuntime) -> Result<(), Fail> {
     play(&rt, rt.alloc(), FLUSHES)
 }
 
-const OPENINGS: &[Case<'static>] = &[
+const REFUSALS: &[Case<'static>] = &[
     Case {
         name: "a refused device is handed back",
         first: &[],
@@ -277,6 +277,14 @@ const OPENINGS: &[Case<'static>] = &[
             &[Writes(2592, &[1]), Opens(4, 2, Err("damaged"))],
         ],
     },
+];
+
+#[test]
+fn what_is_no_store_is_refused(rt: HostRuntime) -> Result<(), Fail> {
+    play(&rt, rt.alloc(), REFUSALS)
+}
+
+const SLOTS: &[Case<'static>] = &[
     Case {
         name: "an open slot of a lesser generation is closed: its gate is written, and synced",
         first: EMPTY,
@@ -311,7 +319,7 @@ const OPENINGS: &[Case<'static>] = &[
         ],
     },
     Case {
-        name: "the same of the third slot of four",
+        name: "an open third slot of four is closed where it is stale, and else damage",
         first: EMPTY_OF_FOUR,
         rows: &[
             &[
@@ -329,6 +337,14 @@ const OPENINGS: &[Case<'static>] = &[
             ],
         ],
     },
+];
+
+#[test]
+fn an_open_slot_behind_the_log_is_closed_or_damage(rt: HostRuntime) -> Result<(), Fail> {
+    play(&rt, rt.alloc(), SLOTS)
+}
+
+const EDGES: &[Case<'static>] = &[
     Case {
         // the zeros, the image, its gate, block 0 and its gate
         name: "block 0 is opened last",
@@ -386,8 +402,8 @@ const OPENINGS: &[Case<'static>] = &[
 ];
 
 #[test]
-fn what_is_no_store_is_refused_and_a_stale_slot_is_closed(rt: HostRuntime) -> Result<(), Fail> {
-    play(&rt, rt.alloc(), OPENINGS)
+fn block_0_is_opened_last_and_the_last_generation_stays(rt: HostRuntime) -> Result<(), Fail> {
+    play(&rt, rt.alloc(), EDGES)
 }
 
 const CONTENTS: &[Case<'static>] = &[

@@ -3,7 +3,6 @@ ghost use Rattle.std.specs.Prelude.{◌≡◌, true, length};
 ghost use Rattle.tmem_tests.specs.Examples.{first_of};
 
 use super::tables::numbered;
-use std::alloc::Global;
 use std::test::Fail;
 use tmem_disk::{Cause, Fault, Name};
 use tmem_invariants::{Invariant, Table};
@@ -25,40 +24,35 @@ fn a_step_of_five_arguments_is_refused(rt: HostRuntime) -> Result<(), Fail> {
     Ok(())
 }
 
-/// An invariant that is always true.
-fn always(alloc: Global, name: Name, footprint: &[u16]) -> Result<Invariant, Fault> {
-    let always = Box::new(
-        alloc,
-        |_values: &[i64]| -> bool
-            ensures { result ≡ true }
-        { true },
-    )?;
-    Invariant::new(name, Vec::from_slice(alloc, footprint)?, always)
-}
-
-/// Footprints, and whether they are refused.
-const FOOTPRINTS: &[(&[u16], bool)] = &[
-    (&[], true),
-    (&[7], false),
+/// Footprints, and what they are refused by.
+const FOOTPRINTS: [(&'static [u16], Option<Fault>); 6] = [
+    (&[], Some(Fault::BadFootprint)),
+    (&[7], None),
     (
         &[0, 1, 2, 3, 4, 5, 6, 7, 8, 9, 10, 11, 12, 13, 14, 15],
-        false,
+        None,
     ),
     (
         &[0, 1, 2, 3, 4, 5, 6, 7, 8, 9, 10, 11, 12, 13, 14, 15, 16],
-        true,
+        Some(Fault::BadFootprint),
     ),
-    (&[3, 2, 3], true),
-    (&[3, 2, 1], false),
+    (&[3, 2, 3], Some(Fault::BadFootprint)),
+    (&[3, 2, 1], None),
 ];
 
 #[test]
 fn footprints_out_of_limits_are_refused(rt: HostRuntime) -> Result<(), Fail> {
-    for (row, (footprint, is_refused)) in FOOTPRINTS.iter().enumerate() {
-        let fault = always(rt.alloc(), Name::new("always")?, footprint).err();
-        assert!(rt;
-            fault == is_refused.then_some(Fault::BadFootprint),
-            "row {row}"
+    for (footprint, fault) in FOOTPRINTS {
+        let always = Box::new(
+            rt.alloc(),
+            |_values: &[i64]| -> bool
+                ensures { result ≡ true }
+            { true },
+        )?;
+        let vars = Vec::from_slice(rt.alloc(), footprint)?;
+        assert_eq!(rt;
+            Invariant::new(Name::new("always")?, vars, always).err(),
+            fault
         );
     }
     Ok(())
@@ -76,30 +70,25 @@ const TABLES: [(u8, u8, u16, Option<Fault>); 8] = [
     (2, 2, 4, Some(Fault::BadFootprint)),
 ];
 
-/// So many entries, of so many names, over a variable.
-fn entries(alloc: Global, count: u8, names: u8, var: u16) -> Result<Vec<Invariant>, Fault> {
-    let mut entries = Vec::new(alloc);
-    for n in 0..count {
-        let name = if n < names {
-            numbered(n)?
-        } else {
-            numbered(0)?
-        };
-        entries.push(always(alloc, name, &[var])?)?;
-    }
-    Ok(entries)
-}
-
 #[test]
 fn tables_out_of_limits_are_refused(rt: HostRuntime) -> Result<(), Fail> {
-    let alloc = rt.alloc();
-    for (count, names, var, fault) in TABLES {
-        let made = entries(alloc, count, names, var)?;
-        assert_eq!(rt;
-            Table::of(alloc, made, 4).err(),
-            fault,
-            "{count} of {names} over {var}"
-        );
+    for (entries, names, var, fault) in TABLES {
+        let mut made = Vec::new(rt.alloc());
+        for i in 0..entries {
+            let always = Box::new(
+                rt.alloc(),
+                |_values: &[i64]| -> bool
+                    ensures { result ≡ true }
+                { true },
+            )?;
+            let name = if i < names {
+                numbered(i)?
+            } else {
+                numbered(0)?
+            };
+            made.push(Invariant::new(name, vec![in rt.alloc(); var]?, always)?)?;
+        }
+        assert_eq!(rt; Table::of(rt.alloc(), made, 4).err(), fault);
     }
     Ok(())
 }

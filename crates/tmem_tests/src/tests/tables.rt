@@ -1,5 +1,5 @@
 //! Worlds over tables of the tests' own, of as many invariants as there may be: which ones are tested, and which one is named.
-ghost use Rattle.std.specs.Prelude.{◌≡◌, ◌<◌, length, IfOk};
+ghost use Rattle.std.specs.Prelude.{◌≡◌, ◌<◌, length};
 ghost use Rattle.tmem_tests.specs.Examples.{is_last_not_negative, is_sum_not_negative};
 
 use super::{commit, committed, formatted, write};
@@ -15,48 +15,6 @@ use tmem_world::{Reply, Settled, World};
 pub(super) fn numbered(n: u8) -> Result<Name, Fault> {
     let letters = [b'a' + n / 26, b'a' + n % 26];
     Name::new(std::str::from_utf8(&letters).unwrap_or(""))
-}
-
-/// Number n: two variables, this one and the next, add up to at least 0.
-fn sum_at(alloc: Global, n: u8) -> Result<Invariant, Fault> {
-    let sum = Box::new(
-        alloc,
-        |values: &[i64]| -> bool
-            requires { length values.now ≡ 2 }
-            ensures { result ≡ is_sum_not_negative values.now }
-        { values[0] as i128 + values[1] as i128 >= 0 },
-    )?;
-    let footprint = vec![in alloc; u16::from(n), u16::from((n % 64 + 1) % 64)]?;
-    Invariant::new(numbered(n)?, footprint, sum)
-}
-
-/// Number n: the last of sixteen variables is at least 0.
-fn last_of_sixteen(alloc: Global, n: u8) -> Result<Invariant, Fault> {
-    let last = Box::new(
-        alloc,
-        |values: &[i64]| -> bool
-            requires { length values.now ≡ 16 }
-            ensures { result ≡ is_last_not_negative values.now }
-        { values[15] >= 0 },
-    )?;
-    let footprint = vec![in alloc; 0, 1, 2, 3, 4, 5, 6, 7, 8, 9, 10, 11, 12, 13, 14, 15]?;
-    Invariant::new(numbered(n)?, footprint, last)
-}
-
-/// A table of 64 invariants: over 16 variables each of all of them, and else one for each two neighbours of 64 variables, the
-/// last and the first among them.
-fn sixty_four(alloc: Global, vars: u16) -> Result<Table, Fault>
-    ensures { IfOk result (λ table. table.vars ≡ vars) }
-{
-    let mut entries = Vec::new(alloc);
-    for n in 0..64 {
-        entries.push(if vars == 16 {
-            last_of_sixteen(alloc, n)?
-        } else {
-            sum_at(alloc, n)?
-        })?;
-    }
-    Table::of(alloc, entries, vars)
 }
 
 /// Checks 8 names, from this number on.
@@ -88,30 +46,52 @@ fn register_all<T: Invariants + Drop, S: StoredSteps + Drop>(
     Ok(())
 }
 
-/// In a world over a fresh device of four slots, registers all 64 invariants. Then writes numbers to variables: each write
-/// is refused by the invariant of this number, or else committed.
+/// Writes numbers to variables, where the next transaction has number 8: each write is refused by the invariant of this
+/// number, or else committed.
 fn keeps<T: Invariants + Drop, S: StoredSteps + Drop>(
+    rt: &impl Abort,
+    alloc: Global,
+    world: &mut World<SimDisk, T, S>,
+    writes: &[(u16, i64, Option<u8>)],
+) -> Result<(), Fail> {
+    let mut number = 8u64;
+    for (var, value, refused) in writes {
+        let tx = write(alloc, *var, *value)?;
+        let wanted = match refused {
+            Some(n) => Reply::Settled(Settled::Refused(numbered(*n)?)),
+            None => committed(number, *value),
+        };
+        assert!(rt; commit(world, tx) == wanted, "variable {var}");
+        number = number.wrapping_add(u64::from(refused.is_none()));
+    }
+    Ok(())
+}
+
+/// A world over a fresh device of four slots.
+fn opened<T: Invariants + Drop, S: StoredSteps + Drop>(
+    alloc: Global,
+    table: T,
+    steps: S,
+) -> Result<World<SimDisk, T, S>, Fault> {
+    let vars = table.vars();
+    let disk = formatted(alloc, vars, 4)?;
+    match World::open(alloc, disk, vars, 4, table, steps) {
+        Ok(world) => Ok(world),
+        Err(refusal) => Err(refusal.0),
+    }
+}
+
+/// In a world over 64 invariants, registers them all, and writes numbers to variables.
+fn registers_and_keeps<T: Invariants + Drop, S: StoredSteps + Drop>(
     rt: &impl Abort,
     alloc: Global,
     table: T,
     steps: S,
     writes: &[(u16, i64, Option<u8>)],
 ) -> Result<(), Fail> {
-    let vars = table.vars();
-    let disk = formatted(alloc, vars, 4)?;
-    let mut world = World::open(alloc, disk, vars, 4, table, steps).map_err(|refusal| refusal.0)?;
+    let mut world = opened(alloc, table, steps)?;
     register_all(rt, alloc, &mut world)?;
-    let mut number = 8u64;
-    for (var, value, refused) in writes {
-        let had = commit(&mut world, write(alloc, *var, *value)?);
-        let wanted = match refused {
-            Some(n) => Reply::Settled(Settled::Refused(numbered(*n)?)),
-            None => committed(number, *value),
-        };
-        assert!(rt; had == wanted, "{value} to variable {var}");
-        number = number.wrapping_add(u64::from(refused.is_none()));
-    }
-    Ok(())
+    keeps(rt, alloc, &mut world, writes)
 }
 
 #[test]
@@ -119,13 +99,25 @@ fn sixty_four_invariants_over_sixteen_variables_are_registered(
     rt: HostRuntime,
 ) -> Result<(), Fail> {
     let alloc = rt.alloc();
-    let writes = [(15, -1, Some(0)), (15, 5, None)];
-    keeps(
+    let mut entries = Vec::new(alloc);
+    for n in 0..64 {
+        let last = Box::new(
+            alloc,
+            |values: &[i64]| -> bool
+                requires { length values.now ≡ 16 }
+                ensures { result ≡ is_last_not_negative values.now }
+            { values[15] >= 0 },
+        )?;
+        let footprint = vec![in alloc; 0, 1, 2, 3, 4, 5, 6, 7, 8, 9, 10, 11, 12, 13, 14, 15]?;
+        entries.push(Invariant::new(numbered(n)?, footprint, last)?)?;
+    }
+    let (table, steps) = (Table::of(alloc, entries, 16)?, Steps::of(Vec::new(alloc))?);
+    registers_and_keeps(
         &rt,
         alloc,
-        sixty_four(alloc, 16)?,
-        Steps::of(Vec::new(alloc))?,
-        &writes,
+        table,
+        steps,
+        &[(15, -1, Some(0)), (15, 5, None)],
     )
 }
 
@@ -146,7 +138,8 @@ const ASKED: &[(u64, u64, bool, bool)] = &[
     (u64::MAX, 0, false, false),
 ];
 
-/// Whether these answers are given where a variable is -1, and whether the first false one of all is this one.
+/// Whether a table of 64 neighbours gives these answers where a variable is -1, and whether the first false one of all is this
+/// one.
 fn finds(alloc: Global, table: &Table, var: u16, first: usize) -> Result<bool, Fail>
     requires { table.now.vars ≡ 64 }
 {
@@ -165,15 +158,41 @@ fn finds(alloc: Global, table: &Table, var: u16, first: usize) -> Result<bool, F
     Ok(table.test_all(&values, u64::MAX, 0) == Some(first))
 }
 
+/// Whether it knows what is over which variable, and finds the first false one of that.
+fn knows_neighbours(alloc: Global, table: &Table) -> Result<bool, Fail>
+    requires { table.now.vars ≡ 64 }
+{
+    for (var, touching, first) in TOUCHING {
+        if *var >= 64 || table.touching(*var) != *touching || !finds(alloc, table, *var, *first)? {
+            return Ok(false);
+        }
+    }
+    Ok(true)
+}
+
 #[test]
 fn a_write_is_tested_by_the_invariants_over_its_variable(rt: HostRuntime) -> Result<(), Fail> {
     let alloc = rt.alloc();
-    let table = sixty_four(alloc, 64)?;
-    for (var, touching, first) in TOUCHING {
-        assert!(rt; *var < 64);
-        assert_eq!(rt; table.touching(*var), *touching, "variable {var}");
-        assert!(rt; finds(alloc, &table, *var, *first)?, "variable {var}");
+    let mut entries = Vec::new(alloc);
+    for n in 0..64u8 {
+        let sum = Box::new(
+            alloc,
+            |values: &[i64]| -> bool
+                requires { length values.now ≡ 2 }
+                ensures { result ≡ is_sum_not_negative values.now }
+            { values[0] as i128 + values[1] as i128 >= 0 },
+        )?;
+        let footprint = vec![in alloc; u16::from(n), u16::from((n + 1) % 64)]?;
+        entries.push(Invariant::new(numbered(n)?, footprint, sum)?)?;
     }
-    let writes = [(5, -1, Some(4)), (0, -1, Some(0))];
-    keeps(&rt, alloc, table, Steps::of(Vec::new(alloc))?, &writes)
+    let table = Table::of(alloc, entries, 64)?;
+    assert!(rt; knows_neighbours(alloc, &table)?);
+    let steps = Steps::of(Vec::new(alloc))?;
+    registers_and_keeps(
+        &rt,
+        alloc,
+        table,
+        steps,
+        &[(5, -1, Some(4)), (0, -1, Some(0))],
+    )
 }
