@@ -73,7 +73,7 @@ fn serve<
     let _ = println!(rt; "found {found}");
     if found == 0 {
         let opening = front.plan(deposits(alloc)?)?;
-        settle(rt, front, &mut clerk, &opening)?;
+        settle_and_say(rt, front, &mut clerk, &opening)?;
     }
     say(rt, &front.audit(rt, alloc)?);
     move_alone(rt, alloc, front, &mut clerk)?;
@@ -95,20 +95,20 @@ fn move_alone<
 >(rt: &R, alloc: Global, front: &Front<D, N, T, S>, pass: &mut Pass<N>) -> Result<(), Fault> {
     let transfer = front.plan(Transfer::new(0, 1, 1).tx(alloc)?)?;
     let overdraft = front.plan(Transfer::new(0, 1, 5000).tx(alloc)?)?;
-    settle(rt, front, pass, &transfer)?;
-    settle(rt, front, pass, &transfer)?;
+    settle_and_say(rt, front, pass, &transfer)?;
+    settle_and_say(rt, front, pass, &transfer)?;
     let late = front.attempt(rt, &transfer)?;
     let _ = println!(rt; "attempted");
-    settle(rt, front, pass, &transfer)?;
+    settle_and_say(rt, front, pass, &transfer)?;
     if let Err(fault) = front.settle(rt, pass, &late) {
         let _ = println!(rt; "{fault}");
     }
-    settle(rt, front, pass, &transfer)?;
-    settle(rt, front, pass, &overdraft)
+    settle_and_say(rt, front, pass, &transfer)?;
+    settle_and_say(rt, front, pass, &overdraft)
 }
 
 // Settles a plan, and prints how that ended.
-fn settle<
+fn settle_and_say<
     N: StoreNaming,
     D: Disk + Drop,
     T: Invariants + Drop,
@@ -119,8 +119,22 @@ fn settle<
     requires variables { FitsVariables front.now.vars plan.now }
     requires names { FitsNames N.program.names plan.now }
 {
-    say(rt, &front.atomically(rt, pass, plan)?);
+    say(rt, &settle(rt, front, pass, plan)?);
     Ok(())
+}
+
+// Settles a plan.
+fn settle<N: StoreNaming, D: Disk + Drop, T: Invariants + Drop, S: StoredSteps + Drop, R: Wait>(
+    rt: &R,
+    front: &Front<D, N, T, S>,
+    pass: &mut Pass<N>,
+    plan: &Plan,
+) -> Result<Settled, Fault>
+    requires steps { FitsSteps (S.arities front.now.steps) plan.now }
+    requires variables { FitsVariables front.now.vars plan.now }
+    requires names { FitsNames N.program.names plan.now }
+{
+    front.atomically(rt, pass, plan)
 }
 
 // Prints how a transaction ended.
@@ -179,7 +193,7 @@ impl<D: Disk + Drop, N: StoreNaming, T: Invariants + Drop, S: StoredSteps + Drop
     fn audit<R: Wait>(&self, rt: &R, alloc: Global) -> Result<Settled, Fault> {
         let mut pass = self.pass(rt)?;
         let audit = self.plan(balances(alloc)?)?;
-        self.atomically(rt, &mut pass, &audit)
+        settle(rt, self, &mut pass, &audit)
     }
 
     fn close<R: Wait>(&self, rt: &R) {

@@ -25,16 +25,17 @@ impl Transfer {
     /// The transaction that makes it.
     pub fn tx(self, alloc: Global) -> Result<Tx, AllocError> {
         let Transfer { from, to, amount } = self;
+        let (less, more) = (step(alloc, SUB, 0, 1, 0)?, step(alloc, ADD, 0, 1, 0)?);
         Ok(Tx::Seq(vec![in alloc;
             Tx::Put {
                 reg: 1,
                 number: amount
             },
             Tx::Read { var: from, reg: 0 },
-            step(alloc, SUB, 0, 1, 0)?,
+            less,
             Tx::Write { var: from, reg: 0 },
             Tx::Read { var: to, reg: 0 },
-            step(alloc, ADD, 0, 1, 0)?,
+            more,
             Tx::Write { var: to, reg: 0 },
         ]?))
     }
@@ -59,14 +60,17 @@ pub fn deposits(alloc: Global) -> Result<Tx, Fault> {
 
 /// Reads the four accounts into the first registers, and their total into the next one.
 pub fn balances(alloc: Global) -> Result<Tx, AllocError> {
+    let first = step(alloc, ADD, 0, 1, 4)?;
+    let second = step(alloc, ADD, 4, 2, 4)?;
+    let third = step(alloc, ADD, 4, 3, 4)?;
     Ok(Tx::Seq(vec![in alloc;
         Tx::Read { var: 0, reg: 0 },
         Tx::Read { var: 1, reg: 1 },
         Tx::Read { var: 2, reg: 2 },
         Tx::Read { var: 3, reg: 3 },
-        step(alloc, ADD, 0, 1, 4)?,
-        step(alloc, ADD, 4, 2, 4)?,
-        step(alloc, ADD, 4, 3, 4)?,
+        first,
+        second,
+        third,
     ]?))
 }
 

@@ -33,10 +33,27 @@ pub fn run_on_core<R: Clock, T: Invariants + Drop, S: StoredSteps + Drop>(
     let mut core = new_core(alloc, vars, table)?;
     let plan = Plan::new(act.transaction(alloc)?, &steps, vars, &[])?;
     let mut cursor = Cursor::idle(alloc);
+    settle_on(rt, &mut core, &mut cursor, &plan, &steps, vars)
+}
+
+// Settles a plan over so many variables for a while.
+fn settle_on<R: Clock, T: Invariants + Drop, S: StoredSteps>(
+    rt: &R,
+    core: &mut Core<T>,
+    cursor: &mut Cursor,
+    plan: &Plan,
+    steps: &S,
+    vars: u16,
+) -> Result<Figures, BenchError>
+    requires sized { length (state_of core.old).values ≡ vars }
+    requires steps { FitsSteps (S.arities steps.now) plan.now }
+    requires variables { FitsVariables vars plan.now }
+    requires names { FitsNames [] plan.now }
+{
     let mut had = Figures::zero();
     let start = now(rt)?;
     for _ in 0..u64::MAX {
-        settle_round(&mut core, &mut cursor, &plan, &steps, vars)?;
+        settle_round(core, cursor, plan, steps, vars)?;
         had.operations = had.operations.saturating_add(ROUND);
         if is_over(rt, start) {
             break;
@@ -60,7 +77,7 @@ fn new_core<T: Invariants + Drop>(alloc: Global, vars: u16, table: T) -> Result<
     }
 }
 
-// Settles a plan again and again, and notes all of that as durable.
+// Settles it a number of times, and notes all of that as durable.
 fn settle_round<T: Invariants + Drop, S: StoredSteps>(
     core: &mut Core<T>,
     cursor: &mut Cursor,
@@ -81,7 +98,7 @@ fn settle_round<T: Invariants + Drop, S: StoredSteps>(
     Ok(())
 }
 
-// Evaluates a plan over so many variables, and settles it.
+// Evaluates it, and settles it.
 fn settle<T: Invariants + Drop, S: StoredSteps>(
     core: &mut Core<T>,
     cursor: &mut Cursor,
