@@ -3,7 +3,6 @@ ghost use Rattle.std.specs.Prelude.{◌≡◌, ◌≤◌, ◌+◌, true};
 ghost use Rattle.tmem_disk.specs.SimParts.{view_of};
 
 use crate::failure::Failure;
-use crate::printing::{print_line, print_text};
 use crate::row::{Numbers, Touch};
 use std::alloc::Global;
 use std::io::Write;
@@ -40,9 +39,10 @@ pub(crate) fn touch<W: Write>(
 // Prints what was done, or the fault.
 fn tell<W: Write>(out: &mut W, done: &str, outcome: Result<(), Fault>) -> Result<(), Failure> {
     match outcome {
-        Ok(()) => print_line(out, done),
-        Err(fault) => print_line(out, fault),
+        Ok(()) => writeln!(out, "{done}")?,
+        Err(fault) => writeln!(out, "{fault}")?,
     }
+    Ok(())
 }
 
 // Arms a crash or a failure.
@@ -64,11 +64,13 @@ fn formatted(disk: &mut SimDisk, numbers: Numbers) -> Result<(), Fault> {
 
 // Starts a device again, and says whether it was stopped.
 fn restart<W: Write>(disk: &mut SimDisk, out: &mut W) -> Result<(), Failure> {
-    if !disk.is_stopped() {
-        return print_line(out, "not stopped");
+    if disk.is_stopped() {
+        disk.restart();
+        writeln!(out, "restarted")?;
+    } else {
+        writeln!(out, "not stopped")?;
     }
-    disk.restart();
-    print_line(out, "restarted")
+    Ok(())
 }
 
 // Whether a device has so many bytes from a place on.
@@ -114,9 +116,10 @@ fn print_bytes<W: Write>(
     out: &mut W,
 ) -> Result<(), Failure> {
     let bytes = read(alloc, disk, at, count)?;
-    print_text(out, "bytes")?;
+    write!(out, "bytes")?;
     for byte in &bytes {
-        print_text(out, format_args!(" {byte:02x}"))?;
+        write!(out, " {byte:02x}")?;
     }
-    print_line(out, "")
+    writeln!(out)?;
+    Ok(())
 }

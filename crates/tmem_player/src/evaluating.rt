@@ -6,7 +6,7 @@ ghost use Rattle.tmem_tentative.specs.Cursors.{IsAt};
 
 use crate::calls::{Calls, counted};
 use crate::failure::Failure;
-use crate::printing::{print_item, print_line, print_text};
+use crate::printing::{comma, print_numbers};
 use std::alloc::Global;
 use std::io::Write;
 use tmem_builtins::names;
@@ -30,21 +30,34 @@ pub(crate) fn evaluate_twice<S: StoredSteps, W: Write>(
 ) -> Result<(), Failure> {
     let plan = match Plan::new(tx, steps, vars, &names()) {
         Ok(plan) => plan,
-        Err(fault) => return print_line(out, fault),
+        Err(fault) => {
+            writeln!(out, "{fault}")?;
+            return Ok(());
+        }
     };
     let _ = counted(&calls.steps);
     let plain = by_evaluate(alloc, &plan, steps, values)?;
     let by_plain = counted(&calls.steps);
     let other = by_cursor(alloc, &plan, steps, values)?;
     let by_other = counted(&calls.steps);
-    let (Some(plain), Some(other)) = (plain, other) else {
-        return print_line(out, "differ");
-    };
-    if !are_alike(&plain, &other) {
-        return print_line(out, "differ");
+    match both_ways(plain, other) {
+        Some(attempt) => {
+            print_attempt(&attempt, out)?;
+            writeln!(out, " calls={by_plain},{by_other}")?;
+        }
+        None => writeln!(out, "differ")?,
     }
-    print_attempt(&plain, out)?;
-    print_line(out, format_args!(" calls={by_plain},{by_other}"))
+    Ok(())
+}
+
+// The attempt that both ways come to, or none where they differ.
+fn both_ways(plain: Option<Attempt>, other: Option<Attempt>) -> Option<Attempt> {
+    let plain = plain?;
+    if are_alike(&plain, &other?) {
+        Some(plain)
+    } else {
+        None
+    }
 }
 
 // The value of a variable.
@@ -140,32 +153,29 @@ fn are_read_alike(one: &Reads, other: &Reads) -> bool {
 // Prints an attempt, without the end of its line.
 fn print_attempt<W: Write>(attempt: &Attempt, out: &mut W) -> Result<(), Failure> {
     match attempt.ending {
-        Ending::Normal => print_text(out, "ended reads=")?,
-        Ending::Retry => print_text(out, "retry reads=")?,
-        Ending::Abort(code) => print_text(out, format_args!("aborted {code} reads="))?,
+        Ending::Normal => write!(out, "ended reads=")?,
+        Ending::Retry => write!(out, "retry reads=")?,
+        Ending::Abort(code) => write!(out, "aborted {code} reads=")?,
     }
-    print_reads(&attempt.reads, out)?;
-    print_text(out, " registers=")?;
+    for (i, (var, value)) in attempt.reads.iter().enumerate() {
+        write!(out, "{}{var}:{value}", comma(i))?;
+    }
+    write!(out, " registers=")?;
     if attempt.registers != [0; 16] {
-        for (i, register) in attempt.registers.iter().enumerate() {
-            print_item(out, i == 0, *register)?;
-        }
+        print_numbers(&attempt.registers, out)?;
     }
-    print_text(out, " writes=")?;
-    for (i, (var, value)) in attempt.effect.writes.as_slice().iter().enumerate() {
-        print_item(out, i == 0, format_args!("{var}:{value}"))?;
-    }
-    print_text(out, " names=")?;
-    for (i, name) in attempt.effect.names.as_slice().iter().enumerate() {
-        print_item(out, i == 0, *name)?;
-    }
-    Ok(())
+    print_effect(attempt, out)
 }
 
-// Prints what was read, in order.
-fn print_reads<W: Write>(reads: &Reads, out: &mut W) -> Result<(), Failure> {
-    for (i, (var, value)) in reads.iter().enumerate() {
-        print_item(out, i == 0, format_args!("{var}:{value}"))?;
+// Prints what an attempt changes.
+fn print_effect<W: Write>(attempt: &Attempt, out: &mut W) -> Result<(), Failure> {
+    write!(out, " writes=")?;
+    for (i, (var, value)) in attempt.effect.writes.as_slice().iter().enumerate() {
+        write!(out, "{}{var}:{value}", comma(i))?;
+    }
+    write!(out, " names=")?;
+    for (i, name) in attempt.effect.names.as_slice().iter().enumerate() {
+        write!(out, "{}{name}", comma(i))?;
     }
     Ok(())
 }

@@ -99,15 +99,11 @@ fn do_with_broken<W: Write>(
     calls: &Calls,
     out: &mut W,
 ) -> Result<SimDisk, Failure> {
-    let counter = calls.tests.clone()?;
     let never = Box::new(
         alloc,
-        move |_values: &[i64]| -> bool
+        |_values: &[i64]| -> bool
             ensures { result ≡ false }
-        {
-            counter.fetch_add(1, Ordering::SeqCst);
-            false
-        },
+        { false },
     )?;
     let table = one(alloc, numbers.vars, never)?;
     do_under(alloc, mode, disk, numbers, job, table, calls, out)

@@ -25,9 +25,9 @@ fn row_of_value(alloc: Global, value: &Value) -> Result<Row, FormError> {
     if members.len() != 3 {
         return Err(FormError::NoForm);
     }
-    let vars = short_of(value.get("vars").ok_or(FormError::NoForm)?)?;
-    let slots = short_of(value.get("slots").ok_or(FormError::NoForm)?)?;
-    let mut draft = Draft::new(alloc, Numbers { vars, slots });
+    let vars = value.get("vars").ok_or(FormError::NoForm)?;
+    let slots = value.get("slots").ok_or(FormError::NoForm)?;
+    let mut draft = Draft::new(alloc, numbers_of(vars, slots)?);
     for entry in items_of(value.get("events").ok_or(FormError::NoForm)?)? {
         add_entry(alloc, entry, &mut draft)?;
     }
@@ -133,18 +133,14 @@ fn add_opening(body: &Value, draft: &mut Draft) -> Result<(), FormError> {
     let [handed, vars, slots] = items.as_slice() else {
         return Err(FormError::NoForm);
     };
-    let numbers = Numbers {
-        vars: short_of(vars)?,
-        slots: short_of(slots)?,
-    };
-    draft.open(handed_of(handed)?, numbers)
+    draft.open(handed_of(handed)?, numbers_of(vars, slots)?)
 }
 
 fn handed_of(value: &Value) -> Result<Handed, FormError> {
-    match value.as_str() {
-        Some("builtin") => Ok(Handed::Builtin),
-        Some("none") => Ok(Handed::None),
-        Some("broken") => Ok(Handed::Broken),
+    match word_of(value)? {
+        "builtin" => Ok(Handed::Builtin),
+        "none" => Ok(Handed::None),
+        "broken" => Ok(Handed::Broken),
         _ => Err(FormError::NoForm),
     }
 }
@@ -162,50 +158,85 @@ fn add_evaluation(alloc: Global, body: &Value, draft: &mut Draft) -> Result<(), 
 
 // What is done to a device that needs no store.
 fn touch_of(alloc: Global, key: &str, body: &Value) -> Result<Touch, FormError> {
-    let items = items_of(body)?.as_slice();
-    match (key, items) {
-        ("format", [vars, slots]) => Ok(Touch::Format(Numbers {
-            vars: short_of(vars)?,
-            slots: short_of(slots)?,
-        })),
-        ("fail", [kind, number]) => Ok(Touch::Fail(call_of(kind)?, number_of(number)?)),
-        ("crash", [when, fill]) if when.as_str() == Some("now") => {
-            Ok(Touch::CrashNow(fill_of(fill)?))
-        }
-        ("crash", [when, number, fill]) => crash_of(when, number_of(number)?, fill_of(fill)?),
-        ("bytes", [at, count]) => Ok(Touch::Bytes(number_of(at)?, number_of(count)?)),
-        ("copy", [from, count, to]) => {
-            Ok(Touch::Copy(number_of(from)?, number_of(count)?, number_of(to)?))
-        }
-        ("write", [at, bytes]) => Ok(Touch::Write(number_of(at)?, bytes_of(alloc, bytes)?)),
+    match items_of(body)?.as_slice() {
+        [first, second] => pair_touch_of(alloc, key, first, second),
+        [first, second, third] => triple_touch_of(key, first, second, third),
         _ => Err(FormError::NoForm),
     }
 }
 
+fn pair_touch_of(
+    alloc: Global,
+    key: &str,
+    first: &Value,
+    second: &Value,
+) -> Result<Touch, FormError> {
+    match key {
+        "format" => Ok(Touch::Format(numbers_of(first, second)?)),
+        "fail" => Ok(Touch::Fail(call_of(first)?, number_of(second)?)),
+        "crash" => match word_of(first)? {
+            "now" => Ok(Touch::CrashNow(fill_of(second)?)),
+            _ => Err(FormError::NoForm),
+        },
+        "bytes" => Ok(Touch::Bytes(number_of(first)?, number_of(second)?)),
+        "write" => Ok(Touch::Write(number_of(first)?, bytes_of(alloc, second)?)),
+        _ => Err(FormError::NoForm),
+    }
+}
+
+fn triple_touch_of(
+    key: &str,
+    first: &Value,
+    second: &Value,
+    third: &Value,
+) -> Result<Touch, FormError> {
+    match key {
+        "crash" => crash_of(first, number_of(second)?, fill_of(third)?),
+        "copy" => {
+            let (from, count, to) = (number_of(first)?, number_of(second)?, number_of(third)?);
+            Ok(Touch::Copy(from, count, to))
+        }
+        _ => Err(FormError::NoForm),
+    }
+}
+
+fn numbers_of(vars: &Value, slots: &Value) -> Result<Numbers, FormError> {
+    Ok(Numbers {
+        vars: short_of(vars)?,
+        slots: short_of(slots)?,
+    })
+}
+
 fn crash_of(when: &Value, number: u64, fill: Fill) -> Result<Touch, FormError> {
-    match when.as_str() {
-        Some("write") => Ok(Touch::CrashAtWrite(number, fill)),
-        Some("place") => Ok(Touch::CrashAtPlace(number, fill)),
+    match word_of(when)? {
+        "write" => Ok(Touch::CrashAtWrite(number, fill)),
+        "place" => Ok(Touch::CrashAtPlace(number, fill)),
         _ => Err(FormError::NoForm),
     }
 }
 
 fn call_of(value: &Value) -> Result<DeviceFault, FormError> {
-    match value.as_str() {
-        Some("read") => Ok(DeviceFault::Read),
-        Some("write") => Ok(DeviceFault::Write),
-        Some("sync") => Ok(DeviceFault::Sync),
+    match word_of(value)? {
+        "read" => Ok(DeviceFault::Read),
+        "write" => Ok(DeviceFault::Write),
+        "sync" => Ok(DeviceFault::Sync),
         _ => Err(FormError::NoForm),
     }
 }
 
 fn fill_of(value: &Value) -> Result<Fill, FormError> {
-    match value.as_str() {
-        Some("old") => Ok(Fill::Old),
-        Some("new") => Ok(Fill::New),
-        Some(_) => Err(FormError::NoForm),
-        None => Ok(Fill::Byte(byte_of(value)?)),
+    if value.is_number() {
+        return Ok(Fill::Byte(byte_of(value)?));
     }
+    match word_of(value)? {
+        "old" => Ok(Fill::Old),
+        "new" => Ok(Fill::New),
+        _ => Err(FormError::NoForm),
+    }
+}
+
+fn word_of(value: &Value) -> Result<&str, FormError> {
+    value.as_str().ok_or(FormError::NoForm)
 }
 
 fn number_of(value: &Value) -> Result<u64, FormError> {

@@ -5,7 +5,7 @@ ghost use Rattle.tmem_world.specs.Represents.{numbers_of, HoldsSession};
 use crate::Mode;
 use crate::calls::{Calls, counted};
 use crate::failure::Failure;
-use crate::printing::{print_item, print_line, print_text};
+use crate::printing::{comma, print_numbers};
 use crate::row::{Events, Numbers, Part};
 use std::alloc::Global;
 use std::io::Write;
@@ -47,7 +47,7 @@ pub(crate) fn play_session<T: Invariants + Drop, S: StoredSteps + Drop, W: Write
             Ok(disk)
         }
         Err((fault, disk)) => {
-            print_line(out, fault)?;
+            writeln!(out, "{fault}")?;
             if parts.is_empty() {
                 Ok(disk)
             } else {
@@ -89,8 +89,7 @@ impl<T: Invariants + Drop, S: StoredSteps + Drop> Session<T, S> {
     ) -> Result<(), Failure>
         requires { HoldsSession self.old.world }
     {
-        let opening = Reply::Opened(self.world.count());
-        print_line(out, ReplyLine(opening))?;
+        writeln!(out, "opened {}", self.world.count())?;
         for part in parts {
             self.play_part(mode, part, calls, out)?;
         }
@@ -106,15 +105,8 @@ impl<T: Invariants + Drop, S: StoredSteps + Drop> Session<T, S> {
     ) -> Result<(), Failure> {
         match part {
             Part::Show => self.show(out),
-            Part::Registers => print_registers(&self.registers, out),
-            Part::Calls => print_line(
-                out,
-                format_args!(
-                    "calls invariants={} steps={}",
-                    counted(&calls.tests),
-                    counted(&calls.steps)
-                ),
-            ),
+            Part::Registers => self.print_registers(out),
+            Part::Calls => print_calls(calls, out),
             Part::Events(events) => match mode {
                 Mode::Step => self.step_all(events, out),
                 Mode::Play => self.play_all(events, out),
@@ -150,37 +142,44 @@ impl<T: Invariants + Drop, S: StoredSteps + Drop> Session<T, S> {
         {
             self.registers = registers;
         }
-        print_line(out, ReplyLine(reply))
+        writeln!(out, "{}", ReplyLine(reply))?;
+        Ok(())
     }
 
     // Prints the present state.
     fn show<W: Write>(&self, out: &mut W) -> Result<(), Failure> {
         if !self.world.is_open() {
-            return print_line(out, ReplyLine(Reply::Fault(Fault::Closed)));
+            writeln!(out, "{}", Fault::Closed)?;
+            return Ok(());
         }
-        print_text(
-            out,
-            format_args!("state count={} names=", self.world.count()),
-        )?;
+        write!(out, "state count={} names=", self.world.count())?;
         self.print_names(out)?;
-        print_text(out, " values=")?;
+        write!(out, " values=")?;
         for var in 0..self.vars {
-            print_item(out, var == 0, self.world.value(var))?;
+            write!(out, "{}{}", comma(usize::from(var)), self.world.value(var))?;
         }
-        print_line(out, "")
+        writeln!(out)?;
+        Ok(())
     }
 
     // Prints the names that are registered.
     fn print_names<W: Write>(&self, out: &mut W) -> Result<(), Failure>
         requires { HoldsSession self.now.world }
     {
-        let mut is_first = true;
+        let mut count = 0usize;
         for name in &names() {
             if self.world.has(name) {
-                print_item(out, is_first, *name)?;
-                is_first = false;
+                write!(out, "{}{name}", comma(count))?;
+                count = 1;
             }
         }
+        Ok(())
+    }
+
+    fn print_registers<W: Write>(&self, out: &mut W) -> Result<(), Failure> {
+        write!(out, "registers ")?;
+        print_numbers(&self.registers, out)?;
+        writeln!(out)?;
         Ok(())
     }
 
@@ -194,11 +193,9 @@ impl<T: Invariants + Drop, S: StoredSteps + Drop> Session<T, S> {
     }
 }
 
-// Prints registers, joined by commas.
-fn print_registers<W: Write>(registers: &[i64; REGISTERS], out: &mut W) -> Result<(), Failure> {
-    print_text(out, "registers ")?;
-    for (i, register) in registers.iter().enumerate() {
-        print_item(out, i == 0, *register)?;
-    }
-    print_line(out, "")
+// Prints how often closures were called since the last time.
+fn print_calls<W: Write>(calls: &Calls, out: &mut W) -> Result<(), Failure> {
+    let (tests, steps) = (counted(&calls.tests), counted(&calls.steps));
+    writeln!(out, "calls invariants={tests} steps={steps}")?;
+    Ok(())
 }
