@@ -441,7 +441,12 @@ const NOT_IN_SESSION: [Act<'static>; 6] = [
 ];
 
 /// Fails where one of these acts is answered as it says, behind the first ones.
-fn none_is_so(rt: &impl Abort, alloc: Global, first: &[Act], others: &[Act]) -> Result<(), Fail> {
+fn none_is_so(
+    rt: &impl Abort,
+    alloc: Global,
+    first: &[Act<'static>],
+    others: &[Act<'static>],
+) -> Result<(), Fail> {
     for (row, other) in others.iter().enumerate() {
         let mut acts = Vec::from_slice(alloc, first)?;
         acts.push(*other)?;

@@ -41,7 +41,7 @@ fn files_in(rt: &HostRuntime, folder: &PathBuf) -> Result<u64, Fail> {
     Ok(count)
 }
 
-/// What is done to a file that is new, to the same once it is placed, and to it in another opening.
+/// What is done to a file that is new, to the same once it is placed, and to it in another opening; and to one of no byte.
 const NEW: &[Act<'static>] = &[
     Size(SIZE),
     Reads(9994, &[0, 0, 0, 0, 0, 0]),
@@ -56,6 +56,8 @@ const AGAIN: &[Act<'static>] = &[
     Reads(4093, b"\0abcd\0"),
     Reads(0, b"xy\0\0\0\0"),
 ];
+
+const EMPTY: &[Act<'static>] = &[Size(0)];
 
 #[test]
 fn a_placed_file_is_read_by_the_next_opening(rt: HostRuntime) -> Result<(), Fail> {
@@ -110,9 +112,9 @@ fn refuses_what_is_no_file(rt: HostRuntime) -> Result<(), Fail> {
     let missing = folder.join(rt.alloc(), "missing")?;
     assert!(rt; are_refused(&rt, &folder, &missing)?);
     assert_eq!(rt; files_in(&rt, &folder)?, 0);
-    fs::write(&rt, missing.as_str(), b"".as_slice())?;
+    fs::write(&rt, missing.as_str(), "".as_bytes())?;
     let mut empty = FileDisk::open(&rt, missing.as_str())?;
-    assert!(rt; are_so(rt.alloc(), &mut empty, &[Size(0)])?);
+    assert!(rt; are_so(rt.alloc(), &mut empty, EMPTY)?);
     drop(empty);
     fs::remove_dir_all(&rt, folder.as_str())?;
     Ok(())
