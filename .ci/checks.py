@@ -85,10 +85,12 @@ def commands_of(lines):
     return found
 
 
-def bash(command, room, **env):
+def bash(command, room, seconds=900, **env):
+    """Runs a command of a shell, as `run` does; its status is 124 where it does not end in time."""
     # As from a reader's shell: what a `make` above hands down would change what a `make` here prints.
     own = {name: value for name, value in os.environ.items() if not name.startswith(("MAKE", "MFLAGS"))}
-    it = subprocess.run(["bash", "-c", command], cwd=room, env={**own, **env}, stdin=subprocess.DEVNULL, stdout=subprocess.PIPE, stderr=subprocess.PIPE, timeout=900)
+    words = ["timeout", str(seconds), "bash", "-c", command]
+    it = subprocess.run(words, cwd=room, env={**own, **env}, stdin=subprocess.DEVNULL, stdout=subprocess.PIPE, stderr=subprocess.PIPE)
     return it.returncode, it.stdout.decode(errors="backslashreplace"), it.stderr.decode(errors="backslashreplace")
 
 
@@ -106,7 +108,7 @@ def play_transcript(file, tmem):
         shutil.copy2(tmem, f"{room}/bin/tmem")
         for command, printed in commands_of(line for line in lines if not line.startswith("# ")):
             before = contents(f"{room}/work")
-            status, out, err = bash(f"set -o pipefail; {command}", f"{room}/work", PATH=f"{room}/bin:{os.environ['PATH']}", AS_USER=AS_USER)
+            status, out, err = bash(f"set -o pipefail; {command}", f"{room}/work", 30, PATH=f"{room}/bin:{os.environ['PATH']}", AS_USER=AS_USER)
             had = out + "\\\n" * (out[-1:] not in ("", "\n")) + "".join(f"! {line}\n" for line in err.splitlines())
             tell(f"{file}: {command}", "".join(f"{line}\n" for line in printed), had + f"status {status}\n" * (status != 0))
             if status:
