@@ -14,7 +14,7 @@ mod words;
 use std::alloc::{AllocError, Global};
 use tmem_disk::{Fault, SimDisk};
 use tmem_invariants::Invariants;
-use tmem_tree::{StoredSteps, Tx};
+use tmem_tree::{MAX_NODES, StoredSteps, Tx};
 use tmem_world::{Event, Layout, Reply, Settled, World, format};
 
 /// What is answered to a transaction that was accepted, and left this number in register 0 alone.
@@ -42,12 +42,17 @@ fn fresh(alloc: Global) -> Result<SimDisk, Fault> {
     formatted(alloc, 4, 4)
 }
 
-/// Begins a transaction that reads nothing on slot 0, evaluates it and settles it.
+/// Begins a transaction on slot 0, evaluates it to its end, and settles it.
 fn commit<T: Invariants + Drop, S: StoredSteps + Drop>(
     world: &mut World<SimDisk, T, S>,
     tx: Tx,
 ) -> Reply {
-    let _ = world.step(Event::Begin { slot: 0, tx });
-    let _ = world.step(Event::Turn { slot: 0 });
-    world.step(Event::Settle { slot: 0 })
+    world.step(Event::Begin { slot: 0, tx });
+    for _ in 0..=MAX_NODES {
+        let reply = world.step(Event::Turn { slot: 0 });
+        if matches!(reply, Reply::Ended) {
+            return world.step(Event::Settle { slot: 0 });
+        }
+    }
+    Reply::Idle
 }
