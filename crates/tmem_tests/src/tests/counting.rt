@@ -2,7 +2,7 @@
 use tmem_disk::{DeviceFault, Disk};
 
 /// How often each call was made.
-#[derive(Clone, Copy, Debug, PartialEq, Eq)]
+#[derive(Clone, Copy)]
 pub(super) struct Calls {
     pub(super) reads: u64,
     pub(super) writes: u64,
