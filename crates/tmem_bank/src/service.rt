@@ -57,11 +57,11 @@ fn with_front<
     requires steps { S.is_stated (steps_of opened) bank.steps }
 {
     let front = opened.named::<N>();
-    serve(rt, alloc, &front)
+    run_bank(rt, alloc, &front)
 }
 
-// Puts money into new accounts, moves some alone, and lets four threads move more.
-fn serve<
+// Lets one pass move money, and then four threads.
+fn run_bank<
     N: StoreNaming + Send + Sync,
     D: Disk + Drop + Send,
     T: Invariants + Drop + Send,
@@ -69,19 +69,38 @@ fn serve<
     R: Clock + Print + Threads + Wait + Sync,
 >(rt: &R, alloc: Global, front: &Front<D, N, T, S>) -> Result<(), Fault> {
     let mut clerk = front.pass(rt)?;
-    let found = front.look(&mut clerk);
+    run_by(rt, alloc, front, &mut clerk)
+}
+
+fn run_by<
+    N: StoreNaming + Send + Sync,
+    D: Disk + Drop + Send,
+    T: Invariants + Drop + Send,
+    S: StoredSteps + Drop + Send + Sync,
+    R: Clock + Print + Threads + Wait + Sync,
+>(rt: &R, alloc: Global, front: &Front<D, N, T, S>, clerk: &mut Pass<N>) -> Result<(), Fault> {
+    open_accounts(rt, alloc, front, clerk)?;
+    move_alone(rt, alloc, front, clerk)?;
+    serve(rt, alloc, front)?;
+    let _ = println!(rt; "durable {}", front.look(clerk));
+    Ok(())
+}
+
+// Puts money into new accounts.
+fn open_accounts<
+    N: StoreNaming,
+    D: Disk + Drop,
+    T: Invariants + Drop,
+    S: StoredSteps + Drop,
+    R: Print + Wait,
+>(rt: &R, alloc: Global, front: &Front<D, N, T, S>, pass: &mut Pass<N>) -> Result<(), Fault> {
+    let found = front.look(pass);
     let _ = println!(rt; "found {found}");
     if found == 0 {
         let opening = front.plan(deposits(alloc)?)?;
-        settle_and_say(rt, front, &mut clerk, &opening)?;
+        settle_and_say(rt, front, pass, &opening)?;
     }
     say(rt, &front.audit(rt, alloc)?);
-    move_alone(rt, alloc, front, &mut clerk)?;
-    let (((a, b), (c, d)), last) = move_and_flush(rt, alloc, front)?;
-    front.checkpoint(rt)?;
-    let _ = println!(rt; "moved {a} {b} {c} {d}");
-    say(rt, &last);
-    let _ = println!(rt; "durable {}", front.look(&mut clerk));
     Ok(())
 }
 
@@ -95,16 +114,62 @@ fn move_alone<
 >(rt: &R, alloc: Global, front: &Front<D, N, T, S>, pass: &mut Pass<N>) -> Result<(), Fault> {
     let transfer = front.plan(Transfer::new(0, 1, 1).tx(alloc)?)?;
     let overdraft = front.plan(Transfer::new(0, 1, 5000).tx(alloc)?)?;
-    settle_and_say(rt, front, pass, &transfer)?;
-    settle_and_say(rt, front, pass, &transfer)?;
-    let late = front.attempt(rt, &transfer)?;
+    settle_again(rt, front, pass, &transfer)?;
+    settle_and_say(rt, front, pass, &overdraft)
+}
+
+// Settles a plan several times.
+fn settle_again<
+    N: StoreNaming,
+    D: Disk + Drop,
+    T: Invariants + Drop,
+    S: StoredSteps + Drop,
+    R: Print + Wait,
+>(rt: &R, front: &Front<D, N, T, S>, pass: &mut Pass<N>, plan: &Plan) -> Result<(), Fault>
+    requires steps { FitsSteps (S.arities front.now.steps) plan.now }
+    requires variables { FitsVariables front.now.vars plan.now }
+    requires names { FitsNames N.program.names plan.now }
+{
+    settle_and_say(rt, front, pass, plan)?;
+    settle_and_say(rt, front, pass, plan)?;
+    settle_late(rt, front, pass, plan)?;
+    settle_and_say(rt, front, pass, plan)
+}
+
+// Settles an attempt too late.
+fn settle_late<
+    N: StoreNaming,
+    D: Disk + Drop,
+    T: Invariants + Drop,
+    S: StoredSteps + Drop,
+    R: Print + Wait,
+>(rt: &R, front: &Front<D, N, T, S>, pass: &mut Pass<N>, plan: &Plan) -> Result<(), Fault>
+    requires steps { FitsSteps (S.arities front.now.steps) plan.now }
+    requires variables { FitsVariables front.now.vars plan.now }
+    requires names { FitsNames N.program.names plan.now }
+{
+    let late = front.attempt(rt, plan)?;
     let _ = println!(rt; "attempted");
-    settle_and_say(rt, front, pass, &transfer)?;
+    settle_and_say(rt, front, pass, plan)?;
     if let Err(fault) = front.settle(rt, pass, &late) {
         let _ = println!(rt; "{fault}");
     }
-    settle_and_say(rt, front, pass, &transfer)?;
-    settle_and_say(rt, front, pass, &overdraft)
+    Ok(())
+}
+
+// Lets four threads move money, and frees the log.
+fn serve<
+    N: StoreNaming + Send + Sync,
+    D: Disk + Drop + Send,
+    T: Invariants + Drop + Send,
+    S: StoredSteps + Drop + Send + Sync,
+    R: Clock + Print + Threads + Wait + Sync,
+>(rt: &R, alloc: Global, front: &Front<D, N, T, S>) -> Result<(), Fault> {
+    let (((a, b), (c, d)), last) = move_and_flush(rt, alloc, front)?;
+    front.checkpoint(rt)?;
+    let _ = println!(rt; "moved {a} {b} {c} {d}");
+    say(rt, &last);
+    Ok(())
 }
 
 // Settles a plan, and prints how that ended.
@@ -191,8 +256,8 @@ impl<D: Disk + Drop, N: StoreNaming, T: Invariants + Drop, S: StoredSteps + Drop
     }
 
     fn audit<R: Wait>(&self, rt: &R, alloc: Global) -> Result<Settled, Fault> {
-        let mut pass = self.pass(rt)?;
         let audit = self.plan(balances(alloc)?)?;
+        let mut pass = self.pass(rt)?;
         settle(rt, self, &mut pass, &audit)
     }
 

@@ -20,20 +20,33 @@ use tmem_tree::{MAX_NODES, Plan, StoredSteps};
 const ROUND: u64 = 64;
 
 /// What transactions on a core come to. Every variable has something at the start, and the invariant is registered.
-pub fn run_on_core<R: Clock, T: Invariants + Drop, S: StoredSteps + Drop>(
+pub fn run_on_core<R: Clock, T: Invariants + Drop, S: StoredSteps>(
     rt: &R,
     alloc: Global,
     vars: u16,
     act: Act,
     table: T,
-    steps: S,
+    steps: &S,
 ) -> Result<Figures, BenchError>
     requires { T.vars table ≡ vars }
 {
     let mut core = new_core(alloc, vars, table)?;
-    let plan = Plan::new(act.transaction(alloc)?, &steps, vars, &[])?;
-    let mut cursor = Cursor::idle(alloc);
-    settle_on(rt, &mut core, &mut cursor, &plan, &steps, vars)
+    plan_on(rt, alloc, vars, act, &mut core, steps)
+}
+
+// Makes the plan.
+fn plan_on<R: Clock, T: Invariants + Drop, S: StoredSteps>(
+    rt: &R,
+    alloc: Global,
+    vars: u16,
+    act: Act,
+    core: &mut Core<T>,
+    steps: &S,
+) -> Result<Figures, BenchError>
+    requires { length (state_of core.old).values ≡ vars }
+{
+    let plan = Plan::new(act.transaction(alloc)?, steps, vars, &[])?;
+    settle_on(rt, core, &mut Cursor::idle(alloc), &plan, steps, vars)
 }
 
 // Settles a plan over so many variables for a while.

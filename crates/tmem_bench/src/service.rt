@@ -45,7 +45,7 @@ impl<R: Clock> Pace for Counted<'_, R> {
 
 /// What threads do with a store that they share. The functions that start threads know no more of it.
 pub trait Service {
-    /// Puts something into the accounts, registers the invariant, and frees the log.
+    /// Puts something into the accounts, registers the invariant, and makes that durable.
     fn prepare<R: Wait>(&self, rt: &R, alloc: Global) -> Result<(), Fault>;
 
     /// Does a caller's part of a job, until the time from the start is over.
@@ -70,9 +70,9 @@ pub trait Service {
 impl<D: Disk + Drop, N: StoreNaming, T: Invariants + Drop, S: StoredSteps + Drop> Service
     for Front<D, N, T, S> {
     fn prepare<R: Wait>(&self, rt: &R, alloc: Global) -> Result<(), Fault> {
-        settle_once(rt, self, &mut self.pass(rt)?, deposits(alloc)?)?;
+        deposit(rt, alloc, self)?;
         self.flush_once(rt)?;
-        self.checkpoint(rt)
+        Ok(())
     }
 
     fn work<R: Clock + Wait>(
@@ -82,16 +82,9 @@ impl<D: Disk + Drop, N: StoreNaming, T: Invariants + Drop, S: StoredSteps + Drop
         job: Job,
         start: Instant,
     ) -> Result<Figures, Fault> {
-        let mut pass = self.pass(rt)?;
         let plan = self.plan(job.act.transaction(alloc)?)?;
-        let mut had = Figures::zero();
-        for _ in rt.forever() {
-            settle_some(rt, self, &mut pass, &plan, job, &mut had)?;
-            if is_over(rt, start) {
-                return Ok(had);
-            }
-        }
-        unreachable!()
+        let mut pass = self.pass(rt)?;
+        settle_until(rt, self, &mut pass, &plan, job, start)
     }
 
     fn flush<R: Clock + Wait>(&self, rt: &R, has_several: bool) -> Result<u64, Fault> {
@@ -112,14 +105,35 @@ impl<D: Disk + Drop, N: StoreNaming, T: Invariants + Drop, S: StoredSteps + Drop
 
     fn fill<R: Wait>(&self, rt: &R, alloc: Global) -> Result<(), Fault> {
         let mut pass = self.pass(rt)?;
-        for place in 0..SLOTS * RECORDS {
-            settle_once(rt, self, &mut pass, write_one(alloc, place % MANY)?)?;
-            if place % RECORDS == RECORDS - 1 {
-                self.flush_once(rt)?;
-            }
-        }
-        Ok(())
+        fill_by(rt, alloc, self, &mut pass)
     }
+}
+
+// Puts something into the accounts, and registers the invariant.
+fn deposit<D: Disk + Drop, N: StoreNaming, T: Invariants + Drop, S: StoredSteps + Drop, R: Wait>(
+    rt: &R,
+    alloc: Global,
+    front: &Front<D, N, T, S>,
+) -> Result<(), Fault> {
+    let tx = deposits(alloc)?;
+    let mut pass = front.pass(rt)?;
+    settle_once(rt, front, &mut pass, tx)
+}
+
+// Fills the log: each batch with as many transactions as it takes.
+fn fill_by<D: Disk + Drop, N: StoreNaming, T: Invariants + Drop, S: StoredSteps + Drop, R: Wait>(
+    rt: &R,
+    alloc: Global,
+    front: &Front<D, N, T, S>,
+    pass: &mut Pass<N>,
+) -> Result<(), Fault> {
+    for place in 0..SLOTS * RECORDS {
+        settle_once(rt, front, pass, write_one(alloc, place % MANY)?)?;
+        if place % RECORDS == RECORDS - 1 {
+            front.flush_once(rt)?;
+        }
+    }
+    Ok(())
 }
 
 // Settles a transaction.
@@ -147,6 +161,35 @@ fn settle<D: Disk + Drop, N: StoreNaming, T: Invariants + Drop, S: StoredSteps +
     requires names { FitsNames N.program.names plan.now }
 {
     front.atomically(rt, pass, plan)
+}
+
+// Settles a plan again and again, until the time from the start is over.
+fn settle_until<
+    D: Disk + Drop,
+    N: StoreNaming,
+    T: Invariants + Drop,
+    S: StoredSteps + Drop,
+    R: Clock + Wait,
+>(
+    rt: &R,
+    front: &Front<D, N, T, S>,
+    pass: &mut Pass<N>,
+    plan: &Plan,
+    job: Job,
+    start: Instant,
+) -> Result<Figures, Fault>
+    requires steps { FitsSteps (S.arities front.now.steps) plan.now }
+    requires variables { FitsVariables front.now.vars plan.now }
+    requires names { FitsNames N.program.names plan.now }
+{
+    let mut had = Figures::zero();
+    for _ in rt.forever() {
+        settle_some(rt, front, pass, plan, job, &mut had)?;
+        if is_over(rt, start) {
+            return Ok(had);
+        }
+    }
+    unreachable!()
 }
 
 // Settles a plan as often as a job does until it waits, and waits.

@@ -101,7 +101,7 @@ fn with_steps<D: Disk + Drop + Send, T: Invariants + Drop + Send, R: Clock + Thr
     )?;
     let steps = steps_of(alloc, total, difference, floor)?;
     match on {
-        On::Core(act) => run_on_core(rt, alloc, vars, act, table, steps),
+        On::Core(act) => run_on_core(rt, alloc, vars, act, table, &steps),
         On::Store(disk, task) => open(rt, alloc, vars, disk, task, table, steps),
     }
 }
