@@ -17,7 +17,7 @@ use std::sync::Wait;
 use std::thread::Threads;
 use tmem_builtins::{add, need, steps_of, sub};
 use tmem_disk::{Disk, Name};
-use tmem_front::{OpenedFront, StoreNaming};
+use tmem_front::{Front, OpenedFront, StoreNaming};
 use tmem_invariants::{Invariant, Invariants, Table};
 use tmem_tree::{StepAnswer, StoredSteps};
 
@@ -146,8 +146,18 @@ fn with_front<
     requires steps { S.is_stated (steps_held opened) bank.steps }
 {
     let front = opened.named::<N>();
+    use_front(rt, alloc, &front, task)
+}
+
+fn use_front<
+    N: StoreNaming + Send + Sync,
+    D: Disk + Drop + Send,
+    T: Invariants + Drop + Send,
+    S: StoredSteps + Drop + Send + Sync,
+    R: Clock + Threads + Wait + Sync,
+>(rt: &R, alloc: Global, front: &Front<D, N, T, S>, task: Task) -> Result<Figures, BenchError> {
     match task {
-        Task::Serve(job) => serve(rt, alloc, &front, job),
+        Task::Serve(job) => serve(rt, alloc, front, job),
         Task::Fill => {
             front.fill(rt, alloc)?;
             Ok(Figures::zero())
