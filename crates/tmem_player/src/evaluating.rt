@@ -6,7 +6,7 @@ ghost use Rattle.tmem_tentative.specs.Cursors.{IsAt};
 
 use crate::calls::{Calls, counted};
 use crate::failure::Failure;
-use crate::printing::{comma, print_numbers};
+use crate::printing::{print_comma, print_numbers};
 use std::alloc::Global;
 use std::io::Write;
 use tmem_builtins::names;
@@ -52,17 +52,24 @@ pub(crate) fn evaluate_twice<S: StoredSteps, W: Write>(
 
 // The attempt that both ways come to, or none where they differ.
 fn both_ways(plain: Option<Attempt>, other: Option<Attempt>) -> Option<Attempt> {
-    let plain = plain?;
-    if are_alike(&plain, &other?) {
-        Some(plain)
-    } else {
-        None
+    match (plain, other) {
+        (Some(plain), Some(other)) => {
+            if are_alike(&plain, &other) {
+                Some(plain)
+            } else {
+                None
+            }
+        }
+        _ => None,
     }
 }
 
 // The value of a variable.
 fn value_of(values: &[i64], var: u16) -> i64 {
-    values.get(usize::from(var)).copied().unwrap_or(0)
+    match values.get(usize::from(var)) {
+        Some(value) => *value,
+        None => 0,
+    }
 }
 
 // Evaluates a plan from the start, again after each variable that it needs. None where what it read is not what it was given.
@@ -158,7 +165,8 @@ fn print_attempt<W: Write>(attempt: &Attempt, out: &mut W) -> Result<(), Failure
         Ending::Abort(code) => write!(out, "aborted {code} reads=")?,
     }
     for (i, (var, value)) in attempt.reads.iter().enumerate() {
-        write!(out, "{}{var}:{value}", comma(i))?;
+        print_comma(i, out)?;
+        write!(out, "{var}:{value}")?;
     }
     write!(out, " registers=")?;
     if attempt.registers != [0; 16] {
@@ -171,11 +179,13 @@ fn print_attempt<W: Write>(attempt: &Attempt, out: &mut W) -> Result<(), Failure
 fn print_effect<W: Write>(attempt: &Attempt, out: &mut W) -> Result<(), Failure> {
     write!(out, " writes=")?;
     for (i, (var, value)) in attempt.effect.writes.as_slice().iter().enumerate() {
-        write!(out, "{}{var}:{value}", comma(i))?;
+        print_comma(i, out)?;
+        write!(out, "{var}:{value}")?;
     }
     write!(out, " names=")?;
     for (i, name) in attempt.effect.names.as_slice().iter().enumerate() {
-        write!(out, "{}{name}", comma(i))?;
+        print_comma(i, out)?;
+        write!(out, "{name}")?;
     }
     Ok(())
 }

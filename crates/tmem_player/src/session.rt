@@ -5,7 +5,7 @@ ghost use Rattle.tmem_world.specs.Represents.{numbers_of, HoldsSession};
 use crate::Mode;
 use crate::calls::{Calls, counted};
 use crate::failure::Failure;
-use crate::printing::{comma, print_numbers};
+use crate::printing::{print_comma, print_numbers};
 use crate::row::{Events, Numbers, Part};
 use std::alloc::Global;
 use std::io::Write;
@@ -156,7 +156,8 @@ impl<T: Invariants + Drop, S: StoredSteps + Drop> Session<T, S> {
         self.print_names(out)?;
         write!(out, " values=")?;
         for var in 0..self.vars {
-            write!(out, "{}{}", comma(usize::from(var)), self.world.value(var))?;
+            print_comma(usize::from(var), out)?;
+            write!(out, "{}", self.world.value(var))?;
         }
         writeln!(out)?;
         Ok(())
@@ -169,7 +170,8 @@ impl<T: Invariants + Drop, S: StoredSteps + Drop> Session<T, S> {
         let mut count = 0usize;
         for name in &names() {
             if self.world.has(name) {
-                write!(out, "{}{name}", comma(count))?;
+                print_comma(count, out)?;
+                write!(out, "{name}")?;
                 count = 1;
             }
         }
