@@ -1,110 +1,129 @@
-//! A thread that waits until what it commits is durable, and a flusher in another thread.
-ghost use Rattle.std.specs.Prelude.{◌≡◌};
-ghost use Rattle.tmem_front.specs.Held.{found_of, spine_of};
-ghost use Rattle.tmem_front_tests.specs.Examples.{adding};
-
-use super::no_closures::{AddsAndNeeds, AlwaysTrue};
-use super::slow_disk::SlowDisk;
-use super::waits::Turns;
-use super::{new_with, number_of, write};
-use std::alloc::Global;
-use std::marker::Brand;
-use std::rt::Clock;
-use std::sync::Wait;
+//! Flushers: when each ends, what it has made durable by then, and how it makes room in a full log.
+use super::moves::{Answer, Move, Task};
+use super::scenes::{Device, Failing, SOUND, Scene, play};
 use std::test::Fail;
-use std::thread::{Threads, join};
-use tmem_disk::{Disk, Fault, SimDisk};
-use tmem_front::{Front, OpenedFront, StoreNaming};
-use tmem_invariants::Invariants;
-use tmem_journal::Layout;
-use tmem_tree::StoredSteps;
+use tmem_disk::Fault;
 
-/// The numbers of five transactions that were awaited, and what a look answers at the end.
-type Awaited = ([u64; 5], u64);
+const WRITE: Task = Task::Write(0, 1);
 
-/// What two threads do with a store that they share. The function that starts them knows no more of the store.
-trait Awaiting {
-    /// Commits five transactions, and awaits each before the next one. Then it shuts the store.
-    fn await_five<R: Wait>(&self, rt: &R, alloc: Global) -> Result<Awaited, Fault>;
-
-    /// Flushes until the store is shut, and shuts it where that is refused, so that nobody waits for it.
-    fn flush_all<R: Wait>(&self, rt: &R) -> Result<(), Fault>;
+#[test]
+fn a_flusher_ends_with_its_pace(rt: HostRuntime) -> Result<(), Fail> {
+    let scene = Scene {
+        before: &[
+            (Move::Fill(200), Answer::Number(200)),
+            (Move::RunFlusher(2), Answer::Done),
+            (Move::Look, Answer::Number(128)),
+        ],
+        ..Scene::empty()
+    };
+    play(&rt, rt.alloc(), &scene)
 }
 
-impl<D: Disk + Drop, N: StoreNaming, T: Invariants + Drop, S: StoredSteps + Drop> Awaiting
-    for Front<D, N, T, S> {
-    fn await_five<R: Wait>(&self, rt: &R, alloc: Global) -> Result<Awaited, Fault> {
-        let awaited = commit_five(rt, alloc, self);
-        self.shut(rt);
-        awaited
-    }
-
-    fn flush_all<R: Wait>(&self, rt: &R) -> Result<(), Fault> {
-        let flushed = self.run_flusher(rt, &mut Turns { left: u64::MAX });
-        self.shut(rt);
-        flushed
-    }
+#[test]
+fn a_flusher_makes_durable_what_waits_before_it_ends(rt: HostRuntime) -> Result<(), Fail> {
+    let scene = Scene {
+        before: &[
+            (Move::Fill(200), Answer::Number(200)),
+            (Move::Shut, Answer::Done),
+            (Move::RunFlusher(u64::MAX), Answer::Done),
+            (Move::Look, Answer::Number(200)),
+        ],
+        ..Scene::empty()
+    };
+    play(&rt, rt.alloc(), &scene)
 }
 
-fn commit_five<
-    D: Disk + Drop,
-    N: StoreNaming,
-    T: Invariants + Drop,
-    S: StoredSteps + Drop,
-    R: Wait,
->(rt: &R, alloc: Global, front: &Front<D, N, T, S>) -> Result<Awaited, Fault> {
-    let mut pass = front.pass(rt)?;
-    let plan = front.plan(write(alloc, 0, 1)?)?;
-    let mut numbers = [0; 5];
-    for awaited in &mut numbers {
-        let number = number_of(front.atomically(rt, &mut pass, &plan)).ok_or(Fault::Unknown)?;
-        front.await_durable(rt, &mut pass, number)?;
-        *awaited = number;
-    }
-    Ok((numbers, front.look(&mut pass)))
+#[test]
+fn room_is_made_in_a_full_log(rt: HostRuntime) -> Result<(), Fail> {
+    let scene = Scene {
+        device: Device { slots: 2, ..SOUND },
+        before: &[
+            (Move::TryCommit(WRITE), Answer::Committed(0)),
+            (Move::FlushWithRoom, Answer::Number(1)),
+            (Move::TryCommit(WRITE), Answer::Committed(1)),
+            (Move::FlushWithRoom, Answer::Number(2)),
+            (Move::TryCommit(WRITE), Answer::Committed(2)),
+            (Move::FlushWithRoom, Answer::Number(3)),
+        ],
+        ..Scene::empty()
+    };
+    play(&rt, rt.alloc(), &scene)
 }
 
-fn await_and_flush<F: Awaiting + Sync, R: Threads + Wait + Sync>(
-    rt: &R,
-    alloc: Global,
-    store: &F,
-) -> Result<Awaited, Fault> {
-    let (awaited, flushed) = join(rt, || store.await_five(rt, alloc), || store.flush_all(rt));
-    flushed?;
-    awaited
+#[test]
+fn a_flusher_flushes_again_once_there_is_room(rt: HostRuntime) -> Result<(), Fail> {
+    let scene = Scene {
+        device: Device { slots: 2, ..SOUND },
+        before: &[
+            (Move::TryCommit(WRITE), Answer::Committed(0)),
+            (Move::RunFlusher(1), Answer::Done),
+            (Move::TryCommit(WRITE), Answer::Committed(1)),
+            (Move::RunFlusher(1), Answer::Done),
+            (Move::TryCommit(WRITE), Answer::Committed(2)),
+            (Move::RunFlusher(1), Answer::Done),
+            (Move::Look, Answer::Number(3)),
+        ],
+        ..Scene::empty()
+    };
+    play(&rt, rt.alloc(), &scene)
 }
 
-fn await_beside_a_flusher<
-    D: Disk + Drop + Send,
-    N: StoreNaming + Send + Sync,
-    T: Invariants + Drop + Send,
-    S: StoredSteps + Drop + Send + Sync,
-    R: Threads + Wait + Sync,
->(rt: &R, alloc: Global, front: &Front<D, N, T, S>) -> Result<Awaited, Fault> {
-    await_and_flush(rt, alloc, front)
-}
-
-/// A store on a device whose syncs take a while.
-type Slow<'a, R> = OpenedFront<SlowDisk<'a, SimDisk, R>, AlwaysTrue, AddsAndNeeds>;
-
-fn await_in_a_store<N: StoreNaming + Send + Sync, R: Clock + Threads + Wait + Sync>(
-    rt: &R,
-    alloc: Global,
-    opened: Slow<R>,
-) -> Result<Awaited, Fault>
-    requires spine { spine_of opened ≡ N.name }
-    requires opening { found_of opened ≡ N.opening }
-    requires program { N.program ≡ adding }
-{
-    await_beside_a_flusher(rt, alloc, &opened.named::<N>())
+#[test]
+fn a_flusher_is_refused_as_its_checkpoint_is(rt: HostRuntime) -> Result<(), Fail> {
+    let scene = Scene {
+        device: Device {
+            slots: 2,
+            // two flushes make four writes, and fill the log: the next one is the first of a checkpoint
+            failing: Failing::Write(4),
+            ..SOUND
+        },
+        before: &[
+            (Move::TryCommit(WRITE), Answer::Committed(0)),
+            (Move::RunFlusher(1), Answer::Done),
+            (Move::TryCommit(WRITE), Answer::Committed(1)),
+            (Move::RunFlusher(1), Answer::Done),
+            (Move::TryCommit(WRITE), Answer::Committed(2)),
+            (Move::RunFlusher(1), Answer::Refused(Fault::Device)),
+            (Move::Look, Answer::Number(2)),
+        ],
+        ..Scene::empty()
+    };
+    play(&rt, rt.alloc(), &scene)
 }
 
 #[test]
 fn a_wait_for_a_flush_waits_and_a_flusher_makes_room(rt: HostRuntime) -> Result<(), Fail> {
-    let inner = SimDisk::new(rt.alloc(), Layout::new(4, 2)?.end())?;
-    let disk = SlowDisk { inner, rt: &rt };
-    let opened = new_with(rt.alloc(), disk, 2, AddsAndNeeds)?;
-    let answers = await_in_a_store::<Brand, _>(&rt, rt.alloc(), opened);
-    assert_eq!(rt; answers, Ok(([0, 1, 2, 3, 4], 5)));
-    Ok(())
+    let caller = [
+        (Move::Commit(WRITE), Answer::Committed(0)),
+        (Move::Await(0), Answer::Done),
+        (Move::Commit(WRITE), Answer::Committed(1)),
+        (Move::Await(1), Answer::Done),
+        (Move::Commit(WRITE), Answer::Committed(2)),
+        (Move::Await(2), Answer::Done),
+        (Move::Commit(WRITE), Answer::Committed(3)),
+        (Move::Await(3), Answer::Done),
+        (Move::Commit(WRITE), Answer::Committed(4)),
+        (Move::Await(4), Answer::Done),
+        (Move::Look, Answer::Number(5)),
+        (Move::Shut, Answer::Done),
+    ];
+    let scene = Scene {
+        device: Device {
+            slots: 2,
+            sync_millis: 5,
+            ..SOUND
+        },
+        threads: [
+            &caller,
+            // where it is refused, the others do not wait for it
+            &[
+                (Move::RunFlusher(u64::MAX), Answer::Done),
+                (Move::Shut, Answer::Done),
+            ],
+            &[],
+            &[],
+        ],
+        ..Scene::empty()
+    };
+    play(&rt, rt.alloc(), &scene)
 }

@@ -2,8 +2,7 @@
 //! closure. Each method of theirs can be called, which it could not where there were none.
 ghost use Rattle.std.specs.Prelude.{◌≡◌, ◌∷◌, [], ℕ, ℤ, List, true, codes};
 
-use super::hold_disk::Hold;
-use std::sync::atomic::{AtomicU64, Ordering};
+use super::signals::Signals;
 use tmem_builtins::{add, need};
 use tmem_disk::Name;
 use tmem_invariants::Invariants;
@@ -82,47 +81,14 @@ impl Invariants for AlwaysTrue {
     ghost has_meanings = { λ _. ∣ (all_true, (refl, λ _. refl)) ∣₁ };
 }
 
-/// Two stored steps: the first adds two numbers, the second retries until the first number is at least the second.
+/// Two stored steps: the first adds two numbers, the second retries until the first number is at least the second. The first one
+/// can be held, and how often the second one is called is counted.
 #[derive(Drop)]
-pub(super) struct AddsAndNeeds;
-
-impl StoredSteps for AddsAndNeeds {
-    ghost use Rattle.tmem_front_tests.specs.Examples.{adds_and_needs};
-
-    ghost arities = { λ _. 2 ∷ 2 ∷ [] };
-
-    ghost is_stated = { λ _ m. (index : ℕ) (args : List ℤ) → m index args ≡ adds_and_needs index args };
-
-    fn len(&self) -> usize {
-        2
-    }
-
-    fn arity(&self, _index: usize) -> usize {
-        2
-    }
-
-    fn answer(&self, index: usize, args: &[i64]) -> StepAnswer {
-        if index == 0 { add(args) } else { need(args) }
-    }
-
-    ghost use Rattle.std.proofs.Common.{lit≤, refl};
-    ghost use Rattle.tmem_front_tests.specs.Examples.{two_small};
-
-    ghost few = { λ _. lit≤ tt };
-
-    ghost small = { λ _. two_small };
-
-    ghost has_meanings = { λ _. ∣ (adds_and_needs, λ _ _. refl) ∣₁ };
+pub(super) struct AddsAndNeeds<'a> {
+    pub(super) signals: &'a Signals,
 }
 
-/// The same two steps. The first one can be held, and how often the second one is called is counted.
-#[derive(Drop)]
-pub(super) struct Watched<'a> {
-    pub(super) needs: &'a AtomicU64,
-    pub(super) hold: &'a Hold,
-}
-
-impl<'a> StoredSteps for Watched<'a> {
+impl<'a> StoredSteps for AddsAndNeeds<'a> {
     ghost use Rattle.tmem_front_tests.specs.Examples.{adds_and_needs};
 
     ghost arities = { λ _. 2 ∷ 2 ∷ [] };
@@ -139,10 +105,10 @@ impl<'a> StoredSteps for Watched<'a> {
 
     fn answer(&self, index: usize, args: &[i64]) -> StepAnswer {
         if index == 0 {
-            self.hold.hold_step();
+            self.signals.meet_step();
             add(args)
         } else {
-            self.needs.fetch_add(1, Ordering::SeqCst);
+            self.signals.count_need();
             need(args)
         }
     }

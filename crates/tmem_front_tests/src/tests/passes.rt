@@ -1,173 +1,132 @@
-//! One caller or two: what they are answered, one after another.
-ghost use Rattle.std.specs.Prelude.{◌≡◌, ◌<◌, length};
-ghost use Rattle.tmem_front.specs.Held.{found_of, spine_of};
-ghost use Rattle.tmem_front_tests.specs.Examples.{adding};
-
-use super::{New, add_one, named, new, number_of, write};
-use std::marker::Brand;
-use std::sync::Wait;
+//! One caller or two passes: what they are answered, one after another.
+use super::moves::{Answer, Move, Task};
+use super::scenes::{Scene, play};
 use std::test::Fail;
 use tmem_disk::Fault;
-use tmem_front::StoreNaming;
-use tmem_tree::Tx;
 
-/// The number that one pass commits, what it looks at before a flush, what the flush answers, what the pass looks at then,
-/// what is vouched to it for its number, and what another pass looks at.
-type Looks = (Option<u64>, u64, u64, u64, u64, u64);
+const FULL: Answer = Answer::Refused(Fault::Full);
 
-fn look_around_a_flush<N: StoreNaming, R: Wait>(rt: &R, opened: New, tx: Tx) -> Result<Looks, Fault>
-    requires spine { spine_of opened ≡ N.name }
-    requires opening { found_of opened ≡ N.opening }
-    requires program { N.program ≡ adding }
-{
-    let front = named::<N>(opened);
-    let mut writer = front.pass(rt)?;
-    let mut reader = front.pass(rt)?;
-    let plan = front.plan(tx)?;
-    let attempt = front.attempt(rt, &plan)?;
-    let number = number_of(front.settle(rt, &mut writer, &attempt));
-    let before = front.look(&mut writer);
-    let flushed = front.flush_once(rt)?;
-    let after = front.look(&mut writer);
-    if after == 0 {
-        return Err(Fault::Unknown);
-    }
-    let vouched = front.vouch(rt, &mut writer, 0);
-    Ok((
-        number,
-        before,
-        flushed,
-        after,
-        vouched,
-        front.look(&mut reader),
-    ))
-}
+const WRITE: Task = Task::Write(0, 1);
 
 #[test]
 fn a_look_is_fresh_and_a_flush_writes(rt: HostRuntime) -> Result<(), Fail> {
-    let tx = write(rt.alloc(), 0, 5)?;
-    let answers = look_around_a_flush::<Brand, _>(&rt, new(rt.alloc())?, tx);
-    assert_eq!(rt; answers, Ok((Some(0), 0, 1, 1, 1, 1)));
-    Ok(())
-}
-
-/// What a pass is told by `vouch`, and what it saw itself, once another transaction is durable too.
-fn vouch_for_more<N: StoreNaming, R: Wait>(rt: &R, opened: New, tx: Tx) -> Result<(u64, u64), Fault>
-    requires spine { spine_of opened ≡ N.name }
-    requires opening { found_of opened ≡ N.opening }
-    requires program { N.program ≡ adding }
-{
-    let front = named::<N>(opened);
-    let mut writer = front.pass(rt)?;
-    let mut other = front.pass(rt)?;
-    let plan = front.plan(tx)?;
-    let _ = front.try_atomically(rt, &mut writer, &plan);
-    front.flush_once(rt)?;
-    if front.look(&mut writer) == 0 {
-        return Err(Fault::Unknown);
-    }
-    let _ = front.try_atomically(rt, &mut other, &plan);
-    front.flush_once(rt)?;
-    Ok((front.vouch(rt, &mut writer, 0), writer.seen()))
+    let scene = Scene {
+        before: &[
+            // the other pass is there from the start
+            (Move::OtherPass, Answer::Done),
+            (Move::Attempt(Task::Write(0, 5)), Answer::Done),
+            (Move::Settle, Answer::Committed(0)),
+            (Move::Look, Answer::Number(0)),
+            (Move::Flush, Answer::Number(1)),
+            (Move::Look, Answer::Number(1)),
+            (Move::Vouch(0), Answer::Number(1)),
+            (Move::OtherPass, Answer::Done),
+            (Move::Look, Answer::Number(1)),
+        ],
+        ..Scene::empty()
+    };
+    play(&rt, rt.alloc(), &scene)
 }
 
 #[test]
 fn a_vouch_asks_the_journal(rt: HostRuntime) -> Result<(), Fail> {
-    let tx = write(rt.alloc(), 0, 1)?;
-    assert_eq!(rt;
-        vouch_for_more::<Brand, _>(&rt, new(rt.alloc())?, tx),
-        Ok((2, 1))
-    );
-    Ok(())
-}
-
-/// How many of 32 passes are given out, each dropped at once, and what one more is refused by.
-fn take_passes<N: StoreNaming, R: Wait>(rt: &R, opened: New) -> (u64, Option<Fault>)
-    requires spine { spine_of opened ≡ N.name }
-    requires opening { found_of opened ≡ N.opening }
-    requires program { N.program ≡ adding }
-{
-    let front = named::<N>(opened);
-    let mut given = 0u64;
-    for _ in 0..32u64 {
-        if front.pass(rt).is_ok() {
-            given = given.saturating_add(1);
-        }
-    }
-    (given, front.pass(rt).err())
+    let scene = Scene {
+        before: &[
+            (Move::TryCommit(WRITE), Answer::Committed(0)),
+            (Move::Flush, Answer::Number(1)),
+            (Move::Look, Answer::Number(1)),
+            (Move::OtherPass, Answer::Done),
+            (Move::TryCommit(WRITE), Answer::Committed(1)),
+            (Move::Flush, Answer::Number(2)),
+            (Move::OtherPass, Answer::Done),
+            (Move::Vouch(0), Answer::Number(2)),
+            (Move::Seen, Answer::Number(1)),
+        ],
+        ..Scene::empty()
+    };
+    play(&rt, rt.alloc(), &scene)
 }
 
 #[test]
 fn a_dropped_pass_is_not_given_out_again(rt: HostRuntime) -> Result<(), Fail> {
-    let answers = take_passes::<Brand, _>(&rt, new(rt.alloc())?);
-    assert_eq!(rt; answers, (32, Some(Fault::NoSeat)));
-    Ok(())
-}
-
-/// How many of 256 commits are answered with their number, in order; what one more is refused by; and, once one batch was
-/// flushed, what the flush answers, what the pass looks at, and the number of another commit.
-type Fills = (u64, Option<Fault>, u64, u64, Option<u64>);
-
-fn fill<N: StoreNaming, R: Wait>(rt: &R, opened: New, tx: Tx) -> Result<Fills, Fault>
-    requires spine { spine_of opened ≡ N.name }
-    requires opening { found_of opened ≡ N.opening }
-    requires program { N.program ≡ adding }
-{
-    let front = named::<N>(opened);
-    let mut pass = front.pass(rt)?;
-    let plan = front.plan(tx)?;
-    let mut in_order = 0u64;
-    for turn in 0..256u64 {
-        if number_of(front.try_atomically(rt, &mut pass, &plan)) == Some(turn) {
-            in_order = in_order.saturating_add(1);
-        }
-    }
-    let full = front.try_atomically(rt, &mut pass, &plan).err();
-    let flushed = front.flush_once(rt)?;
-    let looked = front.look(&mut pass);
-    let last = number_of(front.try_atomically(rt, &mut pass, &plan));
-    Ok((in_order, full, flushed, looked, last))
+    let scene = Scene {
+        // one is in hand, so 32 are given out
+        before: &[
+            (Move::NewPasses(31), Answer::Number(31)),
+            (Move::NewPass, Answer::Refused(Fault::NoSeat)),
+            (Move::NewPasses(9), Answer::Number(0)),
+        ],
+        ..Scene::empty()
+    };
+    play(&rt, rt.alloc(), &scene)
 }
 
 #[test]
 fn a_full_front_takes_more_once_a_batch_is_durable(rt: HostRuntime) -> Result<(), Fail> {
-    let tx = write(rt.alloc(), 0, 1)?;
-    let answers = fill::<Brand, _>(&rt, new(rt.alloc())?, tx);
-    assert_eq!(rt; answers, Ok((256, Some(Fault::Full), 64, 64, Some(256))));
-    Ok(())
+    let scene = Scene {
+        before: &[
+            (Move::Fill(256), Answer::Number(256)),
+            (Move::TryCommit(WRITE), FULL),
+            (Move::Flush, Answer::Number(64)),
+            (Move::Look, Answer::Number(64)),
+            (Move::TryCommit(WRITE), Answer::Committed(256)),
+        ],
+        ..Scene::empty()
+    };
+    play(&rt, rt.alloc(), &scene)
 }
 
-/// The number of an attempt that is settled at once, what another one is refused by once another pass has committed, what it is
-/// refused by once the front is shut, and the present value then.
-type Refusals = (Option<u64>, Option<Fault>, Option<Fault>, i64);
-
-fn settle_late<N: StoreNaming, R: Wait>(rt: &R, opened: New, tx: Tx) -> Result<Refusals, Fault>
-    requires spine { spine_of opened ≡ N.name }
-    requires opening { found_of opened ≡ N.opening }
-    requires program { N.program ≡ adding }
-    requires values { length (found_of opened).values ≡ 4 }
-{
-    let front = named::<N>(opened);
-    let mut late = front.pass(rt)?;
-    let mut other = front.pass(rt)?;
-    let plan = front.plan(tx)?;
-    let attempt = front.attempt(rt, &plan)?;
-    let number = number_of(front.settle(rt, &mut late, &attempt));
-    let attempt = front.attempt(rt, &plan)?;
-    let _ = front.try_atomically(rt, &mut other, &plan);
-    let stale = front.settle(rt, &mut late, &attempt).err();
-    front.shut(rt);
-    let shut = front.settle(rt, &mut late, &attempt).err();
-    Ok((number, stale, shut, front.peek(rt, 0)))
+#[test]
+fn a_full_front_refuses_each_call_at_once(rt: HostRuntime) -> Result<(), Fail> {
+    let scene = Scene {
+        before: &[(Move::Fill(256), Answer::Number(256))],
+        threads: [
+            &[(Move::Commit(WRITE), FULL)],
+            &[(Move::TryCommit(WRITE), FULL)],
+            &[(Move::Attempt(WRITE), Answer::Done), (Move::Settle, FULL)],
+            &[],
+        ],
+        ..Scene::empty()
+    };
+    play(&rt, rt.alloc(), &scene)
 }
 
 #[test]
 fn a_late_attempt_is_refused(rt: HostRuntime) -> Result<(), Fail> {
-    let tx = add_one(rt.alloc())?;
-    let answers = settle_late::<Brand, _>(&rt, new(rt.alloc())?, tx);
-    assert_eq!(rt;
-        answers,
-        Ok((Some(0), Some(Fault::Conflict), Some(Fault::Closed), 2))
-    );
-    Ok(())
+    let scene = Scene {
+        before: &[
+            (Move::Attempt(Task::AddOne), Answer::Done),
+            (Move::Settle, Answer::Committed(0)),
+            (Move::Attempt(Task::AddOne), Answer::Done),
+            (Move::OtherPass, Answer::Done),
+            (Move::TryCommit(Task::AddOne), Answer::Committed(1)),
+            (Move::OtherPass, Answer::Done),
+            (Move::Settle, Answer::Refused(Fault::Conflict)),
+            (Move::Shut, Answer::Done),
+            (Move::Settle, Answer::Refused(Fault::Closed)),
+            (Move::Peek(0), Answer::Value(2)),
+        ],
+        ..Scene::empty()
+    };
+    play(&rt, rt.alloc(), &scene)
+}
+
+#[test]
+fn an_attempt_reads_the_values_that_are_there(rt: HostRuntime) -> Result<(), Fail> {
+    let saw = [1, 1, 1, 0, 0, 0, 0, 0, 0, 0, 0, 0, 0, 0, 0, 0];
+    let scene = Scene {
+        before: &[
+            (Move::TryCommit(Task::Write(0, 5)), Answer::Committed(0)),
+            (Move::Attempt(Task::AddOne), Answer::Done),
+            (Move::Settle, Answer::Committed(1)),
+            (Move::Peek(0), Answer::Value(6)),
+            (Move::Attempt(Task::NeedOne), Answer::Done),
+            (Move::Settle, Answer::Retried),
+            (Move::TryCommit(Task::Write(2, 1)), Answer::Committed(2)),
+            (Move::Attempt(Task::NeedOne), Answer::Done),
+            (Move::Settle, Answer::Saw(3, saw)),
+        ],
+        ..Scene::empty()
+    };
+    play(&rt, rt.alloc(), &scene)
 }

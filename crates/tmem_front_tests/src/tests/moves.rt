@@ -1,0 +1,170 @@
+//! The words of which scenes are made: what a thread does, and what it is answered.
+ghost use Rattle.std.specs.Prelude.{◌≡◌};
+
+use std::alloc::{AllocError, Global};
+use tmem_core::Settled;
+use tmem_disk::Fault;
+use tmem_tree::Tx;
+
+/// A transaction.
+#[derive(Clone, Copy)]
+pub(super) enum Task {
+    /// Puts a number in register 0, and writes it to a variable.
+    Write(u16, i64),
+    /// Adds 1 to variable 0.
+    AddOne,
+    /// Reads variable 2 into register 0, and retries until it is at least 1. Register 2 has it then.
+    NeedOne,
+}
+
+/// What a thread does next, mostly one call of the front by its pass.
+#[derive(Clone, Copy)]
+pub(super) enum Move {
+    /// `atomically`, `try_atomically`, and an attempt, which is kept until it is settled.
+    Commit(Task),
+    TryCommit(Task),
+    Attempt(Task),
+    Settle,
+    /// Writes 1 to variable 0 so often by `try_atomically`. Answers how often the number was the next one, from 0.
+    Fill(u64),
+    /// Commits `AddOne` so often by `try_atomically`, again after each conflict. Answers how often it did.
+    Add(u64),
+    Look,
+    Seen,
+    Vouch(u64),
+    Await(u64),
+    Peek(u16),
+    Flush,
+    FlushWithRoom,
+    /// A flusher whose pace has so many turns.
+    RunFlusher(u64),
+    Checkpoint,
+    Shut,
+    /// Takes a pass in place of the one in hand, which is dropped.
+    NewPass,
+    /// The same so often, until one is refused. Answers how many were given out.
+    NewPasses(u64),
+    /// Takes the other pass in hand, a new one at first.
+    OtherPass,
+    /// Lets so many milliseconds pass.
+    Sleep(u64),
+    /// The same. Answers whether the whole process used less than half of that as processor time.
+    Rest(u64),
+    /// The next syncs, or additions, are held until they are released.
+    HoldSyncs,
+    HoldSteps,
+    /// Waits until one is held, for ten seconds at the most.
+    AwaitHeld,
+    /// Releases it. `Late` where it was held for ten seconds.
+    Release,
+    /// Whether `NeedOne` was evaluated so often at the most.
+    NeedsAtMost(u64),
+}
+
+/// What a move is answered.
+#[derive(Clone, Copy, Debug, PartialEq)]
+pub(super) enum Answer {
+    Done,
+    Refused(Fault),
+    Committed(u64),
+    /// Changes nothing: how many were accepted before it, and its registers.
+    Saw(u64, [i64; 16]),
+    Retried,
+    Aborted(u16),
+    Broken,
+    Number(u64),
+    Value(i64),
+    Holds(bool),
+    /// Nothing that could be asked for: a vouch for a number that the pass did not see, a settle with no attempt.
+    Nothing,
+    /// What was waited for did not come in time.
+    Late,
+}
+
+/// A move, and what it has to be answered.
+pub(super) type Row = (Move, Answer);
+
+impl Task {
+    /// What a plan is made of.
+    pub(super) fn tx(&self, alloc: Global) -> Result<Tx, AllocError> {
+        match *self {
+            Task::Write(var, number) => write(alloc, var, number),
+            Task::AddOne => add_one(alloc),
+            Task::NeedOne => need_one(alloc),
+        }
+    }
+}
+
+fn write(alloc: Global, var: u16, number: i64) -> Result<Tx, AllocError> {
+    Ok(Tx::Seq(vec![in alloc; Tx::Put { reg: 0, number }, Tx::Write { var, reg: 0 }]?))
+}
+
+fn add_one(alloc: Global) -> Result<Tx, AllocError> {
+    let args = vec![in alloc; 0, 1]?;
+    let step = Tx::Step {
+        index: 0,
+        args,
+        out: 0,
+    };
+    Ok(Tx::Seq(vec![in alloc;
+        Tx::Read { var: 0, reg: 0 },
+        Tx::Put { reg: 1, number: 1 },
+        step,
+        Tx::Write { var: 0, reg: 0 },
+    ]?))
+}
+
+fn need_one(alloc: Global) -> Result<Tx, AllocError> {
+    let args = vec![in alloc; 0, 1]?;
+    let step = Tx::Step {
+        index: 1,
+        args,
+        out: 2,
+    };
+    Ok(Tx::Seq(vec![in alloc;
+        Tx::Read { var: 2, reg: 0 },
+        Tx::Put { reg: 1, number: 1 },
+        step,
+    ]?))
+}
+
+impl Answer {
+    /// The answer to a transaction.
+    pub(super) fn to(settled: Result<Settled, Fault>) -> Answer {
+        match settled {
+            Ok(settled) => Answer::settled(&settled),
+            Err(fault) => Answer::Refused(fault),
+        }
+    }
+
+    fn settled(settled: &Settled) -> Answer {
+        match settled {
+            Settled::Committed { number, .. } => Answer::Committed(*number),
+            Settled::Seen { at, registers } => Answer::Saw(*at, *registers),
+            Settled::Retry => Answer::Retried,
+            Settled::Aborted(code) => Answer::Aborted(*code),
+            Settled::Refused(_) => Answer::Broken,
+        }
+    }
+
+    /// The answer to a call that answers how many there are.
+    pub(super) fn number(counted: Result<u64, Fault>) -> Answer {
+        match counted {
+            Ok(number) => Answer::Number(number),
+            Err(fault) => Answer::Refused(fault),
+        }
+    }
+
+    /// The answer to a call that only ends.
+    pub(super) fn done(ended: Result<(), Fault>) -> Answer {
+        match ended {
+            Ok(()) => Answer::Done,
+            Err(fault) => Answer::Refused(fault),
+        }
+    }
+
+    /// The answer to what comes in time or does not.
+    pub(super) fn in_time(came: bool) -> Answer {
+        if came { Answer::Done } else { Answer::Late }
+    }
+}

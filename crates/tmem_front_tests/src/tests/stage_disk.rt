@@ -1,0 +1,44 @@
+//! A device whose syncs take a while, or are held.
+ghost use Rattle.std.specs.Prelude.{◌≡◌};
+
+use super::signals::Signals;
+use std::rt::Clock;
+use std::thread;
+use std::time::Duration;
+use tmem_disk::{DeviceFault, Disk};
+
+/// A device round another.
+#[derive(Drop)]
+pub(super) struct StageDisk<'a, D: Disk, R: Clock> {
+    pub(super) inner: D,
+    pub(super) rt: &'a R,
+    pub(super) signals: &'a Signals,
+    /// How many milliseconds a sync takes at the least.
+    pub(super) sync_millis: u64,
+}
+
+impl<'a, D: Disk, R: Clock> Disk for StageDisk<'a, D, R> {
+    ghost view = { λ d. D.view d.inner };
+
+    ghost is_device = { λ d. D.is_device d.inner };
+
+    fn size(&self) -> u64 {
+        self.inner.size()
+    }
+
+    fn read(&mut self, at: u64, into: &mut [u8]) -> Result<(), DeviceFault> {
+        self.inner.read(at, into)
+    }
+
+    fn write_at(&mut self, at: u64, bytes: &[u8]) -> Result<(), DeviceFault> {
+        self.inner.write_at(at, bytes)
+    }
+
+    fn sync(&mut self) -> Result<(), DeviceFault> {
+        if self.sync_millis > 0 {
+            thread::sleep(self.rt, Duration::from_millis(self.sync_millis));
+        }
+        self.signals.meet_sync(self.rt);
+        self.inner.sync()
+    }
+}

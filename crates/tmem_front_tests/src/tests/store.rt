@@ -1,0 +1,309 @@
+//! A front that the threads of a scene share, and how each move is played on it.
+ghost use Rattle.std.specs.Prelude.{◌≡◌, ◌<◌, length};
+ghost use Rattle.tmem_tentative.specs.Fits.{IsForVariables, IsForNames};
+
+use super::moves::{Answer, Move, Task};
+use super::signals::Signals;
+use std::alloc::Global;
+use std::marker::PhantomData;
+use std::rt::Clock;
+use std::sync::Wait;
+use std::time::{CpuClock, Duration};
+use std::{mem, thread};
+use tmem_disk::{Disk, Fault};
+use tmem_front::{Front, Pace, Pass, StoreNaming};
+use tmem_invariants::Invariants;
+use tmem_tentative::Attempt;
+use tmem_tree::{StoredSteps, Tx};
+
+/// How often an addition is made at the most.
+const MOST_ATTEMPTS: u64 = 1_000_000;
+
+/// The front, in the hands of one thread.
+#[derive(Drop)]
+pub(super) struct Store<'a, D: Disk, N: StoreNaming, T: Invariants, S: StoredSteps> {
+    pub(super) front: &'a Front<D, N, T, S>,
+}
+
+/// What all threads of a scene are given.
+#[derive(Drop)]
+pub(super) struct Stage<'a, R> {
+    pub(super) rt: &'a R,
+    pub(super) alloc: Global,
+    pub(super) signals: &'a Signals,
+}
+
+/// What one thread has in hand.
+#[derive(Drop)]
+pub(super) struct Hands<N: StoreNaming> {
+    pass: Pass<N>,
+    other: Option<Pass<N>>,
+    kept: Option<Kept<N>>,
+}
+
+/// An attempt at a plan of the front.
+#[derive(Drop)]
+struct Kept<N: StoreNaming> {
+    attempt: Attempt,
+    of: PhantomData<N>,
+
+    ghost variables: { IsForVariables (length N.opening.values) attempt },
+    ghost names: { IsForNames N.program.names attempt },
+}
+
+/// A pace of so many turns.
+#[derive(Drop)]
+struct Turns {
+    left: u64,
+}
+
+impl Pace for Turns {
+    fn next(&mut self) -> bool {
+        let is_one_left = self.left > 0;
+        self.left = self.left.saturating_sub(1);
+        is_one_left
+    }
+}
+
+impl<D: Disk + Drop, N: StoreNaming, T: Invariants + Drop, S: StoredSteps + Drop> Store<
+    '_,
+    D,
+    N,
+    T,
+    S,
+> {
+    /// The hands of a thread, with a pass.
+    pub(super) fn hands<R: Wait>(&self, stage: &Stage<R>) -> Result<Hands<N>, Fault> {
+        Ok(Hands {
+            pass: self.front.pass(stage.rt)?,
+            other: None,
+            kept: None,
+        })
+    }
+
+    /// Plays a move.
+    pub(super) fn answer<R: Clock + CpuClock + Wait>(
+        &self,
+        stage: &Stage<R>,
+        hands: &mut Hands<N>,
+        step: Move,
+    ) -> Answer {
+        match step {
+            Move::Commit(task) => self.commit(stage, &mut hands.pass, task),
+            Move::TryCommit(task) => self.try_commit(stage, &mut hands.pass, task),
+            Move::Attempt(task) => self.attempt(stage, hands, task),
+            Move::Settle => self.settle(stage, hands),
+            Move::Fill(times) => self.fill(stage, &mut hands.pass, times),
+            Move::Add(times) => self.add(stage, &mut hands.pass, times),
+            Move::NewPass => self.new_pass(stage, hands),
+            Move::NewPasses(times) => self.new_passes(stage, times),
+            Move::OtherPass => self.other_pass(stage, hands),
+            Move::Look => Answer::Number(self.front.look(&mut hands.pass)),
+            Move::Seen => Answer::Number(hands.pass.seen()),
+            Move::Vouch(number) => self.vouch(stage, &mut hands.pass, number),
+            Move::Await(number) => self.await_durable(stage, &mut hands.pass, number),
+            other => self.answer_alone(stage, other),
+        }
+    }
+
+    // Plays a move that needs no hands.
+    fn answer_alone<R: Clock + CpuClock + Wait>(&self, stage: &Stage<R>, step: Move) -> Answer {
+        match step {
+            Move::Peek(var) => self.peek(stage, var),
+            Move::Flush => Answer::number(self.front.flush_once(stage.rt)),
+            Move::FlushWithRoom => Answer::number(self.front.flush_with_room(stage.rt)),
+            Move::RunFlusher(left) => self.run_flusher(stage, left),
+            Move::Checkpoint => Answer::done(self.front.checkpoint(stage.rt)),
+            Move::Shut => self.shut(stage),
+            other => stage.answer(other),
+        }
+    }
+
+    // Commits a task by `atomically`.
+    fn commit<R: Wait>(&self, stage: &Stage<R>, pass: &mut Pass<N>, task: Task) -> Answer {
+        let Ok(tx) = task.tx(stage.alloc) else {
+            return Answer::Refused(Fault::Memory);
+        };
+        match self.front.plan(tx) {
+            Ok(plan) => Answer::to(self.front.atomically(stage.rt, pass, &plan)),
+            Err(fault) => Answer::Refused(fault),
+        }
+    }
+
+    // Commits a task by `try_atomically`.
+    fn try_commit<R: Wait>(&self, stage: &Stage<R>, pass: &mut Pass<N>, task: Task) -> Answer {
+        let Ok(tx) = task.tx(stage.alloc) else {
+            return Answer::Refused(Fault::Memory);
+        };
+        match self.front.plan(tx) {
+            Ok(plan) => Answer::to(self.front.try_atomically(stage.rt, pass, &plan)),
+            Err(fault) => Answer::Refused(fault),
+        }
+    }
+
+    // Keeps an attempt at a task.
+    fn attempt<R: Wait>(&self, stage: &Stage<R>, hands: &mut Hands<N>, task: Task) -> Answer {
+        match self.made(stage, task) {
+            Ok(kept) => {
+                hands.kept = Some(kept);
+                Answer::Done
+            }
+            Err(fault) => Answer::Refused(fault),
+        }
+    }
+
+    fn made<R: Wait>(&self, stage: &Stage<R>, task: Task) -> Result<Kept<N>, Fault> {
+        let plan = self.front.plan(task.tx(stage.alloc)?)?;
+        Ok(Kept {
+            attempt: self.front.attempt(stage.rt, &plan)?,
+            of: PhantomData,
+        })
+    }
+
+    // Settles the attempt that is kept.
+    fn settle<R: Wait>(&self, stage: &Stage<R>, hands: &mut Hands<N>) -> Answer {
+        match &hands.kept {
+            Some(kept) => {
+                Answer::to(self.front.settle(stage.rt, &mut hands.pass, &kept.attempt))
+            }
+            None => Answer::Nothing,
+        }
+    }
+
+    // How often a commit has the next number, from 0.
+    fn fill<R: Wait>(&self, stage: &Stage<R>, pass: &mut Pass<N>, times: u64) -> Answer {
+        let mut in_order = 0u64;
+        for turn in 0..times {
+            if self.try_commit(stage, pass, Task::Write(0, 1)) == Answer::Committed(turn) {
+                in_order = in_order.saturating_add(1);
+            }
+        }
+        Answer::Number(in_order)
+    }
+
+    // How often an addition commits, which is made again after each conflict.
+    fn add<R: Wait>(&self, stage: &Stage<R>, pass: &mut Pass<N>, times: u64) -> Answer {
+        let mut committed = 0u64;
+        for _ in 0..MOST_ATTEMPTS {
+            if committed == times {
+                break;
+            }
+            match self.try_commit(stage, pass, Task::AddOne) {
+                Answer::Committed(_) => committed = committed.saturating_add(1),
+                Answer::Refused(Fault::Conflict) => {}
+                other => return other,
+            }
+        }
+        Answer::Number(committed)
+    }
+
+    fn new_pass<R: Wait>(&self, stage: &Stage<R>, hands: &mut Hands<N>) -> Answer {
+        match self.front.pass(stage.rt) {
+            Ok(pass) => {
+                hands.pass = pass;
+                Answer::Done
+            }
+            Err(fault) => Answer::Refused(fault),
+        }
+    }
+
+    // How many passes are given out, each dropped at once.
+    fn new_passes<R: Wait>(&self, stage: &Stage<R>, times: u64) -> Answer {
+        let mut given = 0u64;
+        for _ in 0..times {
+            if self.gives_pass(stage) {
+                given = given.saturating_add(1);
+            }
+        }
+        Answer::Number(given)
+    }
+
+    fn gives_pass<R: Wait>(&self, stage: &Stage<R>) -> bool {
+        self.front.pass(stage.rt).is_ok()
+    }
+
+    fn other_pass<R: Wait>(&self, stage: &Stage<R>, hands: &mut Hands<N>) -> Answer {
+        let other = match hands.other.take() {
+            Some(other) => Ok(other),
+            None => self.front.pass(stage.rt),
+        };
+        match other {
+            Ok(other) => {
+                hands.other = Some(mem::replace(&mut hands.pass, other));
+                Answer::Done
+            }
+            Err(fault) => Answer::Refused(fault),
+        }
+    }
+
+    // Only a number that the pass saw is vouched for.
+    fn vouch<R: Wait>(&self, stage: &Stage<R>, pass: &mut Pass<N>, number: u64) -> Answer {
+        if number < pass.seen() {
+            Answer::Number(self.front.vouch(stage.rt, pass, number))
+        } else {
+            Answer::Nothing
+        }
+    }
+
+    fn await_durable<R: Wait>(&self, stage: &Stage<R>, pass: &mut Pass<N>, number: u64) -> Answer {
+        Answer::done(self.front.await_durable(stage.rt, pass, number))
+    }
+
+    // The value of a variable, if a plan may read it.
+    #[tactic(auto, using(crate::proofs::Reading::is_there))]
+    fn peek<R: Wait>(&self, stage: &Stage<R>, var: u16) -> Answer {
+        match self.front.plan(Tx::Read { var, reg: 0 }) {
+            Ok(_plan) => Answer::Value(self.front.peek(stage.rt, var)),
+            Err(fault) => Answer::Refused(fault),
+        }
+    }
+
+    fn run_flusher<R: Wait>(&self, stage: &Stage<R>, left: u64) -> Answer {
+        Answer::done(self.front.run_flusher(stage.rt, &mut Turns { left }))
+    }
+
+    /// Shuts the front.
+    pub(super) fn shut<R: Wait>(&self, stage: &Stage<R>) -> Answer {
+        self.front.shut(stage.rt);
+        Answer::Done
+    }
+}
+
+impl<'a, R: Clock + CpuClock> Stage<'a, R> {
+    // Plays a move that needs no front.
+    fn answer(&self, step: Move) -> Answer {
+        match step {
+            Move::Sleep(millis) => self.sleep(millis),
+            Move::Rest(millis) => self.rest(millis),
+            Move::HoldSyncs => {
+                self.signals.hold_syncs();
+                Answer::Done
+            }
+            Move::HoldSteps => {
+                self.signals.hold_steps();
+                Answer::Done
+            }
+            Move::AwaitHeld => Answer::in_time(self.signals.await_held(self.rt)),
+            Move::Release => Answer::in_time(self.signals.release()),
+            Move::NeedsAtMost(most) => Answer::Holds(self.signals.needs() <= most),
+            _ => Answer::Nothing,
+        }
+    }
+
+    fn sleep(&self, millis: u64) -> Answer {
+        thread::sleep(self.rt, Duration::from_millis(millis));
+        Answer::Done
+    }
+
+    // Whether the process rests as well.
+    fn rest(&self, millis: u64) -> Answer {
+        let Ok(before) = self.rt.process_cpu_time() else {
+            return Answer::Nothing;
+        };
+        thread::sleep(self.rt, Duration::from_millis(millis));
+        let Ok(after) = self.rt.process_cpu_time() else {
+            return Answer::Nothing;
+        };
+        Answer::Holds(after.saturating_sub(before) < Duration::from_millis(millis / 2))
+    }
+}

@@ -1,0 +1,144 @@
+//! Each thread that waits is woken, and rests until then.
+use super::moves::{Answer, Move, Row, Task};
+use super::scenes::{Scene, play};
+use std::test::Fail;
+use tmem_disk::Fault;
+
+const CLOSED: Answer = Answer::Refused(Fault::Closed);
+
+/// The registers of what waited for a 1.
+const ONE: [i64; 16] = [1, 1, 1, 0, 0, 0, 0, 0, 0, 0, 0, 0, 0, 0, 0, 0];
+
+/// What wakes three threads that wait by the same move.
+fn three<'a>(waits: &'a [Row], wakes: &'a [Row]) -> Scene<'a> {
+    Scene {
+        threads: [waits, waits, waits, wakes],
+        ..Scene::empty()
+    }
+}
+
+#[test]
+fn a_flush_wakes_each_thread_that_awaits_it(rt: HostRuntime) -> Result<(), Fail> {
+    let waits = [(Move::Await(0), Answer::Done)];
+    let wakes = [
+        (Move::Sleep(50), Answer::Done),
+        (Move::TryCommit(Task::Write(0, 1)), Answer::Committed(0)),
+        (Move::Sleep(50), Answer::Done),
+        (Move::Flush, Answer::Number(1)),
+    ];
+    play(&rt, rt.alloc(), &three(&waits, &wakes))
+}
+
+#[test]
+fn a_shut_wakes_each_thread_that_awaits_a_flush(rt: HostRuntime) -> Result<(), Fail> {
+    let waits = [(Move::Await(0), CLOSED)];
+    let wakes = [(Move::Sleep(50), Answer::Done), (Move::Shut, Answer::Done)];
+    play(&rt, rt.alloc(), &three(&waits, &wakes))
+}
+
+#[test]
+fn a_shut_wakes_each_thread_that_retries(rt: HostRuntime) -> Result<(), Fail> {
+    let waits = [(Move::Commit(Task::NeedOne), CLOSED)];
+    let wakes = [(Move::Sleep(50), Answer::Done), (Move::Shut, Answer::Done)];
+    play(&rt, rt.alloc(), &three(&waits, &wakes))
+}
+
+#[test]
+fn a_shut_wakes_each_flusher(rt: HostRuntime) -> Result<(), Fail> {
+    let waits = [(Move::RunFlusher(1), Answer::Done)];
+    let wakes = [(Move::Sleep(50), Answer::Done), (Move::Shut, Answer::Done)];
+    play(&rt, rt.alloc(), &three(&waits, &wakes))
+}
+
+#[test]
+fn a_commit_wakes_each_thread_that_retries(rt: HostRuntime) -> Result<(), Fail> {
+    let waits = [(Move::Commit(Task::NeedOne), Answer::Saw(1, ONE))];
+    let wakes = [
+        (Move::Sleep(50), Answer::Done),
+        (Move::TryCommit(Task::Write(2, 1)), Answer::Committed(0)),
+    ];
+    play(&rt, rt.alloc(), &three(&waits, &wakes))
+}
+
+#[test]
+fn a_settle_wakes_each_thread_that_retries(rt: HostRuntime) -> Result<(), Fail> {
+    let waits = [(Move::Commit(Task::NeedOne), Answer::Saw(1, ONE))];
+    let wakes = [
+        (Move::Sleep(50), Answer::Done),
+        (Move::Attempt(Task::Write(2, 1)), Answer::Done),
+        (Move::Settle, Answer::Committed(0)),
+    ];
+    play(&rt, rt.alloc(), &three(&waits, &wakes))
+}
+
+#[test]
+fn a_commit_wakes_each_thread_that_waits_for_one(rt: HostRuntime) -> Result<(), Fail> {
+    let scene = Scene {
+        before: &[
+            (Move::TryCommit(Task::Write(0, 1)), Answer::Committed(0)),
+            (Move::Flush, Answer::Number(1)),
+        ],
+        threads: [
+            &[(Move::Commit(Task::NeedOne), Answer::Saw(2, ONE))],
+            &[(Move::RunFlusher(1), Answer::Done)],
+            &[],
+            &[
+                (Move::Sleep(50), Answer::Done),
+                (Move::TryCommit(Task::Write(2, 1)), Answer::Committed(1)),
+            ],
+        ],
+        // it is evaluated once after that, and once before at the most
+        after: &[
+            (Move::Look, Answer::Number(2)),
+            (Move::NeedsAtMost(2), Answer::Holds(true)),
+        ],
+        ..Scene::empty()
+    };
+    play(&rt, rt.alloc(), &scene)
+}
+
+#[test]
+fn a_commit_of_atomically_wakes_each_thread_that_waits_for_one(
+    rt: HostRuntime,
+) -> Result<(), Fail> {
+    let scene = Scene {
+        before: &[
+            (Move::TryCommit(Task::Write(0, 1)), Answer::Committed(0)),
+            (Move::Flush, Answer::Number(1)),
+        ],
+        threads: [
+            &[(Move::Commit(Task::NeedOne), Answer::Saw(2, ONE))],
+            &[(Move::RunFlusher(1), Answer::Done)],
+            &[],
+            &[
+                (Move::Sleep(50), Answer::Done),
+                (Move::Commit(Task::Write(2, 1)), Answer::Committed(1)),
+            ],
+        ],
+        // it is evaluated once after that, and once before at the most
+        after: &[
+            (Move::Look, Answer::Number(2)),
+            (Move::NeedsAtMost(2), Answer::Holds(true)),
+        ],
+        ..Scene::empty()
+    };
+    play(&rt, rt.alloc(), &scene)
+}
+
+#[test]
+fn threads_that_wait_take_no_time(rt: HostRuntime) -> Result<(), Fail> {
+    let scene = Scene {
+        threads: [
+            &[(Move::Await(0), CLOSED)],
+            &[(Move::Commit(Task::NeedOne), CLOSED)],
+            &[(Move::RunFlusher(1), Answer::Done)],
+            &[
+                (Move::Sleep(50), Answer::Done),
+                (Move::Rest(400), Answer::Holds(true)),
+                (Move::Shut, Answer::Done),
+            ],
+        ],
+        ..Scene::empty()
+    };
+    play(&rt, rt.alloc(), &scene)
+}
