@@ -4,31 +4,31 @@ use super::scenes::{Device, Failing, SOUND, Scene, play};
 use std::test::Fail;
 use tmem_disk::Fault;
 
+const CLOSED: Answer = Answer::Refused(Fault::Closed);
+
 const WRITE: Task = Task::Write(0, 1);
 
 #[test]
 fn each_wait_ends_once_the_front_is_shut(rt: HostRuntime) -> Result<(), Fail> {
-    let closed = Answer::Refused(Fault::Closed);
     let scene = Scene {
         threads: [
-            &[(Move::Await(0), closed)],
-            &[(Move::Commit(Task::NeedOne), closed)],
+            &[(Move::Await(0), CLOSED)],
+            &[(Move::Commit(Task::NeedOne), CLOSED)],
             &[(Move::RunFlusher(1), Answer::Done)],
             &[(Move::Sleep(50), Answer::Done), (Move::Shut, Answer::Done)],
         ],
         ..Scene::empty()
     };
-    Ok(play(&rt, rt.alloc(), &scene)?)
+    play(&rt, rt.alloc(), &scene)
 }
 
 #[test]
 fn what_is_durable_is_awaited_though_the_front_is_shut_then(rt: HostRuntime) -> Result<(), Fail> {
-    let closed = Answer::Refused(Fault::Closed);
     let scene = Scene {
         threads: [
             &[(Move::Await(0), Answer::Done)],
-            &[(Move::Commit(Task::NeedOne), closed)],
-            &[(Move::Commit(Task::NeedOne), closed)],
+            &[(Move::Commit(Task::NeedOne), CLOSED)],
+            &[(Move::Commit(Task::NeedOne), CLOSED)],
             &[
                 (Move::Sleep(50), Answer::Done),
                 (Move::TryCommit(WRITE), Answer::Committed(0)),
@@ -40,21 +40,20 @@ fn what_is_durable_is_awaited_though_the_front_is_shut_then(rt: HostRuntime) -> 
         ],
         ..Scene::empty()
     };
-    Ok(play(&rt, rt.alloc(), &scene)?)
+    play(&rt, rt.alloc(), &scene)
 }
 
 #[test]
 fn each_wait_ends_once_the_device_has_failed(rt: HostRuntime) -> Result<(), Fail> {
-    let closed = Answer::Refused(Fault::Closed);
     let scene = Scene {
         device: Device {
             failing: Failing::Sync(2),
             ..SOUND
         },
         threads: [
-            &[(Move::Await(0), closed)],
-            &[(Move::Commit(Task::NeedOne), closed)],
-            &[(Move::Commit(Task::NeedOne), closed)],
+            &[(Move::Await(0), CLOSED)],
+            &[(Move::Commit(Task::NeedOne), CLOSED)],
+            &[(Move::Commit(Task::NeedOne), CLOSED)],
             &[
                 (Move::Sleep(50), Answer::Done),
                 (Move::TryCommit(WRITE), Answer::Committed(0)),
@@ -64,12 +63,11 @@ fn each_wait_ends_once_the_device_has_failed(rt: HostRuntime) -> Result<(), Fail
         ],
         ..Scene::empty()
     };
-    Ok(play(&rt, rt.alloc(), &scene)?)
+    play(&rt, rt.alloc(), &scene)
 }
 
 #[test]
 fn each_wait_ends_once_a_checkpoint_has_failed(rt: HostRuntime) -> Result<(), Fail> {
-    let closed = Answer::Refused(Fault::Closed);
     let scene = Scene {
         device: Device {
             // a flush makes two writes, so it is the first one of the checkpoint
@@ -81,25 +79,24 @@ fn each_wait_ends_once_a_checkpoint_has_failed(rt: HostRuntime) -> Result<(), Fa
             (Move::Flush, Answer::Number(1)),
         ],
         threads: [
-            &[(Move::Await(1), closed)],
-            &[(Move::Commit(Task::NeedOne), closed)],
+            &[(Move::Await(1), CLOSED)],
+            &[(Move::Commit(Task::NeedOne), CLOSED)],
             &[(Move::RunFlusher(1), Answer::Done)],
             &[
                 (Move::Sleep(50), Answer::Done),
                 (Move::Attempt(WRITE), Answer::Done),
                 (Move::Checkpoint, Answer::Refused(Fault::Device)),
-                (Move::Settle, closed),
+                (Move::Settle, CLOSED),
             ],
         ],
-        after: &[(Move::Await(0), Answer::Done), (Move::Flush, closed)],
+        after: &[(Move::Await(0), Answer::Done), (Move::Flush, CLOSED)],
         ..Scene::empty()
     };
-    Ok(play(&rt, rt.alloc(), &scene)?)
+    play(&rt, rt.alloc(), &scene)
 }
 
 #[test]
 fn what_waits_is_awaited_no_more_once_a_checkpoint_has_failed(rt: HostRuntime) -> Result<(), Fail> {
-    let closed = Answer::Refused(Fault::Closed);
     let scene = Scene {
         device: Device {
             failing: Failing::Write(2),
@@ -111,16 +108,16 @@ fn what_waits_is_awaited_no_more_once_a_checkpoint_has_failed(rt: HostRuntime) -
             (Move::TryCommit(WRITE), Answer::Committed(1)),
         ],
         threads: [
-            &[(Move::Await(1), closed)],
-            &[(Move::Await(1), closed)],
-            &[(Move::Await(2), closed)],
+            &[(Move::Await(1), CLOSED)],
+            &[(Move::Await(1), CLOSED)],
+            &[(Move::Await(2), CLOSED)],
             &[
                 (Move::Sleep(50), Answer::Done),
                 (Move::Checkpoint, Answer::Refused(Fault::Device)),
             ],
         ],
-        after: &[(Move::RunFlusher(1), closed)],
+        after: &[(Move::RunFlusher(1), CLOSED)],
         ..Scene::empty()
     };
-    Ok(play(&rt, rt.alloc(), &scene)?)
+    play(&rt, rt.alloc(), &scene)
 }

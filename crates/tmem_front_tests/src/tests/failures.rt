@@ -4,11 +4,12 @@ use super::scenes::{Device, Failing, SOUND, Scene, play};
 use std::test::Fail;
 use tmem_disk::Fault;
 
+const CLOSED: Answer = Answer::Refused(Fault::Closed);
+
 const WRITE: Task = Task::Write(0, 1);
 
 #[test]
 fn a_failed_sync_shuts_the_front(rt: HostRuntime) -> Result<(), Fail> {
-    let closed = Answer::Refused(Fault::Closed);
     let scene = Scene {
         device: Device {
             failing: Failing::Sync(2),
@@ -18,12 +19,12 @@ fn a_failed_sync_shuts_the_front(rt: HostRuntime) -> Result<(), Fail> {
             &[
                 (Move::TryCommit(WRITE), Answer::Committed(0)),
                 (Move::Flush, Answer::Refused(Fault::Unknown)),
-                (Move::TryCommit(WRITE), closed),
-                (Move::Flush, closed),
-                (Move::Checkpoint, closed),
-                (Move::Await(0), closed),
-                (Move::RunFlusher(1), closed),
-                (Move::Commit(Task::NeedOne), closed),
+                (Move::TryCommit(WRITE), CLOSED),
+                (Move::Flush, CLOSED),
+                (Move::Checkpoint, CLOSED),
+                (Move::Await(0), CLOSED),
+                (Move::RunFlusher(1), CLOSED),
+                (Move::Commit(Task::NeedOne), CLOSED),
             ],
             &[],
             &[],
@@ -31,7 +32,7 @@ fn a_failed_sync_shuts_the_front(rt: HostRuntime) -> Result<(), Fail> {
         ],
         ..Scene::empty()
     };
-    Ok(play(&rt, rt.alloc(), &scene)?)
+    play(&rt, rt.alloc(), &scene)
 }
 
 #[test]
@@ -46,7 +47,7 @@ fn what_is_durable_is_awaited_and_no_more_once_the_front_is_shut(
                 (Move::TryCommit(WRITE), Answer::Committed(1)),
                 (Move::Await(0), Answer::Done),
                 (Move::Shut, Answer::Done),
-                (Move::Await(1), Answer::Refused(Fault::Closed)),
+                (Move::Await(1), CLOSED),
             ],
             &[],
             &[],
@@ -54,7 +55,7 @@ fn what_is_durable_is_awaited_and_no_more_once_the_front_is_shut(
         ],
         ..Scene::empty()
     };
-    Ok(play(&rt, rt.alloc(), &scene)?)
+    play(&rt, rt.alloc(), &scene)
 }
 
 #[test]
@@ -74,12 +75,11 @@ fn a_flush_with_nothing_waiting_writes_nothing(rt: HostRuntime) -> Result<(), Fa
         ],
         ..Scene::empty()
     };
-    Ok(play(&rt, rt.alloc(), &scene)?)
+    play(&rt, rt.alloc(), &scene)
 }
 
 #[test]
 fn a_failed_checkpoint_shuts_the_front(rt: HostRuntime) -> Result<(), Fail> {
-    let closed = Answer::Refused(Fault::Closed);
     let scene = Scene {
         device: Device {
             // it is the first one of the checkpoint
@@ -93,13 +93,13 @@ fn a_failed_checkpoint_shuts_the_front(rt: HostRuntime) -> Result<(), Fail> {
                 (Move::TryCommit(WRITE), Answer::Committed(1)),
                 (Move::Attempt(WRITE), Answer::Done),
                 (Move::Checkpoint, Answer::Refused(Fault::Device)),
-                (Move::Settle, closed),
-                (Move::TryCommit(WRITE), closed),
+                (Move::Settle, CLOSED),
+                (Move::TryCommit(WRITE), CLOSED),
                 (Move::Await(0), Answer::Done),
-                (Move::Await(1), closed),
-                (Move::Flush, closed),
-                (Move::RunFlusher(1), closed),
-                (Move::Commit(Task::NeedOne), closed),
+                (Move::Await(1), CLOSED),
+                (Move::Flush, CLOSED),
+                (Move::RunFlusher(1), CLOSED),
+                (Move::Commit(Task::NeedOne), CLOSED),
             ],
             &[],
             &[],
@@ -107,5 +107,5 @@ fn a_failed_checkpoint_shuts_the_front(rt: HostRuntime) -> Result<(), Fail> {
         ],
         ..Scene::empty()
     };
-    Ok(play(&rt, rt.alloc(), &scene)?)
+    play(&rt, rt.alloc(), &scene)
 }

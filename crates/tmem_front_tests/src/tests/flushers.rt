@@ -16,7 +16,7 @@ fn a_flusher_ends_with_its_pace(rt: HostRuntime) -> Result<(), Fail> {
         ],
         ..Scene::empty()
     };
-    Ok(play(&rt, rt.alloc(), &scene)?)
+    play(&rt, rt.alloc(), &scene)
 }
 
 #[test]
@@ -30,7 +30,7 @@ fn a_flusher_makes_durable_what_waits_before_it_ends(rt: HostRuntime) -> Result<
         ],
         ..Scene::empty()
     };
-    Ok(play(&rt, rt.alloc(), &scene)?)
+    play(&rt, rt.alloc(), &scene)
 }
 
 #[test]
@@ -47,7 +47,7 @@ fn room_is_made_in_a_full_log(rt: HostRuntime) -> Result<(), Fail> {
         ],
         ..Scene::empty()
     };
-    Ok(play(&rt, rt.alloc(), &scene)?)
+    play(&rt, rt.alloc(), &scene)
 }
 
 #[test]
@@ -65,7 +65,7 @@ fn a_flusher_flushes_again_once_there_is_room(rt: HostRuntime) -> Result<(), Fai
         ],
         ..Scene::empty()
     };
-    Ok(play(&rt, rt.alloc(), &scene)?)
+    play(&rt, rt.alloc(), &scene)
 }
 
 #[test]
@@ -88,7 +88,7 @@ fn a_flusher_is_refused_as_its_checkpoint_is(rt: HostRuntime) -> Result<(), Fail
         ],
         ..Scene::empty()
     };
-    Ok(play(&rt, rt.alloc(), &scene)?)
+    play(&rt, rt.alloc(), &scene)
 }
 
 #[test]
@@ -125,5 +125,5 @@ fn a_wait_for_a_flush_waits_and_a_flusher_makes_room(rt: HostRuntime) -> Result<
         ],
         ..Scene::empty()
     };
-    Ok(play(&rt, rt.alloc(), &scene)?)
+    play(&rt, rt.alloc(), &scene)
 }

@@ -4,6 +4,8 @@ use super::scenes::{Scene, play};
 use std::test::Fail;
 use tmem_disk::Fault;
 
+const FULL: Answer = Answer::Refused(Fault::Full);
+
 const WRITE: Task = Task::Write(0, 1);
 
 #[test]
@@ -23,7 +25,7 @@ fn a_look_is_fresh_and_a_flush_writes(rt: HostRuntime) -> Result<(), Fail> {
         ],
         ..Scene::empty()
     };
-    Ok(play(&rt, rt.alloc(), &scene)?)
+    play(&rt, rt.alloc(), &scene)
 }
 
 #[test]
@@ -42,7 +44,7 @@ fn a_vouch_asks_the_journal(rt: HostRuntime) -> Result<(), Fail> {
         ],
         ..Scene::empty()
     };
-    Ok(play(&rt, rt.alloc(), &scene)?)
+    play(&rt, rt.alloc(), &scene)
 }
 
 #[test]
@@ -56,7 +58,7 @@ fn a_dropped_pass_is_not_given_out_again(rt: HostRuntime) -> Result<(), Fail> {
         ],
         ..Scene::empty()
     };
-    Ok(play(&rt, rt.alloc(), &scene)?)
+    play(&rt, rt.alloc(), &scene)
 }
 
 #[test]
@@ -64,30 +66,29 @@ fn a_full_front_takes_more_once_a_batch_is_durable(rt: HostRuntime) -> Result<()
     let scene = Scene {
         before: &[
             (Move::Fill(256), Answer::Number(256)),
-            (Move::TryCommit(WRITE), Answer::Refused(Fault::Full)),
+            (Move::TryCommit(WRITE), FULL),
             (Move::Flush, Answer::Number(64)),
             (Move::Look, Answer::Number(64)),
             (Move::TryCommit(WRITE), Answer::Committed(256)),
         ],
         ..Scene::empty()
     };
-    Ok(play(&rt, rt.alloc(), &scene)?)
+    play(&rt, rt.alloc(), &scene)
 }
 
 #[test]
 fn a_full_front_refuses_each_call_at_once(rt: HostRuntime) -> Result<(), Fail> {
-    let full = Answer::Refused(Fault::Full);
     let scene = Scene {
         before: &[(Move::Fill(256), Answer::Number(256))],
         threads: [
-            &[(Move::Commit(WRITE), full)],
-            &[(Move::TryCommit(WRITE), full)],
-            &[(Move::Attempt(WRITE), Answer::Done), (Move::Settle, full)],
+            &[(Move::Commit(WRITE), FULL)],
+            &[(Move::TryCommit(WRITE), FULL)],
+            &[(Move::Attempt(WRITE), Answer::Done), (Move::Settle, FULL)],
             &[],
         ],
         ..Scene::empty()
     };
-    Ok(play(&rt, rt.alloc(), &scene)?)
+    play(&rt, rt.alloc(), &scene)
 }
 
 #[test]
@@ -107,7 +108,7 @@ fn a_late_attempt_is_refused(rt: HostRuntime) -> Result<(), Fail> {
         ],
         ..Scene::empty()
     };
-    Ok(play(&rt, rt.alloc(), &scene)?)
+    play(&rt, rt.alloc(), &scene)
 }
 
 #[test]
@@ -127,5 +128,5 @@ fn an_attempt_reads_the_values_that_are_there(rt: HostRuntime) -> Result<(), Fai
         ],
         ..Scene::empty()
     };
-    Ok(play(&rt, rt.alloc(), &scene)?)
+    play(&rt, rt.alloc(), &scene)
 }

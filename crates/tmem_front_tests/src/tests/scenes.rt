@@ -12,6 +12,7 @@ use std::alloc::Global;
 use std::marker::Brand;
 use std::rt::Clock;
 use std::sync::Wait;
+use std::test::Fail;
 use std::thread::{self, Threads, join};
 use std::time::{CpuClock, Duration};
 use tmem_disk::{Disk, Fault, SimDisk};
@@ -73,7 +74,7 @@ impl<'a> Scene<'a> {
 
 /// What went wrong first.
 #[derive(Clone, Copy, Debug)]
-pub(super) enum Wrong {
+enum Wrong {
     /// No store was made, or no pass given out.
     NotBegun(Fault),
     /// The move at this place of a part was answered like this.
@@ -88,7 +89,7 @@ pub(super) enum Wrong {
 
 /// A part of a scene.
 #[derive(Clone, Copy, Debug, PartialEq)]
-pub(super) enum Part {
+enum Part {
     Before,
     Thread(usize),
     After,
@@ -283,12 +284,12 @@ fn play_named<N: StoreNaming + Send + Sync, R: Clock + CpuClock + Threads + Wait
     play_in(stage, &opened.named::<N>(), scene)
 }
 
-/// Plays a scene in a new store. Refused by what went wrong first.
+/// Plays a scene in a new store. Fails with what went wrong first.
 pub(super) fn play<R: Clock + CpuClock + Threads + Wait + Sync>(
     rt: &R,
     alloc: Global,
     scene: &Scene,
-) -> Result<(), Wrong> {
+) -> Result<(), Fail> {
     let signals = Signals::new();
     let stage = Stage {
         rt,
@@ -300,7 +301,7 @@ pub(super) fn play<R: Clock + CpuClock + Threads + Wait + Sync>(
         Err(fault) => Some(Wrong::NotBegun(fault)),
     };
     match wrong {
-        Some(wrong) => Err(wrong),
+        Some(wrong) => Err(Fail::from(wrong)),
         None => Ok(()),
     }
 }

@@ -19,5 +19,5 @@ fn no_addition_of_four_threads_is_lost(rt: HostRuntime) -> Result<(), Fail> {
         ],
         ..Scene::empty()
     };
-    Ok(play(&rt, rt.alloc(), &scene)?)
+    play(&rt, rt.alloc(), &scene)
 }

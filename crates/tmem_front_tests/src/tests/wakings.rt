@@ -1,13 +1,10 @@
 //! Each thread that waits is woken, and rests until then.
 use super::moves::{Answer, Move, Row, Task};
-use super::scenes::{Scene, Wrong, play};
-use std::alloc::Global;
-use std::rt::Clock;
-use std::sync::Wait;
+use super::scenes::{Scene, play};
 use std::test::Fail;
-use std::thread::Threads;
-use std::time::CpuClock;
 use tmem_disk::Fault;
+
+const CLOSED: Answer = Answer::Refused(Fault::Closed);
 
 /// The registers of what waited for a 1.
 const ONE: [i64; 16] = [1, 1, 1, 0, 0, 0, 0, 0, 0, 0, 0, 0, 0, 0, 0, 0];
@@ -29,29 +26,28 @@ fn a_flush_wakes_each_thread_that_awaits_it(rt: HostRuntime) -> Result<(), Fail>
         (Move::Sleep(50), Answer::Done),
         (Move::Flush, Answer::Number(1)),
     ];
-    Ok(play(&rt, rt.alloc(), &three(&waits, &wakes))?)
+    play(&rt, rt.alloc(), &three(&waits, &wakes))
 }
 
 #[test]
 fn a_shut_wakes_each_thread_that_awaits_a_flush(rt: HostRuntime) -> Result<(), Fail> {
-    let waits = [(Move::Await(0), Answer::Refused(Fault::Closed))];
+    let waits = [(Move::Await(0), CLOSED)];
     let wakes = [(Move::Sleep(50), Answer::Done), (Move::Shut, Answer::Done)];
-    Ok(play(&rt, rt.alloc(), &three(&waits, &wakes))?)
+    play(&rt, rt.alloc(), &three(&waits, &wakes))
 }
 
 #[test]
 fn a_shut_wakes_each_thread_that_retries(rt: HostRuntime) -> Result<(), Fail> {
-    let closed = Answer::Refused(Fault::Closed);
-    let waits = [(Move::Commit(Task::NeedOne), closed)];
+    let waits = [(Move::Commit(Task::NeedOne), CLOSED)];
     let wakes = [(Move::Sleep(50), Answer::Done), (Move::Shut, Answer::Done)];
-    Ok(play(&rt, rt.alloc(), &three(&waits, &wakes))?)
+    play(&rt, rt.alloc(), &three(&waits, &wakes))
 }
 
 #[test]
 fn a_shut_wakes_each_flusher(rt: HostRuntime) -> Result<(), Fail> {
     let waits = [(Move::RunFlusher(1), Answer::Done)];
     let wakes = [(Move::Sleep(50), Answer::Done), (Move::Shut, Answer::Done)];
-    Ok(play(&rt, rt.alloc(), &three(&waits, &wakes))?)
+    play(&rt, rt.alloc(), &three(&waits, &wakes))
 }
 
 #[test]
@@ -61,7 +57,7 @@ fn a_commit_wakes_each_thread_that_retries(rt: HostRuntime) -> Result<(), Fail> 
         (Move::Sleep(50), Answer::Done),
         (Move::TryCommit(Task::Write(2, 1)), Answer::Committed(0)),
     ];
-    Ok(play(&rt, rt.alloc(), &three(&waits, &wakes))?)
+    play(&rt, rt.alloc(), &three(&waits, &wakes))
 }
 
 #[test]
@@ -72,15 +68,11 @@ fn a_settle_wakes_each_thread_that_retries(rt: HostRuntime) -> Result<(), Fail> 
         (Move::Attempt(Task::Write(2, 1)), Answer::Done),
         (Move::Settle, Answer::Committed(0)),
     ];
-    Ok(play(&rt, rt.alloc(), &three(&waits, &wakes))?)
+    play(&rt, rt.alloc(), &three(&waits, &wakes))
 }
 
-/// A thread that retries waits beside a flusher until another one commits by this move.
-fn wait_for<R: Clock + CpuClock + Threads + Wait + Sync>(
-    rt: &R,
-    alloc: Global,
-    commits: Move,
-) -> Result<(), Wrong> {
+#[test]
+fn a_commit_wakes_each_thread_that_waits_for_one(rt: HostRuntime) -> Result<(), Fail> {
     let scene = Scene {
         before: &[
             (Move::TryCommit(Task::Write(0, 1)), Answer::Committed(0)),
@@ -92,7 +84,7 @@ fn wait_for<R: Clock + CpuClock + Threads + Wait + Sync>(
             &[],
             &[
                 (Move::Sleep(50), Answer::Done),
-                (commits, Answer::Committed(1)),
+                (Move::TryCommit(Task::Write(2, 1)), Answer::Committed(1)),
             ],
         ],
         // it is evaluated once after that, and once before at the most
@@ -102,28 +94,43 @@ fn wait_for<R: Clock + CpuClock + Threads + Wait + Sync>(
         ],
         ..Scene::empty()
     };
-    play(rt, alloc, &scene)
-}
-
-#[test]
-fn a_commit_wakes_each_thread_that_waits_for_one(rt: HostRuntime) -> Result<(), Fail> {
-    Ok(wait_for(&rt, rt.alloc(), Move::TryCommit(Task::Write(2, 1)))?)
+    play(&rt, rt.alloc(), &scene)
 }
 
 #[test]
 fn a_commit_of_atomically_wakes_each_thread_that_waits_for_one(
     rt: HostRuntime,
 ) -> Result<(), Fail> {
-    Ok(wait_for(&rt, rt.alloc(), Move::Commit(Task::Write(2, 1)))?)
+    let scene = Scene {
+        before: &[
+            (Move::TryCommit(Task::Write(0, 1)), Answer::Committed(0)),
+            (Move::Flush, Answer::Number(1)),
+        ],
+        threads: [
+            &[(Move::Commit(Task::NeedOne), Answer::Saw(2, ONE))],
+            &[(Move::RunFlusher(1), Answer::Done)],
+            &[],
+            &[
+                (Move::Sleep(50), Answer::Done),
+                (Move::Commit(Task::Write(2, 1)), Answer::Committed(1)),
+            ],
+        ],
+        // it is evaluated once after that, and once before at the most
+        after: &[
+            (Move::Look, Answer::Number(2)),
+            (Move::NeedsAtMost(2), Answer::Holds(true)),
+        ],
+        ..Scene::empty()
+    };
+    play(&rt, rt.alloc(), &scene)
 }
 
 #[test]
 fn threads_that_wait_take_no_time(rt: HostRuntime) -> Result<(), Fail> {
-    let closed = Answer::Refused(Fault::Closed);
     let scene = Scene {
         threads: [
-            &[(Move::Await(0), closed)],
-            &[(Move::Commit(Task::NeedOne), closed)],
+            &[(Move::Await(0), CLOSED)],
+            &[(Move::Commit(Task::NeedOne), CLOSED)],
             &[(Move::RunFlusher(1), Answer::Done)],
             &[
                 (Move::Sleep(50), Answer::Done),
@@ -133,5 +140,5 @@ fn threads_that_wait_take_no_time(rt: HostRuntime) -> Result<(), Fail> {
         ],
         ..Scene::empty()
     };
-    Ok(play(&rt, rt.alloc(), &scene)?)
+    play(&rt, rt.alloc(), &scene)
 }
