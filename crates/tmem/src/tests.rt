@@ -3,8 +3,12 @@
 mod jobs;
 
 use std::alloc::{AllocError, Global};
+use std::fs::{File, Files};
 use std::io;
+use std::rt::Clock;
+use std::sync::Wait;
 use std::test::Fail;
+use std::thread::Threads;
 use tmem_cli::run_words;
 
 const FIRST: &str =
@@ -33,14 +37,22 @@ fn with_name(alloc: Global, words: &[&str]) -> Result<Vec<String>, AllocError> {
     Ok(all)
 }
 
+/// What the program ends with on these words and the first script. (No clause: the proof of a test would carry all of the program's.)
+fn status_of<R: Files<File = File> + AllocGlobal + Threads + Wait + Clock + Sync, E: io::Write>(
+    rt: &R,
+    words: Vec<String>,
+    err: &mut E,
+) -> u8 {
+    run_words(rt, words, &mut FIRST.as_bytes(), &mut Unflushed, err)
+}
+
 #[test]
 fn output_that_cannot_be_flushed_is_told(rt: HostRuntime) -> Result<(), Fail> {
     let table: [&[&str]; 3] = [&["run"], &["threads", "1", "1"], &["--help"]];
     for words in table {
         let all = with_name(rt.alloc(), words)?;
         let mut err = Vec::new(rt.alloc());
-        let status = run_words(&rt, all, &mut FIRST.as_bytes(), &mut Unflushed, &mut err);
-        assert_eq!(rt; status, 1, "{words:?}");
+        assert_eq!(rt; status_of(&rt, all, &mut err), 1, "{words:?}");
         assert!(rt;
             err.as_slice() == "tmem: output failed\n".as_bytes(),
             "{words:?}"
