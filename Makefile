@@ -1,9 +1,18 @@
 # The README's commands.
 
-# Plays the first script, on a device in memory, with a build that was not proved.
-run:
+# Plays a script, by default the first one, on a device in memory, or with DISK=PATH in a file. The build is not proved, and is kept
+# until a source changes.
+SCRIPT = examples/first.json
+UNPROVED = crates/tmem/out/unproved
+
+run: $(UNPROVED)
 	@echo "This build was not proved: make build proves the program."
-	@cd crates/tmem && mkdir -p out && { rt try -- run < ../../examples/first.json 2> out/try.log || { cat out/try.log; false; }; }
+	@$(UNPROVED) run "$(SCRIPT)" $(if $(DISK),--disk "$(DISK)")
+
+$(UNPROVED): crates.txt $(shell find crates -name '*.rt')
+	@echo "Building the program without a proof, which takes one to three minutes" >&2
+	@mkdir -p $(@D)
+	@.ci/unproved tmem $@
 
 # Proves the program and all that it stands on, and leaves it at crates/tmem/out/tmem.
 build:
