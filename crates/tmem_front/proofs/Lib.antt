@@ -6,6 +6,7 @@ mod Looks
 mod OpensStore
 mod Planned
 mod Refusals
+mod Room
 mod Seated
 mod Taken
 mod Written

@@ -1,5 +1,5 @@
 -- What a flush takes from the core, and what it makes durable.
-use Rattle.std.specs.Prelude.{◌≡◌, ◌⊎◌, ◌≤◌, ◌<◌, ◌^◌, ◌++◌, ℕ, List, length, drop, All}
+use Rattle.std.specs.Prelude.{◌≡◌, ◌≤◌, ◌<◌, ◌^◌, ◌++◌, ℕ, List, length, drop, All}
 use Rattle.tmem_disk.specs.declared.fault.Fault.{Fault}
 use Rattle.tmem_disk.specs.declared.fault.Fault.TheVariants as fault
 use Rattle.tmem_record.specs.Loggable.{IsLoggable}
@@ -44,6 +44,10 @@ IsCheckpointRefusal fault.Closed = Unit {0}
 IsCheckpointRefusal fault.Spent = Unit {0}
 IsCheckpointRefusal _ = ⊥
 
--- what a flusher ends with, where it was refused
+-- what a flush that makes room can be refused for: as a flush is, but for a full log, or as a checkpoint is
 abbrev pub IsFlusherRefusal : Fault → Type 0
-IsFlusherRefusal f = IsFlushRefusal f ⊎ IsCheckpointRefusal f
+IsFlusherRefusal fault.Device = Unit {0}
+IsFlusherRefusal fault.Unknown = Unit {0}
+IsFlusherRefusal fault.Closed = Unit {0}
+IsFlusherRefusal fault.Spent = Unit {0}
+IsFlusherRefusal _ = ⊥

@@ -1,7 +1,7 @@
 // The two locks, and the spine beside them.
 ghost use Rattle.std.specs.Prelude.{◌≡◌, ◌≤◌, ◌<◌, ◌↔◌, false, length, All, IsTrue, IfOk, IfErr};
 ghost use Rattle.tmem_journal.specs.Held.{is_closed_of};
-ghost use Rattle.tmem_front.specs.Flushing.{GoesOn, IsFlushRefusal, IsCheckpointRefusal};
+ghost use Rattle.tmem_front.specs.Flushing.{GoesOn, IsFlushRefusal, IsCheckpointRefusal, IsFlusherRefusal};
 ghost use Rattle.tmem_record.specs.Prefix.{IsPrefix};
 ghost use Rattle.tmem_record.specs.declared.effect.Effect.{Effect as EffectOf};
 ghost use Rattle.tmem_core.specs.SettleAnswer.{accepted_by};
@@ -221,6 +221,25 @@ impl<D: Disk + Drop, N: StoreNaming, T: Invariants + Drop, S: StoredSteps + Drop
             return Ok(journal.count());
         }
         let flushed = journal.write(&self.spine);
+        self.tell(rt, &mut journal);
+        flushed
+    }
+
+    /// Flushes once, and where the log is full makes a checkpoint first. The journal's lock is held over both, so nobody fills the
+    /// log in between. Refused as `flush_once` and `checkpoint` are, but never by `LogFull`.
+    pub fn flush_with_room<R: Wait>(&self, rt: &R) -> Result<u64, Fault>
+        ensures least { IfOk result (λ number. N.name.start ≤ number) }
+        ensures refused { IfErr result IsFlusherRefusal }
+    {
+        let mut journal = self.journal.lock(rt);
+        if journal.is_closed() {
+            return Err(Fault::Closed);
+        }
+        let is_waiting = self.aim(rt, &mut journal);
+        if !is_waiting {
+            return Ok(journal.count());
+        }
+        let flushed = journal.write_with_room(&self.spine);
         self.tell(rt, &mut journal);
         flushed
     }

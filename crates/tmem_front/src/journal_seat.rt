@@ -1,14 +1,16 @@
 // What lies under the journal's lock.
-ghost use Rattle.std.specs.Prelude.{◌≡◌, ◌⊎◌, ◌≤◌, ◌<◌, ◌+◌, ◌↔◌, ℕ, true, false, [], length, IsTrue, IfOk, IfErr};
+ghost use Rattle.std.specs.Prelude.{◌≡◌, ◌⊎◌, ◌≤◌, ◌<◌, ◌+◌, ◌*◌, ◌↔◌, ℕ, true, false, [], length, IsTrue, Err, IfOk, IfErr};
 ghost use Rattle.tmem_disk.specs.Disk.{LeavesOnly, AtEachMoment};
 ghost use Rattle.tmem_record.specs.Prefix.{IsPrefix};
 ghost use Rattle.tmem_record.specs.declared.effect.Effect.{Effect as EffectOf};
-ghost use Rattle.tmem_journal.specs.Held.{device_of, layout_of, state_of, doubtful_of, is_closed_of};
+ghost use Rattle.tmem_gate.specs.Calls.{Uses, WritesWithin};
+ghost use Rattle.tmem_record.specs.Layout.{slot_place, image_place, image_size};
+ghost use Rattle.tmem_journal.specs.Held.{device_of, layout_of, state_of, doubtful_of, position_of, is_closed_of};
 ghost use Rattle.tmem_journal.specs.Stands.{StandsForEither, StandsForState};
 ghost use Rattle.tmem_spine.specs.History.{count, entry, longer, Has, HasAt};
 ghost use Rattle.tmem_spine.specs.Views.{new_journal};
 ghost use Rattle.tmem_journal.specs.Journals.{Flushes, Checkpoints};
-ghost use Rattle.tmem_front.specs.Flushing.{GoesOn, TakesOldest, IsFlushRefusal, IsCheckpointRefusal};
+ghost use Rattle.tmem_front.specs.Flushing.{GoesOn, TakesOldest, IsFlushRefusal, IsCheckpointRefusal, IsFlusherRefusal};
 ghost use Rattle.tmem_front.specs.Histories.{after};
 
 use crate::core_seat::CoreSeat;
@@ -108,6 +110,11 @@ impl<D: Disk, N: StoreNaming> JournalSeat<D, N> {
         ensures err { IfErr result (λ _. (side_of self.new).durable ≡ (side_of self.old).durable) }
         ensures refused { IfErr result IsFlushRefusal }
         ensures flushed { Flushes (journal_of self.old) (batch_of self.old) result (journal_of self.new) }
+        ensures batch { batch_of self.new ≡ batch_of self.old }
+        ensures layout { layout_of (journal_of self.new) ≡ layout_of (journal_of self.old) }
+        ensures uses { Uses (device_of (journal_of self.old)) (device_of (journal_of self.new)) result }
+        ensures elsewhere { WritesWithin (slot_place (layout_of (journal_of self.old)).vars (position_of (journal_of self.old)).used) 4096
+            (device_of (journal_of self.old)) (device_of (journal_of self.new)) }
 
         // A crash at any moment leaves the state after what was durable, or after what the journal aims at.
         ensures any_moment { AtEachMoment (device_of (journal_of self.old)) (device_of (journal_of self.new))
@@ -160,11 +167,40 @@ impl<D: Disk, N: StoreNaming> JournalSeat<D, N> {
         ensures side { (side_of self.new ≡ side_of self.old) × (batch_of self.new ≡ batch_of self.old) }
         ensures refused { IfErr result IsCheckpointRefusal }
         ensures checkpointed { Checkpoints (journal_of self.old) result (journal_of self.new) }
+        ensures layout { layout_of (journal_of self.new) ≡ layout_of (journal_of self.old) }
+        ensures uses { Uses (device_of (journal_of self.old)) (device_of (journal_of self.new)) result }
+        ensures elsewhere { WritesWithin (image_place (layout_of (journal_of self.old)).vars 0)
+            (2 * image_size (layout_of (journal_of self.old)).vars + 4096 * (layout_of (journal_of self.old)).slots)
+            (device_of (journal_of self.old)) (device_of (journal_of self.new)) }
 
         // A crash at any moment leaves the state after what is durable.
         ensures any_moment { is_closed_of (journal_of self.old) ≡ false → AtEachMoment (device_of (journal_of self.old)) (device_of (journal_of self.new))
             (StandsForState (layout_of (journal_of self.old)).vars (layout_of (journal_of self.old)).slots (after N.opening (side_of self.old).durable)) }
     {
         self.journal.checkpoint()
+    }
+
+    /// Makes durable what the journal aims at, as `write` does. Where the log is full, makes a checkpoint and then writes: so it is
+    /// refused as a journal refuses a batch or a checkpoint, but never by `LogFull`.
+    pub fn write_with_room(&mut self, spine: &Spine<N>) -> Result<u64, Fault>
+        requires some { 1 ≤ length (batch_of self.old) }
+        requires goes_on { GoesOn N.name.start N.opening (side_of self.old).durable (batch_of self.old) (side_of self.old).aimed }
+        ensures aimed { (side_of self.new).aimed ≡ (side_of self.old).aimed }
+        ensures ok { IfOk result (λ n. ((side_of self.new).durable ≡ (side_of self.old).aimed) × (n ≡ count N.name.start (side_of self.new).durable)) }
+        ensures err { IfErr result (λ _. (side_of self.new).durable ≡ (side_of self.old).durable) }
+        ensures refused { IfErr result IsFlusherRefusal }
+        ensures closed { result ≡ Err Fault.Closed → is_closed_of (journal_of self.old) ≡ true }
+
+        // A crash at any moment leaves the state after what was durable, or after what the journal aims at.
+        ensures any_moment { AtEachMoment (device_of (journal_of self.old)) (device_of (journal_of self.new))
+            (StandsForEither (layout_of (journal_of self.old)).vars (layout_of (journal_of self.old)).slots (after N.opening (side_of self.old).durable) (after N.opening (side_of self.old).aimed)) }
+    {
+        match self.write(spine) {
+            Err(Fault::LogFull) => {
+                self.checkpoint()?;
+                self.write(spine)
+            }
+            written => written,
+        }
     }
 }

@@ -199,20 +199,6 @@ impl<D: Disk + Drop, N: StoreNaming, T: Invariants + Drop, S: StoredSteps + Drop
         }
         unreachable!()
     }
-
-    /// Flushes once, and where the log is full once more after a checkpoint. Refused as these are.
-    pub fn flush_with_room<R: Wait>(&self, rt: &R) -> Result<u64, Fault>
-        ensures least { IfOk result (λ number. N.name.start ≤ number) }
-        ensures refused { IfErr result IsFlusherRefusal }
-    {
-        match self.flush_once(rt) {
-            Err(Fault::LogFull) => {
-                self.checkpoint(rt)?;
-                self.flush_once(rt)
-            }
-            flushed => flushed,
-        }
-    }
 }
 
 // Whether a plan is not attempted again after this answer. Where it is, nothing was accepted.
