@@ -3,9 +3,10 @@ ghost use Rattle.std.specs.Prelude.{◌≡◌, ◌≤◌, ◌+◌, true};
 ghost use Rattle.tmem_disk.specs.SimParts.{view_of};
 
 use crate::failure::Failure;
+use crate::printing::print_fault;
 use crate::row::{Numbers, Touch};
 use std::alloc::Global;
-use std::io::Write;
+use std::io::{self, Write};
 use tmem_disk::{DeviceFault, Disk, Fault, SimDisk};
 use tmem_world::format;
 
@@ -19,16 +20,9 @@ pub(crate) fn touch<W: Write>(
     match act {
         Touch::Format(numbers) => tell(out, "formatted", formatted(disk, numbers)),
         Touch::Restart => restart(disk, out),
-        Touch::Bytes(at, count) => print_bytes(alloc, disk, at, count, out),
-        Touch::Write(at, bytes) => {
-            let written = write(disk, at, &bytes)?;
-            tell(out, "written", written)
-        }
-        Touch::Copy(from, count, to) => {
-            let bytes = read(alloc, disk, from, count)?;
-            let written = write(disk, to, &bytes)?;
-            tell(out, "written", written)
-        }
+        Touch::Bytes(at, count) => show(alloc, disk, at, count, out),
+        Touch::Write(at, bytes) => overwrite(disk, at, &bytes, out),
+        Touch::Copy(from, count, to) => copy(alloc, disk, from, count, to, out),
         armed => {
             arm(disk, armed);
             Ok(())
@@ -40,7 +34,7 @@ pub(crate) fn touch<W: Write>(
 fn tell<W: Write>(out: &mut W, done: &str, outcome: Result<(), Fault>) -> Result<(), Failure> {
     match outcome {
         Ok(()) => writeln!(out, "{done}")?,
-        Err(fault) => writeln!(out, "{fault}")?,
+        Err(fault) => print_fault(fault, out)?,
     }
     Ok(())
 }
@@ -64,13 +58,52 @@ fn formatted(disk: &mut SimDisk, numbers: Numbers) -> Result<(), Fault> {
 
 // Starts a device again, and says whether it was stopped.
 fn restart<W: Write>(disk: &mut SimDisk, out: &mut W) -> Result<(), Failure> {
-    if disk.is_stopped() {
+    let is_stopped = disk.is_stopped();
+    if is_stopped {
         disk.restart();
-        writeln!(out, "restarted")?;
-    } else {
-        writeln!(out, "not stopped")?;
     }
+    let line: &[u8] = if is_stopped {
+        b"restarted\n"
+    } else {
+        b"not stopped\n"
+    };
+    out.write_all(line)?;
     Ok(())
+}
+
+// Prints bytes of a device.
+fn show<W: Write>(
+    alloc: Global,
+    disk: &mut SimDisk,
+    at: u64,
+    count: u64,
+    out: &mut W,
+) -> Result<(), Failure> {
+    let bytes = read(alloc, disk, at, count)?;
+    print_bytes(&bytes, out)?;
+    Ok(())
+}
+
+fn overwrite<W: Write>(
+    disk: &mut SimDisk,
+    at: u64,
+    bytes: &[u8],
+    out: &mut W,
+) -> Result<(), Failure> {
+    let written = write(disk, at, bytes)?;
+    tell(out, "written", written)
+}
+
+fn copy<W: Write>(
+    alloc: Global,
+    disk: &mut SimDisk,
+    from: u64,
+    count: u64,
+    to: u64,
+    out: &mut W,
+) -> Result<(), Failure> {
+    let bytes = read(alloc, disk, from, count)?;
+    overwrite(disk, to, &bytes, out)
 }
 
 // Whether a device has so many bytes from a place on.
@@ -108,18 +141,10 @@ fn write(disk: &mut SimDisk, at: u64, bytes: &[u8]) -> Result<Result<(), Fault>,
 }
 
 // Prints bytes in hexadecimal.
-fn print_bytes<W: Write>(
-    alloc: Global,
-    disk: &mut SimDisk,
-    at: u64,
-    count: u64,
-    out: &mut W,
-) -> Result<(), Failure> {
-    let bytes = read(alloc, disk, at, count)?;
-    write!(out, "bytes")?;
-    for byte in &bytes {
+fn print_bytes<W: Write>(bytes: &[u8], out: &mut W) -> io::Result<()> {
+    out.write_all(b"bytes")?;
+    for byte in bytes {
         write!(out, " {byte:02x}")?;
     }
-    writeln!(out)?;
-    Ok(())
+    out.write_all(b"\n")
 }

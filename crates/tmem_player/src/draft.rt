@@ -1,7 +1,7 @@
 //! A row as far as it was read.
 ghost use Rattle.tmem_event.specs.Events.{NamesSlot};
 
-use crate::row::{Act, Events, Handed, Job, Numbers, Part, Row};
+use crate::row::{Act, Events, Handed, Job, Numbers, Part, Row, Task};
 use std::alloc::Global;
 use std::mem;
 use tmem_event::Event;
@@ -97,8 +97,12 @@ impl Draft {
         self.end_events()?;
         if let Some((handed, numbers)) = self.opening.take() {
             let parts = mem::replace(&mut self.parts, Vec::new(self.alloc));
-            self.acts
-                .push(Act::Job(handed, numbers, Job::Session(parts)))?;
+            let job = Job::Session(parts);
+            self.acts.push(Act::Do(Task {
+                handed,
+                numbers,
+                job,
+            }))?;
         }
         Ok(())
     }

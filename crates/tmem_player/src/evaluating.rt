@@ -4,13 +4,13 @@ ghost use Rattle.tmem_tree.specs.StepAnswers.{StepMeanings};
 ghost use Rattle.tmem_tree.specs.Plans.{FitsSteps};
 ghost use Rattle.tmem_tentative.specs.Cursors.{IsAt};
 
-use crate::calls::{Calls, counted};
+use crate::calls::Calls;
 use crate::failure::Failure;
-use crate::printing::{print_comma, print_numbers};
+use crate::printing::{print_fault, print_name, print_numbers, print_pair};
 use std::alloc::Global;
-use std::io::Write;
+use std::io::{self, Write};
 use tmem_builtins::names;
-use tmem_disk::Fault;
+use tmem_disk::{Fault, Name};
 use tmem_tentative::{Attempt, Cursor, Ending, Outcome, Reads, evaluate};
 use tmem_tree::{Plan, StoredSteps, Tx};
 
@@ -28,39 +28,62 @@ pub(crate) fn evaluate_twice<S: StoredSteps, W: Write>(
     calls: &Calls,
     out: &mut W,
 ) -> Result<(), Failure> {
-    let plan = match Plan::new(tx, steps, vars, &names()) {
-        Ok(plan) => plan,
-        Err(fault) => {
-            writeln!(out, "{fault}")?;
-            return Ok(());
-        }
+    match Plan::new(tx, steps, vars, &names()) {
+        Ok(plan) => evaluate_plan(alloc, &plan, values, steps, calls, out),
+        Err(fault) => Ok(print_fault(fault, out)?),
+    }
+}
+
+// What one way comes to, and how often it called a stored step.
+#[derive(Drop)]
+struct Trial {
+    attempt: Option<Attempt>,
+    calls: u64,
+}
+
+// Evaluates a plan in both ways.
+fn evaluate_plan<S: StoredSteps, W: Write>(
+    alloc: Global,
+    plan: &Plan,
+    values: &[i64],
+    steps: &S,
+    calls: &Calls,
+    out: &mut W,
+) -> Result<(), Failure>
+    requires { FitsSteps (S.arities steps.now) plan.now }
+{
+    let _ = calls.take_steps();
+    let plain = Trial {
+        attempt: by_evaluate(alloc, plan, steps, values)?,
+        calls: calls.take_steps(),
     };
-    let _ = counted(&calls.steps);
-    let plain = by_evaluate(alloc, &plan, steps, values)?;
-    let by_plain = counted(&calls.steps);
-    let other = by_cursor(alloc, &plan, steps, values)?;
-    let by_other = counted(&calls.steps);
+    let other = Trial {
+        attempt: by_cursor(alloc, plan, steps, values)?,
+        calls: calls.take_steps(),
+    };
+    print_trials(&plain, &other, out)
+}
+
+// Prints the attempt that both ways come to, and how often each called a stored step; or that they differ.
+fn print_trials<W: Write>(plain: &Trial, other: &Trial, out: &mut W) -> Result<(), Failure> {
     match both_ways(plain, other) {
         Some(attempt) => {
-            print_attempt(&attempt, out)?;
-            writeln!(out, " calls={by_plain},{by_other}")?;
+            print_attempt(attempt, out)?;
+            writeln!(out, " calls={},{}", plain.calls, other.calls)?;
         }
-        None => writeln!(out, "differ")?,
+        None => out.write_all(b"differ\n")?,
     }
     Ok(())
 }
 
 // The attempt that both ways come to, or none where they differ.
-fn both_ways(plain: Option<Attempt>, other: Option<Attempt>) -> Option<Attempt> {
-    match (plain, other) {
-        (Some(plain), Some(other)) => {
-            if are_alike(&plain, &other) {
-                Some(plain)
-            } else {
-                None
-            }
-        }
-        _ => None,
+fn both_ways<'a>(plain: &'a Trial, other: &Trial) -> Option<&'a Attempt> {
+    let attempt = plain.attempt.as_ref()?;
+    let other = other.attempt.as_ref()?;
+    if are_alike(attempt, other) {
+        Some(attempt)
+    } else {
+        None
     }
 }
 
@@ -81,16 +104,34 @@ fn by_evaluate<S: StoredSteps>(
 ) -> Result<Option<Attempt>, Fault>
     requires { FitsSteps (S.arities steps.now) plan.now }
 {
-    let mut reads = Reads::new(alloc);
+    evaluated(alloc, plan, steps, values, &mut Reads::new(alloc))
+}
+
+// The attempt, if this is what it read.
+fn where_read(attempt: Attempt, reads: &Reads) -> Option<Attempt> {
+    if are_read_alike(reads, &attempt.reads) {
+        Some(attempt)
+    } else {
+        None
+    }
+}
+
+// Evaluates a plan from the start, and gives it each variable that it needs.
+fn evaluated<S: StoredSteps>(
+    alloc: Global,
+    plan: &Plan,
+    steps: &S,
+    values: &[i64],
+    reads: &mut Reads,
+) -> Result<Option<Attempt>, Fault>
+    requires { FitsSteps (S.arities steps.now) plan.now }
+{
     for _ in 0..MOST_TURNS {
-        match evaluate(alloc, plan, steps, &reads)? {
+        match evaluate(alloc, plan, steps, reads)? {
             Outcome::Need(var) => {
                 reads.insert(var, value_of(values, var))?;
             }
-            Outcome::Ended(attempt) => {
-                let is_whole = are_read_alike(&reads, &attempt.reads);
-                return Ok(if is_whole { Some(attempt) } else { None });
-            }
+            Outcome::Ended(attempt) => return Ok(where_read(attempt, reads)),
         }
     }
     Ok(None)
@@ -158,34 +199,50 @@ fn are_read_alike(one: &Reads, other: &Reads) -> bool {
 }
 
 // Prints an attempt, without the end of its line.
-fn print_attempt<W: Write>(attempt: &Attempt, out: &mut W) -> Result<(), Failure> {
-    match attempt.ending {
-        Ending::Normal => write!(out, "ended reads=")?,
-        Ending::Retry => write!(out, "retry reads=")?,
-        Ending::Abort(code) => write!(out, "aborted {code} reads=")?,
-    }
-    for (i, (var, value)) in attempt.reads.iter().enumerate() {
-        print_comma(i, out)?;
-        write!(out, "{var}:{value}")?;
-    }
-    write!(out, " registers=")?;
-    if attempt.registers != [0; 16] {
-        print_numbers(&attempt.registers, out)?;
-    }
-    print_effect(attempt, out)
+fn print_attempt<W: Write>(attempt: &Attempt, out: &mut W) -> io::Result<()> {
+    print_ending(attempt.ending, out)?;
+    print_reads(&attempt.reads, out)?;
+    print_registers(&attempt.registers, out)?;
+    print_writes(attempt.effect.writes.as_slice(), out)?;
+    print_names(attempt.effect.names.as_slice(), out)
 }
 
-// Prints what an attempt changes.
-fn print_effect<W: Write>(attempt: &Attempt, out: &mut W) -> Result<(), Failure> {
-    write!(out, " writes=")?;
-    for (i, (var, value)) in attempt.effect.writes.as_slice().iter().enumerate() {
-        print_comma(i, out)?;
-        write!(out, "{var}:{value}")?;
+fn print_ending<W: Write>(ending: Ending, out: &mut W) -> io::Result<()> {
+    match ending {
+        Ending::Normal => out.write_all(b"ended reads="),
+        Ending::Retry => out.write_all(b"retry reads="),
+        Ending::Abort(code) => write!(out, "aborted {code} reads="),
     }
-    write!(out, " names=")?;
-    for (i, name) in attempt.effect.names.as_slice().iter().enumerate() {
-        print_comma(i, out)?;
-        write!(out, "{name}")?;
+}
+
+fn print_reads<W: Write>(reads: &Reads, out: &mut W) -> io::Result<()> {
+    for (i, (var, value)) in reads.iter().enumerate() {
+        print_pair(i, *var, *value, out)?;
+    }
+    Ok(())
+}
+
+// Prints the registers of an attempt, where one is not 0.
+fn print_registers<W: Write>(registers: &[i64; 16], out: &mut W) -> io::Result<()> {
+    out.write_all(b" registers=")?;
+    if *registers != [0; 16] {
+        print_numbers(registers, out)?;
+    }
+    Ok(())
+}
+
+fn print_writes<W: Write>(writes: &[(u16, i64)], out: &mut W) -> io::Result<()> {
+    out.write_all(b" writes=")?;
+    for (i, (var, value)) in writes.iter().enumerate() {
+        print_pair(i, *var, *value, out)?;
+    }
+    Ok(())
+}
+
+fn print_names<W: Write>(names: &[Name], out: &mut W) -> io::Result<()> {
+    out.write_all(b" names=")?;
+    for (i, name) in names.iter().enumerate() {
+        print_name(i, name, out)?;
     }
     Ok(())
 }

@@ -6,7 +6,7 @@ use tmem_disk::Fault;
 use tmem_forms::FormError;
 
 /// Why a row was not played to its end. Its text is what the user is told.
-#[derive(Drop)]
+#[derive(Clone, Copy)]
 pub(crate) enum Failure {
     /// The command line is another one than `step` or `play`.
     Words,

@@ -46,6 +46,7 @@ mod session;
 use failure::Failure;
 use playing::play;
 use reading::row_of;
+use row::Row;
 use std::alloc::Global;
 use std::env::{self, Env};
 use std::io::{BufWriter, Read, Write};
@@ -79,8 +80,7 @@ fn run<R: Read, W: Write>(
     output: &mut W,
 ) -> Result<(), Failure> {
     let mode = mode_of(rt)?;
-    let text = read_all(rt.alloc(), input)?;
-    let row = row_of(rt.alloc(), &text)?;
+    let row = read_row(rt.alloc(), input)?;
     let mut out = BufWriter::new(rt.alloc(), output)?;
     let played = play(rt.alloc(), mode, row, &mut out);
     out.flush()?;
@@ -95,6 +95,12 @@ fn mode_of(rt: &(impl Env + AllocGlobal)) -> Result<Mode, Failure> {
         Some("play") => Ok(Mode::Play),
         _ => Err(Failure::Words),
     }
+}
+
+// Reads the row on the input.
+fn read_row<R: Read>(alloc: Global, input: &mut R) -> Result<Row, Failure> {
+    let text = read_all(alloc, input)?;
+    row_of(alloc, &text)
 }
 
 // Reads all that is left of the input.

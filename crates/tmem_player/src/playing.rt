@@ -1,14 +1,14 @@
 //! Plays a row, one act after another.
 
 use crate::Mode;
-use crate::calls::Calls;
+use crate::calls::{Calls, no_calls};
 use crate::device::touch;
 use crate::failure::Failure;
-use crate::handing::do_job;
-use crate::row::{Act, Row};
+use crate::handing::do_task;
+use crate::row::{Act, Numbers, Row};
 use std::alloc::Global;
 use std::io::Write;
-use tmem_disk::SimDisk;
+use tmem_disk::{Fault, SimDisk};
 use tmem_world::{Layout, format};
 
 /// Plays a row on a device that was formatted for its numbers, and prints its lines.
@@ -18,34 +18,49 @@ pub(crate) fn play<W: Write>(
     row: Row,
     out: &mut W,
 ) -> Result<(), Failure> {
-    let Row { numbers, acts } = row;
+    let mut disk = formatted(alloc, row.numbers)?;
+    let calls = no_calls(alloc)?;
+    play_acts(alloc, mode, &mut disk, row, &calls, out)
+}
+
+// A device that is formatted for these numbers.
+fn formatted(alloc: Global, numbers: Numbers) -> Result<SimDisk, Fault> {
     let layout = Layout::new(numbers.vars, numbers.slots)?;
     let mut disk = SimDisk::new(alloc, layout.end())?;
     format(&mut disk, numbers.vars, numbers.slots)?;
-    let calls = Calls::new(alloc)?;
+    Ok(disk)
+}
+
+fn play_acts<W: Write>(
+    alloc: Global,
+    mode: Mode,
+    disk: &mut SimDisk,
+    row: Row,
+    calls: &Calls,
+    out: &mut W,
+) -> Result<(), Failure> {
+    let Row { numbers: _, acts } = row;
     for act in acts {
-        disk = play_act(alloc, mode, disk, act, &calls, out)?;
+        play_act(alloc, mode, disk, act, calls, out)?;
     }
     Ok(())
 }
 
-// Does one act, and hands out the device that the next one is for.
+// Does one act on the device.
 fn play_act<W: Write>(
     alloc: Global,
     mode: Mode,
-    mut disk: SimDisk,
+    disk: &mut SimDisk,
     act: Act,
     calls: &Calls,
     out: &mut W,
-) -> Result<SimDisk, Failure> {
+) -> Result<(), Failure> {
     match act {
-        Act::Blank(size) => Ok(SimDisk::new(alloc, size)?),
-        Act::Touch(act) => {
-            touch(alloc, &mut disk, act, out)?;
-            Ok(disk)
+        Act::Blank(size) => {
+            *disk = SimDisk::new(alloc, size)?;
+            Ok(())
         }
-        Act::Job(handed, numbers, job) => {
-            do_job(alloc, mode, disk, handed, numbers, job, calls, out)
-        }
+        Act::Touch(act) => touch(alloc, disk, act, out),
+        Act::Do(task) => do_task(alloc, mode, disk, task, calls, out),
     }
 }

@@ -1,21 +1,49 @@
 //! Pieces of lines.
 
-use crate::failure::Failure;
-use std::io::Write;
+use std::io::{self, Write};
+use tmem_disk::{Fault, Name};
 
-/// Prints what stands in front of an item of this place.
-pub(crate) fn print_comma<W: Write>(place: usize, out: &mut W) -> Result<(), Failure> {
+// Prints what stands in front of an item of this place.
+fn print_comma<W: Write>(place: usize, out: &mut W) -> io::Result<()> {
     if place > 0 {
-        write!(out, ",")?;
+        out.write_all(b",")
+    } else {
+        Ok(())
+    }
+}
+
+/// Prints a number, as an item of this place.
+pub(crate) fn print_number<W: Write>(place: usize, number: i64, out: &mut W) -> io::Result<()> {
+    print_comma(place, out)?;
+    write!(out, "{number}")
+}
+
+/// Prints numbers, joined by commas.
+pub(crate) fn print_numbers<W: Write>(numbers: &[i64], out: &mut W) -> io::Result<()> {
+    for (i, number) in numbers.iter().enumerate() {
+        print_number(i, *number, out)?;
     }
     Ok(())
 }
 
-/// Prints numbers, joined by commas.
-pub(crate) fn print_numbers<W: Write>(numbers: &[i64], out: &mut W) -> Result<(), Failure> {
-    for (i, number) in numbers.iter().enumerate() {
-        print_comma(i, out)?;
-        write!(out, "{number}")?;
-    }
-    Ok(())
+/// Prints a name, as an item of this place.
+pub(crate) fn print_name<W: Write>(place: usize, name: &Name, out: &mut W) -> io::Result<()> {
+    print_comma(place, out)?;
+    write!(out, "{name}")
+}
+
+/// Prints a variable with its value, as an item of this place.
+pub(crate) fn print_pair<W: Write>(
+    place: usize,
+    var: u16,
+    value: i64,
+    out: &mut W,
+) -> io::Result<()> {
+    print_comma(place, out)?;
+    write!(out, "{var}:{value}")
+}
+
+/// Prints a fault as a line.
+pub(crate) fn print_fault<W: Write>(fault: Fault, out: &mut W) -> io::Result<()> {
+    writeln!(out, "{fault}")
 }

@@ -4,7 +4,7 @@ ghost use Rattle.tmem_event.specs.Events.{NamesSlot};
 
 use crate::draft::Draft;
 use crate::failure::Failure;
-use crate::row::{Act, Handed, Job, Numbers, Part, Row, Touch};
+use crate::row::{Act, Handed, Job, Numbers, Part, Row, Task, Touch};
 use serde_json::Value;
 use std::alloc::Global;
 use tmem_disk::{DeviceFault, Fault, Fill};
@@ -21,17 +21,29 @@ pub(crate) fn row_of(alloc: Global, text: &[u8]) -> Result<Row, Failure> {
 }
 
 fn row_of_value(alloc: Global, value: &Value) -> Result<Row, FormError> {
+    let (numbers, events) = members_of(value)?;
+    let mut draft = Draft::new(alloc, numbers);
+    add_entries(alloc, events, &mut draft)?;
+    draft.finish()
+}
+
+// The numbers of a row, and its entries.
+fn members_of(value: &Value) -> Result<(Numbers, &Vec<Value>), FormError> {
     let members = value.as_object().ok_or(FormError::NoForm)?;
     if members.len() != 3 {
         return Err(FormError::NoForm);
     }
     let vars = value.get("vars").ok_or(FormError::NoForm)?;
     let slots = value.get("slots").ok_or(FormError::NoForm)?;
-    let mut draft = Draft::new(alloc, numbers_of(vars, slots)?);
-    for entry in items_of(value.get("events").ok_or(FormError::NoForm)?)? {
-        add_entry(alloc, entry, &mut draft)?;
+    let events = value.get("events").ok_or(FormError::NoForm)?;
+    Ok((numbers_of(vars, slots)?, items_of(events)?))
+}
+
+fn add_entries(alloc: Global, entries: &[Value], draft: &mut Draft) -> Result<(), FormError> {
+    for entry in entries {
+        add_entry(alloc, entry, draft)?;
     }
-    draft.finish()
+    Ok(())
 }
 
 fn items_of(value: &Value) -> Result<&Vec<Value>, FormError> {
@@ -146,14 +158,26 @@ fn handed_of(value: &Value) -> Result<Handed, FormError> {
 }
 
 fn add_evaluation(alloc: Global, body: &Value, draft: &mut Draft) -> Result<(), FormError> {
+    let job = evaluation_of(alloc, body)?;
+    draft.add_act(Act::Do(Task {
+        handed: Handed::None,
+        numbers: draft.numbers(),
+        job,
+    }))
+}
+
+fn evaluation_of(alloc: Global, body: &Value) -> Result<Job, FormError> {
     let (first, second) = pair_of(body)?;
+    let values = values_of(alloc, first)?;
+    Ok(Job::Evaluate(values, tx_of(alloc, second)?))
+}
+
+fn values_of(alloc: Global, value: &Value) -> Result<Vec<i64>, FormError> {
     let mut values = Vec::new(alloc);
-    for item in items_of(first)? {
+    for item in items_of(value)? {
         values.push(item.as_i64().ok_or(FormError::NoForm)?)?;
     }
-    let tx = tx_of(alloc, second)?;
-    let job = Job::Evaluate(values, tx);
-    draft.add_act(Act::Job(Handed::None, draft.numbers(), job))
+    Ok(values)
 }
 
 // What is done to a device that needs no store.
@@ -174,12 +198,16 @@ fn pair_touch_of(
     match key {
         "format" => Ok(Touch::Format(numbers_of(first, second)?)),
         "fail" => Ok(Touch::Fail(call_of(first)?, number_of(second)?)),
-        "crash" => match word_of(first)? {
-            "now" => Ok(Touch::CrashNow(fill_of(second)?)),
-            _ => Err(FormError::NoForm),
-        },
+        "crash" => crash_now_of(first, second),
         "bytes" => Ok(Touch::Bytes(number_of(first)?, number_of(second)?)),
         "write" => Ok(Touch::Write(number_of(first)?, bytes_of(alloc, second)?)),
+        _ => Err(FormError::NoForm),
+    }
+}
+
+fn crash_now_of(when: &Value, fill: &Value) -> Result<Touch, FormError> {
+    match word_of(when)? {
+        "now" => Ok(Touch::CrashNow(fill_of(fill)?)),
         _ => Err(FormError::NoForm),
     }
 }

@@ -29,7 +29,15 @@ pub(crate) enum Act {
     /// Does something to the device that needs no store.
     Touch(Touch),
     /// Does something with closures.
-    Job(Handed, Numbers, Job),
+    Do(Task),
+}
+
+/// What is done with closures, for which numbers and under which invariants.
+#[derive(Drop)]
+pub(crate) struct Task {
+    pub(crate) handed: Handed,
+    pub(crate) numbers: Numbers,
+    pub(crate) job: Job,
 }
 
 /// What is done to a device that needs no store.

@@ -3,12 +3,14 @@ ghost use Rattle.std.specs.Prelude.{◌≡◌, IfOk};
 ghost use Rattle.tmem_world.specs.Represents.{numbers_of, HoldsSession};
 
 use crate::Mode;
-use crate::calls::{Calls, counted};
+use crate::calls::Calls;
 use crate::failure::Failure;
-use crate::printing::{print_comma, print_numbers};
+use crate::handing::Work;
+use crate::printing::{print_fault, print_name, print_number, print_numbers};
 use crate::row::{Events, Numbers, Part};
 use std::alloc::Global;
-use std::io::Write;
+use std::io::{self, Write};
+use std::mem;
 use tmem_builtins::names;
 use tmem_disk::{Fault, SimDisk};
 use tmem_invariants::Invariants;
@@ -25,56 +27,66 @@ struct Session<T: Invariants, S: StoredSteps> {
     ghost fits: { (numbers_of world).vars ≡ vars },
 }
 
-/// Opens a device, plays parts on it, and hands it back. What an opening is refused by is a line too.
+/// Opens a device, and plays parts on it. What an opening is refused by is a line too.
 pub(crate) fn play_session<T: Invariants + Drop, S: StoredSteps + Drop, W: Write>(
     alloc: Global,
     mode: Mode,
-    disk: SimDisk,
-    numbers: Numbers,
-    parts: Vec<Part>,
+    disk: &mut SimDisk,
+    work: Work<S>,
     table: T,
-    steps: S,
     calls: &Calls,
     out: &mut W,
-) -> Result<SimDisk, Failure>
-    requires { T.vars table ≡ numbers.vars }
+) -> Result<(), Failure>
+    requires { T.vars table ≡ work.numbers.vars }
 {
+    let Work {
+        numbers,
+        parts,
+        steps,
+    } = work;
     match opened(alloc, disk, numbers, table, steps) {
         Ok(mut session) => {
             let played = session.play_parts(mode, parts, calls, out);
-            let disk = session.into_disk();
-            played?;
-            Ok(disk)
+            *disk = session.into_disk();
+            played
         }
-        Err((fault, disk)) => {
-            writeln!(out, "{fault}")?;
-            if parts.is_empty() {
-                Ok(disk)
-            } else {
-                Err(Failure::NoSession)
-            }
-        }
+        Err(fault) => refuse(fault, &parts, out),
     }
 }
 
+// Opens the device. Until the session hands it back, one that holds nothing stands in its place.
 fn opened<T: Invariants + Drop, S: StoredSteps + Drop>(
     alloc: Global,
-    disk: SimDisk,
+    disk: &mut SimDisk,
     numbers: Numbers,
     table: T,
     steps: S,
-) -> Result<Session<T, S>, (Fault, SimDisk)>
+) -> Result<Session<T, S>, Fault>
     requires { T.vars table ≡ numbers.vars }
     ensures { IfOk result (λ session. HoldsSession session.world) }
 {
-    let vars = numbers.vars;
-    match World::open(alloc, disk, vars, numbers.slots, table, steps) {
+    let Numbers { vars, slots } = numbers;
+    let held = mem::replace(disk, SimDisk::new(alloc, 0)?);
+    match World::open(alloc, held, vars, slots, table, steps) {
         Ok(world) => Ok(Session {
             world,
             vars,
             registers: [0; REGISTERS],
         }),
-        Err(refusal) => Err(refusal),
+        Err((fault, held)) => {
+            *disk = held;
+            Err(fault)
+        }
+    }
+}
+
+// Prints why a device was not opened. The row is bad where something was to be played on it.
+fn refuse<W: Write>(fault: Fault, parts: &[Part], out: &mut W) -> Result<(), Failure> {
+    print_fault(fault, out)?;
+    if parts.is_empty() {
+        Ok(())
+    } else {
+        Err(Failure::NoSession)
     }
 }
 
@@ -104,9 +116,9 @@ impl<T: Invariants + Drop, S: StoredSteps + Drop> Session<T, S> {
         out: &mut W,
     ) -> Result<(), Failure> {
         match part {
-            Part::Show => self.show(out),
-            Part::Registers => self.print_registers(out),
-            Part::Calls => print_calls(calls, out),
+            Part::Show => Ok(self.show(out)?),
+            Part::Registers => Ok(print_registers(&self.registers, out)?),
+            Part::Calls => Ok(print_calls(calls, out)?),
             Part::Events(events) => match mode {
                 Mode::Step => self.step_all(events, out),
                 Mode::Play => self.play_all(events, out),
@@ -119,7 +131,7 @@ impl<T: Invariants + Drop, S: StoredSteps + Drop> Session<T, S> {
         let Events { list } = events;
         for event in list {
             let reply = self.world.step(event);
-            self.tell(reply, out)?;
+            tell(reply, &mut self.registers, out)?;
         }
         Ok(())
     }
@@ -129,60 +141,51 @@ impl<T: Invariants + Drop, S: StoredSteps + Drop> Session<T, S> {
         let Events { list } = events;
         let replies = self.world.play(list)?;
         for reply in replies {
-            self.tell(reply, out)?;
+            tell(reply, &mut self.registers, out)?;
         }
-        Ok(())
-    }
-
-    // Prints what an event was answered.
-    fn tell<W: Write>(&mut self, reply: Reply, out: &mut W) -> Result<(), Failure> {
-        if let Reply::Settled(
-            Settled::Committed { registers, .. } | Settled::Seen { registers, .. },
-        ) = reply
-        {
-            self.registers = registers;
-        }
-        writeln!(out, "{}", ReplyLine(reply))?;
         Ok(())
     }
 
     // Prints the present state.
-    fn show<W: Write>(&self, out: &mut W) -> Result<(), Failure> {
-        if !self.world.is_open() {
-            writeln!(out, "{}", Fault::Closed)?;
-            return Ok(());
+    fn show<W: Write>(&self, out: &mut W) -> io::Result<()> {
+        if self.world.is_open() {
+            self.print_state(out)
+        } else {
+            print_fault(Fault::Closed, out)
         }
+    }
+
+    fn print_state<W: Write>(&self, out: &mut W) -> io::Result<()>
+        requires { HoldsSession self.now.world }
+    {
         write!(out, "state count={} names=", self.world.count())?;
         self.print_names(out)?;
-        write!(out, " values=")?;
-        for var in 0..self.vars {
-            print_comma(usize::from(var), out)?;
-            write!(out, "{}", self.world.value(var))?;
-        }
-        writeln!(out)?;
-        Ok(())
+        self.print_values(out)
     }
 
     // Prints the names that are registered.
-    fn print_names<W: Write>(&self, out: &mut W) -> Result<(), Failure>
+    fn print_names<W: Write>(&self, out: &mut W) -> io::Result<()>
         requires { HoldsSession self.now.world }
     {
-        let mut count = 0usize;
+        let mut count = 0;
         for name in &names() {
             if self.world.has(name) {
-                print_comma(count, out)?;
-                write!(out, "{name}")?;
+                print_name(count, name, out)?;
                 count = 1;
             }
         }
         Ok(())
     }
 
-    fn print_registers<W: Write>(&self, out: &mut W) -> Result<(), Failure> {
-        write!(out, "registers ")?;
-        print_numbers(&self.registers, out)?;
-        writeln!(out)?;
-        Ok(())
+    // Prints the values, to the end of the line.
+    fn print_values<W: Write>(&self, out: &mut W) -> io::Result<()>
+        requires { HoldsSession self.now.world }
+    {
+        out.write_all(b" values=")?;
+        for var in 0..self.vars {
+            print_number(usize::from(var), self.world.value(var), out)?;
+        }
+        out.write_all(b"\n")
     }
 
     fn into_disk(self) -> SimDisk {
@@ -195,9 +198,25 @@ impl<T: Invariants + Drop, S: StoredSteps + Drop> Session<T, S> {
     }
 }
 
+// Prints what an event was answered, and keeps the registers that it was answered with.
+fn tell<W: Write>(reply: Reply, kept: &mut [i64; REGISTERS], out: &mut W) -> io::Result<()> {
+    if let Reply::Settled(
+        Settled::Committed { registers, .. } | Settled::Seen { registers, .. },
+    ) = reply
+    {
+        *kept = registers;
+    }
+    writeln!(out, "{}", ReplyLine(reply))
+}
+
+fn print_registers<W: Write>(registers: &[i64; REGISTERS], out: &mut W) -> io::Result<()> {
+    out.write_all(b"registers ")?;
+    print_numbers(registers, out)?;
+    out.write_all(b"\n")
+}
+
 // Prints how often closures were called since the last time.
-fn print_calls<W: Write>(calls: &Calls, out: &mut W) -> Result<(), Failure> {
-    let (tests, steps) = (counted(&calls.tests), counted(&calls.steps));
-    writeln!(out, "calls invariants={tests} steps={steps}")?;
-    Ok(())
+fn print_calls<W: Write>(calls: &Calls, out: &mut W) -> io::Result<()> {
+    let (tests, steps) = (calls.take_tests(), calls.take_steps());
+    writeln!(out, "calls invariants={tests} steps={steps}")
 }

@@ -1,7 +1,7 @@
 use Rattle.std.proofs.Common.{refl}
 use borrow.Pointer.Called.{made_tells}
-use Rattle.tmem_player.proofs.handing.do_under.OwnLists.{own-1, at-1-1, at-1-2, at-1-3}
-use Rattle.tmem_player.proofs.handing.do_under.Goals as goal
+use Rattle.tmem_player.proofs.handing.do_task.OwnLists.{own-1, at-1-1, at-1-2, at-1-3}
+use Rattle.tmem_player.proofs.handing.do_task.Goals as goal
 
 pub steps_of-requires-clause-add_stated : goal.steps_of-requires-clause-add_stated
 steps_of-requires-clause-add_stated g c = λ args answer n post. made_tells own-1 (own-1.entry at-1-1) at-1-1 refl c.into_dyn_box.ensures.1 (args, tt) answer post
