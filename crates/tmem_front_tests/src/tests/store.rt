@@ -3,7 +3,7 @@ ghost use Rattle.std.specs.Prelude.{◌≡◌, ◌<◌, length, IfOk};
 ghost use Rattle.tmem_tentative.specs.Fits.{IsForVariables, IsForNames};
 ghost use Rattle.tmem_tree.specs.Plans.{FitsSteps, FitsVariables, FitsNames};
 
-use super::moves::{Answer, Move, Task};
+use super::moves::{Answer, Move, Refusal, Task};
 use super::signals::Signals;
 use std::alloc::Global;
 use std::marker::PhantomData;
@@ -170,7 +170,7 @@ impl<D: Disk + Drop, N: StoreNaming, T: Invariants + Drop, S: StoredSteps + Drop
     fn commit<R: Wait>(&self, stage: &Stage<R>, pass: &mut Pass<N>, task: Task) -> Answer {
         match self.plan(stage, task) {
             Ok(plan) => Answer::to(self.front.atomically(stage.rt, pass, &plan)),
-            Err(fault) => Answer::Refused(fault),
+            Err(fault) => Answer::refused(fault),
         }
     }
 
@@ -178,7 +178,7 @@ impl<D: Disk + Drop, N: StoreNaming, T: Invariants + Drop, S: StoredSteps + Drop
     fn try_commit<R: Wait>(&self, stage: &Stage<R>, pass: &mut Pass<N>, task: Task) -> Answer {
         match self.plan(stage, task) {
             Ok(plan) => Answer::to(self.front.try_atomically(stage.rt, pass, &plan)),
-            Err(fault) => Answer::Refused(fault),
+            Err(fault) => Answer::refused(fault),
         }
     }
 
@@ -186,7 +186,7 @@ impl<D: Disk + Drop, N: StoreNaming, T: Invariants + Drop, S: StoredSteps + Drop
     fn attempt<R: Wait>(&self, stage: &Stage<R>, kept: &mut Option<Kept<N>>, task: Task) -> Answer {
         match self.plan(stage, task) {
             Ok(plan) => Answer::done(self.keep(stage, kept, &plan)),
-            Err(fault) => Answer::Refused(fault),
+            Err(fault) => Answer::refused(fault),
         }
     }
 
@@ -239,7 +239,7 @@ impl<D: Disk + Drop, N: StoreNaming, T: Invariants + Drop, S: StoredSteps + Drop
             }
             match self.try_commit(stage, pass, Task::AddOne) {
                 Answer::Committed(_) => committed = committed.saturating_add(1),
-                Answer::Refused(Fault::Conflict) => {}
+                Answer::Refused(Refusal::Conflict) => {}
                 other => return other,
             }
         }
@@ -288,7 +288,7 @@ impl<D: Disk + Drop, N: StoreNaming, T: Invariants + Drop, S: StoredSteps + Drop
     fn peek<R: Wait>(&self, stage: &Stage<R>, var: u16) -> Answer {
         match self.front.plan(Tx::Read { var, reg: 0 }) {
             Ok(_plan) => Answer::Value(self.front.peek(stage.rt, var)),
-            Err(fault) => Answer::Refused(fault),
+            Err(fault) => Answer::refused(fault),
         }
     }
 
