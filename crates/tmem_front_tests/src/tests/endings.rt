@@ -1,10 +1,9 @@
 //! How each wait ends: by a commit or a flush, and else as the front does.
-use super::moves::{Answer, Move, Task};
+use super::moves::{Answer, Move, Refusal, Task};
 use super::scenes::{Device, Failing, SOUND, Scene, play};
 use std::test::Fail;
-use tmem_disk::Fault;
 
-const CLOSED: Answer = Answer::Refused(Fault::Closed);
+const CLOSED: Answer = Answer::Refused(Refusal::Closed);
 
 const WRITE: Task = Task::Write(0, 1);
 
@@ -58,7 +57,7 @@ fn each_wait_ends_once_the_device_has_failed(rt: HostRuntime) -> Result<(), Fail
                 (Move::Sleep(50), Answer::Done),
                 (Move::TryCommit(WRITE), Answer::Committed(0)),
                 (Move::Sleep(50), Answer::Done),
-                (Move::Flush, Answer::Refused(Fault::Unknown)),
+                (Move::Flush, Answer::Refused(Refusal::Unknown)),
             ],
         ],
         ..Scene::empty()
@@ -85,7 +84,7 @@ fn each_wait_ends_once_a_checkpoint_has_failed(rt: HostRuntime) -> Result<(), Fa
             &[
                 (Move::Sleep(50), Answer::Done),
                 (Move::Attempt(WRITE), Answer::Done),
-                (Move::Checkpoint, Answer::Refused(Fault::Device)),
+                (Move::Checkpoint, Answer::Refused(Refusal::Device)),
                 (Move::Settle, CLOSED),
             ],
         ],
@@ -113,7 +112,7 @@ fn what_waits_is_awaited_no_more_once_a_checkpoint_has_failed(rt: HostRuntime) -
             &[(Move::Await(2), CLOSED)],
             &[
                 (Move::Sleep(50), Answer::Done),
-                (Move::Checkpoint, Answer::Refused(Fault::Device)),
+                (Move::Checkpoint, Answer::Refused(Refusal::Device)),
             ],
         ],
         after: &[(Move::RunFlusher(1), CLOSED)],

@@ -1,10 +1,9 @@
 //! One caller of a front whose device fails, or that is shut.
-use super::moves::{Answer, Move, Task};
+use super::moves::{Answer, Move, Refusal, Task};
 use super::scenes::{Device, Failing, SOUND, Scene, play};
 use std::test::Fail;
-use tmem_disk::Fault;
 
-const CLOSED: Answer = Answer::Refused(Fault::Closed);
+const CLOSED: Answer = Answer::Refused(Refusal::Closed);
 
 const WRITE: Task = Task::Write(0, 1);
 
@@ -18,7 +17,7 @@ fn a_failed_sync_shuts_the_front(rt: HostRuntime) -> Result<(), Fail> {
         threads: [
             &[
                 (Move::TryCommit(WRITE), Answer::Committed(0)),
-                (Move::Flush, Answer::Refused(Fault::Unknown)),
+                (Move::Flush, Answer::Refused(Refusal::Unknown)),
                 (Move::TryCommit(WRITE), CLOSED),
                 (Move::Flush, CLOSED),
                 (Move::Checkpoint, CLOSED),
@@ -71,7 +70,7 @@ fn a_flush_with_nothing_waiting_writes_nothing(rt: HostRuntime) -> Result<(), Fa
             (Move::Flush, Answer::Number(1)),
             (Move::Flush, Answer::Number(1)),
             (Move::TryCommit(WRITE), Answer::Committed(1)),
-            (Move::Flush, Answer::Refused(Fault::Device)),
+            (Move::Flush, Answer::Refused(Refusal::Device)),
         ],
         ..Scene::empty()
     };
@@ -92,7 +91,7 @@ fn a_failed_checkpoint_shuts_the_front(rt: HostRuntime) -> Result<(), Fail> {
                 (Move::Flush, Answer::Number(1)),
                 (Move::TryCommit(WRITE), Answer::Committed(1)),
                 (Move::Attempt(WRITE), Answer::Done),
-                (Move::Checkpoint, Answer::Refused(Fault::Device)),
+                (Move::Checkpoint, Answer::Refused(Refusal::Device)),
                 (Move::Settle, CLOSED),
                 (Move::TryCommit(WRITE), CLOSED),
                 (Move::Await(0), Answer::Done),

@@ -1,8 +1,7 @@
 //! Flushers: when each ends, what it has made durable by then, and how it makes room in a full log.
-use super::moves::{Answer, Move, Task};
+use super::moves::{Answer, Move, Refusal, Row, Task};
 use super::scenes::{Device, Failing, SOUND, Scene, play};
 use std::test::Fail;
-use tmem_disk::Fault;
 
 const WRITE: Task = Task::Write(0, 1);
 
@@ -83,7 +82,7 @@ fn a_flusher_is_refused_as_its_checkpoint_is(rt: HostRuntime) -> Result<(), Fail
             (Move::TryCommit(WRITE), Answer::Committed(1)),
             (Move::RunFlusher(1), Answer::Done),
             (Move::TryCommit(WRITE), Answer::Committed(2)),
-            (Move::RunFlusher(1), Answer::Refused(Fault::Device)),
+            (Move::RunFlusher(1), Answer::Refused(Refusal::Device)),
             (Move::Look, Answer::Number(2)),
         ],
         ..Scene::empty()
@@ -93,7 +92,7 @@ fn a_flusher_is_refused_as_its_checkpoint_is(rt: HostRuntime) -> Result<(), Fail
 
 #[test]
 fn a_wait_for_a_flush_waits_and_a_flusher_makes_room(rt: HostRuntime) -> Result<(), Fail> {
-    let caller = [
+    let caller: &[Row] = &[
         (Move::Commit(WRITE), Answer::Committed(0)),
         (Move::Await(0), Answer::Done),
         (Move::Commit(WRITE), Answer::Committed(1)),
@@ -114,7 +113,7 @@ fn a_wait_for_a_flush_waits_and_a_flusher_makes_room(rt: HostRuntime) -> Result<
             ..SOUND
         },
         threads: [
-            &caller,
+            caller,
             // where it is refused, the others do not wait for it
             &[
                 (Move::RunFlusher(u64::MAX), Answer::Done),

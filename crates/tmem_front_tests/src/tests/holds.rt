@@ -1,13 +1,12 @@
 //! What goes on while a thread is held in the middle of a call.
-use super::moves::{Answer, Move, Row, Task};
+use super::moves::{Answer, Move, Refusal, Row, Task};
 use super::scenes::{Scene, play};
 use std::test::Fail;
-use tmem_disk::Fault;
 
-const CLOSED: Answer = Answer::Refused(Fault::Closed);
+const CLOSED: Answer = Answer::Refused(Refusal::Closed);
 
 /// While one thread is held, another one commits once by each way, and looks: nothing is durable by then.
-const MEANWHILE: [Row; 5] = [
+const MEANWHILE: &[Row] = &[
     (Move::AwaitHeld, Answer::Done),
     (Move::TryCommit(Task::Write(0, 2)), Answer::Committed(1)),
     (Move::Commit(Task::Write(0, 2)), Answer::Committed(2)),
@@ -15,15 +14,10 @@ const MEANWHILE: [Row; 5] = [
     (Move::Release, Answer::Done),
 ];
 
-fn meanwhile<'a>(
-    before: &'a [Row],
-    held: &'a [Row],
-    meanwhile: &'a [Row],
-    after: &'a [Row],
-) -> Scene<'a> {
+fn meanwhile<'a>(before: &'a [Row], held: &'a [Row], after: &'a [Row]) -> Scene<'a> {
     Scene {
         before,
-        threads: [held, &[], &[], meanwhile],
+        threads: [held, &[], &[], MEANWHILE],
         after,
         ..Scene::empty()
     }
@@ -31,52 +25,37 @@ fn meanwhile<'a>(
 
 #[test]
 fn settle_while_sync_held(rt: HostRuntime) -> Result<(), Fail> {
-    let before = [
+    let before: &[Row] = &[
         (Move::TryCommit(Task::Write(0, 1)), Answer::Committed(0)),
         (Move::HoldSyncs, Answer::Done),
     ];
-    let held = [(Move::Flush, Answer::Number(1))];
-    let after = [(Move::Look, Answer::Number(1))];
-    let settles = MEANWHILE;
-    play(
-        &rt,
-        rt.alloc(),
-        &meanwhile(&before, &held, &settles, &after),
-    )
+    let held: &[Row] = &[(Move::Flush, Answer::Number(1))];
+    let after: &[Row] = &[(Move::Look, Answer::Number(1))];
+    play(&rt, rt.alloc(), &meanwhile(before, held, after))
 }
 
 #[test]
 fn settle_while_the_sync_of_a_checkpoint_is_held(rt: HostRuntime) -> Result<(), Fail> {
-    let before = [
+    let before: &[Row] = &[
         (Move::TryCommit(Task::Write(0, 1)), Answer::Committed(0)),
         (Move::HoldSyncs, Answer::Done),
     ];
-    let held = [(Move::Checkpoint, Answer::Done)];
+    let held: &[Row] = &[(Move::Checkpoint, Answer::Done)];
     // a checkpoint makes nothing durable that waits
-    let after = [(Move::Look, Answer::Number(0))];
-    let settles = MEANWHILE;
-    play(
-        &rt,
-        rt.alloc(),
-        &meanwhile(&before, &held, &settles, &after),
-    )
+    let after: &[Row] = &[(Move::Look, Answer::Number(0))];
+    play(&rt, rt.alloc(), &meanwhile(before, held, after))
 }
 
 #[test]
 fn an_attempt_is_made_once_where_another_commits_meanwhile(rt: HostRuntime) -> Result<(), Fail> {
-    let before = [
+    let before: &[Row] = &[
         (Move::TryCommit(Task::Write(0, 1)), Answer::Committed(0)),
         (Move::HoldSteps, Answer::Done),
     ];
-    let conflict = Answer::Refused(Fault::Conflict);
-    let held = [(Move::TryCommit(Task::AddOne), conflict)];
-    let after = [(Move::Look, Answer::Number(0))];
-    let settles = MEANWHILE;
-    play(
-        &rt,
-        rt.alloc(),
-        &meanwhile(&before, &held, &settles, &after),
-    )
+    let conflict = Answer::Refused(Refusal::Conflict);
+    let held: &[Row] = &[(Move::TryCommit(Task::AddOne), conflict)];
+    let after: &[Row] = &[(Move::Look, Answer::Number(0))];
+    play(&rt, rt.alloc(), &meanwhile(before, held, after))
 }
 
 #[test]

@@ -61,11 +61,57 @@ pub(super) enum Move {
     NeedsAtMost(u64),
 }
 
+/// Which fault a move is refused with, without what some faults carry: so a row is plain data, and stands in a constant.
+#[derive(Clone, Copy, Debug, PartialEq)]
+pub(super) enum Refusal {
+    Memory,
+    Device,
+    Closed,
+    Unknown,
+    Full,
+    LogFull,
+    Conflict,
+    NotFormatted,
+    Damaged,
+    Missing,
+    Broken,
+    BadPlan,
+    BadName,
+    BadFootprint,
+    Spent,
+    NoSeat,
+    Geometry,
+}
+
+impl Refusal {
+    fn of(fault: Fault) -> Refusal {
+        match fault {
+            Fault::Memory => Refusal::Memory,
+            Fault::Device => Refusal::Device,
+            Fault::Closed => Refusal::Closed,
+            Fault::Unknown => Refusal::Unknown,
+            Fault::Full => Refusal::Full,
+            Fault::LogFull => Refusal::LogFull,
+            Fault::Conflict => Refusal::Conflict,
+            Fault::NotFormatted => Refusal::NotFormatted,
+            Fault::Damaged => Refusal::Damaged,
+            Fault::Missing(_) => Refusal::Missing,
+            Fault::Broken(_) => Refusal::Broken,
+            Fault::BadPlan(_) => Refusal::BadPlan,
+            Fault::BadName => Refusal::BadName,
+            Fault::BadFootprint => Refusal::BadFootprint,
+            Fault::Spent => Refusal::Spent,
+            Fault::NoSeat => Refusal::NoSeat,
+            Fault::Geometry => Refusal::Geometry,
+        }
+    }
+}
+
 /// What a move is answered.
 #[derive(Clone, Copy, Debug, PartialEq)]
 pub(super) enum Answer {
     Done,
-    Refused(Fault),
+    Refused(Refusal),
     Committed(u64),
     /// Changes nothing: how many were accepted before it, and its registers.
     Saw(u64, [i64; 16]),
@@ -129,11 +175,16 @@ fn need_one(alloc: Global) -> Result<Tx, AllocError> {
 }
 
 impl Answer {
+    /// The answer to a call that is refused.
+    pub(super) fn refused(fault: Fault) -> Answer {
+        Answer::Refused(Refusal::of(fault))
+    }
+
     /// The answer to a transaction.
     pub(super) fn to(settled: Result<Settled, Fault>) -> Answer {
         match settled {
             Ok(settled) => Answer::settled(&settled),
-            Err(fault) => Answer::Refused(fault),
+            Err(fault) => Answer::refused(fault),
         }
     }
 
@@ -151,7 +202,7 @@ impl Answer {
     pub(super) fn number(counted: Result<u64, Fault>) -> Answer {
         match counted {
             Ok(number) => Answer::Number(number),
-            Err(fault) => Answer::Refused(fault),
+            Err(fault) => Answer::refused(fault),
         }
     }
 
@@ -159,7 +210,7 @@ impl Answer {
     pub(super) fn done(ended: Result<(), Fault>) -> Answer {
         match ended {
             Ok(()) => Answer::Done,
-            Err(fault) => Answer::Refused(fault),
+            Err(fault) => Answer::refused(fault),
         }
     }
 

@@ -1,10 +1,9 @@
 //! One caller or two passes: what they are answered, one after another.
-use super::moves::{Answer, Move, Task};
+use super::moves::{Answer, Move, Refusal, Task};
 use super::scenes::{Scene, play};
 use std::test::Fail;
-use tmem_disk::Fault;
 
-const FULL: Answer = Answer::Refused(Fault::Full);
+const FULL: Answer = Answer::Refused(Refusal::Full);
 
 const WRITE: Task = Task::Write(0, 1);
 
@@ -53,7 +52,7 @@ fn a_dropped_pass_is_not_given_out_again(rt: HostRuntime) -> Result<(), Fail> {
         // one is in hand, so 32 are given out
         before: &[
             (Move::NewPasses(31), Answer::Number(31)),
-            (Move::NewPass, Answer::Refused(Fault::NoSeat)),
+            (Move::NewPass, Answer::Refused(Refusal::NoSeat)),
             (Move::NewPasses(9), Answer::Number(0)),
         ],
         ..Scene::empty()
@@ -101,9 +100,9 @@ fn a_late_attempt_is_refused(rt: HostRuntime) -> Result<(), Fail> {
             (Move::OtherPass, Answer::Done),
             (Move::TryCommit(Task::AddOne), Answer::Committed(1)),
             (Move::OtherPass, Answer::Done),
-            (Move::Settle, Answer::Refused(Fault::Conflict)),
+            (Move::Settle, Answer::Refused(Refusal::Conflict)),
             (Move::Shut, Answer::Done),
-            (Move::Settle, Answer::Refused(Fault::Closed)),
+            (Move::Settle, Answer::Refused(Refusal::Closed)),
             (Move::Peek(0), Answer::Value(2)),
         ],
         ..Scene::empty()

@@ -147,8 +147,19 @@ impl<D: Disk + Drop, N: StoreNaming, T: Invariants + Drop, S: StoredSteps + Drop
         if rows.is_empty() {
             return None;
         }
-        match self.hands(stage) {
-            Ok(mut hands) => self.play_rows(stage, &mut hands, part, rows),
+        self.play_from(stage, &mut Hands::new(), part, rows)
+    }
+
+    // Takes a pass, and plays rows.
+    fn play_from<R: Clock + CpuClock + Wait>(
+        &self,
+        stage: &Stage<R>,
+        hands: &mut Hands<N>,
+        part: Part,
+        rows: &[Row],
+    ) -> Option<Wrong> {
+        match self.take_pass(stage, &mut hands.pass) {
+            Ok(()) => self.play_rows(stage, hands, part, rows),
             Err(fault) => Some(Wrong::NotBegun(fault)),
         }
     }
@@ -219,23 +230,38 @@ fn play_four<F: Plays + Sync, R: Clock + CpuClock + Threads + Wait + Sync>(
     one.or(other)
 }
 
-// A scene in a store.
+// A scene in a store, with the hands that begin it and end it.
 fn play_in<
     D: Disk + Drop + Send,
     N: StoreNaming + Send + Sync,
     T: Invariants + Drop + Send,
     S: StoredSteps + Drop + Send + Sync,
     R: Clock + CpuClock + Threads + Wait + Sync,
->(stage: &Stage<R>, front: &Front<D, N, T, S>, scene: &Scene) -> Option<Wrong> {
+>(
+    stage: &Stage<R>,
+    front: &Front<D, N, T, S>,
+    hands: &mut Hands<N>,
+    scene: &Scene,
+) -> Option<Wrong> {
     let store = Store { front };
-    let mut hands = match store.hands(stage) {
-        Ok(hands) => hands,
-        Err(fault) => return Some(Wrong::NotBegun(fault)),
-    };
-    let before = store.play_rows(stage, &mut hands, Part::Before, scene.before);
+    if let Err(fault) = store.take_pass(stage, &mut hands.pass) {
+        return Some(Wrong::NotBegun(fault));
+    }
+    let before = store.play_rows(stage, hands, Part::Before, scene.before);
     let threads = play_four(stage, front, scene.threads);
-    let after = store.play_rows(stage, &mut hands, Part::After, scene.after);
+    let after = store.play_rows(stage, hands, Part::After, scene.after);
     before.or(threads).or(after)
+}
+
+// A scene in a store.
+fn play_on<
+    D: Disk + Drop + Send,
+    N: StoreNaming + Send + Sync,
+    T: Invariants + Drop + Send,
+    S: StoredSteps + Drop + Send + Sync,
+    R: Clock + CpuClock + Threads + Wait + Sync,
+>(stage: &Stage<R>, front: &Front<D, N, T, S>, scene: &Scene) -> Option<Wrong> {
+    play_in(stage, front, &mut Hands::new(), scene)
 }
 
 /// A store on a device that waits and fails as a scene wants it.
@@ -281,7 +307,7 @@ fn play_named<N: StoreNaming + Send + Sync, R: Clock + CpuClock + Threads + Wait
     requires opening { found_of opened ≡ N.opening }
     requires program { N.program ≡ adding }
 {
-    play_in(stage, &opened.named::<N>(), scene)
+    play_on(stage, &opened.named::<N>(), scene)
 }
 
 /// Plays a scene in a new store. Fails with what went wrong first.

@@ -13,24 +13,56 @@ const START: u64 = 5;
 
 const TURNS: u64 = 200;
 
+/// What the passes are told of one effect: two looks with its number between them, a look once it is durable, and what the
+/// writer saw.
+type Told = (u64, u64, u64, u64, u64);
+
 // One effect is accepted, aimed at and durable, and two passes look.
-fn one_effect<N: Naming>(opened: Opened) -> Option<(u64, u64, u64, u64, u64)>
+fn told<N: Naming>(
+    spine: &Spine<N>,
+    core: &mut CoreSide<N>,
+    journal: &mut JournalSide<N>,
+    writer: &mut Pass<N>,
+    reader: &mut Pass<N>,
+) -> Told
+    requires start { N.name.start ≡ 5 }
+    requires core { core.old.accepted ≡ [] }
+    requires journal { journal.old.durable ≡ [] }
+{
+    let before = spine.look(reader);
+    spine.trim(core, writer);
+    let number = spine.accept(core, writer, &Effect::new());
+    let accepted = spine.look(reader);
+    let from = spine.trim_beside(core, journal);
+    spine.aim(core, journal, from + 1);
+    spine.harden(journal, 1);
+    spine.meet_journal(journal, reader);
+    let durable = spine.look(reader);
+    (before, number, accepted, durable, writer.seen())
+}
+
+// The same by new passes.
+fn told_by_two<N: Naming>(
+    spine: &Spine<N>,
+    core: &mut CoreSide<N>,
+    journal: &mut JournalSide<N>,
+) -> Option<Told>
+    requires start { N.name.start ≡ 5 }
+    requires core { core.old.accepted ≡ [] }
+    requires journal { journal.old.durable ≡ [] }
+{
+    let mut writer = spine.pass(core)?;
+    let mut reader = spine.pass(core)?;
+    Some(told(spine, core, journal, &mut writer, &mut reader))
+}
+
+// The same on a new spine.
+fn one_effect<N: Naming>(opened: Opened) -> Option<Told>
     requires name { opened ≡ N.name }
     requires start { N.name.start ≡ 5 }
 {
     let (spine, mut core, mut journal) = opened.named::<N>();
-    let mut writer = spine.pass(&mut core)?;
-    let mut reader = spine.pass(&mut core)?;
-    let before = spine.look(&mut reader);
-    spine.trim(&mut core, &mut writer);
-    let number = spine.accept(&mut core, &mut writer, &Effect::new());
-    let accepted = spine.look(&mut reader);
-    let from = spine.trim_beside(&mut core, &mut journal);
-    spine.aim(&mut core, &mut journal, from + 1);
-    spine.harden(&mut journal, 1);
-    spine.meet_journal(&mut journal, &mut reader);
-    let durable = spine.look(&mut reader);
-    Some((before, number, accepted, durable, writer.seen()))
+    told_by_two(&spine, &mut core, &mut journal)
 }
 
 #[test]
@@ -94,6 +126,39 @@ fn looks<N: Naming>(spine: &Spine<N>, mut pass: Pass<N>) -> (bool, Pass<N>) {
     (ascends, pass)
 }
 
+// Two passes. What is accepted stays.
+fn two_passes<N: Naming>(spine: &Spine<N>, core: &mut CoreSide<N>) -> Option<(Pass<N>, Pass<N>)>
+    ensures { core.new.accepted ≡ core.old.accepted }
+{
+    let writer = spine.pass(core)?;
+    let reader = spine.pass(core)?;
+    Some((writer, reader))
+}
+
+// A thread writes while another one looks.
+fn at_once<N: Naming + Send + Sync, R: Threads + Sync>(
+    rt: &R,
+    spine: &Spine<N>,
+    core: CoreSide<N>,
+    journal: JournalSide<N>,
+    writer: Pass<N>,
+    reader: Pass<N>,
+) -> (u64, bool, u64)
+    requires start { N.name.start ≡ 5 }
+    requires core { core.accepted ≡ [] }
+    requires journal { journal.durable ≡ [] }
+{
+    let (last, (ascends, mut reader)) = join(
+        rt,
+        || -> u64
+            requires { (N.name.start ≡ 5) × (core.accepted ≡ []) × (journal.durable ≡ []) }
+        { writes(spine, core, journal, writer) },
+        || looks(spine, reader),
+    );
+    (last, ascends, spine.look(&mut reader))
+}
+
+// The same on a new spine.
 fn together<N: Naming + Send + Sync, R: Threads + Sync>(
     rt: &R,
     opened: Opened,
@@ -102,16 +167,8 @@ fn together<N: Naming + Send + Sync, R: Threads + Sync>(
     requires start { N.name.start ≡ 5 }
 {
     let (spine, mut core, journal) = opened.named::<N>();
-    let writer = spine.pass(&mut core)?;
-    let reader = spine.pass(&mut core)?;
-    let (last, (ascends, mut reader)) = join(
-        rt,
-        || -> u64
-            requires { (N.name.start ≡ 5) × (core.accepted ≡ []) × (journal.durable ≡ []) }
-        { writes(&spine, core, journal, writer) },
-        || looks(&spine, reader),
-    );
-    Some((last, ascends, spine.look(&mut reader)))
+    let (writer, reader) = two_passes(&spine, &mut core)?;
+    Some(at_once(rt, &spine, core, journal, writer, reader))
 }
 
 #[test]

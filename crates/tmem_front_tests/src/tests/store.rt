@@ -1,8 +1,9 @@
 //! A front that the threads of a scene share, and how each move is played on it.
-ghost use Rattle.std.specs.Prelude.{◌≡◌, ◌<◌, length};
+ghost use Rattle.std.specs.Prelude.{◌≡◌, ◌<◌, length, IfOk};
 ghost use Rattle.tmem_tentative.specs.Fits.{IsForVariables, IsForNames};
+ghost use Rattle.tmem_tree.specs.Plans.{FitsSteps, FitsVariables, FitsNames};
 
-use super::moves::{Answer, Move, Task};
+use super::moves::{Answer, Move, Refusal, Task};
 use super::signals::Signals;
 use std::alloc::Global;
 use std::marker::PhantomData;
@@ -14,7 +15,7 @@ use tmem_disk::{Disk, Fault};
 use tmem_front::{Front, Pace, Pass, StoreNaming};
 use tmem_invariants::Invariants;
 use tmem_tentative::Attempt;
-use tmem_tree::{StoredSteps, Tx};
+use tmem_tree::{Plan, StoredSteps, Tx};
 
 /// How often an addition is made at the most.
 const MOST_ATTEMPTS: u64 = 1_000_000;
@@ -34,11 +35,32 @@ pub(super) struct Stage<'a, R> {
 }
 
 /// What one thread has in hand.
-#[derive(Drop)]
 pub(super) struct Hands<N: StoreNaming> {
-    pass: Pass<N>,
+    pub(super) pass: Option<Pass<N>>,
     other: Option<Pass<N>>,
     kept: Option<Kept<N>>,
+}
+
+// By hand, so that a function that drops them makes one call.
+impl<N: StoreNaming> Drop for Hands<N> {
+    fn drop(self) {
+        let Hands {
+            pass: _pass,
+            other: _other,
+            kept: _kept,
+        } = self;
+    }
+}
+
+impl<N: StoreNaming> Hands<N> {
+    /// Empty ones.
+    pub(super) fn new() -> Hands<N> {
+        Hands {
+            pass: None,
+            other: None,
+            kept: None,
+        }
+    }
 }
 
 /// An attempt at a plan of the front.
@@ -72,13 +94,14 @@ impl<D: Disk + Drop, N: StoreNaming, T: Invariants + Drop, S: StoredSteps + Drop
     T,
     S,
 > {
-    /// The hands of a thread, with a pass.
-    pub(super) fn hands<R: Wait>(&self, stage: &Stage<R>) -> Result<Hands<N>, Fault> {
-        Ok(Hands {
-            pass: self.front.pass(stage.rt)?,
-            other: None,
-            kept: None,
-        })
+    /// Takes a new pass in place of what is there, which is dropped. Where it is refused, that stays.
+    pub(super) fn take_pass<R: Wait>(
+        &self,
+        stage: &Stage<R>,
+        place: &mut Option<Pass<N>>,
+    ) -> Result<(), Fault> {
+        *place = Some(self.front.pass(stage.rt)?);
+        Ok(())
     }
 
     /// Plays a move.
@@ -89,26 +112,41 @@ impl<D: Disk + Drop, N: StoreNaming, T: Invariants + Drop, S: StoredSteps + Drop
         step: Move,
     ) -> Answer {
         match step {
-            Move::Commit(task) => self.commit(stage, &mut hands.pass, task),
-            Move::TryCommit(task) => self.try_commit(stage, &mut hands.pass, task),
-            Move::Attempt(task) => self.attempt(stage, hands, task),
+            Move::Attempt(task) => self.attempt(stage, &mut hands.kept, task),
             Move::Settle => self.settle(stage, hands),
-            Move::Fill(times) => self.fill(stage, &mut hands.pass, times),
-            Move::Add(times) => self.add(stage, &mut hands.pass, times),
-            Move::NewPass => self.new_pass(stage, hands),
-            Move::NewPasses(times) => self.new_passes(stage, times),
-            Move::OtherPass => self.other_pass(stage, hands),
-            Move::Look => Answer::Number(self.front.look(&mut hands.pass)),
-            Move::Seen => Answer::Number(hands.pass.seen()),
-            Move::Vouch(number) => self.vouch(stage, &mut hands.pass, number),
-            Move::Await(number) => self.await_durable(stage, &mut hands.pass, number),
+            Move::NewPass => Answer::done(self.take_pass(stage, &mut hands.pass)),
+            Move::OtherPass => Answer::done(self.other_pass(stage, hands)),
+            other => match &mut hands.pass {
+                Some(pass) => self.answer_by(stage, pass, other),
+                None => Answer::Nothing,
+            },
+        }
+    }
+
+    // Plays a move by a pass.
+    fn answer_by<R: Clock + CpuClock + Wait>(
+        &self,
+        stage: &Stage<R>,
+        pass: &mut Pass<N>,
+        step: Move,
+    ) -> Answer {
+        match step {
+            Move::Commit(task) => self.commit(stage, pass, task),
+            Move::TryCommit(task) => self.try_commit(stage, pass, task),
+            Move::Fill(times) => self.fill(stage, pass, times),
+            Move::Add(times) => self.add(stage, pass, times),
+            Move::Look => Answer::Number(self.front.look(pass)),
+            Move::Seen => Answer::Number(pass.seen()),
+            Move::Vouch(number) => self.vouch(stage, pass, number),
+            Move::Await(number) => self.await_durable(stage, pass, number),
             other => self.answer_alone(stage, other),
         }
     }
 
-    // Plays a move that needs no hands.
+    // Plays a move that needs no pass.
     fn answer_alone<R: Clock + CpuClock + Wait>(&self, stage: &Stage<R>, step: Move) -> Answer {
         match step {
+            Move::NewPasses(times) => self.new_passes(stage, times),
             Move::Peek(var) => self.peek(stage, var),
             Move::Flush => Answer::number(self.front.flush_once(stage.rt)),
             Move::FlushWithRoom => Answer::number(self.front.flush_with_room(stage.rt)),
@@ -119,54 +157,65 @@ impl<D: Disk + Drop, N: StoreNaming, T: Invariants + Drop, S: StoredSteps + Drop
         }
     }
 
+    // The plan of a task.
+    fn plan<R>(&self, stage: &Stage<R>, task: Task) -> Result<Plan, Fault>
+        ensures steps { IfOk result (FitsSteps (S.arities self.now.front.now.steps)) }
+        ensures variables { IfOk result (FitsVariables self.now.front.now.vars) }
+        ensures names { IfOk result (FitsNames N.program.names) }
+    {
+        self.front.plan(task.tx(stage.alloc)?)
+    }
+
     // Commits a task by `atomically`.
     fn commit<R: Wait>(&self, stage: &Stage<R>, pass: &mut Pass<N>, task: Task) -> Answer {
-        let Ok(tx) = task.tx(stage.alloc) else {
-            return Answer::Refused(Fault::Memory);
-        };
-        match self.front.plan(tx) {
+        match self.plan(stage, task) {
             Ok(plan) => Answer::to(self.front.atomically(stage.rt, pass, &plan)),
-            Err(fault) => Answer::Refused(fault),
+            Err(fault) => Answer::refused(fault),
         }
     }
 
     // Commits a task by `try_atomically`.
     fn try_commit<R: Wait>(&self, stage: &Stage<R>, pass: &mut Pass<N>, task: Task) -> Answer {
-        let Ok(tx) = task.tx(stage.alloc) else {
-            return Answer::Refused(Fault::Memory);
-        };
-        match self.front.plan(tx) {
+        match self.plan(stage, task) {
             Ok(plan) => Answer::to(self.front.try_atomically(stage.rt, pass, &plan)),
-            Err(fault) => Answer::Refused(fault),
+            Err(fault) => Answer::refused(fault),
         }
     }
 
     // Keeps an attempt at a task.
-    fn attempt<R: Wait>(&self, stage: &Stage<R>, hands: &mut Hands<N>, task: Task) -> Answer {
-        match self.made(stage, task) {
-            Ok(kept) => {
-                hands.kept = Some(kept);
-                Answer::Done
-            }
-            Err(fault) => Answer::Refused(fault),
+    fn attempt<R: Wait>(&self, stage: &Stage<R>, kept: &mut Option<Kept<N>>, task: Task) -> Answer {
+        match self.plan(stage, task) {
+            Ok(plan) => Answer::done(self.keep(stage, kept, &plan)),
+            Err(fault) => Answer::refused(fault),
         }
     }
 
-    fn made<R: Wait>(&self, stage: &Stage<R>, task: Task) -> Result<Kept<N>, Fault> {
-        let plan = self.front.plan(task.tx(stage.alloc)?)?;
-        Ok(Kept {
-            attempt: self.front.attempt(stage.rt, &plan)?,
+    // Keeps an attempt at a plan.
+    fn keep<R: Wait>(
+        &self,
+        stage: &Stage<R>,
+        kept: &mut Option<Kept<N>>,
+        plan: &Plan,
+    ) -> Result<(), Fault>
+        requires steps { FitsSteps (S.arities self.now.front.now.steps) plan.now }
+        requires variables { FitsVariables self.now.front.now.vars plan.now }
+        requires names { FitsNames N.program.names plan.now }
+    {
+        let attempt = self.front.attempt(stage.rt, plan)?;
+        *kept = Some(Kept {
+            attempt,
             of: PhantomData,
-        })
+        });
+        Ok(())
     }
 
     // Settles the attempt that is kept.
     fn settle<R: Wait>(&self, stage: &Stage<R>, hands: &mut Hands<N>) -> Answer {
-        match &hands.kept {
-            Some(kept) => {
-                Answer::to(self.front.settle(stage.rt, &mut hands.pass, &kept.attempt))
+        match (&mut hands.pass, &hands.kept) {
+            (Some(pass), Some(kept)) => {
+                Answer::to(self.front.settle(stage.rt, pass, &kept.attempt))
             }
-            None => Answer::Nothing,
+            _ => Answer::Nothing,
         }
     }
 
@@ -190,21 +239,11 @@ impl<D: Disk + Drop, N: StoreNaming, T: Invariants + Drop, S: StoredSteps + Drop
             }
             match self.try_commit(stage, pass, Task::AddOne) {
                 Answer::Committed(_) => committed = committed.saturating_add(1),
-                Answer::Refused(Fault::Conflict) => {}
+                Answer::Refused(Refusal::Conflict) => {}
                 other => return other,
             }
         }
         Answer::Number(committed)
-    }
-
-    fn new_pass<R: Wait>(&self, stage: &Stage<R>, hands: &mut Hands<N>) -> Answer {
-        match self.front.pass(stage.rt) {
-            Ok(pass) => {
-                hands.pass = pass;
-                Answer::Done
-            }
-            Err(fault) => Answer::Refused(fault),
-        }
     }
 
     // How many passes are given out, each dropped at once.
@@ -219,21 +258,16 @@ impl<D: Disk + Drop, N: StoreNaming, T: Invariants + Drop, S: StoredSteps + Drop
     }
 
     fn gives_pass<R: Wait>(&self, stage: &Stage<R>) -> bool {
-        self.front.pass(stage.rt).is_ok()
+        let mut place = None;
+        self.take_pass(stage, &mut place).is_ok()
     }
 
-    fn other_pass<R: Wait>(&self, stage: &Stage<R>, hands: &mut Hands<N>) -> Answer {
-        let other = match hands.other.take() {
-            Some(other) => Ok(other),
-            None => self.front.pass(stage.rt),
-        };
-        match other {
-            Ok(other) => {
-                hands.other = Some(mem::replace(&mut hands.pass, other));
-                Answer::Done
-            }
-            Err(fault) => Answer::Refused(fault),
+    fn other_pass<R: Wait>(&self, stage: &Stage<R>, hands: &mut Hands<N>) -> Result<(), Fault> {
+        if hands.other.is_none() {
+            self.take_pass(stage, &mut hands.other)?;
         }
+        mem::swap(&mut hands.pass, &mut hands.other);
+        Ok(())
     }
 
     // Only a number that the pass saw is vouched for.
@@ -254,7 +288,7 @@ impl<D: Disk + Drop, N: StoreNaming, T: Invariants + Drop, S: StoredSteps + Drop
     fn peek<R: Wait>(&self, stage: &Stage<R>, var: u16) -> Answer {
         match self.front.plan(Tx::Read { var, reg: 0 }) {
             Ok(_plan) => Answer::Value(self.front.peek(stage.rt, var)),
-            Err(fault) => Answer::Refused(fault),
+            Err(fault) => Answer::refused(fault),
         }
     }
 

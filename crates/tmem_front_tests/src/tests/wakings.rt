@@ -1,10 +1,9 @@
 //! Each thread that waits is woken, and rests until then.
-use super::moves::{Answer, Move, Row, Task};
+use super::moves::{Answer, Move, Refusal, Row, Task};
 use super::scenes::{Scene, play};
 use std::test::Fail;
-use tmem_disk::Fault;
 
-const CLOSED: Answer = Answer::Refused(Fault::Closed);
+const CLOSED: Answer = Answer::Refused(Refusal::Closed);
 
 /// The registers of what waited for a 1.
 const ONE: [i64; 16] = [1, 1, 1, 0, 0, 0, 0, 0, 0, 0, 0, 0, 0, 0, 0, 0];
@@ -19,56 +18,56 @@ fn three<'a>(waits: &'a [Row], wakes: &'a [Row]) -> Scene<'a> {
 
 #[test]
 fn a_flush_wakes_each_thread_that_awaits_it(rt: HostRuntime) -> Result<(), Fail> {
-    let waits = [(Move::Await(0), Answer::Done)];
-    let wakes = [
+    let waits: &[Row] = &[(Move::Await(0), Answer::Done)];
+    let wakes: &[Row] = &[
         (Move::Sleep(50), Answer::Done),
         (Move::TryCommit(Task::Write(0, 1)), Answer::Committed(0)),
         (Move::Sleep(50), Answer::Done),
         (Move::Flush, Answer::Number(1)),
     ];
-    play(&rt, rt.alloc(), &three(&waits, &wakes))
+    play(&rt, rt.alloc(), &three(waits, wakes))
 }
 
 #[test]
 fn a_shut_wakes_each_thread_that_awaits_a_flush(rt: HostRuntime) -> Result<(), Fail> {
-    let waits = [(Move::Await(0), CLOSED)];
-    let wakes = [(Move::Sleep(50), Answer::Done), (Move::Shut, Answer::Done)];
-    play(&rt, rt.alloc(), &three(&waits, &wakes))
+    let waits: &[Row] = &[(Move::Await(0), CLOSED)];
+    let wakes: &[Row] = &[(Move::Sleep(50), Answer::Done), (Move::Shut, Answer::Done)];
+    play(&rt, rt.alloc(), &three(waits, wakes))
 }
 
 #[test]
 fn a_shut_wakes_each_thread_that_retries(rt: HostRuntime) -> Result<(), Fail> {
-    let waits = [(Move::Commit(Task::NeedOne), CLOSED)];
-    let wakes = [(Move::Sleep(50), Answer::Done), (Move::Shut, Answer::Done)];
-    play(&rt, rt.alloc(), &three(&waits, &wakes))
+    let waits: &[Row] = &[(Move::Commit(Task::NeedOne), CLOSED)];
+    let wakes: &[Row] = &[(Move::Sleep(50), Answer::Done), (Move::Shut, Answer::Done)];
+    play(&rt, rt.alloc(), &three(waits, wakes))
 }
 
 #[test]
 fn a_shut_wakes_each_flusher(rt: HostRuntime) -> Result<(), Fail> {
-    let waits = [(Move::RunFlusher(1), Answer::Done)];
-    let wakes = [(Move::Sleep(50), Answer::Done), (Move::Shut, Answer::Done)];
-    play(&rt, rt.alloc(), &three(&waits, &wakes))
+    let waits: &[Row] = &[(Move::RunFlusher(1), Answer::Done)];
+    let wakes: &[Row] = &[(Move::Sleep(50), Answer::Done), (Move::Shut, Answer::Done)];
+    play(&rt, rt.alloc(), &three(waits, wakes))
 }
 
 #[test]
 fn a_commit_wakes_each_thread_that_retries(rt: HostRuntime) -> Result<(), Fail> {
-    let waits = [(Move::Commit(Task::NeedOne), Answer::Saw(1, ONE))];
-    let wakes = [
+    let waits: &[Row] = &[(Move::Commit(Task::NeedOne), Answer::Saw(1, ONE))];
+    let wakes: &[Row] = &[
         (Move::Sleep(50), Answer::Done),
         (Move::TryCommit(Task::Write(2, 1)), Answer::Committed(0)),
     ];
-    play(&rt, rt.alloc(), &three(&waits, &wakes))
+    play(&rt, rt.alloc(), &three(waits, wakes))
 }
 
 #[test]
 fn a_settle_wakes_each_thread_that_retries(rt: HostRuntime) -> Result<(), Fail> {
-    let waits = [(Move::Commit(Task::NeedOne), Answer::Saw(1, ONE))];
-    let wakes = [
+    let waits: &[Row] = &[(Move::Commit(Task::NeedOne), Answer::Saw(1, ONE))];
+    let wakes: &[Row] = &[
         (Move::Sleep(50), Answer::Done),
         (Move::Attempt(Task::Write(2, 1)), Answer::Done),
         (Move::Settle, Answer::Committed(0)),
     ];
-    play(&rt, rt.alloc(), &three(&waits, &wakes))
+    play(&rt, rt.alloc(), &three(waits, wakes))
 }
 
 #[test]
