@@ -5,6 +5,7 @@ mod Leaves
 mod Looks
 mod OpensStore
 mod Planned
+mod Present
 mod Refusals
 mod Room
 mod Seated

@@ -11,6 +11,7 @@
 //! call that may wait they speak of where it returns.
 #![tactic(auto)]
 
+mod at_once;
 mod core_seat;
 mod front;
 mod journal_seat;

@@ -10,7 +10,7 @@ ghost use Rattle.tmem_spine.specs.History.{count};
 ghost use Rattle.std.specs.Sync.Mutex.{mutex_guard_value};
 ghost use Rattle.tmem_front.specs.Flushing.{IsFlusherRefusal};
 ghost use Rattle.tmem_front.specs.Seats.{HasMoreOrShut, HasFlushedOrShut, HasWorkOrShut};
-ghost use Rattle.tmem_front.specs.Settling.{Settles, SettlesAtLast};
+ghost use Rattle.tmem_front.specs.Settling.{Settles, SettlesAtLast, SettlesPlan};
 
 use crate::core_seat::CoreSeat;
 use crate::front::{Front, with_registers};
@@ -23,8 +23,11 @@ use tmem_core::{Decision, Settled};
 use tmem_disk::{Disk, Fault};
 use tmem_invariants::Invariants;
 use tmem_spine::Pass as SpinePass;
-use tmem_tentative::Attempt;
+use tmem_tentative::{Attempt, Cursor};
 use tmem_tree::{Plan, StoredSteps};
+
+// How often a plan is evaluated beside other threads: after so many conflicts or retries it is evaluated under the core's lock.
+const LOOSE_TURNS: u32 = 2;
 
 // How often a caller looks before it sleeps. To wake a thread takes about as long as a flush of a fast disk.
 const LOOKS: u32 = 100;
@@ -36,7 +39,7 @@ impl<D: Disk + Drop, N: StoreNaming, T: Invariants + Drop, S: StoredSteps + Drop
     S,
 > {
     /// Attempts a plan of this front until it is settled: at once after a conflict, and after a retry once another transaction
-    /// has committed. Refused as a core refuses it, but for `Conflict`, and by `Memory`.
+    /// has committed. After two of these it is evaluated under the core's lock, where it meets no conflict. Refused as a core refuses it, but for `Conflict`, and by `Memory`.
     pub fn atomically<R: Wait>(
         &self,
         rt: &R,
@@ -50,12 +53,18 @@ impl<D: Disk + Drop, N: StoreNaming, T: Invariants + Drop, S: StoredSteps + Drop
         ensures no_conflict { result ≢ Err Fault.Conflict }
         ensures no_retry { result ≢ Ok Settled.Retry }
     {
+        let mut left = LOOSE_TURNS;
         for _ in rt.forever() {
-            self.evaluate(rt, &mut pass.cursor, plan)?;
-            let answer = self.settle_or_wait(rt, &mut pass.seat, pass.cursor.attempt());
+            let answer = if left == 0 {
+                self.run_or_wait(rt, &mut pass.seat, &mut pass.cursor, plan)
+            } else {
+                self.evaluate(rt, &mut pass.cursor, plan)?;
+                self.settle_or_wait(rt, &mut pass.seat, pass.cursor.attempt())
+            };
             if is_last(&answer) {
                 return answer;
             }
+            left = left.saturating_sub(1);
         }
         unreachable!()
     }
@@ -74,15 +83,49 @@ impl<D: Disk + Drop, N: StoreNaming, T: Invariants + Drop, S: StoredSteps + Drop
     {
         let mut core = self.core.lock(rt);
         let decision = core.decide(&self.spine, seat, attempt);
+        self.go_on(rt, core, &decision);
+        with_registers(decision, attempt)
+    }
+
+    // Evaluates a plan and settles the attempt under one hold of the core's lock, so that no other thread comes in between. Waits as
+    // `settle_or_wait` does.
+    fn run_or_wait<R: Wait>(
+        &self,
+        rt: &R,
+        seat: &mut SpinePass<N>,
+        cursor: &mut Cursor,
+        plan: &Plan,
+    ) -> Result<Settled, Fault>
+        requires steps { FitsSteps (S.arities self.now.steps) plan.now }
+        requires variables { FitsVariables self.now.vars plan.now }
+        requires names { FitsNames N.program.names plan.now }
+        ensures settled { SettlesPlan N.name.start N.opening N.program plan.now seat.old result seat.new }
+        ensures no_conflict { result ≢ Err Fault.Conflict }
+    {
+        let mut core = self.core.lock(rt);
+        core.evaluate(rt, cursor, plan, &self.steps)?;
+        let attempt = cursor.attempt();
+        let decision = core.decide(&self.spine, seat, attempt);
+        self.go_on(rt, core, &decision);
+        with_registers(decision, attempt)
+    }
+
+    // Lets the core's lock go after a decision. What commits wakes whoever waits for that, and what retries waits under the same lock
+    // until another transaction has committed, or the front is shut.
+    fn go_on<R: Wait>(
+        &self,
+        rt: &R,
+        core: MutexGuard<CoreSeat<N, T>>,
+        decision: &Result<Decision, Fault>,
+    ) {
         match decision {
             Ok(Decision::Committed(_)) => {
                 drop(core);
                 self.committed.notify_all();
             }
-            Ok(Decision::Retry(at)) => drop(self.wait_for_another(rt, core, at)),
+            Ok(Decision::Retry(at)) => drop(self.wait_for_another(rt, core, *at)),
             _ => drop(core),
         }
-        with_registers(decision, attempt)
     }
 
     // Waits under the core's lock until more than so many are accepted, or the front is shut.
