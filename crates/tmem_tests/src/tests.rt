@@ -11,7 +11,7 @@ mod limits;
 mod tables;
 mod words;
 
-use std::alloc::{AllocError, Global};
+use std::alloc::Global;
 use tmem_disk::{Fault, SimDisk};
 use tmem_invariants::Invariants;
 use tmem_tree::{MAX_NODES, StoredSteps, Tx};
@@ -25,8 +25,11 @@ fn committed(number: u64, first: i64) -> Reply {
 }
 
 /// Puts a number in register 0, and writes it to a variable.
-fn write(alloc: Global, var: u16, number: i64) -> Result<Tx, AllocError> {
-    Ok(Tx::Seq(vec![in alloc; Tx::Put { reg: 0, number }, Tx::Write { var, reg: 0 }]?))
+fn write(alloc: Global, var: u16, number: i64) -> Result<Tx, Fault> {
+    let mut all = Vec::new(alloc);
+    all.push(Tx::Put { reg: 0, number })?;
+    all.push(Tx::Write { var, reg: 0 })?;
+    Ok(Tx::Seq(all))
 }
 
 /// A device of so many variables and slots that holds nothing yet.

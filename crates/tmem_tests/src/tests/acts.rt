@@ -2,7 +2,7 @@
 ghost use Rattle.std.specs.Prelude.{◌≡◌, length, IfOk};
 
 use super::counting::CountDisk;
-use std::alloc::Global;
+use std::alloc::{AllocError, Global};
 use std::process::Abort;
 use std::test::Fail;
 use tmem_disk::{DeviceFault, Disk, Fault, Fill, Name, SimDisk};
@@ -68,7 +68,6 @@ pub(super) enum Act<'a> {
 }
 
 /// A case: what is done first, and then each of some rows in the place of the others.
-#[derive(Clone, Copy)]
 pub(super) struct Case<'a> {
     pub(super) name: &'a str,
     pub(super) first: &'a [Act<'a>],
@@ -93,120 +92,151 @@ pub(super) fn play(rt: &impl Abort, alloc: Global, cases: &[Case]) -> Result<(),
     Ok(())
 }
 
-fn play_rows(rt: &impl Abort, alloc: Global, case: &Case) -> Result<(), Fail> {
+fn play_rows(rt: &impl Abort, alloc: Global, case: &Case) -> Result<(), Fault> {
     for (row, rest) in case.rows.iter().enumerate() {
-        let mut acts = Vec::from_slice(alloc, case.first)?;
-        acts.extend_from_slice(rest)?;
-        let other = first_other(alloc, &acts)?;
-        assert_eq!(rt; other, None, "{}, row {row}", case.name);
+        let other = other_in_row(alloc, case.first, rest)?;
+        assert!(rt; other.is_none(), "{}, row {row}: {other:?}", case.name);
     }
     Ok(())
 }
 
+/// The place of the first act of a row that is answered otherwise.
+fn other_in_row<'a>(
+    alloc: Global,
+    first: &'a [Act<'a>],
+    rest: &'a [Act<'a>],
+) -> Result<Option<usize>, Fault> {
+    let mut acts = Vec::from_slice(alloc, first)?;
+    acts.extend_from_slice(rest)?;
+    first_other(alloc, &acts)
+}
+
 /// The place of the first act that is answered otherwise.
-fn first_other(alloc: Global, acts: &[Act]) -> Result<Option<usize>, Fail> {
-    let mut store = Store::Closed(CountDisk::new(SimDisk::new(alloc, 0)?));
+fn first_other(alloc: Global, acts: &[Act]) -> Result<Option<usize>, Fault> {
+    let mut store = Store::Closed(made(alloc, 0)?);
     for (place, act) in acts.iter().enumerate() {
-        let next = match store {
-            Store::Closed(disk) => after_device(alloc, disk, act)?,
-            Store::Session(journal) => after_session(alloc, journal, act)?,
-        };
-        match next {
-            Some(next) => store = next,
-            None => return Ok(Some(place)),
+        let (next, is_so) = after(alloc, store, act)?;
+        if !is_so {
+            return Ok(Some(place));
         }
+        store = next;
     }
     Ok(None)
 }
 
-/// The store after an act, unless it is answered otherwise.
+/// A device of so many zeros.
+fn made(alloc: Global, size: u64) -> Result<Device, Fault> {
+    Ok(CountDisk::new(SimDisk::new(alloc, size)?))
+}
+
+/// The store after an act, and whether it is answered so.
+fn after(alloc: Global, store: Store, act: &Act) -> Result<(Store, bool), Fault> {
+    match store {
+        Store::Closed(disk) => after_device(alloc, disk, act),
+        Store::Session(journal) => after_session(alloc, journal, act),
+    }
+}
+
 fn after_session(
     alloc: Global,
     mut journal: Journal<Device>,
     act: &Act,
-) -> Result<Option<Store>, Fail> {
-    let is_so = match act {
-        Act::Flushes(number, answer) => is_same(flush(alloc, &mut journal, *number)?, *answer),
-        Act::Checkpoints(answer) => is_same(journal.checkpoint(), *answer),
-        Act::Holds(count, number) => {
-            journal.count() == *count && journal.state().values().first() == Some(number)
-        }
-        Act::IsClosed(is_closed) => journal.is_closed() == *is_closed,
-        Act::Closes => return Ok(Some(Store::Closed(journal.into_disk()))),
-        _ => false,
-    };
-    Ok(if is_so {
-        Some(Store::Session(journal))
-    } else {
-        None
-    })
+) -> Result<(Store, bool), Fault> {
+    if matches!(act, Act::Closes) {
+        return Ok((Store::Closed(journal.into_disk()), true));
+    }
+    let is_so = is_so_of_session(alloc, &mut journal, act)?;
+    Ok((Store::Session(journal), is_so))
 }
 
-/// Flushes a batch of one record, which writes a number to variable 0.
-fn flush(
+fn is_so_of_session(
+    alloc: Global,
+    journal: &mut Journal<Device>,
+    act: &Act,
+) -> Result<bool, Fault> {
+    match act {
+        Act::Flushes(number, answer) => is_flushed(alloc, journal, *number, *answer),
+        Act::Checkpoints(answer) => Ok(is_checkpointed(journal, *answer)),
+        Act::Holds(count, number) => Ok(holds(journal, *count, *number)),
+        Act::IsClosed(is_closed) => Ok(journal.is_closed() == *is_closed),
+        _ => Ok(false),
+    }
+}
+
+fn is_checkpointed(journal: &mut Journal<Device>, answer: Result<(), &str>) -> bool {
+    is_same(journal.checkpoint(), answer)
+}
+
+fn holds(journal: &Journal<Device>, count: u64, number: i64) -> bool {
+    journal.count() == count && journal.state().values().first() == Some(&number)
+}
+
+/// Whether a batch of one record, which writes a number to variable 0, is flushed so.
+fn is_flushed(
     alloc: Global,
     journal: &mut Journal<Device>,
     number: i64,
-) -> Result<Result<u64, Fault>, Fail> {
+    answer: Result<u64, &str>,
+) -> Result<bool, Fault> {
     let mut effect = Effect::new();
     effect.writes.put(0, number);
     let has_room = journal.state().has_room_for(effect.names.as_slice());
     let mut batch = Batch::new(alloc)?;
     if effect.is_empty() || !batch.push(&effect) || !has_room || journal.count() == u64::MAX {
-        return Err(Fail::new("no batch for the journal"));
+        return Ok(false);
     }
-    Ok(journal.flush(&batch))
+    Ok(is_same(journal.flush(&batch), answer))
 }
 
-fn after_device(alloc: Global, mut disk: Device, act: &Act) -> Result<Option<Store>, Fail> {
+fn after_device(alloc: Global, mut disk: Device, act: &Act) -> Result<(Store, bool), Fault> {
     match act {
-        Act::Makes(size) => {
-            let disk = CountDisk::new(SimDisk::new(alloc, *size)?);
-            Ok(Some(Store::Closed(disk)))
-        }
+        Act::Makes(size) => Ok((Store::Closed(made(alloc, *size)?), true)),
         Act::Opens(vars, slots, answer) => Ok(opened(alloc, disk, *vars, *slots, *answer)),
         _ => {
-            let is_so = is_so_of_any(alloc, &mut disk, act)?
-                || is_so_of_counting(&mut disk, act)
-                || is_so_of_power(&mut disk.inner, act)
-                || is_so_of_images(alloc, &mut disk, act)?;
-            Ok(if is_so {
-                Some(Store::Closed(disk))
-            } else {
-                None
-            })
+            let is_so = is_so_of_device(alloc, &mut disk, act)?;
+            Ok((Store::Closed(disk), is_so))
         }
     }
 }
 
-/// The session of a device, or the device that is handed back, if opening it is answered so.
+fn is_so_of_device(alloc: Global, disk: &mut Device, act: &Act) -> Result<bool, Fault> {
+    Ok(
+        is_so_of_any(alloc, disk, act)?
+            || is_so_of_counting(disk, act)
+            || is_so_of_power(&mut disk.inner, act)
+            || is_so_of_images(alloc, disk, act)?,
+    )
+}
+
+/// The session of a device, or the device that is handed back, and whether opening it is answered so.
 fn opened(
     alloc: Global,
     disk: Device,
     vars: u16,
     slots: u16,
     answer: Result<u64, &str>,
-) -> Option<Store> {
+) -> (Store, bool) {
     match Journal::open(alloc, disk, vars, slots) {
         Ok(journal) => {
-            let numbers = journal.layout();
-            let had = (numbers.vars, numbers.slots, journal.is_closed());
-            if had != (vars, slots, false) || answer != Ok(journal.count()) {
-                return None;
-            }
-            Some(Store::Session(journal))
+            let is_so = is_session(&journal, vars, slots) && answer == Ok(journal.count());
+            (Store::Session(journal), is_so)
         }
-        Err((fault, disk)) => {
-            if answer != Err(word(fault)) {
-                return None;
-            }
-            Some(Store::Closed(disk))
-        }
+        Err((fault, disk)) => (Store::Closed(disk), answer == Err(word(fault))),
     }
 }
 
+/// Whether a journal is open, and for so many variables and slots.
+fn is_session(journal: &Journal<Device>, vars: u16, slots: u16) -> bool {
+    let numbers = journal.layout();
+    (numbers.vars, numbers.slots, journal.is_closed()) == (vars, slots, false)
+}
+
 /// Whether calls of a device, as whoever knows only a device makes them, are answered so.
-pub(super) fn are_so<D: Disk>(alloc: Global, disk: &mut D, acts: &[Act]) -> Result<bool, Fail> {
+pub(super) fn are_so<D: Disk>(
+    alloc: Global,
+    disk: &mut D,
+    acts: &[Act],
+) -> Result<bool, AllocError> {
     for act in acts {
         if !is_so_of_any(alloc, disk, act)? {
             return Ok(false);
@@ -215,23 +245,39 @@ pub(super) fn are_so<D: Disk>(alloc: Global, disk: &mut D, acts: &[Act]) -> Resu
     Ok(true)
 }
 
-fn is_so_of_any<D: Disk>(alloc: Global, disk: &mut D, act: &Act) -> Result<bool, Fail> {
+fn is_so_of_any<D: Disk>(alloc: Global, disk: &mut D, act: &Act) -> Result<bool, AllocError> {
     match act {
         Act::Size(size) => Ok(disk.size() == *size),
-        Act::Reads(at, wanted) => {
-            let mut had = vec![in alloc; 0xEE; wanted.len()]?;
-            Ok(read(disk, *at, &mut had) == Some(Ok(())) && had.as_slice() == *wanted)
-        }
-        Act::ReadFails(at, count) => {
-            let mut had = vec![in alloc; 0xEE; *count]?;
-            Ok(read(disk, *at, &mut had) == Some(Err(DeviceFault::Read)))
-        }
+        Act::Reads(at, wanted) => is_read(alloc, disk, *at, wanted),
+        Act::ReadFails(at, count) => is_not_read(alloc, disk, *at, *count),
         Act::Writes(at, bytes) => Ok(write(disk, *at, bytes) == Some(Ok(()))),
         Act::WriteFails(at, bytes) => Ok(write(disk, *at, bytes) == Some(Err(DeviceFault::Write))),
         Act::Syncs => Ok(disk.sync() == Ok(())),
         Act::SyncFails => Ok(disk.sync() == Err(DeviceFault::Sync)),
         _ => Ok(false),
     }
+}
+
+/// Whether a read gives these bytes.
+fn is_read<D: Disk>(
+    alloc: Global,
+    disk: &mut D,
+    at: u64,
+    wanted: &[u8],
+) -> Result<bool, AllocError> {
+    let mut had = vec![in alloc; 0xEE; wanted.len()]?;
+    Ok(read(disk, at, &mut had) == Some(Ok(())) && had.as_slice() == wanted)
+}
+
+/// Whether a read of so many bytes fails.
+fn is_not_read<D: Disk>(
+    alloc: Global,
+    disk: &mut D,
+    at: u64,
+    count: usize,
+) -> Result<bool, AllocError> {
+    let mut had = vec![in alloc; 0xEE; count]?;
+    Ok(read(disk, at, &mut had) == Some(Err(DeviceFault::Read)))
 }
 
 /// What a read answers, where it is within the device.
@@ -291,13 +337,10 @@ fn is_so_of_power(disk: &mut SimDisk, act: &Act) -> bool {
 const IMAGE_VARS: u16 = 70;
 
 /// A state of 258 transactions with two names. None of its values at the edges of the pages is 0.
-fn state(alloc: Global) -> Result<State, Fail>
+fn state(alloc: Global) -> Result<State, Fault>
     ensures { IfOk result (λ state. length state.values ≡ 70) }
 {
-    let mut names = NameSet::new(alloc)?;
-    if !names.push(&Name::new("ab")?) || !names.push(&Name::new("b")?) {
-        return Err(Fail::new("no names"));
-    }
+    let names = two_names(alloc)?;
     let mut values = vec![in alloc; 3; 70]?;
     values[0] = -1;
     values[63] = i64::MAX;
@@ -306,64 +349,87 @@ fn state(alloc: Global) -> Result<State, Fail>
     Ok(State::of(258, names, values))
 }
 
-fn is_so_of_images(alloc: Global, disk: &mut Device, act: &Act) -> Result<bool, Fail> {
-    if let Act::Formats(vars, slots, answer) = act {
-        return Ok(is_same(format(disk, *vars, *slots), *answer));
+fn two_names(alloc: Global) -> Result<NameSet, Fault> {
+    let (one, other) = (Name::new("ab")?, Name::new("b")?);
+    let mut names = NameSet::new(alloc)?;
+    if names.push(&one) && names.push(&other) {
+        Ok(names)
+    } else {
+        Err(Fault::Full)
     }
-    let layout = Layout::new(IMAGE_VARS, 2)?;
-    if disk.size() < layout.end() {
-        return Ok(false);
-    }
+}
+
+/// The state that formatting writes.
+fn no_state(alloc: Global) -> Result<State, AllocError> {
+    let names = NameSet::new(alloc)?;
+    Ok(State::of(0, names, vec![in alloc; 0; 70]?))
+}
+
+fn is_so_of_images(alloc: Global, disk: &mut Device, act: &Act) -> Result<bool, Fault> {
     match act {
-        Act::Chooses(answer) => Ok(is_same(choose(disk, layout), *answer)),
-        Act::Puts(copy, generation, answer) => {
-            Ok(is_same(put(alloc, disk, layout, *copy, *generation)?, *answer))
-        }
-        Act::Loads(copy, answer) if *copy <= 1 => {
-            let had = load(alloc, disk, layout, *copy);
-            Ok(is_same(generation_of(alloc, had)?, *answer))
-        }
+        Act::Formats(vars, slots, answer) => Ok(is_formatted(disk, *vars, *slots, *answer)),
+        Act::Chooses(answer) => is_chosen(disk, *answer),
+        Act::Puts(copy, generation, answer) => is_put(alloc, disk, *copy, *generation, *answer),
+        Act::Loads(copy, answer) => is_loaded(alloc, disk, *copy, *answer),
         _ => Ok(false),
     }
 }
 
-/// Writes the image of `state` to a copy, with a generation.
-fn put(
-    alloc: Global,
-    disk: &mut Device,
-    layout: Layout,
-    copy: u8,
-    generation: u64,
-) -> Result<Result<(), Fault>, Fail> {
-    let state = state(alloc)?;
-    disk.sync()?;
-    if copy > 1 || generation == 0 || disk.size() < layout.end() || layout.vars != IMAGE_VARS {
-        return Err(Fail::new("no such image"));
-    }
-    Ok(write_spare(disk, layout, copy, generation, &state))
+fn is_formatted(disk: &mut Device, vars: u16, slots: u16, answer: Result<(), &str>) -> bool {
+    is_same(format(disk, vars, slots), answer)
 }
 
-/// The generation of an image, which holds what formatting wrote where that is 1, and else `state`.
-fn generation_of(
+fn is_chosen(disk: &mut Device, answer: Result<u8, &str>) -> Result<bool, Fault> {
+    let layout = Layout::new(IMAGE_VARS, 2)?;
+    Ok(disk.size() >= layout.end() && is_same(choose(disk, layout), answer))
+}
+
+/// Whether the image of `state` is written so to a copy, with a generation.
+fn is_put(
     alloc: Global,
-    had: Result<ImageState, Fault>,
-) -> Result<Result<u64, Fault>, Fail> {
-    let image = match had {
-        Ok(image) => image,
-        Err(fault) => return Ok(Err(fault)),
-    };
-    let wanted = if image.generation == 1 {
-        State::of(0, NameSet::new(alloc)?, vec![in alloc; 0; 70]?)
-    } else {
-        state(alloc)?
-    };
-    let is_so = image.state.count() == wanted.count()
-        && image.state.names() == wanted.names()
-        && image.state.values() == wanted.values();
-    if !is_so {
-        return Err(Fail::new("it holds another state"));
+    disk: &mut Device,
+    copy: u8,
+    generation: u64,
+    answer: Result<(), &str>,
+) -> Result<bool, Fault> {
+    let layout = Layout::new(IMAGE_VARS, 2)?;
+    let state = state(alloc)?;
+    if copy > 1 || generation == 0 || disk.size() < layout.end() || disk.sync().is_err() {
+        return Ok(false);
     }
-    Ok(Ok(image.generation))
+    Ok(is_same(write_spare(disk, layout, copy, generation, &state), answer))
+}
+
+/// Whether a copy is loaded so, and holds what it ought to.
+fn is_loaded(
+    alloc: Global,
+    disk: &mut Device,
+    copy: u8,
+    answer: Result<u64, &str>,
+) -> Result<bool, Fault> {
+    let layout = Layout::new(IMAGE_VARS, 2)?;
+    if copy > 1 || disk.size() < layout.end() {
+        return Ok(false);
+    }
+    match load(alloc, disk, layout, copy) {
+        Ok(image) => Ok(answer == Ok(image.generation) && is_whole(alloc, &image)?),
+        Err(fault) => Ok(answer == Err(word(fault))),
+    }
+}
+
+/// Whether an image holds what formatting wrote where its generation is 1, and else `state`.
+fn is_whole(alloc: Global, image: &ImageState) -> Result<bool, Fault> {
+    if image.generation == 1 {
+        Ok(is_alike(&image.state, &no_state(alloc)?))
+    } else {
+        Ok(is_alike(&image.state, &state(alloc)?))
+    }
+}
+
+fn is_alike(had: &State, wanted: &State) -> bool {
+    had.count() == wanted.count()
+        && had.names() == wanted.names()
+        && had.values() == wanted.values()
 }
 
 /// Whether an answer is this one, where a refusal is known by its word.

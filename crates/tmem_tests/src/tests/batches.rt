@@ -1,8 +1,8 @@
 //! The bytes of records.
-use std::alloc::Global;
+use std::alloc::{AllocError, Global};
 use std::test::Fail;
-use tmem_disk::Name;
-use tmem_record::{BATCH_ROOM, Batch, Effect, decode_batch, encode_batch};
+use tmem_disk::{Fault, Name};
+use tmem_record::{BATCH_ROOM, Batch, Decoded, Effect, decode_batch, encode_batch};
 
 /// A record: what is written and checked for it, its bytes, and its writes as they are read again.
 struct Record<'a> {
@@ -41,17 +41,17 @@ const RECORDS: &[Record<'static>] = &[
 ];
 
 /// The effect of these writes and checks.
-fn effect_of(puts: &[(u16, i64)], checks: &[&str]) -> Result<Effect, Fail> {
+fn effect_of(puts: &[(u16, i64)], checks: &[&str]) -> Result<Effect, Fault> {
     let mut effect = Effect::new();
     for (var, value) in puts {
         if effect.writes.as_slice().len() >= 64 {
-            return Err(Fail::new("too many writes"));
+            return Err(Fault::Full);
         }
         effect.writes.put(*var, *value);
     }
     for letters in checks {
         if effect.names.as_slice().len() >= 8 {
-            return Err(Fail::new("too many names"));
+            return Err(Fault::Full);
         }
         effect.names.put(&Name::new(letters)?);
     }
@@ -62,7 +62,7 @@ fn effect_of(puts: &[(u16, i64)], checks: &[&str]) -> Result<Effect, Fail> {
 const HEAD: [u8; 16] = [1, 0, 0, 0, 0, 0, 0, 0, 0, 0, 0, 0, 0, 0, 0, 0];
 
 /// The head of a batch of generation 1, with number 0 and so many records, and these bytes behind it.
-fn behind_head(alloc: Global, count: u8, records: &[u8]) -> Result<Vec<u8>, Fail> {
+fn behind_head(alloc: Global, count: u8, records: &[u8]) -> Result<Vec<u8>, AllocError> {
     let mut bytes = Vec::from_slice(alloc, &HEAD)?;
     bytes.extend_from_slice(&[count, 0])?;
     bytes.extend_from_slice(records)?;
@@ -70,15 +70,15 @@ fn behind_head(alloc: Global, count: u8, records: &[u8]) -> Result<Vec<u8>, Fail
 }
 
 /// Whether the batch of these effects, of generation 1 and with number 0, has these bytes.
-fn is_spelled(alloc: Global, effects: &[Effect], bytes: &[u8]) -> Result<bool, Fail> {
+fn is_spelled(alloc: Global, effects: &[Effect], bytes: &[u8]) -> Result<bool, Fault> {
     let mut batch = Batch::new(alloc)?;
     for effect in effects {
         if effect.is_empty() || !batch.push(effect) {
-            return Err(Fail::new("no room"));
+            return Err(Fault::Full);
         }
     }
     if batch.len() != effects.len() || batch.effects().is_empty() {
-        return Err(Fail::new("no record"));
+        return Ok(false);
     }
     let mut buffer = [0xee; BATCH_ROOM];
     let length = encode_batch(&batch, 1, 0, &mut buffer);
@@ -94,61 +94,127 @@ fn is_read(
     length: usize,
     count: usize,
     last: (&[(u16, i64)], &[&str]),
-) -> Result<bool, Fail> {
-    let decoded = decode_batch(alloc, bytes, vars)?.ok_or("a batch")?;
-    let record = decoded.effects.effects().last().ok_or("a record")?;
-    let names = record.names.as_slice();
-    for (name, letters) in names.iter().zip(last.1) {
-        if name.as_str() != *letters {
-            return Ok(false);
-        }
+) -> Result<bool, Fault> {
+    match decode_batch(alloc, bytes, vars)? {
+        Some(decoded) => Ok(is_decoded(&decoded, length, count, last)),
+        None => Ok(false),
     }
+}
+
+/// Whether what was read is so long, has so many records, and writes and checks this in the last one.
+fn is_decoded(
+    decoded: &Decoded,
+    length: usize,
+    count: usize,
+    last: (&[(u16, i64)], &[&str]),
+) -> bool {
+    let Some(record) = decoded.effects.effects().last() else {
+        return false;
+    };
     let head = (
         decoded.generation,
         decoded.first,
         decoded.length,
         decoded.effects.len(),
     );
-    Ok(
-        head == (1, 0, length, count)
-            && record.writes.as_slice() == last.0
-            && names.len() == last.1.len(),
-    )
+    head == (1, 0, length, count)
+        && record.writes.as_slice() == last.0
+        && are_spelled(record.names.as_slice(), last.1)
+}
+
+/// Whether names have these letters, in this order.
+fn are_spelled(names: &[Name], all: &[&str]) -> bool {
+    for (name, letters) in names.iter().zip(all) {
+        if name.as_str() != *letters {
+            return false;
+        }
+    }
+    names.len() == all.len()
+}
+
+/// The effect of a record alone.
+fn effects_of(alloc: Global, record: &Record) -> Result<Vec<Effect>, Fault> {
+    let mut effects = Vec::new(alloc);
+    effects.push(effect_of(record.puts, record.checks)?)?;
+    Ok(effects)
+}
+
+/// Whether a record is spelled by its bytes.
+fn is_record(alloc: Global, record: &Record, bytes: &[u8]) -> Result<bool, Fault> {
+    let effects = effects_of(alloc, record)?;
+    is_spelled(alloc, &effects, bytes)
+}
+
+/// Whether a record is spelled by its bytes, and read from them.
+fn is_record_of_its(alloc: Global, record: &Record) -> Result<bool, Fault> {
+    let bytes = behind_head(alloc, 1, record.bytes)?;
+    Ok(is_record(alloc, record, &bytes)? && is_read_alone(alloc, record, &bytes, bytes.len())?)
+}
+
+/// Whether a record alone is read from so many of these bytes.
+fn is_read_alone(
+    alloc: Global,
+    record: &Record,
+    bytes: &[u8],
+    length: usize,
+) -> Result<bool, Fault> {
+    is_read(alloc, bytes, 4, length, 1, (record.writes, record.checks))
+}
+
+/// Whether a record is read in front of bytes that are none of its.
+fn is_read_in_front(alloc: Global, record: &Record) -> Result<bool, Fault> {
+    let mut bytes = behind_head(alloc, 1, record.bytes)?;
+    let length = bytes.len();
+    bytes.extend_from_slice(&[0xee; 9])?;
+    is_read_alone(alloc, record, &bytes, length)
 }
 
 #[test]
 fn a_record_has_these_bytes(rt: HostRuntime) -> Result<(), Fail> {
     let alloc = rt.alloc();
     for (row, record) in RECORDS.iter().enumerate() {
-        let effect = [effect_of(record.puts, record.checks)?];
-        let mut bytes = behind_head(alloc, 1, record.bytes)?;
-        assert!(rt; is_spelled(alloc, &effect, &bytes)?, "record {row}");
-        let (length, wanted) = (bytes.len(), (record.writes, record.checks));
+        assert!(rt; is_record_of_its(alloc, record)?, "record {row}");
         assert!(rt;
-            is_read(alloc, &bytes, 4, length, 1, wanted)?,
-            "record {row}"
-        );
-        // with bytes behind it that are none of its
-        bytes.extend_from_slice(&[0xee; 9])?;
-        assert!(rt;
-            is_read(alloc, &bytes, 4, length, 1, wanted)?,
+            is_read_in_front(alloc, record)?,
             "record {row} in front of others"
         );
     }
     Ok(())
 }
 
+/// The effects of 64 records, each of which writes -1 to the variable of its number.
+fn effects_of_64(alloc: Global) -> Result<Vec<Effect>, Fault> {
+    let mut effects = Vec::new(alloc);
+    for var in 0..64 {
+        effects.push(effect_of(&[(var, -1)], &[])?)?;
+    }
+    Ok(effects)
+}
+
+/// Their batch.
+fn bytes_of_64(alloc: Global) -> Result<Vec<u8>, AllocError> {
+    let mut bytes = behind_head(alloc, 64, &[])?;
+    for var in 0..64u8 {
+        bytes.extend_from_slice(&[1, var, 0, 0xff, 0xff, 0xff, 0xff, 0xff, 0xff, 0xff, 0xff, 0])?;
+    }
+    Ok(bytes)
+}
+
+/// Whether these bytes are spelled by the 64 records, and read as them.
+fn are_64_records(alloc: Global, bytes: &[u8]) -> Result<bool, Fault> {
+    let effects = effects_of_64(alloc)?;
+    Ok(
+        is_spelled(alloc, &effects, bytes)?
+            && is_read(alloc, bytes, 64, 786, 64, (&[(63, -1)], &[]))?,
+    )
+}
+
 #[test]
 fn a_batch_of_64_records_is_encoded_and_decoded(rt: HostRuntime) -> Result<(), Fail> {
     let alloc = rt.alloc();
-    let (mut effects, mut bytes) = (Vec::new(alloc), behind_head(alloc, 64, &[])?);
-    for var in 0..64u8 {
-        effects.push(effect_of(&[(u16::from(var), -1)], &[])?)?;
-        bytes.extend_from_slice(&[1, var, 0, 0xff, 0xff, 0xff, 0xff, 0xff, 0xff, 0xff, 0xff, 0])?;
-    }
+    let bytes = bytes_of_64(alloc)?;
     assert_eq!(rt; bytes.len(), 786);
-    assert!(rt; is_spelled(alloc, &effects, &bytes)?);
-    assert!(rt; is_read(alloc, &bytes, 64, 786, 64, (&[(63, -1)], &[]))?);
+    assert!(rt; are_64_records(alloc, &bytes)?);
     Ok(())
 }
 
@@ -189,15 +255,17 @@ const CONTENTS: &[(u8, &[u8], bool)] = &[
     (1, &[0, 1, 6, b'N', b'o', b'n', b'n', b'e', b'g'], false),
 ];
 
+/// Whether a batch of so many records with these bytes is read over four variables.
+fn is_batch_of(alloc: Global, count: u8, records: &[u8]) -> Result<bool, Fault> {
+    let bytes = behind_head(alloc, count, records)?;
+    Ok(decode_batch(alloc, &bytes, 4)?.is_some())
+}
+
 #[test]
 fn a_batch_with_a_fault_is_not_read(rt: HostRuntime) -> Result<(), Fail> {
     for (row, (count, records, is_batch)) in CONTENTS.iter().enumerate() {
-        let bytes = behind_head(rt.alloc(), *count, records)?;
-        assert_eq!(rt;
-            decode_batch(rt.alloc(), &bytes, 4)?.is_some(),
-            *is_batch,
-            "row {row}"
-        );
+        let is_read = is_batch_of(rt.alloc(), *count, records)?;
+        assert!(rt; is_read == *is_batch, "row {row}");
     }
     Ok(())
 }

@@ -7,7 +7,7 @@ use super::acts::{Case, play};
 use std::test::Fail;
 use tmem_disk::Fill::{Byte, New, Old};
 
-const CONTENTS: &[Case<'static>] = &[
+static CONTENTS: &[Case<'static>] = &[
     Case {
         name: "another device meets the trait",
         first: &[],
@@ -63,7 +63,7 @@ fn a_read_gives_what_was_written_and_a_stop_leaves_what_was_synced(
     play(&rt, rt.alloc(), CONTENTS)
 }
 
-const FAILURES: &[Case<'static>] = &[
+static FAILURES: &[Case<'static>] = &[
     Case {
         name: "the read that is armed fails once",
         first: &[Makes(4), Writes(1, &[5]), FailRead(1)],
@@ -140,7 +140,7 @@ fn a_call_that_is_armed_fails_once(rt: HostRuntime) -> Result<(), Fail> {
     play(&rt, rt.alloc(), FAILURES)
 }
 
-const STOPS: &[Case<'static>] = &[
+static STOPS: &[Case<'static>] = &[
     Case {
         name: "a device that is stopped now, with the bytes of the last sync, fails until its restart",
         first: &[
@@ -222,7 +222,7 @@ fn a_stopped_device_fails_until_its_restart(rt: HostRuntime) -> Result<(), Fail>
     play(&rt, rt.alloc(), STOPS)
 }
 
-const PLACES: &[Case<'static>] = &[
+static PLACES: &[Case<'static>] = &[
     Case {
         // one that covers the place, one before it and one behind it; and it is met once
         name: "only a write that starts at the place meets its stop",

@@ -1,6 +1,7 @@
 //! A file as a device.
 use super::acts::Act::{Reads, Size, Syncs, Writes};
 use super::acts::{Act, are_so};
+use std::alloc::AllocError;
 use std::io::ErrorKind;
 use std::path::PathBuf;
 use std::test::Fail;
@@ -10,13 +11,18 @@ use tmem_file::{FileDisk, NewFile};
 
 const SIZE: u64 = 10_000;
 
-/// A folder of this number in the system's folder for such files, unless it is there.
-fn new_folder(rt: &HostRuntime, number: u16) -> Result<Option<PathBuf>, Fail> {
+/// The path of a folder of this number in the system's folder for such files.
+fn numbered_folder(rt: &HostRuntime, number: u16) -> Result<PathBuf, Fail> {
     let name = format!(in rt.alloc(); "tmem_file_test_{number}")?;
-    let folder = env::temp_dir(rt)?.join(rt.alloc(), name.as_str())?;
-    match fs::create_dir(rt, folder.as_str()) {
-        Ok(()) => Ok(Some(folder)),
-        Err(error) if error.kind() == ErrorKind::AlreadyExists => Ok(None),
+    let folder = env::temp_dir(rt)?;
+    Ok(folder.join(rt.alloc(), name.as_str())?)
+}
+
+/// Makes a folder, unless it is there.
+fn is_made(rt: &HostRuntime, folder: &str) -> Result<bool, Fail> {
+    match fs::create_dir(rt, folder) {
+        Ok(()) => Ok(true),
+        Err(error) if error.kind() == ErrorKind::AlreadyExists => Ok(false),
         Err(error) => Err(Fail::from(error)),
     }
 }
@@ -24,21 +30,29 @@ fn new_folder(rt: &HostRuntime, number: u16) -> Result<Option<PathBuf>, Fail> {
 /// A new folder.
 fn make_folder(rt: &HostRuntime) -> Result<PathBuf, Fail> {
     for number in 0..1000 {
-        if let Some(folder) = new_folder(rt, number)? {
+        let folder = numbered_folder(rt, number)?;
+        if is_made(rt, folder.as_str())? {
             return Ok(folder);
         }
     }
     Err(Fail::from("no folder to test in"))
 }
 
-/// How many files are in a folder.
-fn files_in(rt: &HostRuntime, folder: &PathBuf) -> Result<u64, Fail> {
+/// How many files are in a folder, where it is read.
+fn files_in(rt: &HostRuntime, folder: &str) -> Option<u64> {
     let mut count = 0u64;
-    for entry in fs::read_dir(rt, folder.as_str())? {
-        entry?;
+    for entry in fs::read_dir(rt, folder).ok()? {
+        if entry.is_err() {
+            return None;
+        }
         count = count.saturating_add(1);
     }
-    Ok(count)
+    Some(count)
+}
+
+/// Whether so many files are in a folder, and whether one of them has a name.
+fn stand(rt: &HostRuntime, folder: &str, count: u64, path: &str, is_there: bool) -> bool {
+    files_in(rt, folder) == Some(count) && fs::exists(rt, path).ok() == Some(is_there)
 }
 
 /// What is done to a file that is new, to the same once it is placed, and to it in another opening; and to one of no byte.
@@ -59,31 +73,49 @@ const AGAIN: &[Act<'static>] = &[
 
 const EMPTY: &[Act<'static>] = &[Size(0)];
 
-#[test]
-fn a_placed_file_is_read_by_the_next_opening(rt: HostRuntime) -> Result<(), Fail> {
-    let alloc = rt.alloc();
-    let folder = make_folder(&rt)?;
-    let path = folder.join(alloc, "store")?;
-    let mut new = NewFile::create(&rt, path.as_str(), SIZE)?;
-    assert!(rt; are_so(alloc, &mut new.disk, NEW)?);
-    // Until it is placed, another may be made.
-    let other = NewFile::create(&rt, path.as_str(), 1)?;
-    assert_eq!(rt; files_in(&rt, &folder)?, 2);
-    assert!(rt; !fs::exists(&rt, path.as_str())?);
-    other.discard(&rt);
-    let mut disk = new.place(&rt)?;
-    assert_eq!(rt; files_in(&rt, &folder)?, 1);
-    assert!(rt; fs::exists(&rt, path.as_str())?);
-    // While it is open nobody else opens it.
-    let second = FileDisk::open(&rt, path.as_str()).err();
-    assert_eq!(rt; second, Some(Fault::Device));
-    assert!(rt; are_so(alloc, &mut disk, PLACED)?);
-    drop(disk);
-    let mut again = FileDisk::open(&rt, path.as_str())?;
-    assert!(rt; are_so(alloc, &mut again, AGAIN)?);
-    drop(again);
-    fs::remove_dir_all(&rt, folder.as_str())?;
-    Ok(())
+/// Whether another file may be made beside a new one, until that is placed.
+fn another_is_made(rt: &HostRuntime, folder: &str, path: &str) -> Result<bool, Fault> {
+    let other = NewFile::create(rt, path, 1)?;
+    let is_so = stand(rt, folder, 2, path, false);
+    other.discard(rt);
+    Ok(is_so)
+}
+
+fn is_new(rt: &HostRuntime, folder: &str, path: &str, disk: &mut FileDisk) -> Result<bool, Fault> {
+    Ok(are_so(rt.alloc(), disk, NEW)? && another_is_made(rt, folder, path)?)
+}
+
+/// Whether a file is placed alone in the folder, and nobody else opens it while it is open.
+fn is_placed(
+    rt: &HostRuntime,
+    folder: &str,
+    path: &str,
+    disk: &mut FileDisk,
+) -> Result<bool, Fault> {
+    Ok(
+        stand(rt, folder, 1, path, true)
+            && is_refused(rt, path, false)
+            && are_so(rt.alloc(), disk, PLACED)?,
+    )
+}
+
+/// Makes a file and places it: whether it is as it should be before and behind.
+fn is_made_and_placed(rt: &HostRuntime, folder: &str, path: &str) -> Result<bool, Fault> {
+    let mut new = NewFile::create(rt, path, SIZE)?;
+    let was_new = is_new(rt, folder, path, &mut new.disk);
+    let mut disk = new.place(rt)?;
+    Ok(was_new? && is_placed(rt, folder, path, &mut disk)?)
+}
+
+/// Whether a file is opened, and answers these acts so.
+fn is_opened(rt: &HostRuntime, path: &str, acts: &[Act]) -> Result<bool, Fault> {
+    let mut disk = FileDisk::open(rt, path)?;
+    Ok(are_so(rt.alloc(), &mut disk, acts)?)
+}
+
+/// The same, and whether the next opening finds it.
+fn is_found_again(rt: &HostRuntime, folder: &str, path: &str) -> Result<bool, Fault> {
+    Ok(is_made_and_placed(rt, folder, path)? && is_opened(rt, path, AGAIN)?)
 }
 
 /// Whether a path is neither opened nor, where it is asked, made.
@@ -94,48 +126,90 @@ fn is_refused(rt: &HostRuntime, path: &str, is_made: bool) -> bool {
 }
 
 /// Whether what is no file is refused, and so is a missing file, by this name in a folder.
-fn are_refused(rt: &HostRuntime, folder: &PathBuf, missing: &PathBuf) -> Result<bool, Fail> {
+fn are_refused(rt: &HostRuntime, folder: &str, missing: &PathBuf) -> Result<bool, AllocError> {
     let far = missing.join(rt.alloc(), "store")?;
     Ok(
-        is_refused(rt, folder.as_str(), true)
+        is_refused(rt, folder, true)
             && is_refused(rt, far.as_str(), true)
             && is_refused(rt, "/dev/full", true)
             && is_refused(rt, missing.as_str(), false)
             && is_refused(rt, "", false)
-            && is_refused(rt, "/dev/zero", false),
+            && is_refused(rt, "/dev/zero", false)
+            && files_in(rt, folder) == Some(0),
     )
+}
+
+/// The same, and whether an empty file is none of them.
+fn is_empty_alone_opened(rt: &HostRuntime, folder: &str, path: &PathBuf) -> Result<bool, Fault> {
+    Ok(
+        are_refused(rt, folder, path)?
+            && fs::write(rt, path.as_str(), "".as_bytes()).is_ok()
+            && is_opened(rt, path.as_str(), EMPTY)?,
+    )
+}
+
+/// Whether no file is made under a name that another file takes.
+fn is_taken(rt: &HostRuntime, path: &str) -> bool {
+    fs::write(rt, path, b"kept".as_slice()).is_ok()
+        && NewFile::create(rt, path, SIZE).err() == Some(Fault::Device)
+}
+
+/// Whether a name is taken before a new file is placed, which is refused then.
+fn is_late(rt: &HostRuntime, path: &str) -> Result<bool, Fault> {
+    let late = NewFile::create(rt, path, SIZE)?;
+    let is_taken = is_taken(rt, path);
+    Ok(late.place(rt).err() == Some(Fault::Device) && is_taken)
+}
+
+/// Whether what took the name has kept it, alone.
+fn is_kept(rt: &HostRuntime, folder: &str, path: &str) -> bool {
+    match fs::read(rt, path) {
+        Ok(kept) => kept.as_slice() == b"kept".as_slice() && files_in(rt, folder) == Some(1),
+        Err(_) => false,
+    }
+}
+
+/// What is done in a folder.
+#[derive(Clone, Copy)]
+enum Doing {
+    Places,
+    Refuses,
+    ComesLate,
+}
+
+/// Whether it ends as it should in a folder that is empty.
+fn is_well_done(rt: &HostRuntime, folder: &PathBuf, doing: Doing) -> Result<bool, Fault> {
+    let path = folder.join(rt.alloc(), "store")?;
+    let (folder, name) = (folder.as_str(), path.as_str());
+    match doing {
+        Doing::Places => is_found_again(rt, folder, name),
+        Doing::Refuses => is_empty_alone_opened(rt, folder, &path),
+        Doing::ComesLate => Ok(is_late(rt, name)? && is_kept(rt, folder, name)),
+    }
+}
+
+/// The same in a new folder, which is removed.
+fn is_well_done_anew(rt: &HostRuntime, doing: Doing) -> Result<bool, Fail> {
+    let folder = make_folder(rt)?;
+    let is_so = is_well_done(rt, &folder, doing);
+    fs::remove_dir_all(rt, folder.as_str())?;
+    Ok(is_so?)
+}
+
+#[test]
+fn a_placed_file_is_read_by_the_next_opening(rt: HostRuntime) -> Result<(), Fail> {
+    assert!(rt; is_well_done_anew(&rt, Doing::Places)?);
+    Ok(())
 }
 
 #[test]
 fn refuses_what_is_no_file(rt: HostRuntime) -> Result<(), Fail> {
-    let folder = make_folder(&rt)?;
-    let missing = folder.join(rt.alloc(), "missing")?;
-    assert!(rt; are_refused(&rt, &folder, &missing)?);
-    assert_eq!(rt; files_in(&rt, &folder)?, 0);
-    fs::write(&rt, missing.as_str(), "".as_bytes())?;
-    let mut empty = FileDisk::open(&rt, missing.as_str())?;
-    assert!(rt; are_so(rt.alloc(), &mut empty, EMPTY)?);
-    drop(empty);
-    fs::remove_dir_all(&rt, folder.as_str())?;
+    assert!(rt; is_well_done_anew(&rt, Doing::Refuses)?);
     Ok(())
 }
 
 #[test]
 fn never_takes_a_name_from_a_file(rt: HostRuntime) -> Result<(), Fail> {
-    let folder = make_folder(&rt)?;
-    let path = folder.join(rt.alloc(), "store")?;
-    let late = NewFile::create(&rt, path.as_str(), SIZE)?;
-    fs::write(&rt, path.as_str(), b"kept".as_slice())?;
-    assert_eq!(rt;
-        NewFile::create(&rt, path.as_str(), SIZE).err(),
-        Some(Fault::Device)
-    );
-    assert_eq!(rt; late.place(&rt).err(), Some(Fault::Device));
-    assert_eq!(rt; files_in(&rt, &folder)?, 1);
-    assert_eq!(rt;
-        fs::read(&rt, path.as_str())?.as_slice(),
-        b"kept".as_slice()
-    );
-    fs::remove_dir_all(&rt, folder.as_str())?;
+    assert!(rt; is_well_done_anew(&rt, Doing::ComesLate)?);
     Ok(())
 }

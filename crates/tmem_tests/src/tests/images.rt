@@ -17,7 +17,7 @@ const WRITTEN: &[Act<'static>] = &[
     Syncs,
 ];
 
-const IMAGES: &[Case<'static>] = &[
+static IMAGES: &[Case<'static>] = &[
     Case {
         name: "an image is chosen and read again, and the other one is as it was",
         first: EMPTY,
@@ -55,7 +55,7 @@ fn the_greater_open_image_is_chosen(rt: HostRuntime) -> Result<(), Fail> {
     play(&rt, rt.alloc(), IMAGES)
 }
 
-const STOPS: &[Case<'static>] = &[
+static STOPS: &[Case<'static>] = &[
     Case {
         // the two pages, and the header
         name: "a stop before the gate leaves the old image",

@@ -22,7 +22,7 @@ const FIRST_WRITE: &[Act<'static>] = &[
     Closes,
 ];
 
-const FLUSHES: &[Case<'static>] = &[
+static FLUSHES: &[Case<'static>] = &[
     Case {
         name: "a flushed batch is found again",
         first: EMPTY,
@@ -224,7 +224,7 @@ fn a_flush_is_durable_or_as_before(rt: HostRuntime) -> Result<(), Fail> {
     play(&rt, rt.alloc(), FLUSHES)
 }
 
-const REFUSALS: &[Case<'static>] = &[
+static REFUSALS: &[Case<'static>] = &[
     Case {
         name: "a refused device is handed back",
         first: &[],
@@ -284,7 +284,7 @@ fn what_is_no_store_is_refused(rt: HostRuntime) -> Result<(), Fail> {
     play(&rt, rt.alloc(), REFUSALS)
 }
 
-const SLOTS: &[Case<'static>] = &[
+static SLOTS: &[Case<'static>] = &[
     Case {
         name: "an open slot of a lesser generation is closed: its gate is written, and synced",
         first: EMPTY,
@@ -344,7 +344,7 @@ fn an_open_slot_behind_the_log_is_closed_or_damage(rt: HostRuntime) -> Result<()
     play(&rt, rt.alloc(), SLOTS)
 }
 
-const EDGES: &[Case<'static>] = &[
+static EDGES: &[Case<'static>] = &[
     Case {
         // the zeros, the image, its gate, block 0 and its gate
         name: "block 0 is opened last",
@@ -406,7 +406,7 @@ fn block_0_is_opened_last_and_the_last_generation_stays(rt: HostRuntime) -> Resu
     play(&rt, rt.alloc(), EDGES)
 }
 
-const CONTENTS: &[Case<'static>] = &[
+static CONTENTS: &[Case<'static>] = &[
     Case {
         name: "block 0 and image 0 after formatting",
         first: EMPTY_OF_FOUR,

@@ -2,7 +2,8 @@
 ghost use Rattle.std.specs.Prelude.{◌≡◌, true, length};
 ghost use Rattle.tmem_tests.specs.Examples.{first_of};
 
-use super::tables::numbered;
+use super::tables::add;
+use std::alloc::Global;
 use std::test::Fail;
 use tmem_disk::{Cause, Fault, Name};
 use tmem_invariants::{Invariant, Table};
@@ -40,20 +41,22 @@ const FOOTPRINTS: [(&'static [u16], Option<Fault>); 6] = [
     (&[3, 2, 1], None),
 ];
 
+/// What an invariant over this footprint is refused by.
+fn refusal_over(alloc: Global, footprint: &[u16]) -> Result<Option<Fault>, Fault> {
+    let always = Box::new(
+        alloc,
+        |_values: &[i64]| -> bool
+            ensures { result ≡ true }
+        { true },
+    )?;
+    let vars = Vec::from_slice(alloc, footprint)?;
+    Ok(Invariant::new(Name::new("always")?, vars, always).err())
+}
+
 #[test]
 fn footprints_out_of_limits_are_refused(rt: HostRuntime) -> Result<(), Fail> {
     for (footprint, fault) in FOOTPRINTS {
-        let always = Box::new(
-            rt.alloc(),
-            |_values: &[i64]| -> bool
-                ensures { result ≡ true }
-            { true },
-        )?;
-        let vars = Vec::from_slice(rt.alloc(), footprint)?;
-        assert_eq!(rt;
-            Invariant::new(Name::new("always")?, vars, always).err(),
-            fault
-        );
+        assert_eq!(rt; refusal_over(rt.alloc(), footprint)?, fault);
     }
     Ok(())
 }
@@ -70,25 +73,26 @@ const TABLES: [(u8, u8, u16, Option<Fault>); 8] = [
     (2, 2, 4, Some(Fault::BadFootprint)),
 ];
 
+/// What a table over four variables is refused by, of so many entries with so many names, over this variable.
+fn refusal_of(alloc: Global, entries: u8, names: u8, var: u16) -> Result<Option<Fault>, Fault> {
+    let mut made = Vec::new(alloc);
+    for i in 0..entries {
+        let always = Box::new(
+            alloc,
+            |_values: &[i64]| -> bool
+                ensures { result ≡ true }
+            { true },
+        )?;
+        let number = if i < names { i } else { 0 };
+        add(&mut made, number, vec![in alloc; var]?, always)?;
+    }
+    Ok(Table::of(alloc, made, 4).err())
+}
+
 #[test]
 fn tables_out_of_limits_are_refused(rt: HostRuntime) -> Result<(), Fail> {
     for (entries, names, var, fault) in TABLES {
-        let mut made = Vec::new(rt.alloc());
-        for i in 0..entries {
-            let always = Box::new(
-                rt.alloc(),
-                |_values: &[i64]| -> bool
-                    ensures { result ≡ true }
-                { true },
-            )?;
-            let name = if i < names {
-                numbered(i)?
-            } else {
-                numbered(0)?
-            };
-            made.push(Invariant::new(name, vec![in rt.alloc(); var]?, always)?)?;
-        }
-        assert_eq!(rt; Table::of(rt.alloc(), made, 4).err(), fault);
+        assert_eq!(rt; refusal_of(rt.alloc(), entries, names, var)?, fault);
     }
     Ok(())
 }

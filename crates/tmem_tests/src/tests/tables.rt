@@ -1,5 +1,6 @@
 //! Worlds over tables of the tests' own, of as many invariants as there may be: which ones are tested, and which one is named.
 ghost use Rattle.std.specs.Prelude.{◌≡◌, ◌<◌, length};
+ghost use Rattle.tmem_invariants.specs.Answers.{MayCall, HasMeaning};
 ghost use Rattle.tmem_tests.specs.Examples.{is_last_not_negative, is_sum_not_negative};
 
 use super::{commit, committed, formatted, write};
@@ -7,14 +8,28 @@ use std::alloc::Global;
 use std::process::Abort;
 use std::test::Fail;
 use tmem_disk::{Fault, Name, SimDisk};
-use tmem_invariants::{Invariant, Invariants, Table};
+use tmem_invariants::{Invariant, Invariants, Table, Test};
 use tmem_tree::{Steps, StoredSteps, Tx};
 use tmem_world::{Reply, Settled, World};
 
 /// A name for each number, ascending.
-pub(super) fn numbered(n: u8) -> Result<Name, Fault> {
+fn numbered(n: u8) -> Result<Name, Fault> {
     let letters = [b'a' + n / 26, b'a' + n % 26];
     Name::new(std::str::from_utf8(&letters).unwrap_or(""))
+}
+
+/// Puts the invariant of a number behind others.
+pub(super) fn add(
+    entries: &mut Vec<Invariant>,
+    number: u8,
+    footprint: Vec<u16>,
+    test: Test,
+) -> Result<(), Fault>
+    requires callable { MayCall (Test.pre test) (length footprint.items) }
+    requires stated { HasMeaning (Test.post test) (length footprint.items) }
+{
+    entries.push(Invariant::new(numbered(number)?, footprint, test)?)?;
+    Ok(())
 }
 
 /// Checks 8 names, from this number on.
@@ -29,21 +44,64 @@ fn eight_checks(alloc: Global, from: u8) -> Result<Tx, Fault>
     Ok(Tx::Seq(all))
 }
 
+/// Registers 8 names in the transaction of this number.
+fn registers_eight<T: Invariants + Drop, S: StoredSteps + Drop>(
+    alloc: Global,
+    world: &mut World<SimDisk, T, S>,
+    number: u8,
+) -> Result<bool, Fault>
+    requires { number < 8 }
+{
+    let checks = eight_checks(alloc, 8 * number)?;
+    Ok(commit(world, checks) == committed(u64::from(number), 0))
+}
+
+/// Whether there is a session, with 64 names.
+fn has_all<T: Invariants + Drop, S: StoredSteps + Drop>(
+    world: &World<SimDisk, T, S>,
+) -> Result<bool, Fault> {
+    if !world.is_open() {
+        return Ok(false);
+    }
+    for n in 0..64 {
+        if !world.has(&numbered(n)?) {
+            return Ok(false);
+        }
+    }
+    Ok(true)
+}
+
 /// Registers 64 names, 8 in a transaction.
 fn register_all<T: Invariants + Drop, S: StoredSteps + Drop>(
     rt: &impl Abort,
     alloc: Global,
     world: &mut World<SimDisk, T, S>,
-) -> Result<(), Fail> {
+) -> Result<(), Fault> {
     for number in 0..8u8 {
-        let checks = eight_checks(alloc, 8 * number)?;
-        assert!(rt; commit(world, checks) == committed(u64::from(number), 0));
+        assert!(rt; registers_eight(alloc, world, number)?);
     }
-    assert!(rt; world.is_open());
-    for n in 0..64 {
-        assert!(rt; world.has(&numbered(n)?));
-    }
+    assert!(rt; has_all(world)?);
     Ok(())
+}
+
+/// Whether a write with this number is refused by the invariant of that number, or else committed.
+fn is_kept<T: Invariants + Drop, S: StoredSteps + Drop>(
+    alloc: Global,
+    world: &mut World<SimDisk, T, S>,
+    number: u64,
+    (var, value, refused): (u16, i64, Option<u8>),
+) -> Result<bool, Fault> {
+    let tx = write(alloc, var, value)?;
+    let had = commit(world, tx);
+    Ok(had == wanted(number, value, refused)?)
+}
+
+/// What is answered to it.
+fn wanted(number: u64, value: i64, refused: Option<u8>) -> Result<Reply, Fault> {
+    match refused {
+        Some(n) => Ok(Reply::Settled(Settled::Refused(numbered(n)?))),
+        None => Ok(committed(number, value)),
+    }
 }
 
 /// Writes numbers to variables, where the next transaction has number 8: each write is refused by the invariant of this
@@ -53,52 +111,56 @@ fn keeps<T: Invariants + Drop, S: StoredSteps + Drop>(
     alloc: Global,
     world: &mut World<SimDisk, T, S>,
     writes: &[(u16, i64, Option<u8>)],
-) -> Result<(), Fail> {
+) -> Result<(), Fault> {
     let mut number = 8u64;
     for (var, value, refused) in writes {
-        let tx = write(alloc, *var, *value)?;
-        let wanted = match refused {
-            Some(n) => Reply::Settled(Settled::Refused(numbered(*n)?)),
-            None => committed(number, *value),
-        };
-        assert!(rt; commit(world, tx) == wanted, "variable {var}");
+        let is_so = is_kept(alloc, world, number, (*var, *value, *refused))?;
+        assert!(rt; is_so, "variable {var}");
         number = number.wrapping_add(u64::from(refused.is_none()));
     }
     Ok(())
 }
 
-/// A world over a fresh device of four slots.
-fn opened<T: Invariants + Drop, S: StoredSteps + Drop>(
-    alloc: Global,
-    table: T,
-    steps: S,
-) -> Result<World<SimDisk, T, S>, Fault> {
-    let vars = table.vars();
-    let disk = formatted(alloc, vars, 4)?;
-    match World::open(alloc, disk, vars, 4, table, steps) {
-        Ok(world) => Ok(world),
-        Err(refusal) => Err(refusal.0),
-    }
-}
-
-/// In a world over 64 invariants, registers them all, and writes numbers to variables.
+/// In a world over 64 invariants and a fresh device of four slots, registers them all, and writes numbers to variables.
 fn registers_and_keeps<T: Invariants + Drop, S: StoredSteps + Drop>(
     rt: &impl Abort,
     alloc: Global,
     table: T,
     steps: S,
     writes: &[(u16, i64, Option<u8>)],
-) -> Result<(), Fail> {
-    let mut world = opened(alloc, table, steps)?;
-    register_all(rt, alloc, &mut world)?;
-    keeps(rt, alloc, &mut world, writes)
+) -> Result<(), Fault> {
+    let vars = table.vars();
+    let disk = formatted(alloc, vars, 4)?;
+    match World::open(alloc, disk, vars, 4, table, steps) {
+        Ok(mut world) => keeps_all(rt, alloc, &mut world, writes),
+        Err(refusal) => Err(refusal.0),
+    }
 }
 
-#[test]
-fn sixty_four_invariants_over_sixteen_variables_are_registered(
-    rt: HostRuntime,
-) -> Result<(), Fail> {
-    let alloc = rt.alloc();
+/// The same in a world that is lent.
+fn keeps_all<T: Invariants + Drop, S: StoredSteps + Drop>(
+    rt: &impl Abort,
+    alloc: Global,
+    world: &mut World<SimDisk, T, S>,
+    writes: &[(u16, i64, Option<u8>)],
+) -> Result<(), Fault> {
+    register_all(rt, alloc, world)?;
+    keeps(rt, alloc, world, writes)
+}
+
+/// In a world over these invariants and no step, registers them all, and writes numbers to variables.
+fn keeps_under(
+    rt: &impl Abort,
+    alloc: Global,
+    table: Table,
+    writes: &[(u16, i64, Option<u8>)],
+) -> Result<(), Fault> {
+    let steps = Steps::of(Vec::new(alloc))?;
+    registers_and_keeps(rt, alloc, table, steps, writes)
+}
+
+/// Each of 64 invariants over sixteen variables is that the last is not negative.
+fn keeps_last(rt: &impl Abort, alloc: Global) -> Result<(), Fault> {
     let mut entries = Vec::new(alloc);
     for n in 0..64 {
         let last = Box::new(
@@ -109,16 +171,18 @@ fn sixty_four_invariants_over_sixteen_variables_are_registered(
             { values[15] >= 0 },
         )?;
         let footprint = vec![in alloc; 0, 1, 2, 3, 4, 5, 6, 7, 8, 9, 10, 11, 12, 13, 14, 15]?;
-        entries.push(Invariant::new(numbered(n)?, footprint, last)?)?;
+        add(&mut entries, n, footprint, last)?;
     }
-    let (table, steps) = (Table::of(alloc, entries, 16)?, Steps::of(Vec::new(alloc))?);
-    registers_and_keeps(
-        &rt,
-        alloc,
-        table,
-        steps,
-        &[(15, -1, Some(0)), (15, 5, None)],
-    )
+    let table = Table::of(alloc, entries, 16)?;
+    keeps_under(rt, alloc, table, &[(15, -1, Some(0)), (15, 5, None)])
+}
+
+#[test]
+fn sixty_four_invariants_over_sixteen_variables_are_registered(
+    rt: HostRuntime,
+) -> Result<(), Fail> {
+    keeps_last(&rt, rt.alloc())?;
+    Ok(())
 }
 
 /// A variable, the set of the neighbours' invariants over it, and the first that is false where it is -1 and all others
@@ -140,39 +204,46 @@ const ASKED: &[(u64, u64, bool, bool)] = &[
 
 /// Whether a table of 64 neighbours gives these answers where a variable is -1, and whether the first false one of all is this
 /// one.
-fn finds(alloc: Global, table: &Table, var: u16, first: usize) -> Result<bool, Fail>
+fn finds(table: &Table, var: u16, first: usize) -> bool
     requires { table.now.vars ≡ 64 }
 {
-    let mut values = vec![in alloc; 0; 64]?;
+    let mut values = [0; 64];
     if usize::from(var) >= values.len() {
-        return Err(Fail::new("no such variable"));
+        return false;
     }
     values[usize::from(var)] = -1;
     for (registered, proposed, is_written, is_found) in ASKED {
         let written = if *is_written { (var, -1) } else { (30, 0) };
         let had = table.test_touched(&values, *registered, *proposed, &[written]);
         if had != is_found.then_some(first) {
-            return Ok(false);
+            return false;
         }
     }
-    Ok(table.test_all(&values, u64::MAX, 0) == Some(first))
+    table.test_all(&values, u64::MAX, 0) == Some(first)
 }
 
 /// Whether it knows what is over which variable, and finds the first false one of that.
-fn knows_neighbours(alloc: Global, table: &Table) -> Result<bool, Fail>
+fn knows_neighbours(table: &Table) -> bool
     requires { table.now.vars ≡ 64 }
 {
     for (var, touching, first) in TOUCHING {
-        if *var >= 64 || table.touching(*var) != *touching || !finds(alloc, table, *var, *first)? {
-            return Ok(false);
+        if *var >= 64 || table.touching(*var) != *touching || !finds(table, *var, *first) {
+            return false;
         }
     }
-    Ok(true)
+    true
 }
 
-#[test]
-fn a_write_is_tested_by_the_invariants_over_its_variable(rt: HostRuntime) -> Result<(), Fail> {
-    let alloc = rt.alloc();
+/// Whether it knows them, and a world over it keeps them.
+fn keeps_known(rt: &impl Abort, alloc: Global, table: Table) -> Result<(), Fault>
+    requires { table.vars ≡ 64 }
+{
+    assert!(rt; knows_neighbours(&table));
+    keeps_under(rt, alloc, table, &[(5, -1, Some(4)), (0, -1, Some(0))])
+}
+
+/// Each of 64 invariants is that the sum of a variable and its neighbour is not negative.
+fn keeps_neighbours(rt: &impl Abort, alloc: Global) -> Result<(), Fault> {
     let mut entries = Vec::new(alloc);
     for n in 0..64u8 {
         let sum = Box::new(
@@ -183,16 +254,14 @@ fn a_write_is_tested_by_the_invariants_over_its_variable(rt: HostRuntime) -> Res
             { values[0] as i128 + values[1] as i128 >= 0 },
         )?;
         let footprint = vec![in alloc; u16::from(n), u16::from((n + 1) % 64)]?;
-        entries.push(Invariant::new(numbered(n)?, footprint, sum)?)?;
+        add(&mut entries, n, footprint, sum)?;
     }
     let table = Table::of(alloc, entries, 64)?;
-    assert!(rt; knows_neighbours(alloc, &table)?);
-    let steps = Steps::of(Vec::new(alloc))?;
-    registers_and_keeps(
-        &rt,
-        alloc,
-        table,
-        steps,
-        &[(5, -1, Some(4)), (0, -1, Some(0))],
-    )
+    keeps_known(rt, alloc, table)
+}
+
+#[test]
+fn a_write_is_tested_by_the_invariants_over_its_variable(rt: HostRuntime) -> Result<(), Fail> {
+    keeps_neighbours(&rt, rt.alloc())?;
+    Ok(())
 }

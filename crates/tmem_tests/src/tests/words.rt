@@ -1,5 +1,5 @@
 //! Names, and the lines of refusals.
-use std::alloc::Global;
+use std::alloc::{AllocError, Global};
 use std::test::Fail;
 use tmem_disk::{Cause, Fault, Name};
 
@@ -34,9 +34,14 @@ fn a_name_is_one_to_sixteen_letters(rt: HostRuntime) -> Result<(), Fail> {
     for (text, is_name) in TEXTS {
         assert_eq!(rt; makes_name(text), Some(*is_name), "{text}");
     }
-    assert!(rt; Name::new("ab")? < Name::new("b")?);
-    assert!(rt; Name::new("a")? < Name::new("aa")?);
+    assert!(rt; is_before("ab", "b")?);
+    assert!(rt; is_before("a", "aa")?);
     Ok(())
+}
+
+/// Whether one name is less than another.
+fn is_before(one: &str, other: &str) -> Result<bool, Fault> {
+    Ok(Name::new(one)? < Name::new(other)?)
 }
 
 const LINES: [(Fault, &'static str); 17] = [
@@ -59,7 +64,7 @@ const LINES: [(Fault, &'static str); 17] = [
     (Fault::Geometry, "fault 17 geometry"),
 ];
 
-fn is_printed(alloc: Global, fault: Fault, line: &str) -> Result<bool, Fail> {
+fn is_printed(alloc: Global, fault: Fault, line: &str) -> Result<bool, AllocError> {
     let printed = format!(in alloc; "{fault}")?;
     Ok(printed.as_str() == line)
 }
