@@ -1,5 +1,7 @@
 -- Attempts that are made again until one is settled.
-use Rattle.std.proofs.Common.{◌≡◌, ℕ, ◌≤◌, List, [], ◌++◌, Result, refl, ap, sym, ◌∙◌, subst}
+use Rattle.std.proofs.Common.{◌≡◌, ◌⊎◌, inl, inr, ⊎_elim, ℕ, ◌≤◌, List, [], ◌++◌, Result, Err, refl, ap, sym, ◌∙◌, subst}
+use Rattle.std.proofs.Props.{props}
+use Rattle.std.proofs.Math.Logic.{∥∥₁_elim, ∥∥₁_map}
 use Rattle.std.proofs.lemmas.List.{append-nil}
 use Rattle.tmem_disk.specs.declared.fault.Fault.{Fault}
 use Rattle.tmem_record.specs.Prefix.{IsPrefix}
@@ -14,7 +16,10 @@ use Rattle.tmem_spine.specs.declared.view.Entry.{Entry}
 use Rattle.tmem_spine.specs.History.{count}
 use Rattle.tmem_spine.specs.Views.{PassView}
 use Rattle.tmem_front.specs.Histories.{marked, numbered}
-use Rattle.tmem_front.specs.Settling.{Settles, KnowsMore}
+use Rattle.tmem_disk.specs.declared.fault.Fault.TheVariants as fault
+use Rattle.tmem_tree.specs.declared.tx.Tx.{Tx}
+use Rattle.tmem_tentative.specs.Right.{IsRight}
+use Rattle.tmem_front.specs.Settling.{Settles, SettlesPlan, SettlesAtLast, KnowsMore}
 
 -- a pass that knows more settles as it would have before
 pub settles_later : (start : ℕ) (opening : State) (program : Program) (attempt : Attempt) (old mid : PassView) (answer : Result Settled Fault) (new : PassView)
@@ -48,3 +53,21 @@ knows_more start opening program attempt old answer new none s =
 
 pub knows_still : (old : PassView) → KnowsMore old old
 knows_still old = record { same = refl; begins = IsPrefix-self old.known }
+
+-- the last turn, of a pass that knows more by then
+pub settles_at_last : (start : ℕ) (opening : State) (program : Program) (tx : Tx) (old mid : PassView) (answer : Result Settled Fault) (new : PassView)
+    → KnowsMore old mid → SettlesPlan start opening program tx mid answer new → SettlesAtLast start opening program tx old answer new
+settles_at_last start opening program tx old mid answer new more = ⊎_elim
+    (λ (no : (answer ≡ Err fault.Memory) × (new ≡ mid)). inl (no.0, subst (λ v. KnowsMore old v) (sym no.1) more))
+    (λ (held : ∥ ((attempt : Attempt) × IsRight program.steps tx attempt × Settles start opening program attempt mid answer new) ∥₁).
+      inr (∥∥₁_map held (λ h. (h.0, h.1, settles_later start opening program h.0 old mid answer new more h.2))))
+
+-- a turn that is not the last
+pub knows_more_at_last : (start : ℕ) (opening : State) (program : Program) (tx : Tx) (old : PassView) (answer : Result Settled Fault) (new : PassView)
+    → ((effect : Effect) → accepted_by answer effect ≡ []) → SettlesAtLast start opening program tx old answer new → KnowsMore old new
+knows_more_at_last start opening program tx old answer new none = ⊎_elim
+    (λ (no : (answer ≡ Err fault.Memory) × KnowsMore old new). no.1)
+    (λ (held : ∥ ((attempt : Attempt) × IsRight program.steps tx attempt × Settles start opening program attempt old answer new) ∥₁). record {
+      same = ∥∥₁_elim held (hlevel props) (λ h. (knows_more start opening program h.0 old answer new (none h.0.effect) h.2).same);
+      begins = ∥∥₁_elim held (hlevel props) (λ h. (knows_more start opening program h.0 old answer new (none h.0.effect) h.2).begins);
+    })

@@ -48,8 +48,8 @@ empty_or_not false false true a b = λ is. cc
 empty_or_not false false false a b = λ is. cc
 
 kept_or_not : (broken : Option (List ℕ)) (answer : Result Settled Fault) → answer ≢ Err fault.Conflict → unless_refused broken answer ≢ Err fault.Conflict
-kept_or_not (Some name) answer no = λ is. cc
-kept_or_not None answer no = no
+kept_or_not (Some name) answer = λ no is. cc
+kept_or_not None answer = λ no. no
 
 ending_no_conflict : (p : Program) (end : Ending) (s : State) (durable : ℕ) (e : Effect) (registers : List ℤ) → ending_answer p end s durable e registers ≢ Err fault.Conflict
 ending_no_conflict p ended.Normal s durable e registers =

@@ -1,7 +1,7 @@
 // The calls that wait for other threads.
 ghost use Rattle.std.specs.Prelude.{◌≡◌, ◌≢◌, ◌<◌, ◌≤◌, false, [], Ok, Err, IfOk, IfErr, OnOk, length, All, IsTrue};
 ghost use Rattle.tmem_record.specs.declared.effect.Effect.{Effect as EffectOf};
-ghost use Rattle.tmem_core.specs.SettleAnswer.{accepted_by};
+ghost use Rattle.tmem_core.specs.SettleAnswer.{accepted_by, is_stale};
 ghost use Rattle.tmem_record.specs.Prefix.{IsPrefix};
 ghost use Rattle.tmem_tree.specs.Plans.{FitsSteps, FitsVariables, FitsNames};
 ghost use Rattle.tmem_tentative.specs.Fits.{IsForVariables};
@@ -10,6 +10,7 @@ ghost use Rattle.tmem_spine.specs.History.{count};
 ghost use Rattle.std.specs.Sync.Mutex.{mutex_guard_value};
 ghost use Rattle.tmem_front.specs.Flushing.{IsFlusherRefusal};
 ghost use Rattle.tmem_front.specs.Seats.{HasMoreOrShut, HasFlushedOrShut, HasWorkOrShut};
+ghost use Rattle.tmem_front.specs.Histories.{after};
 ghost use Rattle.tmem_front.specs.Settling.{Settles, SettlesAtLast, SettlesPlan};
 
 use crate::core_seat::CoreSeat;
@@ -55,12 +56,7 @@ impl<D: Disk + Drop, N: StoreNaming, T: Invariants + Drop, S: StoredSteps + Drop
     {
         let mut left = LOOSE_TURNS;
         for _ in rt.forever() {
-            let answer = if left == 0 {
-                self.run_or_wait(rt, &mut pass.seat, &mut pass.cursor, plan)
-            } else {
-                self.evaluate(rt, &mut pass.cursor, plan)?;
-                self.settle_or_wait(rt, &mut pass.seat, pass.cursor.attempt())
-            };
+            let answer = self.take_turn(rt, &mut pass.seat, &mut pass.cursor, plan, left == 0);
             if is_last(&answer) {
                 return answer;
             }
@@ -69,26 +65,54 @@ impl<D: Disk + Drop, N: StoreNaming, T: Invariants + Drop, S: StoredSteps + Drop
         unreachable!()
     }
 
-    // Settles an attempt. Where it retries, waits under the same lock until another transaction has committed, or the front is
-    // shut.
+    // Attempts a plan once and settles the attempt, under one hold of the core's lock where it is to be alone. Waits where it retries.
+    fn take_turn<R: Wait>(
+        &self,
+        rt: &R,
+        seat: &mut SpinePass<N>,
+        cursor: &mut Cursor,
+        plan: &Plan,
+        is_alone: bool,
+    ) -> Result<Settled, Fault>
+        requires steps { FitsSteps (S.arities self.now.steps) plan.now }
+        requires variables { FitsVariables self.now.vars plan.now }
+        requires names { FitsNames N.program.names plan.now }
+        ensures settled { SettlesPlan N.name.start N.opening N.program plan.now seat.old result seat.new }
+    {
+        if is_alone {
+            return self.run_or_wait(rt, seat, cursor, plan);
+        }
+        self.evaluate(rt, cursor, plan)?;
+        self.settle_or_wait(rt, self.core.lock(rt), seat, cursor.attempt())
+    }
+
+    // Settles an attempt under the core's lock, and lets that go. What commits wakes whoever waits for that. What retries waits under
+    // the same lock until another transaction has committed, or the front is shut. Values that are present give no conflict.
     fn settle_or_wait<R: Wait>(
         &self,
         rt: &R,
+        mut core: MutexGuard<CoreSeat<N, T>>,
         seat: &mut SpinePass<N>,
         attempt: &Attempt,
     ) -> Result<Settled, Fault>
         requires variables { IsForVariables (length N.opening.values) attempt.now }
         requires names { All (λ name. IsTrue (has_name N.program.names name)) attempt.now.effect.names }
         ensures settled { Settles N.name.start N.opening N.program attempt.now seat.old result seat.new }
+        ensures present { is_stale (after N.opening (mutex_guard_value core.entry).accepted) attempt.now.reads.entries ≡ false → result ≢ Err Fault.Conflict }
     {
-        let mut core = self.core.lock(rt);
         let decision = core.decide(&self.spine, seat, attempt);
-        self.go_on(rt, core, &decision);
+        match decision {
+            Ok(Decision::Committed(_)) => {
+                drop(core);
+                self.committed.notify_all();
+            }
+            Ok(Decision::Retry(at)) => drop(self.wait_for_another(rt, core, at)),
+            _ => drop(core),
+        }
         with_registers(decision, attempt)
     }
 
-    // Evaluates a plan and settles the attempt under one hold of the core's lock, so that no other thread comes in between. Waits as
-    // `settle_or_wait` does.
+    // Evaluates a plan and settles the attempt under one hold of the core's lock, so that no other thread comes in between.
     fn run_or_wait<R: Wait>(
         &self,
         rt: &R,
@@ -102,30 +126,9 @@ impl<D: Disk + Drop, N: StoreNaming, T: Invariants + Drop, S: StoredSteps + Drop
         ensures settled { SettlesPlan N.name.start N.opening N.program plan.now seat.old result seat.new }
         ensures no_conflict { result ≢ Err Fault.Conflict }
     {
-        let mut core = self.core.lock(rt);
+        let core = self.core.lock(rt);
         core.evaluate(rt, cursor, plan, &self.steps)?;
-        let attempt = cursor.attempt();
-        let decision = core.decide(&self.spine, seat, attempt);
-        self.go_on(rt, core, &decision);
-        with_registers(decision, attempt)
-    }
-
-    // Lets the core's lock go after a decision. What commits wakes whoever waits for that, and what retries waits under the same lock
-    // until another transaction has committed, or the front is shut.
-    fn go_on<R: Wait>(
-        &self,
-        rt: &R,
-        core: MutexGuard<CoreSeat<N, T>>,
-        decision: &Result<Decision, Fault>,
-    ) {
-        match decision {
-            Ok(Decision::Committed(_)) => {
-                drop(core);
-                self.committed.notify_all();
-            }
-            Ok(Decision::Retry(at)) => drop(self.wait_for_another(rt, core, *at)),
-            _ => drop(core),
-        }
+        self.settle_or_wait(rt, core, seat, cursor.attempt())
     }
 
     // Waits under the core's lock until more than so many are accepted, or the front is shut.
