@@ -1,5 +1,5 @@
 -- Attempts that are made again until one is settled.
-use Rattle.std.proofs.Common.{◌≡◌, ◌⊎◌, inl, inr, ⊎_elim, ℕ, ◌≤◌, List, [], ◌++◌, Result, Err, refl, ap, sym, ◌∙◌, subst}
+use Rattle.std.proofs.Common.{◌≡◌, inl, inr, ⊎_elim, ℕ, ◌≤◌, List, [], ◌++◌, Result, Err, refl, ap, sym, ◌∙◌, subst}
 use Rattle.std.proofs.Props.{props}
 use Rattle.std.proofs.Math.Logic.{∥∥₁_elim, ∥∥₁_map}
 use Rattle.std.proofs.lemmas.List.{append-nil}
@@ -60,7 +60,7 @@ pub settles_at_last : (start : ℕ) (opening : State) (program : Program) (tx : 
 settles_at_last start opening program tx old mid answer new more = ⊎_elim
     (λ (no : (answer ≡ Err fault.Memory) × (new ≡ mid)). inl (no.0, subst (λ v. KnowsMore old v) (sym no.1) more))
     (λ (held : ∥ ((attempt : Attempt) × IsRight program.steps tx attempt × Settles start opening program attempt mid answer new) ∥₁).
-      inr (∥∥₁_map held (λ h. (h.0, h.1, settles_later start opening program h.0 old mid answer new more h.2))))
+    inr (∥∥₁_map held (λ h. (h.0, h.1, settles_later start opening program h.0 old mid answer new more h.2))))
 
 -- a turn that is not the last
 pub knows_more_at_last : (start : ℕ) (opening : State) (program : Program) (tx : Tx) (old : PassView) (answer : Result Settled Fault) (new : PassView)

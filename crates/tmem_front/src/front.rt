@@ -1,5 +1,5 @@
 // The two locks, and the spine beside them.
-ghost use Rattle.std.specs.Prelude.{◌≡◌, ◌≤◌, ◌<◌, ◌↔◌, false, length, All, IsTrue, IfOk, IfErr};
+ghost use Rattle.std.specs.Prelude.{◌≡◌, ◌≤◌, ◌<◌, ◌↔◌, true, false, length, All, IsTrue, IfOk, IfErr};
 ghost use Rattle.tmem_journal.specs.Held.{is_closed_of};
 ghost use Rattle.tmem_front.specs.Flushing.{GoesOn, IsFlushRefusal, IsCheckpointRefusal, IsFlusherRefusal};
 ghost use Rattle.tmem_record.specs.Prefix.{IsPrefix};
@@ -212,17 +212,7 @@ impl<D: Disk + Drop, N: StoreNaming, T: Invariants + Drop, S: StoredSteps + Drop
         ensures least { IfOk result (λ number. N.name.start ≤ number) }
         ensures refused { IfErr result IsFlushRefusal }
     {
-        let mut journal = self.journal.lock(rt);
-        if journal.is_closed() {
-            return Err(Fault::Closed);
-        }
-        let is_waiting = self.aim(rt, &mut journal);
-        if !is_waiting {
-            return Ok(journal.count());
-        }
-        let flushed = journal.write(&self.spine);
-        self.tell(rt, &mut journal);
-        flushed
+        self.flush_by(rt, false)
     }
 
     /// Flushes once, and where the log is full makes a checkpoint first. The journal's lock is held over both, so nobody fills the
@@ -230,6 +220,15 @@ impl<D: Disk + Drop, N: StoreNaming, T: Invariants + Drop, S: StoredSteps + Drop
     pub fn flush_with_room<R: Wait>(&self, rt: &R) -> Result<u64, Fault>
         ensures least { IfOk result (λ number. N.name.start ≤ number) }
         ensures refused { IfErr result IsFlusherRefusal }
+    {
+        self.flush_by(rt, true)
+    }
+
+    // Flushes once under the journal's lock, and makes room in a full log where that is asked for.
+    fn flush_by<R: Wait>(&self, rt: &R, makes_room: bool) -> Result<u64, Fault>
+        ensures least { IfOk result (λ number. N.name.start ≤ number) }
+        ensures plain { makes_room ≡ false → IfErr result IsFlushRefusal }
+        ensures roomy { makes_room ≡ true → IfErr result IsFlusherRefusal }
     {
         let mut journal = self.journal.lock(rt);
         if journal.is_closed() {
@@ -239,7 +238,7 @@ impl<D: Disk + Drop, N: StoreNaming, T: Invariants + Drop, S: StoredSteps + Drop
         if !is_waiting {
             return Ok(journal.count());
         }
-        let flushed = journal.write_with_room(&self.spine);
+        let flushed = journal.write_by(&self.spine, makes_room);
         self.tell(rt, &mut journal);
         flushed
     }

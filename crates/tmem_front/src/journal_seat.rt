@@ -203,4 +203,19 @@ impl<D: Disk, N: StoreNaming> JournalSeat<D, N> {
             written => written,
         }
     }
+
+    // Writes as `write` does, or as `write_with_room`.
+    pub(crate) fn write_by(&mut self, spine: &Spine<N>, makes_room: bool) -> Result<u64, Fault>
+        requires some { 1 ≤ length (batch_of self.old) }
+        requires goes_on { GoesOn N.name.start N.opening (side_of self.old).durable (batch_of self.old) (side_of self.old).aimed }
+        ensures ok { IfOk result (λ n. n ≡ count N.name.start (side_of self.new).durable) }
+        ensures plain { makes_room ≡ false → IfErr result IsFlushRefusal }
+        ensures roomy { makes_room ≡ true → IfErr result IsFlusherRefusal }
+    {
+        if makes_room {
+            self.write_with_room(spine)
+        } else {
+            self.write(spine)
+        }
+    }
 }

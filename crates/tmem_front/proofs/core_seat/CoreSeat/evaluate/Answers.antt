@@ -15,9 +15,9 @@ pub loop-preserved : goal.loop-preserved
 loop-preserved g c = (
   (λ m stated. c.give.ensures.at m c.args.plan.now (c.advance.ensures.at m stated)),
   (let s = after g.N.StoreNaming.opening c.args.self.now.accepted in
-    let fresh = ap (λ l. is_stale s l) c.advance.ensures.given ∙ c.loop.invariant.1 in
-    ap (λ l. is_stale s l) c.give.ensures.given ∙ present_more s _ _ _ fresh
-        (c.peek-value.ensures.value ∙ ap (λ (n : ℤ). Some n) (sym (to_z-of_z {w = w64} {z = c.peek-value.result} (search (rules, c.peek-value.type_inv)))))),
+      let fresh = ap (λ l. is_stale s l) c.advance.ensures.given ∙ c.loop.invariant.1 in
+      ap (λ l. is_stale s l) c.give.ensures.given ∙ present_more s _ _ _ fresh
+      (c.peek-value.ensures.value ∙ ap (λ (n : ℤ). Some n) (sym (to_z-of_z {w = w64} {z = c.peek-value.result} (search (rules, c.peek-value.type_inv)))))),
 )
 
 pub returns-in-Ended-clause-variables : goal.returns-in-Ended-clause-variables

@@ -6,8 +6,10 @@ use Rattle.tmem_front.proofs.front.Front.take_turn.Goals as goal
 pub returns : goal.returns
 returns g c =
     let p = g.N.ProgramNaming.program in
-    record { settled = inr (∥∥₁_map c.args.self.now.stated (λ s. (
-      c.attempt.result.now,
-      subst (λ a. IsRight p.steps c.args.plan.now a) (sym c.attempt.ensures.attempt) (c.in_ok-evaluate.ensures.right p.steps s),
-      c.settle_or_wait.ensures.settled,
-    ))); }
+    record {
+      settled = inr (∥∥₁_map c.args.self.now.stated (λ s. (
+        c.attempt.result.now,
+        subst (λ a. IsRight p.steps c.args.plan.now a) (sym c.attempt.ensures.attempt) (c.in_ok-evaluate.ensures.right p.steps s),
+        c.settle_or_wait.ensures.settled,
+      )));
+    }
