@@ -1,10 +1,11 @@
 -- What a command line was read as.
-use Rattle.std.proofs.Common.{◌≡◌, false, List, [], Option, Some, None, option_map, option_and_then, codes, refl, sym, ap, ◌∙◌}
+use Rattle.std.proofs.Common.{◌≡◌, ◌||◌, false, List, [], Option, Some, None, option_map, option_and_then, codes, refl, sym, ap, ◌∙◌}
 use Rattle.std.specs.Prelude.{Box}
 use Rattle.clap.specs.Matches.{subcommand_name_of}
-use Rattle.clap.specs.Walk.{Row, Text}
-use Rattle.clap.specs.Built.{AddsSubcommand}
-use Rattle.clap.specs.Simple.{App, Shape, app_of, subcommand_of, subcommand_rows, subcommand_rows_of, with_subcommand}
+use Rattle.clap.specs.Walk.{Row, Rule, Text, rule_of}
+use Rattle.clap.specs.Built.{AddsArg, AddsSubcommand}
+use Rattle.clap.specs.Simple.{App, Shape, app_of, subcommand_of, subcommand_rows, subcommand_rows_of, with_rule, with_subcommand}
+use Rattle.clap.specs.declared.builder.arg.Arg.{Arg}
 use Rattle.clap.specs.declared.builder.command.Command.{Command}
 use Rattle.clap.specs.declared.builder.command.Command.TheViews.{out-Command as fields_of}
 use Rattle.std.specs.Box.{box_value}
@@ -18,6 +19,15 @@ pub joined : (old sub new : Command) (before : App) (s : Shape) → AddsSubcomma
     → app_of sub ≡ record { top = s; subs = [] } → app_of new ≡ with_subcommand before s
 joined old sub new before s adds local is same =
     adds.shape local ∙ ap (λ a. with_subcommand a (app_of sub).top) is ∙ ap (λ (a : App). with_subcommand before a.top) same
+
+-- a command with one more argument
+pub more : (old : Command) (a : Arg) (new : Command) (before : App) (r : Rule) → AddsArg old a new → a.global ≡ false → app_of old ≡ before → rule_of a ≡ r
+    → app_of new ≡ with_rule before r
+more old a new before r adds local is same = adds.shape local ∙ ap (λ b. with_rule b (rule_of a)) is ∙ ap (with_rule before) same
+
+-- it has no global argument yet
+pub more_local : (old : Command) (a : Arg) (new : Command) → AddsArg old a new → a.global ≡ false → (fields_of old).has_globals ≡ false → (fields_of new).has_globals ≡ false
+more_local old a new adds local was = adds.globals ∙ ap (λ b. b || a.global) was ∙ local
 
 -- what a function of the rows of the subcommand gives
 pub of_rows : {A : Type 0} (f : List Row → Option A) (found : Option (Text × List Row)) → option_and_then f (option_map (λ p. p.1) found) ≡ option_and_then (λ p. f p.1) found

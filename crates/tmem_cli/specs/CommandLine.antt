@@ -42,12 +42,13 @@ threads_words =
 abbrev pub bench_words : Shape
 bench_words = record (new_shape (codes "bench")) { rules = disk_words ∷ [] }
 
+-- the program, which takes a request for its version and wants a subcommand, before it has one
+abbrev pub program_alone : App
+program_alone = record { top = record (new_shape (codes "tmem")) { has_version = true; subcommand_required = true }; subs = [] }
+
 -- what the words may be: one of these subcommands, or a request for help or the version
 abbrev pub command_line : App
-command_line =
-    with_subcommand
-    (with_subcommand (with_subcommand (record { top = record (new_shape (codes "tmem")) { has_version = true; subcommand_required = true }; subs = [] }) run_words) threads_words)
-    bench_words
+command_line = with_subcommand (with_subcommand (with_subcommand program_alone run_words) threads_words) bench_words
 
 -- what is wrong with the words, or which request they are; nothing where something is to be done
 abbrev pub why_not_done : List Text → Kinds

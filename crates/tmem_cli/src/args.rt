@@ -3,9 +3,9 @@ ghost use Rattle.std.specs.Prelude.{◌≡◌, false, [], IfOk, codes, map, opti
 ghost use Rattle.clap.specs.declared.builder.command.Command.TheViews.{out-Command as fields_of};
 ghost use Rattle.clap.specs.Kinds.{FailsBy};
 ghost use Rattle.clap.specs.Matches.{found_of};
-ghost use Rattle.clap.specs.Simple.{app_of};
-ghost use Rattle.clap.specs.Walk.{first_of, one_of, rows_of, rule_of};
-ghost use Rattle.tmem_cli.specs.CommandLine.{IsAsked, IsNumberOf, ReadsPlainly, bench_words, command_line, disk_words, parsed_word, run_words, threads_words, why_not_done};
+ghost use Rattle.clap.specs.Simple.{App, Shape, app_of, subcommand_of, subcommand_rows_of, with_subcommand as adding};
+ghost use Rattle.clap.specs.Walk.{Text, first_of, one_of, rows_of, rule_of};
+ghost use Rattle.tmem_cli.specs.CommandLine.{IsAsked, IsNumberOf, ReadsPlainly, bench_words, command_line, disk_words, number_word, parsed_word, program_alone, run_words, script_word, threads_words, why_not_done};
 
 use clap::builder::ValueParser;
 use clap::{Arg, ArgMatches, Command, value_parser};
@@ -49,21 +49,35 @@ pub(crate) fn asked_of<'a>(alloc: Global, words: &'a [String]) -> Result<Asked<'
     ensures asked { IfOk result (IsAsked (map string_bytes words.now)) }
     ensures refused { FailsBy (why_not_done (map string_bytes words.now)) result }
 {
-    let command = command(alloc)?;
-    let matches = command.try_get_matches_from(words)?;
+    let matches = matches_of(alloc, words)?;
+    Ok(asked_in(&matches))
+}
+
+// What the words were read as: the subcommand that they name, with what it is given.
+fn matches_of<'a>(alloc: Global, words: &'a [String]) -> Result<ArgMatches<'a>, clap::Error>
+    ensures met { IfOk result (λ matches. subcommand_rows_of matches ≡ subcommand_of command_line (map string_bytes words.now)) }
+    ensures refused { FailsBy (why_not_done (map string_bytes words.now)) result }
+{
+    command(alloc)?.try_get_matches_from(words)
+}
+
+// What is asked for by words that were read so.
+fn asked_in<'a>(matches: &ArgMatches<'a>) -> Asked<'a>
+    ensures { (words : List Text) → subcommand_rows_of matches.now ≡ subcommand_of command_line words → IsAsked words result }
+{
     if let Some(threads) = matches.subcommand_matches("threads") {
-        return Ok(Asked::Threads(counting_of(threads)));
+        return Asked::Threads(counting_of(threads));
     }
     if let Some(bench) = matches.subcommand_matches("bench") {
-        return Ok(Asked::Bench(disk_of(bench)));
+        return Asked::Bench(disk_of(bench));
     }
     let Some((_, run)) = matches.subcommand() else {
-        return Ok(Asked::Run(Paths {
+        return Asked::Run(Paths {
             script: None,
             disk: None,
-        }));
+        });
     };
-    Ok(Asked::Run(paths_of(run)))
+    Asked::Run(paths_of(run))
 }
 
 // The files that `run` is given.
@@ -109,14 +123,35 @@ fn number_in(matches: &ArgMatches, id: &str) -> u16
 fn command<'a>(alloc: Global) -> Result<Command<'a>, AllocError>
     ensures { IfOk result (λ command. app_of command ≡ command_line) }
 {
-    Command::new(alloc, "tmem")
-        .bin_name("tmem")?
-        .version(VERSION)
-        .about("Durable transactions, played from scripts")
-        .subcommand_required(true)
-        .subcommand(run_command(alloc)?)?
-        .subcommand(threads_command(alloc)?)?
-        .subcommand(bench_command(alloc)?)
+    let with_run = with_subcommand(program(alloc), run_command(alloc));
+    let with_threads = with_subcommand(with_run, threads_command(alloc));
+    with_subcommand(with_threads, bench_command(alloc))
+}
+
+// The program with no subcommand yet.
+fn program<'a>(alloc: Global) -> Result<Command<'a>, AllocError>
+    ensures { IfOk result (λ command. app_of command ≡ program_alone) }
+{
+    let command = Command::new(alloc, "tmem").bin_name("tmem")?;
+    Ok(
+        command
+            .version(VERSION)
+            .about("Durable transactions, played from scripts")
+            .subcommand_required(true),
+    )
+}
+
+// A command with one more subcommand, where both were made.
+fn with_subcommand<'a>(
+    command: Result<Command<'a>, AllocError>,
+    subcommand: Result<Command<'a>, AllocError>,
+) -> Result<Command<'a>, AllocError>
+    ensures { (before : App) (words : Shape) → IfOk command.entry (λ command. app_of command ≡ before)
+        → IfOk subcommand.entry (λ sub. app_of sub ≡ record { top = words; subs = [] })
+        → IfOk subcommand.entry (λ sub. (fields_of sub).has_globals ≡ false)
+        → IfOk result (λ command. app_of command ≡ adding before words) }
+{
+    command?.subcommand(subcommand?)
 }
 
 fn run_command<'a>(alloc: Global) -> Result<Command<'a>, AllocError>
@@ -125,11 +160,7 @@ fn run_command<'a>(alloc: Global) -> Result<Command<'a>, AllocError>
 {
     Command::new(alloc, "run")
         .about("Plays a script on a store in a file or in memory")
-        .arg(
-            Arg::new(alloc, "script")
-                .value_name("SCRIPT")
-                .help("The file with the script [default: standard input]"),
-        )?
+        .arg(script_arg(alloc))?
         .arg(disk_arg(
             alloc,
             "The file of the store, made if it is missing [default: a device in memory]",
@@ -140,16 +171,10 @@ fn threads_command<'a>(alloc: Global) -> Result<Command<'a>, AllocError>
     ensures app { IfOk result (λ command. app_of command ≡ record { top = threads_words; subs = [] }) }
     ensures local { IfOk result (λ command. (fields_of command).has_globals ≡ false) }
 {
-    let workers = value_parser!(u16).range(1..=16);
-    let turns = value_parser!(u16).range(1..=1000);
     Command::new(alloc, "threads")
         .about("Lets threads count up in a new store in a file or in memory")
-        .arg(number_arg(alloc, "workers", "WORKERS", workers).help(
-            "How many threads count, from 1 to 16",
-        ))?
-        .arg(number_arg(alloc, "turns", "TURNS", turns).help(
-            "How often each of them adds 1, from 1 to 1000",
-        ))?
+        .arg(workers_arg(alloc))?
+        .arg(turns_arg(alloc))?
         .arg(disk_arg(
             alloc,
             "The file of the store, which must not be there yet [default: a device in memory]",
@@ -166,6 +191,34 @@ fn bench_command<'a>(alloc: Global) -> Result<Command<'a>, AllocError>
             alloc,
             "The file of the timed stores, which must not be there yet, and is removed again [default: tmem-bench.store]",
         ))
+}
+
+// The path of a script.
+fn script_arg<'a>(alloc: Global) -> Arg<'a>
+    ensures rule { rule_of result ≡ script_word }
+    ensures local { result.global ≡ false }
+{
+    Arg::new(alloc, "script")
+        .value_name("SCRIPT")
+        .help("The file with the script [default: standard input]")
+}
+
+// How many threads count.
+fn workers_arg<'a>(alloc: Global) -> Arg<'a>
+    ensures rule { rule_of result ≡ number_word (codes "workers") 16 }
+    ensures local { result.global ≡ false }
+{
+    let workers = value_parser!(u16).range(1..=16);
+    number_arg(alloc, "workers", "WORKERS", workers).help("How many threads count, from 1 to 16")
+}
+
+// How often each of them adds 1.
+fn turns_arg<'a>(alloc: Global) -> Arg<'a>
+    ensures rule { rule_of result ≡ number_word (codes "turns") 1000 }
+    ensures local { result.global ≡ false }
+{
+    let turns = value_parser!(u16).range(1..=1000);
+    number_arg(alloc, "turns", "TURNS", turns).help("How often each of them adds 1, from 1 to 1000")
 }
 
 // A number, which has to be given.

@@ -1,16 +1,9 @@
-use Rattle.std.proofs.Common.{◌≡◌, [], true, codes, rules}
-use Rattle.std.proofs.lemmas.Result.{IfOk-weaker}
-use Rattle.clap.specs.Simple.{App, app_of, new_shape, with_subcommand}
-use Rattle.tmem_cli.specs.CommandLine.{bench_words, run_words, threads_words}
-use Rattle.tmem_cli.proofs.Asking.{joined}
+use Rattle.clap.specs.Simple.{with_subcommand}
+use Rattle.tmem_cli.specs.CommandLine.{bench_words, program_alone, run_words, threads_words}
 use Rattle.tmem_cli.proofs.args.command.Goals as goal
 
 pub returns : goal.returns
 returns c =
-    let top : App = record { top = record (new_shape (codes "tmem")) { has_version = true; subcommand_required = true }; subs = [] } in
-    let alone : app_of c.subcommand_required.result ≡ top = search rules in
-    let run = joined _ _ _ top run_words c.in_ok-subcommand.ensures c.in_ok-run_command.ensures.local alone c.in_ok-run_command.ensures.app in
-    let threads = joined _ _ _ (with_subcommand top run_words) threads_words c.in_ok-subcommand-2.ensures c.in_ok-threads_command.ensures.local run c.in_ok-threads_command.ensures.app in
-    IfOk-weaker c.subcommand-3.result _ _
-    (λ command adds. joined _ _ command (with_subcommand (with_subcommand top run_words) threads_words) bench_words adds c.in_ok-bench_command.ensures.local threads c.in_ok-bench_command.ensures.app)
-    c.subcommand-3.ensures
+    let run = c.with_subcommand-with_run.ensures program_alone run_words c.program.ensures c.run_command.ensures.app c.run_command.ensures.local in
+    let threads = c.with_subcommand-with_threads.ensures (with_subcommand program_alone run_words) threads_words run c.threads_command.ensures.app c.threads_command.ensures.local in
+    c.with_subcommand.ensures (with_subcommand (with_subcommand program_alone run_words) threads_words) bench_words threads c.bench_command.ensures.app c.bench_command.ensures.local

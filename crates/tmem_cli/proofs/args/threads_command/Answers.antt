@@ -1,0 +1,28 @@
+use Rattle.std.proofs.Common.{◌≡◌, false, ap, codes, ◌∙◌}
+use Rattle.std.proofs.lemmas.Result.{IfOk-weaker}
+use Rattle.clap.specs.Simple.{App, app_of, app_of_fields, new_app, with_rule}
+use Rattle.clap.specs.declared.builder.command.Command.TheOpen.{Command-F}
+use Rattle.clap.specs.declared.builder.command.Command.TheViews.{out-Command as fields_of}
+use Rattle.clap.specs.declared.builder.command.Command.{Command}
+use Rattle.tmem_cli.specs.CommandLine.{disk_words, number_word}
+use Rattle.tmem_cli.proofs.Asking.{more, more_local}
+use Rattle.tmem_cli.proofs.args.threads_command.Goals as goal
+
+pub returns-clause-app : goal.returns-clause-app
+returns-clause-app c =
+    let top : App = new_app (codes "threads") in
+    let workers = number_word (codes "workers") 16 in
+    let turns = number_word (codes "turns") 1000 in
+    let alone : app_of c.about.result ≡ top = ap app_of_fields c.about.ensures ∙ c.new.ensures.app in
+    let first = more _ _ _ top workers c.in_ok-arg.ensures c.workers_arg.ensures.local alone c.workers_arg.ensures.rule in
+    let second = more _ _ _ (with_rule top workers) turns c.in_ok-arg-2.ensures c.turns_arg.ensures.local first c.turns_arg.ensures.rule in
+    IfOk-weaker c.arg-3.result _ _
+    (λ command adds. more _ _ command (with_rule (with_rule top workers) turns) disk_words adds c.disk_arg.ensures.local second c.disk_arg.ensures.rule)
+    c.arg-3.ensures
+
+pub returns-clause-local : goal.returns-clause-local
+returns-clause-local c =
+    let alone : (fields_of c.about.result).has_globals ≡ false = ap (λ (f : Command-F Command). f.has_globals) c.about.ensures ∙ c.new.ensures.local in
+    let first = more_local _ _ _ c.in_ok-arg.ensures c.workers_arg.ensures.local alone in
+    let second = more_local _ _ _ c.in_ok-arg-2.ensures c.turns_arg.ensures.local first in
+    IfOk-weaker c.arg-3.result _ _ (λ command adds. more_local _ _ command adds c.disk_arg.ensures.local second) c.arg-3.ensures
