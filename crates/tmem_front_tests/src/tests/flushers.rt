@@ -126,3 +126,15 @@ fn a_wait_for_a_flush_waits_and_a_flusher_makes_room(rt: HostRuntime) -> Result<
     };
     play(&rt, rt.alloc(), &scene)
 }
+
+#[test]
+fn no_flush_that_makes_room_meets_a_full_log(rt: HostRuntime) -> Result<(), Fail> {
+    let flushes: &[Row] = &[(Move::CommitAndFlush(1500), Answer::Number(1500))];
+    let scene = Scene {
+        device: Device { slots: 2, ..SOUND },
+        threads: [flushes; 4],
+        after: &[(Move::Look, Answer::Number(6000))],
+        ..Scene::empty()
+    };
+    play(&rt, rt.alloc(), &scene)
+}

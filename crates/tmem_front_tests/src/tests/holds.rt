@@ -7,7 +7,7 @@ const CLOSED: Answer = Answer::Refused(Refusal::Closed);
 
 /// While one thread is held, another one commits once by each way, and looks: nothing is durable by then.
 const MEANWHILE: &[Row] = &[
-    (Move::AwaitHeld, Answer::Done),
+    (Move::AwaitHeld(1), Answer::Done),
     (Move::TryCommit(Task::Write(0, 2)), Answer::Committed(1)),
     (Move::Commit(Task::Write(0, 2)), Answer::Committed(2)),
     (Move::Look, Answer::Number(0)),
@@ -27,7 +27,7 @@ fn meanwhile<'a>(before: &'a [Row], held: &'a [Row], after: &'a [Row]) -> Scene<
 fn settle_while_sync_held(rt: HostRuntime) -> Result<(), Fail> {
     let before: &[Row] = &[
         (Move::TryCommit(Task::Write(0, 1)), Answer::Committed(0)),
-        (Move::HoldSyncs, Answer::Done),
+        (Move::HoldSyncs(1), Answer::Done),
     ];
     let held: &[Row] = &[(Move::Flush, Answer::Number(1))];
     let after: &[Row] = &[(Move::Look, Answer::Number(1))];
@@ -38,7 +38,7 @@ fn settle_while_sync_held(rt: HostRuntime) -> Result<(), Fail> {
 fn settle_while_the_sync_of_a_checkpoint_is_held(rt: HostRuntime) -> Result<(), Fail> {
     let before: &[Row] = &[
         (Move::TryCommit(Task::Write(0, 1)), Answer::Committed(0)),
-        (Move::HoldSyncs, Answer::Done),
+        (Move::HoldSyncs(1), Answer::Done),
     ];
     let held: &[Row] = &[(Move::Checkpoint, Answer::Done)];
     // a checkpoint makes nothing durable that waits
@@ -50,7 +50,7 @@ fn settle_while_the_sync_of_a_checkpoint_is_held(rt: HostRuntime) -> Result<(), 
 fn an_attempt_is_made_once_where_another_commits_meanwhile(rt: HostRuntime) -> Result<(), Fail> {
     let before: &[Row] = &[
         (Move::TryCommit(Task::Write(0, 1)), Answer::Committed(0)),
-        (Move::HoldSteps, Answer::Done),
+        (Move::HoldSteps(1), Answer::Done),
     ];
     let conflict = Answer::Refused(Refusal::Conflict);
     let held: &[Row] = &[(Move::TryCommit(Task::AddOne), conflict)];
@@ -63,14 +63,14 @@ fn no_call_but_one_of_the_device_waits_for_a_sync(rt: HostRuntime) -> Result<(),
     let scene = Scene {
         before: &[
             (Move::TryCommit(Task::Write(0, 1)), Answer::Committed(0)),
-            (Move::HoldSyncs, Answer::Done),
+            (Move::HoldSyncs(1), Answer::Done),
         ],
         threads: [
             &[(Move::Flush, Answer::Number(1))],
             &[(Move::Await(1), CLOSED)],
             &[(Move::Commit(Task::NeedOne), CLOSED)],
             &[
-                (Move::AwaitHeld, Answer::Done),
+                (Move::AwaitHeld(1), Answer::Done),
                 (Move::NewPass, Answer::Done),
                 (Move::Peek(0), Answer::Value(1)),
                 (Move::Attempt(Task::AddOne), Answer::Done),
@@ -82,6 +82,39 @@ fn no_call_but_one_of_the_device_waits_for_a_sync(rt: HostRuntime) -> Result<(),
             ],
         ],
         after: &[(Move::Look, Answer::Number(1))],
+        ..Scene::empty()
+    };
+    play(&rt, rt.alloc(), &scene)
+}
+
+#[test]
+fn the_third_turn_of_a_transaction_is_alone(rt: HostRuntime) -> Result<(), Fail> {
+    let scene = Scene {
+        before: &[
+            (Move::TryCommit(Task::Write(0, 1)), Answer::Committed(0)),
+            (Move::HoldSteps(3), Answer::Done),
+        ],
+        threads: [
+            &[(Move::Commit(Task::AddOne), Answer::Committed(3))],
+            // waits for the lock, while the third addition is held under it
+            &[
+                (Move::AwaitHeld(3), Answer::Done),
+                (Move::TryCommit(Task::Write(0, 9)), Answer::Committed(4)),
+            ],
+            &[],
+            &[
+                (Move::AwaitHeld(1), Answer::Done),
+                (Move::TryCommit(Task::Write(0, 5)), Answer::Committed(1)),
+                (Move::Release, Answer::Done),
+                (Move::AwaitHeld(2), Answer::Done),
+                (Move::TryCommit(Task::Write(0, 7)), Answer::Committed(2)),
+                (Move::Release, Answer::Done),
+                (Move::AwaitHeld(3), Answer::Done),
+                (Move::Sleep(50), Answer::Done),
+                (Move::Release, Answer::Done),
+            ],
+        ],
+        after: &[(Move::Peek(0), Answer::Value(9))],
         ..Scene::empty()
     };
     play(&rt, rt.alloc(), &scene)

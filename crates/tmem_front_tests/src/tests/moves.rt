@@ -29,6 +29,9 @@ pub(super) enum Move {
     Fill(u64),
     /// Commits `AddOne` so often by `try_atomically`, again after each conflict. Answers how often it did.
     Add(u64),
+    /// Writes 1 to variable 0 so often by `atomically`, each time with a `flush_with_room` behind it. Answers how often, or the first
+    /// refusal.
+    CommitAndFlush(u64),
     Look,
     Seen,
     Vouch(u64),
@@ -50,12 +53,12 @@ pub(super) enum Move {
     Sleep(u64),
     /// The same. Answers whether the whole process used less than half of that as processor time.
     Rest(u64),
-    /// The next syncs, or additions, are held until they are released.
-    HoldSyncs,
-    HoldSteps,
-    /// Waits until one is held, for ten seconds at the most.
-    AwaitHeld,
-    /// Releases it. `Late` where it was held for ten seconds.
+    /// So many of the next syncs, or additions, are each held until one more is released.
+    HoldSyncs(u64),
+    HoldSteps(u64),
+    /// Waits until so many were held, for ten seconds at the most.
+    AwaitHeld(u64),
+    /// Releases one. `Late` where one was held for ten seconds.
     Release,
     /// Whether `NeedOne` was evaluated so often at the most.
     NeedsAtMost(u64),

@@ -12,13 +12,15 @@ const MOST_TURNS: u64 = 10_000;
 /// How often a step that is held lets others run, at the most.
 const MOST_YIELDS: u64 = 20_000_000;
 
-/// Flags and counters. Nothing is held at first.
+/// Counters. Nothing is held at first.
 #[derive(Drop)]
 pub(super) struct Signals {
-    holds_syncs: AtomicBool,
-    holds_steps: AtomicBool,
-    is_held: AtomicBool,
-    is_released: AtomicBool,
+    // how many of the next ones are still to be held
+    syncs: AtomicU64,
+    steps: AtomicU64,
+    // how many were held, and how many of these may go on
+    held: AtomicU64,
+    released: AtomicU64,
     gave_up: AtomicBool,
     needs: AtomicU64,
     ended: AtomicU64,
@@ -27,42 +29,42 @@ pub(super) struct Signals {
 impl Signals {
     pub(super) fn new() -> Signals {
         Signals {
-            holds_syncs: AtomicBool::new(false),
-            holds_steps: AtomicBool::new(false),
-            is_held: AtomicBool::new(false),
-            is_released: AtomicBool::new(false),
+            syncs: AtomicU64::new(0),
+            steps: AtomicU64::new(0),
+            held: AtomicU64::new(0),
+            released: AtomicU64::new(0),
             gave_up: AtomicBool::new(false),
             needs: AtomicU64::new(0),
             ended: AtomicU64::new(0),
         }
     }
 
-    /// The next syncs are held until they are released.
-    pub(super) fn hold_syncs(&self) {
-        self.holds_syncs.store(true, Ordering::SeqCst);
+    /// So many of the next syncs are each held until one more is released.
+    pub(super) fn hold_syncs(&self, times: u64) {
+        self.syncs.store(times, Ordering::SeqCst);
     }
 
-    /// The next additions are.
-    pub(super) fn hold_steps(&self) {
-        self.holds_steps.store(true, Ordering::SeqCst);
+    /// So many of the next additions are.
+    pub(super) fn hold_steps(&self, times: u64) {
+        self.steps.store(times, Ordering::SeqCst);
     }
 
-    /// Waits until something is held. Answers whether that came in time.
-    pub(super) fn await_held<R: Clock>(&self, rt: &R) -> bool {
-        is_set_in_time(rt, &self.is_held)
+    /// Waits until so many were held. Answers whether that came in time.
+    pub(super) fn await_held<R: Clock>(&self, rt: &R, times: u64) -> bool {
+        has_come_in_time(rt, &self.held, times)
     }
 
-    /// Releases what is held. Answers whether it was held until now.
+    /// Releases one of what is held. Answers whether all were held until they were released.
     pub(super) fn release(&self) -> bool {
-        self.is_released.store(true, Ordering::SeqCst);
+        self.released.fetch_add(1, Ordering::SeqCst);
         !self.gave_up.load(Ordering::SeqCst)
     }
 
     /// Called by a sync.
     pub(super) fn meet_sync<R: Clock>(&self, rt: &R) {
-        if self.holds_syncs.load(Ordering::SeqCst) {
-            self.is_held.store(true, Ordering::SeqCst);
-            if !is_set_in_time(rt, &self.is_released) {
+        if is_one_left(&self.syncs) {
+            let before = self.held.fetch_add(1, Ordering::SeqCst);
+            if !has_come_in_time(rt, &self.released, before.wrapping_add(1)) {
                 self.gave_up.store(true, Ordering::SeqCst);
             }
         }
@@ -70,12 +72,12 @@ impl Signals {
 
     /// Called by an addition. It has no runtime, so it does not sleep.
     pub(super) fn meet_step(&self) {
-        if !self.holds_steps.load(Ordering::SeqCst) {
+        if !is_one_left(&self.steps) {
             return;
         }
-        self.is_held.store(true, Ordering::SeqCst);
+        let before = self.held.fetch_add(1, Ordering::SeqCst);
         for _ in 0..MOST_YIELDS {
-            if self.is_released.load(Ordering::SeqCst) {
+            if self.released.load(Ordering::SeqCst) > before {
                 return;
             }
             yield_now();
@@ -100,20 +102,23 @@ impl Signals {
 
     /// Waits until so many threads have played their rows. Answers whether that came in time.
     pub(super) fn await_ends<R: Clock>(&self, rt: &R, threads: u64) -> bool {
-        for _ in 0..MOST_TURNS {
-            if self.ended.load(Ordering::SeqCst) >= threads {
-                return true;
-            }
-            thread::sleep(rt, Duration::from_millis(1));
-        }
-        false
+        has_come_in_time(rt, &self.ended, threads)
     }
 }
 
-// Waits for a flag. Answers whether it came in time.
-fn is_set_in_time<R: Clock>(rt: &R, flag: &AtomicBool) -> bool {
+// Counts down. Answers whether there was one left.
+fn is_one_left(count: &AtomicU64) -> bool {
+    let left = count.load(Ordering::SeqCst);
+    if left > 0 {
+        count.store(left.saturating_sub(1), Ordering::SeqCst);
+    }
+    left > 0
+}
+
+// Waits until a counter is so great. Answers whether that came in time.
+fn has_come_in_time<R: Clock>(rt: &R, counter: &AtomicU64, least: u64) -> bool {
     for _ in 0..MOST_TURNS {
-        if flag.load(Ordering::SeqCst) {
+        if counter.load(Ordering::SeqCst) >= least {
             return true;
         }
         thread::sleep(rt, Duration::from_millis(1));

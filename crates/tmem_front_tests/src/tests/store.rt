@@ -135,6 +135,7 @@ impl<D: Disk + Drop, N: StoreNaming, T: Invariants + Drop, S: StoredSteps + Drop
             Move::TryCommit(task) => self.try_commit(stage, pass, task),
             Move::Fill(times) => self.fill(stage, pass, times),
             Move::Add(times) => self.add(stage, pass, times),
+            Move::CommitAndFlush(times) => self.commit_and_flush(stage, pass, times),
             Move::Look => Answer::Number(self.front.look(pass)),
             Move::Seen => Answer::Number(pass.seen()),
             Move::Vouch(number) => self.vouch(stage, pass, number),
@@ -230,6 +231,25 @@ impl<D: Disk + Drop, N: StoreNaming, T: Invariants + Drop, S: StoredSteps + Drop
         Answer::Number(in_order)
     }
 
+    // Commits and flushes so often, or until one of these is refused.
+    fn commit_and_flush<R: Wait>(
+        &self,
+        stage: &Stage<R>,
+        pass: &mut Pass<N>,
+        times: u64,
+    ) -> Answer {
+        for _ in 0..times {
+            let committed = self.commit(stage, pass, Task::Write(0, 1));
+            if !matches!(committed, Answer::Committed(_)) {
+                return committed;
+            }
+            if let Err(fault) = self.front.flush_with_room(stage.rt) {
+                return Answer::refused(fault);
+            }
+        }
+        Answer::Number(times)
+    }
+
     // How often an addition commits, which is made again after each conflict.
     fn add<R: Wait>(&self, stage: &Stage<R>, pass: &mut Pass<N>, times: u64) -> Answer {
         let mut committed = 0u64;
@@ -309,15 +329,15 @@ impl<'a, R: Clock + CpuClock> Stage<'a, R> {
         match step {
             Move::Sleep(millis) => self.sleep(millis),
             Move::Rest(millis) => self.rest(millis),
-            Move::HoldSyncs => {
-                self.signals.hold_syncs();
+            Move::HoldSyncs(times) => {
+                self.signals.hold_syncs(times);
                 Answer::Done
             }
-            Move::HoldSteps => {
-                self.signals.hold_steps();
+            Move::HoldSteps(times) => {
+                self.signals.hold_steps(times);
                 Answer::Done
             }
-            Move::AwaitHeld => Answer::in_time(self.signals.await_held(self.rt)),
+            Move::AwaitHeld(times) => Answer::in_time(self.signals.await_held(self.rt, times)),
             Move::Release => Answer::in_time(self.signals.release()),
             Move::NeedsAtMost(most) => Answer::Holds(self.signals.needs() <= most),
             _ => Answer::Nothing,
