@@ -5,7 +5,7 @@ ghost use Rattle.tmem_record.specs.Names.{has_name};
 ghost use Rattle.tmem_record.specs.declared.effect.Effect.{Effect as EffectOf};
 ghost use Rattle.tmem_tentative.specs.Fits.{IsForVariables};
 ghost use Rattle.tmem_core.specs.Held.{state_of, opened_of, history_of, waiting_of, durable_of, is_shut_of, table_of};
-ghost use Rattle.tmem_core.specs.SettleAnswer.{settle_answer, judged};
+ghost use Rattle.tmem_core.specs.SettleAnswer.{settle_answer, judged, accepted_by};
 ghost use Rattle.tmem_core.specs.Decisions.{answer_of, taken_by, RetriesAt};
 ghost use Rattle.tmem_core.specs.Verdict.{verdict};
 ghost use Rattle.tmem_tentative.specs.Right.{IsRight};
@@ -15,10 +15,12 @@ ghost use Rattle.tmem_spine.specs.Views.{new_core, new_pass};
 ghost use Rattle.tmem_spine.specs.declared.spine.TheConstants.{MOST_PASSES};
 ghost use Rattle.tmem_front.specs.Flushing.{GoesOn, TakesOldest};
 ghost use Rattle.tmem_front.specs.Histories.{after, marked, numbered, IsSoundState};
+ghost use Rattle.tmem_front.specs.Seats.{HasMoreOrShut, HasFlushedOrShut, HasWorkOrShut};
 
+use crate::front::with_registers;
 use crate::naming::StoreNaming;
 use std::marker::Model;
-use tmem_core::{Core, Decision};
+use tmem_core::{Core, Decision, Settled};
 use tmem_disk::Fault;
 use tmem_invariants::Invariants;
 use tmem_record::Batch;
@@ -31,6 +33,8 @@ use tmem_tentative::Attempt;
 pub struct CoreSeat<N: StoreNaming, T: Invariants> {
     core: Core<T>,
     side: CoreSide<N>,
+    // how often whoever waits has looked at what it waits for
+    looks: u64,
 }
 
 impl<N: StoreNaming, T: Invariants> Model for CoreSeat<N, T> {
@@ -55,7 +59,8 @@ impl<N: StoreNaming, T: Invariants + Drop> CoreSeat<N, T> {
         requires named { T.names (table_of core) ≡ N.program.names }
         ensures { (result.accepted ≡ []) × (result.trimmed ≡ N.name.start) × (result.given ≡ 0) × (result.is_shut ≡ is_shut_of core) }
     {
-        CoreSeat { core, side }
+        let looks = 0;
+        CoreSeat { core, side, looks }
     }
 
     /// Settles an attempt for a pass. The core first learns how many are durable, at least as many as the pass saw, and
@@ -92,6 +97,30 @@ impl<N: StoreNaming, T: Invariants + Drop> CoreSeat<N, T> {
             spine.meet_core(&mut self.side, pass);
         }
         decision
+    }
+
+    /// Settles an attempt as `decide` does, and answers with its registers.
+    pub fn settle(
+        &mut self,
+        spine: &Spine<N>,
+        pass: &mut Pass<N>,
+        attempt: &Attempt,
+    ) -> Result<Settled, Fault>
+        requires variables { IsForVariables (length N.opening.values) attempt.now }
+        requires names { All (λ name. IsTrue (has_name N.program.names name)) attempt.now.effect.names }
+        ensures trimmed { (self.old.trimmed ≤ self.new.trimmed) × (count N.name.start pass.old.seen ≤ self.new.trimmed) }
+        ensures answer { result ≡ settle_answer N.program self.old.is_shut (after N.opening self.old.accepted) self.new.trimmed attempt.now }
+        ensures verdict { (tx : TxOf) → IsRight N.program.steps tx attempt.now
+            → result ≡ judged self.old.is_shut (after N.opening self.old.accepted) self.new.trimmed attempt.now.reads.entries (verdict N.program tx (after N.opening self.old.accepted)) }
+        ensures number { (after N.opening self.old.accepted).count ≡ count N.name.start self.old.accepted }
+        ensures accepted { self.new.accepted ≡ self.old.accepted ++ marked pass.old.mark (accepted_by result attempt.now.effect) }
+        ensures pass { pass.new ≡ record pass.old { known = self.new.accepted; own = pass.old.own ++ numbered (count N.name.start self.old.accepted) (accepted_by result attempt.now.effect) } }
+        ensures begins { IsPrefix pass.old.known self.old.accepted }
+        ensures sound { IsSoundState N.program (after N.opening self.new.accepted) }
+        ensures rest { (self.new.given ≡ self.old.given) × (self.new.is_shut ≡ self.old.is_shut) }
+    {
+        let decision = self.decide(spine, pass, attempt);
+        with_registers(decision, attempt)
     }
 
     /// Gives out a pass that knows nothing yet, under the mark that is next. Refused with `NoSeat` exactly where as
@@ -163,6 +192,38 @@ impl<N: StoreNaming, T: Invariants + Drop> CoreSeat<N, T> {
         ensures { result ≡ self.now.is_shut }
     {
         self.core.is_shut()
+    }
+
+    /// Whether more than so many are accepted, or it was shut: what a transaction waits for that retried. The look is counted.
+    pub(crate) fn has_more(&mut self, at: u64) -> bool
+        ensures more { IsTrue result → HasMoreOrShut N.name.start at self.new }
+        ensures same { self.new ≡ self.old }
+    {
+        self.looks = self.looks.wrapping_add(1);
+        at < self.count() || self.is_shut()
+    }
+
+    /// Whether more than so many are known durable, or it was shut: what a call waits for that awaits a flush. The look is counted.
+    pub(crate) fn has_flushed(&mut self, number: u64) -> bool
+        ensures more { IsTrue result → HasFlushedOrShut number self.new }
+        ensures same { self.new ≡ self.old }
+    {
+        self.looks = self.looks.wrapping_add(1);
+        number < self.durable() || self.is_shut()
+    }
+
+    /// Whether some are not known durable, or it was shut: what a flusher waits for. The look is counted.
+    pub(crate) fn has_work(&mut self) -> bool
+        ensures more { IsTrue result → HasWorkOrShut N.name.start self.new }
+        ensures same { self.new ≡ self.old }
+    {
+        self.looks = self.looks.wrapping_add(1);
+        self.has_waiting() || self.is_shut()
+    }
+
+    /// How often whoever waits has looked at what it waits for.
+    pub fn looks(&self) -> u64 {
+        self.looks
     }
 
     /// Later attempts are refused as `Closed`.

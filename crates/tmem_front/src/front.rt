@@ -293,6 +293,11 @@ impl<D: Disk + Drop, N: StoreNaming, T: Invariants + Drop, S: StoredSteps + Drop
         self.core.lock(rt).peek(var)
     }
 
+    /// How often calls that wait have looked at what they wait for. One that sleeps looks once each time that it is woken.
+    pub fn looks<R: Wait>(&self, rt: &R) -> u64 {
+        self.core.lock(rt).looks()
+    }
+
     /// The plan of a transaction. Refused with `BadPlan` and the least cause for which it is outside the limits.
     pub fn plan(&self, tx: Tx) -> Result<Plan, Fault>
         ensures plan { IfOk result (λ plan. plan ≡ tx) }

@@ -141,7 +141,7 @@ impl<D: Disk + Drop, N: StoreNaming, T: Invariants + Drop, S: StoredSteps + Drop
         ensures { HasMoreOrShut N.name.start at (mutex_guard_value result) }
     {
         for _ in rt.forever() {
-            if at < core.count() || core.is_shut() {
+            if core.has_more(at) {
                 return core;
             }
             core = self.committed.wait(rt, core);
@@ -201,7 +201,7 @@ impl<D: Disk + Drop, N: StoreNaming, T: Invariants + Drop, S: StoredSteps + Drop
         ensures { HasFlushedOrShut number (mutex_guard_value result) }
     {
         for _ in rt.forever() {
-            if number < core.durable() || core.is_shut() {
+            if core.has_flushed(number) {
                 return core;
             }
             core = self.flushed.wait(rt, core);
@@ -238,7 +238,7 @@ impl<D: Disk + Drop, N: StoreNaming, T: Invariants + Drop, S: StoredSteps + Drop
         ensures { HasWorkOrShut N.name.start (mutex_guard_value result) }
     {
         for _ in rt.forever() {
-            if core.has_waiting() || core.is_shut() {
+            if core.has_work() {
                 return core;
             }
             core = self.committed.wait(rt, core);

@@ -51,8 +51,6 @@ pub(super) enum Move {
     OtherPass,
     /// Lets so many milliseconds pass.
     Sleep(u64),
-    /// The same. Answers whether the whole process used less than half of that as processor time.
-    Rest(u64),
     /// So many of the next syncs, or additions, are each held until one more is released.
     HoldSyncs(u64),
     HoldSteps(u64),
@@ -62,6 +60,8 @@ pub(super) enum Move {
     Release,
     /// Whether `NeedOne` was evaluated so often at the most.
     NeedsAtMost(u64),
+    /// Whether the calls that wait have looked so often at the most.
+    LooksAtMost(u64),
 }
 
 /// Which fault a move is refused with, without what some faults carry: so a row is plain data, and stands in a constant.

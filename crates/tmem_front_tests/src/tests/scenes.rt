@@ -14,7 +14,7 @@ use std::rt::Clock;
 use std::sync::Wait;
 use std::test::Fail;
 use std::thread::{self, Threads, join};
-use std::time::{CpuClock, Duration};
+use std::time::Duration;
 use tmem_disk::{Disk, Fault, SimDisk};
 use tmem_front::{Front, OpenedFront, StoreNaming};
 use tmem_invariants::Invariants;
@@ -104,17 +104,12 @@ const LAST: usize = 3;
 /// What is played on a store. The functions that start threads know no more of it.
 trait Plays {
     /// Plays a thread's rows, and answers what went wrong first.
-    fn play<R: Clock + CpuClock + Wait>(
-        &self,
-        stage: &Stage<R>,
-        thread: usize,
-        rows: &[Row],
-    ) -> Option<Wrong>;
+    fn play<R: Clock + Wait>(&self, stage: &Stage<R>, thread: usize, rows: &[Row]) -> Option<Wrong>;
 }
 
 impl<D: Disk + Drop, N: StoreNaming, T: Invariants + Drop, S: StoredSteps + Drop> Plays
     for Front<D, N, T, S> {
-    fn play<R: Clock + CpuClock + Wait>(
+    fn play<R: Clock + Wait>(
         &self,
         stage: &Stage<R>,
         thread: usize,
@@ -138,7 +133,7 @@ impl<D: Disk + Drop, N: StoreNaming, T: Invariants + Drop, S: StoredSteps + Drop
     S,
 > {
     // Plays rows with hands of their own, if there are any.
-    fn play_alone<R: Clock + CpuClock + Wait>(
+    fn play_alone<R: Clock + Wait>(
         &self,
         stage: &Stage<R>,
         part: Part,
@@ -151,7 +146,7 @@ impl<D: Disk + Drop, N: StoreNaming, T: Invariants + Drop, S: StoredSteps + Drop
     }
 
     // Takes a pass, and plays rows.
-    fn play_from<R: Clock + CpuClock + Wait>(
+    fn play_from<R: Clock + Wait>(
         &self,
         stage: &Stage<R>,
         hands: &mut Hands<N>,
@@ -165,7 +160,7 @@ impl<D: Disk + Drop, N: StoreNaming, T: Invariants + Drop, S: StoredSteps + Drop
     }
 
     // Plays all rows, also after a wrong answer, and answers the first one.
-    fn play_rows<R: Clock + CpuClock + Wait>(
+    fn play_rows<R: Clock + Wait>(
         &self,
         stage: &Stage<R>,
         hands: &mut Hands<N>,
@@ -202,7 +197,7 @@ impl<D: Disk + Drop, N: StoreNaming, T: Invariants + Drop, S: StoredSteps + Drop
 }
 
 // Two threads.
-fn play_two<F: Plays + Sync, R: Clock + CpuClock + Threads + Wait + Sync>(
+fn play_two<F: Plays + Sync, R: Clock + Threads + Wait + Sync>(
     stage: &Stage<R>,
     store: &F,
     first: (usize, &[Row]),
@@ -217,7 +212,7 @@ fn play_two<F: Plays + Sync, R: Clock + CpuClock + Threads + Wait + Sync>(
 }
 
 // Four threads.
-fn play_four<F: Plays + Sync, R: Clock + CpuClock + Threads + Wait + Sync>(
+fn play_four<F: Plays + Sync, R: Clock + Threads + Wait + Sync>(
     stage: &Stage<R>,
     store: &F,
     rows: [&[Row]; 4],
@@ -236,7 +231,7 @@ fn play_in<
     N: StoreNaming + Send + Sync,
     T: Invariants + Drop + Send,
     S: StoredSteps + Drop + Send + Sync,
-    R: Clock + CpuClock + Threads + Wait + Sync,
+    R: Clock + Threads + Wait + Sync,
 >(
     stage: &Stage<R>,
     front: &Front<D, N, T, S>,
@@ -259,7 +254,7 @@ fn play_on<
     N: StoreNaming + Send + Sync,
     T: Invariants + Drop + Send,
     S: StoredSteps + Drop + Send + Sync,
-    R: Clock + CpuClock + Threads + Wait + Sync,
+    R: Clock + Threads + Wait + Sync,
 >(stage: &Stage<R>, front: &Front<D, N, T, S>, scene: &Scene) -> Option<Wrong> {
     play_in(stage, front, &mut Hands::new(), scene)
 }
@@ -298,7 +293,7 @@ fn open<'a, R: Clock>(stage: &Stage<'a, R>, device: Device) -> Result<Opened<'a,
 }
 
 // A scene in a store under its name.
-fn play_named<N: StoreNaming + Send + Sync, R: Clock + CpuClock + Threads + Wait + Sync>(
+fn play_named<N: StoreNaming + Send + Sync, R: Clock + Threads + Wait + Sync>(
     stage: &Stage<R>,
     opened: Opened<R>,
     scene: &Scene,
@@ -311,7 +306,7 @@ fn play_named<N: StoreNaming + Send + Sync, R: Clock + CpuClock + Threads + Wait
 }
 
 /// Plays a scene in a new store. Fails with what went wrong first.
-pub(super) fn play<R: Clock + CpuClock + Threads + Wait + Sync>(
+pub(super) fn play<R: Clock + Threads + Wait + Sync>(
     rt: &R,
     alloc: Global,
     scene: &Scene,

@@ -9,7 +9,7 @@ use std::alloc::Global;
 use std::marker::PhantomData;
 use std::rt::Clock;
 use std::sync::Wait;
-use std::time::{CpuClock, Duration};
+use std::time::Duration;
 use std::{mem, thread};
 use tmem_disk::{Disk, Fault};
 use tmem_front::{Front, Pace, Pass, StoreNaming};
@@ -105,7 +105,7 @@ impl<D: Disk + Drop, N: StoreNaming, T: Invariants + Drop, S: StoredSteps + Drop
     }
 
     /// Plays a move.
-    pub(super) fn answer<R: Clock + CpuClock + Wait>(
+    pub(super) fn answer<R: Clock + Wait>(
         &self,
         stage: &Stage<R>,
         hands: &mut Hands<N>,
@@ -124,7 +124,7 @@ impl<D: Disk + Drop, N: StoreNaming, T: Invariants + Drop, S: StoredSteps + Drop
     }
 
     // Plays a move by a pass.
-    fn answer_by<R: Clock + CpuClock + Wait>(
+    fn answer_by<R: Clock + Wait>(
         &self,
         stage: &Stage<R>,
         pass: &mut Pass<N>,
@@ -145,7 +145,7 @@ impl<D: Disk + Drop, N: StoreNaming, T: Invariants + Drop, S: StoredSteps + Drop
     }
 
     // Plays a move that needs no pass.
-    fn answer_alone<R: Clock + CpuClock + Wait>(&self, stage: &Stage<R>, step: Move) -> Answer {
+    fn answer_alone<R: Clock + Wait>(&self, stage: &Stage<R>, step: Move) -> Answer {
         match step {
             Move::NewPasses(times) => self.new_passes(stage, times),
             Move::Peek(var) => self.peek(stage, var),
@@ -154,6 +154,7 @@ impl<D: Disk + Drop, N: StoreNaming, T: Invariants + Drop, S: StoredSteps + Drop
             Move::RunFlusher(left) => self.run_flusher(stage, left),
             Move::Checkpoint => Answer::done(self.front.checkpoint(stage.rt)),
             Move::Shut => self.shut(stage),
+            Move::LooksAtMost(most) => Answer::Holds(self.front.looks(stage.rt) <= most),
             other => stage.answer(other),
         }
     }
@@ -323,12 +324,11 @@ impl<D: Disk + Drop, N: StoreNaming, T: Invariants + Drop, S: StoredSteps + Drop
     }
 }
 
-impl<'a, R: Clock + CpuClock> Stage<'a, R> {
+impl<'a, R: Clock> Stage<'a, R> {
     // Plays a move that needs no front.
     fn answer(&self, step: Move) -> Answer {
         match step {
             Move::Sleep(millis) => self.sleep(millis),
-            Move::Rest(millis) => self.rest(millis),
             Move::HoldSyncs(times) => {
                 self.signals.hold_syncs(times);
                 Answer::Done
@@ -347,17 +347,5 @@ impl<'a, R: Clock + CpuClock> Stage<'a, R> {
     fn sleep(&self, millis: u64) -> Answer {
         thread::sleep(self.rt, Duration::from_millis(millis));
         Answer::Done
-    }
-
-    // Whether the process rests as well.
-    fn rest(&self, millis: u64) -> Answer {
-        let Ok(before) = self.rt.process_cpu_time() else {
-            return Answer::Nothing;
-        };
-        thread::sleep(self.rt, Duration::from_millis(millis));
-        let Ok(after) = self.rt.process_cpu_time() else {
-            return Answer::Nothing;
-        };
-        Answer::Holds(after.saturating_sub(before) < Duration::from_millis(millis / 2))
     }
 }
