@@ -1,5 +1,5 @@
 -- What a flush takes from the core, and what it makes durable.
-use Rattle.std.specs.Prelude.{◌≡◌, ◌≤◌, ◌<◌, ◌^◌, ◌++◌, ℕ, List, length, drop, All}
+use Rattle.std.specs.Prelude.{◌≡◌, ◌≤◌, ◌<◌, ◌^◌, ◌++◌, ℕ, List, length, drop, All, Option, Some, None}
 use Rattle.tmem_disk.specs.declared.fault.Fault.{Fault}
 use Rattle.tmem_disk.specs.declared.fault.Fault.TheVariants as fault
 use Rattle.tmem_record.specs.Loggable.{IsLoggable}
@@ -10,6 +10,8 @@ use Rattle.tmem_core.specs.Taking.{IsTaken}
 use Rattle.tmem_spine.specs.declared.view.Entry.{Entry}
 use Rattle.tmem_spine.specs.History.{count, unmarked}
 use Rattle.tmem_front.specs.Histories.{after}
+use Rattle.tmem_front.specs.declared.failure.Failure.{Failure}
+use Rattle.tmem_front.specs.declared.failure.Failure.TheVariants as failure
 
 -- A batch goes on from what is durable to what the journal aims at, and a log takes it: each effect changes something,
 -- and the state after them is within the limits of counts and names.
@@ -51,3 +53,9 @@ IsFlusherRefusal fault.Unknown = Unit {0}
 IsFlusherRefusal fault.Closed = Unit {0}
 IsFlusherRefusal fault.Spent = Unit {0}
 IsFlusherRefusal _ = ⊥
+
+-- the fault that tells how a device failed
+abbrev pub told_of : Failure → Option Fault
+told_of failure.None = None
+told_of failure.Device = Some fault.Device
+told_of failure.Unknown = Some fault.Unknown

@@ -17,6 +17,7 @@ ghost use Rattle.tmem_front.specs.Flushing.{GoesOn, TakesOldest};
 ghost use Rattle.tmem_front.specs.Histories.{after, marked, numbered, IsSoundState};
 ghost use Rattle.tmem_front.specs.Seats.{HasMoreOrShut, HasFlushedOrShut, HasWorkOrShut};
 
+use crate::failure::Failure;
 use crate::front::with_registers;
 use crate::naming::StoreNaming;
 use std::marker::Model;
@@ -35,6 +36,9 @@ pub struct CoreSeat<N: StoreNaming, T: Invariants> {
     side: CoreSide<N>,
     // how often whoever waits has looked at what it waits for
     looks: u64,
+    // what waits for a flush goes on waiting, though it is shut
+    is_draining: bool,
+    failure: Failure,
 }
 
 impl<N: StoreNaming, T: Invariants> Model for CoreSeat<N, T> {
@@ -59,8 +63,14 @@ impl<N: StoreNaming, T: Invariants + Drop> CoreSeat<N, T> {
         requires named { T.names (table_of core) ≡ N.program.names }
         ensures { (result.accepted ≡ []) × (result.trimmed ≡ N.name.start) × (result.given ≡ 0) × (result.is_shut ≡ is_shut_of core) }
     {
-        let looks = 0;
-        CoreSeat { core, side, looks }
+        let (looks, is_draining, failure) = (0, false, Failure::None);
+        CoreSeat {
+            core,
+            side,
+            looks,
+            is_draining,
+            failure,
+        }
     }
 
     /// Settles an attempt for a pass. The core first learns how many are durable, at least as many as the pass saw, and
@@ -203,13 +213,14 @@ impl<N: StoreNaming, T: Invariants + Drop> CoreSeat<N, T> {
         at < self.count() || self.is_shut()
     }
 
-    /// Whether more than so many are known durable, or it was shut: what a call waits for that awaits a flush. The look is counted.
+    /// Whether more than so many are known durable, or it was shut and no flush is to come: what a call waits for that awaits a flush.
+    /// The look is counted.
     pub(crate) fn has_flushed(&mut self, number: u64) -> bool
         ensures more { IsTrue result → HasFlushedOrShut number self.new }
         ensures same { self.new ≡ self.old }
     {
         self.looks = self.looks.wrapping_add(1);
-        number < self.durable() || self.is_shut()
+        number < self.durable() || self.is_shut() && !self.is_draining
     }
 
     /// Whether some are not known durable, or it was shut: what a flusher waits for. The look is counted.
@@ -226,11 +237,35 @@ impl<N: StoreNaming, T: Invariants + Drop> CoreSeat<N, T> {
         self.looks
     }
 
-    /// Later attempts are refused as `Closed`.
+    /// Later attempts are refused as `Closed`, and no flush is awaited any more.
     pub fn shut(&mut self)
         ensures { self.new ≡ record self.old { is_shut = true } }
     {
         self.core.shut();
+        self.is_draining = false;
+    }
+
+    /// Later attempts are refused as `Closed`. What waits is to be flushed, and is awaited until `shut`.
+    pub fn drain(&mut self)
+        ensures { self.new ≡ record self.old { is_shut = true } }
+    {
+        self.core.shut();
+        self.is_draining = true;
+    }
+
+    /// The device has failed, so nothing is settled or flushed any more. The first failure is kept.
+    pub fn fail(&mut self, failure: Failure)
+        ensures { self.new ≡ record self.old { is_shut = true } }
+    {
+        self.shut();
+        if matches!(self.failure, Failure::None) {
+            self.failure = failure;
+        }
+    }
+
+    /// How the device failed first, if it did.
+    pub fn failure(&self) -> Failure {
+        self.failure
     }
 }
 

@@ -19,6 +19,7 @@ ghost use Rattle.tmem_front.specs.Histories.{IsPossibleValue};
 ghost use Rattle.tmem_front.specs.Settling.{Settles, SettlesPlan};
 
 use crate::core_seat::CoreSeat;
+use crate::failure::Failure;
 use crate::journal_seat::JournalSeat;
 use crate::naming::StoreNaming;
 use crate::pass::Pass;
@@ -239,7 +240,7 @@ impl<D: Disk + Drop, N: StoreNaming, T: Invariants + Drop, S: StoredSteps + Drop
             return Ok(journal.count());
         }
         let flushed = journal.write_by(&self.spine, makes_room);
-        self.tell(rt, &mut journal);
+        self.tell(rt, &mut journal, Failure::of(&flushed));
         flushed
     }
 
@@ -249,7 +250,7 @@ impl<D: Disk + Drop, N: StoreNaming, T: Invariants + Drop, S: StoredSteps + Drop
     {
         let mut journal = self.journal.lock(rt);
         let written = journal.checkpoint();
-        self.tell(rt, &mut journal);
+        self.tell(rt, &mut journal, Failure::of(&written));
         written
     }
 
@@ -265,23 +266,16 @@ impl<D: Disk + Drop, N: StoreNaming, T: Invariants + Drop, S: StoredSteps + Drop
     }
 
     // With the core's lock too, for a moment after a call of the device.
-    fn tell<R: Wait>(&self, rt: &R, journal: &mut JournalSeat<D, N>)
+    fn tell<R: Wait>(&self, rt: &R, journal: &mut JournalSeat<D, N>, failure: Failure)
         ensures { (journal_of journal.new ≡ journal_of journal.old) × (side_of journal.new ≡ side_of journal.old) }
     {
         let mut core = self.core.lock(rt);
-        let is_shut = journal.tell(&self.spine, &mut core);
+        let is_shut = journal.tell(&self.spine, &mut core, failure);
         drop(core);
         self.flushed.notify_all();
         if is_shut {
             self.committed.notify_all();
         }
-    }
-
-    /// Later attempts are refused as `Closed`, and the calls that wait go on.
-    pub fn shut<R: Wait>(&self, rt: &R) {
-        self.core.lock(rt).shut();
-        self.committed.notify_all();
-        self.flushed.notify_all();
     }
 
     /// The present value of a variable, also where the front is shut. The clause says no more than that it may be one:

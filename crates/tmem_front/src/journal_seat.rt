@@ -14,6 +14,7 @@ ghost use Rattle.tmem_front.specs.Flushing.{GoesOn, TakesOldest, IsFlushRefusal,
 ghost use Rattle.tmem_front.specs.Histories.{after};
 
 use crate::core_seat::CoreSeat;
+use crate::failure::Failure;
 use crate::naming::StoreNaming;
 use tmem_disk::{Disk, Fault};
 use tmem_invariants::Invariants;
@@ -141,12 +142,13 @@ impl<D: Disk, N: StoreNaming> JournalSeat<D, N> {
         self.journal.count()
     }
 
-    /// Under both locks, after a call of the device: the core learns how many are durable, or is shut where the journal
-    /// is closed. Answers whether it is shut then.
+    /// Under both locks, after a call of the device, which met this failure or none: the core learns how many are durable, or is
+    /// shut where the journal is closed. Answers whether it is shut then.
     pub fn tell<T: Invariants + Drop>(
         &mut self,
         spine: &Spine<N>,
         core: &mut CoreSeat<N, T>,
+        failure: Failure,
     ) -> bool
         ensures told { result ≡ core.new.is_shut }
         ensures journal { (journal_of self.new ≡ journal_of self.old) × (side_of self.new ≡ side_of self.old) × (batch_of self.new ≡ batch_of self.old) }
@@ -154,7 +156,7 @@ impl<D: Disk, N: StoreNaming> JournalSeat<D, N> {
         ensures durable { is_closed_of (journal_of self.old) ≡ false → core.new ≡ record core.old { trimmed = count N.name.start (side_of self.old).durable } }
     {
         if self.is_closed() {
-            core.shut();
+            core.fail(failure);
         } else {
             core.learn(spine, &mut self.side);
         }

@@ -12,7 +12,9 @@
 #![tactic(auto)]
 
 mod at_once;
+mod closing;
 mod core_seat;
+mod failure;
 mod front;
 mod journal_seat;
 mod naming;
@@ -22,6 +24,7 @@ mod pass;
 mod waiting;
 
 pub use core_seat::CoreSeat;
+pub use failure::Failure;
 pub use front::Front;
 pub use journal_seat::JournalSeat;
 pub use naming::{ProgramNaming, StoreNaming};

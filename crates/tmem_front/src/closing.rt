@@ -1,0 +1,66 @@
+// How a store is closed.
+ghost use Rattle.std.specs.Prelude.{◌≡◌, ◌⊎◌, Some, IfErr, IfSome};
+ghost use Rattle.tmem_front.specs.Flushing.{IsFlusherRefusal};
+
+use crate::front::Front;
+use crate::naming::StoreNaming;
+use std::sync::Wait;
+use tmem_core::MAX_WAITING;
+use tmem_disk::{Disk, Fault};
+use tmem_invariants::Invariants;
+use tmem_tree::StoredSteps;
+
+impl<D: Disk + Drop, N: StoreNaming, T: Invariants + Drop, S: StoredSteps + Drop> Front<
+    D,
+    N,
+    T,
+    S,
+> {
+    /// Closes the store in good order: later attempts are refused as `Closed`, and what waits is made durable. Then each call that
+    /// waits goes on: whoever awaits a transaction that became durable is answered so, and `Closed` otherwise. Refused with the first
+    /// fault that the store had, or as a flush that makes room.
+    pub fn close<R: Wait>(&self, rt: &R) -> Result<(), Fault>
+        ensures refused { IfErr result IsFlusherRefusal }
+    {
+        self.core.lock(rt).drain();
+        self.committed.notify_all();
+        let flushed = self.flush_all(rt);
+        self.shut(rt);
+        match self.fault(rt) {
+            Some(fault) => Err(fault),
+            None => flushed,
+        }
+    }
+
+    // Makes durable what waits. Nothing is committed meanwhile, so it is no more than may wait at once.
+    fn flush_all<R: Wait>(&self, rt: &R) -> Result<(), Fault>
+        ensures refused { IfErr result IsFlusherRefusal }
+    {
+        for _ in 0..=MAX_WAITING {
+            if !self.has_waiting(rt) {
+                return Ok(());
+            }
+            self.flush_with_room(rt)?;
+        }
+        Ok(())
+    }
+
+    // Whether a transaction waits to be durable.
+    fn has_waiting<R: Wait>(&self, rt: &R) -> bool {
+        self.core.lock(rt).has_waiting()
+    }
+
+    /// Closes the store at once: later attempts are refused as `Closed`, and the calls that wait go on.
+    pub fn shut<R: Wait>(&self, rt: &R) {
+        self.core.lock(rt).shut();
+        self.committed.notify_all();
+        self.flushed.notify_all();
+    }
+
+    /// What the store was shut by, where its device has failed: `Device` or `Unknown`, as the flush or the checkpoint was answered.
+    pub fn fault<R: Wait>(&self, rt: &R) -> Option<Fault>
+        ensures { IfSome result (λ fault. (fault ≡ Fault.Device) ⊎ (fault ≡ Fault.Unknown)) }
+    {
+        self.core.lock(rt).failure().fault()
+    }
+}
