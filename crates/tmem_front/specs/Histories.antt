@@ -1,5 +1,7 @@
 -- What a history makes of the opening state.
-use Rattle.std.specs.Prelude.{◌≡◌, ℕ, ℤ, true, List, [], map, Some, slice_get}
+use Rattle.std.specs.Prelude.{◌≡◌, ℕ, ℤ, true, List, [], length, map, Some, slice_get}
+use Rattle.tmem_disk.specs.Disk.{DeviceView, LeavesOnly}
+use Rattle.tmem_journal.specs.Stands.{StandsForEither}
 use Rattle.tmem_record.specs.Prefix.{IsPrefix}
 use Rattle.tmem_record.specs.State.{State, fold, first_state}
 use Rattle.tmem_record.specs.declared.effect.Effect.{Effect}
@@ -39,3 +41,11 @@ no_state = first_state 0
 
 abbrev pub no_program : Program
 no_program = record { steps = λ index args. Retry; names = []; tests = record { footprint = λ name. []; test = λ name values. true } }
+
+-- Every crash leaves a content that stands for the state after a history, or after one that it begins.
+pub record IsLeftOpen (opening : State) (d : DeviceView) : Type 0 where
+  pub slots : ℕ
+  pub durable : List Entry
+  pub aimed : List Entry
+  pub begins : IsPrefix durable aimed
+  pub leaves : LeavesOnly d (StandsForEither (length opening.values) slots (after opening durable) (after opening aimed))

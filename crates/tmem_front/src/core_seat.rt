@@ -206,7 +206,7 @@ impl<N: StoreNaming, T: Invariants + Drop> CoreSeat<N, T> {
 
     /// Whether more than so many are accepted, or it was shut: what a transaction waits for that retried. The look is counted.
     pub(crate) fn has_more(&mut self, at: u64) -> bool
-        ensures more { IsTrue result → HasMoreOrShut N.name.start at self.new }
+        ensures more { IsTrue result ↔ HasMoreOrShut N.name.start at self.new }
         ensures same { self.new ≡ self.old }
     {
         self.looks = self.looks.wrapping_add(1);
@@ -225,7 +225,7 @@ impl<N: StoreNaming, T: Invariants + Drop> CoreSeat<N, T> {
 
     /// Whether some are not known durable, or it was shut: what a flusher waits for. The look is counted.
     pub(crate) fn has_work(&mut self) -> bool
-        ensures more { IsTrue result → HasWorkOrShut N.name.start self.new }
+        ensures more { IsTrue result ↔ HasWorkOrShut N.name.start self.new }
         ensures same { self.new ≡ self.old }
     {
         self.looks = self.looks.wrapping_add(1);
@@ -249,7 +249,7 @@ impl<N: StoreNaming, T: Invariants + Drop> CoreSeat<N, T> {
     pub fn drain(&mut self)
         ensures { self.new ≡ record self.old { is_shut = true } }
     {
-        self.core.shut();
+        self.shut();
         self.is_draining = true;
     }
 

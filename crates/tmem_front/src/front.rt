@@ -239,7 +239,11 @@ impl<D: Disk + Drop, N: StoreNaming, T: Invariants + Drop, S: StoredSteps + Drop
         if !is_waiting {
             return Ok(journal.count());
         }
-        let flushed = journal.write_by(&self.spine, makes_room);
+        let flushed = if makes_room {
+            journal.write_with_room(&self.spine)
+        } else {
+            journal.write(&self.spine)
+        };
         self.tell(rt, &mut journal, Failure::of(&flushed));
         flushed
     }

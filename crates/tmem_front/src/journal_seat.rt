@@ -1,5 +1,5 @@
 // What lies under the journal's lock.
-ghost use Rattle.std.specs.Prelude.{◌≡◌, ◌⊎◌, ◌≤◌, ◌<◌, ◌+◌, ◌*◌, ◌↔◌, ℕ, true, false, [], length, IsTrue, Err, IfOk, IfErr};
+ghost use Rattle.std.specs.Prelude.{◌≡◌, ◌≢◌, ◌⊎◌, ◌≤◌, ◌<◌, ◌+◌, ◌*◌, ◌↔◌, ℕ, true, false, [], length, IsTrue, Err, IfOk, IfErr};
 ghost use Rattle.tmem_disk.specs.Disk.{LeavesOnly, AtEachMoment};
 ghost use Rattle.tmem_record.specs.Prefix.{IsPrefix};
 ghost use Rattle.tmem_record.specs.declared.effect.Effect.{Effect as EffectOf};
@@ -9,7 +9,7 @@ ghost use Rattle.tmem_journal.specs.Held.{device_of, layout_of, state_of, doubtf
 ghost use Rattle.tmem_journal.specs.Stands.{StandsForEither, StandsForState};
 ghost use Rattle.tmem_spine.specs.History.{count, entry, longer, Has, HasAt};
 ghost use Rattle.tmem_spine.specs.Views.{new_journal};
-ghost use Rattle.tmem_journal.specs.Journals.{Flushes, Checkpoints};
+ghost use Rattle.tmem_journal.specs.Journals.{Flushes, Checkpoints, HasSlot};
 ghost use Rattle.tmem_front.specs.Flushing.{GoesOn, TakesOldest, IsFlushRefusal, IsCheckpointRefusal, IsFlusherRefusal};
 ghost use Rattle.tmem_front.specs.Histories.{after};
 
@@ -62,6 +62,15 @@ impl<D: Disk, N: StoreNaming> JournalSeat<D, N> {
             side,
             batch,
         }
+    }
+
+    /// The device. Every crash leaves the state after what is durable, or after what the journal aims at.
+    pub fn into_disk(self) -> D
+        ensures { LeavesOnly (D.view result)
+            (StandsForEither (length N.opening.values) (layout_of (journal_of self)).slots (after N.opening (side_of self).durable) (after N.opening (side_of self).aimed)) }
+    {
+        let JournalSeat { journal, .. } = self;
+        journal.into_disk()
     }
 
     /// Every crash leaves the state after what is durable, or after what the journal aims at.
@@ -193,6 +202,11 @@ impl<D: Disk, N: StoreNaming> JournalSeat<D, N> {
         ensures refused { IfErr result IsFlusherRefusal }
         ensures closed { result ≡ Err Fault.Closed → is_closed_of (journal_of self.old) ≡ true }
 
+        // Where a slot is left it does as `write`. Only at `Unknown`, or where the journal was closed before, more than the durable
+        // state is in doubt.
+        ensures roomy { HasSlot (journal_of self.old) → Flushes (journal_of self.old) (batch_of self.old) result (journal_of self.new) }
+        ensures certain { IfErr result (λ fault. fault ≢ Fault.Unknown → fault ≢ Fault.Closed → doubtful_of (journal_of self.new) ≡ after N.opening (side_of self.old).durable) }
+
         // A crash at any moment leaves the state after what was durable, or after what the journal aims at.
         ensures any_moment { AtEachMoment (device_of (journal_of self.old)) (device_of (journal_of self.new))
             (StandsForEither (layout_of (journal_of self.old)).vars (layout_of (journal_of self.old)).slots (after N.opening (side_of self.old).durable) (after N.opening (side_of self.old).aimed)) }
@@ -203,21 +217,6 @@ impl<D: Disk, N: StoreNaming> JournalSeat<D, N> {
                 self.write(spine)
             }
             written => written,
-        }
-    }
-
-    // Writes as `write` does, or as `write_with_room`.
-    pub(crate) fn write_by(&mut self, spine: &Spine<N>, makes_room: bool) -> Result<u64, Fault>
-        requires some { 1 ≤ length (batch_of self.old) }
-        requires goes_on { GoesOn N.name.start N.opening (side_of self.old).durable (batch_of self.old) (side_of self.old).aimed }
-        ensures ok { IfOk result (λ n. n ≡ count N.name.start (side_of self.new).durable) }
-        ensures plain { makes_room ≡ false → IfErr result IsFlushRefusal }
-        ensures roomy { makes_room ≡ true → IfErr result IsFlusherRefusal }
-    {
-        if makes_room {
-            self.write_with_room(spine)
-        } else {
-            self.write(spine)
         }
     }
 }

@@ -27,8 +27,8 @@ use tmem_spine::Pass as SpinePass;
 use tmem_tentative::{Attempt, Cursor};
 use tmem_tree::{Plan, StoredSteps};
 
-// How often a plan is evaluated beside other threads: after so many conflicts or retries it is evaluated under the core's lock.
-const LOOSE_TURNS: u32 = 2;
+// After so many conflicts a plan is evaluated under the core's lock.
+const MOST_CONFLICTS: u32 = 2;
 
 // How often a caller looks before it sleeps. To wake a thread takes about as long as a flush of a fast disk.
 const LOOKS: u32 = 100;
@@ -40,7 +40,8 @@ impl<D: Disk + Drop, N: StoreNaming, T: Invariants + Drop, S: StoredSteps + Drop
     S,
 > {
     /// Attempts a plan of this front until it is settled: at once after a conflict, and after a retry once another transaction
-    /// has committed. After two of these it is evaluated under the core's lock, where it meets no conflict. Refused as a core refuses it, but for `Conflict`, and by `Memory`.
+    /// has committed. After two conflicts it is evaluated under the core's lock, where it meets none: so a stored step must wait for
+    /// nothing that a caller of the front may hold. Refused as a core refuses it, but for `Conflict`, and by `Memory`.
     pub fn atomically<R: Wait>(
         &self,
         rt: &R,
@@ -54,13 +55,13 @@ impl<D: Disk + Drop, N: StoreNaming, T: Invariants + Drop, S: StoredSteps + Drop
         ensures no_conflict { result ≢ Err Fault.Conflict }
         ensures no_retry { result ≢ Ok Settled.Retry }
     {
-        let mut left = LOOSE_TURNS;
+        let mut left = MOST_CONFLICTS;
         for _ in rt.forever() {
             let answer = self.take_turn(rt, &mut pass.seat, &mut pass.cursor, plan, left == 0);
             if is_last(&answer) {
                 return answer;
             }
-            left = left.saturating_sub(1);
+            left = left.saturating_sub(conflicts_in(&answer));
         }
         unreachable!()
     }
@@ -244,6 +245,14 @@ impl<D: Disk + Drop, N: StoreNaming, T: Invariants + Drop, S: StoredSteps + Drop
             core = self.committed.wait(rt, core);
         }
         unreachable!()
+    }
+}
+
+// How many conflicts an answer tells.
+fn conflicts_in(answer: &Result<Settled, Fault>) -> u32 {
+    match answer {
+        Err(Fault::Conflict) => 1,
+        _ => 0,
     }
 }
 

@@ -1,5 +1,5 @@
 //! How each wait ends: by a commit or a flush, and else as the front does.
-use super::moves::{Answer, Move, Refusal, Task};
+use super::moves::{Answer, Move, Refusal, Row, Task};
 use super::scenes::{Device, Failing, SOUND, Scene, play};
 use std::test::Fail;
 
@@ -116,6 +116,71 @@ fn what_waits_is_awaited_no_more_once_a_checkpoint_has_failed(rt: HostRuntime) -
             ],
         ],
         after: &[(Move::RunFlusher(1), CLOSED)],
+        ..Scene::empty()
+    };
+    play(&rt, rt.alloc(), &scene)
+}
+
+#[test]
+fn a_close_is_awaited_until_what_waits_is_durable(rt: HostRuntime) -> Result<(), Fail> {
+    let scene = Scene {
+        before: &[(Move::HoldSyncs(1), Answer::Done)],
+        threads: [
+            &[(Move::Await(0), Answer::Done)],
+            &[(Move::Commit(Task::NeedOne), CLOSED)],
+            &[
+                (Move::Sleep(50), Answer::Done),
+                (Move::TryCommit(WRITE), Answer::Committed(0)),
+                (Move::Close, Answer::Done),
+                (Move::TryCommit(WRITE), CLOSED),
+            ],
+            &[
+                (Move::AwaitHeld(1), Answer::Done),
+                (Move::Sleep(200), Answer::Done),
+                (Move::Release, Answer::Done),
+            ],
+        ],
+        after: &[
+            (Move::Look, Answer::Number(1)),
+            (Move::FaultOf, Answer::Nothing),
+            (Move::Await(1), CLOSED),
+        ],
+        ..Scene::empty()
+    };
+    play(&rt, rt.alloc(), &scene)
+}
+
+#[test]
+fn a_close_makes_durable_all_that_waits(rt: HostRuntime) -> Result<(), Fail> {
+    let scene = Scene {
+        device: Device { slots: 2, ..SOUND },
+        before: &[
+            (Move::Fill(256), Answer::Number(256)),
+            (Move::Close, Answer::Done),
+            (Move::Look, Answer::Number(256)),
+            (Move::Close, Answer::Done),
+        ],
+        ..Scene::empty()
+    };
+    play(&rt, rt.alloc(), &scene)
+}
+
+#[test]
+fn a_close_is_answered_the_first_fault(rt: HostRuntime) -> Result<(), Fail> {
+    let unknown = Answer::Refused(Refusal::Unknown);
+    let before: &[Row] = &[
+        (Move::TryCommit(WRITE), Answer::Committed(0)),
+        (Move::Flush, unknown),
+        (Move::Checkpoint, CLOSED),
+        (Move::FaultOf, unknown),
+        (Move::Close, unknown),
+    ];
+    let scene = Scene {
+        device: Device {
+            failing: Failing::Sync(1),
+            ..SOUND
+        },
+        before,
         ..Scene::empty()
     };
     play(&rt, rt.alloc(), &scene)

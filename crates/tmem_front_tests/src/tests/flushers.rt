@@ -42,6 +42,8 @@ fn room_is_made_in_a_full_log(rt: HostRuntime) -> Result<(), Fail> {
             (Move::TryCommit(WRITE), Answer::Committed(1)),
             (Move::FlushWithRoom, Answer::Number(2)),
             (Move::TryCommit(WRITE), Answer::Committed(2)),
+            (Move::Flush, Answer::Refused(Refusal::LogFull)),
+            (Move::Look, Answer::Number(2)),
             (Move::FlushWithRoom, Answer::Number(3)),
         ],
         ..Scene::empty()
@@ -84,6 +86,8 @@ fn a_flusher_is_refused_as_its_checkpoint_is(rt: HostRuntime) -> Result<(), Fail
             (Move::TryCommit(WRITE), Answer::Committed(2)),
             (Move::RunFlusher(1), Answer::Refused(Refusal::Device)),
             (Move::Look, Answer::Number(2)),
+            (Move::TryCommit(WRITE), Answer::Refused(Refusal::Closed)),
+            (Move::FaultOf, Answer::Refused(Refusal::Device)),
         ],
         ..Scene::empty()
     };

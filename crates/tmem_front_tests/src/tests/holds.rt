@@ -5,11 +5,14 @@ use std::test::Fail;
 
 const CLOSED: Answer = Answer::Refused(Refusal::Closed);
 
-/// While one thread is held, another one commits once by each way, and looks: nothing is durable by then.
+/// While one thread is held, another one reads and writes once by each way, peeks, and looks: nothing is durable by then.
 const MEANWHILE: &[Row] = &[
     (Move::AwaitHeld(1), Answer::Done),
-    (Move::TryCommit(Task::Write(0, 2)), Answer::Committed(1)),
-    (Move::Commit(Task::Write(0, 2)), Answer::Committed(2)),
+    (Move::TryCommit(Task::AddOne), Answer::Committed(1)),
+    (Move::Commit(Task::AddOne), Answer::Committed(2)),
+    (Move::Attempt(Task::AddOne), Answer::Done),
+    (Move::Settle, Answer::Committed(3)),
+    (Move::Peek(0), Answer::Value(4)),
     (Move::Look, Answer::Number(0)),
     (Move::Release, Answer::Done),
 ];
@@ -88,7 +91,7 @@ fn no_call_but_one_of_the_device_waits_for_a_sync(rt: HostRuntime) -> Result<(),
 }
 
 #[test]
-fn the_third_turn_of_a_transaction_is_alone(rt: HostRuntime) -> Result<(), Fail> {
+fn a_transaction_that_met_two_conflicts_is_evaluated_alone(rt: HostRuntime) -> Result<(), Fail> {
     let scene = Scene {
         before: &[
             (Move::TryCommit(Task::Write(0, 1)), Answer::Committed(0)),
@@ -110,7 +113,7 @@ fn the_third_turn_of_a_transaction_is_alone(rt: HostRuntime) -> Result<(), Fail>
                 (Move::TryCommit(Task::Write(0, 7)), Answer::Committed(2)),
                 (Move::Release, Answer::Done),
                 (Move::AwaitHeld(3), Answer::Done),
-                (Move::Sleep(50), Answer::Done),
+                (Move::Sleep(500), Answer::Done),
                 (Move::Release, Answer::Done),
             ],
         ],

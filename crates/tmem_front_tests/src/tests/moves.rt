@@ -43,6 +43,9 @@ pub(super) enum Move {
     RunFlusher(u64),
     Checkpoint,
     Shut,
+    Close,
+    /// The fault that shut the store, where one did.
+    FaultOf,
     /// Takes a pass in place of the one in hand, which is dropped.
     NewPass,
     /// The same so often, until one is refused. Answers how many were given out.

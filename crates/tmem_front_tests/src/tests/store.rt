@@ -154,6 +154,11 @@ impl<D: Disk + Drop, N: StoreNaming, T: Invariants + Drop, S: StoredSteps + Drop
             Move::RunFlusher(left) => self.run_flusher(stage, left),
             Move::Checkpoint => Answer::done(self.front.checkpoint(stage.rt)),
             Move::Shut => self.shut(stage),
+            Move::Close => Answer::done(self.front.close(stage.rt)),
+            Move::FaultOf => match self.front.fault(stage.rt) {
+                Some(fault) => Answer::refused(fault),
+                None => Answer::Nothing,
+            },
             Move::LooksAtMost(most) => Answer::Holds(self.front.looks(stage.rt) <= most),
             other => stage.answer(other),
         }
