@@ -9,7 +9,7 @@ run: $(UNPROVED)
 	@echo "This build was not proved: make build proves the program."
 	@$(UNPROVED) run "$(SCRIPT)" $(if $(DISK),--disk "$(DISK)")
 
-$(UNPROVED): crates.txt $(shell find crates -name '*.rt')
+$(UNPROVED): .ci/unproved crates.txt $(shell find crates -name '*.rt')
 	@echo "Building the program without a proof, which takes one to three minutes" >&2
 	@mkdir -p $(@D)
 	@.ci/unproved tmem $@
@@ -30,4 +30,5 @@ mutants:
 bench: build
 	crates/tmem/out/tmem bench
 
+.DELETE_ON_ERROR:
 .PHONY: run build test mutants bench

@@ -177,14 +177,14 @@ impl<N: StoreNaming, T: Invariants + Drop> CoreSeat<N, T> {
     }
 
     /// How many transactions are accepted.
-    pub fn count(&self) -> u64
+    fn count(&self) -> u64
         ensures { result ≡ count N.name.start self.now.accepted }
     {
         self.core.count()
     }
 
     /// How many of them are known durable.
-    pub fn durable(&self) -> u64
+    fn durable(&self) -> u64
         ensures { result ≡ self.now.trimmed }
     {
         self.core.durable()
