@@ -15,7 +15,7 @@ use Rattle.tmem_core.specs.SettleAnswer.{accepted_by}
 use Rattle.tmem_spine.specs.declared.view.Entry.{Entry}
 use Rattle.tmem_spine.specs.History.{count}
 use Rattle.tmem_spine.specs.Views.{PassView}
-use Rattle.tmem_front.specs.Histories.{marked, numbered}
+use Rattle.tmem_seats.specs.Histories.{marked, numbered}
 use Rattle.tmem_disk.specs.declared.fault.Fault.TheVariants as fault
 use Rattle.tmem_tree.specs.declared.tx.Tx.{Tx}
 use Rattle.tmem_tentative.specs.Right.{IsRight}

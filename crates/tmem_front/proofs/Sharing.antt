@@ -17,10 +17,10 @@ use Rattle.tmem_spine.specs.declared.naming.Naming.{Ghosts as NameGhosts}
 use Rattle.tmem_spine.specs.contracts.seats.CoreSide.{the_row as core_side_row}
 use Rattle.tmem_spine.specs.contracts.seats.JournalSide.{the_row as journal_side_row}
 use Rattle.tmem_spine.specs.contracts.spine.Spine.{the_field as spine_field, the_type as spine_type}
-use Rattle.tmem_front.specs.declared.naming.ProgramNaming.{Ghosts as ProgramGhosts}
-use Rattle.tmem_front.specs.declared.naming.StoreNaming.{Ghosts as StoreGhosts}
-use Rattle.tmem_front.specs.contracts.core_seat.CoreSeat.{the_row as core_row}
-use Rattle.tmem_front.specs.contracts.journal_seat.JournalSeat.{the_row as journal_row}
+use Rattle.tmem_seats.specs.declared.naming.ProgramNaming.{Ghosts as ProgramGhosts}
+use Rattle.tmem_seats.specs.declared.naming.StoreNaming.{Ghosts as StoreGhosts}
+use Rattle.tmem_seats.specs.contracts.core_seat.CoreSeat.{the_row as core_row}
+use Rattle.tmem_seats.specs.contracts.journal_seat.JournalSeat.{the_row as journal_row}
 use Rattle.tmem_front.specs.contracts.front.Front.{the_row, the_type}
 
 name_sync : IsSync name_row

@@ -14,7 +14,7 @@ use Rattle.tmem_tree.specs.declared.tx.Tx.{Tx}
 use Rattle.tmem_spine.specs.declared.view.Entry.{Entry}
 use Rattle.tmem_spine.specs.History.{count}
 use Rattle.tmem_spine.specs.Views.{PassView}
-use Rattle.tmem_front.specs.Histories.{after, marked, numbered, IsSoundState}
+use Rattle.tmem_seats.specs.Histories.{after, marked, numbered, IsSoundState}
 
 -- There is a history that goes on from all that the pass knew. The answer is a core's in the state after it, where at
 -- least as many are known durable as the pass saw: for each plan that the attempt is right for, that plan's verdict

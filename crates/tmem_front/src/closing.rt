@@ -1,14 +1,14 @@
 // How a store is closed.
 ghost use Rattle.std.specs.Prelude.{◌≡◌, ◌⊎◌, Some, IfErr, IfSome};
-ghost use Rattle.tmem_front.specs.Flushing.{IsFlusherRefusal};
-ghost use Rattle.tmem_front.specs.Histories.{IsLeftOpen};
+ghost use Rattle.tmem_seats.specs.Flushing.{IsFlusherRefusal};
+ghost use Rattle.tmem_seats.specs.Histories.{IsLeftOpen};
 
 use crate::front::Front;
-use crate::naming::StoreNaming;
 use std::sync::Wait;
 use tmem_core::MAX_WAITING;
 use tmem_disk::{Disk, Fault};
 use tmem_invariants::Invariants;
+use tmem_seats::StoreNaming;
 use tmem_tree::StoredSteps;
 
 impl<D: Disk + Drop, N: StoreNaming, T: Invariants + Drop, S: StoredSteps + Drop> Front<

@@ -1,11 +1,8 @@
 // The two locks, and the spine beside them.
 ghost use Rattle.std.specs.Prelude.{◌≡◌, ◌≤◌, ◌<◌, ◌↔◌, true, false, length, All, IsTrue, IfOk, IfErr};
 ghost use Rattle.tmem_journal.specs.Held.{is_closed_of};
-ghost use Rattle.tmem_front.specs.Flushing.{GoesOn, IsFlushRefusal, IsCheckpointRefusal, IsFlusherRefusal};
+ghost use Rattle.tmem_seats.specs.Flushing.{GoesOn, IsFlushRefusal, IsCheckpointRefusal, IsFlusherRefusal};
 ghost use Rattle.tmem_record.specs.Prefix.{IsPrefix};
-ghost use Rattle.tmem_record.specs.declared.effect.Effect.{Effect as EffectOf};
-ghost use Rattle.tmem_core.specs.SettleAnswer.{accepted_by};
-ghost use Rattle.tmem_core.specs.Decisions.{answer_of, taken_by};
 ghost use Rattle.tmem_record.specs.Names.{has_name};
 ghost use Rattle.tmem_tentative.specs.Fits.{IsForVariables, IsForNames};
 ghost use Rattle.tmem_tentative.specs.Right.{IsRight};
@@ -15,19 +12,16 @@ ghost use Rattle.tmem_tree.specs.StepAnswers.{StepMeanings};
 ghost use Rattle.tmem_spine.specs.History.{count, longer};
 ghost use Rattle.tmem_spine.specs.Views.{new_pass};
 ghost use Rattle.tmem_spine.specs.declared.spine.TheConstants.{MOST_PASSES};
-ghost use Rattle.tmem_front.specs.Histories.{IsPossibleValue};
+ghost use Rattle.tmem_seats.specs.Histories.{IsPossibleValue};
 ghost use Rattle.tmem_front.specs.Settling.{Settles, SettlesPlan};
 
-use crate::core_seat::CoreSeat;
-use crate::failure::Failure;
-use crate::journal_seat::JournalSeat;
-use crate::naming::StoreNaming;
 use crate::pass::Pass;
 use std::alloc::Global;
 use std::sync::{Condvar, Mutex, Wait};
 use tmem_core::{Decision, Settled};
 use tmem_disk::{Cause, Disk, Fault, Name};
 use tmem_invariants::Invariants;
+use tmem_seats::{CoreSeat, Failure, JournalSeat, StoreNaming, with_registers};
 use tmem_spine::{Pass as SpinePass, Spine};
 use tmem_tentative::{Attempt, Cursor, Outcome, Progress};
 use tmem_tree::{Plan, StoredSteps, Tx};
@@ -63,7 +57,7 @@ impl<D: Disk + Drop, N: StoreNaming, T: Invariants + Drop, S: StoredSteps + Drop
     T,
     S,
 > {
-    ghost use Rattle.tmem_front.specs.Held.{journal_of, side_of, batch_of};
+    ghost use Rattle.tmem_seats.specs.Held.{journal_of, side_of, batch_of};
 
     /// A pass that knows nothing yet, with a mark of its own. Refused with `NoSeat` once 32 were given out, also where
     /// they were dropped.
@@ -307,15 +301,4 @@ impl<D: Disk + Drop, N: StoreNaming, T: Invariants + Drop, S: StoredSteps + Drop
     {
         Plan::new(tx, &self.steps, self.vars, &self.names)
     }
-}
-
-// The whole answer to an attempt. The registers are copied here, and not under the core's lock.
-pub(crate) fn with_registers(
-    decision: Result<Decision, Fault>,
-    attempt: &Attempt,
-) -> Result<Settled, Fault>
-    ensures answer { result ≡ answer_of decision attempt.now.registers }
-    ensures accepted { (effect : EffectOf) → accepted_by result effect ≡ taken_by decision effect }
-{
-    Ok(decision?.settled(&attempt.registers))
 }

@@ -13,10 +13,7 @@ ghost use Rattle.tmem_journal.specs.Held.{doubtful_of, is_closed_of, state_of as
 ghost use Rattle.tmem_journal.specs.Mended.{Mends, MendedBy, ClosedFrom};
 ghost use Rattle.tmem_journal.specs.Stands.{Position, StandsFor, StandsForEither};
 
-use crate::core_seat::CoreSeat;
 use crate::front::Front;
-use crate::journal_seat::JournalSeat;
-use crate::naming::StoreNaming;
 use std::alloc::{AllocError, Global};
 use std::sync::{Condvar, Mutex};
 use tmem_core::Core;
@@ -24,6 +21,7 @@ use tmem_disk::{Disk, Fault, Name};
 use tmem_invariants::Invariants;
 use tmem_journal::Journal;
 use tmem_record::Batch;
+use tmem_seats::{CoreSeat, JournalSeat, StoreNaming};
 use tmem_spine::Opened;
 use tmem_tree::StoredSteps;
 

@@ -21,7 +21,7 @@ use Rattle.tmem_core.specs.SettleAnswer.{settle_answer, ending_answer, sound_ans
 use Rattle.tmem_spine.specs.declared.view.Entry.{Entry}
 use Rattle.tmem_spine.specs.History.{count}
 use Rattle.tmem_spine.specs.Views.{PassView}
-use Rattle.tmem_front.specs.Histories.{after, numbered}
+use Rattle.tmem_seats.specs.Histories.{after, numbered}
 use Rattle.tmem_tree.specs.declared.tx.Tx.{Tx}
 use Rattle.tmem_front.specs.Settling.{Settles, SettlesAtLast}
 use Rattle.tmem_threads.specs.Counting.{AddsDurable, number_in}

@@ -5,7 +5,7 @@ use Rattle.std.specs.List.{sum_by}
 use Rattle.tmem_builtins.specs.Builtins.{builtin_steps, builtin_names, builtin_tests}
 use Rattle.tmem_core.specs.Program.{Program}
 use Rattle.tmem_disk.specs.declared.fault.Fault.{Fault}
-use Rattle.tmem_front.specs.Histories.{IsPossibleValue}
+use Rattle.tmem_seats.specs.Histories.{IsPossibleValue}
 use Rattle.tmem_record.specs.State.{State}
 use Rattle.tmem_record.specs.declared.effect.Effect.{Effect}
 use Rattle.tmem_spine.specs.History.{count}

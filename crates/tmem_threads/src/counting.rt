@@ -1,7 +1,7 @@
 // What the threads do with the store that they share.
 ghost use Rattle.std.specs.Prelude.{◌≡◌, ◌≤◌, ℕ, IfOk, IfErr};
 ghost use Rattle.tmem_disk.specs.declared.fault.Fault.TheVariants as fault;
-ghost use Rattle.tmem_front.specs.Flushing.{IsFlusherRefusal};
+ghost use Rattle.tmem_seats.specs.Flushing.{IsFlusherRefusal};
 ghost use Rattle.tmem_tree.specs.Plans.{FitsSteps, FitsVariables, FitsNames};
 ghost use Rattle.tmem_threads.specs.Counting.{AddsDurable, number_in, once};
 

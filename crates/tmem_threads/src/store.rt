@@ -4,7 +4,7 @@ ghost use Rattle.tmem_builtins.specs.Builtins.{builtin_steps, builtin_names, bui
 ghost use Rattle.tmem_builtins.specs.Invariants.{is_not_negative, add_to_hundred, are_ordered};
 ghost use Rattle.tmem_builtins.specs.Steps.{sum_of, difference_of, at_least};
 ghost use Rattle.tmem_front.specs.Held.{found_of, spine_of, steps_of as held_steps, table_of as held_table};
-ghost use Rattle.tmem_front.specs.Histories.{IsPossibleValue};
+ghost use Rattle.tmem_seats.specs.Histories.{IsPossibleValue};
 ghost use Rattle.tmem_record.specs.State.{State};
 ghost use Rattle.tmem_spine.specs.History.{count};
 ghost use Rattle.tmem_threads.specs.Counting.{AreTotals, counting};

@@ -4,7 +4,7 @@ use Rattle.tmem_core.specs.Program.{Program}
 use Rattle.tmem_spine.specs.History.{count}
 use Rattle.tmem_spine.specs.Views.{PassView, SpineName}
 use Rattle.tmem_front.specs.Held.{found_of}
-use Rattle.tmem_front.specs.Histories.{IsPossibleValue}
+use Rattle.tmem_seats.specs.Histories.{IsPossibleValue}
 use Rattle.tmem_front.proofs.Laws.{front_sync}
 use Rattle.tmem_threads.specs.Counting.{counting}
 use Rattle.tmem_threads.proofs.Summed.{counted_at_most}

@@ -1,0 +1,7 @@
+mod Leaves
+mod Present
+mod Refusals
+mod Room
+mod Seated
+mod Taken
+mod Written

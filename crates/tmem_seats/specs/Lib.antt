@@ -1,0 +1,4 @@
+pub mod Flushing
+pub mod Held
+pub mod Histories
+pub mod Seats

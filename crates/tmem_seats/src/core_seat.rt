@@ -1,0 +1,295 @@
+// What lies under the core's lock.
+ghost use Rattle.std.specs.Prelude.{◌≡◌, ◌↔◌, ◌+◌, ◌<◌, ◌≤◌, slice_get, IfOk, IfErr, Some, ◌++◌, ◌∷◌, [], true, length, MatchBool, All, IsTrue, IfSome, IfNone};
+ghost use Rattle.tmem_record.specs.Prefix.{IsPrefix};
+ghost use Rattle.tmem_record.specs.Names.{has_name};
+ghost use Rattle.tmem_record.specs.declared.effect.Effect.{Effect as EffectOf};
+ghost use Rattle.tmem_tentative.specs.Fits.{IsForVariables};
+ghost use Rattle.tmem_core.specs.Held.{state_of, opened_of, history_of, waiting_of, durable_of, is_shut_of, table_of};
+ghost use Rattle.tmem_core.specs.SettleAnswer.{settle_answer, judged, accepted_by};
+ghost use Rattle.tmem_core.specs.Decisions.{answer_of, taken_by, RetriesAt};
+ghost use Rattle.tmem_core.specs.Verdict.{verdict};
+ghost use Rattle.tmem_tentative.specs.Right.{IsRight};
+ghost use Rattle.tmem_tree.specs.declared.tx.Tx.{Tx as TxOf};
+ghost use Rattle.tmem_spine.specs.History.{count};
+ghost use Rattle.tmem_spine.specs.Views.{new_core, new_pass};
+ghost use Rattle.tmem_spine.specs.declared.spine.TheConstants.{MOST_PASSES};
+ghost use Rattle.tmem_seats.specs.Flushing.{GoesOn, TakesOldest};
+ghost use Rattle.tmem_seats.specs.Histories.{after, marked, numbered, IsSoundState};
+ghost use Rattle.tmem_seats.specs.Seats.{HasMoreOrShut, HasFlushedOrShut, HasWorkOrShut};
+
+use crate::failure::Failure;
+use crate::naming::StoreNaming;
+use std::marker::Model;
+use tmem_core::{Core, Decision, Settled};
+use tmem_disk::Fault;
+use tmem_invariants::Invariants;
+use tmem_record::Batch;
+use tmem_spine::{CoreSide, JournalSide, Pass, Spine};
+use tmem_tentative::Attempt;
+
+/// The core, beside its seat. Contracts see what it accepted, how many are known durable, how many passes it gave out,
+/// and whether it is shut.
+#[derive(Drop)]
+pub struct CoreSeat<N: StoreNaming, T: Invariants> {
+    core: Core<T>,
+    side: CoreSide<N>,
+    // how often whoever waits has looked at what it waits for
+    looks: u64,
+    // what waits for a flush goes on waiting, though it is shut
+    is_draining: bool,
+    failure: Failure,
+}
+
+impl<N: StoreNaming, T: Invariants> Model for CoreSeat<N, T> {
+    ghost use Rattle.std.specs.Prelude.{◌≡◌};
+    ghost use Rattle.tmem_core.specs.Held.{is_shut_of, table_of};
+    ghost use Rattle.tmem_seats.specs.Seats.{CoreSeatView, IsCoreOf};
+
+    ghost Value = { CoreSeatView };
+
+    ghost view = { λ s. record { accepted = s.side.accepted; trimmed = s.side.trimmed; given = s.side.given; is_shut = is_shut_of s.core } };
+
+    ghost invariant = { λ s. IsCoreOf N.name.start N.opening N.program s.core s.side × T.is_stated (table_of s.core) N.program.tests
+        × (T.names (table_of s.core) ≡ N.program.names) };
+}
+
+impl<N: StoreNaming, T: Invariants + Drop> CoreSeat<N, T> {
+    /// A core that has accepted nothing yet, beside its seat.
+    pub fn new(core: Core<T>, side: CoreSide<N>) -> CoreSeat<N, T>
+        requires opening { (state_of core ≡ N.opening) × (N.opening.count ≡ N.name.start) }
+        requires fresh { (waiting_of core ≡ []) × (durable_of core ≡ N.name.start) × (side ≡ new_core N.name.start) }
+        requires stated { T.is_stated (table_of core) N.program.tests }
+        requires named { T.names (table_of core) ≡ N.program.names }
+        ensures { (result.accepted ≡ []) × (result.trimmed ≡ N.name.start) × (result.given ≡ 0) × (result.is_shut ≡ is_shut_of core) }
+    {
+        let (looks, is_draining, failure) = (0, false, Failure::None);
+        CoreSeat {
+            core,
+            side,
+            looks,
+            is_draining,
+            failure,
+        }
+    }
+
+    /// Settles an attempt for a pass. The core first learns how many are durable, at least as many as the pass saw, and
+    /// then answers by its present state. The answer leaves out the registers, which are those of the attempt. What commits
+    /// is accepted under the mark of the pass, which has it as its own. The pass knows all that is accepted then.
+    pub fn decide(
+        &mut self,
+        spine: &Spine<N>,
+        pass: &mut Pass<N>,
+        attempt: &Attempt,
+    ) -> Result<Decision, Fault>
+        requires variables { IsForVariables (length N.opening.values) attempt.now }
+        requires names { All (λ name. IsTrue (has_name N.program.names name)) attempt.now.effect.names }
+        ensures trimmed { (self.old.trimmed ≤ self.new.trimmed) × (count N.name.start pass.old.seen ≤ self.new.trimmed) }
+        ensures answer { answer_of result attempt.now.registers ≡ settle_answer N.program self.old.is_shut (after N.opening self.old.accepted) self.new.trimmed attempt.now }
+        ensures verdict { (tx : TxOf) → IsRight N.program.steps tx attempt.now
+            → answer_of result attempt.now.registers ≡ judged self.old.is_shut (after N.opening self.old.accepted) self.new.trimmed attempt.now.reads.entries (verdict N.program tx (after N.opening self.old.accepted)) }
+        ensures number { (after N.opening self.old.accepted).count ≡ count N.name.start self.old.accepted }
+        ensures retries { RetriesAt (count N.name.start self.old.accepted) result }
+        ensures accepted { self.new.accepted ≡ self.old.accepted ++ marked pass.old.mark (taken_by result attempt.now.effect) }
+        ensures pass { pass.new ≡ record pass.old { known = self.new.accepted; own = pass.old.own ++ numbered (count N.name.start self.old.accepted) (taken_by result attempt.now.effect) } }
+        ensures begins { IsPrefix pass.old.known self.old.accepted }
+        ensures sound { IsSoundState N.program (after N.opening self.new.accepted) }
+        ensures rest { (self.new.given ≡ self.old.given) × (self.new.is_shut ≡ self.old.is_shut) }
+    {
+        let durable = spine.trim(&mut self.side, pass);
+        self.core.note_durable(durable);
+        let decision = self.core.decide(attempt);
+        if commits(&decision) {
+            // that the count has room for it is why the core accepted it
+            let _count = self.core.count();
+            spine.accept(&mut self.side, pass, &attempt.effect);
+        } else {
+            spine.meet_core(&mut self.side, pass);
+        }
+        decision
+    }
+
+    /// Settles an attempt as `decide` does, and answers with its registers.
+    pub fn settle(
+        &mut self,
+        spine: &Spine<N>,
+        pass: &mut Pass<N>,
+        attempt: &Attempt,
+    ) -> Result<Settled, Fault>
+        requires variables { IsForVariables (length N.opening.values) attempt.now }
+        requires names { All (λ name. IsTrue (has_name N.program.names name)) attempt.now.effect.names }
+        ensures trimmed { (self.old.trimmed ≤ self.new.trimmed) × (count N.name.start pass.old.seen ≤ self.new.trimmed) }
+        ensures answer { result ≡ settle_answer N.program self.old.is_shut (after N.opening self.old.accepted) self.new.trimmed attempt.now }
+        ensures verdict { (tx : TxOf) → IsRight N.program.steps tx attempt.now
+            → result ≡ judged self.old.is_shut (after N.opening self.old.accepted) self.new.trimmed attempt.now.reads.entries (verdict N.program tx (after N.opening self.old.accepted)) }
+        ensures number { (after N.opening self.old.accepted).count ≡ count N.name.start self.old.accepted }
+        ensures accepted { self.new.accepted ≡ self.old.accepted ++ marked pass.old.mark (accepted_by result attempt.now.effect) }
+        ensures pass { pass.new ≡ record pass.old { known = self.new.accepted; own = pass.old.own ++ numbered (count N.name.start self.old.accepted) (accepted_by result attempt.now.effect) } }
+        ensures begins { IsPrefix pass.old.known self.old.accepted }
+        ensures sound { IsSoundState N.program (after N.opening self.new.accepted) }
+        ensures rest { (self.new.given ≡ self.old.given) × (self.new.is_shut ≡ self.old.is_shut) }
+    {
+        let decision = self.decide(spine, pass, attempt);
+        with_registers(decision, attempt)
+    }
+
+    /// Gives out a pass that knows nothing yet, under the mark that is next. Refused with `NoSeat` exactly where as
+    /// many were given out as a spine has.
+    pub fn pass(&mut self, spine: &Spine<N>) -> Result<Pass<N>, Fault>
+        ensures pass { IfOk result (λ pass. pass ≡ new_pass self.old.given) }
+        ensures given { IfOk result (λ _. (self.old.given < MOST_PASSES) × (self.new ≡ record self.old { given = self.old.given + 1 })) }
+        ensures none { IfErr result (λ fault. (fault ≡ Fault.NoSeat) × (self.old.given ≡ MOST_PASSES) × (self.new ≡ self.old)) }
+    {
+        spine.pass(&mut self.side).ok_or(Fault::NoSeat)
+    }
+
+    /// The present value of a variable.
+    pub fn peek(&self, var: u16) -> i64
+        requires { var < length N.opening.values }
+        ensures value { slice_get (after N.opening self.now.accepted).values var ≡ Some result }
+        ensures sound { IsSoundState N.program (after N.opening self.now.accepted) }
+    {
+        self.core.peek(var)
+    }
+
+    /// Takes the oldest effects that wait into a batch, as long as any other would still fit, and the journal beside
+    /// the core aims at them. The core learns how many are durable.
+    pub fn take(&mut self, spine: &Spine<N>, journal: &mut JournalSide<N>, batch: &mut Batch)
+        ensures core { self.new ≡ record self.old { trimmed = count N.name.start journal.old.durable } }
+        ensures durable { journal.new.durable ≡ journal.old.durable }
+        ensures goes_on { GoesOn N.name.start N.opening journal.old.durable batch.new journal.new.aimed }
+        ensures oldest { TakesOldest self.old.accepted journal.old.durable batch.new journal.new.aimed }
+    {
+        let durable = spine.trim_beside(&mut self.side, journal);
+        self.core.note_durable(durable);
+        self.core.take(durable, batch);
+        let _count = self.core.count();
+        spine.aim(&mut self.side, journal, durable + batch.len() as u64);
+    }
+
+    /// Learns how many are durable from the journal beside it.
+    pub fn learn(&mut self, spine: &Spine<N>, journal: &mut JournalSide<N>)
+        ensures core { self.new ≡ record self.old { trimmed = count N.name.start journal.old.durable } }
+        ensures journal { journal.new ≡ journal.old }
+    {
+        let known = spine.trim_beside(&mut self.side, journal);
+        self.core.note_durable(known);
+    }
+
+    /// How many transactions are accepted.
+    fn count(&self) -> u64
+        ensures { result ≡ count N.name.start self.now.accepted }
+    {
+        self.core.count()
+    }
+
+    /// How many of them are known durable.
+    fn durable(&self) -> u64
+        ensures { result ≡ self.now.trimmed }
+    {
+        self.core.durable()
+    }
+
+    /// Whether some of them are not known durable.
+    pub fn has_waiting(&self) -> bool
+        ensures { IsTrue result ↔ (self.now.trimmed < count N.name.start self.now.accepted) }
+    {
+        self.durable() < self.count()
+    }
+
+    /// Whether it was shut.
+    pub fn is_shut(&self) -> bool
+        ensures { result ≡ self.now.is_shut }
+    {
+        self.core.is_shut()
+    }
+
+    /// Whether more than so many are accepted, or it was shut: what a transaction waits for that retried. The look is counted.
+    pub fn has_more(&mut self, at: u64) -> bool
+        ensures more { IsTrue result ↔ HasMoreOrShut N.name.start at self.new }
+        ensures same { self.new ≡ self.old }
+    {
+        self.looks = self.looks.wrapping_add(1);
+        at < self.count() || self.is_shut()
+    }
+
+    /// Whether more than so many are known durable, or it was shut and no flush is to come: what a call waits for that awaits a flush.
+    /// The look is counted.
+    pub fn has_flushed(&mut self, number: u64) -> bool
+        ensures more { IsTrue result → HasFlushedOrShut number self.new }
+        ensures same { self.new ≡ self.old }
+    {
+        self.looks = self.looks.wrapping_add(1);
+        number < self.durable() || self.is_shut() && !self.is_draining
+    }
+
+    /// Whether some are not known durable, or it was shut: what a flusher waits for. The look is counted.
+    pub fn has_work(&mut self) -> bool
+        ensures more { IsTrue result ↔ HasWorkOrShut N.name.start self.new }
+        ensures same { self.new ≡ self.old }
+    {
+        self.looks = self.looks.wrapping_add(1);
+        self.has_waiting() || self.is_shut()
+    }
+
+    /// How often whoever waits has looked at what it waits for.
+    pub fn looks(&self) -> u64 {
+        self.looks
+    }
+
+    /// Later attempts are refused as `Closed`, and no flush is awaited any more.
+    pub fn shut(&mut self)
+        ensures { self.new ≡ record self.old { is_shut = true } }
+    {
+        self.core.shut();
+        self.is_draining = false;
+    }
+
+    /// Later attempts are refused as `Closed`. What waits is to be flushed, and is awaited until `shut`.
+    pub fn drain(&mut self)
+        ensures { self.new ≡ record self.old { is_shut = true } }
+    {
+        self.shut();
+        self.is_draining = true;
+    }
+
+    /// The device has failed, so nothing is settled or flushed any more. The first failure is kept.
+    pub fn fail(&mut self, failure: Failure)
+        ensures { self.new ≡ record self.old { is_shut = true } }
+    {
+        self.shut();
+        if matches!(self.failure, Failure::None) {
+            self.failure = failure;
+        }
+    }
+
+    /// How the device failed first, if it did.
+    pub fn failure(&self) -> Failure {
+        self.failure
+    }
+}
+
+// Whether a decision accepts the effect of its attempt.
+fn commits(decision: &Result<Decision, Fault>) -> bool
+    ensures { (effect : EffectOf) → MatchBool result (taken_by decision.now effect ≡ effect ∷ []) (taken_by decision.now effect ≡ []) }
+{
+    match decision {
+        Ok(Decision::Committed(_)) => true,
+        Ok(Decision::Seen(_)) => false,
+        Ok(Decision::Retry(_)) => false,
+        Ok(Decision::Aborted(_)) => false,
+        Ok(Decision::Refused(_)) => false,
+        Err(_) => false,
+    }
+}
+
+/// The whole answer to an attempt, with its registers, once its decision was made by `CoreSeat::decide`. It needs no lock, so the
+/// registers can be copied after the core's was let go.
+pub fn with_registers(
+    decision: Result<Decision, Fault>,
+    attempt: &Attempt,
+) -> Result<Settled, Fault>
+    ensures answer { result ≡ answer_of decision attempt.now.registers }
+    ensures accepted { (effect : EffectOf) → accepted_by result effect ≡ taken_by decision effect }
+{
+    Ok(decision?.settled(&attempt.registers))
+}
