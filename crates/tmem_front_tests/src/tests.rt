@@ -1,4 +1,4 @@
-//! Scenes that threads play on a front, and the spine under it.
+//! Scenes that threads play on a front.
 mod endings;
 mod failures;
 mod flushers;
@@ -8,7 +8,6 @@ mod no_closures;
 mod passes;
 mod scenes;
 mod signals;
-mod spine;
 mod stage_disk;
 mod store;
 mod threads;

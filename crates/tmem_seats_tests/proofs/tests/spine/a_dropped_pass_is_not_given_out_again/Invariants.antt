@@ -1,4 +1,4 @@
-use Rattle.tmem_front_tests.proofs.tests.spine.a_dropped_pass_is_not_given_out_again.Given as goal
+use Rattle.tmem_seats_tests.proofs.tests.spine.a_dropped_pass_is_not_given_out_again.Given as goal
 
 -- the spine that was just opened
 abbrev pub ghosts-passes : goal.ghosts-passes

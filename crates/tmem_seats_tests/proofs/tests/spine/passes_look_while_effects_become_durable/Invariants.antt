@@ -1,4 +1,4 @@
-use Rattle.tmem_front_tests.proofs.tests.spine.passes_look_while_effects_become_durable.Given as goal
+use Rattle.tmem_seats_tests.proofs.tests.spine.passes_look_while_effects_become_durable.Given as goal
 
 -- the spine that was just opened
 abbrev pub ghosts-together : goal.ghosts-together

@@ -1,5 +1,5 @@
 use Rattle.std.proofs.Common.{◌≡◌, length}
-use Rattle.tmem_front_tests.proofs.tests.spine.writes.Given as goal
+use Rattle.tmem_seats_tests.proofs.tests.spine.writes.Given as goal
 
 -- as many are accepted and durable as there were turns
 abbrev pub invariant-loop-turn : goal.invariant-loop-turn

@@ -1,4 +1,4 @@
-use Rattle.tmem_front_tests.proofs.tests.spine.a_look_is_fresh.Given as goal
+use Rattle.tmem_seats_tests.proofs.tests.spine.a_look_is_fresh.Given as goal
 
 -- the spine that was just opened
 abbrev pub ghosts-one_effect : goal.ghosts-one_effect

@@ -1,0 +1,7 @@
+//! The spine and the seats of a store that threads share, by calls.
+//!
+//! A crate of tests alone. They stand above what they test, so that it is proved by itself.
+#![tactic(auto)]
+
+#[cfg(test)]
+mod tests;
