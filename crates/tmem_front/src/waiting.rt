@@ -1,5 +1,5 @@
 // The calls that wait for other threads.
-ghost use Rattle.std.specs.Prelude.{◌≡◌, ◌≢◌, ◌<◌, ◌≤◌, false, [], Ok, Err, IfOk, IfErr, OnOk, length, All, IsTrue};
+ghost use Rattle.std.specs.Prelude.{◌≡◌, ◌≢◌, ◌<◌, ◌≤◌, true, false, [], Ok, Err, IfOk, IfErr, OnOk, length, All, IsTrue};
 ghost use Rattle.tmem_record.specs.declared.effect.Effect.{Effect as EffectOf};
 ghost use Rattle.tmem_core.specs.SettleAnswer.{accepted_by, is_stale};
 ghost use Rattle.tmem_record.specs.Prefix.{IsPrefix};
@@ -9,7 +9,7 @@ ghost use Rattle.tmem_record.specs.Names.{has_name};
 ghost use Rattle.tmem_spine.specs.History.{count};
 ghost use Rattle.std.specs.Sync.Mutex.{mutex_guard_value};
 ghost use Rattle.tmem_seats.specs.Flushing.{IsFlusherRefusal};
-ghost use Rattle.tmem_seats.specs.Seats.{HasMoreOrShut, HasFlushedOrShut, HasWorkOrShut};
+ghost use Rattle.tmem_seats.specs.Seats.{HasMoreOrShut, HasFlushedOrShut, HasRoomOrShut, HasWorkOrShut};
 ghost use Rattle.tmem_seats.specs.Histories.{after};
 ghost use Rattle.tmem_front.specs.Settling.{Settles, SettlesAtLast, SettlesPlan};
 
@@ -28,6 +28,13 @@ use tmem_tree::{Plan, StoredSteps};
 
 // After so many conflicts a plan is evaluated under the core's lock.
 const MOST_CONFLICTS: u32 = 2;
+
+// How a turn is made: under one hold of the core's lock or not, and whether it waits where it finds no room.
+#[derive(Clone, Copy)]
+struct Turn {
+    is_alone: bool,
+    waits_for_room: bool,
+}
 
 // How often a caller looks before it sleeps. To wake a thread takes about as long as a flush of a fast disk.
 const LOOKS: u32 = 100;
@@ -54,10 +61,52 @@ impl<D: Disk + Drop, N: StoreNaming, T: Invariants + Drop, S: StoredSteps + Drop
         ensures no_conflict { result ≢ Err Fault.Conflict }
         ensures no_retry { result ≢ Ok Settled.Retry }
     {
+        self.run(rt, pass, plan, false)
+    }
+
+    /// The same, and where as many transactions wait to be durable as may, it waits for a flush and goes on. So it is not refused by
+    /// `Full`. Where nobody flushes, it waits until the front is shut.
+    pub fn atomically_with_room<R: Wait>(
+        &self,
+        rt: &R,
+        pass: &mut Pass<N>,
+        plan: &Plan,
+    ) -> Result<Settled, Fault>
+        requires steps { FitsSteps (S.arities self.now.steps) plan.now }
+        requires variables { FitsVariables self.now.vars plan.now }
+        requires names { FitsNames N.program.names plan.now }
+        ensures settled { SettlesAtLast N.name.start N.opening N.program plan.now pass.old result pass.new }
+        ensures no_conflict { result ≢ Err Fault.Conflict }
+        ensures no_retry { result ≢ Ok Settled.Retry }
+        ensures no_full { result ≢ Err Fault.Full }
+    {
+        self.run(rt, pass, plan, true)
+    }
+
+    // Attempts a plan until it is settled. A full core is an end, but where room is waited for.
+    fn run<R: Wait>(
+        &self,
+        rt: &R,
+        pass: &mut Pass<N>,
+        plan: &Plan,
+        waits_for_room: bool,
+    ) -> Result<Settled, Fault>
+        requires steps { FitsSteps (S.arities self.now.steps) plan.now }
+        requires variables { FitsVariables self.now.vars plan.now }
+        requires names { FitsNames N.program.names plan.now }
+        ensures settled { SettlesAtLast N.name.start N.opening N.program plan.now pass.old result pass.new }
+        ensures no_conflict { result ≢ Err Fault.Conflict }
+        ensures no_retry { result ≢ Ok Settled.Retry }
+        ensures no_full { waits_for_room ≡ true → result ≢ Err Fault.Full }
+    {
         let mut left = MOST_CONFLICTS;
         for _ in rt.forever() {
-            let answer = self.take_turn(rt, &mut pass.seat, &mut pass.cursor, plan, left == 0);
-            if is_last(&answer) {
+            let how = Turn {
+                is_alone: left == 0,
+                waits_for_room,
+            };
+            let answer = self.take_turn(rt, &mut pass.seat, &mut pass.cursor, plan, how);
+            if is_last(&answer, waits_for_room) {
                 return answer;
             }
             left = left.saturating_sub(conflicts_in(&answer));
@@ -72,28 +121,30 @@ impl<D: Disk + Drop, N: StoreNaming, T: Invariants + Drop, S: StoredSteps + Drop
         seat: &mut SpinePass<N>,
         cursor: &mut Cursor,
         plan: &Plan,
-        is_alone: bool,
+        how: Turn,
     ) -> Result<Settled, Fault>
         requires steps { FitsSteps (S.arities self.now.steps) plan.now }
         requires variables { FitsVariables self.now.vars plan.now }
         requires names { FitsNames N.program.names plan.now }
         ensures settled { SettlesPlan N.name.start N.opening N.program plan.now seat.old result seat.new }
     {
-        if is_alone {
-            return self.run_or_wait(rt, seat, cursor, plan);
+        if how.is_alone {
+            return self.run_or_wait(rt, seat, cursor, plan, how);
         }
         self.evaluate(rt, cursor, plan)?;
-        self.settle_or_wait(rt, self.core.lock(rt), seat, cursor.attempt())
+        self.settle_or_wait(rt, self.core.lock(rt), seat, cursor.attempt(), how)
     }
 
     // Settles an attempt under the core's lock, and lets that go. What commits wakes whoever waits for that. What retries waits under
-    // the same lock until another transaction has committed, or the front is shut. Values that are present give no conflict.
+    // the same lock until another transaction has committed, and what finds no room until a flush made some, if it is to wait for
+    // that; or until the front is shut. Values that are present give no conflict.
     fn settle_or_wait<R: Wait>(
         &self,
         rt: &R,
         mut core: MutexGuard<CoreSeat<N, T>>,
         seat: &mut SpinePass<N>,
         attempt: &Attempt,
+        how: Turn,
     ) -> Result<Settled, Fault>
         requires variables { IsForVariables (length N.opening.values) attempt.now }
         requires names { All (λ name. IsTrue (has_name N.program.names name)) attempt.now.effect.names }
@@ -107,6 +158,7 @@ impl<D: Disk + Drop, N: StoreNaming, T: Invariants + Drop, S: StoredSteps + Drop
                 self.committed.notify_all();
             }
             Ok(Decision::Retry(at)) => drop(self.wait_for_another(rt, core, at)),
+            Err(Fault::Full) if how.waits_for_room => drop(self.wait_for_room(rt, core)),
             _ => drop(core),
         }
         with_registers(decision, attempt)
@@ -119,6 +171,7 @@ impl<D: Disk + Drop, N: StoreNaming, T: Invariants + Drop, S: StoredSteps + Drop
         seat: &mut SpinePass<N>,
         cursor: &mut Cursor,
         plan: &Plan,
+        how: Turn,
     ) -> Result<Settled, Fault>
         requires steps { FitsSteps (S.arities self.now.steps) plan.now }
         requires variables { FitsVariables self.now.vars plan.now }
@@ -128,7 +181,7 @@ impl<D: Disk + Drop, N: StoreNaming, T: Invariants + Drop, S: StoredSteps + Drop
     {
         let core = self.core.lock(rt);
         core.evaluate(rt, cursor, plan, &self.steps)?;
-        self.settle_or_wait(rt, core, seat, cursor.attempt())
+        self.settle_or_wait(rt, core, seat, cursor.attempt(), how)
     }
 
     // Waits under the core's lock until more than so many are accepted, or the front is shut.
@@ -145,6 +198,23 @@ impl<D: Disk + Drop, N: StoreNaming, T: Invariants + Drop, S: StoredSteps + Drop
                 return core;
             }
             core = self.committed.wait(rt, core);
+        }
+        unreachable!()
+    }
+
+    // Waits under the core's lock until fewer wait to be durable than may, or the front is shut.
+    fn wait_for_room<'a, R: Wait>(
+        &self,
+        rt: &R,
+        mut core: MutexGuard<'a, CoreSeat<N, T>>,
+    ) -> MutexGuard<'a, CoreSeat<N, T>>
+        ensures { HasRoomOrShut N.name.start (mutex_guard_value result) }
+    {
+        for _ in rt.forever() {
+            if core.has_room() {
+                return core;
+            }
+            core = self.flushed.wait(rt, core);
         }
         unreachable!()
     }
@@ -256,13 +326,16 @@ fn conflicts_in(answer: &Result<Settled, Fault>) -> u32 {
 }
 
 // Whether a plan is not attempted again after this answer. Where it is, nothing was accepted.
-fn is_last(answer: &Result<Settled, Fault>) -> bool
+fn is_last(answer: &Result<Settled, Fault>, waits_for_room: bool) -> bool
     ensures last { IsTrue result → (answer.now ≢ Err Fault.Conflict) × (answer.now ≢ Ok Settled.Retry) }
+    ensures no_full { IsTrue result → waits_for_room ≡ true → answer.now ≢ Err Fault.Full }
     ensures again { (effect : EffectOf) → result ≡ false → accepted_by answer.now effect ≡ [] }
 {
     match answer {
         Ok(Settled::Retry) => false,
         Ok(_) => true,
-        Err(fault) => *fault != Fault::Conflict,
+        Err(Fault::Conflict) => false,
+        Err(Fault::Full) => !waits_for_room,
+        Err(_) => true,
     }
 }

@@ -35,6 +35,10 @@ HasMoreOrShut start n v = (n < count start v.accepted) ⊎ (v.is_shut ≡ true)
 abbrev pub HasFlushedOrShut : ℕ → CoreSeatView → Type 0
 HasFlushedOrShut n v = (n < v.trimmed) ⊎ (v.is_shut ≡ true)
 
+-- fewer wait to be durable than may, which are 256, or the front is shut
+abbrev pub HasRoomOrShut : ℕ → CoreSeatView → Type 0
+HasRoomOrShut start v = (count start v.accepted - v.trimmed < 256) ⊎ (v.is_shut ≡ true)
+
 -- a transaction waits to be durable, or the front is shut
 abbrev pub HasWorkOrShut : ℕ → CoreSeatView → Type 0
 HasWorkOrShut start v = (v.trimmed < count start v.accepted) ⊎ (v.is_shut ≡ true)

@@ -15,12 +15,12 @@ ghost use Rattle.tmem_spine.specs.Views.{new_core, new_pass};
 ghost use Rattle.tmem_spine.specs.declared.spine.TheConstants.{MOST_PASSES};
 ghost use Rattle.tmem_seats.specs.Flushing.{GoesOn, TakesOldest};
 ghost use Rattle.tmem_seats.specs.Histories.{after, marked, numbered, IsSoundState};
-ghost use Rattle.tmem_seats.specs.Seats.{HasMoreOrShut, HasFlushedOrShut, HasWorkOrShut};
+ghost use Rattle.tmem_seats.specs.Seats.{HasMoreOrShut, HasFlushedOrShut, HasRoomOrShut, HasWorkOrShut};
 
 use crate::failure::Failure;
 use crate::naming::StoreNaming;
 use std::marker::Model;
-use tmem_core::{Core, Decision, Settled};
+use tmem_core::{Core, Decision, MAX_WAITING, Settled};
 use tmem_disk::Fault;
 use tmem_invariants::Invariants;
 use tmem_record::Batch;
@@ -220,6 +220,15 @@ impl<N: StoreNaming, T: Invariants + Drop> CoreSeat<N, T> {
     {
         self.looks = self.looks.wrapping_add(1);
         number < self.durable() || self.is_shut() && !self.is_draining
+    }
+
+    /// Whether fewer wait to be durable than may, or it was shut: what a transaction waits for that found no room. The look is counted.
+    pub fn has_room(&mut self) -> bool
+        ensures room { IsTrue result ↔ HasRoomOrShut N.name.start self.new }
+        ensures same { self.new ≡ self.old }
+    {
+        self.looks = self.looks.wrapping_add(1);
+        self.count().saturating_sub(self.durable()) < MAX_WAITING as u64 || self.is_shut()
     }
 
     /// Whether some are not known durable, or it was shut: what a flusher waits for. The look is counted.

@@ -1,5 +1,5 @@
 use Rattle.tmem_front.specs.Settling.{KnowsMore}
-use Rattle.tmem_front.proofs.front.Front.atomically.Given as goal
+use Rattle.tmem_front.proofs.front.Front.run.Given as goal
 
 -- what was settled so far left the pass as it was, but for what it knows
 abbrev pub invariant-loop : goal.invariant-loop
