@@ -1,10 +1,11 @@
 -- What an attempt that is settled is answered, and what the pass knows then.
-use Rattle.std.specs.Prelude.{◌≡◌, ◌⊎◌, ◌≤◌, ◌++◌, ℕ, Bool, List, Result, Err}
+use Rattle.std.specs.Prelude.{◌≡◌, ◌≢◌, ◌⊎◌, ◌≤◌, ◌<◌, ◌++◌, ℕ, Bool, List, Result, Ok, Err}
 use Rattle.tmem_disk.specs.declared.fault.Fault.{Fault}
 use Rattle.tmem_disk.specs.declared.fault.Fault.TheVariants as fault
 use Rattle.tmem_record.specs.Prefix.{IsPrefix}
 use Rattle.tmem_record.specs.State.{State}
 use Rattle.tmem_tree.specs.declared.settled.Settled.{Settled}
+use Rattle.tmem_tree.specs.declared.settled.Settled.TheVariants.{Committed, Seen}
 use Rattle.tmem_tentative.specs.declared.attempt.Attempt.{Attempt}
 use Rattle.tmem_core.specs.Program.{Program}
 use Rattle.tmem_core.specs.SettleAnswer.{settle_answer, accepted_by, judged}
@@ -49,3 +50,26 @@ pub record KnowsMore (old new : PassView) : Type 0 where
 abbrev pub SettlesAtLast : ℕ → State → Program → Tx → PassView → Result Settled Fault → PassView → Type 0
 SettlesAtLast start opening program tx old answer new =
     ((answer ≡ Err fault.Memory) × KnowsMore old new) ⊎ ∥ ((attempt : Attempt) × IsRight program.steps tx attempt × Settles start opening program attempt old answer new) ∥₁
+
+-- the pass saw and knows no less than before, and is the same in all else
+pub record SeesMore (old new : PassView) : Type 0 where
+  pub pass : new ≡ record old { seen = new.seen; known = new.known }
+  pub seen : IsPrefix old.seen new.seen
+  pub known : IsPrefix old.known new.known
+
+-- among so many is what an answer committed, and all that it was made on
+abbrev pub IsWithin : Result Settled Fault → ℕ → Type 0
+IsWithin (Ok (Committed number registers)) n = number < n
+IsWithin (Ok (Seen at registers)) n = at ≤ n
+IsWithin _ n = Unit {0}
+
+-- Attempts are made until one is settled, and then what it committed and all that it was made on is awaited. The answer is the one
+-- to the attempt, or Unknown where the pass did not see all of that durable.
+pub record SettlesDurably (start : ℕ) (opening : State) (program : Program) (tx : Tx) (old : PassView) (answer : Result Settled Fault) (new : PassView) : Type 0 where
+  pub first : Result Settled Fault
+  pub then : PassView
+  pub settled : SettlesAtLast start opening program tx old first then
+  pub sees : SeesMore then new
+  pub answered : (answer ≡ first) ⊎ (answer ≡ Err fault.Unknown)
+  pub durable : IsWithin answer (count start new.seen)
+  pub unseen : answer ≢ first → ¬ IsWithin first (count start new.seen)

@@ -9,6 +9,7 @@
 #![tactic(auto)]
 
 mod closing;
+mod durably;
 mod front;
 mod opened;
 mod pace;

@@ -1,0 +1,72 @@
+// Transactions that are awaited.
+ghost use Rattle.std.specs.Prelude.{◌≡◌, ◌≢◌, ◌↔◌, ◌<◌, ℕ, Ok, Err, IfOk, IfErr, IfSome, IfNone, OnOk};
+ghost use Rattle.tmem_tree.specs.Plans.{FitsSteps, FitsVariables, FitsNames};
+ghost use Rattle.tmem_spine.specs.History.{count};
+ghost use Rattle.tmem_front.specs.Settling.{IsWithin, SeesMore, SettlesDurably};
+
+use crate::front::Front;
+use crate::pass::Pass;
+use std::sync::Wait;
+use tmem_core::Settled;
+use tmem_disk::{Disk, Fault};
+use tmem_invariants::Invariants;
+use tmem_seats::StoreNaming;
+use tmem_tree::{Plan, StoredSteps};
+
+impl<D: Disk + Drop, N: StoreNaming, T: Invariants + Drop, S: StoredSteps + Drop> Front<
+    D,
+    N,
+    T,
+    S,
+> {
+    /// Settles a plan of this front as `atomically_with_room` does, and returns once what it committed is durable, and with it all
+    /// that it was made on; so no crash undoes an answer. Of a transaction that changes nothing, that is what it read. `Unknown` tells
+    /// that the front was shut first: a transaction that changes something may then be found by the next opening, or not. `Closed`
+    /// tells that nothing was committed.
+    pub fn commit_durable<R: Wait>(
+        &self,
+        rt: &R,
+        pass: &mut Pass<N>,
+        plan: &Plan,
+    ) -> Result<Settled, Fault>
+        requires steps { FitsSteps (S.arities self.now.steps) plan.now }
+        requires variables { FitsVariables self.now.vars plan.now }
+        requires names { FitsNames N.program.names plan.now }
+        ensures settled { ∥ SettlesDurably N.name.start N.opening N.program plan.now pass.old result pass.new ∥₁ }
+        ensures no_conflict { result ≢ Err Fault.Conflict }
+        ensures no_retry { result ≢ Ok Settled.Retry }
+        ensures no_full { result ≢ Err Fault.Full }
+    {
+        let settled = self.atomically_with_room(rt, pass, plan)?;
+        self.await_all(rt, pass, &settled)?;
+        Ok(settled)
+    }
+
+    // Waits until what an answer committed is durable, and all that it was made on.
+    fn await_all<R: Wait>(&self, rt: &R, pass: &mut Pass<N>, settled: &Settled) -> Result<(), Fault>
+        ensures within { OnOk result (IsWithin (Ok settled.now) (count N.name.start pass.new.seen)) }
+        ensures refused { IfErr result (λ fault. fault ≡ Fault.Unknown) }
+        ensures unseen { IfErr result (λ _. ¬ IsWithin (Ok settled.now) (count N.name.start pass.new.seen)) }
+        ensures sees { SeesMore pass.old pass.new }
+    {
+        let Some(number) = last_of(settled) else {
+            return Ok(());
+        };
+        match self.await_durable(rt, pass, number) {
+            Ok(()) => Ok(()),
+            Err(_) => Err(Fault::Unknown),
+        }
+    }
+}
+
+// The last transaction among what an answer committed and what it was made on.
+fn last_of(settled: &Settled) -> Option<u64>
+    ensures some { (n : ℕ) → IfSome result (λ number. IsWithin (Ok settled.now) n ↔ (number < n)) }
+    ensures none { (n : ℕ) → IfNone result (IsWithin (Ok settled.now) n) }
+{
+    match settled {
+        Settled::Committed { number, .. } => Some(*number),
+        Settled::Seen { at, .. } => at.checked_sub(1),
+        _ => None,
+    }
+}
