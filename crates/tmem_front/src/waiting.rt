@@ -206,15 +206,15 @@ impl<D: Disk + Drop, N: StoreNaming, T: Invariants + Drop, S: StoredSteps + Drop
     fn wait_for_room<'a, R: Wait>(
         &self,
         rt: &R,
-        mut core: MutexGuard<'a, CoreSeat<N, T>>,
+        mut held: MutexGuard<'a, CoreSeat<N, T>>,
     ) -> MutexGuard<'a, CoreSeat<N, T>>
         ensures { HasRoomOrShut N.name.start (mutex_guard_value result) }
     {
         for _ in rt.forever() {
-            if core.has_room() {
-                return core;
+            if held.has_room() {
+                return held;
             }
-            core = self.flushed.wait(rt, core);
+            held = self.flushed.wait(rt, held);
         }
         unreachable!()
     }

@@ -6,6 +6,7 @@ mod holds;
 mod moves;
 mod no_closures;
 mod passes;
+mod room;
 mod scenes;
 mod signals;
 mod stage_disk;

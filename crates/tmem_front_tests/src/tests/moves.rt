@@ -29,6 +29,10 @@ pub(super) enum Move {
     Fill(u64),
     /// Commits `AddOne` so often by `try_atomically`, again after each conflict. Answers how often it did.
     Add(u64),
+    /// Commits `AddOne` so often by `atomically_with_room`. Answers how often, or another answer.
+    AddWithRoom(u64),
+    /// `commit_durable`.
+    CommitDurable(Task),
     /// Writes 1 to variable 0 so often by `atomically`, each time with a `flush_with_room` behind it. Answers how often, or the first
     /// refusal.
     CommitAndFlush(u64),
@@ -61,6 +65,8 @@ pub(super) enum Move {
     AwaitHeld(u64),
     /// Releases one. `Late` where one was held for ten seconds.
     Release,
+    /// Whether additions were evaluated so often at the most.
+    AddsAtMost(u64),
     /// Whether `NeedOne` was evaluated so often at the most.
     NeedsAtMost(u64),
     /// Whether the calls that wait have looked so often at the most.

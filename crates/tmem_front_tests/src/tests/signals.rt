@@ -22,6 +22,7 @@ pub(super) struct Signals {
     held: AtomicU64,
     released: AtomicU64,
     gave_up: AtomicBool,
+    adds: AtomicU64,
     needs: AtomicU64,
     ended: AtomicU64,
 }
@@ -34,6 +35,7 @@ impl Signals {
             held: AtomicU64::new(0),
             released: AtomicU64::new(0),
             gave_up: AtomicBool::new(false),
+            adds: AtomicU64::new(0),
             needs: AtomicU64::new(0),
             ended: AtomicU64::new(0),
         }
@@ -72,6 +74,7 @@ impl Signals {
 
     /// Called by an addition. It has no runtime, so it does not sleep.
     pub(super) fn meet_step(&self) {
+        self.adds.fetch_add(1, Ordering::SeqCst);
         if !is_one_left(&self.steps) {
             return;
         }
@@ -83,6 +86,11 @@ impl Signals {
             yield_now();
         }
         self.gave_up.store(true, Ordering::SeqCst);
+    }
+
+    /// How many additions were evaluated.
+    pub(super) fn adds(&self) -> u64 {
+        self.adds.load(Ordering::SeqCst)
     }
 
     /// Counts that a number was needed.

@@ -135,6 +135,8 @@ impl<D: Disk + Drop, N: StoreNaming, T: Invariants + Drop, S: StoredSteps + Drop
             Move::TryCommit(task) => self.try_commit(stage, pass, task),
             Move::Fill(times) => self.fill(stage, pass, times),
             Move::Add(times) => self.add(stage, pass, times),
+            Move::AddWithRoom(times) => self.add_with_room(stage, pass, times),
+            Move::CommitDurable(task) => self.commit_durable(stage, pass, task),
             Move::CommitAndFlush(times) => self.commit_and_flush(stage, pass, times),
             Move::Look => Answer::Number(self.front.look(pass)),
             Move::Seen => Answer::Number(pass.seen()),
@@ -272,6 +274,32 @@ impl<D: Disk + Drop, N: StoreNaming, T: Invariants + Drop, S: StoredSteps + Drop
         Answer::Number(committed)
     }
 
+    // How often an addition commits that waits for room.
+    fn add_with_room<R: Wait>(&self, stage: &Stage<R>, pass: &mut Pass<N>, times: u64) -> Answer {
+        for _ in 0..times {
+            match self.commit_with_room(stage, pass) {
+                Answer::Committed(_) => {}
+                other => return other,
+            }
+        }
+        Answer::Number(times)
+    }
+
+    fn commit_with_room<R: Wait>(&self, stage: &Stage<R>, pass: &mut Pass<N>) -> Answer {
+        match self.plan(stage, Task::AddOne) {
+            Ok(plan) => Answer::to(self.front.atomically_with_room(stage.rt, pass, &plan)),
+            Err(fault) => Answer::refused(fault),
+        }
+    }
+
+    // Commits a task, and awaits it.
+    fn commit_durable<R: Wait>(&self, stage: &Stage<R>, pass: &mut Pass<N>, task: Task) -> Answer {
+        match self.plan(stage, task) {
+            Ok(plan) => Answer::to(self.front.commit_durable(stage.rt, pass, &plan)),
+            Err(fault) => Answer::refused(fault),
+        }
+    }
+
     // How many passes are given out, each dropped at once.
     fn new_passes<R: Wait>(&self, stage: &Stage<R>, times: u64) -> Answer {
         let mut given = 0u64;
@@ -344,6 +372,7 @@ impl<'a, R: Clock> Stage<'a, R> {
             }
             Move::AwaitHeld(times) => Answer::in_time(self.signals.await_held(self.rt, times)),
             Move::Release => Answer::in_time(self.signals.release()),
+            Move::AddsAtMost(most) => Answer::Holds(self.signals.adds() <= most),
             Move::NeedsAtMost(most) => Answer::Holds(self.signals.needs() <= most),
             _ => Answer::Nothing,
         }
