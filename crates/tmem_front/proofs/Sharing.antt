@@ -21,6 +21,10 @@ use Rattle.tmem_seats.specs.declared.naming.ProgramNaming.{Ghosts as ProgramGhos
 use Rattle.tmem_seats.specs.declared.naming.StoreNaming.{Ghosts as StoreGhosts}
 use Rattle.tmem_seats.specs.contracts.core_seat.CoreSeat.{the_row as core_row}
 use Rattle.tmem_seats.specs.contracts.journal_seat.JournalSeat.{the_row as journal_row}
+use Rattle.tmem_spine.specs.contracts.seats.Pass.{the_row as seat_row}
+use Rattle.tmem_tentative.specs.contracts.cursor.Cursor.{the_row as cursor_row}
+use Rattle.tmem_front.specs.contracts.pass.Pass.{the_row as pass_row}
+use Rattle.tmem_front.specs.contracts.pool.Pool.{the_row as pool_row}
 use Rattle.tmem_front.specs.contracts.front.Front.{the_row, the_type}
 
 name_sync : IsSync name_row
@@ -35,12 +39,18 @@ batch_send = search (sendable, crosses) depth 40 fits 4000
 waiting_send : IsSend waiting_row
 waiting_send = search (sendable, crosses) depth 40 fits 4000
 
+cursor_send : IsSend cursor_row
+cursor_send = search (sendable, crosses) depth 40 fits 4000
+
 module _ (N : RattleType) (n : NameGhosts N.Denot) where
   core_side_send : IsSend N → IsSend (core_side_row N n)
   core_side_send a = search (sendable, crosses, seat.the_send) depth 40 fits 4000
 
   journal_side_send : IsSend N → IsSend (journal_side_row N n)
   journal_side_send a = search (sendable, crosses, seat.the_send) depth 40 fits 4000
+
+  seat_send : IsSend N → IsSend (seat_row N n)
+  seat_send a = search (sendable, crosses, seat.the_send) depth 40 fits 4000
 
   spine_sync : IsSync (spine_field N n).row
   spine_sync = struct_sync (shape (spine_type N n)) (search (sendable, crosses, table.the_field_sync, heap.the_send, heap.the_sync) depth 20, (search sendable, (search sendable, tt)))
@@ -52,9 +62,16 @@ module _ (D N T S : RattleType) (d : DiskGhosts D.Denot) (s : StoreGhosts N.Deno
   journal_send : IsSend D → IsSend N → IsSend (journal_row D N d s n p)
   journal_send a b = search (sendable, crosses, journal_side_send, state_send, batch_send) depth 40 fits 4000
 
+  pass_send : IsSend N → IsSend (pass_row N n)
+  pass_send a = search (sendable, crosses, seat_send, cursor_send) depth 40 fits 4000
+
+  pool_send : IsSend N → IsSend (pool_row N n)
+  pool_send a = search (sendable, crosses, pass_send) depth 40 fits 4000
+
   pub front_sync : IsSend D → IsSend N → IsSync N → IsSend T → IsSend S → IsSync S → IsSync (the_row D N T S d s n p i st)
   front_sync a b b' e f f' =
       let core = core_send b e in
       let journal = journal_send a b in
+      let pool = pool_send b in
       let whole = the_type D N T S d s n p i st in
-      recorded_sync _ whole.D whole.to whole.to_one (struct_sync (shape whole) (search (sendable, crosses) depth 20, (search (sendable, crosses), (f', (search (sendable, crosses, name_sync) depth 20, (spine_sync N n, (search (crosses, core), (search (sendable, crosses) depth 20, (search (sendable, crosses) depth 20, (search (crosses, journal), tt))))))))))
+      recorded_sync _ whole.D whole.to whole.to_one (struct_sync (shape whole) (search (sendable, crosses) depth 20, (search (sendable, crosses), (f', (search (sendable, crosses, name_sync) depth 20, (spine_sync N n, (search (crosses, core), (search (sendable, crosses) depth 20, (search (sendable, crosses) depth 20, (search (crosses, journal), (search (crosses, pool), (search (sendable, crosses) depth 20, tt))))))))))))

@@ -16,6 +16,7 @@ ghost use Rattle.tmem_seats.specs.Histories.{IsPossibleValue};
 ghost use Rattle.tmem_front.specs.Settling.{Settles, SettlesPlan};
 
 use crate::pass::Pass;
+use crate::pool::Pool;
 use std::alloc::Global;
 use std::sync::{Condvar, Mutex, Wait};
 use tmem_core::{Decision, Settled};
@@ -40,6 +41,9 @@ pub struct Front<D: Disk, N: StoreNaming, T: Invariants, S: StoredSteps> {
     pub(crate) committed: Condvar,
     pub(crate) flushed: Condvar,
     pub(crate) journal: Mutex<JournalSeat<D, N>>,
+    // passes that are lent, and what is waited for where all are
+    pub(crate) pool: Mutex<Pool<N>>,
+    pub(crate) returned: Condvar,
 
     /// It is over the variables of the opening state.
     pub ghost over: { vars ≡ length N.opening.values },
@@ -69,6 +73,7 @@ impl<D: Disk + Drop, N: StoreNaming, T: Invariants + Drop, S: StoredSteps + Drop
         Ok(Pass {
             seat,
             cursor: Cursor::idle(self.alloc),
+            is_pooled: false,
         })
     }
 

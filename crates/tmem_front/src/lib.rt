@@ -14,6 +14,7 @@ mod front;
 mod opened;
 mod pace;
 mod pass;
+mod pool;
 mod waiting;
 
 pub use front::Front;

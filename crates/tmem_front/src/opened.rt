@@ -14,6 +14,7 @@ ghost use Rattle.tmem_journal.specs.Mended.{Mends, MendedBy, ClosedFrom};
 ghost use Rattle.tmem_journal.specs.Stands.{Position, StandsFor, StandsForEither};
 
 use crate::front::Front;
+use crate::pool::Pool;
 use std::alloc::{AllocError, Global};
 use std::sync::{Condvar, Mutex};
 use tmem_core::Core;
@@ -155,6 +156,11 @@ impl<D: Disk + Drop, T: Invariants + Drop, S: StoredSteps + Drop> OpenedFront<D,
             committed: Condvar::new(),
             flushed: Condvar::new(),
             journal: Mutex::new(JournalSeat::new(journal, journal_side, batch)),
+            pool: Mutex::new(Pool {
+                free: Vec::new(alloc),
+                owned: 0,
+            }),
+            returned: Condvar::new(),
         }
     }
 }

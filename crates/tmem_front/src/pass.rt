@@ -15,6 +15,8 @@ use tmem_tentative::Cursor;
 pub struct Pass<N: Naming> {
     pub(crate) seat: tmem_spine::Pass<N>,
     pub(crate) cursor: Cursor,
+    // whether the pool of the front has it
+    pub(crate) is_pooled: bool,
 }
 
 impl<N: Naming> Model for Pass<N> {

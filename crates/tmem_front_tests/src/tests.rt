@@ -6,6 +6,7 @@ mod holds;
 mod moves;
 mod no_closures;
 mod passes;
+mod pool;
 mod room;
 mod scenes;
 mod signals;

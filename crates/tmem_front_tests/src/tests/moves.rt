@@ -54,6 +54,10 @@ pub(super) enum Move {
     NewPass,
     /// The same so often, until one is refused. Answers how many were given out.
     NewPasses(u64),
+    /// Takes a pass of the pool in place of the one in hand, which is dropped.
+    Acquire,
+    /// Hands the one in hand to the pool.
+    ReleasePass,
     /// Takes the other pass in hand, a new one at first.
     OtherPass,
     /// Lets so many milliseconds pass.

@@ -115,6 +115,8 @@ impl<D: Disk + Drop, N: StoreNaming, T: Invariants + Drop, S: StoredSteps + Drop
             Move::Attempt(task) => self.attempt(stage, &mut hands.kept, task),
             Move::Settle => self.settle(stage, hands),
             Move::NewPass => Answer::done(self.take_pass(stage, &mut hands.pass)),
+            Move::Acquire => Answer::done(self.acquire(stage, &mut hands.pass)),
+            Move::ReleasePass => self.release(stage, &mut hands.pass),
             Move::OtherPass => Answer::done(self.other_pass(stage, hands)),
             other => match &mut hands.pass {
                 Some(pass) => self.answer_by(stage, pass, other),
@@ -297,6 +299,19 @@ impl<D: Disk + Drop, N: StoreNaming, T: Invariants + Drop, S: StoredSteps + Drop
         match self.plan(stage, task) {
             Ok(plan) => Answer::to(self.front.commit_durable(stage.rt, pass, &plan)),
             Err(fault) => Answer::refused(fault),
+        }
+    }
+
+    // Takes a pass of the pool in place of what is there.
+    fn acquire<R: Wait>(&self, stage: &Stage<R>, place: &mut Option<Pass<N>>) -> Result<(), Fault> {
+        *place = Some(self.front.acquire_pass(stage.rt)?);
+        Ok(())
+    }
+
+    fn release<R: Wait>(&self, stage: &Stage<R>, place: &mut Option<Pass<N>>) -> Answer {
+        match place.take() {
+            Some(pass) => Answer::done(self.front.release_pass(stage.rt, pass)),
+            None => Answer::Nothing,
         }
     }
 

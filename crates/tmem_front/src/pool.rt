@@ -1,0 +1,69 @@
+// Passes that callers share.
+ghost use Rattle.std.specs.Prelude.{◌≡◌, ◌⊎◌, IfErr};
+
+use crate::front::Front;
+use crate::pass::Pass;
+use std::sync::Wait;
+use tmem_disk::{Disk, Fault};
+use tmem_invariants::Invariants;
+use tmem_seats::StoreNaming;
+use tmem_spine::Naming;
+use tmem_tree::StoredSteps;
+
+/// The passes of a front that are lent, one after another, to whoever asks for one.
+#[derive(Drop)]
+pub(crate) struct Pool<N: Naming> {
+    // those that are not lent now, with room for all that it has
+    pub(crate) free: Vec<Pass<N>>,
+    // how many it has
+    pub(crate) owned: usize,
+}
+
+impl<D: Disk + Drop, N: StoreNaming, T: Invariants + Drop, S: StoredSteps + Drop> Front<
+    D,
+    N,
+    T,
+    S,
+> {
+    /// A pass of the pool, to be handed back by `release_pass`. Passes are lent again, each with its mark, with what it knows and with
+    /// the memory of its attempts, so any number of threads share the 32 of a front: where all are lent, it waits for one. Refused with
+    /// `NoSeat` where the pool has none and `pass` has given out all; and by `Memory`. A pass that is dropped is lost to the pool.
+    pub fn acquire_pass<R: Wait>(&self, rt: &R) -> Result<Pass<N>, Fault>
+        ensures refused { IfErr result (λ fault. (fault ≡ Fault.NoSeat) ⊎ (fault ≡ Fault.Memory)) }
+    {
+        let mut pool = self.pool.lock(rt);
+        for _ in rt.forever() {
+            if let Some(pass) = pool.free.pop() {
+                return Ok(pass);
+            }
+            let more = pool.owned.saturating_add(1);
+            pool.free.reserve(more)?;
+            match self.pass(rt) {
+                Ok(mut pass) => {
+                    pass.is_pooled = true;
+                    pool.owned = more;
+                    return Ok(pass);
+                }
+                Err(fault) if pool.owned == 0 => return Err(fault),
+                Err(_) => pool = self.returned.wait(rt, pool),
+            }
+        }
+        unreachable!()
+    }
+
+    /// Hands a pass back to the pool, for the next caller. One that `pass` gave out is the pool's from then on. Refused by `Memory` where
+    /// there is no room for such a one, which is lost then; one that the pool lent is never refused.
+    pub fn release_pass<R: Wait>(&self, rt: &R, mut pass: Pass<N>) -> Result<(), Fault>
+        ensures refused { IfErr result (λ fault. fault ≡ Fault.Memory) }
+    {
+        let mut pool = self.pool.lock(rt);
+        if !pass.is_pooled {
+            pass.is_pooled = true;
+            pool.owned = pool.owned.saturating_add(1);
+        }
+        let kept = pool.free.push(pass);
+        drop(pool);
+        self.returned.notify_one();
+        Ok(kept?)
+    }
+}

@@ -1,0 +1,91 @@
+//! Passes that callers share.
+use super::moves::{Answer, Move, Refusal, Row, Task};
+use super::scenes::{Scene, play};
+use std::test::Fail;
+
+const NO_SEAT: Answer = Answer::Refused(Refusal::NoSeat);
+
+/// Gets a pass once another thread has written a 2.
+const WAITS: &[Row] = &[
+    (Move::Sleep(100), Answer::Done),
+    (Move::Acquire, Answer::Done),
+    (Move::Peek(1), Answer::Value(2)),
+];
+
+#[test]
+fn a_pass_is_lent_again_with_what_it_knows(rt: HostRuntime) -> Result<(), Fail> {
+    let scene = Scene {
+        before: &[
+            // one is in hand, so 32 are given out
+            (Move::NewPasses(31), Answer::Number(31)),
+            (Move::TryCommit(Task::Write(0, 1)), Answer::Committed(0)),
+            (Move::Flush, Answer::Number(1)),
+            (Move::Look, Answer::Number(1)),
+            (Move::ReleasePass, Answer::Done),
+            (Move::Acquire, Answer::Done),
+            (Move::Seen, Answer::Number(1)),
+            (Move::ReleasePass, Answer::Done),
+            (Move::NewPass, NO_SEAT),
+            (Move::Acquire, Answer::Done),
+            (Move::TryCommit(Task::Write(0, 2)), Answer::Committed(1)),
+        ],
+        ..Scene::empty()
+    };
+    play(&rt, rt.alloc(), &scene)
+}
+
+#[test]
+fn no_pass_is_lent_where_none_is_left(rt: HostRuntime) -> Result<(), Fail> {
+    let scene = Scene {
+        before: &[
+            (Move::NewPasses(31), Answer::Number(31)),
+            (Move::Acquire, NO_SEAT),
+        ],
+        ..Scene::empty()
+    };
+    play(&rt, rt.alloc(), &scene)
+}
+
+#[test]
+fn a_thread_waits_for_a_pass_until_one_is_released(rt: HostRuntime) -> Result<(), Fail> {
+    let scene = Scene {
+        // with the one in hand and those that the threads take first, one is left for the pool
+        before: &[(Move::NewPasses(27), Answer::Number(27))],
+        threads: [
+            &[
+                (Move::Acquire, Answer::Done),
+                (Move::TryCommit(Task::Write(1, 1)), Answer::Committed(0)),
+                (Move::Sleep(200), Answer::Done),
+                (Move::TryCommit(Task::Write(1, 2)), Answer::Committed(1)),
+                (Move::ReleasePass, Answer::Done),
+            ],
+            WAITS,
+            &[],
+            &[(Move::Sleep(1), Answer::Done)],
+        ],
+        ..Scene::empty()
+    };
+    play(&rt, rt.alloc(), &scene)
+}
+
+#[test]
+fn a_thread_waits_for_a_pass_that_was_not_the_pools(rt: HostRuntime) -> Result<(), Fail> {
+    let scene = Scene {
+        before: &[(Move::NewPasses(28), Answer::Number(28))],
+        threads: [
+            &[
+                (Move::ReleasePass, Answer::Done),
+                (Move::Acquire, Answer::Done),
+                (Move::TryCommit(Task::Write(1, 1)), Answer::Committed(0)),
+                (Move::Sleep(200), Answer::Done),
+                (Move::TryCommit(Task::Write(1, 2)), Answer::Committed(1)),
+                (Move::ReleasePass, Answer::Done),
+            ],
+            WAITS,
+            &[],
+            &[(Move::Sleep(1), Answer::Done)],
+        ],
+        ..Scene::empty()
+    };
+    play(&rt, rt.alloc(), &scene)
+}
