@@ -241,8 +241,7 @@ impl<D: Disk + Drop, N: StoreNaming, T: Invariants + Drop, S: StoredSteps + Drop
         let transfer = self.plan(transfer.tx(alloc)?)?;
         let mut sent = 0u64;
         for _ in 0..TRANSFERS {
-            if let Settled::Committed { number, .. } = self.atomically(rt, &mut pass, &transfer)? {
-                self.await_durable(rt, &mut pass, number)?;
+            if let Settled::Committed { .. } = self.commit_durable(rt, &mut pass, &transfer)? {
                 sent = sent.saturating_add(1);
             }
         }
