@@ -56,6 +56,7 @@ impl<D: Disk + Drop, N: StoreNaming, T: Invariants + Drop, S: StoredSteps + Drop
         self.core.lock(rt).shut();
         self.committed.notify_all();
         self.flushed.notify_all();
+        self.wake_borrowers(rt);
     }
 
     /// What the store was shut by, where its device has failed: `Device` or `Unknown`, as the flush or the checkpoint was answered.

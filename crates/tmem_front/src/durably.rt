@@ -19,10 +19,10 @@ impl<D: Disk + Drop, N: StoreNaming, T: Invariants + Drop, S: StoredSteps + Drop
     T,
     S,
 > {
-    /// Settles a plan of this front as `atomically_with_room` does, and returns once what it committed is durable, and with it all
-    /// that it was made on; so no crash undoes an answer. Of a transaction that changes nothing, that is what it read. `Unknown` tells
-    /// that the front was shut first: a transaction that changes something may then be found by the next opening, or not. `Closed`
-    /// tells that nothing was committed.
+    /// Settles a plan of this front as `atomically_with_room` does, and returns once what it committed is durable, and with it all that
+    /// it was made on: so no crash undoes a `Committed`, nor what a `Seen` read. (An `Aborted` or `Refused` is not awaited.) Somebody
+    /// else has to flush. `Unknown` tells that the front was shut first: a transaction that changes something may then be found by the
+    /// next opening, or not. After any other fault nothing was committed.
     pub fn commit_durable<R: Wait>(
         &self,
         rt: &R,

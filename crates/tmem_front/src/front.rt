@@ -278,6 +278,7 @@ impl<D: Disk + Drop, N: StoreNaming, T: Invariants + Drop, S: StoredSteps + Drop
         self.flushed.notify_all();
         if is_shut {
             self.committed.notify_all();
+            self.wake_borrowers(rt);
         }
     }
 

@@ -27,9 +27,10 @@ impl<D: Disk + Drop, N: StoreNaming, T: Invariants + Drop, S: StoredSteps + Drop
 > {
     /// A pass of the pool, to be handed back by `release_pass`. Passes are lent again, each with its mark, with what it knows and with
     /// the memory of its attempts, so any number of threads share the 32 of a front: where all are lent, it waits for one. Refused with
-    /// `NoSeat` where the pool has none and `pass` has given out all; and by `Memory`. A pass that is dropped is lost to the pool.
+    /// `NoSeat` where the pool has none and `pass` has given out all; with `Closed` where it would wait and the front is shut; and by
+    /// `Memory`. A pass that is dropped is lost: where all that were lent are, whoever waits does so until the front is shut.
     pub fn acquire_pass<R: Wait>(&self, rt: &R) -> Result<Pass<N>, Fault>
-        ensures refused { IfErr result (λ fault. (fault ≡ Fault.NoSeat) ⊎ (fault ≡ Fault.Memory)) }
+        ensures refused { IfErr result (λ fault. (fault ≡ Fault.NoSeat) ⊎ (fault ≡ Fault.Closed) ⊎ (fault ≡ Fault.Memory)) }
     {
         let mut pool = self.pool.lock(rt);
         for _ in rt.forever() {
@@ -45,7 +46,12 @@ impl<D: Disk + Drop, N: StoreNaming, T: Invariants + Drop, S: StoredSteps + Drop
                     return Ok(pass);
                 }
                 Err(fault) if pool.owned == 0 => return Err(fault),
-                Err(_) => pool = self.returned.wait(rt, pool),
+                Err(_) => {
+                    if self.core.lock(rt).is_shut() {
+                        return Err(Fault::Closed);
+                    }
+                    pool = self.returned.wait(rt, pool);
+                }
             }
         }
         unreachable!()
@@ -58,12 +64,21 @@ impl<D: Disk + Drop, N: StoreNaming, T: Invariants + Drop, S: StoredSteps + Drop
     {
         let mut pool = self.pool.lock(rt);
         if !pass.is_pooled {
+            let with_it = pool.owned.saturating_add(1);
+            pool.free.reserve(with_it)?;
             pass.is_pooled = true;
-            pool.owned = pool.owned.saturating_add(1);
+            pool.owned = with_it;
         }
         let kept = pool.free.push(pass);
         drop(pool);
         self.returned.notify_one();
         Ok(kept?)
+    }
+
+    // Ends the wait of each caller that waits for a pass, once the front is shut. (One that saw it open still has the pool's lock then,
+    // or waits already.)
+    pub(crate) fn wake_borrowers<R: Wait>(&self, rt: &R) {
+        drop(self.pool.lock(rt));
+        self.returned.notify_all();
     }
 }

@@ -89,3 +89,23 @@ fn a_thread_waits_for_a_pass_that_was_not_the_pools(rt: HostRuntime) -> Result<(
     };
     play(&rt, rt.alloc(), &scene)
 }
+
+#[test]
+fn a_shut_wakes_each_thread_that_waits_for_a_pass(rt: HostRuntime) -> Result<(), Fail> {
+    let waits: &[Row] = &[
+        (Move::Sleep(100), Answer::Done),
+        (Move::Acquire, Answer::Refused(Refusal::Closed)),
+    ];
+    let scene = Scene {
+        before: &[(Move::NewPasses(26), Answer::Number(26))],
+        threads: [
+            // the last one; it is never released
+            &[(Move::Acquire, Answer::Done)],
+            waits,
+            waits,
+            &[(Move::Sleep(200), Answer::Done), (Move::Shut, Answer::Done)],
+        ],
+        ..Scene::empty()
+    };
+    play(&rt, rt.alloc(), &scene)
+}
