@@ -7,7 +7,7 @@ const NO_SEAT: Answer = Answer::Refused(Refusal::NoSeat);
 
 /// Gets a pass once another thread has written a 2.
 const WAITS: &[Row] = &[
-    (Move::Sleep(100), Answer::Done),
+    (Move::Sleep(300), Answer::Done),
     (Move::Acquire, Answer::Done),
     (Move::Peek(1), Answer::Value(2)),
 ];
@@ -55,7 +55,7 @@ fn a_thread_waits_for_a_pass_until_one_is_released(rt: HostRuntime) -> Result<()
             &[
                 (Move::Acquire, Answer::Done),
                 (Move::TryCommit(Task::Write(1, 1)), Answer::Committed(0)),
-                (Move::Sleep(200), Answer::Done),
+                (Move::Sleep(600), Answer::Done),
                 (Move::TryCommit(Task::Write(1, 2)), Answer::Committed(1)),
                 (Move::ReleasePass, Answer::Done),
             ],
@@ -77,7 +77,7 @@ fn a_thread_waits_for_a_pass_that_was_not_the_pools(rt: HostRuntime) -> Result<(
                 (Move::ReleasePass, Answer::Done),
                 (Move::Acquire, Answer::Done),
                 (Move::TryCommit(Task::Write(1, 1)), Answer::Committed(0)),
-                (Move::Sleep(200), Answer::Done),
+                (Move::Sleep(600), Answer::Done),
                 (Move::TryCommit(Task::Write(1, 2)), Answer::Committed(1)),
                 (Move::ReleasePass, Answer::Done),
             ],
@@ -93,7 +93,7 @@ fn a_thread_waits_for_a_pass_that_was_not_the_pools(rt: HostRuntime) -> Result<(
 #[test]
 fn a_shut_wakes_each_thread_that_waits_for_a_pass(rt: HostRuntime) -> Result<(), Fail> {
     let waits: &[Row] = &[
-        (Move::Sleep(100), Answer::Done),
+        (Move::Sleep(300), Answer::Done),
         (Move::Acquire, Answer::Refused(Refusal::Closed)),
     ];
     let scene = Scene {
@@ -103,7 +103,7 @@ fn a_shut_wakes_each_thread_that_waits_for_a_pass(rt: HostRuntime) -> Result<(),
             &[(Move::Acquire, Answer::Done)],
             waits,
             waits,
-            &[(Move::Sleep(200), Answer::Done), (Move::Shut, Answer::Done)],
+            &[(Move::Sleep(600), Answer::Done), (Move::Shut, Answer::Done)],
         ],
         ..Scene::empty()
     };

@@ -1,6 +1,6 @@
 //! Callers that wait for room, and those that wait until what they committed is durable.
 use super::moves::{Answer, Move, Refusal, Row, Task};
-use super::scenes::{Scene, play};
+use super::scenes::{Device, Failing, SOUND, Scene, play};
 use std::test::Fail;
 
 const CLOSED: Answer = Answer::Refused(Refusal::Closed);
@@ -148,12 +148,75 @@ fn a_transaction_whose_front_is_shut_first_is_unknown(rt: HostRuntime) -> Result
             &[(Move::CommitDurable(WRITE), UNKNOWN)],
             &[],
             &[],
-            &[(Move::Sleep(50), Answer::Done), (Move::Shut, Answer::Done)],
+            &[(Move::Sleep(200), Answer::Done), (Move::Shut, Answer::Done)],
         ],
         after: &[
             (Move::Peek(0), Answer::Value(1)),
             // the flush of a front that is shut goes on
             (Move::Flush, Answer::Number(1)),
+        ],
+        ..Scene::empty()
+    };
+    play(&rt, rt.alloc(), &scene)
+}
+
+#[test]
+fn what_was_read_is_unknown_where_the_front_is_shut_first(rt: HostRuntime) -> Result<(), Fail> {
+    let scene = Scene {
+        before: &[(Move::TryCommit(Task::Write(2, 1)), Answer::Committed(0))],
+        threads: [
+            &[(Move::CommitDurable(Task::NeedOne), UNKNOWN)],
+            &[],
+            &[],
+            &[(Move::Sleep(200), Answer::Done), (Move::Shut, Answer::Done)],
+        ],
+        ..Scene::empty()
+    };
+    play(&rt, rt.alloc(), &scene)
+}
+
+#[test]
+fn a_transaction_whose_device_fails_is_unknown(rt: HostRuntime) -> Result<(), Fail> {
+    let scene = Scene {
+        device: Device {
+            failing: Failing::Sync(2),
+            ..SOUND
+        },
+        threads: [
+            &[(Move::CommitDurable(WRITE), UNKNOWN)],
+            &[(Move::RunFlusher(1), UNKNOWN)],
+            &[],
+            &[],
+        ],
+        after: &[
+            (Move::FaultOf, UNKNOWN),
+            (Move::CommitDurable(WRITE), CLOSED),
+            (Move::AddWithRoom(1), CLOSED),
+        ],
+        ..Scene::empty()
+    };
+    play(&rt, rt.alloc(), &scene)
+}
+
+#[test]
+fn a_close_lets_a_transaction_become_durable_that_is_awaited(rt: HostRuntime) -> Result<(), Fail> {
+    let scene = Scene {
+        before: &[(Move::HoldSyncs(1), Answer::Done)],
+        threads: [
+            &[
+                (Move::CommitDurable(WRITE), Answer::Committed(0)),
+                (Move::Seen, Answer::Number(1)),
+            ],
+            &[(Move::RunFlusher(1), Answer::Done)],
+            &[
+                (Move::AwaitHeld(1), Answer::Done),
+                (Move::Close, Answer::Done),
+            ],
+            &[
+                (Move::AwaitHeld(1), Answer::Done),
+                (Move::Sleep(200), Answer::Done),
+                (Move::Release, Answer::Done),
+            ],
         ],
         ..Scene::empty()
     };
