@@ -1,10 +1,10 @@
-"""Mutants, as they stand in crates/*/{gate-mutants,mutants,test-mutants}/*.edit: a line 'file: PATH', and then pairs of lines 'old: TEXT' and
+"""Mutants, as they stand in crates/*/{must-fail,mutants,test-mutants}/*.edit: a line 'file: PATH', and then pairs of lines 'old: TEXT' and
 'new: TEXT', each TEXT one line that stands once in that file. That of a test mutant begins with a line 'fails: CRATE' or
 'fails: .ci/PART', which says whose tests have to fail."""
 import glob
 import re
 
-FOLDERS = "gate-mutants", "mutants", "test-mutants"
+FOLDERS = "must-fail", "mutants", "test-mutants"
 
 
 def read(path):
