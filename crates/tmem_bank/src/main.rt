@@ -1,4 +1,4 @@
-//! A bank: four threads move money between the accounts of a store that they share. A transfer is done once it is durable, and
+//! A bank: forty threads move money between the accounts of a store that they share. A transfer is done once it is durable, and
 //! one that would leave an account below zero is refused. The store is kept in a file where a path is given, and in memory
 //! otherwise.
 #![tactic(auto)]

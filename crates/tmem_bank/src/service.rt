@@ -10,7 +10,7 @@ use std::alloc::Global;
 use std::marker::Brand;
 use std::rt::Clock;
 use std::sync::Wait;
-use std::thread::{self, Threads, join};
+use std::thread::{self, Threads, map_indices};
 use tmem_core::Settled;
 use tmem_disk::{Disk, Fault};
 use tmem_front::{Front, Gathering, OpenedFront, Pass, StoreNaming};
@@ -20,7 +20,9 @@ use tmem_tree::{Plan, StoredSteps};
 /// How many accounts there are.
 pub const ACCOUNTS: u16 = 4;
 
-/// How often each thread moves money.
+// How many threads move money, and how often each does. They share the passes of the store.
+const THREADS: usize = 40;
+
 const TRANSFERS: u64 = 25;
 
 /// Opens the store, and serves there.
@@ -60,7 +62,7 @@ fn with_front<
     run_bank(rt, alloc, &front)
 }
 
-// Lets one pass move money, and then four threads.
+// Lets one pass move money, and then many threads.
 fn run_bank<
     N: StoreNaming + Send + Sync,
     D: Disk + Drop + Send,
@@ -113,7 +115,7 @@ fn move_alone<
     R: Print + Wait,
 >(rt: &R, alloc: Global, front: &Front<D, N, T, S>, pass: &mut Pass<N>) -> Result<(), Fault> {
     let transfer = front.plan(Transfer::new(0, 1, 1).tx(alloc)?)?;
-    let overdraft = front.plan(Transfer::new(0, 1, 5000).tx(alloc)?)?;
+    let overdraft = front.plan(Transfer::new(0, 1, 50_000).tx(alloc)?)?;
     settle_again(rt, front, pass, &transfer)?;
     settle_and_say(rt, front, pass, &overdraft)
 }
@@ -157,7 +159,7 @@ fn settle_late<
     Ok(())
 }
 
-// Lets four threads move money, and frees the log.
+// Lets many threads move money, and frees the log.
 fn serve<
     N: StoreNaming + Send + Sync,
     D: Disk + Drop + Send,
@@ -165,9 +167,9 @@ fn serve<
     S: StoredSteps + Drop + Send + Sync,
     R: Clock + Print + Threads + Wait + Sync,
 >(rt: &R, alloc: Global, front: &Front<D, N, T, S>) -> Result<(), Fault> {
-    let (((a, b), (c, d)), last) = move_and_flush(rt, alloc, front)?;
+    let (moved, last) = move_and_flush(rt, alloc, front)?;
     front.checkpoint(rt)?;
-    let _ = println!(rt; "moved {a} {b} {c} {d}");
+    let _ = println!(rt; "moved {moved} times by {THREADS} threads");
     say(rt, &last);
     Ok(())
 }
@@ -216,9 +218,6 @@ fn say<R: Print>(rt: &R, settled: &Settled) {
     };
 }
 
-// How many transfers each of four threads made.
-type Moved = ((u64, u64), (u64, u64));
-
 // What threads do with the store that they share. The functions that start threads know no more of it.
 trait Moving {
     // Makes a transfer many times, and waits each time until it is durable. Answers how many of them are durable.
@@ -227,7 +226,7 @@ trait Moving {
     // Makes durable what is committed, until the store is shut.
     fn flush<R: Clock + Wait>(&self, rt: &R) -> Result<(), Fault>;
 
-    // Reads all accounts, as they stand at one moment. It takes a pass at each call, and there are 32: a service would keep one.
+    // Reads all accounts, as they stand at one moment.
     fn audit<R: Wait>(&self, rt: &R, alloc: Global) -> Result<Settled, Fault>;
 
     // Nothing is settled any more.
@@ -237,11 +236,13 @@ trait Moving {
 impl<D: Disk + Drop, N: StoreNaming, T: Invariants + Drop, S: StoredSteps + Drop> Moving
     for Front<D, N, T, S> {
     fn send<R: Wait>(&self, rt: &R, alloc: Global, transfer: Transfer) -> Result<u64, Fault> {
-        let mut pass = self.pass(rt)?;
         let transfer = self.plan(transfer.tx(alloc)?)?;
         let mut sent = 0u64;
         for _ in 0..TRANSFERS {
-            if let Settled::Committed { .. } = self.commit_durable(rt, &mut pass, &transfer)? {
+            let mut pass = self.acquire_pass(rt)?;
+            let settled = self.commit_durable(rt, &mut pass, &transfer)?;
+            self.release_pass(rt, pass)?;
+            if let Settled::Committed { .. } = settled {
                 sent = sent.saturating_add(1);
             }
         }
@@ -256,8 +257,10 @@ impl<D: Disk + Drop, N: StoreNaming, T: Invariants + Drop, S: StoredSteps + Drop
 
     fn audit<R: Wait>(&self, rt: &R, alloc: Global) -> Result<Settled, Fault> {
         let audit = self.plan(balances(alloc)?)?;
-        let mut pass = self.pass(rt)?;
-        settle(rt, self, &mut pass, &audit)
+        let mut pass = self.acquire_pass(rt)?;
+        let settled = settle(rt, self, &mut pass, &audit)?;
+        self.release_pass(rt, pass)?;
+        Ok(settled)
     }
 
     fn close<R: Wait>(&self, rt: &R) {
@@ -265,18 +268,18 @@ impl<D: Disk + Drop, N: StoreNaming, T: Invariants + Drop, S: StoredSteps + Drop
     }
 }
 
-// Four threads move money beside a flusher in a thread of its own, which ends once they have ended and all is durable. Answers
-// with what the accounts have then.
+// The threads move money beside a flusher in a thread of its own, which ends once they have ended and all is durable. Answers how many
+// transfers are durable, and what the accounts have then.
 fn move_and_flush<F: Moving + Sync, R: Clock + Threads + Wait + Sync>(
     rt: &R,
     alloc: Global,
     store: &F,
-) -> Result<(Moved, Settled), Fault> {
+) -> Result<(u64, Settled), Fault> {
     thread::scope(thread::scope_env(), rt, |scope| {
         let Ok(flusher) = scope.spawn(move || store.flush(rt)) else {
             return Err(Fault::Memory);
         };
-        let moved = move_by_four(rt, alloc, store);
+        let moved = move_all(rt, alloc, store);
         let last = store.audit(rt, alloc);
         store.close(rt);
         flusher.join(rt)?;
@@ -284,42 +287,16 @@ fn move_and_flush<F: Moving + Sync, R: Clock + Threads + Wait + Sync>(
     })
 }
 
-fn move_by_four<F: Moving + Sync, R: Threads + Wait + Sync>(
+// Each of the threads pays from one account to the next one.
+fn move_all<F: Moving + Sync, R: Threads + Wait + Sync>(
     rt: &R,
     alloc: Global,
     store: &F,
-) -> Result<Moved, Fault> {
-    let (first, last) = join(
-        rt,
-        || move_by_two(
-            rt,
-            alloc,
-            store,
-            Transfer::new(0, 1, 1),
-            Transfer::new(1, 2, 2),
-        ),
-        || move_by_two(
-            rt,
-            alloc,
-            store,
-            Transfer::new(2, 3, 3),
-            Transfer::new(3, 0, 4),
-        ),
-    );
-    Ok((first?, last?))
-}
-
-fn move_by_two<F: Moving + Sync, R: Threads + Wait + Sync>(
-    rt: &R,
-    alloc: Global,
-    store: &F,
-    one: Transfer,
-    other: Transfer,
-) -> Result<(u64, u64), Fault> {
-    let (one, other) = join(
-        rt,
-        || store.send(rt, alloc, one),
-        || store.send(rt, alloc, other),
-    );
-    Ok((one?, other?))
+) -> Result<u64, Fault> {
+    let all = map_indices(rt, alloc, THREADS, &|place| store.send(rt, alloc, Transfer::of(place)))?;
+    let mut moved = 0u64;
+    for sent in all {
+        moved = moved.saturating_add(sent?);
+    }
+    Ok(moved)
 }

@@ -22,6 +22,12 @@ impl Transfer {
         Transfer { from, to, amount }
     }
 
+    /// One from account 0 to 1, two from 1 to 2, three from 2 to 3, four from 3 to 0, and so on.
+    pub fn of(place: usize) -> Transfer {
+        let from = (place % 4) as u16;
+        Transfer::new(from, (from + 1) % 4, from as i64 + 1)
+    }
+
     /// The transaction that makes it.
     pub fn tx(self, alloc: Global) -> Result<Tx, AllocError> {
         let Transfer { from, to, amount } = self;
@@ -41,12 +47,12 @@ impl Transfer {
     }
 }
 
-/// Puts 1000 into each account, and registers the invariant.
+/// Puts 10000 into each account, and registers the invariant.
 pub fn deposits(alloc: Global) -> Result<Tx, Fault> {
     Ok(Tx::Seq(vec![in alloc;
         Tx::Put {
             reg: 0,
-            number: 1000
+            number: 10_000
         },
         Tx::Write { var: 0, reg: 0 },
         Tx::Write { var: 1, reg: 0 },

@@ -83,8 +83,10 @@ impl<D: Disk + Drop, N: StoreNaming, T: Invariants + Drop, S: StoredSteps + Drop
         start: Instant,
     ) -> Result<Figures, Fault> {
         let plan = self.plan(job.act.transaction(alloc)?)?;
-        let mut pass = self.pass(rt)?;
-        settle_until(rt, self, &mut pass, &plan, job, start)
+        let mut pass = self.acquire_pass(rt)?;
+        let had = settle_until(rt, self, &mut pass, &plan, job, start)?;
+        self.release_pass(rt, pass)?;
+        Ok(had)
     }
 
     fn flush<R: Clock + Wait>(&self, rt: &R, has_several: bool) -> Result<u64, Fault> {
@@ -104,8 +106,9 @@ impl<D: Disk + Drop, N: StoreNaming, T: Invariants + Drop, S: StoredSteps + Drop
     }
 
     fn fill<R: Wait>(&self, rt: &R, alloc: Global) -> Result<(), Fault> {
-        let mut pass = self.pass(rt)?;
-        fill_by(rt, alloc, self, &mut pass)
+        let mut pass = self.acquire_pass(rt)?;
+        fill_by(rt, alloc, self, &mut pass)?;
+        self.release_pass(rt, pass)
     }
 }
 
@@ -116,8 +119,9 @@ fn deposit<D: Disk + Drop, N: StoreNaming, T: Invariants + Drop, S: StoredSteps 
     front: &Front<D, N, T, S>,
 ) -> Result<(), Fault> {
     let tx = deposits(alloc)?;
-    let mut pass = front.pass(rt)?;
-    settle_once(rt, front, &mut pass, tx)
+    let mut pass = front.acquire_pass(rt)?;
+    settle_once(rt, front, &mut pass, tx)?;
+    front.release_pass(rt, pass)
 }
 
 // Fills the log: each batch with as many transactions as it takes.
@@ -145,22 +149,8 @@ fn settle_once<
     R: Wait,
 >(rt: &R, front: &Front<D, N, T, S>, pass: &mut Pass<N>, tx: Tx) -> Result<(), Fault> {
     let plan = front.plan(tx)?;
-    settle(rt, front, pass, &plan)?;
+    front.atomically(rt, pass, &plan)?;
     Ok(())
-}
-
-// Settles a plan.
-fn settle<D: Disk + Drop, N: StoreNaming, T: Invariants + Drop, S: StoredSteps + Drop, R: Wait>(
-    rt: &R,
-    front: &Front<D, N, T, S>,
-    pass: &mut Pass<N>,
-    plan: &Plan,
-) -> Result<Settled, Fault>
-    requires steps { FitsSteps (S.arities front.now.steps) plan.now }
-    requires variables { FitsVariables front.now.vars plan.now }
-    requires names { FitsNames N.program.names plan.now }
-{
-    front.atomically(rt, pass, plan)
 }
 
 // Settles a plan again and again, until the time from the start is over.
@@ -213,7 +203,7 @@ fn settle_some<
 {
     let mut last = None;
     for _ in 0..job.act.stride() {
-        let settled = settle_with_room(rt, front, pass, plan)?;
+        let settled = front.atomically_with_room(rt, pass, plan)?;
         if is_done(&settled) {
             had.operations = had.operations.saturating_add(1);
         }
@@ -242,29 +232,6 @@ fn number_of(settled: &Settled) -> Option<u64> {
         Settled::Committed { number, .. } => Some(*number),
         _ => None,
     }
-}
-
-// Attempts a plan until it is settled. Where as many transactions wait as may, it waits until more are durable than before the
-// attempt: 256 more were committed then, so that there is one to wait for.
-fn settle_with_room<
-    D: Disk + Drop,
-    N: StoreNaming,
-    T: Invariants + Drop,
-    S: StoredSteps + Drop,
-    R: Wait,
->(rt: &R, front: &Front<D, N, T, S>, pass: &mut Pass<N>, plan: &Plan) -> Result<Settled, Fault>
-    requires steps { FitsSteps (S.arities front.now.steps) plan.now }
-    requires variables { FitsVariables front.now.vars plan.now }
-    requires names { FitsNames N.program.names plan.now }
-{
-    for _ in rt.forever() {
-        let durable = front.look(pass);
-        match settle(rt, front, pass, plan) {
-            Err(Fault::Full) => front.await_durable(rt, pass, durable)?,
-            settled => return settled,
-        }
-    }
-    unreachable!()
 }
 
 /// Runs a job on a new store, until all that it committed is durable.

@@ -25,10 +25,14 @@ use Rattle.tmem_spine.specs.contracts.seats.Pass.{the_row as seat_row}
 use Rattle.tmem_tentative.specs.contracts.cursor.Cursor.{the_row as cursor_row}
 use Rattle.tmem_front.specs.contracts.pass.Pass.{the_row as pass_row}
 use Rattle.tmem_front.specs.contracts.pool.Pool.{the_row as pool_row}
+use Rattle.std.specs.contracts.sync.Condvar.{the_row as condvar_row}
 use Rattle.tmem_front.specs.contracts.front.Front.{the_row, the_type}
 
 name_sync : IsSync name_row
 name_sync = search (sendable, crosses) depth 40 fits 4000
+
+condvar_sync : IsSync condvar_row
+condvar_sync = search (sendable, crosses) depth 40 fits 4000
 
 state_send : IsSend state_row
 state_send = search (sendable, crosses) depth 40 fits 4000
@@ -74,4 +78,4 @@ module _ (D N T S : RattleType) (d : DiskGhosts D.Denot) (s : StoreGhosts N.Deno
       let journal = journal_send a b in
       let pool = pool_send b in
       let whole = the_type D N T S d s n p i st in
-      recorded_sync _ whole.D whole.to whole.to_one (struct_sync (shape whole) (search (sendable, crosses) depth 20, (search (sendable, crosses), (f', (search (sendable, crosses, name_sync) depth 20, (spine_sync N n, (search (crosses, core), (search (sendable, crosses) depth 20, (search (sendable, crosses) depth 20, (search (crosses, journal), (search (crosses, pool), (search (sendable, crosses) depth 20, tt))))))))))))
+      recorded_sync _ whole.D whole.to whole.to_one (struct_sync (shape whole) (search (sendable, crosses) depth 20, (search (sendable, crosses), (f', (search (sendable, crosses, name_sync) depth 20, (spine_sync N n, (search (crosses, core), (search (sendable, crosses) depth 20, (search (sendable, crosses) depth 20, (search (sendable, crosses, condvar_sync) depth 20, (search (crosses, journal), (search (crosses, pool), (search (sendable, crosses) depth 20, tt)))))))))))))

@@ -25,6 +25,7 @@ impl<D: Disk + Drop, N: StoreNaming, T: Invariants + Drop, S: StoredSteps + Drop
     {
         self.core.lock(rt).drain();
         self.committed.notify_all();
+        self.wake(u32::MAX);
         let flushed = self.flush_all(rt);
         self.shut(rt);
         match self.fault(rt) {
@@ -56,6 +57,7 @@ impl<D: Disk + Drop, N: StoreNaming, T: Invariants + Drop, S: StoredSteps + Drop
         self.core.lock(rt).shut();
         self.committed.notify_all();
         self.flushed.notify_all();
+        self.wake(u32::MAX);
         self.wake_borrowers(rt);
     }
 

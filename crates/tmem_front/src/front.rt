@@ -18,7 +18,7 @@ ghost use Rattle.tmem_front.specs.Settling.{Settles, SettlesPlan};
 use crate::pass::Pass;
 use crate::pool::Pool;
 use std::alloc::Global;
-use std::sync::{Condvar, Mutex, Wait};
+use std::sync::{Condvar, Mutex, MutexGuard, Wait};
 use tmem_core::{Decision, Settled};
 use tmem_disk::{Cause, Disk, Fault, Name};
 use tmem_invariants::Invariants;
@@ -37,9 +37,11 @@ pub struct Front<D: Disk, N: StoreNaming, T: Invariants, S: StoredSteps> {
     pub(crate) names: Vec<Name>,
     pub(crate) spine: Spine<N>,
     pub(crate) core: Mutex<CoreSeat<N, T>>,
-    // what is waited for under the core's lock: a commit, and more that is durable; both are told where the front is shut
+    // what is waited for under the core's lock: work for a flusher, more that is durable, and for each pass, by its number, a commit
+    // that writes what its transaction has read; all are told where the front is shut
     pub(crate) committed: Condvar,
     pub(crate) flushed: Condvar,
+    pub(crate) changed: Vec<Condvar>,
     pub(crate) journal: Mutex<JournalSeat<D, N>>,
     // passes that are lent, and what is waited for where all are
     pub(crate) pool: Mutex<Pool<N>>,
@@ -69,10 +71,13 @@ impl<D: Disk + Drop, N: StoreNaming, T: Invariants + Drop, S: StoredSteps + Drop
         ensures pass { IfOk result (λ pass. (pass ≡ new_pass pass.mark) × (pass.mark < MOST_PASSES)) }
         ensures none { IfErr result (λ fault. fault ≡ Fault.NoSeat) }
     {
-        let seat = self.core.lock(rt).pass(&self.spine)?;
+        let mut core = self.core.lock(rt);
+        let number = core.given();
+        let seat = core.pass(&self.spine)?;
         Ok(Pass {
             seat,
             cursor: Cursor::idle(self.alloc),
+            number,
             is_pooled: false,
         })
     }
@@ -112,13 +117,13 @@ impl<D: Disk + Drop, N: StoreNaming, T: Invariants + Drop, S: StoredSteps + Drop
         requires names { All (λ name. IsTrue (has_name N.program.names name)) attempt.now.effect.names }
         ensures settled { Settles N.name.start N.opening N.program attempt.now pass.old result pass.new }
     {
-        self.settle_seat(rt, &mut pass.seat, attempt)
+        self.settle_under(self.core.lock(rt), &mut pass.seat, attempt)
     }
 
-    // The same for the seat of a pass.
-    fn settle_seat<R: Wait>(
+    // The same under the core's lock, for the seat of a pass. Then it lets the lock go.
+    fn settle_under(
         &self,
-        rt: &R,
+        mut core: MutexGuard<CoreSeat<N, T>>,
         seat: &mut SpinePass<N>,
         attempt: &Attempt,
     ) -> Result<Settled, Fault>
@@ -126,11 +131,41 @@ impl<D: Disk + Drop, N: StoreNaming, T: Invariants + Drop, S: StoredSteps + Drop
         requires names { All (λ name. IsTrue (has_name N.program.names name)) attempt.now.effect.names }
         ensures settled { Settles N.name.start N.opening N.program attempt.now seat.old result seat.new }
     {
-        let decision = self.core.lock(rt).decide(&self.spine, seat, attempt);
-        if let Ok(Decision::Committed(_)) = decision {
-            self.committed.notify_all();
-        }
+        let decision = core.decide(&self.spine, seat, attempt);
+        self.let_go(core, &decision, attempt);
         with_registers(decision, attempt)
+    }
+
+    // Lets the core's lock go. What was committed under it wakes the flushers, and each pass that waits for such a commit.
+    pub(crate) fn let_go(
+        &self,
+        mut core: MutexGuard<CoreSeat<N, T>>,
+        decision: &Result<Decision, Fault>,
+        attempt: &Attempt,
+    ) {
+        let Ok(Decision::Committed(_)) = decision else {
+            return;
+        };
+        let woken = core.wake(&attempt.effect);
+        drop(core);
+        self.committed.notify_all();
+        if woken != 0 {
+            self.wake(woken);
+        }
+    }
+
+    // What the pass of this number waits for. (There are as many as passes.)
+    pub(crate) fn changed_for(&self, number: u64) -> &Condvar {
+        self.changed.get(number as usize).unwrap_or(&self.committed)
+    }
+
+    // Wakes the passes whose bits are set.
+    pub(crate) fn wake(&self, woken: u32) {
+        for (number, changed) in self.changed.iter().enumerate() {
+            if woken >> (number % 32) & 1 == 1 {
+                changed.notify_all();
+            }
+        }
     }
 
     /// One attempt at a plan of this front, which is settled. It is made in the memory of the pass, and not copied.
@@ -147,7 +182,7 @@ impl<D: Disk + Drop, N: StoreNaming, T: Invariants + Drop, S: StoredSteps + Drop
         ensures settled { SettlesPlan N.name.start N.opening N.program plan.now pass.old result pass.new }
     {
         self.evaluate(rt, &mut pass.cursor, plan)?;
-        self.settle_seat(rt, &mut pass.seat, pass.cursor.attempt())
+        self.settle_under(self.core.lock(rt), &mut pass.seat, pass.cursor.attempt())
     }
 
     // Evaluates a plan in place, from its start to its end. Each value that it needs is peeked at, and the lock is held
@@ -200,9 +235,8 @@ impl<D: Disk + Drop, N: StoreNaming, T: Invariants + Drop, S: StoredSteps + Drop
         ensures begins { IsPrefix pass.old.known pass.new.known }
         ensures same { (pass.new.mark ≡ pass.old.mark) × (pass.new.seen ≡ pass.old.seen) × (pass.new.own ≡ pass.old.own) }
     {
-        self.journal
-            .lock(rt)
-            .vouch(&self.spine, &mut pass.seat, number)
+        let mut journal = self.journal.lock(rt);
+        journal.vouch(&self.spine, &mut pass.seat, number)
     }
 
     /// Makes the oldest transactions that wait durable, as long as any other would still fit into a batch, and answers
@@ -278,6 +312,7 @@ impl<D: Disk + Drop, N: StoreNaming, T: Invariants + Drop, S: StoredSteps + Drop
         self.flushed.notify_all();
         if is_shut {
             self.committed.notify_all();
+            self.wake(u32::MAX);
             self.wake_borrowers(rt);
         }
     }

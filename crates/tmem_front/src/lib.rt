@@ -14,11 +14,15 @@ mod front;
 mod opened;
 mod pace;
 mod pass;
+mod patience;
 mod pool;
+mod values;
 mod waiting;
+mod within;
 
 pub use front::Front;
 pub use opened::OpenedFront;
 pub use pace::{Gathering, Pace};
 pub use pass::Pass;
 pub use tmem_seats::{CoreSeat, Failure, JournalSeat, ProgramNaming, StoreNaming};
+pub use within::Awaited;

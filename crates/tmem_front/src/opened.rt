@@ -23,7 +23,7 @@ use tmem_invariants::Invariants;
 use tmem_journal::Journal;
 use tmem_record::Batch;
 use tmem_seats::{CoreSeat, JournalSeat, StoreNaming};
-use tmem_spine::Opened;
+use tmem_spine::{MOST_PASSES, Opened};
 use tmem_tree::StoredSteps;
 
 /// A store that was opened. A program hands it to a function that is generic in `StoreNaming`, and calls that at
@@ -37,6 +37,7 @@ pub struct OpenedFront<D: Disk, T: Invariants, S: StoredSteps> {
     journal: Journal<D>,
     batch: Batch,
     spine: Opened,
+    changed: Vec<Condvar>,
 
     /// The core has the state that is durable, and nothing waits.
     pub ghost found: { state_of core ≡ durable_state journal },
@@ -109,7 +110,7 @@ impl<D: Disk + Drop, T: Invariants + Drop, S: StoredSteps + Drop> OpenedFront<D,
             Ok(journal) => journal,
             Err(refused) => return Err(refused),
         };
-        let (names, batch, spine) = match parts(alloc, &table, journal.count()) {
+        let (names, batch, spine, changed) = match parts(alloc, &table, journal.count()) {
             Ok(made) => made,
             Err(_) => return Err((Fault::Memory, journal.into_disk())),
         };
@@ -122,6 +123,7 @@ impl<D: Disk + Drop, T: Invariants + Drop, S: StoredSteps + Drop> OpenedFront<D,
                 journal,
                 batch,
                 spine,
+                changed,
             }),
             Err((fault, _table)) => Err((fault, journal.into_disk())),
         }
@@ -143,6 +145,7 @@ impl<D: Disk + Drop, T: Invariants + Drop, S: StoredSteps + Drop> OpenedFront<D,
             journal,
             batch,
             spine,
+            changed,
         } = self;
         let vars = journal.layout().vars;
         let (spine, core_side, journal_side) = spine.named::<N>();
@@ -155,6 +158,7 @@ impl<D: Disk + Drop, T: Invariants + Drop, S: StoredSteps + Drop> OpenedFront<D,
             core: Mutex::new(CoreSeat::new(core, core_side)),
             committed: Condvar::new(),
             flushed: Condvar::new(),
+            changed,
             journal: Mutex::new(JournalSeat::new(journal, journal_side, batch)),
             pool: Mutex::new(Pool {
                 free: Vec::new(alloc),
@@ -170,14 +174,24 @@ fn parts<T: Invariants>(
     alloc: Global,
     table: &T,
     start: u64,
-) -> Result<(Vec<Name>, Batch, Opened), AllocError>
+) -> Result<(Vec<Name>, Batch, Opened, Vec<Condvar>), AllocError>
     ensures names { IfOk result (λ made. made.0.items ≡ T.names table.now) }
     ensures start { IfOk result (λ made. made.2.start ≡ start) }
 {
     let names = names_of(alloc, table)?;
     let batch = Batch::new(alloc)?;
     let spine = Opened::new(alloc, start)?;
-    Ok((names, batch, spine))
+    let changed = one_for_each_pass(alloc)?;
+    Ok((names, batch, spine, changed))
+}
+
+// As many as there are passes.
+fn one_for_each_pass(alloc: Global) -> Result<Vec<Condvar>, AllocError> {
+    let mut changed = Vec::with_capacity(alloc, MOST_PASSES as usize)?;
+    for _ in 0..MOST_PASSES {
+        changed.push(Condvar::new())?;
+    }
+    Ok(changed)
 }
 
 // The names of a table, in its order.

@@ -15,6 +15,8 @@ use tmem_tentative::Cursor;
 pub struct Pass<N: Naming> {
     pub(crate) seat: tmem_spine::Pass<N>,
     pub(crate) cursor: Cursor,
+    // how many the front gave out before it
+    pub(crate) number: u64,
     // whether the pool of the front has it
     pub(crate) is_pooled: bool,
 }

@@ -1,5 +1,5 @@
 // The calls that wait for other threads.
-ghost use Rattle.std.specs.Prelude.{◌≡◌, ◌≢◌, ◌<◌, ◌≤◌, true, false, [], Ok, Err, IfOk, IfErr, OnOk, length, All, IsTrue};
+ghost use Rattle.std.specs.Prelude.{◌≡◌, ◌≢◌, ◌⊎◌, ◌<◌, ◌≤◌, true, false, [], Ok, Err, IfOk, IfErr, OnOk, length, All, IsTrue};
 ghost use Rattle.tmem_record.specs.declared.effect.Effect.{Effect as EffectOf};
 ghost use Rattle.tmem_core.specs.SettleAnswer.{accepted_by, is_stale};
 ghost use Rattle.tmem_record.specs.Prefix.{IsPrefix};
@@ -16,6 +16,7 @@ ghost use Rattle.tmem_front.specs.Settling.{Settles, SettlesAtLast, SettlesPlan}
 use crate::front::Front;
 use crate::pace::Pace;
 use crate::pass::Pass;
+use crate::patience::{Endless, Patience};
 use std::sync::{MutexGuard, Wait};
 use std::thread::yield_now;
 use tmem_core::{Decision, Settled};
@@ -29,9 +30,11 @@ use tmem_tree::{Plan, StoredSteps};
 // After so many conflicts a plan is evaluated under the core's lock.
 const MOST_CONFLICTS: u32 = 2;
 
-// How a turn is made: under one hold of the core's lock or not, and whether it waits where it finds no room.
+// How a turn is made: by the pass of this number, under one hold of the core's lock or not, and whether it waits where it finds no
+// room.
 #[derive(Clone, Copy)]
 struct Turn {
+    number: u64,
     is_alone: bool,
     waits_for_room: bool,
 }
@@ -45,8 +48,8 @@ impl<D: Disk + Drop, N: StoreNaming, T: Invariants + Drop, S: StoredSteps + Drop
     T,
     S,
 > {
-    /// Attempts a plan of this front until it is settled: at once after a conflict, and after a retry once another transaction
-    /// has committed. After two conflicts it is evaluated under the core's lock, where it meets none: so a stored step must wait for
+    /// Attempts a plan of this front until it is settled: at once after a conflict, and after a retry once another transaction has
+    /// written a variable that it read. After two conflicts it is evaluated under the core's lock, where it meets none: so a stored step must wait for
     /// nothing that a caller of the front may hold. Refused as a core refuses it, but for `Conflict`, and by `Memory`.
     pub fn atomically<R: Wait>(
         &self,
@@ -61,10 +64,10 @@ impl<D: Disk + Drop, N: StoreNaming, T: Invariants + Drop, S: StoredSteps + Drop
         ensures no_conflict { result ≢ Err Fault.Conflict }
         ensures no_retry { result ≢ Ok Settled.Retry }
     {
-        self.run(rt, pass, plan, false)
+        self.run(rt, &Endless::new(rt), pass, plan, false)
     }
 
-    /// The same, and where as many transactions wait to be durable as may, it waits for a flush and goes on. So it is not refused by
+    /// As `atomically`, and where as many transactions wait to be durable as may, it waits for a flush and goes on. So it is not refused by
     /// `Full`. Where nobody flushes, it waits until the front is shut.
     pub fn atomically_with_room<R: Wait>(
         &self,
@@ -80,13 +83,14 @@ impl<D: Disk + Drop, N: StoreNaming, T: Invariants + Drop, S: StoredSteps + Drop
         ensures no_retry { result ≢ Ok Settled.Retry }
         ensures no_full { result ≢ Err Fault.Full }
     {
-        self.run(rt, pass, plan, true)
+        self.run(rt, &Endless::new(rt), pass, plan, true)
     }
 
-    // Attempts a plan until it is settled. A full core is an end, but where room is waited for.
-    fn run<R: Wait>(
+    // Attempts a plan until it is settled, or nobody has the patience to wait. A full core is an end, but where room is waited for.
+    pub(crate) fn run<R: Wait, P: Patience>(
         &self,
         rt: &R,
+        patience: &P,
         pass: &mut Pass<N>,
         plan: &Plan,
         waits_for_room: bool,
@@ -96,17 +100,18 @@ impl<D: Disk + Drop, N: StoreNaming, T: Invariants + Drop, S: StoredSteps + Drop
         requires names { FitsNames N.program.names plan.now }
         ensures settled { SettlesAtLast N.name.start N.opening N.program plan.now pass.old result pass.new }
         ensures no_conflict { result ≢ Err Fault.Conflict }
-        ensures no_retry { result ≢ Ok Settled.Retry }
-        ensures no_full { waits_for_room ≡ true → result ≢ Err Fault.Full }
+        ensures no_retry { (P.ends patience.now → ⊥) → result ≢ Ok Settled.Retry }
+        ensures no_full { (P.ends patience.now → ⊥) → waits_for_room ≡ true → result ≢ Err Fault.Full }
     {
         let mut left = MOST_CONFLICTS;
         for _ in rt.forever() {
             let how = Turn {
+                number: pass.number,
                 is_alone: left == 0,
                 waits_for_room,
             };
-            let answer = self.take_turn(rt, &mut pass.seat, &mut pass.cursor, plan, how);
-            if is_last(&answer, waits_for_room) {
+            let answer = self.take_turn(rt, patience, &mut pass.seat, &mut pass.cursor, plan, how);
+            if is_last(&answer, waits_for_room) || is_waited_for(&answer) && patience.is_over() {
                 return answer;
             }
             left = left.saturating_sub(conflicts_in(&answer));
@@ -115,9 +120,10 @@ impl<D: Disk + Drop, N: StoreNaming, T: Invariants + Drop, S: StoredSteps + Drop
     }
 
     // Attempts a plan once and settles the attempt, under one hold of the core's lock where it is to be alone. Waits where it retries.
-    fn take_turn<R: Wait>(
+    fn take_turn<R: Wait, P: Patience>(
         &self,
         rt: &R,
+        patience: &P,
         seat: &mut SpinePass<N>,
         cursor: &mut Cursor,
         plan: &Plan,
@@ -129,18 +135,26 @@ impl<D: Disk + Drop, N: StoreNaming, T: Invariants + Drop, S: StoredSteps + Drop
         ensures settled { SettlesPlan N.name.start N.opening N.program plan.now seat.old result seat.new }
     {
         if how.is_alone {
-            return self.run_or_wait(rt, seat, cursor, plan, how);
+            return self.run_or_wait(rt, patience, seat, cursor, plan, how);
         }
         self.evaluate(rt, cursor, plan)?;
-        self.settle_or_wait(rt, self.core.lock(rt), seat, cursor.attempt(), how)
+        self.settle_or_wait(
+            rt,
+            patience,
+            self.core.lock(rt),
+            seat,
+            cursor.attempt(),
+            how,
+        )
     }
 
-    // Settles an attempt under the core's lock, and lets that go. What commits wakes whoever waits for that. What retries waits under
-    // the same lock until another transaction has committed, and what finds no room until a flush made some, if it is to wait for
-    // that; or until the front is shut. Values that are present give no conflict.
-    fn settle_or_wait<R: Wait>(
+    // Settles an attempt under the core's lock, and lets that go. What retries waits under the same lock until another transaction has
+    // written what it read, and what finds no room until a flush made some, if it is to wait for that; or until the front is shut.
+    // Values that are present give no conflict.
+    fn settle_or_wait<R: Wait, P: Patience>(
         &self,
         rt: &R,
+        patience: &P,
         mut core: MutexGuard<CoreSeat<N, T>>,
         seat: &mut SpinePass<N>,
         attempt: &Attempt,
@@ -153,21 +167,22 @@ impl<D: Disk + Drop, N: StoreNaming, T: Invariants + Drop, S: StoredSteps + Drop
     {
         let decision = core.decide(&self.spine, seat, attempt);
         match decision {
-            Ok(Decision::Committed(_)) => {
-                drop(core);
-                self.committed.notify_all();
+            Ok(Decision::Retry(at)) => {
+                drop(self.wait_for_another(rt, patience, core, at, how.number, attempt));
             }
-            Ok(Decision::Retry(at)) => drop(self.wait_for_another(rt, core, at)),
-            Err(Fault::Full) if how.waits_for_room => drop(self.wait_for_room(rt, core)),
-            _ => drop(core),
+            Err(Fault::Full) if how.waits_for_room => {
+                drop(self.wait_for_room(rt, patience, core));
+            }
+            _ => self.let_go(core, &decision, attempt),
         }
         with_registers(decision, attempt)
     }
 
     // Evaluates a plan and settles the attempt under one hold of the core's lock, so that no other thread comes in between.
-    fn run_or_wait<R: Wait>(
+    fn run_or_wait<R: Wait, P: Patience>(
         &self,
         rt: &R,
+        patience: &P,
         seat: &mut SpinePass<N>,
         cursor: &mut Cursor,
         plan: &Plan,
@@ -181,40 +196,46 @@ impl<D: Disk + Drop, N: StoreNaming, T: Invariants + Drop, S: StoredSteps + Drop
     {
         let core = self.core.lock(rt);
         core.evaluate(rt, cursor, plan, &self.steps)?;
-        self.settle_or_wait(rt, core, seat, cursor.attempt(), how)
+        self.settle_or_wait(rt, patience, core, seat, cursor.attempt(), how)
     }
 
-    // Waits under the core's lock until more than so many are accepted, or the front is shut.
-    fn wait_for_another<'a, R: Wait>(
+    // Waits under the core's lock until more than so many are accepted, the front is shut, or the patience is over. A commit wakes the
+    // pass of this number that writes what the attempt read.
+    fn wait_for_another<'a, R: Wait, P: Patience>(
         &self,
         rt: &R,
+        patience: &P,
         mut core: MutexGuard<'a, CoreSeat<N, T>>,
         at: u64,
+        number: u64,
+        attempt: &Attempt,
     ) -> MutexGuard<'a, CoreSeat<N, T>>
-        ensures { HasMoreOrShut N.name.start at (mutex_guard_value result) }
+        ensures { HasMoreOrShut N.name.start at (mutex_guard_value result) ⊎ P.ends patience.now }
     {
         for _ in rt.forever() {
-            if core.has_more(at) {
+            if core.has_more(at) || patience.is_over() {
                 return core;
             }
-            core = self.committed.wait(rt, core);
+            core.sleep(number, &attempt.reads);
+            core = patience.sleep(self.changed_for(number), core);
         }
         unreachable!()
     }
 
-    // Waits under the core's lock until fewer wait to be durable than may, or the front is shut.
-    fn wait_for_room<'a, R: Wait>(
+    // Waits under the core's lock until fewer wait to be durable than may, the front is shut, or the patience is over.
+    fn wait_for_room<'a, R: Wait, P: Patience>(
         &self,
         rt: &R,
+        patience: &P,
         mut held: MutexGuard<'a, CoreSeat<N, T>>,
     ) -> MutexGuard<'a, CoreSeat<N, T>>
-        ensures { HasRoomOrShut N.name.start (mutex_guard_value result) }
+        ensures { HasRoomOrShut N.name.start (mutex_guard_value result) ⊎ P.ends patience.now }
     {
         for _ in rt.forever() {
-            if held.has_room() {
+            if held.has_room() || patience.is_over() {
                 return held;
             }
-            held = self.flushed.wait(rt, held);
+            held = patience.sleep(&self.flushed, held);
         }
         unreachable!()
     }
@@ -236,7 +257,7 @@ impl<D: Disk + Drop, N: StoreNaming, T: Invariants + Drop, S: StoredSteps + Drop
         if number < self.look_again(pass, number) {
             return Ok(());
         }
-        drop(self.wait_for_flush(rt, self.core.lock(rt), number));
+        drop(self.wait_for_flush(rt, &Endless::new(rt), self.core.lock(rt), number));
         let durable = self.look(pass);
         if number < durable {
             Ok(())
@@ -246,7 +267,7 @@ impl<D: Disk + Drop, N: StoreNaming, T: Invariants + Drop, S: StoredSteps + Drop
     }
 
     // Looks until more than so many are durable, and lets other threads run in between. It gives up after a while.
-    fn look_again(&self, pass: &mut Pass<N>, number: u64) -> u64
+    pub(crate) fn look_again(&self, pass: &mut Pass<N>, number: u64) -> u64
         ensures answer { result ≡ count N.name.start pass.new.seen }
         ensures pass { pass.new ≡ record pass.old { seen = pass.new.seen; known = pass.new.known } }
         ensures later { IsPrefix pass.old.seen pass.new.seen × IsPrefix pass.old.known pass.new.known }
@@ -261,20 +282,21 @@ impl<D: Disk + Drop, N: StoreNaming, T: Invariants + Drop, S: StoredSteps + Drop
         self.look(pass)
     }
 
-    // Waits under the core's lock until more than so many are known durable, or the front is shut.
-    fn wait_for_flush<'a, R: Wait>(
+    // Waits under the core's lock until more than so many are known durable, the front is shut, or the patience is over.
+    pub(crate) fn wait_for_flush<'a, R: Wait, P: Patience>(
         &self,
         rt: &R,
+        patience: &P,
         mut core: MutexGuard<'a, CoreSeat<N, T>>,
         number: u64,
     ) -> MutexGuard<'a, CoreSeat<N, T>>
-        ensures { HasFlushedOrShut number (mutex_guard_value result) }
+        ensures { HasFlushedOrShut number (mutex_guard_value result) ⊎ P.ends patience.now }
     {
         for _ in rt.forever() {
-            if core.has_flushed(number) {
+            if core.has_flushed(number) || patience.is_over() {
                 return core;
             }
-            core = self.flushed.wait(rt, core);
+            core = patience.sleep(&self.flushed, core);
         }
         unreachable!()
     }
@@ -323,6 +345,13 @@ fn conflicts_in(answer: &Result<Settled, Fault>) -> u32 {
         Err(Fault::Conflict) => 1,
         _ => 0,
     }
+}
+
+// Whether a plan waits after this answer until it is attempted again.
+fn is_waited_for(answer: &Result<Settled, Fault>) -> bool
+    ensures { IsTrue result → answer.now ≢ Err Fault.Conflict }
+{
+    matches!(answer, Ok(Settled::Retry) | Err(Fault::Full))
 }
 
 // Whether a plan is not attempted again after this answer. Where it is, nothing was accepted.

@@ -1,5 +1,5 @@
 -- What a flush takes from the core, and what it makes durable.
-use Rattle.std.specs.Prelude.{◌≡◌, ◌≤◌, ◌<◌, ◌^◌, ◌++◌, ℕ, List, length, drop, All, Option, Some, None}
+use Rattle.std.specs.Prelude.{◌≡◌, ◌≤◌, ◌<◌, ◌^◌, ◌++◌, ℕ, List, length, drop, All, Option, Some, None, Result, Err}
 use Rattle.tmem_disk.specs.declared.fault.Fault.{Fault}
 use Rattle.tmem_disk.specs.declared.fault.Fault.TheVariants as fault
 use Rattle.tmem_record.specs.Loggable.{IsLoggable}
@@ -53,6 +53,12 @@ IsFlusherRefusal fault.Unknown = Unit {0}
 IsFlusherRefusal fault.Closed = Unit {0}
 IsFlusherRefusal fault.Spent = Unit {0}
 IsFlusherRefusal _ = ⊥
+
+-- the failure that an answer tells of, if it tells of one
+abbrev pub failure_in : {A : Type 0} → Result A Fault → Failure
+failure_in (Err fault.Device) = failure.Device
+failure_in (Err fault.Unknown) = failure.Unknown
+failure_in _ = failure.None
 
 -- the fault that tells how a device failed
 abbrev pub told_of : Failure → Option Fault

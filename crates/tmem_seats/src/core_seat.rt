@@ -1,5 +1,5 @@
 // What lies under the core's lock.
-ghost use Rattle.std.specs.Prelude.{◌≡◌, ◌↔◌, ◌+◌, ◌<◌, ◌≤◌, slice_get, IfOk, IfErr, Some, ◌++◌, ◌∷◌, [], true, length, MatchBool, All, IsTrue, IfSome, IfNone};
+ghost use Rattle.std.specs.Prelude.{◌≡◌, ◌↔◌, ◌+◌, ◌<◌, ◌≤◌, slice_get, map, IfOk, IfErr, OnOk, Some, ◌++◌, ◌∷◌, [], true, length, MatchBool, All, IsTrue, IfSome, IfNone};
 ghost use Rattle.tmem_record.specs.Prefix.{IsPrefix};
 ghost use Rattle.tmem_record.specs.Names.{has_name};
 ghost use Rattle.tmem_record.specs.declared.effect.Effect.{Effect as EffectOf};
@@ -19,13 +19,14 @@ ghost use Rattle.tmem_seats.specs.Seats.{HasMoreOrShut, HasFlushedOrShut, HasRoo
 
 use crate::failure::Failure;
 use crate::naming::StoreNaming;
+use crate::sleepers::Sleepers;
 use std::marker::Model;
 use tmem_core::{Core, Decision, MAX_WAITING, Settled};
-use tmem_disk::Fault;
+use tmem_disk::{Fault, Name};
 use tmem_invariants::Invariants;
-use tmem_record::Batch;
+use tmem_record::{Batch, Effect};
 use tmem_spine::{CoreSide, JournalSide, Pass, Spine};
-use tmem_tentative::Attempt;
+use tmem_tentative::{Attempt, Reads};
 
 /// The core, beside its seat. Contracts see what it accepted, how many are known durable, how many passes it gave out,
 /// and whether it is shut.
@@ -38,6 +39,7 @@ pub struct CoreSeat<N: StoreNaming, T: Invariants> {
     // what waits for a flush goes on waiting, though it is shut
     is_draining: bool,
     failure: Failure,
+    sleepers: Sleepers,
 }
 
 impl<N: StoreNaming, T: Invariants> Model for CoreSeat<N, T> {
@@ -69,6 +71,7 @@ impl<N: StoreNaming, T: Invariants + Drop> CoreSeat<N, T> {
             looks,
             is_draining,
             failure,
+            sleepers: Sleepers::new(),
         }
     }
 
@@ -142,6 +145,34 @@ impl<N: StoreNaming, T: Invariants + Drop> CoreSeat<N, T> {
         spine.pass(&mut self.side).ok_or(Fault::NoSeat)
     }
 
+    /// How many passes were given out.
+    pub fn given(&self) -> u64
+        ensures { result ≡ self.now.given }
+    {
+        self.side.given()
+    }
+
+    /// A pass knows all that is accepted then, and the core learns how many are durable. Answers how many are accepted.
+    pub fn meet(&mut self, spine: &Spine<N>, seat: &mut Pass<N>) -> u64
+        ensures count { result ≡ count N.name.start self.new.accepted }
+        ensures core { self.new ≡ record self.old { trimmed = self.new.trimmed } }
+        ensures trimmed { (self.old.trimmed ≤ self.new.trimmed) × (count N.name.start seat.old.seen ≤ self.new.trimmed) }
+        ensures pass { seat.new ≡ record seat.old { known = self.new.accepted } }
+        ensures begins { IsPrefix seat.old.known self.new.accepted }
+    {
+        let durable = spine.trim(&mut self.side, seat);
+        self.core.note_durable(durable);
+        spine.meet_core(&mut self.side, seat);
+        self.count()
+    }
+
+    /// Whether an invariant of this name is registered.
+    pub fn has(&self, name: &Name) -> bool
+        ensures { result ≡ has_name (after N.opening self.now.accepted).names name.now }
+    {
+        self.core.has(name)
+    }
+
     /// The present value of a variable.
     pub fn peek(&self, var: u16) -> i64
         requires { var < length N.opening.values }
@@ -149,6 +180,18 @@ impl<N: StoreNaming, T: Invariants + Drop> CoreSeat<N, T> {
         ensures sound { IsSoundState N.program (after N.opening self.now.accepted) }
     {
         self.core.peek(var)
+    }
+
+    /// Pushes the present values of variables, in their order. Refused by `Memory`.
+    pub fn peek_all(&self, vars: &[u16], values: &mut Vec<i64>) -> Result<(), Fault>
+        requires { All (λ var. var < length N.opening.values) vars.now }
+        ensures values { OnOk result (map (λ n. Some n) values.new.items ≡ map (λ n. Some n) values.old.items ++ map (λ var. slice_get (after N.opening self.now.accepted).values var) vars.now) }
+        ensures refused { IfErr result (λ fault. fault ≡ Fault.Memory) }
+    {
+        for var in vars {
+            values.push(self.peek(*var))?;
+        }
+        Ok(())
     }
 
     /// Takes the oldest effects that wait into a batch, as long as any other would still fit, and the journal beside
@@ -238,6 +281,20 @@ impl<N: StoreNaming, T: Invariants + Drop> CoreSeat<N, T> {
     {
         self.looks = self.looks.wrapping_add(1);
         self.has_waiting() || self.is_shut()
+    }
+
+    /// The pass of this number sleeps until another transaction writes a variable that it has read.
+    pub fn sleep(&mut self, number: u64, reads: &Reads)
+        ensures { self.new ≡ self.old }
+    {
+        self.sleepers.sleep(number, reads);
+    }
+
+    /// The passes that sleep and have read a variable that the effect writes, by number: the bit of each. They sleep no more.
+    pub fn wake(&mut self, effect: &Effect) -> u32
+        ensures { self.new ≡ self.old }
+    {
+        self.sleepers.wake(effect)
     }
 
     /// How often whoever waits has looked at what it waits for.

@@ -1,6 +1,6 @@
 // How a device failed.
 ghost use Rattle.std.specs.Prelude.{◌≡◌, Some, None};
-ghost use Rattle.tmem_seats.specs.Flushing.{told_of};
+ghost use Rattle.tmem_seats.specs.Flushing.{failure_in, told_of};
 
 use tmem_disk::Fault;
 
@@ -17,7 +17,9 @@ pub enum Failure {
 
 impl Failure {
     /// The failure that a flush or a checkpoint met, which had this answer.
-    pub fn of<A>(answer: &Result<A, Fault>) -> Failure {
+    pub fn of<A>(answer: &Result<A, Fault>) -> Failure
+        ensures { result ≡ failure_in answer.now }
+    {
         match answer {
             Err(Fault::Device) => Failure::Device,
             Err(Fault::Unknown) => Failure::Unknown,

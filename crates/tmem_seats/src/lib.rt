@@ -10,6 +10,7 @@ mod core_seat;
 mod failure;
 mod journal_seat;
 mod naming;
+mod sleepers;
 
 pub use core_seat::{CoreSeat, with_registers};
 pub use failure::Failure;

@@ -23,8 +23,13 @@ use Rattle.tmem_spine.specs.History.{count}
 use Rattle.tmem_spine.specs.Views.{PassView}
 use Rattle.tmem_seats.specs.Histories.{after, numbered}
 use Rattle.tmem_tree.specs.declared.tx.Tx.{Tx}
-use Rattle.tmem_front.specs.Settling.{Settles, SettlesAtLast}
-use Rattle.tmem_threads.specs.Counting.{AddsDurable, number_in}
+use Rattle.tmem_front.specs.Settling.{Settles, SettlesAtLast, SettlesDurably, SeesMore}
+use Rattle.tmem_threads.specs.Counting.{AddsDurable, is_commit, once}
+
+-- the number of a transaction that was committed
+abbrev number_in : Settled → Option ℕ
+number_in (Committed number registers) = Some number
+number_in _ = None
 
 -- the answer commits under this number alone
 abbrev Numbers : ℕ → Result Settled Fault → Type 0
@@ -91,7 +96,7 @@ accepts_none (Aborted code) e is = refl
 accepts_none (Refused name) e is = refl
 
 -- a transaction that was settled at last, where there was memory
-pub settles : (start : ℕ) (opening : State) (p : Program) (tx : Tx) (old mid : PassView) (r : Result Settled Fault) (settled : Settled)
+settles : (start : ℕ) (opening : State) (p : Program) (tx : Tx) (old mid : PassView) (r : Result Settled Fault) (settled : Settled)
     → r ≡ Ok settled → SettlesAtLast start opening p tx old r mid → ∥ ((attempt : Attempt) × Settles start opening p attempt old (Ok settled) mid) ∥₁
 settles start opening p tx old mid r settled was last = elim last [
   | inl memory ↦ let bad : Ok settled ≡ Err fault.Memory = sym was ∙ memory.0 in cc
@@ -102,7 +107,7 @@ prefix_count : (start : ℕ) (xs ys : List Entry) → IsPrefix xs ys → count s
 prefix_count start xs ys begins = let shorter = IsPrefix-length xs ys begins in omega (arith, shorter)
 
 -- a transaction that was committed, and then awaited
-pub one : (start : ℕ) (opening : State) (p : Program) (attempt : Attempt) (old mid new : PassView) (settled : Settled) (n : ℕ)
+one : (start : ℕ) (opening : State) (p : Program) (attempt : Attempt) (old mid new : PassView) (settled : Settled) (n : ℕ)
     → Settles start opening p attempt old (Ok settled) mid → number_in settled ≡ Some n
     → new ≡ record mid { seen = new.seen; known = new.known } → IsPrefix mid.seen new.seen → n < count start new.seen → AddsDurable start old 1 new
 one start opening p attempt old mid new settled n s is same later durable =
@@ -117,7 +122,7 @@ one start opening p attempt old mid new settled n s is same later durable =
     }
 
 -- one that was not
-pub none : (start : ℕ) (opening : State) (p : Program) (attempt : Attempt) (old new : PassView) (settled : Settled)
+none : (start : ℕ) (opening : State) (p : Program) (attempt : Attempt) (old new : PassView) (settled : Settled)
     → Settles start opening p attempt old (Ok settled) new → number_in settled ≡ None → AddsDurable start old 0 new
 none start opening p attempt old new settled s is = record {
   added = [];
@@ -152,3 +157,48 @@ both start old mid new n m k a b is = record {
 -- the same where the first was kept from view
 pub both_held : (start : ℕ) (old mid new : PassView) (n m k : ℕ) → ∥ AddsDurable start old n mid ∥₁ → ∥ AddsDurable start mid m new ∥₁ → k ≡ n + m → ∥ AddsDurable start old k new ∥₁
 both_held start old mid new n m k a b is = ∥∥₁_elim a ∥∥₁_prop (λ x. ∥∥₁_map b (λ y. both start old mid new n m k x y is))
+
+-- looks add nothing
+sees : (start : ℕ) (old new : PassView) → SeesMore old new → AddsDurable start old 0 new
+sees start old new more = record {
+  added = [];
+  own = ap (λ (v : PassView). v.own) more.pass ∙ sym (append-nil old.own);
+  many = refl;
+  durable = All-nil (λ (it : ℕ × Effect). it.0 < count start new.seen);
+  later = prefix_count start old.seen new.seen more.seen;
+}
+
+-- what was settled first, where the answer is no refusal
+first : (start : ℕ) (opening : State) (p : Program) (tx : Tx) (old new : PassView) (settled : Settled) (s : SettlesDurably start opening p tx old (Ok settled) new)
+    → ∥ ((attempt : Attempt) × Settles start opening p attempt old (Ok settled) s.then) ∥₁
+first start opening p tx old new settled s = elim s.answered [
+  | inl same ↦ settles start opening p tx old s.then s.first settled (sym same) s.settled
+  | inr unknown ↦ cc
+]
+
+adds_one : (start : ℕ) (opening : State) (p : Program) (tx : Tx) (old new : PassView) (n : ℕ) (registers : List ℤ)
+    → SettlesDurably start opening p tx old (Ok (Committed n registers)) new → ∥ AddsDurable start old 1 new ∥₁
+adds_one start opening p tx old new n registers s =
+    ∥∥₁_map (first start opening p tx old new (Committed n registers) s)
+    (λ held. one start opening p held.0 old s.then new (Committed n registers) n held.1 refl s.sees.pass s.sees.seen s.durable)
+
+adds_none : (start : ℕ) (opening : State) (p : Program) (tx : Tx) (old new : PassView) (settled : Settled)
+    → number_in settled ≡ None → SettlesDurably start opening p tx old (Ok settled) new → ∥ AddsDurable start old 0 new ∥₁
+adds_none start opening p tx old new settled is s =
+    ∥∥₁_map (first start opening p tx old new settled s)
+    (λ held. both start old s.then new 0 0 0 (none start opening p held.0 old s.then settled held.1 is) (sees start s.then new s.sees) refl)
+
+adds : (start : ℕ) (opening : State) (p : Program) (tx : Tx) (old new : PassView) (settled : Settled)
+    → SettlesDurably start opening p tx old (Ok settled) new → ∥ AddsDurable start old (once (is_commit settled)) new ∥₁
+adds start opening p tx old new (Committed n registers) s = adds_one start opening p tx old new n registers s
+adds start opening p tx old new (Seen at registers) s = adds_none start opening p tx old new (Seen at registers) refl s
+adds start opening p tx old new Retry s = adds_none start opening p tx old new Retry refl s
+adds start opening p tx old new (Aborted code) s = adds_none start opening p tx old new (Aborted code) refl s
+adds start opening p tx old new (Refused name) s = adds_none start opening p tx old new (Refused name) refl s
+
+-- a transaction that was committed durably, or was not committed
+pub adds_held : (start : ℕ) (opening : State) (p : Program) (tx : Tx) (old new : PassView) (r : Result Settled Fault) (settled : Settled) (is : Bool)
+    → r ≡ Ok settled → is ≡ is_commit settled → ∥ SettlesDurably start opening p tx old r new ∥₁ → ∥ AddsDurable start old (once is) new ∥₁
+adds_held start opening p tx old new r settled is was same held =
+    ∥∥₁_elim (subst (λ (x : Result Settled Fault). ∥ SettlesDurably start opening p tx old x new ∥₁) was held) ∥∥₁_prop
+    (λ s. subst (λ (b : Bool). ∥ AddsDurable start old (once b) new ∥₁) (sym same) (adds start opening p tx old new settled s))

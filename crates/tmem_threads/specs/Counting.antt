@@ -1,5 +1,5 @@
 -- What workers that count up did, as far as a pass and a store tell.
-use Rattle.std.specs.Prelude.{◌≡◌, ◌<◌, ◌≤◌, ◌*◌, ◌++◌, ℕ, Bool, List, Result, length, All, IsOk, IfOk, Option, Some, None, if◌then◌else◌}
+use Rattle.std.specs.Prelude.{◌≡◌, ◌<◌, ◌≤◌, ◌*◌, ◌++◌, ℕ, Bool, List, true, false, Result, length, All, IsOk, IfOk, if◌then◌else◌}
 use Rattle.std.specs.Result.{result_unwrap_or}
 use Rattle.std.specs.List.{sum_by}
 use Rattle.tmem_builtins.specs.Builtins.{builtin_steps, builtin_names, builtin_tests}
@@ -28,10 +28,10 @@ pub record AddsDurable (start : ℕ) (old : PassView) (n : ℕ) (new : PassView)
   pub durable : All (λ it. it.0 < count start new.seen) added
   pub later : count start old.seen ≤ count start new.seen
 
--- the number of a transaction that was committed
-abbrev pub number_in : Settled → Option ℕ
-number_in (Committed number registers) = Some number
-number_in _ = None
+-- the transaction was committed
+abbrev pub is_commit : Settled → Bool
+is_commit (Committed number registers) = true
+is_commit _ = false
 
 -- one or none
 abbrev pub once : Bool → ℕ

@@ -3,7 +3,7 @@ ghost use Rattle.std.specs.Prelude.{◌≡◌, ◌≤◌, ℕ, IfOk, IfErr};
 ghost use Rattle.tmem_disk.specs.declared.fault.Fault.TheVariants as fault;
 ghost use Rattle.tmem_seats.specs.Flushing.{IsFlusherRefusal};
 ghost use Rattle.tmem_tree.specs.Plans.{FitsSteps, FitsVariables, FitsNames};
-ghost use Rattle.tmem_threads.specs.Counting.{AddsDurable, number_in, once};
+ghost use Rattle.tmem_threads.specs.Counting.{AddsDurable, is_commit, once};
 
 use std::alloc::{AllocError, Global};
 use std::rt::Clock;
@@ -43,9 +43,11 @@ impl<D: Disk + Drop, N: StoreNaming, T: Invariants + Drop, S: StoredSteps + Drop
     ghost most = { λ front turns committed most. most };
 
     fn add<R: Wait>(&self, rt: &R, alloc: Global, turns: u16) -> Result<u64, Fault> {
-        let mut pass = self.pass(rt)?;
         let plan = self.plan(add_one(alloc)?)?;
-        add_turns(rt, self, &mut pass, &plan, turns)
+        let mut pass = self.acquire_pass(rt)?;
+        let committed = add_turns(rt, self, &mut pass, &plan, turns)?;
+        self.release_pass(rt, pass)?;
+        Ok(committed)
     }
 
     fn flush<R: Wait + Clock>(&self, rt: &R, has_several: bool) -> Result<(), Fault> {
@@ -94,24 +96,15 @@ fn add_once<R: Wait, D: Disk + Drop, N: StoreNaming, T: Invariants + Drop, S: St
     requires names { FitsNames N.program.names plan.now }
     ensures { IfOk result (λ is_committed. ∥ AddsDurable N.name.start pass.old (once is_committed) pass.new ∥₁) }
 {
-    let settled = front.atomically(rt, pass, plan)?;
-    match number_of(&settled) {
-        Some(number) => {
-            front.await_durable(rt, pass, number)?;
-            Ok(true)
-        }
-        None => Ok(false),
-    }
+    let settled = front.commit_durable(rt, pass, plan)?;
+    Ok(is_commit(&settled))
 }
 
-// The number of a transaction that was committed.
-fn number_of(settled: &Settled) -> Option<u64>
-    ensures { result ≡ number_in settled.now }
+// Whether a transaction was committed.
+fn is_commit(settled: &Settled) -> bool
+    ensures { result ≡ is_commit settled.now }
 {
-    match settled {
-        Settled::Committed { number, .. } => Some(*number),
-        _ => None,
-    }
+    matches!(settled, Settled::Committed { .. })
 }
 
 // The stored step that adds.

@@ -142,3 +142,56 @@ fn no_flush_that_makes_room_meets_a_full_log(rt: HostRuntime) -> Result<(), Fail
     };
     play(&rt, rt.alloc(), &scene)
 }
+
+#[test]
+fn two_flushers_shut_no_store_whose_log_is_full(rt: HostRuntime) -> Result<(), Fail> {
+    let flusher: &[Row] = &[
+        (Move::RunFlusher(u64::MAX), Answer::Done),
+        (Move::Shut, Answer::Done),
+    ];
+    let scene = Scene {
+        device: Device { slots: 2, ..SOUND },
+        threads: [
+            flusher,
+            flusher,
+            &[(Move::AddDurably(1000), Answer::Number(1000))],
+            &[
+                (Move::AddDurably(1000), Answer::Number(1000)),
+                (Move::Await(1999), Answer::Done),
+                (Move::Shut, Answer::Done),
+            ],
+        ],
+        after: &[(Move::Peek(0), Answer::Value(2000))],
+        ..Scene::empty()
+    };
+    play(&rt, rt.alloc(), &scene)
+}
+
+#[test]
+fn a_flusher_that_fails_ends_each_wait(rt: HostRuntime) -> Result<(), Fail> {
+    let closed = Answer::Refused(Refusal::Closed);
+    let scene = Scene {
+        device: Device {
+            failing: Failing::Sync(2),
+            ..SOUND
+        },
+        threads: [
+            &[(
+                Move::RunFlusher(u64::MAX),
+                Answer::Refused(Refusal::Unknown),
+            )],
+            &[(Move::Await(0), closed)],
+            &[(Move::Commit(Task::NeedOne), closed)],
+            &[
+                (Move::Sleep(50), Answer::Done),
+                (Move::TryCommit(WRITE), Answer::Committed(0)),
+            ],
+        ],
+        after: &[
+            (Move::TryCommit(WRITE), closed),
+            (Move::FaultOf, Answer::Refused(Refusal::Unknown)),
+        ],
+        ..Scene::empty()
+    };
+    play(&rt, rt.alloc(), &scene)
+}

@@ -122,3 +122,63 @@ fn a_transaction_that_met_two_conflicts_is_evaluated_alone(rt: HostRuntime) -> R
     };
     play(&rt, rt.alloc(), &scene)
 }
+
+#[test]
+fn a_transaction_that_retries_alone_waits_for_another(rt: HostRuntime) -> Result<(), Fail> {
+    let scene = Scene {
+        before: &[
+            (Move::TryCommit(Task::Write(0, 1)), Answer::Committed(0)),
+            (Move::HoldSteps(3), Answer::Done),
+        ],
+        threads: [
+            &[(Move::Commit(Task::AddOnceThereIsOne), Answer::Committed(4))],
+            &[],
+            &[],
+            &[
+                (Move::AwaitHeld(1), Answer::Done),
+                (Move::TryCommit(Task::Write(0, 5)), Answer::Committed(1)),
+                (Move::Release, Answer::Done),
+                (Move::AwaitHeld(2), Answer::Done),
+                (Move::TryCommit(Task::Write(0, 7)), Answer::Committed(2)),
+                (Move::Release, Answer::Done),
+                (Move::AwaitHeld(3), Answer::Done),
+                (Move::Release, Answer::Done),
+                (Move::Sleep(100), Answer::Done),
+                (Move::LooksAtMost(3), Answer::Holds(true)),
+                (Move::TryCommit(Task::Write(2, 1)), Answer::Committed(3)),
+            ],
+        ],
+        after: &[(Move::Peek(0), Answer::Value(8))],
+        ..Scene::empty()
+    };
+    play(&rt, rt.alloc(), &scene)
+}
+
+#[test]
+fn a_vouch_that_waits_keeps_no_other_call_waiting(rt: HostRuntime) -> Result<(), Fail> {
+    let scene = Scene {
+        before: &[
+            (Move::TryCommit(Task::Write(0, 1)), Answer::Committed(0)),
+            (Move::Flush, Answer::Number(1)),
+            (Move::TryCommit(Task::Write(0, 2)), Answer::Committed(1)),
+            (Move::HoldSyncs(1), Answer::Done),
+        ],
+        threads: [
+            &[(Move::Flush, Answer::Number(2))],
+            &[
+                (Move::Look, Answer::Number(1)),
+                (Move::AwaitHeld(1), Answer::Done),
+                (Move::Vouch(0), Answer::Number(2)),
+            ],
+            &[],
+            &[
+                (Move::AwaitHeld(1), Answer::Done),
+                (Move::Sleep(50), Answer::Done),
+                (Move::Peek(0), Answer::Value(2)),
+                (Move::Release, Answer::Done),
+            ],
+        ],
+        ..Scene::empty()
+    };
+    play(&rt, rt.alloc(), &scene)
+}

@@ -1,9 +1,11 @@
 //! The words of which scenes are made: what a thread does, and what it is answered.
 ghost use Rattle.std.specs.Prelude.{◌≡◌};
 
+use super::no_closures::always;
 use std::alloc::{AllocError, Global};
 use tmem_core::Settled;
 use tmem_disk::Fault;
+use tmem_front::Awaited;
 use tmem_tree::Tx;
 
 /// A transaction.
@@ -15,6 +17,10 @@ pub(super) enum Task {
     AddOne,
     /// Reads variable 2 into register 0, and retries until it is at least 1. Register 2 has it then.
     NeedOne,
+    /// Adds 1 to variable 0, and then retries until variable 2 is at least 1.
+    AddOnceThereIsOne,
+    /// Registers the invariant.
+    Register,
 }
 
 /// What a thread does next, mostly one call of the front by its pass.
@@ -29,10 +35,14 @@ pub(super) enum Move {
     Fill(u64),
     /// Commits `AddOne` so often by `try_atomically`, again after each conflict. Answers how often it did.
     Add(u64),
+    /// `atomically_within`, for so many milliseconds.
+    CommitWithin(Task, u64),
     /// Commits `AddOne` so often by `atomically_with_room`. Answers how often, or another answer.
     AddWithRoom(u64),
     /// `commit_durable`.
     CommitDurable(Task),
+    /// Commits `AddOne` so often by `commit_durable`. Answers how often, or another answer.
+    AddDurably(u64),
     /// Writes 1 to variable 0 so often by `atomically`, each time with a `flush_with_room` behind it. Answers how often, or the first
     /// refusal.
     CommitAndFlush(u64),
@@ -40,7 +50,14 @@ pub(super) enum Move {
     Seen,
     Vouch(u64),
     Await(u64),
+    /// `await_durable_within`, for so many milliseconds.
+    AwaitWithin(u64, u64),
     Peek(u16),
+    Count,
+    /// Whether the invariant is registered.
+    HasInvariant,
+    /// Whether these variables have these values at one moment.
+    ValuesAre([u16; 3], [i64; 3]),
     Flush,
     FlushWithRoom,
     /// A flusher whose pace has so many turns.
@@ -153,6 +170,8 @@ impl Task {
             Task::Write(var, number) => write(alloc, var, number),
             Task::AddOne => add_one(alloc),
             Task::NeedOne => need_one(alloc),
+            Task::AddOnceThereIsOne => Ok(Tx::Seq(vec![in alloc; add_one(alloc)?, need_one(alloc)?]?)),
+            Task::Register => Ok(Tx::Check { name: always() }),
         }
     }
 }
@@ -226,6 +245,15 @@ impl Answer {
     pub(super) fn done(ended: Result<(), Fault>) -> Answer {
         match ended {
             Ok(()) => Answer::Done,
+            Err(fault) => Answer::refused(fault),
+        }
+    }
+
+    /// The answer to a wait that has a limit.
+    pub(super) fn awaited(ended: Result<Awaited, Fault>) -> Answer {
+        match ended {
+            Ok(Awaited::Durable) => Answer::Done,
+            Ok(Awaited::TimedOut) => Answer::Late,
             Err(fault) => Answer::refused(fault),
         }
     }

@@ -11,6 +11,13 @@ use tmem_tree::{StepAnswer, StoredSteps};
 /// The name of that invariant.
 const ALWAYS: &str = "always";
 
+/// The same.
+pub(super) fn always() -> Name
+    ensures { result ≡ codes "always" }
+{
+    Name::new(ALWAYS).unwrap()
+}
+
 /// One invariant that is always true, over none of so many variables.
 #[derive(Drop)]
 pub(super) struct AlwaysTrue {
@@ -33,7 +40,7 @@ impl Invariants for AlwaysTrue {
     }
 
     fn name(&self, _place: usize) -> Name {
-        Name::new(ALWAYS).unwrap()
+        always()
     }
 
     fn place(&self, name: &Name) -> Option<usize> {

@@ -4,6 +4,7 @@ ghost use Rattle.tmem_tentative.specs.Fits.{IsForVariables, IsForNames};
 ghost use Rattle.tmem_tree.specs.Plans.{FitsSteps, FitsVariables, FitsNames};
 
 use super::moves::{Answer, Move, Refusal, Task};
+use super::no_closures::always;
 use super::signals::Signals;
 use std::alloc::Global;
 use std::marker::PhantomData;
@@ -137,13 +138,19 @@ impl<D: Disk + Drop, N: StoreNaming, T: Invariants + Drop, S: StoredSteps + Drop
             Move::TryCommit(task) => self.try_commit(stage, pass, task),
             Move::Fill(times) => self.fill(stage, pass, times),
             Move::Add(times) => self.add(stage, pass, times),
+            Move::CommitWithin(task, millis) => self.commit_within(stage, pass, task, millis),
             Move::AddWithRoom(times) => self.add_with_room(stage, pass, times),
             Move::CommitDurable(task) => self.commit_durable(stage, pass, task),
+            Move::AddDurably(times) => self.add_durably(stage, pass, times),
             Move::CommitAndFlush(times) => self.commit_and_flush(stage, pass, times),
             Move::Look => Answer::Number(self.front.look(pass)),
             Move::Seen => Answer::Number(pass.seen()),
             Move::Vouch(number) => self.vouch(stage, pass, number),
             Move::Await(number) => self.await_durable(stage, pass, number),
+            Move::AwaitWithin(number, millis) => self.await_within(stage, pass, number, millis),
+            Move::Count => Answer::Number(self.front.count(stage.rt, pass)),
+            Move::HasInvariant => Answer::Holds(self.front.has(stage.rt, pass, &always())),
+            Move::ValuesAre(vars, want) => self.values_are(stage, pass, &vars, &want),
             other => self.answer_alone(stage, other),
         }
     }
@@ -181,6 +188,21 @@ impl<D: Disk + Drop, N: StoreNaming, T: Invariants + Drop, S: StoredSteps + Drop
     fn commit<R: Wait>(&self, stage: &Stage<R>, pass: &mut Pass<N>, task: Task) -> Answer {
         match self.plan(stage, task) {
             Ok(plan) => Answer::to(self.front.atomically(stage.rt, pass, &plan)),
+            Err(fault) => Answer::refused(fault),
+        }
+    }
+
+    // Commits a task, or retries for so long.
+    fn commit_within<R: Clock + Wait>(
+        &self,
+        stage: &Stage<R>,
+        pass: &mut Pass<N>,
+        task: Task,
+        millis: u64,
+    ) -> Answer {
+        let limit = Duration::from_millis(millis);
+        match self.plan(stage, task) {
+            Ok(plan) => Answer::to(self.front.atomically_within(stage.rt, pass, &plan, limit)),
             Err(fault) => Answer::refused(fault),
         }
     }
@@ -302,6 +324,17 @@ impl<D: Disk + Drop, N: StoreNaming, T: Invariants + Drop, S: StoredSteps + Drop
         }
     }
 
+    // How often an addition is durable.
+    fn add_durably<R: Wait>(&self, stage: &Stage<R>, pass: &mut Pass<N>, times: u64) -> Answer {
+        for _ in 0..times {
+            match self.commit_durable(stage, pass, Task::AddOne) {
+                Answer::Committed(_) => {}
+                other => return other,
+            }
+        }
+        Answer::Number(times)
+    }
+
     // Takes a pass of the pool in place of what is there.
     fn acquire<R: Wait>(&self, stage: &Stage<R>, place: &mut Option<Pass<N>>) -> Result<(), Fault> {
         *place = Some(self.front.acquire_pass(stage.rt)?);
@@ -350,6 +383,31 @@ impl<D: Disk + Drop, N: StoreNaming, T: Invariants + Drop, S: StoredSteps + Drop
 
     fn await_durable<R: Wait>(&self, stage: &Stage<R>, pass: &mut Pass<N>, number: u64) -> Answer {
         Answer::done(self.front.await_durable(stage.rt, pass, number))
+    }
+
+    fn await_within<R: Clock + Wait>(
+        &self,
+        stage: &Stage<R>,
+        pass: &mut Pass<N>,
+        number: u64,
+        millis: u64,
+    ) -> Answer {
+        let limit = Duration::from_millis(millis);
+        Answer::awaited(self.front.await_durable_within(stage.rt, pass, number, limit))
+    }
+
+    // Whether variables have these values at one moment.
+    fn values_are<R: Wait>(
+        &self,
+        stage: &Stage<R>,
+        pass: &mut Pass<N>,
+        vars: &[u16],
+        want: &[i64],
+    ) -> Answer {
+        match self.front.values(stage.rt, pass, vars) {
+            Ok(values) => Answer::Holds(values.as_slice() == want),
+            Err(fault) => Answer::refused(fault),
+        }
     }
 
     // The value of a variable, if a plan may read it.

@@ -125,6 +125,28 @@ fn a_commit_of_atomically_wakes_each_thread_that_waits_for_one(
 }
 
 #[test]
+fn a_commit_wakes_no_thread_that_read_nothing_of_it(rt: HostRuntime) -> Result<(), Fail> {
+    let scene = Scene {
+        threads: [
+            &[(Move::Commit(Task::NeedOne), Answer::Saw(51, ONE))],
+            &[],
+            &[],
+            &[
+                (Move::Sleep(100), Answer::Done),
+                // variable 0 is written, and variable 2 is waited for
+                (Move::Fill(50), Answer::Number(50)),
+                (Move::Sleep(50), Answer::Done),
+                (Move::LooksAtMost(3), Answer::Holds(true)),
+                (Move::NeedsAtMost(1), Answer::Holds(true)),
+                (Move::TryCommit(Task::Write(2, 1)), Answer::Committed(50)),
+            ],
+        ],
+        ..Scene::empty()
+    };
+    play(&rt, rt.alloc(), &scene)
+}
+
+#[test]
 fn threads_that_wait_look_once(rt: HostRuntime) -> Result<(), Fail> {
     let scene = Scene {
         threads: [

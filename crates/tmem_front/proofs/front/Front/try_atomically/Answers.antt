@@ -8,7 +8,7 @@ use Rattle.tmem_front.proofs.front.Front.try_atomically.Goals as goal
 pub returns : goal.returns
 returns g c =
     let p = g.N.ProgramNaming.program in
-    let settled = subst (λ (v : PassView). Settles g.N.Naming.name.start g.N.StoreNaming.opening p c.attempt.result.now v c.settle_seat.result c.settle_seat.new.seat) c.pass.view_is c.settle_seat.ensures.settled in
+    let settled = subst (λ (v : PassView). Settles g.N.Naming.name.start g.N.StoreNaming.opening p c.attempt.result.now v c.settle_under.result c.settle_under.new.seat) c.pass.view_is c.settle_under.ensures.settled in
     record {
       settled = inr (∥∥₁_map c.args.self.now.stated (λ s. (
         c.attempt.result.now,

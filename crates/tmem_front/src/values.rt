@@ -1,0 +1,71 @@
+// What a store has at one moment.
+ghost use Rattle.std.specs.Prelude.{◌≡◌, ◌⊎◌, Some, true, false, IfOk, IfErr, map, nat_le, slice_get};
+ghost use Rattle.std.specs.List.{list_any};
+ghost use Rattle.tmem_record.specs.Names.{has_name};
+ghost use Rattle.tmem_record.specs.Prefix.{IsPrefix};
+ghost use Rattle.tmem_spine.specs.History.{count};
+ghost use Rattle.tmem_seats.specs.Histories.{after};
+ghost use Rattle.tmem_front.specs.Settling.{KnowsMore};
+
+use crate::front::Front;
+use crate::pass::Pass;
+use std::sync::Wait;
+use tmem_disk::{Cause, Disk, Fault, Name};
+use tmem_invariants::Invariants;
+use tmem_seats::StoreNaming;
+use tmem_tree::StoredSteps;
+
+impl<D: Disk + Drop, N: StoreNaming, T: Invariants + Drop, S: StoredSteps + Drop> Front<
+    D,
+    N,
+    T,
+    S,
+> {
+    /// How many transactions are accepted, all of which the pass then knows.
+    pub fn count<R: Wait>(&self, rt: &R, pass: &mut Pass<N>) -> u64
+        ensures count { result ≡ count N.name.start pass.new.known }
+        ensures knows { KnowsMore pass.old pass.new }
+    {
+        self.core.lock(rt).meet(&self.spine, &mut pass.seat)
+    }
+
+    /// Whether an invariant of this name is registered, after all that the pass then knows.
+    pub fn has<R: Wait>(&self, rt: &R, pass: &mut Pass<N>, name: &Name) -> bool
+        ensures has { result ≡ has_name (after N.opening pass.new.known).names name.now }
+        ensures knows { KnowsMore pass.old pass.new }
+    {
+        let mut core = self.core.lock(rt);
+        let _count = core.meet(&self.spine, &mut pass.seat);
+        core.has(name)
+    }
+
+    /// The values of variables at one moment, in their order: after all that the pass then knows. Refused as a `BadVariable` exactly
+    /// where one of them is none of the store's, and by `Memory`.
+    pub fn values<R: Wait>(
+        &self,
+        rt: &R,
+        pass: &mut Pass<N>,
+        vars: &[u16],
+    ) -> Result<Vec<i64>, Fault>
+        ensures values { IfOk result (λ values. map (λ n. Some n) values.items ≡ map (λ var. slice_get (after N.opening pass.new.known).values var) vars.now) }
+        ensures knows { KnowsMore pass.old pass.new }
+        ensures there { IfOk result (λ _. list_any (λ var. nat_le self.now.vars var) vars.now ≡ false) }
+        ensures refused { IfErr result (λ fault. (fault ≡ Fault.Memory) ⊎ ((fault ≡ Fault.BadPlan Cause.BadVariable) × (list_any (λ var. nat_le self.now.vars var) vars.now ≡ true))) }
+    {
+        if has_other(vars, self.vars) {
+            return Err(Fault::BadPlan(Cause::BadVariable));
+        }
+        let mut values = Vec::with_capacity(self.alloc, vars.len())?;
+        let mut core = self.core.lock(rt);
+        let _count = core.meet(&self.spine, &mut pass.seat);
+        core.peek_all(vars, &mut values)?;
+        Ok(values)
+    }
+}
+
+// Whether one of them is none of so many variables.
+fn has_other(vars: &[u16], most: u16) -> bool
+    ensures { result ≡ list_any (λ var. nat_le most var) vars.now }
+{
+    vars.iter().any(|var| *var >= most)
+}
