@@ -1,5 +1,6 @@
 // What the callers of a store do.
 use std::alloc::{AllocError, Global};
+use tmem_builtins::{add_to, put, read};
 use tmem_disk::{Fault, Name};
 use tmem_tree::Tx;
 
@@ -24,11 +25,6 @@ pub const SOLVENT: &str = "solvent";
 
 /// What is in an account at the start.
 pub const DEPOSIT: i64 = 1_000_000_000_000;
-
-// The stored step that adds, and the one that subtracts.
-const ADD: u16 = 0;
-
-const SUB: u16 = 1;
 
 /// What a caller does again and again.
 #[derive(Clone, Copy, PartialEq, Eq)]
@@ -65,7 +61,7 @@ impl Act {
     /// Its transaction.
     pub fn transaction(self, alloc: Global) -> Result<Tx, AllocError> {
         match self {
-            Act::Add | Act::AddMany => add_one(alloc),
+            Act::Add | Act::AddMany => add_to(alloc, COUNTER, 1),
             Act::Transfer => transfer(alloc),
             Act::Look => two_reads(alloc),
         }
@@ -131,66 +127,18 @@ impl Job {
 
 /// Puts something into both accounts, and registers the invariant.
 pub fn deposits(alloc: Global) -> Result<Tx, Fault> {
-    Ok(Tx::Seq(vec![in alloc;
-        Tx::Put {
-            reg: 0,
-            number: DEPOSIT
-        },
-        Tx::Write { var: PAYER, reg: 0 },
-        Tx::Write { var: PAYEE, reg: 0 },
-        Tx::Check {
-            name: Name::new(SOLVENT)?
-        },
-    ]?))
+    let name = Name::new(SOLVENT)?;
+    let (payer, payee) = (put(alloc, PAYER, DEPOSIT)?, put(alloc, PAYEE, DEPOSIT)?);
+    Ok(Tx::Seq(vec![in alloc; payer, payee, Tx::Check { name }]?))
 }
 
-/// Writes 1 to a variable.
-pub fn write_one(alloc: Global, var: u16) -> Result<Tx, AllocError> {
-    Ok(Tx::Seq(vec![in alloc; Tx::Put { reg: 0, number: 1 }, Tx::Write { var, reg: 0 }]?))
-}
-
-// Calls a stored step on two registers, and puts what it answers into the first.
-fn step(alloc: Global, index: u16, first: u8, second: u8) -> Result<Tx, AllocError> {
-    let args = vec![in alloc; first, second]?;
-    Ok(Tx::Step {
-        index,
-        args,
-        out: first,
-    })
-}
-
-fn add_one(alloc: Global) -> Result<Tx, AllocError> {
-    let sum = step(alloc, ADD, 0, 1)?;
-    Ok(Tx::Seq(vec![in alloc;
-        Tx::Read {
-            var: COUNTER,
-            reg: 0
-        },
-        Tx::Put { reg: 1, number: 1 },
-        sum,
-        Tx::Write {
-            var: COUNTER,
-            reg: 0
-        },
-    ]?))
-}
-
+// Moves 1 between the accounts.
 fn transfer(alloc: Global) -> Result<Tx, AllocError> {
-    let (less, more) = (step(alloc, SUB, 0, 2)?, step(alloc, ADD, 1, 2)?);
-    Ok(Tx::Seq(vec![in alloc;
-        Tx::Read { var: PAYER, reg: 0 },
-        Tx::Read { var: PAYEE, reg: 1 },
-        Tx::Put { reg: 2, number: 1 },
-        less,
-        more,
-        Tx::Write { var: PAYER, reg: 0 },
-        Tx::Write { var: PAYEE, reg: 1 },
-    ]?))
+    let (paid, received) = (add_to(alloc, PAYER, -1)?, add_to(alloc, PAYEE, 1)?);
+    Ok(Tx::Seq(vec![in alloc; paid, received]?))
 }
 
 fn two_reads(alloc: Global) -> Result<Tx, AllocError> {
-    Ok(Tx::Seq(vec![in alloc;
-        Tx::Read { var: PAYER, reg: 0 },
-        Tx::Read { var: PAYEE, reg: 1 },
-    ]?))
+    let (payer, payee) = (read(PAYER), read(PAYEE));
+    Ok(Tx::Seq(vec![in alloc; payer.into_register(0), payee.into_register(1)]?))
 }

@@ -3,12 +3,13 @@ ghost use Rattle.tmem_tree.specs.Plans.{FitsSteps, FitsVariables, FitsNames};
 
 use crate::error::{BenchError, now, since};
 use crate::figures::Figures;
-use crate::jobs::{Callers, Job, MANY, SLOTS, deposits, write_one};
+use crate::jobs::{Callers, Job, MANY, SLOTS, deposits};
 use std::alloc::Global;
 use std::rt::Clock;
 use std::sync::Wait;
 use std::thread::{self, Threads, map_indices};
 use std::time::{Duration, Instant};
+use tmem_builtins::put;
 use tmem_core::Settled;
 use tmem_disk::{Disk, Fault};
 use tmem_front::{Front, Gathering, Pace, Pass, StoreNaming};
@@ -132,7 +133,7 @@ fn fill_by<D: Disk + Drop, N: StoreNaming, T: Invariants + Drop, S: StoredSteps 
     pass: &mut Pass<N>,
 ) -> Result<(), Fault> {
     for place in 0..SLOTS * RECORDS {
-        settle_once(rt, front, pass, write_one(alloc, place % MANY)?)?;
+        settle_once(rt, front, pass, put(alloc, place % MANY, 1)?)?;
         if place % RECORDS == RECORDS - 1 {
             front.flush_once(rt)?;
         }

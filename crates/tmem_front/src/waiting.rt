@@ -138,14 +138,8 @@ impl<D: Disk + Drop, N: StoreNaming, T: Invariants + Drop, S: StoredSteps + Drop
             return self.run_or_wait(rt, patience, seat, cursor, plan, how);
         }
         self.evaluate(rt, cursor, plan)?;
-        self.settle_or_wait(
-            rt,
-            patience,
-            self.core.lock(rt),
-            seat,
-            cursor.attempt(),
-            how,
-        )
+        let held = self.core.lock(rt);
+        self.settle_or_wait(rt, patience, held, seat, cursor.attempt(), how)
     }
 
     // Settles an attempt under the core's lock, and lets that go. What retries waits under the same lock until another transaction has

@@ -5,14 +5,15 @@ ghost use Rattle.tmem_seats.specs.Flushing.{IsFlusherRefusal};
 ghost use Rattle.tmem_tree.specs.Plans.{FitsSteps, FitsVariables, FitsNames};
 ghost use Rattle.tmem_threads.specs.Counting.{AddsDurable, is_commit, once};
 
-use std::alloc::{AllocError, Global};
+use std::alloc::Global;
 use std::rt::Clock;
 use std::sync::Wait;
+use tmem_builtins::add_to;
 use tmem_core::Settled;
 use tmem_disk::{Disk, Fault};
 use tmem_front::{Front, Gathering, Pass, StoreNaming};
 use tmem_invariants::Invariants;
-use tmem_tree::{Plan, StoredSteps, Tx};
+use tmem_tree::{Plan, StoredSteps};
 
 /// What the threads do with a store. The functions that start threads know no more of it.
 pub(crate) trait Counting {
@@ -43,7 +44,7 @@ impl<D: Disk + Drop, N: StoreNaming, T: Invariants + Drop, S: StoredSteps + Drop
     ghost most = { λ front turns committed most. most };
 
     fn add<R: Wait>(&self, rt: &R, alloc: Global, turns: u16) -> Result<u64, Fault> {
-        let plan = self.plan(add_one(alloc)?)?;
+        let plan = self.plan(add_to(alloc, 0, 1)?)?;
         let mut pass = self.acquire_pass(rt)?;
         let committed = add_turns(rt, self, &mut pass, &plan, turns)?;
         self.release_pass(rt, pass)?;
@@ -105,23 +106,4 @@ fn is_commit(settled: &Settled) -> bool
     ensures { result ≡ is_commit settled.now }
 {
     matches!(settled, Settled::Committed { .. })
-}
-
-// The stored step that adds.
-const ADD: u16 = 0;
-
-// Adds 1 to variable 0.
-fn add_one(alloc: Global) -> Result<Tx, AllocError> {
-    let args = vec![in alloc; 0, 1]?;
-    let step = Tx::Step {
-        index: ADD,
-        args,
-        out: 0,
-    };
-    Ok(Tx::Seq(vec![in alloc;
-        Tx::Read { var: 0, reg: 0 },
-        Tx::Put { reg: 1, number: 1 },
-        step,
-        Tx::Write { var: 0, reg: 0 },
-    ]?))
 }
