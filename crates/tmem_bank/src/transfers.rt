@@ -1,12 +1,9 @@
 // What the bank asks of its store, as transactions.
+use crate::service::ACCOUNTS;
 use std::alloc::{AllocError, Global};
+use tmem_builtins::{add_to, put};
 use tmem_disk::{Fault, Name};
 use tmem_tree::Tx;
-
-// The stored steps that add and subtract.
-const ADD: u16 = 0;
-
-const SUB: u16 = 1;
 
 /// Money that goes from one account to another.
 #[derive(Clone, Copy)]
@@ -30,58 +27,19 @@ impl Transfer {
 
     /// The transaction that makes it.
     pub fn tx(self, alloc: Global) -> Result<Tx, AllocError> {
-        let Transfer { from, to, amount } = self;
-        let (less, more) = (step(alloc, SUB, 0, 1, 0)?, step(alloc, ADD, 0, 1, 0)?);
-        Ok(Tx::Seq(vec![in alloc;
-            Tx::Put {
-                reg: 1,
-                number: amount
-            },
-            Tx::Read { var: from, reg: 0 },
-            less,
-            Tx::Write { var: from, reg: 0 },
-            Tx::Read { var: to, reg: 0 },
-            more,
-            Tx::Write { var: to, reg: 0 },
-        ]?))
+        let paid = add_to(alloc, self.from, self.amount.saturating_neg())?;
+        let received = add_to(alloc, self.to, self.amount)?;
+        Ok(Tx::Seq(vec![in alloc; paid, received]?))
     }
 }
 
 /// Puts 10000 into each account, and registers the invariant.
 pub fn deposits(alloc: Global) -> Result<Tx, Fault> {
-    Ok(Tx::Seq(vec![in alloc;
-        Tx::Put {
-            reg: 0,
-            number: 10_000
-        },
-        Tx::Write { var: 0, reg: 0 },
-        Tx::Write { var: 1, reg: 0 },
-        Tx::Write { var: 2, reg: 0 },
-        Tx::Write { var: 3, reg: 0 },
-        Tx::Check {
-            name: Name::new("solvent")?
-        },
-    ]?))
-}
-
-/// Reads the four accounts into the first registers, and their total into the next one.
-pub fn balances(alloc: Global) -> Result<Tx, AllocError> {
-    let first = step(alloc, ADD, 0, 1, 4)?;
-    let second = step(alloc, ADD, 4, 2, 4)?;
-    let third = step(alloc, ADD, 4, 3, 4)?;
-    Ok(Tx::Seq(vec![in alloc;
-        Tx::Read { var: 0, reg: 0 },
-        Tx::Read { var: 1, reg: 1 },
-        Tx::Read { var: 2, reg: 2 },
-        Tx::Read { var: 3, reg: 3 },
-        first,
-        second,
-        third,
-    ]?))
-}
-
-// A stored step of two registers, whose answer goes into a third.
-fn step(alloc: Global, index: u16, left: u8, right: u8, out: u8) -> Result<Tx, AllocError> {
-    let args = vec![in alloc; left, right]?;
-    Ok(Tx::Step { index, args, out })
+    let mut all = Vec::new(alloc);
+    for account in 0..ACCOUNTS {
+        all.push(put(alloc, account, 10_000)?)?;
+    }
+    let name = Name::new("solvent")?;
+    all.push(Tx::Check { name })?;
+    Ok(Tx::Seq(all))
 }

@@ -1,5 +1,6 @@
 // The two locks, and the spine beside them.
-ghost use Rattle.std.specs.Prelude.{◌≡◌, ◌≤◌, ◌<◌, ◌↔◌, true, false, length, All, IsTrue, IfOk, IfErr};
+ghost use Rattle.std.specs.Prelude.{◌≡◌, ◌≢◌, ◌≤◌, ◌<◌, ◌↔◌, true, false, Err, length, All, IsTrue, IfOk, IfErr};
+ghost use Rattle.std.specs.Sync.Mutex.{mutex_guard_value};
 ghost use Rattle.tmem_journal.specs.Held.{is_closed_of};
 ghost use Rattle.tmem_seats.specs.Flushing.{GoesOn, IsFlushRefusal, IsCheckpointRefusal, IsFlusherRefusal};
 ghost use Rattle.tmem_record.specs.Prefix.{IsPrefix};
@@ -7,12 +8,13 @@ ghost use Rattle.tmem_record.specs.Names.{has_name};
 ghost use Rattle.tmem_tentative.specs.Fits.{IsForVariables, IsForNames};
 ghost use Rattle.tmem_tentative.specs.Right.{IsRight};
 ghost use Rattle.tmem_tentative.specs.Cursors.{HasEnded, attempt_of};
-ghost use Rattle.tmem_tree.specs.Plans.{BreaksNone, IsLeastBroken, FitsSteps, FitsVariables, FitsNames};
+ghost use Rattle.tmem_tree.specs.Plans.{BreaksNone, IsLeastBroken, IsShort, FitsSteps, FitsVariables, FitsNames};
 ghost use Rattle.tmem_tree.specs.StepAnswers.{StepMeanings};
 ghost use Rattle.tmem_spine.specs.History.{count, longer};
 ghost use Rattle.tmem_spine.specs.Views.{new_pass};
 ghost use Rattle.tmem_spine.specs.declared.spine.TheConstants.{MOST_PASSES};
-ghost use Rattle.tmem_seats.specs.Histories.{IsPossibleValue};
+ghost use Rattle.tmem_core.specs.SettleAnswer.{is_stale};
+ghost use Rattle.tmem_seats.specs.Histories.{after, IsPossibleValue};
 ghost use Rattle.tmem_front.specs.Settling.{Settles, SettlesPlan};
 
 use crate::pass::Pass;
@@ -120,7 +122,7 @@ impl<D: Disk + Drop, N: StoreNaming, T: Invariants + Drop, S: StoredSteps + Drop
         self.settle_under(self.core.lock(rt), &mut pass.seat, attempt)
     }
 
-    // The same under the core's lock, for the seat of a pass. Then it lets the lock go.
+    // The same under the core's lock, for the seat of a pass. Then it lets the lock go. Values that are present give no conflict.
     fn settle_under(
         &self,
         mut core: MutexGuard<CoreSeat<N, T>>,
@@ -130,6 +132,7 @@ impl<D: Disk + Drop, N: StoreNaming, T: Invariants + Drop, S: StoredSteps + Drop
         requires variables { IsForVariables (length N.opening.values) attempt.now }
         requires names { All (λ name. IsTrue (has_name N.program.names name)) attempt.now.effect.names }
         ensures settled { Settles N.name.start N.opening N.program attempt.now seat.old result seat.new }
+        ensures present { is_stale (after N.opening (mutex_guard_value core.entry).accepted) attempt.now.reads.entries ≡ false → result ≢ Err Fault.Conflict }
     {
         let decision = core.decide(&self.spine, seat, attempt);
         self.let_go(core, &decision, attempt);
@@ -168,8 +171,8 @@ impl<D: Disk + Drop, N: StoreNaming, T: Invariants + Drop, S: StoredSteps + Drop
         }
     }
 
-    /// One attempt at a plan of this front, which is settled. It is made in the memory of the pass, and not copied.
-    /// Refused as a core refuses it, and by `Memory`.
+    /// One attempt at a plan of this front, which is settled. It is made in the memory of the pass, and not copied. That of a short plan
+    /// is made under one hold of the core's lock, and meets no conflict. Refused as a core refuses it, and by `Memory`.
     pub fn try_atomically<R: Wait>(
         &self,
         rt: &R,
@@ -180,9 +183,32 @@ impl<D: Disk + Drop, N: StoreNaming, T: Invariants + Drop, S: StoredSteps + Drop
         requires variables { FitsVariables self.now.vars plan.now }
         requires names { FitsNames N.program.names plan.now }
         ensures settled { SettlesPlan N.name.start N.opening N.program plan.now pass.old result pass.new }
+        ensures short { IsShort plan.now → result ≢ Err Fault.Conflict }
     {
+        if plan.is_short() {
+            return self.try_alone(rt, &mut pass.seat, &mut pass.cursor, plan);
+        }
         self.evaluate(rt, &mut pass.cursor, plan)?;
         self.settle_under(self.core.lock(rt), &mut pass.seat, pass.cursor.attempt())
+    }
+
+    // Evaluates a plan and settles the attempt under one hold of the core's lock.
+    fn try_alone<R: Wait>(
+        &self,
+        rt: &R,
+        seat: &mut SpinePass<N>,
+        cursor: &mut Cursor,
+        plan: &Plan,
+    ) -> Result<Settled, Fault>
+        requires steps { FitsSteps (S.arities self.now.steps) plan.now }
+        requires variables { FitsVariables self.now.vars plan.now }
+        requires names { FitsNames N.program.names plan.now }
+        ensures settled { SettlesPlan N.name.start N.opening N.program plan.now seat.old result seat.new }
+        ensures no_conflict { result ≢ Err Fault.Conflict }
+    {
+        let core = self.core.lock(rt);
+        core.evaluate(rt, cursor, plan, &self.steps)?;
+        self.settle_under(core, seat, cursor.attempt())
     }
 
     // Evaluates a plan in place, from its start to its end. Each value that it needs is peeked at, and the lock is held

@@ -3,7 +3,7 @@ ghost use Rattle.std.specs.Prelude.{◌≡◌, ◌≢◌, ◌⊎◌, ◌<◌, �
 ghost use Rattle.tmem_record.specs.declared.effect.Effect.{Effect as EffectOf};
 ghost use Rattle.tmem_core.specs.SettleAnswer.{accepted_by, is_stale};
 ghost use Rattle.tmem_record.specs.Prefix.{IsPrefix};
-ghost use Rattle.tmem_tree.specs.Plans.{FitsSteps, FitsVariables, FitsNames};
+ghost use Rattle.tmem_tree.specs.Plans.{IsShort, FitsSteps, FitsVariables, FitsNames};
 ghost use Rattle.tmem_tentative.specs.Fits.{IsForVariables};
 ghost use Rattle.tmem_record.specs.Names.{has_name};
 ghost use Rattle.tmem_spine.specs.History.{count};
@@ -49,8 +49,8 @@ impl<D: Disk + Drop, N: StoreNaming, T: Invariants + Drop, S: StoredSteps + Drop
     S,
 > {
     /// Attempts a plan of this front until it is settled: at once after a conflict, and after a retry once another transaction has
-    /// written a variable that it read. After two conflicts it is evaluated under the core's lock, where it meets none: so a stored step must wait for
-    /// nothing that a caller of the front may hold. Refused as a core refuses it, but for `Conflict`, and by `Memory`.
+    /// written a variable that it read. A short plan, and any other after two conflicts, is evaluated under the core's lock, where it
+    /// meets none: so a stored step must wait for nothing that a caller of the front may hold. Refused as a core refuses it, but for `Conflict`, and by `Memory`.
     pub fn atomically<R: Wait>(
         &self,
         rt: &R,
@@ -119,7 +119,8 @@ impl<D: Disk + Drop, N: StoreNaming, T: Invariants + Drop, S: StoredSteps + Drop
         unreachable!()
     }
 
-    // Attempts a plan once and settles the attempt, under one hold of the core's lock where it is to be alone. Waits where it retries.
+    // Attempts a plan once and settles the attempt, under one hold of the core's lock where it is to be alone or is short. Waits where
+    // it retries.
     fn take_turn<R: Wait, P: Patience>(
         &self,
         rt: &R,
@@ -133,8 +134,9 @@ impl<D: Disk + Drop, N: StoreNaming, T: Invariants + Drop, S: StoredSteps + Drop
         requires variables { FitsVariables self.now.vars plan.now }
         requires names { FitsNames N.program.names plan.now }
         ensures settled { SettlesPlan N.name.start N.opening N.program plan.now seat.old result seat.new }
+        ensures short { IsShort plan.now → result ≢ Err Fault.Conflict }
     {
-        if how.is_alone {
+        if how.is_alone || plan.is_short() {
             return self.run_or_wait(rt, patience, seat, cursor, plan, how);
         }
         self.evaluate(rt, cursor, plan)?;

@@ -1,0 +1,17 @@
+use Rattle.std.proofs.Common.{inr, sym, subst}
+use Rattle.std.proofs.Math.Logic.{∥∥₁_map}
+use Rattle.tmem_tentative.specs.Right.{IsRight}
+use Rattle.tmem_tree.specs.Plans.{FitsVariables}
+use Rattle.tmem_front.proofs.front.Front.try_alone.Goals as goal
+
+pub evaluate-requires-clause-variables : goal.evaluate-requires-clause-variables
+evaluate-requires-clause-variables g c = subst (λ k. FitsVariables k c.args.plan.now) c.args.self.now.over c.requires.variables
+
+pub returns-clause-settled : goal.returns-clause-settled
+returns-clause-settled g c =
+    let p = g.N.ProgramNaming.program in
+    inr (∥∥₁_map c.args.self.now.stated (λ s. (
+      c.attempt.result.now,
+      subst (λ a. IsRight p.steps c.args.plan.now a) (sym c.attempt.ensures.attempt) (c.in_ok-evaluate.ensures.right p.steps s),
+      c.settle_under.ensures.settled,
+    )))
