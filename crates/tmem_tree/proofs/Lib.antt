@@ -1,2 +1,4 @@
 pub mod Laws
 mod Plans
+mod Alike
+mod Among

@@ -57,6 +57,14 @@ abbrev pub is_check : Tx → Bool
 is_check (Check name) = true
 is_check _ = false
 
+abbrev pub is_step : Tx → Bool
+is_step (Step index args out) = true
+is_step _ = false
+
+abbrev pub is_put : Tx → Bool
+is_put (Put reg number) = true
+is_put _ = false
+
 abbrev pub is_no_register : ℕ → Bool
 is_no_register reg = nat_le 16 reg
 

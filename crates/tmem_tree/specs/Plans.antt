@@ -4,7 +4,7 @@ use Rattle.tmem_disk.specs.declared.fault.Cause.{Cause}
 use Rattle.tmem_disk.specs.declared.fault.Cause.TheVariants.{TooDeep, TooManyNodes, TooManyWrites, TooManyChecks, BadRegister, BadVariable, BadStep, BadArguments, UnknownName}
 use Rattle.tmem_disk.specs.Fault.{number_of}
 use Rattle.tmem_tree.specs.declared.tx.Tx.{Tx}
-use Rattle.tmem_tree.specs.Limits.{depth, count, is_node, is_write, is_check, has_bad_register, has_bad_variable, has_bad_step, has_bad_arguments, has_unknown_name}
+use Rattle.tmem_tree.specs.Limits.{depth, count, is_node, is_write, is_check, is_step, has_bad_register, has_bad_variable, has_bad_step, has_bad_arguments, has_unknown_name}
 
 -- the nodes that a limit counts
 abbrev pub is_counted : Cause → List ℕ → ℕ → List (List ℕ) → Tx → Bool
@@ -65,3 +65,7 @@ FitsVariables vars tx = count (has_bad_variable vars) tx ≡ 0
 -- each name that it checks is one of these
 abbrev pub FitsNames : List (List ℕ) → Tx → Type 0
 FitsNames names tx = count (has_unknown_name names) tx ≡ 0
+
+-- it calls no stored step and has at most 64 nodes
+abbrev pub IsShort : Tx → Type 0
+IsShort tx = (count is_step tx ≡ 0) × (count is_node tx ≤ 64)

@@ -8,8 +8,10 @@
 mod budget;
 mod choices;
 mod limits;
+mod numbers;
 mod plan;
 mod settled;
+mod short;
 mod step;
 mod steps;
 mod tx;
@@ -17,6 +19,7 @@ mod tx;
 pub use limits::{MAX_DEPTH, MAX_NODES, MAX_WRITES, REGISTERS};
 pub use plan::Plan;
 pub use settled::Settled;
+pub use short::MAX_SHORT;
 pub use step::{MAX_ARGUMENTS, Step, StepAnswer, StepEntry};
 pub use steps::{MAX_STEPS, Steps, StoredSteps};
 pub use tmem_record::MAX_CHECKS;

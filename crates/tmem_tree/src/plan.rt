@@ -1,12 +1,15 @@
 // A transaction within the limits.
 
-ghost use Rattle.std.specs.Prelude.{◌≡◌, ◌↔◌, IsTrue, IfOk, IfErr};
-ghost use Rattle.tmem_tree.specs.Limits.{choices};
-ghost use Rattle.tmem_tree.specs.Plans.{BreaksNone, IsLeastBroken, IsWithinLimits, FitsSteps, FitsVariables, FitsNames};
+ghost use Rattle.std.specs.Prelude.{◌≡◌, ℕ, ◌<◌, List, ◌↔◌, IsTrue, IsFalse, IfOk, IfErr};
+ghost use Rattle.tmem_tree.specs.Limits.{choices, count, is_put};
+ghost use Rattle.tmem_tree.specs.Plans.{BreaksNone, IsLeastBroken, IsWithinLimits, FitsSteps, FitsVariables, FitsNames, IsShort};
+ghost use Rattle.tmem_tree.specs.Numbers.{with_number};
 
 use crate::budget::{WHOLE, pay};
 use crate::choices::count_choices;
 use crate::limits::{MAX_DEPTH, MAX_NODES, MAX_WRITES, is_within_depth, spend};
+use crate::numbers::change_number;
+use crate::short::is_short;
 use crate::steps::StoredSteps;
 use crate::tx::Tx;
 use std::marker::Model;
@@ -19,6 +22,8 @@ pub struct Plan {
     tx: Tx,
     // how many of its choices may stand in their first branch at once
     open_choices: usize,
+    // whether it calls no stored step and has few nodes
+    is_short: bool,
 }
 
 impl Model for Plan {
@@ -30,13 +35,13 @@ impl Model for Plan {
 
     ghost coded = { Prim.hlevel (codes, tree.the_row.coded) };
 
-    ghost use Rattle.std.specs.Prelude.{◌≡◌};
+    ghost use Rattle.std.specs.Prelude.{◌≡◌, ◌↔◌, IsTrue};
     ghost use Rattle.tmem_tree.specs.Limits.{choices};
-    ghost use Rattle.tmem_tree.specs.Plans.{IsWithinLimits};
+    ghost use Rattle.tmem_tree.specs.Plans.{IsWithinLimits, IsShort};
 
     ghost view = { λ plan. plan.tx };
 
-    ghost invariant = { λ plan. IsWithinLimits plan.tx × (plan.open_choices ≡ choices plan.tx) };
+    ghost invariant = { λ plan. IsWithinLimits plan.tx × (plan.open_choices ≡ choices plan.tx) × (IsTrue plan.is_short ↔ IsShort plan.tx) };
 }
 
 impl Plan {
@@ -53,7 +58,12 @@ impl Plan {
     {
         if breaks_none(&tx, steps, vars, names) {
             let open_choices = count_choices(&tx);
-            return Ok(Plan { tx, open_choices });
+            let is_short = is_short(&tx);
+            return Ok(Plan {
+                tx,
+                open_choices,
+                is_short,
+            });
         }
         Err(Fault::BadPlan(least_broken(&tx, steps, vars, names)))
     }
@@ -72,6 +82,28 @@ impl Plan {
         ensures limits { IsWithinLimits self.now }
     {
         self.open_choices
+    }
+
+    /// Whether it calls no stored step and has at most `MAX_SHORT` nodes.
+    pub fn is_short(&self) -> bool
+        ensures { IsTrue result ↔ IsShort self.now }
+    {
+        self.is_short
+    }
+
+    /// Changes the number of the `Put` at this place, where they are counted from 0 in the order in which they stand in the
+    /// tree. Answers false, and changes nothing, where there is no such place. It allocates nothing.
+    pub fn set_number(&mut self, place: usize, number: i64) -> bool
+        ensures tree { self.new ≡ with_number place number self.old }
+        ensures found { IsTrue result ↔ (place < count is_put self.old) }
+        ensures unchanged { IsFalse result → self.new ≡ self.old }
+        ensures steps { (arities : List ℕ) → FitsSteps arities self.old → FitsSteps arities self.new }
+        ensures variables { (vars : ℕ) → FitsVariables vars self.old → FitsVariables vars self.new }
+        ensures names { (names : List (List ℕ)) → FitsNames names self.old → FitsNames names self.new }
+        ensures short { IsShort self.new ↔ IsShort self.old }
+        ensures choices { choices self.new ≡ choices self.old }
+    {
+        change_number(&mut self.tx, place, number).is_none()
     }
 }
 

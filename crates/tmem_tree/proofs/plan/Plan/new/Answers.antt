@@ -5,4 +5,4 @@ pub count_choices-open_choices-requires : goal.count_choices-open_choices-requir
 count_choices-open_choices-requires g c = (within_limits _ _ _ _ (c.breaks_none.ensures.0 c.if-breaks_none.true)).shallow
 
 pub invariant_of-result : goal.invariant_of-result
-invariant_of-result g c = (within_limits _ _ _ _ (c.breaks_none.ensures.0 c.if-breaks_none.true), c.count_choices-open_choices.ensures.choices)
+invariant_of-result g c = (within_limits _ _ _ _ (c.breaks_none.ensures.0 c.if-breaks_none.true), c.count_choices-open_choices.ensures.choices, c.is_short-is_short.ensures)
