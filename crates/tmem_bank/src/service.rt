@@ -241,11 +241,12 @@ trait Moving {
 impl<D: Disk + Drop, N: StoreNaming, T: Invariants + Drop, S: StoredSteps + Drop> Moving
     for Front<D, N, T, S> {
     fn send<R: Wait>(&self, rt: &R, alloc: Global, transfer: Transfer) -> Result<u64, Fault> {
-        let transfer = self.plan(transfer.tx(alloc)?)?;
+        let mut plan = self.plan(transfer.tx(alloc)?)?;
         let mut sent = 0u64;
-        for _ in 0..TRANSFERS {
+        for turn in 0..TRANSFERS {
+            transfer.pays_more(&mut plan, turn % 2 == 1);
             let mut pass = self.acquire_pass(rt)?;
-            let settled = self.commit_durable(rt, &mut pass, &transfer)?;
+            let settled = self.commit_durable(rt, &mut pass, &plan)?;
             self.release_pass(rt, pass)?;
             if let Settled::Committed { .. } = settled {
                 sent = sent.saturating_add(1);

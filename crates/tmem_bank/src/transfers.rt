@@ -1,9 +1,12 @@
 // What the bank asks of its store, as transactions.
+ghost use Rattle.std.specs.Prelude.{ℕ, List};
+ghost use Rattle.tmem_tree.specs.Plans.{FitsSteps, FitsVariables, FitsNames};
+
 use crate::service::ACCOUNTS;
 use std::alloc::{AllocError, Global};
 use tmem_builtins::{add_to, put};
 use tmem_disk::{Fault, Name};
-use tmem_tree::Tx;
+use tmem_tree::{Plan, Tx};
 
 /// Money that goes from one account to another.
 #[derive(Clone, Copy)]
@@ -30,6 +33,17 @@ impl Transfer {
         let paid = add_to(alloc, self.from, self.amount.saturating_neg())?;
         let received = add_to(alloc, self.to, self.amount)?;
         Ok(Tx::Seq(vec![in alloc; paid, received]?))
+    }
+
+    /// Changes a plan of it in place: it moves 1 more, or as much as at first.
+    pub fn pays_more(self, plan: &mut Plan, more: bool)
+        ensures steps { (arities : List ℕ) → FitsSteps arities plan.old → FitsSteps arities plan.new }
+        ensures variables { (vars : ℕ) → FitsVariables vars plan.old → FitsVariables vars plan.new }
+        ensures names { (names : List (List ℕ)) → FitsNames names plan.old → FitsNames names plan.new }
+    {
+        let amount = self.amount.saturating_add(i64::from(more));
+        let _ = plan.set_number(0, amount.saturating_neg());
+        let _ = plan.set_number(1, amount);
     }
 }
 
