@@ -3,13 +3,11 @@ use Rattle.std.proofs.Math.Logic.{∥∥₁_map}
 use Rattle.tmem_tentative.specs.Right.{IsRight}
 use Rattle.tmem_front.proofs.front.Front.take_turn.Goals as goal
 
-pub returns : goal.returns
-returns g c =
+pub returns-clause-settled : goal.returns-clause-settled
+returns-clause-settled g c =
     let p = g.N.ProgramNaming.program in
-    record {
-      settled = inr (∥∥₁_map c.args.self.now.stated (λ s. (
-        c.attempt.result.now,
-        subst (λ a. IsRight p.steps c.args.plan.now a) (sym c.attempt.ensures.attempt) (c.in_ok-evaluate.ensures.right p.steps s),
-        c.settle_or_wait.ensures.settled,
-      )));
-    }
+    inr (∥∥₁_map c.args.self.now.stated (λ s. (
+      c.attempt.result.now,
+      subst (λ a. IsRight p.steps c.args.plan.now a) (sym c.attempt.ensures.attempt) (c.in_ok-evaluate.ensures.right p.steps s),
+      c.settle_or_wait.ensures.settled,
+    )))

@@ -2,17 +2,19 @@ use Rattle.std.proofs.Common.{inr, sym, subst}
 use Rattle.std.proofs.Math.Logic.{∥∥₁_map}
 use Rattle.tmem_tentative.specs.Right.{IsRight}
 use Rattle.tmem_spine.specs.Views.{PassView}
-use Rattle.tmem_front.specs.Settling.{Settles}
+use Rattle.tmem_front.specs.Settling.{Settles, SettlesPlan}
 use Rattle.tmem_front.proofs.front.Front.try_atomically.Goals as goal
 
-pub returns : goal.returns
-returns g c =
+pub returns-clause-settled : goal.returns-clause-settled
+returns-clause-settled g c =
     let p = g.N.ProgramNaming.program in
     let settled = subst (λ (v : PassView). Settles g.N.Naming.name.start g.N.StoreNaming.opening p c.attempt.result.now v c.settle_under.result c.settle_under.new.seat) c.pass.view_is c.settle_under.ensures.settled in
-    record {
-      settled = inr (∥∥₁_map c.args.self.now.stated (λ s. (
-        c.attempt.result.now,
-        subst (λ a. IsRight p.steps c.args.plan.now a) (sym c.attempt.ensures.attempt) (c.in_ok-evaluate.ensures.right p.steps s),
-        settled,
-      )));
-    }
+    inr (∥∥₁_map c.args.self.now.stated (λ s. (
+      c.attempt.result.now,
+      subst (λ a. IsRight p.steps c.args.plan.now a) (sym c.attempt.ensures.attempt) (c.in_ok-evaluate.ensures.right p.steps s),
+      settled,
+    )))
+
+pub returns-then-is_short-clause-settled : goal.returns-then-is_short-clause-settled
+returns-then-is_short-clause-settled g c =
+    subst (λ (v : PassView). SettlesPlan g.N.Naming.name.start g.N.StoreNaming.opening g.N.ProgramNaming.program c.args.plan.now v c.try_alone.result c.try_alone.new.seat) c.pass.view_is c.try_alone.ensures.settled
