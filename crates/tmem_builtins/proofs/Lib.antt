@@ -1,4 +1,10 @@
+mod Choices
+mod Endings
 mod Meant
 mod Named
+mod Scratch
+mod Sequences
+mod Shapes
+mod Sizes
 mod Stated
 mod Tables

@@ -1,0 +1,23 @@
+use Rattle.std.proofs.Common.{◌≡◌, [], ◌∷◌, refl}
+use Rattle.tmem_tree.specs.declared.tx.Tx.TheVariants.{Put, Read}
+use Rattle.tmem_builtins.proofs.Endings.{at_least_ends}
+use Rattle.tmem_builtins.proofs.Sequences.{begins, put_passed}
+use Rattle.tmem_builtins.proofs.Shapes.{AreQuiet, call_quiet, both_reads, both_number}
+use Rattle.tmem_builtins.proofs.Sizes.{none_sized, with_one, read_one, put_one, need_one, seq_sized}
+use Rattle.tmem_builtins.proofs.transactions.Reading.is_at_least.Goals as goal
+
+pub returns : goal.returns
+returns c =
+    let var = c.args.self.var in
+    let value = c.args.value in
+    let reached = c.in_ok-reached in
+    let txs = c.in_ok-vec.field-0 in
+    let items : txs.items ≡ Read var 14 ∷ Put 15 value ∷ reached.reached ∷ [] =
+    begins c.in_ok-vec.ensures.items c.load.ensures (put_passed c.ranges.value c.number.ensures) refl in
+    let quiet : AreQuiet (reached.reached ∷ []) = (call_quiet reached.ensures, tt) in
+    record {
+      runs = at_least_ends txs reached.ensures items;
+      reads = both_reads txs quiet items;
+      number = both_number txs quiet items;
+      limits = seq_sized txs items (with_one (read_one var) (with_one (put_one var value) (with_one (need_one var reached.ensures) (none_sized var))));
+    }

@@ -1,0 +1,73 @@
+-- What the transactions do that are made of the steps of scripts. They work in the last two of the 16 registers.
+use Rattle.std.specs.Prelude.{◌≡◌, ℕ, ◌<◌, ℤ, Bool, true, false, List, [], ◌∷◌, ◌++◌, length, if◌then◌else◌}
+use Rattle.std.specs.declared.vec.Vec.{Vec}
+use Rattle.std.specs.declared.alloc.Global.{Global}
+use Rattle.tmem_tree.specs.declared.tx.Tx.{Tx}
+use Rattle.tmem_tree.specs.declared.tx.Tx.TheVariants.{Put, Read, Step}
+use Rattle.tmem_tree.specs.Limits.{depth, count, is_node, is_write, is_check, has_bad_register}
+use Rattle.tmem_tree.specs.Plans.{FitsSteps, FitsVariables, FitsNames}
+use Rattle.tmem_tree.specs.StepAnswers.{StepMeanings}
+use Rattle.tmem_tree.specs.Run.{View, RunResult, Normal, Retried, Aborted, run, put, write, then_run, or_else}
+use Rattle.tmem_tree.specs.Visited.{visits, else_visit}
+use Rattle.tmem_builtins.specs.Builtins.{builtin_steps}
+use Rattle.tmem_builtins.specs.Steps.{is_i64}
+
+-- from each view it ends so. (A view has 16 registers where a run begins, and no transaction changes their number.)
+abbrev pub RunsAs : Tx → (View → RunResult) → Type 0
+RunsAs tx ending = (view : View) → length view.registers ≡ 16 → run builtin_steps tx view ≡ ending view
+
+-- it reads what one Read of this variable does, and no more
+abbrev pub ReadsOnly : ℕ → Tx → Type 0
+ReadsOnly var tx = (view : View) → visits builtin_steps tx view ≡ visits builtin_steps (Read var 14) view
+
+-- it reads no variable
+abbrev pub ReadsNone : Tx → Type 0
+ReadsNone tx = (view : View) → visits builtin_steps tx view ≡ []
+
+-- the last two registers take these numbers
+abbrev pub scratched : View → ℤ → ℤ → View
+scratched view value number = put (put view 14 value) 15 number
+
+-- the variable takes a new value that was made with a number, and both stay in the last two registers. Where the value is no
+-- i64, an abort
+abbrev pub changed : View → ℕ → ℤ → ℤ → RunResult
+changed view var value number =
+    if is_i64 value then Normal (write (scratched view value number) var value) else Aborted 65535
+
+-- one after another, up to the first that does not end normally
+abbrev pub run_in_turn : StepMeanings → List Tx → View → RunResult
+run_in_turn steps [] view = Normal view
+run_in_turn steps (tx ∷ txs) view = then_run (run steps tx view) (run_in_turn steps txs)
+
+-- each from the same view, up to the first that does not retry; none of them retries
+abbrev pub run_first : StepMeanings → List Tx → View → RunResult
+run_first steps [] view = Retried
+run_first steps (tx ∷ txs) view = or_else (run steps tx view) (run_first steps txs view)
+
+-- what they read then
+abbrev pub first_visits : StepMeanings → List Tx → View → List ℕ
+first_visits steps [] view = []
+first_visits steps (tx ∷ txs) view = visits steps tx view ++ else_visit (run steps tx view) (first_visits steps txs view)
+
+-- it puts a number of its own into a register
+abbrev pub is_put : Tx → Bool
+is_put (Put reg number) = true
+is_put _ = false
+
+-- what it adds to the limits of a plan: two levels, so many nodes and writes, no check and no register past the last. And it
+-- fits the three steps of scripts, and each store that has this variable
+pub record IsSized (nodes writes var : ℕ) (tx : Tx) : Type 0 where
+  pub levels : depth tx ≡ 2
+  pub all_nodes : count is_node tx ≡ nodes
+  pub all_writes : count is_write tx ≡ writes
+  pub checks : count is_check tx ≡ 0
+  pub registers : count has_bad_register tx ≡ 0
+  pub variables : (vars : ℕ) → var < vars → FitsVariables vars tx
+  pub steps : FitsSteps (2 ∷ 2 ∷ 2 ∷ []) tx
+  pub names : (known : List (List ℕ)) → FitsNames known tx
+
+-- it calls the step of this index on two registers, and the answer goes to the first
+pub record IsCall (index first second : ℕ) (tx : Tx) : Type 0 where
+  pub args : Vec ℕ Global
+  pub is : tx ≡ Step index args first
+  pub on : args.items ≡ first ∷ second ∷ []
