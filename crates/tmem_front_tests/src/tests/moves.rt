@@ -15,6 +15,8 @@ pub(super) enum Task {
     Write(u16, i64),
     /// Adds 1 to variable 0.
     AddOne,
+    /// Writes to variable 1 what variable 0 has. It calls no step.
+    Copy,
     /// Reads variable 2 into register 0, and retries until it is at least 1. Register 2 has it then.
     NeedOne,
     /// Adds 1 to variable 0, and then retries until variable 2 is at least 1.
@@ -169,6 +171,7 @@ impl Task {
         match *self {
             Task::Write(var, number) => write(alloc, var, number),
             Task::AddOne => add_one(alloc),
+            Task::Copy => copy(alloc),
             Task::NeedOne => need_one(alloc),
             Task::AddOnceThereIsOne => Ok(Tx::Seq(vec![in alloc; add_one(alloc)?, need_one(alloc)?]?)),
             Task::Register => Ok(Tx::Check { name: always() }),
@@ -178,6 +181,10 @@ impl Task {
 
 fn write(alloc: Global, var: u16, number: i64) -> Result<Tx, AllocError> {
     Ok(Tx::Seq(vec![in alloc; Tx::Put { reg: 0, number }, Tx::Write { var, reg: 0 }]?))
+}
+
+fn copy(alloc: Global) -> Result<Tx, AllocError> {
+    Ok(Tx::Seq(vec![in alloc; Tx::Read { var: 0, reg: 0 }, Tx::Write { var: 1, reg: 0 }]?))
 }
 
 fn add_one(alloc: Global) -> Result<Tx, AllocError> {
