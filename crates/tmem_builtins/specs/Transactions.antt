@@ -39,12 +39,12 @@ abbrev pub run_in_turn : StepMeanings → List Tx → View → RunResult
 run_in_turn steps [] view = Normal view
 run_in_turn steps (tx ∷ txs) view = then_run (run steps tx view) (run_in_turn steps txs)
 
--- each from the same view, up to the first that does not retry; none of them retries
+-- each from the same view, up to the first that does not retry. Where there is none, it retries
 abbrev pub run_first : StepMeanings → List Tx → View → RunResult
 run_first steps [] view = Retried
 run_first steps (tx ∷ txs) view = or_else (run steps tx view) (run_first steps txs view)
 
--- what they read then
+-- what is read then
 abbrev pub first_visits : StepMeanings → List Tx → View → List ℕ
 first_visits steps [] view = []
 first_visits steps (tx ∷ txs) view = visits steps tx view ++ else_visit (run steps tx view) (first_visits steps txs view)

@@ -6,7 +6,7 @@
 //!     all_of(vec![in alloc; take(alloc, 0, 50)?, add_to(alloc, 1, 50)?]?)
 //!
 //! They call the steps of `steps_of`, and a plan of them is for a store with that table. They use the registers 14 and 15, for
-//! the variable's value and for the number, and leave 0 to 13 alone.
+//! the variable's value and for the number, and leave 0 to 13 alone: only `into_register` sets the register that it is given.
 //!
 //! Each that waits for a variable or changes one has exactly one number, that is, one `Tx::Put` node. `into_register` has none,
 //! and the others have the numbers of their parts, in order. So the number of the k-th one that has one is in the k-th

@@ -1,6 +1,7 @@
 //! Tests by calls, and what those of worlds share: devices, and transactions with their replies.
 mod acts;
 mod batches;
+mod built;
 mod counting;
 mod crashes;
 mod disks;
