@@ -1,5 +1,6 @@
 -- A Seq with another number, over the list of its trees.
-use Rattle.std.proofs.Common.{◌≡◌, ℕ, ◌+◌, ◌-◌, ◌<◌, ◌≤◌, ℤ, Bool, true, false, nat_lt, if◌then◌else◌, List, [], ◌∷◌, ◌++◌, length, get_or, take, drop, set, refl, sym, ap, ap₂, ◌∙◌, zero-add, append_assoc, append-nil, take-append-drop, rules, tests, arith}
+use Rattle.std.proofs.Common.{◌≡◌, ℕ, ◌+◌, ◌-◌, ◌<◌, ◌≤◌, ℤ, Bool, true, false, nat_lt, if◌then◌else◌, List, [], ◌∷◌, ◌++◌, length, get_or, take, drop, set, refl, sym, ap, ap₂, ◌∙◌, zero-add, append_assoc, append-nil, take-append-drop, arith}
+use Rattle.std.proofs.lemmas.Bool.{cond_below}
 use Rattle.std.proofs.lemmas.List.{drop_more, drop_all, take_more_set, take_all, drop-set-lt, with_items_is}
 use Rattle.std.proofs.Props.{props}
 use Rattle.std.specs.Vec.{with_items}
@@ -21,15 +22,14 @@ with_number_among place n [] = []
 with_number_among place n (tx ∷ txs) =
     with_number place n tx ∷ (if nat_lt place (count is_put tx) then txs else with_number_among (place - count is_put tx) n txs)
 
-items_either : {m : _} (b : Bool) (txs us : Row_of-Tx m) → items-the_row-Tx m (if b then txs else us) ≡ (if b then items-the_row-Tx m txs else items-the_row-Tx m us)
-items_either true txs us = refl
-items_either false txs us = refl
+pub ap_either : {A B : Type 0} (f : A → B) (b : Bool) (x y : A) (z : B) → f y ≡ z → f (if b then x else y) ≡ (if b then f x else z)
+ap_either f true x y z same = refl
+ap_either f false x y z same = same
 
 with_number_in-items : {m : _} (place : ℕ) (n : ℤ) (txs : Row_of-Tx m) → items-the_row-Tx m (with_number_in place n txs) ≡ with_number_among place n (items-the_row-Tx m txs)
 with_number_in-items place n end_of-Tx = refl
 with_number_in-items place n (more_of-Tx tx txs) =
-    let rest = with_number_in-items (place - count is_put tx) n txs in
-    ap (λ us. with_number place n tx ∷ us) (items_either (nat_lt place (count is_put tx)) txs (with_number_in (place - count is_put tx) n txs) ∙ ap (λ us. if nat_lt place (count is_put tx) then items-the_row-Tx _ txs else us) rest)
+    ap (λ us. with_number place n tx ∷ us) (ap_either (items-the_row-Tx _) _ txs _ _ (with_number_in-items (place - count is_put tx) n txs))
 
 -- the same vector with these trees
 abbrev with_trees : (v : Vec Tx Global) (txs : List Tx) → (v.len ≡ length txs) × (v.len ≤ v.cap) → Vec Tx Global
@@ -54,12 +54,9 @@ with_number-Seq place n tx v now us is listed long same =
     ∙ rolls-Seq (shown-the_row-Tx-0 (shape-the_row-Tx-0 v) txs)
     ∙ ap Seq (shown_trees v txs us (long ∙ ap length listed ∙ sym v.ok.0) items)
 
--- how many Puts it has
+-- the number of its Puts
 pub puts-Seq : (tx : Tx) (v : Vec Tx Global) (now : List Tx) → tx ≡ Seq v → now ≡ v.items → count is_put tx ≡ count_in is_put now
 puts-Seq tx v now is listed = ap (count is_put) is ∙ count-Seq is_put v ∙ zero-add _ ∙ ap (count_in is_put) (sym listed)
-
-if_below : {A : Type 0} (m n : ℕ) (x y : A) → m < n → (if nat_lt m n then x else y) ≡ x
-if_below m n x y below = search (rules, tests)
 
 -- the place is in the tree at i, where those before it have left so many places
 pub last_turn : (left i : ℕ) (n : ℤ) (txs us : List Tx) (d : Tx) → i < length us → txs ≡ take i us ++ with_number_among left n (drop i us) → left < count is_put (get_or us i d) → txs ≡ set us i (with_number left n (get_or us i d))
@@ -67,7 +64,7 @@ last_turn left i n txs us d within so_far below =
     let new = with_number left n (get_or us i d) in
     so_far
     ∙ ap (λ vs. take i us ++ with_number_among left n vs) (drop_more us i d within)
-    ∙ ap (λ vs. take i us ++ (new ∷ vs)) (if_below left (count is_put (get_or us i d)) _ _ below)
+    ∙ ap (λ vs. take i us ++ (new ∷ vs)) (sym (cond_below left (count is_put (get_or us i d)) _ _ below))
     ∙ sym (append_assoc (take i us) (new ∷ []) (drop (i + 1) us))
     ∙ ap₂ ◌++◌ (sym (take_more_set us i new within)) (sym (drop-set-lt (i + 1) us i new (omega arith)))
     ∙ take-append-drop (i + 1) (set us i new)

@@ -2,3 +2,4 @@ pub mod Laws
 mod Plans
 mod Alike
 mod Among
+mod Numbered

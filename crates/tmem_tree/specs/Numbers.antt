@@ -1,8 +1,21 @@
--- A transaction with another number in one of its Puts.
-use Rattle.std.specs.Prelude.{ℕ, ◌-◌, ℤ, nat_eq, nat_lt, if◌then◌else◌}
+-- The numbers of a transaction, and the same transaction with another one.
+use Rattle.std.specs.Prelude.{ℕ, ◌-◌, ℤ, List, [], ◌∷◌, ◌++◌, nat_eq, nat_lt, if◌then◌else◌}
 use Rattle.tmem_tree.specs.declared.tx.Tx.{Tx, Row_of-Tx, end_of-Tx, more_of-Tx}
 use Rattle.tmem_tree.specs.declared.tx.Tx.TheVariants.{Seq', Put, When', OrElse'}
 use Rattle.tmem_tree.specs.Limits.{count, is_put}
+
+abbrev mutual
+  -- those of its Puts, in the order in which they stand
+  pub numbers : Tx → List ℤ
+  numbers (Seq' shape txs) = numbers_in txs
+  numbers (Put reg number) = number ∷ []
+  numbers (When' reg p a q b) = numbers a ++ numbers b
+  numbers (OrElse' p a q b) = numbers a ++ numbers b
+  numbers tx = []
+
+  pub numbers_in : {m : _} → Row_of-Tx m → List ℤ
+  numbers_in end_of-Tx = []
+  numbers_in (more_of-Tx tx txs) = numbers tx ++ numbers_in txs
 
 abbrev mutual
   -- its Puts are counted from 0 in the order in which they stand, and the one at the place takes the number

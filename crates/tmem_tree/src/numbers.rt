@@ -6,8 +6,8 @@ ghost use Rattle.tmem_tree.specs.Numbers.{with_number};
 
 use crate::tx::Tx;
 
-/// Changes the number of the `Put` at this place of a tree. Answers how many places are left behind the tree, or none once
-/// the number is changed.
+/// Changes the number of the `Put` at this place of a tree. Answers how many places are still to pass behind the tree, or
+/// none once the number is changed.
 pub(crate) fn change_number(tx: &mut Tx, place: usize, number: i64) -> Option<usize>
     ensures tree { tx.new ≡ with_number place number tx.old }
     ensures left { IfSome result (λ left. left + count is_put tx.old ≡ place) }

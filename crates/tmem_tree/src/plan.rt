@@ -1,9 +1,9 @@
 // A transaction within the limits.
 
-ghost use Rattle.std.specs.Prelude.{◌≡◌, ℕ, ◌<◌, List, ◌↔◌, IsTrue, IsFalse, IfOk, IfErr};
+ghost use Rattle.std.specs.Prelude.{◌≡◌, ℕ, ◌<◌, List, ◌↔◌, IsTrue, IsFalse, IfOk, IfErr, slice_set};
 ghost use Rattle.tmem_tree.specs.Limits.{choices, count, is_put};
 ghost use Rattle.tmem_tree.specs.Plans.{BreaksNone, IsLeastBroken, IsWithinLimits, FitsSteps, FitsVariables, FitsNames, IsShort};
-ghost use Rattle.tmem_tree.specs.Numbers.{with_number};
+ghost use Rattle.tmem_tree.specs.Numbers.{numbers, with_number};
 
 use crate::budget::{WHOLE, pay};
 use crate::choices::count_choices;
@@ -91,10 +91,13 @@ impl Plan {
         self.is_short
     }
 
-    /// Changes the number of the `Put` at this place, where they are counted from 0 in the order in which they stand in the
-    /// tree. Answers false, and changes nothing, where there is no such place. It allocates nothing.
+    /// Changes the number of the `Put` at this place. Places are counted from 0, in the order in which the `Put`s stand in
+    /// the tree: `then` before `other`, and the first branch before the second. Answers false, and changes nothing, where
+    /// there is no such place. Allocates nothing.
+    #[tactic(auto, using(crate::proofs::Numbered::numbers_changed, crate::proofs::Alike::unchanged_past))]
     pub fn set_number(&mut self, place: usize, number: i64) -> bool
         ensures tree { self.new ≡ with_number place number self.old }
+        ensures numbers { numbers self.new ≡ slice_set (numbers self.old) place number }
         ensures found { IsTrue result ↔ (place < count is_put self.old) }
         ensures unchanged { IsFalse result → self.new ≡ self.old }
         ensures steps { (arities : List ℕ) → FitsSteps arities self.old → FitsSteps arities self.new }

@@ -1,5 +1,5 @@
 use Rattle.std.proofs.Common.{◌∙◌, sym}
-use Rattle.tmem_tree.proofs.Alike.{alike_by, limits_kept, short_kept, steps_kept, variables_kept, names_kept, unchanged}
+use Rattle.tmem_tree.proofs.Alike.{alike_by, limits_kept, short_kept, steps_kept, variables_kept, names_kept}
 use Rattle.tmem_tree.proofs.plan.Plan.set_number.Goals as goal
 
 pub invariant_of-self : goal.invariant_of-self
@@ -10,9 +10,6 @@ invariant_of-self c =
       was.1 ∙ sym same.choices,
       (λ yes. (short_kept same).1 (was.2.0 yes), λ short. was.2.1 ((short_kept same).0 short)),
     )
-
-pub returns-clause-unchanged : goal.returns-clause-unchanged
-returns-clause-unchanged c = rw (← c.self.view_is) (unchanged c.change_number.result _ _ _ c.self.inside.tx _ c.change_number.ensures.tree c.change_number.ensures.left c.is_none.ensures)
 
 pub returns-clause-steps : goal.returns-clause-steps
 returns-clause-steps c = rw (← c.self.view_is) (steps_kept (alike_by _ _ c.self.inside.tx _ c.change_number.ensures.tree))
