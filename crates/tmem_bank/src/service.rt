@@ -298,7 +298,12 @@ fn move_all<F: Moving + Sync, R: Threads + Wait + Sync>(
     alloc: Global,
     store: &F,
 ) -> Result<u64, Fault> {
-    let all = map_indices(rt, alloc, THREADS, &|place| store.send(rt, alloc, Transfer::of(place)))?;
+    let all = map_indices(
+        rt,
+        alloc,
+        THREADS,
+        &|place| store.send(rt, alloc, Transfer::of(place)),
+    )?;
     let mut moved = 0u64;
     for sent in all {
         moved = moved.saturating_add(sent?);

@@ -4,7 +4,7 @@ ghost use Rattle.tmem_tree.specs.Plans.{FitsSteps, FitsVariables, FitsNames};
 
 use crate::service::ACCOUNTS;
 use std::alloc::{AllocError, Global};
-use tmem_builtins::{add_to, put};
+use tmem_builtins::{add_to, all_of, put};
 use tmem_disk::{Fault, Name};
 use tmem_tree::{Plan, Tx};
 
@@ -32,7 +32,7 @@ impl Transfer {
     pub fn tx(self, alloc: Global) -> Result<Tx, AllocError> {
         let paid = add_to(alloc, self.from, self.amount.saturating_neg())?;
         let received = add_to(alloc, self.to, self.amount)?;
-        Ok(Tx::Seq(vec![in alloc; paid, received]?))
+        Ok(all_of(vec![in alloc; paid, received]?))
     }
 
     /// Changes a plan of it in place: it moves 1 more, or as much as at first.
@@ -55,5 +55,5 @@ pub fn deposits(alloc: Global) -> Result<Tx, Fault> {
     }
     let name = Name::new("solvent")?;
     all.push(Tx::Check { name })?;
-    Ok(Tx::Seq(all))
+    Ok(all_of(all))
 }

@@ -1,6 +1,6 @@
 // What the callers of a store do.
 use std::alloc::{AllocError, Global};
-use tmem_builtins::{add_to, put, read};
+use tmem_builtins::{add_to, all_of, put, read};
 use tmem_disk::{Fault, Name};
 use tmem_tree::Tx;
 
@@ -129,16 +129,16 @@ impl Job {
 pub fn deposits(alloc: Global) -> Result<Tx, Fault> {
     let name = Name::new(SOLVENT)?;
     let (payer, payee) = (put(alloc, PAYER, DEPOSIT)?, put(alloc, PAYEE, DEPOSIT)?);
-    Ok(Tx::Seq(vec![in alloc; payer, payee, Tx::Check { name }]?))
+    Ok(all_of(vec![in alloc; payer, payee, Tx::Check { name }]?))
 }
 
 // Moves 1 between the accounts.
 fn transfer(alloc: Global) -> Result<Tx, AllocError> {
     let (paid, received) = (add_to(alloc, PAYER, -1)?, add_to(alloc, PAYEE, 1)?);
-    Ok(Tx::Seq(vec![in alloc; paid, received]?))
+    Ok(all_of(vec![in alloc; paid, received]?))
 }
 
 fn two_reads(alloc: Global) -> Result<Tx, AllocError> {
     let (payer, payee) = (read(PAYER), read(PAYEE));
-    Ok(Tx::Seq(vec![in alloc; payer.into_register(0), payee.into_register(1)]?))
+    Ok(all_of(vec![in alloc; payer.into_register(0), payee.into_register(1)]?))
 }

@@ -173,7 +173,10 @@ impl Task {
             Task::AddOne => add_one(alloc),
             Task::Copy => copy(alloc),
             Task::NeedOne => need_one(alloc),
-            Task::AddOnceThereIsOne => Ok(Tx::Seq(vec![in alloc; add_one(alloc)?, need_one(alloc)?]?)),
+            Task::AddOnceThereIsOne => Ok(Tx::Seq(vec![in alloc;
+                add_one(alloc)?,
+                need_one(alloc)?,
+            ]?)),
             Task::Register => Ok(Tx::Check { name: always() }),
         }
     }

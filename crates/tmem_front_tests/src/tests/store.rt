@@ -393,7 +393,10 @@ impl<D: Disk + Drop, N: StoreNaming, T: Invariants + Drop, S: StoredSteps + Drop
         millis: u64,
     ) -> Answer {
         let limit = Duration::from_millis(millis);
-        Answer::awaited(self.front.await_durable_within(stage.rt, pass, number, limit))
+        Answer::awaited(
+            self.front
+                .await_durable_within(stage.rt, pass, number, limit),
+        )
     }
 
     // Whether variables have these values at one moment.

@@ -6,7 +6,9 @@ use super::{commit, formatted};
 use std::alloc::{AllocError, Global};
 use std::process::Abort;
 use std::test::Fail;
-use tmem_builtins::{add, add_to, all_of, first_of, first_of_several, need, put, read, steps_of, sub, take};
+use tmem_builtins::{
+    add, add_to, all_of, first_of, first_of_several, need, put, read, steps_of, sub, take,
+};
 use tmem_disk::{Fault, SimDisk};
 use tmem_invariants::{Invariants, Table};
 use tmem_tree::{StepAnswer, StoredSteps, Tx};
@@ -82,7 +84,11 @@ impl Built {
             }
             Built::TakeOrPut(n) => first_of(alloc, take(alloc, 0, 1)?, put(alloc, 2, n)?),
             Built::TakeOrPutOr(n) => {
-                let alternatives = vec![in alloc; take(alloc, 0, 1)?, put(alloc, 2, n)?, put(alloc, 2, 1)?]?;
+                let alternatives = vec![in alloc;
+                    take(alloc, 0, 1)?,
+                    put(alloc, 2, n)?,
+                    put(alloc, 2, 1)?,
+                ]?;
                 first_of_several(alloc, alternatives)
             }
             Built::OneOfNone => first_of_several(alloc, Vec::new(alloc)),
