@@ -20,7 +20,7 @@ use tmem_tree::{Plan, StoredSteps};
 /// How many accounts there are.
 pub const ACCOUNTS: u16 = 4;
 
-// How many threads move money, and how often each does. They share the passes of the store.
+// How many threads move money, and how often each does. There are more of them than passes, so each borrows one for a transfer.
 const THREADS: usize = 40;
 
 const TRANSFERS: u64 = 25;
@@ -234,8 +234,8 @@ trait Moving {
     // Reads all accounts, as they stand at one moment.
     fn audit<R: Wait>(&self, rt: &R) -> Result<Vec<i64>, Fault>;
 
-    // Nothing is settled any more.
-    fn close<R: Wait>(&self, rt: &R);
+    // Closes the store in good order.
+    fn end<R: Wait>(&self, rt: &R) -> Result<(), Fault>;
 }
 
 impl<D: Disk + Drop, N: StoreNaming, T: Invariants + Drop, S: StoredSteps + Drop> Moving
@@ -246,9 +246,9 @@ impl<D: Disk + Drop, N: StoreNaming, T: Invariants + Drop, S: StoredSteps + Drop
         for turn in 0..TRANSFERS {
             transfer.pays_more(&mut plan, turn % 2 == 1);
             let mut pass = self.acquire_pass(rt)?;
-            let settled = self.commit_durable(rt, &mut pass, &plan)?;
+            let settled = self.commit_durable(rt, &mut pass, &plan);
             self.release_pass(rt, pass)?;
-            if let Settled::Committed { .. } = settled {
+            if let Settled::Committed { .. } = settled? {
                 sent = sent.saturating_add(1);
             }
         }
@@ -263,13 +263,13 @@ impl<D: Disk + Drop, N: StoreNaming, T: Invariants + Drop, S: StoredSteps + Drop
 
     fn audit<R: Wait>(&self, rt: &R) -> Result<Vec<i64>, Fault> {
         let mut pass = self.acquire_pass(rt)?;
-        let accounts = self.values(rt, &mut pass, &[0, 1, 2, 3])?;
+        let accounts = self.values(rt, &mut pass, &[0, 1, 2, 3]);
         self.release_pass(rt, pass)?;
-        Ok(accounts)
+        accounts
     }
 
-    fn close<R: Wait>(&self, rt: &R) {
-        self.shut(rt);
+    fn end<R: Wait>(&self, rt: &R) -> Result<(), Fault> {
+        self.close(rt)
     }
 }
 
@@ -286,8 +286,9 @@ fn move_and_flush<F: Moving + Sync, R: Clock + Threads + Wait + Sync>(
         };
         let moved = move_all(rt, alloc, store);
         let last = store.audit(rt);
-        store.close(rt);
+        let closed = store.end(rt);
         flusher.join(rt)?;
+        closed?;
         Ok((moved?, last?))
     })
 }

@@ -85,9 +85,9 @@ impl<D: Disk + Drop, N: StoreNaming, T: Invariants + Drop, S: StoredSteps + Drop
     ) -> Result<Figures, Fault> {
         let plan = self.plan(job.act.transaction(alloc)?)?;
         let mut pass = self.acquire_pass(rt)?;
-        let had = settle_until(rt, self, &mut pass, &plan, job, start)?;
+        let had = settle_until(rt, self, &mut pass, &plan, job, start);
         self.release_pass(rt, pass)?;
-        Ok(had)
+        had
     }
 
     fn flush<R: Clock + Wait>(&self, rt: &R, has_several: bool) -> Result<u64, Fault> {
@@ -108,8 +108,9 @@ impl<D: Disk + Drop, N: StoreNaming, T: Invariants + Drop, S: StoredSteps + Drop
 
     fn fill<R: Wait>(&self, rt: &R, alloc: Global) -> Result<(), Fault> {
         let mut pass = self.acquire_pass(rt)?;
-        fill_by(rt, alloc, self, &mut pass)?;
-        self.release_pass(rt, pass)
+        let filled = fill_by(rt, alloc, self, &mut pass);
+        self.release_pass(rt, pass)?;
+        filled
     }
 }
 
@@ -121,8 +122,9 @@ fn deposit<D: Disk + Drop, N: StoreNaming, T: Invariants + Drop, S: StoredSteps 
 ) -> Result<(), Fault> {
     let tx = deposits(alloc)?;
     let mut pass = front.acquire_pass(rt)?;
-    settle_once(rt, front, &mut pass, tx)?;
-    front.release_pass(rt, pass)
+    let settled = settle_once(rt, front, &mut pass, tx);
+    front.release_pass(rt, pass)?;
+    settled
 }
 
 // Fills the log: each batch with as many transactions as it takes.

@@ -24,8 +24,6 @@ impl<D: Disk + Drop, N: StoreNaming, T: Invariants + Drop, S: StoredSteps + Drop
         ensures refused { IfErr result IsFlusherRefusal }
     {
         self.core.lock(rt).drain();
-        self.committed.notify_all();
-        self.wake(u32::MAX);
         let flushed = self.flush_all(rt);
         self.shut(rt);
         match self.fault(rt) {

@@ -135,12 +135,12 @@ impl<D: Disk + Drop, N: StoreNaming, T: Invariants + Drop, S: StoredSteps + Drop
         ensures present { is_stale (after N.opening (mutex_guard_value core.entry).accepted) attempt.now.reads.entries ≡ false → result ≢ Err Fault.Conflict }
     {
         let decision = core.decide(&self.spine, seat, attempt);
-        self.let_go(core, &decision, attempt);
+        self.unlock_and_wake(core, &decision, attempt);
         with_registers(decision, attempt)
     }
 
     // Lets the core's lock go. What was committed under it wakes the flushers, and each pass that waits for such a commit.
-    pub(crate) fn let_go(
+    pub(crate) fn unlock_and_wake(
         &self,
         mut core: MutexGuard<CoreSeat<N, T>>,
         decision: &Result<Decision, Fault>,
@@ -158,7 +158,7 @@ impl<D: Disk + Drop, N: StoreNaming, T: Invariants + Drop, S: StoredSteps + Drop
     }
 
     // What the pass of this number waits for. (There are as many as passes.)
-    pub(crate) fn changed_for(&self, number: u64) -> &Condvar {
+    pub(crate) fn condvar_of(&self, number: u64) -> &Condvar {
         self.changed.get(number as usize).unwrap_or(&self.committed)
     }
 

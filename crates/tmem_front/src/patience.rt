@@ -1,5 +1,5 @@
 // How long a call waits.
-ghost use Rattle.std.specs.Prelude.{IsTrue};
+ghost use Rattle.std.specs.Prelude.{◌≡◌, true, None, IsTrue};
 
 use std::rt::Clock;
 use std::sync::{Condvar, CondvarTimeouts, MutexGuard, Wait};
@@ -59,7 +59,9 @@ impl<'a, R: Wait + Clock> Limited<'a, R> {
     }
 
     // What is left of it.
-    fn left(&self) -> Option<Duration> {
+    fn left(&self) -> Option<Duration>
+        ensures { self.now.start ≡ None → result ≡ None }
+    {
         self.limit.checked_sub(self.start?.elapsed(self.rt).ok()?)
     }
 }
@@ -67,7 +69,9 @@ impl<'a, R: Wait + Clock> Limited<'a, R> {
 impl<R: Wait + Clock> Patience for Limited<'_, R> {
     ghost ends = { λ it. Unit {0} };
 
-    fn is_over(&self) -> bool {
+    fn is_over(&self) -> bool
+        ensures { self.now.start ≡ None → result ≡ true }
+    {
         match self.left() {
             Some(left) => left.is_zero(),
             None => true,
@@ -75,9 +79,7 @@ impl<R: Wait + Clock> Patience for Limited<'_, R> {
     }
 
     fn sleep<'b, T>(&self, changed: &Condvar, guard: MutexGuard<'b, T>) -> MutexGuard<'b, T> {
-        match self.left() {
-            Some(left) => changed.wait_timeout(self.rt, guard, left).0,
-            None => guard,
-        }
+        let left = self.left().unwrap_or(Duration::ZERO);
+        changed.wait_timeout(self.rt, guard, left).0
     }
 }

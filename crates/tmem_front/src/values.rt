@@ -1,5 +1,5 @@
 // What a store has at one moment.
-ghost use Rattle.std.specs.Prelude.{◌≡◌, ◌⊎◌, Some, true, false, IfOk, IfErr, map, nat_le, slice_get};
+ghost use Rattle.std.specs.Prelude.{◌≡◌, Some, false, IfOk, IfErr, MatchBool, map, nat_le, slice_get};
 ghost use Rattle.std.specs.List.{list_any};
 ghost use Rattle.tmem_record.specs.Names.{has_name};
 ghost use Rattle.tmem_record.specs.Prefix.{IsPrefix};
@@ -39,8 +39,8 @@ impl<D: Disk + Drop, N: StoreNaming, T: Invariants + Drop, S: StoredSteps + Drop
         core.has(name)
     }
 
-    /// The values of variables at one moment, in their order: after all that the pass then knows. Refused as a `BadVariable` exactly
-    /// where one of them is none of the store's, and by `Memory`.
+    /// The values of variables at one moment, in their order: after all that the pass then knows. Refused as a `BadVariable` where the
+    /// store lacks one of them, and else by `Memory`.
     pub fn values<R: Wait>(
         &self,
         rt: &R,
@@ -50,7 +50,7 @@ impl<D: Disk + Drop, N: StoreNaming, T: Invariants + Drop, S: StoredSteps + Drop
         ensures values { IfOk result (λ values. map (λ n. Some n) values.items ≡ map (λ var. slice_get (after N.opening pass.new.known).values var) vars.now) }
         ensures knows { KnowsMore pass.old pass.new }
         ensures there { IfOk result (λ _. list_any (λ var. nat_le self.now.vars var) vars.now ≡ false) }
-        ensures refused { IfErr result (λ fault. (fault ≡ Fault.Memory) ⊎ ((fault ≡ Fault.BadPlan Cause.BadVariable) × (list_any (λ var. nat_le self.now.vars var) vars.now ≡ true))) }
+        ensures refused { IfErr result (λ fault. MatchBool (list_any (λ var. nat_le self.now.vars var) vars.now) (fault ≡ Fault.BadPlan Cause.BadVariable) (fault ≡ Fault.Memory)) }
     {
         if has_other(vars, self.vars) {
             return Err(Fault::BadPlan(Cause::BadVariable));
@@ -63,7 +63,7 @@ impl<D: Disk + Drop, N: StoreNaming, T: Invariants + Drop, S: StoredSteps + Drop
     }
 }
 
-// Whether one of them is none of so many variables.
+// Whether one of them is not among the first so many variables.
 fn has_other(vars: &[u16], most: u16) -> bool
     ensures { result ≡ list_any (λ var. nat_le most var) vars.now }
 {

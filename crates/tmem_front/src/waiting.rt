@@ -86,7 +86,8 @@ impl<D: Disk + Drop, N: StoreNaming, T: Invariants + Drop, S: StoredSteps + Drop
         self.run(rt, &Endless::new(rt), pass, plan, true)
     }
 
-    // Attempts a plan until it is settled, or nobody has the patience to wait. A full core is an end, but where room is waited for.
+    // Attempts a plan until it is settled, or the patience was over before an attempt. A full core is an end, but where room is waited
+    // for.
     pub(crate) fn run<R: Wait, P: Patience>(
         &self,
         rt: &R,
@@ -105,16 +106,17 @@ impl<D: Disk + Drop, N: StoreNaming, T: Invariants + Drop, S: StoredSteps + Drop
     {
         let mut left = MOST_CONFLICTS;
         for _ in rt.forever() {
+            let is_late = patience.is_over();
             let how = Turn {
                 number: pass.number,
                 is_alone: left == 0,
                 waits_for_room,
             };
             let answer = self.take_turn(rt, patience, &mut pass.seat, &mut pass.cursor, plan, how);
-            if is_last(&answer, waits_for_room) || is_waited_for(&answer) && patience.is_over() {
+            if is_last(&answer, waits_for_room) || is_waited_for(&answer) && is_late {
                 return answer;
             }
-            left = left.saturating_sub(conflicts_in(&answer));
+            left = conflicts_left(left, &answer);
         }
         unreachable!()
     }
@@ -169,7 +171,7 @@ impl<D: Disk + Drop, N: StoreNaming, T: Invariants + Drop, S: StoredSteps + Drop
             Err(Fault::Full) if how.waits_for_room => {
                 drop(self.wait_for_room(rt, patience, core));
             }
-            _ => self.let_go(core, &decision, attempt),
+            _ => self.unlock_and_wake(core, &decision, attempt),
         }
         with_registers(decision, attempt)
     }
@@ -213,7 +215,7 @@ impl<D: Disk + Drop, N: StoreNaming, T: Invariants + Drop, S: StoredSteps + Drop
                 return core;
             }
             core.sleep(number, &attempt.reads);
-            core = patience.sleep(self.changed_for(number), core);
+            core = patience.sleep(self.condvar_of(number), core);
         }
         unreachable!()
     }
@@ -335,11 +337,11 @@ impl<D: Disk + Drop, N: StoreNaming, T: Invariants + Drop, S: StoredSteps + Drop
     }
 }
 
-// How many conflicts an answer tells.
-fn conflicts_in(answer: &Result<Settled, Fault>) -> u32 {
+// How many conflicts are left to meet after this answer. After a wait they are counted anew.
+fn conflicts_left(left: u32, answer: &Result<Settled, Fault>) -> u32 {
     match answer {
-        Err(Fault::Conflict) => 1,
-        _ => 0,
+        Err(Fault::Conflict) => left.saturating_sub(1),
+        _ => MOST_CONFLICTS,
     }
 }
 

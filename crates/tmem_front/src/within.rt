@@ -32,8 +32,9 @@ impl<D: Disk + Drop, N: StoreNaming, T: Invariants + Drop, S: StoredSteps + Drop
     T,
     S,
 > {
-    /// As `atomically`, for no longer than a time: `Retry` tells that it retried, and that the time was over before another transaction
-    /// let it be settled. It is attempted once at least. Nothing is claimed of when that is answered. A clock that cannot be read ends the time.
+    /// As `atomically`, for no longer than a time: `Retry` tells that the time was over, and that the last attempt, which was made
+    /// after that, retried. Nothing is claimed of when that is answered. A clock that cannot be read ends the time. It is read under the
+    /// core's lock too.
     pub fn atomically_within<R: Wait + Clock>(
         &self,
         rt: &R,

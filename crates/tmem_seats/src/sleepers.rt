@@ -2,8 +2,8 @@
 use tmem_record::Effect;
 use tmem_tentative::Reads;
 
-/// What each pass that sleeps has read, by the number of the pass, of which there are at most 32. The variables are folded to 64 bits,
-/// so a pass may be woken by a commit that writes none of them.
+/// What each pass that sleeps has read, by the number of the pass, of which there are at most 32. It is a signature of 64 bits, one for
+/// each variable modulo 64, so a pass may be woken by a commit that writes none of what it read.
 #[derive(Drop)]
 pub(crate) struct Sleepers {
     asleep: u32,
@@ -21,12 +21,12 @@ impl Sleepers {
 
     /// The pass of this number sleeps, and has read so much.
     pub(crate) fn sleep(&mut self, number: u64, reads: &Reads) {
-        let mut folded = 0;
+        let mut read = 0;
         for (var, _) in reads.iter() {
-            folded |= bit_of(*var);
+            read |= bit_of(*var);
         }
         let place = (number % 32) as usize;
-        self.reads[place] = folded;
+        self.reads[place] = read;
         self.asleep |= 1u32 << place;
     }
 
@@ -35,13 +35,13 @@ impl Sleepers {
         if self.asleep == 0 {
             return 0;
         }
-        let mut folded = 0;
+        let mut written = 0;
         for (var, _) in effect.writes.as_slice() {
-            folded |= bit_of(*var);
+            written |= bit_of(*var);
         }
         let mut woken = 0;
         for place in 0..32usize {
-            if self.reads[place] & folded != 0 {
+            if self.reads[place] & written != 0 {
                 woken |= 1u32 << place;
             }
         }

@@ -46,9 +46,9 @@ impl<D: Disk + Drop, N: StoreNaming, T: Invariants + Drop, S: StoredSteps + Drop
     fn add<R: Wait>(&self, rt: &R, alloc: Global, turns: u16) -> Result<u64, Fault> {
         let plan = self.plan(add_to(alloc, 0, 1)?)?;
         let mut pass = self.acquire_pass(rt)?;
-        let committed = add_turns(rt, self, &mut pass, &plan, turns)?;
+        let committed = add_turns(rt, self, &mut pass, &plan, turns);
         self.release_pass(rt, pass)?;
-        Ok(committed)
+        committed
     }
 
     fn flush<R: Wait + Clock>(&self, rt: &R, has_several: bool) -> Result<(), Fault> {

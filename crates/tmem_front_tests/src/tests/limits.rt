@@ -20,7 +20,7 @@ fn a_wait_with_a_limit_ends_once_that_is_over(rt: HostRuntime) -> Result<(), Fai
             &[(Move::AwaitWithin(0, 0), Answer::Late)],
             &[],
         ],
-        // each looked once before it slept, and once or twice when the time was over
+        // each looked once before it slept, once or twice when the time was over, and once more after the last attempt
         after: &[
             (Move::LooksAtMost(16), Answer::Holds(true)),
             (Move::NeedsAtMost(2), Answer::Holds(true)),
@@ -76,6 +76,32 @@ fn what_needs_no_wait_is_done_within_no_time(rt: HostRuntime) -> Result<(), Fail
     ];
     let scene = Scene {
         threads: [rows, &[], &[], &[]],
+        ..Scene::empty()
+    };
+    play(&rt, rt.alloc(), &scene)
+}
+
+#[test]
+fn a_wait_with_a_limit_is_over_though_a_close_is_at_work(rt: HostRuntime) -> Result<(), Fail> {
+    let scene = Scene {
+        before: &[
+            (Move::TryCommit(Task::AddOne), Answer::Committed(0)),
+            (Move::HoldSyncs(1), Answer::Done),
+        ],
+        threads: [
+            &[(Move::Close, Answer::Done)],
+            &[
+                (Move::AwaitHeld(1), Answer::Done),
+                (Move::AwaitWithin(0, 50), Answer::Late),
+                (Move::AwaitWithin(0, LONG), Answer::Done),
+            ],
+            &[],
+            &[
+                (Move::AwaitHeld(1), Answer::Done),
+                (Move::Sleep(300), Answer::Done),
+                (Move::Release, Answer::Done),
+            ],
+        ],
         ..Scene::empty()
     };
     play(&rt, rt.alloc(), &scene)

@@ -21,6 +21,12 @@ pub(super) enum Task {
     NeedOne,
     /// Adds 1 to variable 0, and then retries until variable 2 is at least 1.
     AddOnceThereIsOne,
+    /// Writes a number to two variables.
+    WriteBoth(u16, u16, i64),
+    /// Reads a variable, and another one where that is less than 1, and retries until either is at least 1.
+    NeedEither(u16, u16),
+    /// Retries.
+    Never,
     /// Registers the invariant.
     Register,
 }
@@ -172,10 +178,13 @@ impl Task {
             Task::Write(var, number) => write(alloc, var, number),
             Task::AddOne => add_one(alloc),
             Task::Copy => copy(alloc),
-            Task::NeedOne => need_one(alloc),
+            Task::NeedOne => need_one(alloc, 2),
+            Task::WriteBoth(var, other, number) => write_both(alloc, var, other, number),
+            Task::NeedEither(var, other) => need_either(alloc, var, other),
+            Task::Never => Ok(Tx::Retry),
             Task::AddOnceThereIsOne => Ok(Tx::Seq(vec![in alloc;
                 add_one(alloc)?,
-                need_one(alloc)?,
+                need_one(alloc, 2)?,
             ]?)),
             Task::Register => Ok(Tx::Check { name: always() }),
         }
@@ -205,7 +214,17 @@ fn add_one(alloc: Global) -> Result<Tx, AllocError> {
     ]?))
 }
 
-fn need_one(alloc: Global) -> Result<Tx, AllocError> {
+fn write_both(alloc: Global, var: u16, other: u16, number: i64) -> Result<Tx, AllocError> {
+    let (first, second) = (write(alloc, var, number)?, write(alloc, other, number)?);
+    Ok(Tx::Seq(vec![in alloc; first, second]?))
+}
+
+fn need_either(alloc: Global, var: u16, other: u16) -> Result<Tx, AllocError> {
+    let (first, second) = (need_one(alloc, var)?, need_one(alloc, other)?);
+    Ok(Tx::OrElse(Box::new(alloc, first)?, Box::new(alloc, second)?))
+}
+
+fn need_one(alloc: Global, var: u16) -> Result<Tx, AllocError> {
     let args = vec![in alloc; 0, 1]?;
     let step = Tx::Step {
         index: 1,
@@ -213,7 +232,7 @@ fn need_one(alloc: Global) -> Result<Tx, AllocError> {
         out: 2,
     };
     Ok(Tx::Seq(vec![in alloc;
-        Tx::Read { var: 2, reg: 0 },
+        Tx::Read { var, reg: 0 },
         Tx::Put { reg: 1, number: 1 },
         step,
     ]?))

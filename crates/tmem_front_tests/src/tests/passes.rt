@@ -83,7 +83,7 @@ fn a_full_front_refuses_each_call_at_once(rt: HostRuntime) -> Result<(), Fail> {
             &[(Move::Commit(WRITE), FULL)],
             &[(Move::TryCommit(WRITE), FULL)],
             &[(Move::Attempt(WRITE), Answer::Done), (Move::Settle, FULL)],
-            &[],
+            &[(Move::CommitWithin(WRITE, 60_000), FULL)],
         ],
         ..Scene::empty()
     };

@@ -1,6 +1,6 @@
 //! Passes that callers share.
 use super::moves::{Answer, Move, Refusal, Row, Task};
-use super::scenes::{Scene, play};
+use super::scenes::{Device, Failing, SOUND, Scene, play};
 use std::test::Fail;
 
 const NO_SEAT: Answer = Answer::Refused(Refusal::NoSeat);
@@ -104,6 +104,36 @@ fn a_shut_wakes_each_thread_that_waits_for_a_pass(rt: HostRuntime) -> Result<(),
             waits,
             waits,
             &[(Move::Sleep(600), Answer::Done), (Move::Shut, Answer::Done)],
+        ],
+        ..Scene::empty()
+    };
+    play(&rt, rt.alloc(), &scene)
+}
+
+#[test]
+fn a_fault_wakes_each_thread_that_waits_for_a_pass(rt: HostRuntime) -> Result<(), Fail> {
+    let waits: &[Row] = &[
+        (Move::Sleep(300), Answer::Done),
+        (Move::Acquire, Answer::Refused(Refusal::Closed)),
+    ];
+    let scene = Scene {
+        device: Device {
+            failing: Failing::Sync(2),
+            ..SOUND
+        },
+        before: &[
+            (Move::NewPasses(26), Answer::Number(26)),
+            (Move::TryCommit(Task::Write(0, 1)), Answer::Committed(0)),
+        ],
+        threads: [
+            // the last one; it is never released
+            &[(Move::Acquire, Answer::Done)],
+            waits,
+            waits,
+            &[
+                (Move::Sleep(600), Answer::Done),
+                (Move::Flush, Answer::Refused(Refusal::Unknown)),
+            ],
         ],
         ..Scene::empty()
     };

@@ -22,7 +22,7 @@ use tmem_journal::{Layout, format};
 use tmem_tree::StoredSteps;
 
 /// How many variables a store has.
-const VARS: u16 = 4;
+const VARS: u16 = 100;
 
 /// Which call of the device fails, counted from 0 once it is formatted. The first sync is the one of the opening, which writes
 /// nothing.

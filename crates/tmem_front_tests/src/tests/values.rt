@@ -14,7 +14,7 @@ fn values_are_told_in_their_order(rt: HostRuntime) -> Result<(), Fail> {
             (Move::ValuesAre([3, 1, 1], [-9, 7, 7]), Answer::Holds(true)),
             (Move::ValuesAre([0, 1, 3], [0, 7, -9]), Answer::Holds(true)),
             (
-                Move::ValuesAre([0, 4, 3], [0, 7, -9]),
+                Move::ValuesAre([0, 100, 3], [0, 7, -9]),
                 Answer::Refused(Refusal::BadPlan),
             ),
             // nothing is durable yet

@@ -164,3 +164,72 @@ fn threads_that_wait_look_once(rt: HostRuntime) -> Result<(), Fail> {
     };
     play(&rt, rt.alloc(), &scene)
 }
+
+#[test]
+fn a_commit_wakes_whom_it_writes_to(rt: HostRuntime) -> Result<(), Fail> {
+    let scene = Scene {
+        // so the threads have the last four passes
+        before: &[(Move::NewPasses(27), Answer::Number(27))],
+        threads: [
+            &[(Move::Commit(Task::NeedEither(1, 70)), Answer::Saw(1, ONE))],
+            &[(Move::Commit(Task::NeedEither(69, 2)), Answer::Saw(2, ONE))],
+            &[(Move::Commit(Task::NeedEither(3, 71)), Answer::Saw(3, ONE))],
+            &[
+                (Move::Sleep(100), Answer::Done),
+                // each has looked once, and sleeps
+                (Move::LooksAtMost(3), Answer::Holds(true)),
+                (
+                    Move::TryCommit(Task::WriteBoth(4, 70, 1)),
+                    Answer::Committed(0),
+                ),
+                (Move::Sleep(100), Answer::Done),
+                (Move::LooksAtMost(4), Answer::Holds(true)),
+                (
+                    Move::TryCommit(Task::WriteBoth(69, 8, 1)),
+                    Answer::Committed(1),
+                ),
+                (Move::Sleep(100), Answer::Done),
+                (Move::TryCommit(Task::Write(71, 1)), Answer::Committed(2)),
+            ],
+        ],
+        ..Scene::empty()
+    };
+    play(&rt, rt.alloc(), &scene)
+}
+
+#[test]
+fn a_commit_by_a_step_wakes_whoever_retries(rt: HostRuntime) -> Result<(), Fail> {
+    let scene = Scene {
+        threads: [
+            &[(Move::Commit(Task::NeedEither(0, 5)), Answer::Saw(1, ONE))],
+            &[(Move::Commit(Task::NeedEither(6, 0)), Answer::Saw(1, ONE))],
+            &[],
+            &[
+                (Move::Sleep(100), Answer::Done),
+                // it calls a step, so it is not evaluated under the lock
+                (Move::TryCommit(Task::AddOne), Answer::Committed(0)),
+            ],
+        ],
+        ..Scene::empty()
+    };
+    play(&rt, rt.alloc(), &scene)
+}
+
+#[test]
+fn what_read_nothing_waits_for_a_shut(rt: HostRuntime) -> Result<(), Fail> {
+    let scene = Scene {
+        threads: [
+            &[(Move::Commit(Task::Never), CLOSED)],
+            &[],
+            &[],
+            &[
+                (Move::Sleep(50), Answer::Done),
+                (Move::Fill(50), Answer::Number(50)),
+                (Move::LooksAtMost(3), Answer::Holds(true)),
+                (Move::Shut, Answer::Done),
+            ],
+        ],
+        ..Scene::empty()
+    };
+    play(&rt, rt.alloc(), &scene)
+}
