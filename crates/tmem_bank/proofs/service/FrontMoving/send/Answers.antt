@@ -1,7 +1,7 @@
 use Rattle.tmem_bank.proofs.service.FrontMoving.send.Goals as goal
 
-pub commit_durable-requires-clause-steps : goal.commit_durable-requires-clause-steps
-commit_durable-requires-clause-steps g c = c.pays_more.ensures.steps (g.S.StoredSteps.arities c.args.self.now.steps) c.loop-turn.invariant.steps
+pub commit_durable-settled-requires-clause-steps : goal.commit_durable-settled-requires-clause-steps
+commit_durable-settled-requires-clause-steps g c = c.pays_more.ensures.steps (g.S.StoredSteps.arities c.args.self.now.steps) c.loop-turn.invariant.steps
 
 pub loop-turn-preserved : goal.loop-turn-preserved
 loop-turn-preserved g c = record {
