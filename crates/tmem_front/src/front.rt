@@ -261,8 +261,8 @@ impl<D: Disk + Drop, N: StoreNaming, T: Invariants + Drop, S: StoredSteps + Drop
         ensures begins { IsPrefix pass.old.known pass.new.known }
         ensures same { (pass.new.mark ≡ pass.old.mark) × (pass.new.seen ≡ pass.old.seen) × (pass.new.own ≡ pass.old.own) }
     {
-        let mut journal = self.journal.lock(rt);
-        journal.vouch(&self.spine, &mut pass.seat, number)
+        let mut seat = self.journal.lock(rt);
+        seat.vouch(&self.spine, &mut pass.seat, number)
     }
 
     /// Makes the oldest transactions that wait durable, as long as any other would still fit into a batch, and answers

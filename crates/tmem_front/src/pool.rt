@@ -1,9 +1,12 @@
 // Passes that callers share.
-ghost use Rattle.std.specs.Prelude.{◌≡◌, ◌⊎◌, IfErr};
+ghost use Rattle.std.specs.Prelude.{◌≡◌, ◌⊎◌, None, Ok, IfErr};
 
 use crate::front::Front;
 use crate::pass::Pass;
+use crate::patience::{Endless, Limited, Patience};
+use std::rt::Clock;
 use std::sync::Wait;
+use std::time::Duration;
 use tmem_disk::{Disk, Fault};
 use tmem_invariants::Invariants;
 use tmem_seats::StoreNaming;
@@ -32,10 +35,37 @@ impl<D: Disk + Drop, N: StoreNaming, T: Invariants + Drop, S: StoredSteps + Drop
     pub fn acquire_pass<R: Wait>(&self, rt: &R) -> Result<Pass<N>, Fault>
         ensures refused { IfErr result (λ fault. (fault ≡ Fault.NoSeat) ⊎ (fault ≡ Fault.Closed) ⊎ (fault ≡ Fault.Memory)) }
     {
+        match self.borrow_pass(rt, &Endless::new(rt))? {
+            Some(pass) => Ok(pass),
+            None => unreachable!(),
+        }
+    }
+
+    /// As `acquire_pass`, for no longer than a time: `None` tells that it was over first. Nothing is claimed of when that is answered.
+    /// A clock that cannot be read ends the time.
+    pub fn acquire_pass_within<R: Wait + Clock>(
+        &self,
+        rt: &R,
+        limit: Duration,
+    ) -> Result<Option<Pass<N>>, Fault>
+        ensures refused { IfErr result (λ fault. (fault ≡ Fault.NoSeat) ⊎ (fault ≡ Fault.Closed) ⊎ (fault ≡ Fault.Memory)) }
+    {
+        self.borrow_pass(rt, &Limited::new(rt, limit))
+    }
+
+    // Takes a pass of the pool, or waits for one until the patience is over.
+    fn borrow_pass<R: Wait, P: Patience>(
+        &self,
+        rt: &R,
+        patience: &P,
+    ) -> Result<Option<Pass<N>>, Fault>
+        ensures refused { IfErr result (λ fault. (fault ≡ Fault.NoSeat) ⊎ (fault ≡ Fault.Closed) ⊎ (fault ≡ Fault.Memory)) }
+        ensures ended { result ≡ Ok None → P.ends patience.now }
+    {
         let mut pool = self.pool.lock(rt);
         for _ in rt.forever() {
             if let Some(pass) = pool.free.pop() {
-                return Ok(pass);
+                return Ok(Some(pass));
             }
             let more = pool.owned.saturating_add(1);
             pool.free.reserve(more)?;
@@ -43,14 +73,17 @@ impl<D: Disk + Drop, N: StoreNaming, T: Invariants + Drop, S: StoredSteps + Drop
                 Ok(mut pass) => {
                     pass.is_pooled = true;
                     pool.owned = more;
-                    return Ok(pass);
+                    return Ok(Some(pass));
                 }
                 Err(fault) if pool.owned == 0 => return Err(fault),
                 Err(_) => {
-                    if self.core.lock(rt).is_shut() {
+                    if self.core.lock(rt).has_ended() {
                         return Err(Fault::Closed);
                     }
-                    pool = self.returned.wait(rt, pool);
+                    if patience.is_over() {
+                        return Ok(None);
+                    }
+                    pool = patience.sleep(&self.returned, pool);
                 }
             }
         }

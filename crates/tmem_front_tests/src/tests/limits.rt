@@ -66,6 +66,8 @@ fn a_wait_with_a_limit_ends_with_a_shut(rt: HostRuntime) -> Result<(), Fail> {
 #[test]
 fn what_needs_no_wait_is_done_within_no_time(rt: HostRuntime) -> Result<(), Fail> {
     let rows: &[Row] = &[
+        (Move::ReleasePass, Answer::Done),
+        (Move::AcquireWithin(0), Answer::Done),
         (Move::CommitWithin(Task::AddOne, 0), Answer::Committed(0)),
         (Move::Flush, Answer::Number(1)),
         (Move::AwaitWithin(0, 0), Answer::Done),

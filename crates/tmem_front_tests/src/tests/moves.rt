@@ -81,6 +81,8 @@ pub(super) enum Move {
     NewPasses(u64),
     /// Takes a pass of the pool in place of the one in hand, which is dropped.
     Acquire,
+    /// The same by `acquire_pass_within`, for so many milliseconds. Where the time is over, the one in hand stays.
+    AcquireWithin(u64),
     /// Hands the one in hand to the pool.
     ReleasePass,
     /// Takes the other pass in hand, a new one at first.

@@ -3,6 +3,9 @@ use super::moves::{Answer, Move, Refusal, Row, Task};
 use super::scenes::{Device, Failing, SOUND, Scene, play};
 use std::test::Fail;
 
+/// More milliseconds than a scene lasts.
+const LONG: u64 = 60_000;
+
 const NO_SEAT: Answer = Answer::Refused(Refusal::NoSeat);
 
 /// Gets a pass once another thread has written a 2.
@@ -63,6 +66,7 @@ fn a_thread_waits_for_a_pass_until_one_is_released(rt: HostRuntime) -> Result<()
             &[],
             &[(Move::Sleep(1), Answer::Done)],
         ],
+        after: &[(Move::LooksAtMost(8), Answer::Holds(true))],
         ..Scene::empty()
     };
     play(&rt, rt.alloc(), &scene)
@@ -85,6 +89,35 @@ fn a_thread_waits_for_a_pass_that_was_not_the_pools(rt: HostRuntime) -> Result<(
             &[],
             &[(Move::Sleep(1), Answer::Done)],
         ],
+        after: &[(Move::LooksAtMost(8), Answer::Holds(true))],
+        ..Scene::empty()
+    };
+    play(&rt, rt.alloc(), &scene)
+}
+
+#[test]
+fn a_thread_waits_for_a_pass_for_no_longer_than_a_time(rt: HostRuntime) -> Result<(), Fail> {
+    let scene = Scene {
+        before: &[(Move::NewPasses(27), Answer::Number(27))],
+        threads: [
+            &[
+                (Move::Acquire, Answer::Done),
+                (Move::TryCommit(Task::Write(1, 1)), Answer::Committed(0)),
+                (Move::Sleep(600), Answer::Done),
+                (Move::TryCommit(Task::Write(1, 2)), Answer::Committed(1)),
+                (Move::ReleasePass, Answer::Done),
+            ],
+            &[
+                (Move::Sleep(300), Answer::Done),
+                (Move::AcquireWithin(30), Answer::Late),
+                (Move::Peek(1), Answer::Value(1)),
+                (Move::AcquireWithin(LONG), Answer::Done),
+                (Move::Peek(1), Answer::Value(2)),
+            ],
+            &[],
+            &[(Move::Sleep(1), Answer::Done)],
+        ],
+        after: &[(Move::LooksAtMost(8), Answer::Holds(true))],
         ..Scene::empty()
     };
     play(&rt, rt.alloc(), &scene)
@@ -102,7 +135,10 @@ fn a_shut_wakes_each_thread_that_waits_for_a_pass(rt: HostRuntime) -> Result<(),
             // the last one; it is never released
             &[(Move::Acquire, Answer::Done)],
             waits,
-            waits,
+            &[
+                (Move::Sleep(300), Answer::Done),
+                (Move::AcquireWithin(LONG), Answer::Refused(Refusal::Closed)),
+            ],
             &[(Move::Sleep(600), Answer::Done), (Move::Shut, Answer::Done)],
         ],
         ..Scene::empty()

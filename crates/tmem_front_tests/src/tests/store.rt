@@ -117,6 +117,7 @@ impl<D: Disk + Drop, N: StoreNaming, T: Invariants + Drop, S: StoredSteps + Drop
             Move::Settle => self.settle(stage, hands),
             Move::NewPass => Answer::done(self.take_pass(stage, &mut hands.pass)),
             Move::Acquire => Answer::done(self.acquire(stage, &mut hands.pass)),
+            Move::AcquireWithin(millis) => self.acquire_within(stage, &mut hands.pass, millis),
             Move::ReleasePass => self.release(stage, &mut hands.pass),
             Move::OtherPass => Answer::done(self.other_pass(stage, hands)),
             other => match &mut hands.pass {
@@ -339,6 +340,22 @@ impl<D: Disk + Drop, N: StoreNaming, T: Invariants + Drop, S: StoredSteps + Drop
     fn acquire<R: Wait>(&self, stage: &Stage<R>, place: &mut Option<Pass<N>>) -> Result<(), Fault> {
         *place = Some(self.front.acquire_pass(stage.rt)?);
         Ok(())
+    }
+
+    fn acquire_within<R: Clock + Wait>(
+        &self,
+        stage: &Stage<R>,
+        place: &mut Option<Pass<N>>,
+        millis: u64,
+    ) -> Answer {
+        match self.front.acquire_pass_within(stage.rt, Duration::from_millis(millis)) {
+            Ok(None) => Answer::Late,
+            Ok(pass) => {
+                *place = pass;
+                Answer::Done
+            }
+            Err(fault) => Answer::refused(fault),
+        }
     }
 
     fn release<R: Wait>(&self, stage: &Stage<R>, place: &mut Option<Pass<N>>) -> Answer {
