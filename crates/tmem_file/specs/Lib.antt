@@ -1,3 +1,4 @@
+pub mod Bytes
 pub mod FileView
 pub mod Held
 pub mod Opening

@@ -4,10 +4,11 @@
 //!
 //! `FileDisk::open` opens a file that is there. `NewFile` makes one beside its name, which gets that name once it is whole.
 //!
-//! That each call of the system does what its name says is not proved: `recorded` has the calls that read, write and
-//! sync, each beside what it puts on record, and `naming` those that open, lock, link and remove.
+//! That each call of the system does what its name says is not proved: `calls` has those that read, write and
+//! sync, each with what it puts on record, and `naming` those that open, lock, link and remove.
 #![tactic(auto)]
 
+mod calls;
 mod disk;
 mod naming;
 mod new_file;

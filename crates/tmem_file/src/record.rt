@@ -1,41 +1,22 @@
 // The calls of a file, with what came of each. It takes no memory: its values are seen by clauses alone.
-ghost use Rattle.std.specs.Prelude.{◌≡◌, ◌∷◌, ◌++◌};
+ghost use Rattle.std.specs.Prelude.{◌≡◌, [], ◌∷◌};
 ghost use Rattle.tmem_file.specs.Record.{is_loss};
-ghost use Rattle.tmem_file.specs.Recorded.{bytes_of, event_of, start_of, events_of};
+ghost use Rattle.tmem_file.specs.Recorded.{event_of, first_of, events_of};
 
+use crate::calls::{Range, Synced};
 use std::snapshot::Snapshot;
-
-/// Bytes that went to a file or came from it.
-#[derive(Drop)]
-pub(crate) enum Bytes {
-    Empty,
-    With(Snapshot<Bytes>, Snapshot<u8>),
-}
-
-impl Bytes {
-    /// These and more behind them.
-    pub(crate) fn and(self, more: &[u8]) -> Bytes
-        ensures { bytes_of result ≡ bytes_of self ++ more.now }
-    {
-        let mut so_far = self;
-        for byte in more {
-            so_far = Bytes::With(Snapshot::of(&so_far), Snapshot::of(byte));
-        }
-        so_far
-    }
-}
 
 /// What came of a call.
 #[derive(Drop)]
 pub(crate) enum Call {
-    /// A read gave these bytes from a place on.
-    Gave(u64, Bytes),
-    /// These bytes stand from a place on, after a write.
-    Holds(u64, Bytes),
+    /// A read gave these bytes.
+    Gave(Range),
+    /// These bytes stand there, after a write.
+    Holds(Range),
     /// A write of so many bytes from a place on failed, and what stands there could not be read.
     Tore(u64, u64),
     /// A sync succeeded.
-    Synced,
+    Synced(Synced),
     /// A sync failed.
     Lost,
 }
@@ -49,17 +30,25 @@ impl Call {
     }
 }
 
-/// What a file gave when it was opened, and what came of its calls since.
+/// What a file gave when it was opened, or was given when it was made, and what came of its calls since.
 #[derive(Drop)]
 pub(crate) enum Calls {
-    Start(Bytes),
+    Start(Snapshot<Range>),
     After(Snapshot<Call>, Snapshot<Calls>),
 }
 
 impl Calls {
+    /// No call yet.
+    pub(crate) fn start(first: &Range) -> Calls
+        ensures start { first_of result ≡ first.now }
+        ensures events { events_of result ≡ [] }
+    {
+        Calls::Start(Snapshot::of(first))
+    }
+
     /// One call more.
     pub(crate) fn with(&self, call: &Call) -> Calls
-        ensures start { start_of result ≡ start_of self.now }
+        ensures start { first_of result ≡ first_of self.now }
         ensures events { events_of result ≡ event_of call.now ∷ events_of self.now }
     {
         Calls::After(Snapshot::of(call), Snapshot::of(self))

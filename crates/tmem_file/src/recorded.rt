@@ -1,15 +1,14 @@
-// The calls of the system that read, write and sync a file, each beside what it puts on record. No contract of the system's
-// calls says which bytes they move, so that each call here is the one that it records has to be read.
+// A file with the record of its calls.
 ghost use Rattle.std.specs.Prelude.{◌≡◌, false, ◌+◌, ◌≤◌, ◌<◌, ◌^◌, pos, List, [], ◌∷◌, length, replicate, IfOk, OnOk, OnErr};
 ghost use Rattle.std.specs.Int.Signed.{◌<ℤ◌};
 ghost use Rattle.std.specs.Fd.{file_raw_fd};
 ghost use Rattle.tmem_file.specs.Record.{Event, gave, holds, synced, lost, has_lost, is_synced};
-ghost use Rattle.tmem_file.specs.Recorded.{bytes_of, event_of, start_of, events_of, Spoils};
+ghost use Rattle.tmem_file.specs.Recorded.{bytes_of, event_of, first_of, start_of, events_of, Spoils};
 
-use crate::record::{Bytes, Call, Calls};
+use crate::calls::{Range, Synced};
+use crate::record::{Call, Calls};
 use std::fs::File;
 use std::io::{self, ErrorKind};
-use std::os::unix::fs::FileExt;
 
 // So many bytes of a file are read or written at once where that is done for the record: as it is opened or made, and after a
 // write that failed.
@@ -25,6 +24,7 @@ pub(crate) struct RecordedFile {
     unsure: bool,
     // A sync succeeded, nothing was written since, and it is known for sure what the file holds.
     synced: bool,
+    ghost begins: { (first_of calls).at ≡ 0 },
     ghost long: { length (start_of calls) ≡ size },
     ghost fits: { length (start_of calls) < 2 ^ 64 },
     ghost doubt: { has_lost (events_of calls) ≡ unsure },
@@ -40,11 +40,11 @@ impl RecordedFile {
         ensures { IfOk result (λ found. events_of found.calls ≡ []) }
     {
         let size = file.metadata()?.len();
-        let bytes = find(&file, 0, size)?;
+        let found = find(&file, 0, size)?;
         Ok(RecordedFile {
             file,
             size,
-            calls: Calls::Start(bytes),
+            calls: Calls::start(&found),
             unsure: false,
             synced: false,
         })
@@ -56,11 +56,11 @@ impl RecordedFile {
         ensures start { IfOk result (λ made. start_of made.calls ≡ replicate size 0) }
         ensures events { IfOk result (λ made. events_of made.calls ≡ []) }
     {
-        let bytes = fill(&file, size)?;
+        let written = fill(&file, size)?;
         Ok(RecordedFile {
             file,
             size,
-            calls: Calls::Start(bytes),
+            calls: Calls::start(&written),
             unsure: false,
             synced: false,
         })
@@ -82,12 +82,13 @@ impl RecordedFile {
 
     /// Fills a buffer with the bytes from a place on.
     pub(crate) fn read(&mut self, at: u64, into: &mut [u8]) -> io::Result<()>
+        requires { at + length into.old < 2 ^ 64 }
         ensures start { start_of self.new.calls ≡ start_of self.old.calls }
         ensures gave { OnOk result (events_of self.new.calls ≡ gave at into.new ∷ events_of self.old.calls) }
         ensures same { OnErr result (events_of self.new.calls ≡ events_of self.old.calls) }
     {
-        self.file.read_exact_at(into, at)?;
-        self.note(&Call::Gave(at, Bytes::Empty.and(into)));
+        let given = Range::from(at).read(&self.file, into)?;
+        self.note(&Call::Gave(given));
         Ok(())
     }
 
@@ -98,9 +99,9 @@ impl RecordedFile {
         ensures wrote { OnOk result (events_of self.new.calls ≡ holds at bytes.now ∷ events_of self.old.calls) }
         ensures spoilt { OnErr result (Spoils at (length bytes.now) (events_of self.old.calls) (events_of self.new.calls)) }
     {
-        match self.file.write_all_at(bytes, at) {
-            Ok(()) => {
-                self.note(&Call::Holds(at, Bytes::Empty.and(bytes)));
+        match Range::from(at).write(&self.file, bytes) {
+            Ok(written) => {
+                self.note(&Call::Holds(written));
                 Ok(())
             }
             Err(error) => {
@@ -116,7 +117,7 @@ impl RecordedFile {
         ensures { (earlier : List Event) → Spoils at count earlier (event_of result ∷ earlier) }
     {
         match find(&self.file, at, count) {
-            Ok(bytes) => Call::Holds(at, bytes),
+            Ok(found) => Call::Holds(found),
             Err(_) => Call::Tore(at, count),
         }
     }
@@ -133,23 +134,28 @@ impl RecordedFile {
         let outcome = if self.unsure {
             Err(io::Error::from(ErrorKind::InvalidData))
         } else {
-            self.file.sync_data()
+            Synced::sync(&self.file)
         };
         match outcome {
-            Ok(()) => self.note(&Call::Synced),
-            Err(_) => self.note(&Call::Lost),
+            Ok(synced) => {
+                self.note(&Call::Synced(synced));
+                Ok(())
+            }
+            Err(error) => {
+                self.note(&Call::Lost);
+                Err(error)
+            }
         }
-        outcome
     }
 
     // Puts a call on record.
     fn note(&mut self, call: &Call)
-        ensures start { start_of self.new.calls ≡ start_of self.old.calls }
+        ensures start { first_of self.new.calls ≡ first_of self.old.calls }
         ensures events { events_of self.new.calls ≡ event_of call.now ∷ events_of self.old.calls }
     {
         self.synced = match call {
-            Call::Gave(_, _) => self.synced,
-            Call::Synced => !self.unsure,
+            Call::Gave(_) => self.synced,
+            Call::Synced(_) => !self.unsure,
             _ => false,
         };
         self.unsure = call.is_loss() || self.unsure;
@@ -157,34 +163,34 @@ impl RecordedFile {
     }
 }
 
-// The bytes of a range, read piece by piece.
-fn find(file: &File, at: u64, count: u64) -> io::Result<Bytes>
+// A range, read piece by piece.
+fn find(file: &File, at: u64, count: u64) -> io::Result<Range>
     requires { at + count < 2 ^ 64 }
-    ensures { IfOk result (λ bytes. length (bytes_of bytes) ≡ count) }
+    ensures place { IfOk result (λ range. range.at ≡ at) }
+    ensures long { IfOk result (λ range. length (bytes_of range) ≡ count) }
 {
     let mut piece = [0u8; PIECE];
-    let mut found = Bytes::Empty;
+    let mut found = Range::from(at);
     let mut done = 0;
     while done < count {
         let n = (count - done).min(PIECE as u64) as usize;
-        file.read_exact_at(&mut piece[..n], at + done)?;
-        found = found.and(&piece[..n]);
+        found = found.read(file, &mut piece[..n])?;
         done += n as u64;
     }
     Ok(found)
 }
 
-// Writes so many zeros piece by piece, so that no later write has to find room.
-fn fill(file: &File, size: u64) -> io::Result<Bytes>
-    ensures { IfOk result (λ bytes. bytes_of bytes ≡ replicate size 0) }
+// Writes so many zeros piece by piece from the start on, so that no later write has to find room.
+fn fill(file: &File, size: u64) -> io::Result<Range>
+    ensures place { IfOk result (λ range. range.at ≡ 0) }
+    ensures zeros { IfOk result (λ range. bytes_of range ≡ replicate size 0) }
 {
     let zeros = [0u8; PIECE];
-    let mut written = Bytes::Empty;
+    let mut written = Range::from(0);
     let mut done = 0;
     while done < size {
         let n = (size - done).min(PIECE as u64) as usize;
-        file.write_all_at(&zeros[..n], done)?;
-        written = written.and(&zeros[..n]);
+        written = written.write(file, &zeros[..n])?;
         done += n as u64;
     }
     Ok(written)

@@ -5,6 +5,7 @@ use Rattle.tmem_file.proofs.recorded.fill.Given as goal
 abbrev pub invariant-loop-done : goal.invariant-loop-done
 invariant-loop-done l = record {
   within : l.done ≤ l.size;
+  place : l.written.at ≡ 0;
   so_far : bytes_of l.written ≡ replicate l.done 0;
 }
 

@@ -5,6 +5,7 @@ use Rattle.tmem_file.proofs.recorded.find.Given as goal
 abbrev pub invariant-loop-done : goal.invariant-loop-done
 invariant-loop-done l = record {
   within : l.done ≤ l.count;
+  place : l.found.at ≡ l.at;
   so_far : length (bytes_of l.found) ≡ l.done;
 }
 
