@@ -56,7 +56,7 @@ impl<D: Disk + Drop, N: StoreNaming, T: Invariants + Drop, S: StoredSteps + Drop
         self.committed.notify_all();
         self.flushed.notify_all();
         self.wake(u32::MAX);
-        self.wake_borrowers(rt);
+        self.close_pool(rt);
     }
 
     /// What the store was shut by, where its device has failed: `Device` or `Unknown`, as the flush or the checkpoint was answered.

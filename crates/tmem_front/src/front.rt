@@ -339,7 +339,7 @@ impl<D: Disk + Drop, N: StoreNaming, T: Invariants + Drop, S: StoredSteps + Drop
         if is_shut {
             self.committed.notify_all();
             self.wake(u32::MAX);
-            self.wake_borrowers(rt);
+            self.close_pool(rt);
         }
     }
 
@@ -354,7 +354,8 @@ impl<D: Disk + Drop, N: StoreNaming, T: Invariants + Drop, S: StoredSteps + Drop
 
     /// How often calls that wait have looked at what they wait for. One that sleeps looks once each time that it is woken.
     pub fn looks<R: Wait>(&self, rt: &R) -> u64 {
-        self.core.lock(rt).looks()
+        let looks = self.core.lock(rt).looks();
+        looks.wrapping_add(self.pool.lock(rt).looks)
     }
 
     /// The plan of a transaction. Refused with `BadPlan` and the least cause for which it is outside the limits.

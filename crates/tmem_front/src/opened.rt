@@ -163,6 +163,8 @@ impl<D: Disk + Drop, T: Invariants + Drop, S: StoredSteps + Drop> OpenedFront<D,
             pool: Mutex::new(Pool {
                 free: Vec::new(alloc),
                 owned: 0,
+                is_closed: false,
+                looks: 0,
             }),
             returned: Condvar::new(),
         }

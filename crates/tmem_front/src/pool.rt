@@ -20,6 +20,18 @@ pub(crate) struct Pool<N: Naming> {
     pub(crate) free: Vec<Pass<N>>,
     // how many it has
     pub(crate) owned: usize,
+    // nobody waits for one any more
+    pub(crate) is_closed: bool,
+    // how often whoever waits for one has looked
+    pub(crate) looks: u64,
+}
+
+impl<N: Naming> Pool<N> {
+    // Whether nobody waits any more. The look is counted.
+    fn has_ended(&mut self) -> bool {
+        self.looks = self.looks.wrapping_add(1);
+        self.is_closed
+    }
 }
 
 impl<D: Disk + Drop, N: StoreNaming, T: Invariants + Drop, S: StoredSteps + Drop> Front<
@@ -77,7 +89,7 @@ impl<D: Disk + Drop, N: StoreNaming, T: Invariants + Drop, S: StoredSteps + Drop
                 }
                 Err(fault) if pool.owned == 0 => return Err(fault),
                 Err(_) => {
-                    if self.core.lock(rt).has_ended() {
+                    if pool.has_ended() {
                         return Err(Fault::Closed);
                     }
                     if patience.is_over() {
@@ -108,10 +120,9 @@ impl<D: Disk + Drop, N: StoreNaming, T: Invariants + Drop, S: StoredSteps + Drop
         Ok(kept?)
     }
 
-    // Ends the wait of each caller that waits for a pass, once the front is shut. (One that saw it open still has the pool's lock then,
-    // or waits already.)
-    pub(crate) fn wake_borrowers<R: Wait>(&self, rt: &R) {
-        drop(self.pool.lock(rt));
+    // Ends the wait of each caller that waits for a pass, once the front is shut, and of those to come.
+    pub(crate) fn close_pool<R: Wait>(&self, rt: &R) {
+        self.pool.lock(rt).is_closed = true;
         self.returned.notify_all();
     }
 }

@@ -283,15 +283,6 @@ impl<N: StoreNaming, T: Invariants + Drop> CoreSeat<N, T> {
         self.has_waiting() || self.is_shut()
     }
 
-    /// Whether it was shut: what a caller waits for, beside a pass, that has none. The look is counted.
-    pub fn has_ended(&mut self) -> bool
-        ensures ended { result ≡ self.new.is_shut }
-        ensures same { self.new ≡ self.old }
-    {
-        self.looks = self.looks.wrapping_add(1);
-        self.is_shut()
-    }
-
     /// The pass of this number sleeps until another transaction writes a variable that it has read.
     pub fn sleep(&mut self, number: u64, reads: &Reads)
         ensures { self.new ≡ self.old }

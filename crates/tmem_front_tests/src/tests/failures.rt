@@ -108,3 +108,71 @@ fn a_failed_checkpoint_shuts_the_front(rt: HostRuntime) -> Result<(), Fail> {
     };
     play(&rt, rt.alloc(), &scene)
 }
+
+#[test]
+fn nothing_is_awaited_after_a_close_that_is_refused(rt: HostRuntime) -> Result<(), Fail> {
+    let unknown = Answer::Refused(Refusal::Unknown);
+    let scene = Scene {
+        device: Device {
+            failing: Failing::Sync(1),
+            ..SOUND
+        },
+        before: &[
+            (Move::TryCommit(Task::Write(0, 1)), Answer::Committed(0)),
+            (Move::Flush, unknown),
+            (Move::Close, unknown),
+        ],
+        threads: [
+            &[(Move::Await(0), CLOSED)],
+            &[],
+            &[],
+            &[(Move::Sleep(1), Answer::Done)],
+        ],
+        ..Scene::empty()
+    };
+    play(&rt, rt.alloc(), &scene)
+}
+
+#[test]
+fn the_fault_of_a_checkpoint_is_kept(rt: HostRuntime) -> Result<(), Fail> {
+    let device = Answer::Refused(Refusal::Device);
+    let scene = Scene {
+        device: Device {
+            failing: Failing::Write(2),
+            ..SOUND
+        },
+        before: &[
+            (Move::TryCommit(Task::Write(0, 1)), Answer::Committed(0)),
+            (Move::Flush, Answer::Number(1)),
+            (Move::Checkpoint, device),
+            (Move::FaultOf, device),
+            (Move::Close, device),
+        ],
+        ..Scene::empty()
+    };
+    play(&rt, rt.alloc(), &scene)
+}
+
+#[test]
+fn a_close_that_cannot_flush_all_is_refused(rt: HostRuntime) -> Result<(), Fail> {
+    let spent = Answer::Refused(Refusal::Spent);
+    let scene = Scene {
+        device: Device {
+            slots: 2,
+            has_last_image: true,
+            ..SOUND
+        },
+        before: &[
+            (Move::TryCommit(WRITE), Answer::Committed(0)),
+            (Move::Flush, Answer::Number(1)),
+            (Move::TryCommit(WRITE), Answer::Committed(1)),
+            (Move::Flush, Answer::Number(2)),
+            (Move::TryCommit(WRITE), Answer::Committed(2)),
+            (Move::Close, spent),
+            (Move::Look, Answer::Number(2)),
+            (Move::Await(2), CLOSED),
+        ],
+        ..Scene::empty()
+    };
+    play(&rt, rt.alloc(), &scene)
+}

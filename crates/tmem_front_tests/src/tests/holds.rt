@@ -182,3 +182,36 @@ fn a_vouch_that_waits_keeps_no_other_call_waiting(rt: HostRuntime) -> Result<(),
     };
     play(&rt, rt.alloc(), &scene)
 }
+
+#[test]
+fn conflicts_are_counted_anew_after_a_wait(rt: HostRuntime) -> Result<(), Fail> {
+    let scene = Scene {
+        before: &[
+            (Move::TryCommit(Task::Write(0, 1)), Answer::Committed(0)),
+            (Move::HoldSteps(4), Answer::Done),
+        ],
+        threads: [
+            &[(Move::Commit(Task::AddOnceThereIsOne), Answer::Committed(5))],
+            &[],
+            &[],
+            &[
+                (Move::AwaitHeld(1), Answer::Done),
+                (Move::TryCommit(Task::Write(0, 5)), Answer::Committed(1)),
+                (Move::Release, Answer::Done),
+                (Move::AwaitHeld(2), Answer::Done),
+                (Move::TryCommit(Task::Write(0, 7)), Answer::Committed(2)),
+                (Move::Release, Answer::Done),
+                (Move::AwaitHeld(3), Answer::Done),
+                (Move::Release, Answer::Done),
+                (Move::Sleep(100), Answer::Done),
+                (Move::TryCommit(Task::Write(2, 1)), Answer::Committed(3)),
+                (Move::AwaitHeld(4), Answer::Done),
+                // it is not evaluated under the lock
+                (Move::TryCommit(Task::Write(5, 1)), Answer::Committed(4)),
+                (Move::Release, Answer::Done),
+            ],
+        ],
+        ..Scene::empty()
+    };
+    play(&rt, rt.alloc(), &scene)
+}

@@ -108,3 +108,66 @@ fn a_wait_with_a_limit_is_over_though_a_close_is_at_work(rt: HostRuntime) -> Res
     };
     play(&rt, rt.alloc(), &scene)
 }
+
+#[test]
+fn the_last_attempt_is_made_after_the_time_is_over(rt: HostRuntime) -> Result<(), Fail> {
+    let scene = Scene {
+        before: &[(Move::HoldSteps(2), Answer::Done)],
+        threads: [
+            &[(
+                Move::CommitWithin(Task::AddOnceThereIsOne, 50),
+                Answer::Committed(1),
+            )],
+            &[],
+            &[],
+            &[
+                (Move::AwaitHeld(1), Answer::Done),
+                // the time is over, and this attempt retries
+                (Move::Sleep(200), Answer::Done),
+                (Move::Release, Answer::Done),
+                (Move::AwaitHeld(2), Answer::Done),
+                (Move::TryCommit(Task::Write(2, 1)), Answer::Committed(0)),
+                (Move::Release, Answer::Done),
+            ],
+        ],
+        ..Scene::empty()
+    };
+    play(&rt, rt.alloc(), &scene)
+}
+
+#[test]
+fn a_thread_that_is_woken_sleeps_for_what_is_left(rt: HostRuntime) -> Result<(), Fail> {
+    let scene = Scene {
+        threads: [
+            &[(Move::AwaitWithin(1, 1000), Answer::Late)],
+            &[],
+            &[],
+            &[
+                (Move::Sleep(600), Answer::Done),
+                (Move::TryCommit(Task::Write(0, 1)), Answer::Committed(0)),
+                (Move::Flush, Answer::Number(1)),
+                (Move::Sleep(700), Answer::Done),
+                (Move::Shut, Answer::Done),
+            ],
+        ],
+        ..Scene::empty()
+    };
+    play(&rt, rt.alloc(), &scene)
+}
+
+#[test]
+fn a_wait_with_a_limit_lasts_as_long(rt: HostRuntime) -> Result<(), Fail> {
+    let scene = Scene {
+        threads: [
+            &[(Move::CommitWithin(Task::NeedOne, 900), Answer::Saw(1, ONE))],
+            &[],
+            &[],
+            &[
+                (Move::Sleep(300), Answer::Done),
+                (Move::TryCommit(Task::Write(2, 1)), Answer::Committed(0)),
+            ],
+        ],
+        ..Scene::empty()
+    };
+    play(&rt, rt.alloc(), &scene)
+}

@@ -175,3 +175,101 @@ fn a_fault_wakes_each_thread_that_waits_for_a_pass(rt: HostRuntime) -> Result<()
     };
     play(&rt, rt.alloc(), &scene)
 }
+
+#[test]
+fn two_releases_wake_two_threads(rt: HostRuntime) -> Result<(), Fail> {
+    let waits: &[Row] = &[
+        (Move::Sleep(300), Answer::Done),
+        (Move::Acquire, Answer::Done),
+    ];
+    let scene = Scene {
+        // with one in hand, four of the threads and two more of the first thread, all are given out
+        before: &[(Move::NewPasses(25), Answer::Number(25))],
+        threads: [
+            &[
+                (Move::Acquire, Answer::Done),
+                (Move::OtherPass, Answer::Done),
+                (Move::Sleep(600), Answer::Done),
+                (Move::ReleasePass, Answer::Done),
+                (Move::OtherPass, Answer::Done),
+                (Move::ReleasePass, Answer::Done),
+            ],
+            waits,
+            waits,
+            &[(Move::Sleep(1), Answer::Done)],
+        ],
+        ..Scene::empty()
+    };
+    play(&rt, rt.alloc(), &scene)
+}
+
+#[test]
+fn a_pass_is_lent_though_the_front_is_shut(rt: HostRuntime) -> Result<(), Fail> {
+    let scene = Scene {
+        before: &[
+            (Move::ReleasePass, Answer::Done),
+            (Move::Acquire, Answer::Done),
+            (Move::Shut, Answer::Done),
+            (Move::Acquire, Answer::Done),
+            (Move::ReleasePass, Answer::Done),
+            (Move::Acquire, Answer::Done),
+        ],
+        ..Scene::empty()
+    };
+    play(&rt, rt.alloc(), &scene)
+}
+
+#[test]
+fn a_pool_lends_again_before_it_grows(rt: HostRuntime) -> Result<(), Fail> {
+    let scene = Scene {
+        before: &[
+            (Move::Acquire, Answer::Done),
+            (Move::ReleasePass, Answer::Done),
+            (Move::Acquire, Answer::Done),
+            (Move::ReleasePass, Answer::Done),
+            (Move::Acquire, Answer::Done),
+            (Move::NewPasses(40), Answer::Number(30)),
+        ],
+        ..Scene::empty()
+    };
+    play(&rt, rt.alloc(), &scene)
+}
+
+#[test]
+fn a_shut_lets_go_of_the_core_before_it_takes_the_pool(rt: HostRuntime) -> Result<(), Fail> {
+    let scene = Scene {
+        before: &[
+            (Move::TryCommit(Task::Write(0, 1)), Answer::Committed(0)),
+            (Move::HoldSteps(3), Answer::Done),
+        ],
+        threads: [
+            // the third addition is held under the core's lock
+            &[(Move::Commit(Task::AddOne), Answer::Committed(3))],
+            // waits for the core's lock
+            &[
+                (Move::AwaitHeld(3), Answer::Done),
+                (Move::Sleep(100), Answer::Done),
+                (Move::Shut, Answer::Done),
+            ],
+            // waits for it too, under the pool's lock
+            &[
+                (Move::AwaitHeld(3), Answer::Done),
+                (Move::Sleep(300), Answer::Done),
+                (Move::Acquire, Answer::Done),
+            ],
+            &[
+                (Move::AwaitHeld(1), Answer::Done),
+                (Move::TryCommit(Task::Write(0, 5)), Answer::Committed(1)),
+                (Move::Release, Answer::Done),
+                (Move::AwaitHeld(2), Answer::Done),
+                (Move::TryCommit(Task::Write(0, 7)), Answer::Committed(2)),
+                (Move::Release, Answer::Done),
+                (Move::AwaitHeld(3), Answer::Done),
+                (Move::Sleep(600), Answer::Done),
+                (Move::Release, Answer::Done),
+            ],
+        ],
+        ..Scene::empty()
+    };
+    play(&rt, rt.alloc(), &scene)
+}

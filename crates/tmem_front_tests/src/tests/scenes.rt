@@ -24,6 +24,9 @@ use tmem_tree::StoredSteps;
 /// How many variables a store has.
 const VARS: u16 = 100;
 
+/// Where the generation of the first image stands.
+const GENERATION: u64 = 513;
+
 /// Which call of the device fails, counted from 0 once it is formatted. The first sync is the one of the opening, which writes
 /// nothing.
 #[derive(Clone, Copy)]
@@ -40,6 +43,8 @@ pub(super) struct Device {
     pub(super) failing: Failing,
     /// How many milliseconds a sync takes at the least.
     pub(super) sync_millis: u64,
+    /// Its image is of the last generation, so that no checkpoint can be made.
+    pub(super) has_last_image: bool,
 }
 
 /// One that never fails.
@@ -47,6 +52,7 @@ pub(super) const SOUND: Device = Device {
     slots: 4,
     failing: Failing::Never,
     sync_millis: 0,
+    has_last_image: false,
 };
 
 /// What is played, and what each move has to be answered.
@@ -266,6 +272,12 @@ type Opened<'a, R> = OpenedFront<StageDisk<'a, SimDisk, R>, AlwaysTrue, AddsAndN
 fn new_disk(alloc: Global, device: Device) -> Result<SimDisk, Fault> {
     let mut disk = SimDisk::new(alloc, Layout::new(VARS, device.slots)?.end())?;
     format(&mut disk, VARS, device.slots)?;
+    if device.has_last_image && disk.size() >= GENERATION + 8 {
+        let written = disk.write_at(GENERATION, &u64::MAX.to_le_bytes());
+        if written.is_err() {
+            return Err(Fault::Device);
+        }
+    }
     match device.failing {
         Failing::Never => {}
         Failing::Write(k) => disk.fail_write(k),

@@ -348,7 +348,10 @@ impl<D: Disk + Drop, N: StoreNaming, T: Invariants + Drop, S: StoredSteps + Drop
         place: &mut Option<Pass<N>>,
         millis: u64,
     ) -> Answer {
-        match self.front.acquire_pass_within(stage.rt, Duration::from_millis(millis)) {
+        match self
+            .front
+            .acquire_pass_within(stage.rt, Duration::from_millis(millis))
+        {
             Ok(None) => Answer::Late,
             Ok(pass) => {
                 *place = pass;

@@ -233,3 +233,89 @@ fn what_read_nothing_waits_for_a_shut(rt: HostRuntime) -> Result<(), Fail> {
     };
     play(&rt, rt.alloc(), &scene)
 }
+
+#[test]
+fn passes_sixteen_apart_sleep_apart(rt: HostRuntime) -> Result<(), Fail> {
+    let scene = Scene {
+        // the pool has number 1, and three threads take 2 to 4
+        before: &[
+            (Move::Acquire, Answer::Done),
+            (Move::ReleasePass, Answer::Done),
+        ],
+        threads: [
+            &[
+                (Move::Sleep(100), Answer::Done),
+                (Move::Acquire, Answer::Done),
+                (Move::Commit(Task::NeedEither(1, 70)), Answer::Saw(1, ONE)),
+            ],
+            &[
+                (Move::Sleep(200), Answer::Done),
+                (Move::NewPasses(12), Answer::Number(12)),
+                // number 17
+                (Move::NewPass, Answer::Done),
+                (Move::Commit(Task::NeedEither(69, 2)), Answer::Saw(2, ONE)),
+            ],
+            &[],
+            &[
+                (Move::Sleep(400), Answer::Done),
+                (Move::TryCommit(Task::Write(1, 1)), Answer::Committed(0)),
+                (Move::Sleep(200), Answer::Done),
+                (Move::TryCommit(Task::Write(2, 1)), Answer::Committed(1)),
+            ],
+        ],
+        ..Scene::empty()
+    };
+    play(&rt, rt.alloc(), &scene)
+}
+
+#[test]
+fn what_was_read_before_wakes_no_more(rt: HostRuntime) -> Result<(), Fail> {
+    let scene = Scene {
+        threads: [
+            &[
+                (Move::Commit(Task::NeedEither(1, 70)), Answer::Saw(1, ONE)),
+                (Move::Commit(Task::NeedOne), Answer::Saw(5, ONE)),
+            ],
+            &[],
+            &[],
+            &[
+                (Move::Sleep(100), Answer::Done),
+                (Move::TryCommit(Task::Write(1, 1)), Answer::Committed(0)),
+                (Move::Sleep(100), Answer::Done),
+                // it waits for variable 2 now
+                (Move::TryCommit(Task::Write(1, 2)), Answer::Committed(1)),
+                (Move::Sleep(100), Answer::Done),
+                (Move::TryCommit(Task::Write(1, 3)), Answer::Committed(2)),
+                (Move::Sleep(100), Answer::Done),
+                (Move::TryCommit(Task::Write(1, 4)), Answer::Committed(3)),
+                (Move::Sleep(100), Answer::Done),
+                (Move::LooksAtMost(5), Answer::Holds(true)),
+                (Move::TryCommit(Task::Write(2, 1)), Answer::Committed(4)),
+            ],
+        ],
+        ..Scene::empty()
+    };
+    play(&rt, rt.alloc(), &scene)
+}
+
+#[test]
+fn the_last_pass_is_woken(rt: HostRuntime) -> Result<(), Fail> {
+    let scene = Scene {
+        before: &[(Move::NewPasses(26), Answer::Number(26))],
+        threads: [
+            &[
+                (Move::Sleep(100), Answer::Done),
+                (Move::NewPass, Answer::Done),
+                (Move::Commit(Task::NeedOne), Answer::Saw(1, ONE)),
+            ],
+            &[(Move::Sleep(1), Answer::Done)],
+            &[(Move::Sleep(1), Answer::Done)],
+            &[
+                (Move::Sleep(300), Answer::Done),
+                (Move::TryCommit(Task::Write(2, 1)), Answer::Committed(0)),
+            ],
+        ],
+        ..Scene::empty()
+    };
+    play(&rt, rt.alloc(), &scene)
+}
