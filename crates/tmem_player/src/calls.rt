@@ -1,10 +1,14 @@
-//! How often closures were called.
+//! How often closures and stored steps were called.
+ghost use Rattle.std.specs.Prelude.{◌≡◌, ◌∷◌, [], ℕ, ℤ, List};
+ghost use Rattle.tmem_player.specs.Steps.{answer_of};
 
 use std::alloc::{AllocError, Global};
 use std::sync::Arc;
 use std::sync::atomic::{AtomicU64, Ordering};
+use tmem_builtins::{add, need, sub};
+use tmem_tree::{StepAnswer, StoredSteps};
 
-/// How often the closures of invariants and those of stored steps were called since the last time.
+/// How often the closures of invariants and the stored steps were called since the last time.
 #[derive(Drop)]
 pub(crate) struct Counts {
     tests: AtomicU64,
@@ -61,4 +65,42 @@ impl Three {
             third: calls.clone()?,
         })
     }
+}
+
+/// The stored steps of the program, which count how often they are called.
+#[derive(Clone, Copy)]
+pub(crate) struct CountedSteps<'a> {
+    pub(crate) counts: &'a Counts,
+}
+
+impl<'a> StoredSteps for CountedSteps<'a> {
+    ghost arities = { λ _. 2 ∷ 2 ∷ 2 ∷ [] };
+
+    ghost is_stated = { λ _ m. (index : ℕ) (args : List ℤ) → m index args ≡ answer_of index args };
+
+    fn len(&self) -> usize {
+        3
+    }
+
+    fn arity(&self, _index: usize) -> usize {
+        2
+    }
+
+    fn answer(&self, index: usize, args: &[i64]) -> StepAnswer {
+        self.counts.add_step();
+        match index {
+            0 => add(args),
+            1 => sub(args),
+            _ => need(args),
+        }
+    }
+
+    ghost use Rattle.std.proofs.Common.{lit≤, refl};
+    ghost use Rattle.tmem_player.specs.Steps.{three_small};
+
+    ghost few = { λ _. lit≤ tt };
+
+    ghost small = { λ _. three_small };
+
+    ghost has_meanings = { λ _. ∣ (answer_of, λ _ _. refl) ∣₁ };
 }

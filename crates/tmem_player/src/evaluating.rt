@@ -34,12 +34,8 @@ pub(crate) fn evaluate_twice<S: StoredSteps, W: Write>(
     }
 }
 
-// What one way comes to, and how often it called a stored step.
-#[derive(Drop)]
-struct Trial {
-    attempt: Option<Attempt>,
-    calls: u64,
-}
+// The attempt that one way comes to, or none where what it read is not what it was given.
+type Trial = Result<Option<Attempt>, Fault>;
 
 // Evaluates a plan in both ways.
 fn evaluate_plan<S: StoredSteps, W: Write>(
@@ -53,23 +49,23 @@ fn evaluate_plan<S: StoredSteps, W: Write>(
     requires { FitsSteps (S.arities steps.now) plan.now }
 {
     let _ = calls.take_steps();
-    let plain = Trial {
-        attempt: by_evaluate(alloc, plan, steps, values)?,
-        calls: calls.take_steps(),
-    };
-    let other = Trial {
-        attempt: by_cursor(alloc, plan, steps, values)?,
-        calls: calls.take_steps(),
-    };
-    print_trials(&plain, &other, out)
+    let plain = by_evaluate(alloc, plan, steps, values);
+    let by_plain = calls.take_steps();
+    let other = by_cursor(alloc, plan, steps, values);
+    print_trials(&plain, &other, (by_plain, calls.take_steps()), out)
 }
 
 // Prints the attempt that both ways come to, and how often each called a stored step; or that they differ.
-fn print_trials<W: Write>(plain: &Trial, other: &Trial, out: &mut W) -> Result<(), Failure> {
-    match both_ways(plain, other) {
+fn print_trials<W: Write>(
+    plain: &Trial,
+    other: &Trial,
+    calls: (u64, u64),
+    out: &mut W,
+) -> Result<(), Failure> {
+    match both_ways(plain, other)? {
         Some(attempt) => {
             print_attempt(attempt, out)?;
-            writeln!(out, " calls={},{}", plain.calls, other.calls)?;
+            writeln!(out, " calls={},{}", calls.0, calls.1)?;
         }
         None => out.write_all(b"differ\n")?,
     }
@@ -77,13 +73,11 @@ fn print_trials<W: Write>(plain: &Trial, other: &Trial, out: &mut W) -> Result<(
 }
 
 // The attempt that both ways come to, or none where they differ.
-fn both_ways<'a>(plain: &'a Trial, other: &Trial) -> Option<&'a Attempt> {
-    let attempt = plain.attempt.as_ref()?;
-    let other = other.attempt.as_ref()?;
-    if are_alike(attempt, other) {
-        Some(attempt)
-    } else {
-        None
+fn both_ways<'a>(plain: &'a Trial, other: &Trial) -> Result<Option<&'a Attempt>, Fault> {
+    match (plain, other) {
+        (Err(fault), _) | (_, Err(fault)) => Err(*fault),
+        (Ok(Some(attempt)), Ok(Some(other))) if are_alike(attempt, other) => Ok(Some(attempt)),
+        _ => Ok(None),
     }
 }
 
@@ -96,12 +90,7 @@ fn value_of(values: &[i64], var: u16) -> i64 {
 }
 
 // Evaluates a plan from the start, again after each variable that it needs. None where what it read is not what it was given.
-fn by_evaluate<S: StoredSteps>(
-    alloc: Global,
-    plan: &Plan,
-    steps: &S,
-    values: &[i64],
-) -> Result<Option<Attempt>, Fault>
+fn by_evaluate<S: StoredSteps>(alloc: Global, plan: &Plan, steps: &S, values: &[i64]) -> Trial
     requires { FitsSteps (S.arities steps.now) plan.now }
 {
     evaluated(alloc, plan, steps, values, &mut Reads::new(alloc))

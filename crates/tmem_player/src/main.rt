@@ -46,7 +46,6 @@ mod session;
 use failure::Failure;
 use playing::play;
 use reading::row_of;
-use row::Row;
 use std::alloc::Global;
 use std::env::{self, Env};
 use std::io::{BufWriter, Read, Write};
@@ -80,9 +79,8 @@ fn run<R: Read, W: Write>(
     output: &mut W,
 ) -> Result<(), Failure> {
     let mode = mode_of(rt)?;
-    let row = read_row(rt.alloc(), input)?;
     let mut out = BufWriter::new(rt.alloc(), output)?;
-    let played = play(rt.alloc(), mode, row, &mut out);
+    let played = play_input(rt.alloc(), mode, input, &mut out);
     out.flush()?;
     played
 }
@@ -97,10 +95,15 @@ fn mode_of(rt: &(impl Env + AllocGlobal)) -> Result<Mode, Failure> {
     }
 }
 
-// Reads the row on the input.
-fn read_row<R: Read>(alloc: Global, input: &mut R) -> Result<Row, Failure> {
+// Reads the row on the input, and plays it.
+fn play_input<R: Read, W: Write>(
+    alloc: Global,
+    mode: Mode,
+    input: &mut R,
+    out: &mut W,
+) -> Result<(), Failure> {
     let text = read_all(alloc, input)?;
-    row_of(alloc, &text)
+    play(alloc, mode, row_of(alloc, &text)?, out)
 }
 
 // Reads all that is left of the input.

@@ -21,22 +21,26 @@ pub(crate) fn row_of(alloc: Global, text: &[u8]) -> Result<Row, Failure> {
 }
 
 fn row_of_value(alloc: Global, value: &Value) -> Result<Row, FormError> {
-    let (numbers, events) = members_of(value)?;
+    let (numbers, events) = members_of(value).ok_or(FormError::NoForm)?;
     let mut draft = Draft::new(alloc, numbers);
     add_entries(alloc, events, &mut draft)?;
     draft.finish()
 }
 
 // The numbers of a row, and its entries.
-fn members_of(value: &Value) -> Result<(Numbers, &Vec<Value>), FormError> {
-    let members = value.as_object().ok_or(FormError::NoForm)?;
-    if members.len() != 3 {
-        return Err(FormError::NoForm);
+fn members_of(value: &Value) -> Option<(Numbers, &Vec<Value>)> {
+    if !has_three(value) {
+        return None;
     }
-    let vars = value.get("vars").ok_or(FormError::NoForm)?;
-    let slots = value.get("slots").ok_or(FormError::NoForm)?;
-    let events = value.get("events").ok_or(FormError::NoForm)?;
-    Ok((numbers_of(vars, slots)?, items_of(events)?))
+    let numbers = numbers_of(value.get("vars")?, value.get("slots")?)?;
+    Some((numbers, value.get("events")?.as_array()?))
+}
+
+fn has_three(value: &Value) -> bool {
+    match value.as_object() {
+        Some(members) => members.len() == 3,
+        None => false,
+    }
 }
 
 fn add_entries(alloc: Global, entries: &[Value], draft: &mut Draft) -> Result<(), FormError> {
@@ -104,7 +108,7 @@ fn add_member(alloc: Global, key: &str, body: &Value, draft: &mut Draft) -> Resu
         "begin" | "turn" | "settle" => draft.add_event(event_of(alloc, key, body)?),
         "open" => add_opening(body, draft),
         "evaluate" => add_evaluation(alloc, body, draft),
-        "blank" => draft.add_act(Act::Blank(number_of(body)?)),
+        "blank" => draft.add_act(Act::Blank(body.as_u64().ok_or(FormError::NoForm)?)),
         _ => draft.add_act(Act::Touch(touch_of(alloc, key, body)?)),
     }
 }
@@ -137,23 +141,28 @@ fn slot_of(value: &Value) -> Result<u8, FormError>
     Ok(slot)
 }
 
-// A table's word, or an array of it and of a store's two numbers.
 fn add_opening(body: &Value, draft: &mut Draft) -> Result<(), FormError> {
-    let Some(items) = body.as_array() else {
-        return draft.open(handed_of(body)?, draft.numbers());
-    };
-    let [handed, vars, slots] = items.as_slice() else {
-        return Err(FormError::NoForm);
-    };
-    draft.open(handed_of(handed)?, numbers_of(vars, slots)?)
+    let (handed, numbers) = opening_of(body, draft.numbers()).ok_or(FormError::NoForm)?;
+    draft.open(handed, numbers)
 }
 
-fn handed_of(value: &Value) -> Result<Handed, FormError> {
-    match word_of(value)? {
-        "builtin" => Ok(Handed::Builtin),
-        "none" => Ok(Handed::None),
-        "broken" => Ok(Handed::Broken),
-        _ => Err(FormError::NoForm),
+// A table's word for these numbers, or an array of it and of two numbers.
+fn opening_of(body: &Value, numbers: Numbers) -> Option<(Handed, Numbers)> {
+    match body.as_array() {
+        None => Some((handed_of(body)?, numbers)),
+        Some(items) => match items.as_slice() {
+            [handed, vars, slots] => Some((handed_of(handed)?, numbers_of(vars, slots)?)),
+            _ => None,
+        },
+    }
+}
+
+fn handed_of(value: &Value) -> Option<Handed> {
+    match value.as_str()? {
+        "builtin" => Some(Handed::Builtin),
+        "none" => Some(Handed::None),
+        "broken" => Some(Handed::Broken),
+        _ => None,
     }
 }
 
@@ -182,93 +191,71 @@ fn values_of(alloc: Global, value: &Value) -> Result<Vec<i64>, FormError> {
 
 // What is done to a device that needs no store.
 fn touch_of(alloc: Global, key: &str, body: &Value) -> Result<Touch, FormError> {
+    if key == "write" {
+        let (at, bytes) = pair_of(body)?;
+        let at = at.as_u64().ok_or(FormError::NoForm)?;
+        return Ok(Touch::Write(at, bytes_of(alloc, bytes)?));
+    }
     match items_of(body)?.as_slice() {
-        [first, second] => pair_touch_of(alloc, key, first, second),
-        [first, second, third] => triple_touch_of(key, first, second, third),
-        _ => Err(FormError::NoForm),
-    }
-}
-
-fn pair_touch_of(
-    alloc: Global,
-    key: &str,
-    first: &Value,
-    second: &Value,
-) -> Result<Touch, FormError> {
-    match key {
-        "format" => Ok(Touch::Format(numbers_of(first, second)?)),
-        "fail" => Ok(Touch::Fail(call_of(first)?, number_of(second)?)),
-        "crash" => crash_now_of(first, second),
-        "bytes" => Ok(Touch::Bytes(number_of(first)?, number_of(second)?)),
-        "write" => Ok(Touch::Write(number_of(first)?, bytes_of(alloc, second)?)),
-        _ => Err(FormError::NoForm),
-    }
-}
-
-fn crash_now_of(when: &Value, fill: &Value) -> Result<Touch, FormError> {
-    match word_of(when)? {
-        "now" => Ok(Touch::CrashNow(fill_of(fill)?)),
-        _ => Err(FormError::NoForm),
-    }
-}
-
-fn triple_touch_of(
-    key: &str,
-    first: &Value,
-    second: &Value,
-    third: &Value,
-) -> Result<Touch, FormError> {
-    match key {
-        "crash" => crash_of(first, number_of(second)?, fill_of(third)?),
-        "copy" => {
-            let (from, count, to) = (number_of(first)?, number_of(second)?, number_of(third)?);
-            Ok(Touch::Copy(from, count, to))
+        [first, second] => pair_touch_of(key, first, second).ok_or(FormError::NoForm),
+        [first, second, third] => {
+            triple_touch_of(key, first, second, third).ok_or(FormError::NoForm)
         }
         _ => Err(FormError::NoForm),
     }
 }
 
-fn numbers_of(vars: &Value, slots: &Value) -> Result<Numbers, FormError> {
-    Ok(Numbers {
-        vars: short_of(vars)?,
-        slots: short_of(slots)?,
+fn pair_touch_of(key: &str, first: &Value, second: &Value) -> Option<Touch> {
+    match key {
+        "format" => Some(Touch::Format(numbers_of(first, second)?)),
+        "fail" => Some(Touch::Fail(call_of(first)?, second.as_u64()?)),
+        "crash" if first.as_str() == Some("now") => Some(Touch::CrashNow(fill_of(second)?)),
+        "bytes" => Some(Touch::Bytes(first.as_u64()?, second.as_u64()?)),
+        _ => None,
+    }
+}
+
+fn triple_touch_of(key: &str, first: &Value, second: &Value, third: &Value) -> Option<Touch> {
+    match key {
+        "crash" => crash_of(first, second.as_u64()?, fill_of(third)?),
+        "copy" => Some(Touch::Copy(first.as_u64()?, second.as_u64()?, third.as_u64()?)),
+        _ => None,
+    }
+}
+
+fn numbers_of(vars: &Value, slots: &Value) -> Option<Numbers> {
+    Some(Numbers {
+        vars: short_of(vars).ok()?,
+        slots: short_of(slots).ok()?,
     })
 }
 
-fn crash_of(when: &Value, number: u64, fill: Fill) -> Result<Touch, FormError> {
-    match word_of(when)? {
-        "write" => Ok(Touch::CrashAtWrite(number, fill)),
-        "place" => Ok(Touch::CrashAtPlace(number, fill)),
-        _ => Err(FormError::NoForm),
+fn crash_of(when: &Value, number: u64, fill: Fill) -> Option<Touch> {
+    match when.as_str()? {
+        "write" => Some(Touch::CrashAtWrite(number, fill)),
+        "place" => Some(Touch::CrashAtPlace(number, fill)),
+        _ => None,
     }
 }
 
-fn call_of(value: &Value) -> Result<DeviceFault, FormError> {
-    match word_of(value)? {
-        "read" => Ok(DeviceFault::Read),
-        "write" => Ok(DeviceFault::Write),
-        "sync" => Ok(DeviceFault::Sync),
-        _ => Err(FormError::NoForm),
+fn call_of(value: &Value) -> Option<DeviceFault> {
+    match value.as_str()? {
+        "read" => Some(DeviceFault::Read),
+        "write" => Some(DeviceFault::Write),
+        "sync" => Some(DeviceFault::Sync),
+        _ => None,
     }
 }
 
-fn fill_of(value: &Value) -> Result<Fill, FormError> {
+fn fill_of(value: &Value) -> Option<Fill> {
     if value.is_number() {
-        return Ok(Fill::Byte(byte_of(value)?));
+        return Some(Fill::Byte(byte_of(value).ok()?));
     }
-    match word_of(value)? {
-        "old" => Ok(Fill::Old),
-        "new" => Ok(Fill::New),
-        _ => Err(FormError::NoForm),
+    match value.as_str()? {
+        "old" => Some(Fill::Old),
+        "new" => Some(Fill::New),
+        _ => None,
     }
-}
-
-fn word_of(value: &Value) -> Result<&str, FormError> {
-    value.as_str().ok_or(FormError::NoForm)
-}
-
-fn number_of(value: &Value) -> Result<u64, FormError> {
-    value.as_u64().ok_or(FormError::NoForm)
 }
 
 fn bytes_of(alloc: Global, value: &Value) -> Result<Vec<u8>, FormError> {

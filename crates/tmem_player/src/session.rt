@@ -3,9 +3,8 @@ ghost use Rattle.std.specs.Prelude.{◌≡◌, IfOk};
 ghost use Rattle.tmem_world.specs.Represents.{numbers_of, HoldsSession};
 
 use crate::Mode;
-use crate::calls::Calls;
+use crate::calls::{Calls, CountedSteps};
 use crate::failure::Failure;
-use crate::handing::Work;
 use crate::printing::{print_fault, print_name, print_number, print_numbers};
 use crate::row::{Events, Numbers, Part};
 use std::alloc::Global;
@@ -28,29 +27,25 @@ struct Session<T: Invariants, S: StoredSteps> {
 }
 
 /// Opens a device, and plays parts on it. What an opening is refused by is a line too.
-pub(crate) fn play_session<T: Invariants + Drop, S: StoredSteps + Drop, W: Write>(
+pub(crate) fn play_session<T: Invariants + Drop, W: Write>(
     alloc: Global,
     mode: Mode,
     disk: &mut SimDisk,
-    work: Work<S>,
+    numbers: Numbers,
+    parts: &mut [Part],
     table: T,
     calls: &Calls,
     out: &mut W,
 ) -> Result<(), Failure>
-    requires { T.vars table ≡ work.numbers.vars }
+    requires { T.vars table ≡ numbers.vars }
 {
-    let Work {
-        numbers,
-        parts,
-        steps,
-    } = work;
-    match opened(alloc, disk, numbers, table, steps) {
+    match opened(alloc, disk, numbers, table, CountedSteps { counts: calls }) {
         Ok(mut session) => {
-            let played = session.play_parts(mode, parts, calls, out);
+            let played = session.play_parts(alloc, mode, parts, calls, out);
             *disk = session.into_disk();
             played
         }
-        Err(fault) => refuse(fault, &parts, out),
+        Err(fault) => refuse(fault, parts, out),
     }
 }
 
@@ -94,8 +89,9 @@ impl<T: Invariants + Drop, S: StoredSteps + Drop> Session<T, S> {
     // Prints how many transactions were found, and plays parts.
     fn play_parts<W: Write>(
         &mut self,
+        alloc: Global,
         mode: Mode,
-        parts: Vec<Part>,
+        parts: &mut [Part],
         calls: &Calls,
         out: &mut W,
     ) -> Result<(), Failure>
@@ -103,15 +99,16 @@ impl<T: Invariants + Drop, S: StoredSteps + Drop> Session<T, S> {
     {
         writeln!(out, "opened {}", self.world.count())?;
         for part in parts {
-            self.play_part(mode, part, calls, out)?;
+            self.play_part(alloc, mode, part, calls, out)?;
         }
         Ok(())
     }
 
     fn play_part<W: Write>(
         &mut self,
+        alloc: Global,
         mode: Mode,
-        part: Part,
+        part: &mut Part,
         calls: &Calls,
         out: &mut W,
     ) -> Result<(), Failure> {
@@ -119,10 +116,13 @@ impl<T: Invariants + Drop, S: StoredSteps + Drop> Session<T, S> {
             Part::Show => Ok(self.show(out)?),
             Part::Registers => Ok(print_registers(&self.registers, out)?),
             Part::Calls => Ok(print_calls(calls, out)?),
-            Part::Events(events) => match mode {
-                Mode::Step => self.step_all(events, out),
-                Mode::Play => self.play_all(events, out),
-            },
+            Part::Events(events) => {
+                let events = mem::replace(events, Events::new(alloc));
+                match mode {
+                    Mode::Step => self.step_all(events, out),
+                    Mode::Play => self.play_all(events, out),
+                }
+            }
         }
     }
 
