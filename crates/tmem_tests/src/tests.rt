@@ -46,6 +46,20 @@ fn fresh(alloc: Global) -> Result<SimDisk, Fault> {
     formatted(alloc, 4, 4)
 }
 
+/// A world over a device of four slots that holds nothing yet.
+fn opened<T: Invariants + Drop, S: StoredSteps + Drop>(
+    alloc: Global,
+    table: T,
+    steps: S,
+) -> Result<World<SimDisk, T, S>, Fault> {
+    let vars = table.vars();
+    let disk = formatted(alloc, vars, 4)?;
+    match World::open(alloc, disk, vars, 4, table, steps) {
+        Ok(world) => Ok(world),
+        Err((fault, _disk)) => Err(fault),
+    }
+}
+
 /// Begins a transaction on slot 0, evaluates it to its end, and settles it.
 fn commit<T: Invariants + Drop, S: StoredSteps + Drop>(
     world: &mut World<SimDisk, T, S>,

@@ -10,9 +10,14 @@ use tmem_image::{ImageState, choose, load, write_spare};
 use tmem_journal::{Journal, Layout, format};
 use tmem_record::{Batch, Effect, NameSet, State};
 
-/// An act, with what it is answered. Those of a session are for a journal that is open, all others for a device.
+/// An act, with what it is answered, or a mark between acts. Those of a session are for a journal that is open, all others for a
+/// device.
 #[derive(Clone, Copy)]
 pub(super) enum Act<'a> {
+    /// Begins a case of this name. The acts up to its first row are done first in each of its rows.
+    Case(&'a str),
+    /// Begins a row of a case.
+    Row,
     /// A new device of so many zeros, in the place of any other.
     Makes(u64),
     /// It holds so many bytes.
@@ -67,13 +72,6 @@ pub(super) enum Act<'a> {
     Closes,
 }
 
-/// A case: what is done first, and then each of some rows in the place of the others.
-pub(super) struct Case<'a> {
-    pub(super) name: &'a str,
-    pub(super) first: &'a [Act<'a>],
-    pub(super) rows: &'a [&'a [Act<'a>]],
-}
-
 /// What the acts are done to.
 type Device = CountDisk<SimDisk>;
 
@@ -84,27 +82,55 @@ enum Store {
     Session(Journal<Device>),
 }
 
-/// Does what the cases say, and fails where an act is answered otherwise.
-pub(super) fn play(rt: &impl Abort, alloc: Global, cases: &[Case]) -> Result<(), Fail> {
-    for case in cases {
-        play_rows(rt, alloc, case)?;
+/// Does what the cases say, each row on a store of its own, and fails where an act is answered otherwise.
+pub(super) fn play(rt: &impl Abort, alloc: Global, acts: &[Act]) -> Result<(), Fail> {
+    let mut case = 0;
+    for (place, act) in acts.iter().enumerate() {
+        if matches!(act, Act::Case(_)) {
+            case = place;
+        }
+        if matches!(act, Act::Row) {
+            let other = other_in_row(alloc, behind(acts, case), behind(acts, place))?;
+            assert!(rt;
+                other.is_none(),
+                "{}, row at act {place}: {other:?}",
+                name_at(acts, case)
+            );
+        }
     }
     Ok(())
 }
 
-fn play_rows(rt: &impl Abort, alloc: Global, case: &Case) -> Result<(), Fault> {
-    for (row, rest) in case.rows.iter().enumerate() {
-        let other = other_in_row(alloc, case.first, rest)?;
-        assert!(rt; other.is_none(), "{}, row {row}: {other:?}", case.name);
+/// The name of the case that begins there.
+fn name_at<'a>(acts: &[Act<'a>], case: usize) -> &'a str {
+    match acts.get(case) {
+        Some(Act::Case(name)) => *name,
+        _ => "",
     }
-    Ok(())
+}
+
+/// The acts behind a mark, up to the next one.
+fn behind<'b, 'a>(acts: &'b [Act<'a>], mark: usize) -> &'b [Act<'a>] {
+    let begin = if mark < acts.len() {
+        mark + 1
+    } else {
+        acts.len()
+    };
+    let rest = &acts[begin..];
+    match rest
+        .iter()
+        .position(|act| matches!(act, Act::Case(_) | Act::Row))
+    {
+        Some(end) => &rest[..end],
+        None => rest,
+    }
 }
 
 /// The place of the first act of a row that is answered otherwise.
 fn other_in_row<'a>(
     alloc: Global,
-    first: &'a [Act<'a>],
-    rest: &'a [Act<'a>],
+    first: &[Act<'a>],
+    rest: &[Act<'a>],
 ) -> Result<Option<usize>, Fault> {
     let mut acts = Vec::from_slice(alloc, first)?;
     acts.extend_from_slice(rest)?;

@@ -2,7 +2,7 @@
 ghost use Rattle.std.specs.Prelude.{◌≡◌, length};
 ghost use Rattle.tmem_builtins.specs.Steps.{sum_of, difference_of, at_least};
 
-use super::{commit, formatted};
+use super::{commit, opened};
 use std::alloc::{AllocError, Global};
 use std::process::Abort;
 use std::test::Fail;
@@ -78,22 +78,22 @@ impl Built {
             Built::Put(var, value) => put(alloc, var, value),
             Built::AddTo(var, n) => add_to(alloc, var, n),
             Built::Take(var, n) => take(alloc, var, n),
-            Built::Move(from, to, n) => {
-                let parts = vec![in alloc; take(alloc, from, n)?, add_to(alloc, to, n)?]?;
-                Ok(all_of(parts))
-            }
+            Built::Move(from, to, n) => moves(alloc, from, to, n),
             Built::TakeOrPut(n) => first_of(alloc, take(alloc, 0, 1)?, put(alloc, 2, n)?),
-            Built::TakeOrPutOr(n) => {
-                let alternatives = vec![in alloc;
-                    take(alloc, 0, 1)?,
-                    put(alloc, 2, n)?,
-                    put(alloc, 2, 1)?,
-                ]?;
-                first_of_several(alloc, alternatives)
-            }
+            Built::TakeOrPutOr(n) => takes_or_puts_or(alloc, n),
             Built::OneOfNone => first_of_several(alloc, Vec::new(alloc)),
         }
     }
+}
+
+fn moves(alloc: Global, from: u16, to: u16, n: i64) -> Result<Tx, AllocError> {
+    let (taken, added) = (take(alloc, from, n)?, add_to(alloc, to, n)?);
+    Ok(all_of(vec![in alloc; taken, added]?))
+}
+
+fn takes_or_puts_or(alloc: Global, n: i64) -> Result<Tx, AllocError> {
+    let (taken, this, other) = (take(alloc, 0, 1)?, put(alloc, 2, n)?, put(alloc, 2, 1)?);
+    first_of_several(alloc, vec![in alloc; taken, this, other]?)
 }
 
 fn end_of(reply: &Reply) -> Ends {
@@ -126,12 +126,8 @@ fn plays_over<T: Invariants + Drop, S: StoredSteps + Drop>(
     table: T,
     steps: S,
 ) -> Result<(), Fault> {
-    let vars = table.vars();
-    let disk = formatted(alloc, vars, 4)?;
-    match World::open(alloc, disk, vars, 4, table, steps) {
-        Ok(mut world) => plays(rt, alloc, &mut world),
-        Err(refusal) => Err(refusal.0),
-    }
+    let mut world = opened(alloc, table, steps)?;
+    plays(rt, alloc, &mut world)
 }
 
 #[test]

@@ -3,7 +3,7 @@ ghost use Rattle.std.specs.Prelude.{◌≡◌, ◌<◌, length};
 ghost use Rattle.tmem_invariants.specs.Answers.{MayCall, HasMeaning};
 ghost use Rattle.tmem_tests.specs.Examples.{is_last_not_negative, is_sum_not_negative};
 
-use super::{commit, committed, formatted, write};
+use super::{commit, committed, opened, write};
 use std::alloc::Global;
 use std::process::Abort;
 use std::test::Fail;
@@ -129,12 +129,8 @@ fn registers_and_keeps<T: Invariants + Drop, S: StoredSteps + Drop>(
     steps: S,
     writes: &[(u16, i64, Option<u8>)],
 ) -> Result<(), Fault> {
-    let vars = table.vars();
-    let disk = formatted(alloc, vars, 4)?;
-    match World::open(alloc, disk, vars, 4, table, steps) {
-        Ok(mut world) => keeps_all(rt, alloc, &mut world, writes),
-        Err(refusal) => Err(refusal.0),
-    }
+    let mut world = opened(alloc, table, steps)?;
+    keeps_all(rt, alloc, &mut world, writes)
 }
 
 /// The same in a world that is lent.

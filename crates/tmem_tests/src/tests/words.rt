@@ -32,10 +32,9 @@ fn makes_name(text: &str) -> Option<bool> {
 #[test]
 fn a_name_is_one_to_sixteen_letters(rt: HostRuntime) -> Result<(), Fail> {
     for (text, is_name) in TEXTS {
-        assert_eq!(rt; makes_name(text), Some(*is_name), "{text}");
+        assert!(rt; makes_name(text) == Some(*is_name), "{text}");
     }
-    assert!(rt; is_before("ab", "b")?);
-    assert!(rt; is_before("a", "aa")?);
+    assert!(rt; is_before("ab", "b")? && is_before("a", "aa")?);
     Ok(())
 }
 
@@ -69,14 +68,20 @@ fn is_printed(alloc: Global, fault: Fault, line: &str) -> Result<bool, AllocErro
     Ok(printed.as_str() == line)
 }
 
+/// Whether a refusal that names an invariant has it in its line.
+fn are_named(alloc: Global) -> Result<bool, Fault> {
+    let name = Name::new("nonneg")?;
+    Ok(
+        is_printed(alloc, Fault::Missing(name), "fault 10 missing nonneg")?
+            && is_printed(alloc, Fault::Broken(name), "fault 11 broken nonneg")?,
+    )
+}
+
 #[test]
 fn each_fault_has_its_line(rt: HostRuntime) -> Result<(), Fail> {
-    let alloc = rt.alloc();
     for (fault, line) in LINES {
-        assert!(rt; is_printed(alloc, fault, line)?, "{line}");
+        assert!(rt; is_printed(rt.alloc(), fault, line)?, "{line}");
     }
-    let name = Name::new("nonneg")?;
-    assert!(rt; is_printed(alloc, Fault::Missing(name), "fault 10 missing nonneg")?);
-    assert!(rt; is_printed(alloc, Fault::Broken(name), "fault 11 broken nonneg")?);
+    assert!(rt; are_named(rt.alloc())?);
     Ok(())
 }
