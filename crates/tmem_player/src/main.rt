@@ -6,7 +6,7 @@
 //! | Entry | What it does, and prints |
 //! |---|---|
 //! | `"registers"` | prints the registers of the last transaction that was committed or seen |
-//! | `"calls"` | prints how often closures were called since the last time: of invariants, and of stored steps |
+//! | `"calls"` | prints how often closures of invariants, and stored steps, were called since the last time |
 //! | `{"times":[N,[ENTRY,..]]}` | these entries, N times |
 //!
 //! Each of these ends the session, if there is one, and leaves the device as it is:

@@ -87,7 +87,7 @@ pub(crate) enum Part {
     Show,
     /// Prints the registers of the last transaction that was answered with some.
     Registers,
-    /// Prints how often closures were called since the last time.
+    /// Prints how often closures and stored steps were called since the last time.
     Calls,
 }
 

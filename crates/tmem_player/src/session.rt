@@ -215,7 +215,7 @@ fn print_registers<W: Write>(registers: &[i64; REGISTERS], out: &mut W) -> io::R
     out.write_all(b"\n")
 }
 
-// Prints how often closures were called since the last time.
+// Prints how often closures and stored steps were called since the last time.
 fn print_calls<W: Write>(calls: &Calls, out: &mut W) -> io::Result<()> {
     let (tests, steps) = (calls.take_tests(), calls.take_steps());
     writeln!(out, "calls invariants={tests} steps={steps}")
