@@ -22,7 +22,7 @@ fn main(rt: HostRuntime) -> Result<(), Fault> {
     )?;
     let balanced = Invariant::new(Name::new("balanced")?, vec![in alloc; 0, 1]?, balanced)?;
     let table = Table::of(alloc, vec![in alloc; balanced]?, 2)?;
-    let (lost, found) = transfer(alloc, table, Steps::of(Vec::new(alloc))?)?;
+    let (lost, found) = transfer_in_new(alloc, table, Steps::of(Vec::new(alloc))?)?;
     let _ = println!(rt;
         "a loss is accepted: {lost}\nfound: {} and {}",
         found.0, found.1
@@ -30,25 +30,34 @@ fn main(rt: HostRuntime) -> Result<(), Fault> {
     Ok(())
 }
 
-/// Moves 30 from account 0 to account 1 of a new store, tries to lose it, and opens the store again. Answers whether the
-/// loss was accepted, and what the accounts have then.
-fn transfer<T: Invariants + Drop, S: StoredSteps + Drop>(
+/// Makes a new store over these invariants and stored steps, and moves money there.
+fn transfer_in_new<T: Invariants + Drop, S: StoredSteps + Drop>(
     alloc: Global,
     table: T,
     steps: S,
 ) -> Result<(bool, (i64, i64)), Fault>
     requires { T.vars table ≡ 2 }
 {
-    let (moves, loses) = (move_thirty(alloc)?, write(alloc, 1, 0)?);
     let mut world = new_store(alloc, table, steps)?;
-    commit(&mut world, moves);
-    let lost = commit(&mut world, loses);
+    transfer(alloc, &mut world)
+}
+
+/// Moves 30 from account 0 to account 1 of a new store, tries to lose it, and opens the store again. Answers whether the
+/// loss was accepted, and what the accounts have then.
+fn transfer<D: Disk + Drop, T: Invariants + Drop, S: StoredSteps + Drop>(
+    alloc: Global,
+    world: &mut World<D, T, S>,
+) -> Result<(bool, (i64, i64)), Fault>
+    requires { (numbers_of world.old).vars ≡ 2 }
+{
+    commit(world, move_thirty(alloc)?);
+    let lost = commit(world, write(alloc, 1, 0)?);
     world.step(Event::Flush);
     world.step(Event::Reopen);
     if !world.is_open() {
         return Err(Fault::Closed);
     }
-    Ok((lost, accounts(&world)))
+    Ok((lost, accounts(world)))
 }
 
 /// The transaction that moves 30 from account 0 to account 1, and registers the invariant.
