@@ -84,6 +84,7 @@ enum Store {
 
 /// Does what the cases say, each row on a store of its own, and fails where an act is answered otherwise.
 pub(super) fn play(rt: &impl Abort, alloc: Global, acts: &[Act]) -> Result<(), Fail> {
+    assert!(rt; each_case_has_a_row(acts), "a case has no row");
     let mut case = 0;
     for (place, act) in acts.iter().enumerate() {
         if matches!(act, Act::Case(_)) {
@@ -99,6 +100,20 @@ pub(super) fn play(rt: &impl Abort, alloc: Global, acts: &[Act]) -> Result<(), F
         }
     }
     Ok(())
+}
+
+/// Whether a row follows each case before the next one, so that all cases are played.
+fn each_case_has_a_row(acts: &[Act]) -> bool {
+    let mut has_row = true;
+    for act in acts {
+        match act {
+            Act::Case(_) if !has_row => return false,
+            Act::Case(_) => has_row = false,
+            Act::Row => has_row = true,
+            _ => {}
+        }
+    }
+    has_row
 }
 
 /// The name of the case that begins there.
