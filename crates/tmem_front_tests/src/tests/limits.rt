@@ -139,14 +139,13 @@ fn the_last_attempt_is_made_after_the_time_is_over(rt: HostRuntime) -> Result<()
 fn a_thread_that_is_woken_sleeps_for_what_is_left(rt: HostRuntime) -> Result<(), Fail> {
     let scene = Scene {
         threads: [
-            &[(Move::AwaitWithin(1, 1000), Answer::Late)],
+            &[(Move::CommitWithin(Task::NeedOne, 2000), Answer::Retried)],
             &[],
             &[],
             &[
-                (Move::Sleep(600), Answer::Done),
-                (Move::TryCommit(Task::Write(0, 1)), Answer::Committed(0)),
-                (Move::Flush, Answer::Number(1)),
-                (Move::Sleep(700), Answer::Done),
+                (Move::Sleep(1500), Answer::Done),
+                (Move::TryCommit(Task::Write(2, 0)), Answer::Committed(0)),
+                (Move::Sleep(1500), Answer::Done),
                 (Move::Shut, Answer::Done),
             ],
         ],

@@ -98,19 +98,23 @@ fn a_thread_waits_for_a_pass_that_was_not_the_pools(rt: HostRuntime) -> Result<(
 #[test]
 fn a_thread_waits_for_a_pass_for_no_longer_than_a_time(rt: HostRuntime) -> Result<(), Fail> {
     let scene = Scene {
-        before: &[(Move::NewPasses(27), Answer::Number(27))],
+        before: &[
+            (Move::NewPasses(27), Answer::Number(27)),
+            (Move::HoldSteps(1), Answer::Done),
+        ],
         threads: [
             &[
                 (Move::Acquire, Answer::Done),
-                (Move::TryCommit(Task::Write(1, 1)), Answer::Committed(0)),
-                (Move::Sleep(600), Answer::Done),
+                // it is held until the other thread has waited in vain
+                (Move::TryCommit(Task::AddOne), Answer::Committed(0)),
                 (Move::TryCommit(Task::Write(1, 2)), Answer::Committed(1)),
                 (Move::ReleasePass, Answer::Done),
             ],
             &[
-                (Move::Sleep(300), Answer::Done),
+                (Move::AwaitHeld(1), Answer::Done),
                 (Move::AcquireWithin(30), Answer::Late),
-                (Move::Peek(1), Answer::Value(1)),
+                (Move::Peek(1), Answer::Value(0)),
+                (Move::Release, Answer::Done),
                 (Move::AcquireWithin(LONG), Answer::Done),
                 (Move::Peek(1), Answer::Value(2)),
             ],

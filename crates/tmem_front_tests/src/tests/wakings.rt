@@ -257,9 +257,9 @@ fn passes_sixteen_apart_sleep_apart(rt: HostRuntime) -> Result<(), Fail> {
             ],
             &[],
             &[
-                (Move::Sleep(400), Answer::Done),
+                (Move::Sleep(700), Answer::Done),
                 (Move::TryCommit(Task::Write(1, 1)), Answer::Committed(0)),
-                (Move::Sleep(200), Answer::Done),
+                (Move::Sleep(700), Answer::Done),
                 (Move::TryCommit(Task::Write(2, 1)), Answer::Committed(1)),
             ],
         ],
@@ -281,7 +281,7 @@ fn what_was_read_before_wakes_no_more(rt: HostRuntime) -> Result<(), Fail> {
             &[
                 (Move::Sleep(100), Answer::Done),
                 (Move::TryCommit(Task::Write(1, 1)), Answer::Committed(0)),
-                (Move::Sleep(100), Answer::Done),
+                (Move::Sleep(700), Answer::Done),
                 // it waits for variable 2 now
                 (Move::TryCommit(Task::Write(1, 2)), Answer::Committed(1)),
                 (Move::Sleep(100), Answer::Done),

@@ -102,8 +102,11 @@ pub(super) fn play(rt: &impl Abort, alloc: Global, acts: &[Act]) -> Result<(), F
     Ok(())
 }
 
-/// Whether a row follows each case before the next one, so that all cases are played.
+/// Whether there is a case, and a row follows each one before the next, so that all are played.
 fn each_case_has_a_row(acts: &[Act]) -> bool {
+    if !matches!(acts.first(), Some(Act::Case(_))) {
+        return false;
+    }
     let mut has_row = true;
     for act in acts {
         match act {

@@ -57,7 +57,7 @@ fn refusal_over(alloc: Global, footprint: &[u16]) -> Result<Option<Fault>, Fault
 fn footprints_out_of_limits_are_refused(rt: HostRuntime) -> Result<(), Fail> {
     for (footprint, fault) in FOOTPRINTS {
         let had = refusal_over(rt.alloc(), footprint)?;
-        assert!(rt; had == fault, "{had:?}");
+        assert!(rt; had == fault, "{had:?} where {fault:?} was wanted");
     }
     Ok(())
 }
@@ -94,7 +94,7 @@ fn refusal_of(alloc: Global, entries: u8, names: u8, var: u16) -> Result<Option<
 fn tables_out_of_limits_are_refused(rt: HostRuntime) -> Result<(), Fail> {
     for (entries, names, var, fault) in TABLES {
         let had = refusal_of(rt.alloc(), entries, names, var)?;
-        assert!(rt; had == fault, "{had:?}");
+        assert!(rt; had == fault, "{had:?} where {fault:?} was wanted");
     }
     Ok(())
 }
