@@ -1,217 +1,140 @@
 //! What goes on while a thread is held in the middle of a call.
-use super::moves::{Answer, Move, Refusal, Row, Task};
-use super::scenes::{Scene, play};
+use super::moves::Answer::{Committed, Done, Holds, Number, Refused, Value};
+use super::moves::Move::{
+    Attempt, Await, AwaitHeld, Checkpoint, Commit, Flush, HoldSteps, HoldSyncs, Look, LooksAtMost,
+    NewPass, Peek, Release, Settle, Shut, Sleep, TryCommit, Vouch,
+};
+use super::moves::{Answer, Refusal, Task};
+use super::scenes::Line::{After, Before, First, Last, Scene, Second, Third};
+use super::scenes::{Line, play};
 use std::test::Fail;
 
-const CLOSED: Answer = Answer::Refused(Refusal::Closed);
+const CLOSED: Answer = Refused(Refusal::Closed);
 
-/// While one thread is held, another one reads and writes once by each way, peeks, and looks: nothing is durable by then.
-const MEANWHILE: &[Row] = &[
-    (Move::AwaitHeld(1), Answer::Done),
-    (Move::TryCommit(Task::AddOne), Answer::Committed(1)),
-    (Move::Commit(Task::AddOne), Answer::Committed(2)),
-    (Move::Attempt(Task::AddOne), Answer::Done),
-    (Move::Settle, Answer::Committed(3)),
-    (Move::Peek(0), Answer::Value(4)),
-    (Move::Look, Answer::Number(0)),
-    (Move::Release, Answer::Done),
+static SCENES: &[Line<'static>] = &[
+    Scene("settle while sync held"),
+    Before(TryCommit(Task::Write(0, 1)), Committed(0)),
+    Before(HoldSyncs(1), Done),
+    First(Flush, Number(1)),
+    Last(AwaitHeld(1), Done),
+    Last(TryCommit(Task::AddOne), Committed(1)),
+    Last(Commit(Task::AddOne), Committed(2)),
+    Last(Attempt(Task::AddOne), Done),
+    Last(Settle, Committed(3)),
+    Last(Peek(0), Value(4)),
+    Last(Look, Number(0)),
+    Last(Release, Done),
+    After(Look, Number(1)),
+    Scene("settle while the sync of a checkpoint is held"),
+    Before(TryCommit(Task::Write(0, 1)), Committed(0)),
+    Before(HoldSyncs(1), Done),
+    First(Checkpoint, Done),
+    Last(AwaitHeld(1), Done),
+    Last(TryCommit(Task::AddOne), Committed(1)),
+    Last(Commit(Task::AddOne), Committed(2)),
+    Last(Attempt(Task::AddOne), Done),
+    Last(Settle, Committed(3)),
+    Last(Peek(0), Value(4)),
+    Last(Look, Number(0)),
+    Last(Release, Done),
+    // a checkpoint makes nothing durable that waits
+    After(Look, Number(0)),
+    Scene("an attempt is made once where another commits meanwhile"),
+    Before(TryCommit(Task::Write(0, 1)), Committed(0)),
+    Before(HoldSteps(1), Done),
+    First(TryCommit(Task::AddOne), Refused(Refusal::Conflict)),
+    Last(AwaitHeld(1), Done),
+    Last(TryCommit(Task::AddOne), Committed(1)),
+    Last(Commit(Task::AddOne), Committed(2)),
+    Last(Attempt(Task::AddOne), Done),
+    Last(Settle, Committed(3)),
+    Last(Peek(0), Value(4)),
+    Last(Look, Number(0)),
+    Last(Release, Done),
+    After(Look, Number(0)),
+    Scene("no call but one of the device waits for a sync"),
+    Before(TryCommit(Task::Write(0, 1)), Committed(0)),
+    Before(HoldSyncs(1), Done),
+    First(Flush, Number(1)),
+    Second(Await(1), CLOSED),
+    Third(Commit(Task::NeedOne), CLOSED),
+    Last(AwaitHeld(1), Done),
+    Last(NewPass, Done),
+    Last(Peek(0), Value(1)),
+    Last(Attempt(Task::AddOne), Done),
+    Last(Settle, Committed(1)),
+    Last(Look, Number(0)),
+    Last(Shut, Done),
+    Last(Settle, CLOSED),
+    Last(Release, Done),
+    After(Look, Number(1)),
+    Scene("a transaction that met two conflicts is evaluated alone"),
+    Before(TryCommit(Task::Write(0, 1)), Committed(0)),
+    Before(HoldSteps(3), Done),
+    First(Commit(Task::AddOne), Committed(3)),
+    // waits for the lock, while the third addition is held under it
+    Second(AwaitHeld(3), Done),
+    Second(TryCommit(Task::Write(0, 9)), Committed(4)),
+    Last(AwaitHeld(1), Done),
+    Last(TryCommit(Task::Write(0, 5)), Committed(1)),
+    Last(Release, Done),
+    Last(AwaitHeld(2), Done),
+    Last(TryCommit(Task::Write(0, 7)), Committed(2)),
+    Last(Release, Done),
+    Last(AwaitHeld(3), Done),
+    Last(Sleep(500), Done),
+    Last(Release, Done),
+    After(Peek(0), Value(9)),
+    Scene("a transaction that retries alone waits for another"),
+    Before(TryCommit(Task::Write(0, 1)), Committed(0)),
+    Before(HoldSteps(3), Done),
+    First(Commit(Task::AddOnceThereIsOne), Committed(4)),
+    Last(AwaitHeld(1), Done),
+    Last(TryCommit(Task::Write(0, 5)), Committed(1)),
+    Last(Release, Done),
+    Last(AwaitHeld(2), Done),
+    Last(TryCommit(Task::Write(0, 7)), Committed(2)),
+    Last(Release, Done),
+    Last(AwaitHeld(3), Done),
+    Last(Release, Done),
+    Last(Sleep(100), Done),
+    Last(LooksAtMost(3), Holds(true)),
+    Last(TryCommit(Task::Write(2, 1)), Committed(3)),
+    After(Peek(0), Value(8)),
+    Scene("a vouch that waits keeps no other call waiting"),
+    Before(TryCommit(Task::Write(0, 1)), Committed(0)),
+    Before(Flush, Number(1)),
+    Before(TryCommit(Task::Write(0, 2)), Committed(1)),
+    Before(HoldSyncs(1), Done),
+    First(Flush, Number(2)),
+    Second(Look, Number(1)),
+    Second(AwaitHeld(1), Done),
+    Second(Vouch(0), Number(2)),
+    Last(AwaitHeld(1), Done),
+    Last(Sleep(50), Done),
+    Last(Peek(0), Value(2)),
+    Last(Release, Done),
+    Scene("conflicts are counted anew after a wait"),
+    Before(TryCommit(Task::Write(0, 1)), Committed(0)),
+    Before(HoldSteps(4), Done),
+    First(Commit(Task::AddOnceThereIsOne), Committed(5)),
+    Last(AwaitHeld(1), Done),
+    Last(TryCommit(Task::Write(0, 5)), Committed(1)),
+    Last(Release, Done),
+    Last(AwaitHeld(2), Done),
+    Last(TryCommit(Task::Write(0, 7)), Committed(2)),
+    Last(Release, Done),
+    Last(AwaitHeld(3), Done),
+    Last(Release, Done),
+    Last(Sleep(100), Done),
+    Last(TryCommit(Task::Write(2, 1)), Committed(3)),
+    Last(AwaitHeld(4), Done),
+    // it is not evaluated under the lock
+    Last(TryCommit(Task::Write(5, 1)), Committed(4)),
+    Last(Release, Done),
 ];
 
-fn meanwhile<'a>(before: &'a [Row], held: &'a [Row], after: &'a [Row]) -> Scene<'a> {
-    Scene {
-        before,
-        threads: [held, &[], &[], MEANWHILE],
-        after,
-        ..Scene::empty()
-    }
-}
-
 #[test]
-fn settle_while_sync_held(rt: HostRuntime) -> Result<(), Fail> {
-    let before: &[Row] = &[
-        (Move::TryCommit(Task::Write(0, 1)), Answer::Committed(0)),
-        (Move::HoldSyncs(1), Answer::Done),
-    ];
-    let held: &[Row] = &[(Move::Flush, Answer::Number(1))];
-    let after: &[Row] = &[(Move::Look, Answer::Number(1))];
-    play(&rt, rt.alloc(), &meanwhile(before, held, after))
-}
-
-#[test]
-fn settle_while_the_sync_of_a_checkpoint_is_held(rt: HostRuntime) -> Result<(), Fail> {
-    let before: &[Row] = &[
-        (Move::TryCommit(Task::Write(0, 1)), Answer::Committed(0)),
-        (Move::HoldSyncs(1), Answer::Done),
-    ];
-    let held: &[Row] = &[(Move::Checkpoint, Answer::Done)];
-    // a checkpoint makes nothing durable that waits
-    let after: &[Row] = &[(Move::Look, Answer::Number(0))];
-    play(&rt, rt.alloc(), &meanwhile(before, held, after))
-}
-
-#[test]
-fn an_attempt_is_made_once_where_another_commits_meanwhile(rt: HostRuntime) -> Result<(), Fail> {
-    let before: &[Row] = &[
-        (Move::TryCommit(Task::Write(0, 1)), Answer::Committed(0)),
-        (Move::HoldSteps(1), Answer::Done),
-    ];
-    let conflict = Answer::Refused(Refusal::Conflict);
-    let held: &[Row] = &[(Move::TryCommit(Task::AddOne), conflict)];
-    let after: &[Row] = &[(Move::Look, Answer::Number(0))];
-    play(&rt, rt.alloc(), &meanwhile(before, held, after))
-}
-
-#[test]
-fn no_call_but_one_of_the_device_waits_for_a_sync(rt: HostRuntime) -> Result<(), Fail> {
-    let scene = Scene {
-        before: &[
-            (Move::TryCommit(Task::Write(0, 1)), Answer::Committed(0)),
-            (Move::HoldSyncs(1), Answer::Done),
-        ],
-        threads: [
-            &[(Move::Flush, Answer::Number(1))],
-            &[(Move::Await(1), CLOSED)],
-            &[(Move::Commit(Task::NeedOne), CLOSED)],
-            &[
-                (Move::AwaitHeld(1), Answer::Done),
-                (Move::NewPass, Answer::Done),
-                (Move::Peek(0), Answer::Value(1)),
-                (Move::Attempt(Task::AddOne), Answer::Done),
-                (Move::Settle, Answer::Committed(1)),
-                (Move::Look, Answer::Number(0)),
-                (Move::Shut, Answer::Done),
-                (Move::Settle, CLOSED),
-                (Move::Release, Answer::Done),
-            ],
-        ],
-        after: &[(Move::Look, Answer::Number(1))],
-        ..Scene::empty()
-    };
-    play(&rt, rt.alloc(), &scene)
-}
-
-#[test]
-fn a_transaction_that_met_two_conflicts_is_evaluated_alone(rt: HostRuntime) -> Result<(), Fail> {
-    let scene = Scene {
-        before: &[
-            (Move::TryCommit(Task::Write(0, 1)), Answer::Committed(0)),
-            (Move::HoldSteps(3), Answer::Done),
-        ],
-        threads: [
-            &[(Move::Commit(Task::AddOne), Answer::Committed(3))],
-            // waits for the lock, while the third addition is held under it
-            &[
-                (Move::AwaitHeld(3), Answer::Done),
-                (Move::TryCommit(Task::Write(0, 9)), Answer::Committed(4)),
-            ],
-            &[],
-            &[
-                (Move::AwaitHeld(1), Answer::Done),
-                (Move::TryCommit(Task::Write(0, 5)), Answer::Committed(1)),
-                (Move::Release, Answer::Done),
-                (Move::AwaitHeld(2), Answer::Done),
-                (Move::TryCommit(Task::Write(0, 7)), Answer::Committed(2)),
-                (Move::Release, Answer::Done),
-                (Move::AwaitHeld(3), Answer::Done),
-                (Move::Sleep(500), Answer::Done),
-                (Move::Release, Answer::Done),
-            ],
-        ],
-        after: &[(Move::Peek(0), Answer::Value(9))],
-        ..Scene::empty()
-    };
-    play(&rt, rt.alloc(), &scene)
-}
-
-#[test]
-fn a_transaction_that_retries_alone_waits_for_another(rt: HostRuntime) -> Result<(), Fail> {
-    let scene = Scene {
-        before: &[
-            (Move::TryCommit(Task::Write(0, 1)), Answer::Committed(0)),
-            (Move::HoldSteps(3), Answer::Done),
-        ],
-        threads: [
-            &[(Move::Commit(Task::AddOnceThereIsOne), Answer::Committed(4))],
-            &[],
-            &[],
-            &[
-                (Move::AwaitHeld(1), Answer::Done),
-                (Move::TryCommit(Task::Write(0, 5)), Answer::Committed(1)),
-                (Move::Release, Answer::Done),
-                (Move::AwaitHeld(2), Answer::Done),
-                (Move::TryCommit(Task::Write(0, 7)), Answer::Committed(2)),
-                (Move::Release, Answer::Done),
-                (Move::AwaitHeld(3), Answer::Done),
-                (Move::Release, Answer::Done),
-                (Move::Sleep(100), Answer::Done),
-                (Move::LooksAtMost(3), Answer::Holds(true)),
-                (Move::TryCommit(Task::Write(2, 1)), Answer::Committed(3)),
-            ],
-        ],
-        after: &[(Move::Peek(0), Answer::Value(8))],
-        ..Scene::empty()
-    };
-    play(&rt, rt.alloc(), &scene)
-}
-
-#[test]
-fn a_vouch_that_waits_keeps_no_other_call_waiting(rt: HostRuntime) -> Result<(), Fail> {
-    let scene = Scene {
-        before: &[
-            (Move::TryCommit(Task::Write(0, 1)), Answer::Committed(0)),
-            (Move::Flush, Answer::Number(1)),
-            (Move::TryCommit(Task::Write(0, 2)), Answer::Committed(1)),
-            (Move::HoldSyncs(1), Answer::Done),
-        ],
-        threads: [
-            &[(Move::Flush, Answer::Number(2))],
-            &[
-                (Move::Look, Answer::Number(1)),
-                (Move::AwaitHeld(1), Answer::Done),
-                (Move::Vouch(0), Answer::Number(2)),
-            ],
-            &[],
-            &[
-                (Move::AwaitHeld(1), Answer::Done),
-                (Move::Sleep(50), Answer::Done),
-                (Move::Peek(0), Answer::Value(2)),
-                (Move::Release, Answer::Done),
-            ],
-        ],
-        ..Scene::empty()
-    };
-    play(&rt, rt.alloc(), &scene)
-}
-
-#[test]
-fn conflicts_are_counted_anew_after_a_wait(rt: HostRuntime) -> Result<(), Fail> {
-    let scene = Scene {
-        before: &[
-            (Move::TryCommit(Task::Write(0, 1)), Answer::Committed(0)),
-            (Move::HoldSteps(4), Answer::Done),
-        ],
-        threads: [
-            &[(Move::Commit(Task::AddOnceThereIsOne), Answer::Committed(5))],
-            &[],
-            &[],
-            &[
-                (Move::AwaitHeld(1), Answer::Done),
-                (Move::TryCommit(Task::Write(0, 5)), Answer::Committed(1)),
-                (Move::Release, Answer::Done),
-                (Move::AwaitHeld(2), Answer::Done),
-                (Move::TryCommit(Task::Write(0, 7)), Answer::Committed(2)),
-                (Move::Release, Answer::Done),
-                (Move::AwaitHeld(3), Answer::Done),
-                (Move::Release, Answer::Done),
-                (Move::Sleep(100), Answer::Done),
-                (Move::TryCommit(Task::Write(2, 1)), Answer::Committed(3)),
-                (Move::AwaitHeld(4), Answer::Done),
-                // it is not evaluated under the lock
-                (Move::TryCommit(Task::Write(5, 1)), Answer::Committed(4)),
-                (Move::Release, Answer::Done),
-            ],
-        ],
-        ..Scene::empty()
-    };
-    play(&rt, rt.alloc(), &scene)
+fn what_is_held_keeps_no_other_call_waiting(rt: HostRuntime) -> Result<(), Fail> {
+    play(&rt, rt.alloc(), SCENES)
 }

@@ -104,7 +104,7 @@ pub(super) enum Move {
     LooksAtMost(u64),
 }
 
-/// Which fault a move is refused with, without what some faults carry: so a row is plain data, and stands in a constant.
+/// Which fault a move is refused with, without what some faults carry: so a line is plain data, and stands in a table.
 #[derive(Clone, Copy, Debug, PartialEq)]
 pub(super) enum Refusal {
     Memory,
@@ -169,9 +169,6 @@ pub(super) enum Answer {
     /// What was waited for did not come in time.
     Late,
 }
-
-/// A move, and what it has to be answered.
-pub(super) type Row = (Move, Answer);
 
 impl Task {
     /// What a plan is made of.

@@ -1,131 +1,85 @@
 //! One caller or two passes: what they are answered, one after another.
-use super::moves::{Answer, Move, Refusal, Task};
-use super::scenes::{Scene, play};
+use super::moves::Answer::{Committed, Done, Number, Refused, Retried, Saw, Value};
+use super::moves::Move::{
+    Attempt, Commit, CommitWithin, Fill, Flush, Look, NewPass, NewPasses, OtherPass, Peek, Seen,
+    Settle, Shut, TryCommit, Vouch,
+};
+use super::moves::{Answer, Refusal, Task};
+use super::scenes::Line::{Before, First, Last, Scene, Second, Third};
+use super::scenes::{Line, play};
 use std::test::Fail;
 
-const FULL: Answer = Answer::Refused(Refusal::Full);
+const FULL: Answer = Refused(Refusal::Full);
 
 const WRITE: Task = Task::Write(0, 1);
 
-#[test]
-fn a_look_is_fresh_and_a_flush_writes(rt: HostRuntime) -> Result<(), Fail> {
-    let scene = Scene {
-        before: &[
-            // the other pass is there from the start
-            (Move::OtherPass, Answer::Done),
-            (Move::Attempt(Task::Write(0, 5)), Answer::Done),
-            (Move::Settle, Answer::Committed(0)),
-            (Move::Look, Answer::Number(0)),
-            (Move::Flush, Answer::Number(1)),
-            (Move::Look, Answer::Number(1)),
-            (Move::Vouch(0), Answer::Number(1)),
-            (Move::OtherPass, Answer::Done),
-            (Move::Look, Answer::Number(1)),
-        ],
-        ..Scene::empty()
-    };
-    play(&rt, rt.alloc(), &scene)
-}
+static SCENES: &[Line<'static>] = &[
+    Scene("a look is fresh and a flush writes"),
+    // the other pass is there from the start
+    Before(OtherPass, Done),
+    Before(Attempt(Task::Write(0, 5)), Done),
+    Before(Settle, Committed(0)),
+    Before(Look, Number(0)),
+    Before(Flush, Number(1)),
+    Before(Look, Number(1)),
+    Before(Vouch(0), Number(1)),
+    Before(OtherPass, Done),
+    Before(Look, Number(1)),
+    Scene("a vouch asks the journal"),
+    Before(TryCommit(WRITE), Committed(0)),
+    Before(Flush, Number(1)),
+    Before(Look, Number(1)),
+    Before(OtherPass, Done),
+    Before(TryCommit(WRITE), Committed(1)),
+    Before(Flush, Number(2)),
+    Before(OtherPass, Done),
+    Before(Vouch(0), Number(2)),
+    Before(Seen, Number(1)),
+    Scene("a dropped pass is not given out again"),
+    // one is in hand, so 32 are given out
+    Before(NewPasses(31), Number(31)),
+    Before(NewPass, Refused(Refusal::NoSeat)),
+    Before(NewPasses(9), Number(0)),
+    Scene("a full front takes more once a batch is durable"),
+    Before(Fill(256), Number(256)),
+    Before(TryCommit(WRITE), FULL),
+    Before(Flush, Number(64)),
+    Before(Look, Number(64)),
+    Before(TryCommit(WRITE), Committed(256)),
+    Scene("a full front refuses each call at once"),
+    Before(Fill(256), Number(256)),
+    First(Commit(WRITE), FULL),
+    Second(TryCommit(WRITE), FULL),
+    Third(Attempt(WRITE), Done),
+    Third(Settle, FULL),
+    Last(CommitWithin(WRITE, 60_000), FULL),
+    Scene("a late attempt is refused"),
+    Before(Attempt(Task::AddOne), Done),
+    Before(Settle, Committed(0)),
+    Before(Attempt(Task::AddOne), Done),
+    Before(OtherPass, Done),
+    Before(TryCommit(Task::AddOne), Committed(1)),
+    Before(OtherPass, Done),
+    Before(Settle, Refused(Refusal::Conflict)),
+    Before(Shut, Done),
+    Before(Settle, Refused(Refusal::Closed)),
+    Before(Peek(0), Value(2)),
+    Scene("an attempt reads the values that are there"),
+    Before(TryCommit(Task::Write(0, 5)), Committed(0)),
+    Before(Attempt(Task::AddOne), Done),
+    Before(Settle, Committed(1)),
+    Before(Peek(0), Value(6)),
+    Before(Attempt(Task::NeedOne), Done),
+    Before(Settle, Retried),
+    Before(TryCommit(Task::Write(2, 1)), Committed(2)),
+    Before(Attempt(Task::NeedOne), Done),
+    Before(
+        Settle,
+        Saw(3, [1, 1, 1, 0, 0, 0, 0, 0, 0, 0, 0, 0, 0, 0, 0, 0]),
+    ),
+];
 
 #[test]
-fn a_vouch_asks_the_journal(rt: HostRuntime) -> Result<(), Fail> {
-    let scene = Scene {
-        before: &[
-            (Move::TryCommit(WRITE), Answer::Committed(0)),
-            (Move::Flush, Answer::Number(1)),
-            (Move::Look, Answer::Number(1)),
-            (Move::OtherPass, Answer::Done),
-            (Move::TryCommit(WRITE), Answer::Committed(1)),
-            (Move::Flush, Answer::Number(2)),
-            (Move::OtherPass, Answer::Done),
-            (Move::Vouch(0), Answer::Number(2)),
-            (Move::Seen, Answer::Number(1)),
-        ],
-        ..Scene::empty()
-    };
-    play(&rt, rt.alloc(), &scene)
-}
-
-#[test]
-fn a_dropped_pass_is_not_given_out_again(rt: HostRuntime) -> Result<(), Fail> {
-    let scene = Scene {
-        // one is in hand, so 32 are given out
-        before: &[
-            (Move::NewPasses(31), Answer::Number(31)),
-            (Move::NewPass, Answer::Refused(Refusal::NoSeat)),
-            (Move::NewPasses(9), Answer::Number(0)),
-        ],
-        ..Scene::empty()
-    };
-    play(&rt, rt.alloc(), &scene)
-}
-
-#[test]
-fn a_full_front_takes_more_once_a_batch_is_durable(rt: HostRuntime) -> Result<(), Fail> {
-    let scene = Scene {
-        before: &[
-            (Move::Fill(256), Answer::Number(256)),
-            (Move::TryCommit(WRITE), FULL),
-            (Move::Flush, Answer::Number(64)),
-            (Move::Look, Answer::Number(64)),
-            (Move::TryCommit(WRITE), Answer::Committed(256)),
-        ],
-        ..Scene::empty()
-    };
-    play(&rt, rt.alloc(), &scene)
-}
-
-#[test]
-fn a_full_front_refuses_each_call_at_once(rt: HostRuntime) -> Result<(), Fail> {
-    let scene = Scene {
-        before: &[(Move::Fill(256), Answer::Number(256))],
-        threads: [
-            &[(Move::Commit(WRITE), FULL)],
-            &[(Move::TryCommit(WRITE), FULL)],
-            &[(Move::Attempt(WRITE), Answer::Done), (Move::Settle, FULL)],
-            &[(Move::CommitWithin(WRITE, 60_000), FULL)],
-        ],
-        ..Scene::empty()
-    };
-    play(&rt, rt.alloc(), &scene)
-}
-
-#[test]
-fn a_late_attempt_is_refused(rt: HostRuntime) -> Result<(), Fail> {
-    let scene = Scene {
-        before: &[
-            (Move::Attempt(Task::AddOne), Answer::Done),
-            (Move::Settle, Answer::Committed(0)),
-            (Move::Attempt(Task::AddOne), Answer::Done),
-            (Move::OtherPass, Answer::Done),
-            (Move::TryCommit(Task::AddOne), Answer::Committed(1)),
-            (Move::OtherPass, Answer::Done),
-            (Move::Settle, Answer::Refused(Refusal::Conflict)),
-            (Move::Shut, Answer::Done),
-            (Move::Settle, Answer::Refused(Refusal::Closed)),
-            (Move::Peek(0), Answer::Value(2)),
-        ],
-        ..Scene::empty()
-    };
-    play(&rt, rt.alloc(), &scene)
-}
-
-#[test]
-fn an_attempt_reads_the_values_that_are_there(rt: HostRuntime) -> Result<(), Fail> {
-    let saw = [1, 1, 1, 0, 0, 0, 0, 0, 0, 0, 0, 0, 0, 0, 0, 0];
-    let scene = Scene {
-        before: &[
-            (Move::TryCommit(Task::Write(0, 5)), Answer::Committed(0)),
-            (Move::Attempt(Task::AddOne), Answer::Done),
-            (Move::Settle, Answer::Committed(1)),
-            (Move::Peek(0), Answer::Value(6)),
-            (Move::Attempt(Task::NeedOne), Answer::Done),
-            (Move::Settle, Answer::Retried),
-            (Move::TryCommit(Task::Write(2, 1)), Answer::Committed(2)),
-            (Move::Attempt(Task::NeedOne), Answer::Done),
-            (Move::Settle, Answer::Saw(3, saw)),
-        ],
-        ..Scene::empty()
-    };
-    play(&rt, rt.alloc(), &scene)
+fn one_caller_is_answered_one_after_another(rt: HostRuntime) -> Result<(), Fail> {
+    play(&rt, rt.alloc(), SCENES)
 }

@@ -1,15 +1,16 @@
-//! A scene: a new store, and what one thread does with it, then four at once, and then that one again.
+//! Scenes: in each a new store, and what one thread does with it, then four at once, and then that one again.
 ghost use Rattle.std.specs.Prelude.{◌≡◌};
 ghost use Rattle.tmem_front.specs.Held.{found_of, spine_of};
 ghost use Rattle.tmem_front_tests.specs.Examples.{adding};
 
-use super::moves::{Answer, Row};
+use super::moves::{Answer, Move};
 use super::no_closures::{AddsAndNeeds, AlwaysTrue};
 use super::signals::Signals;
 use super::stage_disk::StageDisk;
 use super::store::{Hands, Stage, Store};
 use std::alloc::Global;
 use std::marker::Brand;
+use std::process::Abort;
 use std::rt::Clock;
 use std::sync::Wait;
 use std::test::Fail;
@@ -27,70 +28,33 @@ const VARS: u16 = 100;
 /// Where the generation of the first image stands.
 const GENERATION: u64 = 513;
 
-/// Which call of the device fails, counted from 0 once it is formatted. The first sync is the one of the opening, which writes
-/// nothing.
+/// A line of a table of scenes. Those of one thread are played in their order.
 #[derive(Clone, Copy)]
-pub(super) enum Failing {
-    Never,
-    Write(u64),
-    Sync(u64),
-}
-
-/// The device of a new store.
-#[derive(Clone, Copy)]
-pub(super) struct Device {
-    pub(super) slots: u16,
-    pub(super) failing: Failing,
+pub(super) enum Line<'a> {
+    /// Begins a scene of this name in a new store, whose device has four slots and never fails, if no line says otherwise.
+    Scene(&'a str),
+    /// How many slots the device has.
+    Slots(u16),
+    /// Which call of it fails, counted from 0 once it is formatted. The first sync is the one of the opening, which writes nothing.
+    FailWrite(u64),
+    FailSync(u64),
     /// How many milliseconds a sync takes at the least.
-    pub(super) sync_millis: u64,
+    SyncMillis(u64),
     /// Its image is of the last generation, so that no checkpoint can be made.
-    pub(super) has_last_image: bool,
-}
-
-/// One that never fails.
-pub(super) const SOUND: Device = Device {
-    slots: 4,
-    failing: Failing::Never,
-    sync_millis: 0,
-    has_last_image: false,
-};
-
-/// What is played, and what each move has to be answered.
-#[derive(Clone, Copy)]
-pub(super) struct Scene<'a> {
-    pub(super) device: Device,
-    pub(super) before: &'a [Row],
-    /// The threads. The last one never waits for another thread: it waits until the others have ended, and where they have not in
-    /// ten seconds it shuts the front until they do.
-    pub(super) threads: [&'a [Row]; 4],
-    pub(super) after: &'a [Row],
-}
-
-impl<'a> Scene<'a> {
-    /// A scene in which nothing happens.
-    pub(super) fn empty() -> Scene<'a> {
-        Scene {
-            device: SOUND,
-            before: &[],
-            threads: [&[], &[], &[], &[]],
-            after: &[],
-        }
-    }
-}
-
-/// What went wrong first.
-#[derive(Clone, Copy, Debug)]
-enum Wrong {
-    /// No store was made, or no pass given out.
-    NotBegun(Fault),
-    /// The move at this place of a part was answered like this.
-    Answered {
-        part: Part,
-        place: u64,
-        answer: Answer,
-    },
-    /// The others did not end in time.
-    Late,
+    LastImage,
+    /// What one thread does before the others start, and what that has to be answered.
+    Before(Move, Answer),
+    /// What one of four threads does, which play at once. The last one never waits for another thread: it waits until the others
+    /// have ended, and where they have not in ten seconds it shuts the front until they do.
+    First(Move, Answer),
+    Second(Move, Answer),
+    Third(Move, Answer),
+    Last(Move, Answer),
+    /// What each of the first three does, or each of the four.
+    FirstThree(Move, Answer),
+    All(Move, Answer),
+    /// What the thread that began does at the end.
+    After(Move, Answer),
 }
 
 /// A part of a scene.
@@ -101,6 +65,76 @@ enum Part {
     After,
 }
 
+impl Line<'_> {
+    // What a part does by this line, and what it has to be answered.
+    fn row(&self, part: Part) -> Option<(Move, Answer)> {
+        match (*self, part) {
+            (Line::Before(step, want), Part::Before)
+            | (Line::First(step, want), Part::Thread(0))
+            | (Line::Second(step, want), Part::Thread(1))
+            | (Line::Third(step, want), Part::Thread(2))
+            | (Line::Last(step, want), Part::Thread(LAST))
+            | (Line::FirstThree(step, want), Part::Thread(0 | 1 | 2))
+            | (Line::All(step, want), Part::Thread(_))
+            | (Line::After(step, want), Part::After) => Some((step, want)),
+            _ => None,
+        }
+    }
+}
+
+/// Which call of the device fails.
+#[derive(Clone, Copy)]
+enum Failing {
+    Never,
+    Write(u64),
+    Sync(u64),
+}
+
+/// The device of a new store.
+#[derive(Clone, Copy)]
+struct Device {
+    slots: u16,
+    failing: Failing,
+    sync_millis: u64,
+    has_last_image: bool,
+}
+
+// What lines say of the device.
+fn device_of(lines: &[Line]) -> Device {
+    let mut device = Device {
+        slots: 4,
+        failing: Failing::Never,
+        sync_millis: 0,
+        has_last_image: false,
+    };
+    for line in lines {
+        match *line {
+            Line::Slots(slots) => device.slots = slots,
+            Line::FailWrite(k) => device.failing = Failing::Write(k),
+            Line::FailSync(k) => device.failing = Failing::Sync(k),
+            Line::SyncMillis(millis) => device.sync_millis = millis,
+            Line::LastImage => device.has_last_image = true,
+            _ => {}
+        }
+    }
+    device
+}
+
+/// What went wrong first.
+#[derive(Clone, Copy, Debug)]
+enum Wrong {
+    /// No store was made, or no pass given out.
+    NotBegun(Fault),
+    /// A part was answered like this at the line of this number, counted from the scene's own.
+    Answered {
+        part: Part,
+        line: usize,
+        answer: Answer,
+    },
+    /// The others did not end in time.
+    Late,
+}
+
 /// How often the front is shut where threads still wait.
 const MOST_SHUTS: u64 = 100;
 
@@ -109,20 +143,15 @@ const LAST: usize = 3;
 
 /// What is played on a store. The functions that start threads know no more of it.
 trait Plays {
-    /// Plays a thread's rows, and answers what went wrong first.
-    fn play<R: Clock + Wait>(&self, stage: &Stage<R>, thread: usize, rows: &[Row]) -> Option<Wrong>;
+    /// Plays what a thread does, and answers what went wrong first.
+    fn play<R: Clock + Wait>(&self, stage: &Stage<R>, thread: usize) -> Option<Wrong>;
 }
 
 impl<D: Disk + Drop, N: StoreNaming, T: Invariants + Drop, S: StoredSteps + Drop> Plays
     for Front<D, N, T, S> {
-    fn play<R: Clock + Wait>(
-        &self,
-        stage: &Stage<R>,
-        thread: usize,
-        rows: &[Row],
-    ) -> Option<Wrong> {
+    fn play<R: Clock + Wait>(&self, stage: &Stage<R>, thread: usize) -> Option<Wrong> {
         let store = Store { front: self };
-        let wrong = store.play_alone(stage, Part::Thread(thread), rows);
+        let wrong = store.play_alone(stage, Part::Thread(thread));
         stage.signals.count_end();
         if thread == LAST && !store.ends_others(stage) {
             return wrong.or(Some(Wrong::Late));
@@ -138,55 +167,62 @@ impl<D: Disk + Drop, N: StoreNaming, T: Invariants + Drop, S: StoredSteps + Drop
     T,
     S,
 > {
-    // Plays rows with hands of their own, if there are any.
-    fn play_alone<R: Clock + Wait>(
-        &self,
-        stage: &Stage<R>,
-        part: Part,
-        rows: &[Row],
-    ) -> Option<Wrong> {
-        if rows.is_empty() {
+    // Plays a part with hands of its own, if it does anything.
+    fn play_alone<R: Clock + Wait>(&self, stage: &Stage<R>, part: Part) -> Option<Wrong> {
+        if stage.lines.iter().all(|line| line.row(part).is_none()) {
             return None;
         }
-        self.play_from(stage, &mut Hands::new(), part, rows)
+        self.play_from(stage, &mut Hands::new(), part)
     }
 
-    // Takes a pass, and plays rows.
+    // Takes a pass, and plays a part.
     fn play_from<R: Clock + Wait>(
         &self,
         stage: &Stage<R>,
         hands: &mut Hands<N>,
         part: Part,
-        rows: &[Row],
     ) -> Option<Wrong> {
         match self.take_pass(stage, &mut hands.pass) {
-            Ok(()) => self.play_rows(stage, hands, part, rows),
+            Ok(()) => self.play_lines(stage, hands, part),
             Err(fault) => Some(Wrong::NotBegun(fault)),
         }
     }
 
-    // Plays all rows, also after a wrong answer, and answers the first one.
-    fn play_rows<R: Clock + Wait>(
+    // Plays all lines of a part, also after a wrong answer, and answers the first one.
+    fn play_lines<R: Clock + Wait>(
         &self,
         stage: &Stage<R>,
         hands: &mut Hands<N>,
         part: Part,
-        rows: &[Row],
     ) -> Option<Wrong> {
         let mut wrong = None;
-        let mut place = 0u64;
-        for (step, want) in rows {
-            let answer = self.answer(stage, hands, *step);
-            if wrong.is_none() && answer != *want {
-                wrong = Some(Wrong::Answered {
-                    part,
-                    place,
-                    answer,
-                });
+        for (place, line) in stage.lines.iter().enumerate() {
+            if let Some(other) = self.other_at(stage, hands, part, place, line) {
+                wrong = wrong.or(Some(other));
             }
-            place = place.saturating_add(1);
         }
         wrong
+    }
+
+    // Plays a line, if it is of this part, and answers what went wrong.
+    fn other_at<R: Clock + Wait>(
+        &self,
+        stage: &Stage<R>,
+        hands: &mut Hands<N>,
+        part: Part,
+        place: usize,
+        line: &Line,
+    ) -> Option<Wrong> {
+        let (step, want) = line.row(part)?;
+        let answer = self.answer(stage, hands, step);
+        if answer == want {
+            return None;
+        }
+        Some(Wrong::Answered {
+            part,
+            line: place,
+            answer,
+        })
     }
 
     // Waits until all threads have ended. Where they have not in time, shuts the front for each that still waits.
@@ -206,13 +242,13 @@ impl<D: Disk + Drop, N: StoreNaming, T: Invariants + Drop, S: StoredSteps + Drop
 fn play_two<F: Plays + Sync, R: Clock + Threads + Wait + Sync>(
     stage: &Stage<R>,
     store: &F,
-    first: (usize, &[Row]),
-    second: (usize, &[Row]),
+    first: usize,
+    second: usize,
 ) -> Option<Wrong> {
     let (one, other) = join(
         stage.rt,
-        || store.play(stage, first.0, first.1),
-        || store.play(stage, second.0, second.1),
+        || store.play(stage, first),
+        || store.play(stage, second),
     );
     one.or(other)
 }
@@ -221,12 +257,11 @@ fn play_two<F: Plays + Sync, R: Clock + Threads + Wait + Sync>(
 fn play_four<F: Plays + Sync, R: Clock + Threads + Wait + Sync>(
     stage: &Stage<R>,
     store: &F,
-    rows: [&[Row]; 4],
 ) -> Option<Wrong> {
     let (one, other) = join(
         stage.rt,
-        || play_two(stage, store, (0, rows[0]), (1, rows[1])),
-        || play_two(stage, store, (2, rows[2]), (LAST, rows[LAST])),
+        || play_two(stage, store, 0, 1),
+        || play_two(stage, store, 2, LAST),
     );
     one.or(other)
 }
@@ -238,19 +273,14 @@ fn play_in<
     T: Invariants + Drop + Send,
     S: StoredSteps + Drop + Send + Sync,
     R: Clock + Threads + Wait + Sync,
->(
-    stage: &Stage<R>,
-    front: &Front<D, N, T, S>,
-    hands: &mut Hands<N>,
-    scene: &Scene,
-) -> Option<Wrong> {
+>(stage: &Stage<R>, front: &Front<D, N, T, S>, hands: &mut Hands<N>) -> Option<Wrong> {
     let store = Store { front };
     if let Err(fault) = store.take_pass(stage, &mut hands.pass) {
         return Some(Wrong::NotBegun(fault));
     }
-    let before = store.play_rows(stage, hands, Part::Before, scene.before);
-    let threads = play_four(stage, front, scene.threads);
-    let after = store.play_rows(stage, hands, Part::After, scene.after);
+    let before = store.play_lines(stage, hands, Part::Before);
+    let threads = play_four(stage, front);
+    let after = store.play_lines(stage, hands, Part::After);
     before.or(threads).or(after)
 }
 
@@ -261,8 +291,8 @@ fn play_on<
     T: Invariants + Drop + Send,
     S: StoredSteps + Drop + Send + Sync,
     R: Clock + Threads + Wait + Sync,
->(stage: &Stage<R>, front: &Front<D, N, T, S>, scene: &Scene) -> Option<Wrong> {
-    play_in(stage, front, &mut Hands::new(), scene)
+>(stage: &Stage<R>, front: &Front<D, N, T, S>) -> Option<Wrong> {
+    play_in(stage, front, &mut Hands::new())
 }
 
 /// A store on a device that waits and fails as a scene wants it.
@@ -308,33 +338,75 @@ fn open<'a, R: Clock>(stage: &Stage<'a, R>, device: Device) -> Result<Opened<'a,
 fn play_named<N: StoreNaming + Send + Sync, R: Clock + Threads + Wait + Sync>(
     stage: &Stage<R>,
     opened: Opened<R>,
-    scene: &Scene,
 ) -> Option<Wrong>
     requires spine { spine_of opened ≡ N.name }
     requires opening { found_of opened ≡ N.opening }
     requires program { N.program ≡ adding }
 {
-    play_on(stage, &opened.named::<N>(), scene)
+    play_on(stage, &opened.named::<N>())
 }
 
-/// Plays a scene in a new store. Fails with what went wrong first.
-pub(super) fn play<R: Clock + Threads + Wait + Sync>(
+// A scene, of whose lines the first one names it, in a new store.
+fn play_scene<R: Clock + Threads + Wait + Sync>(
     rt: &R,
     alloc: Global,
-    scene: &Scene,
-) -> Result<(), Fail> {
+    lines: &[Line],
+) -> Option<Wrong> {
     let signals = Signals::new();
     let stage = Stage {
         rt,
         alloc,
         signals: &signals,
+        lines,
     };
-    let wrong = match open(&stage, scene.device) {
-        Ok(opened) => play_named::<Brand, _>(&stage, opened, scene),
+    match open(&stage, device_of(lines)) {
+        Ok(opened) => play_named::<Brand, _>(&stage, opened),
         Err(fault) => Some(Wrong::NotBegun(fault)),
-    };
-    match wrong {
-        Some(wrong) => Err(Fail::from(wrong)),
-        None => Ok(()),
     }
+}
+
+// The lines of the scene that begins there.
+fn scene_at<'b, 'a>(lines: &'b [Line<'a>], begin: usize) -> &'b [Line<'a>] {
+    let rest = &lines[begin.min(lines.len())..];
+    let ends = |(place, line): (usize, &Line)| place > 0 && matches!(line, Line::Scene(_));
+    match rest.iter().enumerate().position(ends) {
+        Some(end) => &rest[..end],
+        None => rest,
+    }
+}
+
+// Whether a scene has something that is done, so that no table is played in vain.
+fn is_played(lines: &[Line]) -> bool {
+    let parts = [
+        Part::Before,
+        Part::Thread(0),
+        Part::Thread(1),
+        Part::Thread(2),
+        Part::Thread(LAST),
+        Part::After,
+    ];
+    parts
+        .iter()
+        .any(|part| lines.iter().any(|line| line.row(*part).is_some()))
+}
+
+/// Plays the scenes of a table, each in a new store. Fails with what went wrong first.
+pub(super) fn play<R: Abort + Clock + Threads + Wait + Sync>(
+    rt: &R,
+    alloc: Global,
+    lines: &[Line],
+) -> Result<(), Fail> {
+    assert!(rt;
+        matches!(lines.first(), Some(Line::Scene(_))),
+        "a table begins with a scene"
+    );
+    for (place, line) in lines.iter().enumerate() {
+        if let Line::Scene(name) = line {
+            let scene = scene_at(lines, place);
+            assert!(rt; is_played(scene), "{name}: nothing is done");
+            let wrong = play_scene(rt, alloc, scene);
+            assert!(rt; wrong.is_none(), "{name}: {wrong:?}");
+        }
+    }
+    Ok(())
 }

@@ -5,6 +5,7 @@ ghost use Rattle.tmem_tree.specs.Plans.{FitsSteps, FitsVariables, FitsNames};
 
 use super::moves::{Answer, Move, Refusal, Task};
 use super::no_closures::always;
+use super::scenes::Line;
 use super::signals::Signals;
 use std::alloc::Global;
 use std::marker::PhantomData;
@@ -27,12 +28,13 @@ pub(super) struct Store<'a, D: Disk, N: StoreNaming, T: Invariants, S: StoredSte
     pub(super) front: &'a Front<D, N, T, S>,
 }
 
-/// What all threads of a scene are given.
+/// What all threads of a scene are given, its lines too.
 #[derive(Drop)]
 pub(super) struct Stage<'a, R> {
     pub(super) rt: &'a R,
     pub(super) alloc: Global,
     pub(super) signals: &'a Signals,
+    pub(super) lines: &'a [Line<'a>],
 }
 
 /// What one thread has in hand.

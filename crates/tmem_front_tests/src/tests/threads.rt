@@ -1,23 +1,19 @@
 //! Four threads over one front.
-use super::moves::{Answer, Move};
-use super::scenes::{Scene, play};
+use super::moves::Answer::{Number, Value};
+use super::moves::Move::{Add, Flush, Peek};
+use super::scenes::Line::{After, All, Scene};
+use super::scenes::{Line, play};
 use std::test::Fail;
+
+static SCENES: &[Line<'static>] = &[
+    Scene("no addition of four threads is lost"),
+    All(Add(25), Number(25)),
+    After(Peek(0), Value(100)),
+    After(Flush, Number(64)),
+    After(Flush, Number(100)),
+];
 
 #[test]
 fn no_addition_of_four_threads_is_lost(rt: HostRuntime) -> Result<(), Fail> {
-    let scene = Scene {
-        threads: [
-            &[(Move::Add(25), Answer::Number(25))],
-            &[(Move::Add(25), Answer::Number(25))],
-            &[(Move::Add(25), Answer::Number(25))],
-            &[(Move::Add(25), Answer::Number(25))],
-        ],
-        after: &[
-            (Move::Peek(0), Answer::Value(100)),
-            (Move::Flush, Answer::Number(64)),
-            (Move::Flush, Answer::Number(100)),
-        ],
-        ..Scene::empty()
-    };
-    play(&rt, rt.alloc(), &scene)
+    play(&rt, rt.alloc(), SCENES)
 }

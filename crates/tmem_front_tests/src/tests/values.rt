@@ -1,41 +1,34 @@
 //! What a store has at one moment.
-use super::moves::{Answer, Move, Refusal, Task};
-use super::scenes::{Scene, play};
+use super::moves::Answer::{Committed, Done, Holds, Number, Refused};
+use super::moves::Move::{Count, HasInvariant, Look, OtherPass, TryCommit, ValuesAre};
+use super::moves::{Refusal, Task};
+use super::scenes::Line::{Before, Scene};
+use super::scenes::{Line, play};
 use std::test::Fail;
 
-#[test]
-fn values_are_told_in_their_order(rt: HostRuntime) -> Result<(), Fail> {
-    let scene = Scene {
-        before: &[
-            (Move::Count, Answer::Number(0)),
-            (Move::TryCommit(Task::Write(1, 7)), Answer::Committed(0)),
-            (Move::TryCommit(Task::Write(3, -9)), Answer::Committed(1)),
-            (Move::Count, Answer::Number(2)),
-            (Move::ValuesAre([3, 1, 1], [-9, 7, 7]), Answer::Holds(true)),
-            (Move::ValuesAre([0, 1, 3], [0, 7, -9]), Answer::Holds(true)),
-            (
-                Move::ValuesAre([0, 100, 3], [0, 7, -9]),
-                Answer::Refused(Refusal::BadPlan),
-            ),
-            // nothing is durable yet
-            (Move::Look, Answer::Number(0)),
-        ],
-        ..Scene::empty()
-    };
-    play(&rt, rt.alloc(), &scene)
-}
+static SCENES: &[Line<'static>] = &[
+    Scene("values are told in their order"),
+    Before(Count, Number(0)),
+    Before(TryCommit(Task::Write(1, 7)), Committed(0)),
+    Before(TryCommit(Task::Write(3, -9)), Committed(1)),
+    Before(Count, Number(2)),
+    Before(ValuesAre([3, 1, 1], [-9, 7, 7]), Holds(true)),
+    Before(ValuesAre([0, 1, 3], [0, 7, -9]), Holds(true)),
+    Before(
+        ValuesAre([0, 100, 3], [0, 7, -9]),
+        Refused(Refusal::BadPlan),
+    ),
+    // nothing is durable yet
+    Before(Look, Number(0)),
+    Scene("an invariant is there once it is registered"),
+    Before(HasInvariant, Holds(false)),
+    Before(TryCommit(Task::Register), Committed(0)),
+    Before(OtherPass, Done),
+    Before(HasInvariant, Holds(true)),
+    Before(Count, Number(1)),
+];
 
 #[test]
-fn an_invariant_is_there_once_it_is_registered(rt: HostRuntime) -> Result<(), Fail> {
-    let scene = Scene {
-        before: &[
-            (Move::HasInvariant, Answer::Holds(false)),
-            (Move::TryCommit(Task::Register), Answer::Committed(0)),
-            (Move::OtherPass, Answer::Done),
-            (Move::HasInvariant, Answer::Holds(true)),
-            (Move::Count, Answer::Number(1)),
-        ],
-        ..Scene::empty()
-    };
-    play(&rt, rt.alloc(), &scene)
+fn what_a_store_has_is_told_at_one_moment(rt: HostRuntime) -> Result<(), Fail> {
+    play(&rt, rt.alloc(), SCENES)
 }

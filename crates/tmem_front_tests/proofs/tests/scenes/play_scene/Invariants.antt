@@ -1,6 +1,6 @@
 use Rattle.tmem_front.specs.Held.{found_of, spine_of}
 use Rattle.tmem_front_tests.specs.Examples.{adding}
-use Rattle.tmem_front_tests.proofs.tests.scenes.play.Given as goal
+use Rattle.tmem_front_tests.proofs.tests.scenes.play_scene.Given as goal
 
 -- the store that was just opened
 abbrev pub ghosts-play_named-N-Naming : goal.ghosts-play_named-N-Naming
