@@ -20,7 +20,7 @@ fn main(rt: HostRuntime) -> ExitCode {
         Err(_) => LineWriter::with_capacity(rt.alloc(), 0, rt.stdout()).unwrap(),
     };
     let status = match words_of(&rt) {
-        Ok(words) => run_words(&rt, words, &mut input, &mut out, &mut err),
+        Ok(words) => run_words(&rt, words, &mut input, &mut out, &mut err).0,
         Err(refusal) => report(&Failure::Words(refusal), &mut err),
     };
     ExitCode::from(status)

@@ -43,7 +43,7 @@ fn status_of<R: Files<File = File> + AllocGlobal + Threads + Wait + Clock + Sync
     words: Vec<String>,
     err: &mut E,
 ) -> u8 {
-    run_words(rt, words, &mut FIRST.as_bytes(), &mut Unflushed, err)
+    run_words(rt, words, &mut FIRST.as_bytes(), &mut Unflushed, err).0
 }
 
 #[test]

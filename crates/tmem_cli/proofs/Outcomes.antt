@@ -9,6 +9,7 @@ use Rattle.clap.specs.declared.error.kind.ErrorKind.{ErrorKind}
 use Rattle.tmem_record.specs.State.{State, first_state}
 use Rattle.tmem_world.specs.WorldModel.{WorldModel}
 use Rattle.tmem_journal.specs.Stands.{Position, first_position}
+use Rattle.tmem_file.specs.declared.disk.FileDisk.{FileDisk}
 use Rattle.tmem_script.specs.Errors.{IsUnread}
 use Rattle.tmem_script.specs.Statuses.{status_of}
 use Rattle.tmem_script.specs.declared.failure.Failure.{Failure}
@@ -43,15 +44,15 @@ refused_text IsRead NoScript text is none = (text, is, none refl)
 pub PlaysFrom-keeps : (vars slots : ℕ) (found : State) (position : Position) (entries : List Entry) (end : WorldModel) (before mid after : Option (List ℕ)) → PlaysFrom vars slots found position entries end before mid → Keeps mid after → PlaysFrom vars slots found position entries end before after
 PlaysFrom-keeps vars slots found position entries end before mid after so kept = record { text = so.text; prints = so.prints; appends = Appends-keeps before mid after _ so.appends kept }
 
-pub PlaysWhere-keeps : (disk : Option (List ℕ)) (vars slots : ℕ) (entries : List Entry) (before mid after : Option (List ℕ)) → PlaysWhere disk vars slots entries before mid → Keeps mid after → PlaysWhere disk vars slots entries before after
-PlaysWhere-keeps None vars slots entries before mid after so kept = (so.0, PlaysFrom-keeps vars slots (first_state vars) first_position entries so.0 before mid after so.1 kept)
-PlaysWhere-keeps (Some path) vars slots entries before mid after so kept = (
+pub PlaysWhere-keeps : (path : Option (List ℕ)) (device : Option FileDisk) (vars slots : ℕ) (entries : List Entry) (before mid after : Option (List ℕ)) → PlaysWhere path device vars slots entries before mid → Keeps mid after → PlaysWhere path device vars slots entries before after
+PlaysWhere-keeps None device vars slots entries before mid after so kept = (so.0, PlaysFrom-keeps vars slots (first_state vars) first_position entries so.0 before mid after so.1 kept)
+PlaysWhere-keeps (Some path) None vars slots entries before mid after so kept = absurd so
+PlaysWhere-keeps (Some path) (Some new) vars slots entries before mid after so kept = (
   so.0,
   so.1,
-  so.2,
   λ premise.
-      let it = (so.3 premise).1 in (
-        (so.3 premise).0,
+      let it = (so.2 premise).1 in (
+        (so.2 premise).0,
         record {
           found = it.found;
           position = it.position;
@@ -65,13 +66,13 @@ PlaysWhere-keeps (Some path) vars slots entries before mid after so kept = (
 )
 
 -- the same of words that ask for the same
-pub PlaysRead-along : (left p q d e before after : Option (List ℕ)) → p ≡ q → d ≡ e → PlaysRead (MayBeRead p left) d before after → PlaysRead (MayBeRead q left) e before after
-PlaysRead-along left p q d e before after path disk so =
-    subst (λ (x : Option (List ℕ)). PlaysRead (MayBeRead q left) x before after) disk (subst (λ (x : Option (List ℕ)). PlaysRead (MayBeRead x left) d before after) path so)
+pub PlaysRead-along : (left p q d e before after : Option (List ℕ)) (device : Option FileDisk) → p ≡ q → d ≡ e → PlaysRead (MayBeRead p left) d device before after → PlaysRead (MayBeRead q left) e device before after
+PlaysRead-along left p q d e before after device path disk so =
+    subst (λ (x : Option (List ℕ)). PlaysRead (MayBeRead q left) x device before after) disk (subst (λ (x : Option (List ℕ)). PlaysRead (MayBeRead x left) d device before after) path so)
 
-pub FailsWith-along : (status : ℕ) (left p q d e : Option (List ℕ)) → p ≡ q → d ≡ e → FailsWith status (MayBeRead p left) d → FailsWith status (MayBeRead q left) e
-FailsWith-along status left p q d e path disk so =
-    subst (λ (x : Option (List ℕ)). FailsWith status (MayBeRead q left) x) disk (subst (λ (x : Option (List ℕ)). FailsWith status (MayBeRead x left) d) path so)
+pub FailsWith-along : (status : ℕ) (left p q d e : Option (List ℕ)) (device : Option FileDisk) → p ≡ q → d ≡ e → FailsWith status (MayBeRead p left) d device → FailsWith status (MayBeRead q left) e device
+FailsWith-along status left p q d e device path disk so =
+    subst (λ (x : Option (List ℕ)). FailsWith status (MayBeRead q left) x device) disk (subst (λ (x : Option (List ℕ)). FailsWith status (MayBeRead x left) d device) path so)
 
 -- what holds in any case does after Ok
 pub ok_of : {T E P : Type 0} (r : Result T E) → P → OnOk r P
@@ -94,13 +95,13 @@ err_of P (Ok x) so = tt
 err_of P (Err e) so = so
 
 -- a script that was played to its end, and then the output failed
-pub output_stops : (disk : Option (List ℕ)) (vars slots : ℕ) (entries : List Entry) (before after : Option (List ℕ)) → PlaysWhere disk vars slots entries before after → StopsWhere disk vars slots entries Output
-output_stops None vars slots entries before after so = inl refl
-output_stops (Some path) vars slots entries before after so = inr (
+pub output_stops : (path : Option (List ℕ)) (device : Option FileDisk) (vars slots : ℕ) (entries : List Entry) (before after : Option (List ℕ)) → PlaysWhere path device vars slots entries before after → StopsWhere path device vars slots entries Output
+output_stops None device vars slots entries before after so = inl refl
+output_stops (Some path) None vars slots entries before after so = absurd so
+output_stops (Some path) (Some new) vars slots entries before after so = (
   so.0,
   so.1,
-  so.2,
-  inl (refl, λ h store premise. let it = (so.3 premise).1.stored h store in (entries, it.0, ([], sym (append-nil entries)), it.1)),
+  inl (refl, λ h store premise. let it = (so.2 premise).1.stored h store in (entries, it.0, ([], sym (append-nil entries)), it.1)),
 )
 
 -- no failure has the status 0

@@ -31,25 +31,26 @@ MayBeRead None (Some bytes) text = text ≡ bytes
 MayBeRead (Some path) left text = ⊤
 
 -- the text is that of a script whose numbers are within the limits, and the script was played to its end
-pub record PlaysText (disk : Option Text) (text : List ℕ) (before after : Option (List ℕ)) : Type 0 where
+pub record PlaysText (disk : Option Text) (device : Option FileDisk) (text : List ℕ) (before after : Option (List ℕ)) : Type 0 where
   pub vars : ℕ
   pub slots : ℕ
   pub entries : List Entry
   pub script : IsScriptText vars slots entries text
   pub layout : IsLayout vars slots
-  pub played : PlaysWhere disk vars slots entries before after
+  pub played : PlaysWhere disk device vars slots entries before after
 
 -- a text that may have been read was played
-abbrev pub PlaysRead : (List ℕ → Type 0) → Option Text → Option (List ℕ) → Option (List ℕ) → Type 0
-PlaysRead IsRead disk before after = (text : List ℕ) × IsRead text × PlaysText disk text before after
+abbrev pub PlaysRead : (List ℕ → Type 0) → Option Text → Option FileDisk → Option (List ℕ) → Option (List ℕ) → Type 0
+PlaysRead IsRead disk device before after = (text : List ℕ) × IsRead text × PlaysText disk device text before after
 
 -- the text is that of no script
 abbrev pub IsNoScript : List ℕ → Type 0
 IsNoScript text = (vars slots : ℕ) (entries : List Entry) → ¬ IsScriptText vars slots entries text
 
 -- the text is that of a script, which was not played to its end for this reason
-abbrev pub StopsText : Option Text → List ℕ → Failure → Type 0
-StopsText disk text f = (vars : ℕ) × (slots : ℕ) × (entries : List Entry) × IsScriptText vars slots entries text × StopsPlaying disk vars slots entries f
+abbrev pub StopsText : Option Text → Option FileDisk → List ℕ → Failure → Type 0
+StopsText disk device text f =
+    (vars : ℕ) × (slots : ℕ) × (entries : List Entry) × IsScriptText vars slots entries text × StopsPlaying disk device vars slots entries f
 
 -- Why no script was read: memory was refused, reading failed, or what was read is none.
 abbrev pub IsWhyNotRead : (List ℕ → Type 0) → ScriptError → Type 0
@@ -58,13 +59,13 @@ IsWhyNotRead IsRead error.Unreadable = ⊤
 IsWhyNotRead IsRead error.NoScript = (text : List ℕ) × IsRead text × IsNoScript text
 
 -- Why a script was not played to its end: it was not read, or it was stopped once it was.
-abbrev pub IsWhyNotPlayed : (List ℕ → Type 0) → Option Text → Failure → Type 0
-IsWhyNotPlayed IsRead disk f =
-    ((e : ScriptError) × (f ≡ failure.Script e) × IsWhyNotRead IsRead e) ⊎ ((text : List ℕ) × IsRead text × StopsText disk text f)
+abbrev pub IsWhyNotPlayed : (List ℕ → Type 0) → Option Text → Option FileDisk → Failure → Type 0
+IsWhyNotPlayed IsRead disk device f =
+    ((e : ScriptError) × (f ≡ failure.Script e) × IsWhyNotRead IsRead e) ⊎ ((text : List ℕ) × IsRead text × StopsText disk device text f)
 
 -- a failure of this status is why
-abbrev pub FailsWith : ℕ → (List ℕ → Type 0) → Option Text → Type 0
-FailsWith status IsRead disk = (f : Failure) × (status_of f ≡ status) × IsWhyNotPlayed IsRead disk f
+abbrev pub FailsWith : ℕ → (List ℕ → Type 0) → Option Text → Option FileDisk → Type 0
+FailsWith status IsRead disk device = (f : Failure) × (status_of f ≡ status) × IsWhyNotPlayed IsRead disk device f
 
 -- With a path a file was made. (That the workers counted there is tested.)
 abbrev pub IsMadeAt : Option Text → Type 0
@@ -99,21 +100,21 @@ failure_of (bench.Refused fault) = failure.Refused fault
 failure_of bench.Output = failure.Output
 failure_of bench.Clock = failure.Clock
 
--- Status 0: help or the version was asked for; or a script was, and it was played to its end; or threads were, and they
--- counted up; or the jobs of a service were, and they were timed.
-abbrev pub IsDone : List Text → Option (List ℕ) → Option (List ℕ) → Option (List ℕ) → Type 0
-IsDone words left before after =
+-- Status 0: help or the version was asked for; or a script was, and it was played to its end, where a path is given on the device
+-- that is handed back; or threads were, and they counted up; or the jobs of a service were, and they were timed.
+abbrev pub IsDone : List Text → Option (List ℕ) → Option FileDisk → Option (List ℕ) → Option (List ℕ) → Type 0
+IsDone words left device before after =
     AsksForHelp words
-    ⊎ ((AsksToPlay words × PlaysRead (MayBeRead (path_in words) left) (disk_in words) before after)
+    ⊎ ((AsksToPlay words × PlaysRead (MayBeRead (path_in words) left) (disk_in words) device before after)
     ⊎ ((AsksToCount words × CountsAs words before after) ⊎ (AsksToBench words × TimesJobs before after)))
 
 -- Status 1: the same was asked for, and it failed on the way.
-abbrev pub IsStopped : List Text → Option (List ℕ) → Type 0
-IsStopped words left =
+abbrev pub IsStopped : List Text → Option (List ℕ) → Option FileDisk → Type 0
+IsStopped words left device =
     AsksForHelp words
-    ⊎ ((AsksToPlay words × FailsWith 1 (MayBeRead (path_in words) left) (disk_in words))
+    ⊎ ((AsksToPlay words × FailsWith 1 (MayBeRead (path_in words) left) (disk_in words) device)
     ⊎ ((AsksToCount words × ((f : Failure) × (status_of f ≡ 1) × IsWhyNotCounted f)) ⊎ (AsksToBench words × ((f : Failure) × (status_of f ≡ 1) × IsWhyNotTimed f))))
 
 -- Status 3: a script was asked for, and there was none.
-abbrev pub HasNoScript : List Text → Option (List ℕ) → Type 0
-HasNoScript words left = AsksToPlay words × FailsWith 3 (MayBeRead (path_in words) left) (disk_in words)
+abbrev pub HasNoScript : List Text → Option (List ℕ) → Option FileDisk → Type 0
+HasNoScript words left device = AsksToPlay words × FailsWith 3 (MayBeRead (path_in words) left) (disk_in words) device

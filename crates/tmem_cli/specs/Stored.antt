@@ -71,20 +71,22 @@ pub record IsMade (vars slots : ℕ) (made : FileDisk) : Type 0 where
 abbrev pub IsFoundOrMade : ℕ → ℕ → FileDisk → Type 0
 IsFoundOrMade vars slots disk = IsOpened (view_of disk) ⊎ IsMade vars slots disk
 
--- A script was played in memory on an empty store, or with a path on the store of a file.
-abbrev pub PlaysWhere : Option (List ℕ) → ℕ → ℕ → List Entry → Option (List ℕ) → Option (List ℕ) → Type 0
-PlaysWhere None vars slots entries before after = PlaysScript vars slots entries before after
-PlaysWhere (Some path) vars slots entries before after =
-    (disk : FileDisk) × (new : FileDisk) × IsFoundOrMade vars slots disk × PlaysOver view_of vars slots entries disk new before after
+-- A script was played in memory on an empty store, or with a path on the store of a file, whose device this one became.
+abbrev pub PlaysWhere : Option (List ℕ) → Option FileDisk → ℕ → ℕ → List Entry → Option (List ℕ) → Option (List ℕ) → Type 0
+PlaysWhere None left vars slots entries before after = PlaysScript vars slots entries before after
+PlaysWhere (Some path) None vars slots entries before after = ⊥
+PlaysWhere (Some path) (Some new) vars slots entries before after =
+    (disk : FileDisk) × IsFoundOrMade vars slots disk × PlaysOver view_of vars slots entries disk new before after
 
 -- Why it was not played to its end: it was stopped; or, with a path, it was stopped before there was a device, the output
--- failed, or the opening of the file's device was refused.
-abbrev pub StopsWhere : Option (List ℕ) → ℕ → ℕ → List Entry → Failure → Type 0
-StopsWhere None vars slots entries f = IsStop f
-StopsWhere (Some path) vars slots entries f =
-    ((f ≡ failure.Refused fault.Memory) ⊎ (f ≡ failure.Refused fault.Device))
-    ⊎ ((disk : FileDisk) × (new : FileDisk) × IsFoundOrMade vars slots disk × (StopsOver view_of vars slots entries disk new f ⊎ RefusesOver view_of vars slots disk new f))
+-- failed, or the opening of the file's device was refused, which became this one.
+abbrev pub StopsWhere : Option (List ℕ) → Option FileDisk → ℕ → ℕ → List Entry → Failure → Type 0
+StopsWhere None left vars slots entries f = IsStop f
+StopsWhere (Some path) None vars slots entries f = (f ≡ failure.Refused fault.Memory) ⊎ (f ≡ failure.Refused fault.Device)
+StopsWhere (Some path) (Some new) vars slots entries f =
+    (disk : FileDisk) × IsFoundOrMade vars slots disk × (StopsOver view_of vars slots entries disk new f ⊎ RefusesOver view_of vars slots disk new f)
 
 -- Why a script that was read was not played to its end: its numbers are out of limits, or that.
-abbrev pub StopsPlaying : Option (List ℕ) → ℕ → ℕ → List Entry → Failure → Type 0
-StopsPlaying disk vars slots entries f = ((f ≡ failure.Refused fault.Geometry) × (¬ IsLayout vars slots)) ⊎ (IsLayout vars slots × StopsWhere disk vars slots entries f)
+abbrev pub StopsPlaying : Option (List ℕ) → Option FileDisk → ℕ → ℕ → List Entry → Failure → Type 0
+StopsPlaying path left vars slots entries f =
+    ((f ≡ failure.Refused fault.Geometry) × (¬ IsLayout vars slots)) ⊎ (IsLayout vars slots × StopsWhere path left vars slots entries f)

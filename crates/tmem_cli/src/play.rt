@@ -1,5 +1,5 @@
 //! Plays a script on a device.
-ghost use Rattle.std.specs.Prelude.{◌≡◌, ◌⊎◌, [], ◌∷◌, IfErr, OnOk, OnErr, length, option_map};
+ghost use Rattle.std.specs.Prelude.{◌≡◌, ◌⊎◌, [], ◌∷◌, None, IfErr, OnOk, OnErr, length, option_map};
 ghost use Rattle.std.specs.Io.KnownBytes.{Appends};
 ghost use Rattle.tmem_builtins.specs.Invariants.{is_not_negative, add_to_hundred, are_ordered};
 ghost use Rattle.tmem_builtins.specs.Steps.{sum_of, difference_of, at_least};
@@ -18,6 +18,7 @@ use std::fs::{File, Files};
 use std::io::Write;
 use tmem_builtins::{add, need, nonneg, ordered, steps_of, sub, sum, table_of};
 use tmem_disk::{Disk, Fault};
+use tmem_file::FileDisk;
 use tmem_invariants::Invariants;
 use tmem_journal::{refused_stands_for_none, stands_for_one};
 use tmem_script::{Entry, Failure, ReplyLine, Script};
@@ -26,17 +27,19 @@ use tmem_world::{Layout, Reply, World};
 
 /// Plays a script on a fresh device in memory, or on the device of the file at a path, and prints a line for the opening
 /// and one for each entry. A refused event is printed as its refusal, and the next is played. Refused by `Geometry`, before
-/// there is a device, where the script's numbers are out of limits.
+/// there is a device, where the script's numbers are out of limits. The device of a file is left in `device`.
 pub(crate) fn play<R: Files<File = File> + AllocGlobal, W: Write>(
     rt: &R,
     script: Script,
     path: Option<&str>,
     out: &mut W,
+    device: &mut Option<FileDisk>,
 ) -> Result<(), Failure>
-    ensures played { OnOk result (PlaysWhere (option_map (λ text. text.now) path.entry) script.vars script.slots script.entries.items (W.contents out.old) (W.contents out.new)) }
+    requires { device.old ≡ None }
+    ensures played { OnOk result (PlaysWhere (option_map (λ text. text.now) path.entry) device.new script.vars script.slots script.entries.items (W.contents out.old) (W.contents out.new)) }
     ensures fits { OnOk result (IsLayout script.vars script.slots) }
     ensures geometry { ¬ IsLayout script.vars script.slots → result ≡ Err (Refused Fault.Geometry) }
-    ensures failed { IfErr result (StopsPlaying (option_map (λ text. text.now) path.entry) script.vars script.slots script.entries.items) }
+    ensures failed { IfErr result (StopsPlaying (option_map (λ text. text.now) path.entry) device.new script.vars script.slots script.entries.items) }
 {
     let alloc = rt.alloc();
     let layout = Layout::new(script.vars, script.slots)?;
@@ -65,7 +68,7 @@ pub(crate) fn play<R: Files<File = File> + AllocGlobal, W: Write>(
     let a_hundred = a_hundred.map_err(Fault::from)?;
     let in_order = in_order.map_err(Fault::from)?;
     let table = table_of(alloc, script.vars, at_least_zero, a_hundred, in_order)?;
-    play_under(rt, path, layout, script.entries, table, out)
+    play_under(rt, path, layout, script.entries, table, out, device)
 }
 
 /// Plays the entries of a script, under these invariants.
@@ -76,12 +79,14 @@ fn play_under<R: Files<File = File> + AllocGlobal, T: Invariants + Drop, W: Writ
     entries: Vec<Entry>,
     table: T,
     out: &mut W,
+    device: &mut Option<FileDisk>,
 ) -> Result<(), Failure>
+    requires none { device.old ≡ None }
     requires vars { T.vars table ≡ layout.vars }
     requires names { T.names table ≡ builtin_names layout.vars }
     requires stated { T.is_stated table builtin_tests }
-    ensures played { OnOk result (PlaysWhere (option_map (λ text. text.now) path.entry) layout.vars layout.slots entries.items (W.contents out.old) (W.contents out.new)) }
-    ensures failed { IfErr result (StopsWhere (option_map (λ text. text.now) path.entry) layout.vars layout.slots entries.items) }
+    ensures played { OnOk result (PlaysWhere (option_map (λ text. text.now) path.entry) device.new layout.vars layout.slots entries.items (W.contents out.old) (W.contents out.new)) }
+    ensures failed { IfErr result (StopsWhere (option_map (λ text. text.now) path.entry) device.new layout.vars layout.slots entries.items) }
 {
     let alloc = rt.alloc();
     let total = Box::new(
@@ -109,11 +114,11 @@ fn play_under<R: Files<File = File> + AllocGlobal, T: Invariants + Drop, W: Writ
     let difference = difference.map_err(Fault::from)?;
     let floor = floor.map_err(Fault::from)?;
     let steps = steps_of(alloc, total, difference, floor)?;
-    play_with(rt, path, layout, entries, table, steps, out)
+    play_with(rt, path, layout, entries, table, steps, out, device)
 }
 
 /// Plays the entries of a script, under these invariants and with these stored steps, on a fresh device in memory or on the
-/// device of the file at a path.
+/// device of the file at a path, which is left in `device`.
 fn play_with<
     R: Files<File = File> + AllocGlobal,
     T: Invariants + Drop,
@@ -127,14 +132,16 @@ fn play_with<
     table: T,
     steps: S,
     out: &mut W,
+    device: &mut Option<FileDisk>,
 ) -> Result<(), Failure>
+    requires none { device.old ≡ None }
     requires vars { T.vars table ≡ layout.vars }
     requires names { T.names table ≡ builtin_names layout.vars }
     requires tests { T.is_stated table builtin_tests }
     requires arities { S.arities steps ≡ 2 ∷ 2 ∷ 2 ∷ [] }
     requires steps { S.is_stated steps builtin_steps }
-    ensures played { OnOk result (PlaysWhere (option_map (λ text. text.now) path.entry) layout.vars layout.slots entries.items (W.contents out.old) (W.contents out.new)) }
-    ensures failed { IfErr result (StopsWhere (option_map (λ text. text.now) path.entry) layout.vars layout.slots entries.items) }
+    ensures played { OnOk result (PlaysWhere (option_map (λ text. text.now) path.entry) device.new layout.vars layout.slots entries.items (W.contents out.old) (W.contents out.new)) }
+    ensures failed { IfErr result (StopsWhere (option_map (λ text. text.now) path.entry) device.new layout.vars layout.slots entries.items) }
 {
     // what opening finds on a device that was formatted in memory is the first state, and that is not refused
     stands_for_one();
@@ -146,13 +153,17 @@ fn play_with<
         }
         Some(path) => {
             let disk = device_in_file(rt, path, layout)?;
-            play_on(rt.alloc(), disk, layout, entries, table, steps, out).1
+            let (disk, outcome) = play_on(rt.alloc(), disk, layout, entries, table, steps, out);
+            *device = Some(disk);
+            outcome
         }
     }
 }
 
-/// Opens a device, plays the entries of a script on it, and hands the device back.
-fn play_on<D: Disk + Drop, T: Invariants + Drop, S: StoredSteps + Drop, W: Write>(
+/// Opens a device, plays the entries of a script on it as `tmem run` does, and hands the device back. The invariants and the
+/// steps are the builtin ones, for as many variables as the layout has, and no call of the device has failed yet. `Output`
+/// where the output failed; `Refused` with its fault where the opening was refused, and nothing is printed then.
+pub fn play_on<D: Disk + Drop, T: Invariants + Drop, S: StoredSteps + Drop, W: Write>(
     alloc: Global,
     disk: D,
     layout: Layout,

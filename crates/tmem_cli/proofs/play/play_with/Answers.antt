@@ -1,4 +1,4 @@
-use Rattle.std.proofs.Common.{ℕ, List, Option, option_map, Bor, arith, inl, inr, sym, ap, subst, ◌∙◌}
+use Rattle.std.proofs.Common.{ℕ, List, Option, Some, option_map, Bor, arith, inl, inr, sym, ap, subst, ◌∙◌}
 use Rattle.std.specs.Prelude.{OnOk, IfErr}
 use Rattle.std.proofs.lemmas.Result.{on_ok_weaker, IfErr-weaker}
 use Rattle.tmem_disk.specs.SimParts.{is_device_of, view_of as memory_of}
@@ -12,7 +12,7 @@ returns-in_ok-disk-in-None-clause-played g c =
     let disk = c.in_ok-disk-in-None.disk in
     let layout = c.args.layout in
     let empty = c.in_ok-disk-in-None.ensures.stands.each tt _ ((is_device_of disk).seen_may_stay tt) in
-    subst (λ (p : Option (Bor (List ℕ))). OnOk c.play_on.result.1 (PlaysWhere (option_map (λ (t : Bor (List ℕ)). t.now) p) layout.vars layout.slots c.args.entries.items (g.W.Write.contents c.args.out.now) (g.W.Write.contents c.play_on.new.out))) (sym c.in-None.is)
+    subst (λ (p : Option (Bor (List ℕ))). OnOk c.play_on.result.1 (PlaysWhere (option_map (λ (t : Bor (List ℕ)). t.now) p) c.args.device.now layout.vars layout.slots c.args.entries.items (g.W.Write.contents c.args.out.now) (g.W.Write.contents c.play_on.new.out))) (sym c.in-None.is)
     (on_ok_weaker c.play_on.result.1
     (λ it. PlaysScript-of c.stands_for_one.ensures layout.vars layout.slots layout.fits (memory_of disk) (memory_of c.play_on.result.0) empty c.args.entries.items _ _ (it tt).1)
     c.play_on.ensures.played)
@@ -22,7 +22,7 @@ returns-in_ok-disk-in-None-clause-failed g c =
     let disk = c.in_ok-disk-in-None.disk in
     let layout = c.args.layout in
     let empty = c.in_ok-disk-in-None.ensures.stands.each tt _ ((is_device_of disk).seen_may_stay tt) in
-    subst (λ (p : Option (Bor (List ℕ))). IfErr c.play_on.result.1 (StopsWhere (option_map (λ (t : Bor (List ℕ)). t.now) p) layout.vars layout.slots c.args.entries.items)) (sym c.in-None.is)
+    subst (λ (p : Option (Bor (List ℕ))). IfErr c.play_on.result.1 (StopsWhere (option_map (λ (t : Bor (List ℕ)). t.now) p) c.args.device.now layout.vars layout.slots c.args.entries.items)) (sym c.in-None.is)
     (IfErr-weaker c.play_on.result.1 _ _
     (λ failure why. elim why [
       | inl stops ↦ inl stops.0
@@ -36,13 +36,13 @@ returns-in_ok-disk-in-None-clause-failed g c =
 pub returns-in_ok-disk-in-Some-clause-played : goal.returns-in_ok-disk-in-Some-clause-played
 returns-in_ok-disk-in-Some-clause-played g c =
     let layout = c.args.layout in
-    subst (λ (p : Option (Bor (List ℕ))). OnOk c.play_on-in-Some.result.1 (PlaysWhere (option_map (λ (t : Bor (List ℕ)). t.now) p) layout.vars layout.slots c.args.entries.items (g.W.Write.contents c.args.out.now) (g.W.Write.contents c.play_on-in-Some.new.out))) (sym c.in-Some.is)
-    (on_ok_weaker c.play_on-in-Some.result.1 (λ it. (c.in_ok-disk-in-Some.disk, c.play_on-in-Some.result.0, c.in_ok-disk-in-Some.ensures.device, it)) c.play_on-in-Some.ensures.played)
+    subst (λ (p : Option (Bor (List ℕ))). OnOk c.play_on-disk.result.1 (PlaysWhere (option_map (λ (t : Bor (List ℕ)). t.now) p) (Some c.play_on-disk.result.0) layout.vars layout.slots c.args.entries.items (g.W.Write.contents c.args.out.now) (g.W.Write.contents c.play_on-disk.new.out))) (sym c.in-Some.is)
+    (on_ok_weaker c.play_on-disk.result.1 (λ it. (c.in_ok-disk-in-Some.disk, c.in_ok-disk-in-Some.ensures.device, it)) c.play_on-disk.ensures.played)
 
 pub returns-in_ok-disk-in-Some-clause-failed : goal.returns-in_ok-disk-in-Some-clause-failed
 returns-in_ok-disk-in-Some-clause-failed g c =
     let layout = c.args.layout in
-    subst (λ (p : Option (Bor (List ℕ))). IfErr c.play_on-in-Some.result.1 (StopsWhere (option_map (λ (t : Bor (List ℕ)). t.now) p) layout.vars layout.slots c.args.entries.items)) (sym c.in-Some.is)
-    (IfErr-weaker c.play_on-in-Some.result.1 _ _
-    (λ failure why. inr (c.in_ok-disk-in-Some.disk, c.play_on-in-Some.result.0, c.in_ok-disk-in-Some.ensures.device, why))
-    c.play_on-in-Some.ensures.failed)
+    subst (λ (p : Option (Bor (List ℕ))). IfErr c.play_on-disk.result.1 (StopsWhere (option_map (λ (t : Bor (List ℕ)). t.now) p) (Some c.play_on-disk.result.0) layout.vars layout.slots c.args.entries.items)) (sym c.in-Some.is)
+    (IfErr-weaker c.play_on-disk.result.1 _ _
+    (λ failure why. (c.in_ok-disk-in-Some.disk, c.in_ok-disk-in-Some.ensures.device, why))
+    c.play_on-disk.ensures.failed)

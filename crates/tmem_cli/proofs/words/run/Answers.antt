@@ -17,7 +17,7 @@ returns-clause-played g c =
         entries = script.entries.items;
         script = read.2;
         layout = c.in_ok-play.ensures.fits;
-        played = PlaysWhere-keeps _ script.vars script.slots script.entries.items _ _ _ c.in_ok-play.ensures.played c.flush.ensures.kept;
+        played = PlaysWhere-keeps _ _ script.vars script.slots script.entries.items _ _ _ c.in_ok-play.ensures.played c.flush.ensures.kept;
       },
     )
 
@@ -35,7 +35,7 @@ returns-clause-failed g c =
         script.slots,
         script.entries.items,
         read.2,
-        inr (c.in_ok-play.ensures.fits, subst (λ x. StopsWhere disk script.vars script.slots script.entries.items x) (sym is) (output_stops disk script.vars script.slots script.entries.items _ _ c.in_ok-play.ensures.played)),
+        inr (c.in_ok-play.ensures.fits, subst (λ x. StopsWhere disk c.play.new.device script.vars script.slots script.entries.items x) (sym is) (output_stops disk c.play.new.device script.vars script.slots script.entries.items _ _ c.in_ok-play.ensures.played)),
       ),
     ))
     c.flush.ensures.failed

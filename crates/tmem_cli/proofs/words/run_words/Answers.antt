@@ -23,7 +23,7 @@ returns-in-Ok-Run-clause-stopped g c = λ one.
     let same : c.as_slice.result.now ≡ c.args.words.items = c.as_slice.ensures.value in
     let none = subst (λ ws. why_not_done (map string_bytes ws) ≡ []) same c.in-Ok-Run.ensures.refused in
     let asked : IsAsked (map string_bytes c.args.words.items) (Run c.in-Ok-Run.paths) = subst (λ ws. IsAsked (map string_bytes ws) (Run c.in-Ok-Run.paths)) same (rw c.in-Ok-Run.field-0-is at c.in-Ok-Run.ensures.asked) in
-    inr (inl ((none, asked.0), FailsWith-along 1 left _ _ _ _ asked.1 asked.2 (of_failure (Unit {0}) _ c.conclude.result c.run.result 1 not_one c.conclude.ensures.status c.run.ensures.failed one)))
+    inr (inl ((none, asked.0), FailsWith-along 1 left _ _ _ _ _ asked.1 asked.2 (of_failure (Unit {0}) _ c.conclude-status.result c.run.result 1 not_one c.conclude-status.ensures.status c.run.ensures.failed one)))
 
 pub returns-in-Ok-Run-clause-no_script : goal.returns-in-Ok-Run-clause-no_script
 returns-in-Ok-Run-clause-no_script g c = λ three.
@@ -31,7 +31,7 @@ returns-in-Ok-Run-clause-no_script g c = λ three.
     let same : c.as_slice.result.now ≡ c.args.words.items = c.as_slice.ensures.value in
     let none = subst (λ ws. why_not_done (map string_bytes ws) ≡ []) same c.in-Ok-Run.ensures.refused in
     let asked : IsAsked (map string_bytes c.args.words.items) (Run c.in-Ok-Run.paths) = subst (λ ws. IsAsked (map string_bytes ws) (Run c.in-Ok-Run.paths)) same (rw c.in-Ok-Run.field-0-is at c.in-Ok-Run.ensures.asked) in
-    ((none, asked.0), FailsWith-along 3 left _ _ _ _ asked.1 asked.2 (of_failure (Unit {0}) _ c.conclude.result c.run.result 3 not_three c.conclude.ensures.status c.run.ensures.failed three))
+    ((none, asked.0), FailsWith-along 3 left _ _ _ _ _ asked.1 asked.2 (of_failure (Unit {0}) _ c.conclude-status.result c.run.result 3 not_three c.conclude-status.ensures.status c.run.ensures.failed three))
 
 pub returns-clause-done : goal.returns-clause-done
 returns-clause-done g c = λ none.
