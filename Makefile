@@ -26,9 +26,17 @@ test:
 mutants:
 	.ci/mutants $(CRATES)
 
+# Compares the program with a plain model (fuzz/) on hostile contents and scripts: as many as CASES says, made of SEED. Case K alone:
+# fuzz/fuzz crates/tmem/out/unproved CASES SEED K
+CASES = 20000
+SEED = 1
+
+fuzz: $(UNPROVED)
+	@fuzz/fuzz $(UNPROVED) $(CASES) $(SEED)
+
 # Proves the program, and times the jobs of a service. bench/check compares what it prints with a simulated clock.
 bench: build
 	crates/tmem/out/tmem bench
 
 .DELETE_ON_ERROR:
-.PHONY: run build test mutants bench
+.PHONY: run build test mutants fuzz bench

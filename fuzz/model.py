@@ -1,0 +1,383 @@
+"""A plain model of the program: the bytes of docs/FORMAT.md, and the scripts of docs/SCRIPT.md.
+
+It is written from these two pages alone. It keeps the whole content of a device as bytes, and reads it anew at each opening. Memory
+and the device never fail here."""
+import re
+import struct
+
+OPEN = 0xA5
+MOST = 2**64 - 1
+# Those that the program has, in its order: the name, how many variables they need, and what they say.
+TABLE = [
+    ("nonneg", 1, lambda values: values[0] >= 0),
+    ("sum", 2, lambda values: values[0] + values[1] == 100),
+    ("ordered", 4, lambda values: values[2] <= values[3]),
+]
+STEPS = {"add": lambda a, b: a + b, "sub": lambda a, b: a - b, "need": lambda a, b: a if a >= b else "retry"}
+
+
+class Refused(Exception):
+    """A refusal, by the text of its fault."""
+
+
+class Layout:
+    def __init__(self, vars, slots):
+        self.vars, self.slots = vars, slots
+        self.pages = (vars + 63) // 64
+        self.size = 2048 + 512 * self.pages
+        self.end = self.slot(slots)
+
+    def image(self, copy):
+        return 512 + copy * self.size
+
+    def slot(self, k):
+        return 512 + 2 * self.size + 4096 * k
+
+    def is_allowed(self):
+        return 1 <= self.vars <= 1024 and 2 <= self.slots <= 64
+
+
+def block(layout):
+    return (bytes([OPEN]) + b"TMEM\1" + struct.pack("<HH", layout.vars, layout.slots)).ljust(512, b"\0")
+
+
+def spelled(names):
+    return b"".join(bytes([len(it)]) + it.encode() for it in names)
+
+
+def header(generation, count, names):
+    """An image's header behind its gate."""
+    return (struct.pack("<QQB", generation, count, len(names)) + spelled(names)).ljust(2047, b"\0")
+
+
+def pages(layout, values):
+    return struct.pack(f"<{layout.vars}q", *values).ljust(512 * layout.pages, b"\0")
+
+
+def record(writes, names):
+    found = bytes([len(writes)]) + b"".join(struct.pack("<Hq", var, value) for var, value in writes)
+    return found + bytes([len(names)]) + spelled(names)
+
+
+def batch(generation, first, records):
+    """A batch behind its gate, of records that are spelled."""
+    return struct.pack("<QQH", generation, first, len(records)) + b"".join(records)
+
+
+def formatted(layout):
+    image = bytes([OPEN]) + header(1, 0, []) + pages(layout, [0] * layout.vars)
+    return bytearray((block(layout) + image).ljust(layout.end, b"\0"))
+
+
+class Reader:
+    """Reads numbers and names off bytes, and is refused where they end or a name is none."""
+
+    def __init__(self, data):
+        self.data, self.at = data, 0
+
+    def number(self, form):
+        if self.at + struct.calcsize(form) > len(self.data):
+            raise Refused("fault 9 damaged")
+        (found,) = struct.unpack_from(form, self.data, self.at)
+        self.at += struct.calcsize(form)
+        return found
+
+    def names(self, count):
+        found = []
+        for _ in range(count):
+            length = self.number("<B")
+            name = bytes(self.data[self.at : self.at + length])
+            if not re.fullmatch(rb"[a-z]{1,16}", name) or len(name) != length:
+                raise Refused("fault 9 damaged")
+            found.append(name.decode())
+            self.at += length
+        return found
+
+
+def damaged_unless(condition):
+    if not condition:
+        raise Refused("fault 9 damaged")
+
+
+class Opened:
+    """What an opening finds on a content: the chosen copy, its generation, how many slots are used, the count, the names and the
+    values. It closes stale gates in the content, also where a name of the state is missing or an invariant is false."""
+
+    def __init__(self, content, layout):
+        self.content, self.layout = content, layout
+        if not layout.is_allowed() or len(content) < layout.end:
+            raise Refused("fault 17 geometry")
+        if content[:5] != bytes([OPEN]) + b"TMEM":
+            raise Refused("fault 8 notformatted")
+        theirs = Layout(*struct.unpack_from("<HH", content, 6))
+        damaged_unless(theirs.is_allowed() and content[:512] == block(theirs))
+        if (theirs.vars, theirs.slots) != (layout.vars, layout.slots):
+            raise Refused("fault 17 geometry")
+        self.read_image()
+        self.read_log()
+        for k in range(self.used, layout.slots):
+            if content[layout.slot(k)] == OPEN:
+                content[layout.slot(k)] = 0
+        for name in sorted(self.names):
+            if name not in [it for it, need, _ in TABLE if need <= layout.vars]:
+                raise Refused(f"fault 10 missing {name}")
+        broken = self.broken(self.names, self.values)
+        if broken:
+            raise Refused(f"fault 11 broken {broken}")
+
+    def generation_at(self, place):
+        """The generation in a cell, if its gate is open."""
+        return struct.unpack_from("<Q", self.content, place + 1)[0] if self.content[place] == OPEN else None
+
+    def read_image(self):
+        layout = self.layout
+        found = [self.generation_at(layout.image(copy)) for copy in (0, 1)]
+        damaged_unless(found[0] != found[1])
+        self.copy = 0 if found[1] is None or (found[0] is not None and found[0] > found[1]) else 1
+        self.generation = found[self.copy]
+        damaged_unless(self.generation >= 1)
+        at = layout.image(self.copy)
+        reader = Reader(self.content[at + 9 : at + 2048])
+        self.count = reader.number("<Q")
+        count = reader.number("<B")
+        damaged_unless(count <= 64)
+        self.names = reader.names(count)
+        damaged_unless(all(a < b for a, b in zip(self.names, self.names[1:])))
+        self.values = list(struct.unpack_from(f"<{layout.vars}q", self.content, at + 2048))
+        # (an image has one encoding, so what is not spelled is 0)
+        damaged_unless(self.content[at + 1 : at + 2048] == header(self.generation, self.count, self.names))
+        damaged_unless(self.content[at + 2048 : at + layout.size] == pages(layout, self.values))
+
+    def read_log(self):
+        layout = self.layout
+        found = [self.generation_at(layout.slot(k)) for k in range(layout.slots)]
+        self.used = 0
+        while self.used < layout.slots and found[self.used] == self.generation:
+            self.read_batch(layout.slot(self.used))
+            self.used += 1
+        damaged_unless(all(it is None or it < self.generation for it in found[self.used :]))
+
+    def read_batch(self, at):
+        reader = Reader(self.content[at + 9 : at + 4096])
+        damaged_unless(reader.number("<Q") == self.count)
+        records = reader.number("<H")
+        damaged_unless(1 <= records <= 64)
+        for _ in range(records):
+            count = reader.number("<B")
+            damaged_unless(count <= 64)
+            writes = [(reader.number("<H"), reader.number("<q")) for _ in range(count)]
+            damaged_unless(len({var for var, _ in writes}) == count and all(var < self.layout.vars for var, _ in writes))
+            count = reader.number("<B")
+            damaged_unless(count <= 8)
+            names = reader.names(count)
+            damaged_unless(len({*names}) == count and (writes or names))
+            self.apply(writes, names)
+        damaged_unless(self.count <= MOST and len(self.names) <= 64)
+
+    def apply(self, writes, names):
+        self.count += 1
+        self.names = sorted({*self.names, *names})
+        for var, value in writes:
+            self.values[var] = value
+
+    def broken(self, names, values):
+        """The first of these invariants that is false."""
+        return next((it for it, _, test in TABLE if it in names and not test(values)), None)
+
+
+class Run:
+    """A session of the program on a content."""
+
+    def __init__(self, content, layout):
+        self.content, self.layout = content, layout
+        self.open()
+
+    def open(self):
+        self.stored = Opened(self.content, self.layout)
+        # the present state, and what waits to be durable
+        self.count, self.names, self.values = self.stored.count, self.stored.names, list(self.stored.values)
+        self.waiting, self.attempts = [], {}
+        return f"opened {self.count}"
+
+    def play(self, entry):
+        """Plays an entry, and answers its line."""
+        if entry == "show":
+            return f"state count={self.count} names={','.join(self.names)} values={','.join(map(str, self.values))}"
+        if entry == "look":
+            return f"look {self.stored.count}"
+        if entry in ("flush", "checkpoint"):
+            return getattr(self, entry)()
+        if entry == "reopen":
+            return self.open()
+        ((key, body),) = entry.items()
+        return getattr(self, key)(*(body if key == "begin" else [body]))
+
+    def begin(self, slot, tx):
+        cause = cause_of(tx, self.layout.vars)
+        if cause:
+            return f"fault 12 badplan {cause}"
+        self.attempts[slot] = Attempt(tx)
+        return "begun"
+
+    def turn(self, slot):
+        if slot not in self.attempts:
+            return "idle"
+        return self.attempts[slot].turn(self.values)
+
+    def settle(self, slot):
+        attempt = self.attempts.get(slot)
+        if attempt is None or attempt.ending is None:
+            return "idle"
+        if any(self.values[var] != value for var, value in attempt.reads.items()):
+            return "fault 7 conflict"
+        line = self.settled(attempt)
+        if not line.startswith("fault"):
+            del self.attempts[slot]
+        return line
+
+    def settled(self, attempt):
+        if attempt.ending != "normal":
+            return attempt.ending
+        if not attempt.writes and not attempt.checks:
+            return f"seen {self.count} {','.join(map(str, attempt.registers))}"
+        values = list(self.values)
+        for var, value in attempt.writes.items():
+            values[var] = value
+        broken = self.stored.broken({*self.names, *attempt.checks}, values)
+        if broken:
+            return f"refused {broken}"
+        if len(self.waiting) == 256:
+            return "fault 5 full"
+        if self.count == MOST:
+            return "fault 15 spent"
+        self.waiting.append((list(attempt.writes.items()), attempt.checks))
+        self.values, self.names = values, sorted({*self.names, *attempt.checks})
+        self.count += 1
+        return f"committed {self.count - 1}"
+
+    def flush(self):
+        if not self.waiting:
+            return f"durable {self.stored.count}"
+        stored, layout = self.stored, self.layout
+        if stored.used == layout.slots:
+            return "fault 6 logfull"
+        records = []
+        while len(records) < min(64, len(self.waiting)) and len(b"".join(records)) + 778 <= 4077:
+            records.append(record(*self.waiting[len(records)]))
+        body = batch(stored.generation, stored.count, records)
+        at = layout.slot(stored.used)
+        self.content[at : at + 1 + len(body)] = bytes([OPEN]) + body
+        for writes, names in self.waiting[: len(records)]:
+            stored.apply(writes, names)
+        del self.waiting[: len(records)]
+        stored.used += 1
+        return f"durable {stored.count}"
+
+    def checkpoint(self):
+        stored, layout = self.stored, self.layout
+        if stored.generation == MOST:
+            return "fault 15 spent"
+        stored.generation, stored.copy, stored.used = stored.generation + 1, 1 - stored.copy, 0
+        at = layout.image(stored.copy)
+        image = bytes([OPEN]) + header(stored.generation, stored.count, stored.names) + pages(layout, stored.values)
+        self.content[at : at + layout.size] = image
+        for k in range(layout.slots):
+            if self.content[layout.slot(k)] == OPEN:
+                self.content[layout.slot(k)] = 0
+        return "checkpointed"
+
+
+class Left(Exception):
+    """The transaction was left: by retry, by an abort, or to read a variable."""
+
+
+class Attempt:
+    """One attempt: a transaction with the values that it has read."""
+
+    def __init__(self, tx):
+        self.tx, self.reads, self.ending = tx, {}, None
+
+    def turn(self, values):
+        if self.ending is None:
+            self.registers, self.writes, self.checks = [0] * 16, {}, []
+            try:
+                self.run(self.tx)
+                self.ending = "normal"
+            except Left as left:
+                why = left.args[0]
+                if isinstance(why, int):
+                    self.reads[why] = values[why]
+                    return f"read {why} {values[why]}"
+                self.ending = why
+        return "ended"
+
+    def run(self, tx):
+        key, body = (tx, None) if isinstance(tx, str) else next(iter(tx.items()))
+        if key == "seq":
+            for it in body:
+                self.run(it)
+        elif key == "put":
+            self.registers[body[0]] = body[1]
+        elif key == "read":
+            var, register = body
+            if var not in self.writes and var not in self.reads:
+                raise Left(var)
+            self.registers[register] = self.writes[var] if var in self.writes else self.reads[var]
+        elif key == "write":
+            self.writes[body[0]] = self.registers[body[1]]
+        elif key == "step":
+            name, args, register = body
+            value = STEPS[name](*(self.registers[it] for it in args))
+            if value == "retry":
+                raise Left("retry")
+            if not -(2**63) <= value < 2**63:
+                raise Left("aborted 65535")
+            self.registers[register] = value
+        elif key == "when":
+            self.run(body[1] if self.registers[body[0]] != 0 else body[2])
+        elif key == "orelse":
+            kept = list(self.registers), dict(self.writes), list(self.checks)
+            try:
+                self.run(body[0])
+            except Left as left:
+                if left.args[0] != "retry":
+                    raise
+                self.registers, self.writes, self.checks = kept
+                self.run(body[1])
+        elif key == "retry":
+            raise Left("retry")
+        elif key == "abort":
+            raise Left(f"aborted {body}")
+        elif key == "check" and body not in self.checks:
+            self.checks.append(body)
+
+
+def parts_of(tx):
+    """The transactions in one."""
+    key, body = (tx, None) if isinstance(tx, str) else next(iter(tx.items()))
+    return body if key == "seq" else body[1:] if key == "when" else body if key == "orelse" else []
+
+
+def cause_of(tx, vars):
+    """The least limit that a transaction breaks, or None."""
+    nodes, depth, level = [], 0, [tx]
+    while level:
+        nodes += level
+        depth += 1
+        level = [part for it in level for part in parts_of(it)]
+    of = lambda key: [it[key] for it in nodes if isinstance(it, dict) and key in it]
+    registers = [it[0] for it in of("put") + of("when")] + [it[1] for it in of("read") + of("write")]
+    registers += [it for name, args, out in of("step") for it in [*args, out]]
+    names = [it for it, need, _ in TABLE if need <= vars]
+    broken = [
+        depth > 32,
+        len(nodes) > 512,
+        len(of("write")) > 64,
+        len(of("check")) > 8,
+        any(it > 15 for it in registers),
+        any(it[0] >= vars for it in of("read") + of("write")),
+        False,
+        any(len(args) != 2 for name, args, out in of("step")),
+        any(it not in names for it in of("check")),
+    ]
+    return broken.index(True) + 1 if True in broken else None
