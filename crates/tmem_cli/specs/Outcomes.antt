@@ -58,10 +58,10 @@ IsWhyNotRead IsRead (error.Memory e) = ⊤
 IsWhyNotRead IsRead error.Unreadable = ⊤
 IsWhyNotRead IsRead error.NoScript = (text : List ℕ) × IsRead text × IsNoScript text
 
--- Why a script was not played to its end: it was not read, or it was stopped once it was.
+-- Why a script was not played to its end: it was not read, and there is no device; or it was stopped once it was read.
 abbrev pub IsWhyNotPlayed : (List ℕ → Type 0) → Option Text → Option FileDisk → Failure → Type 0
 IsWhyNotPlayed IsRead disk device f =
-    ((e : ScriptError) × (f ≡ failure.Script e) × IsWhyNotRead IsRead e) ⊎ ((text : List ℕ) × IsRead text × StopsText disk device text f)
+    ((e : ScriptError) × (f ≡ failure.Script e) × IsWhyNotRead IsRead e × (device ≡ None)) ⊎ ((text : List ℕ) × IsRead text × StopsText disk device text f)
 
 -- a failure of this status is why
 abbrev pub FailsWith : ℕ → (List ℕ → Type 0) → Option Text → Option FileDisk → Type 0

@@ -78,15 +78,15 @@ PlaysWhere (Some path) None vars slots entries before after = ⊥
 PlaysWhere (Some path) (Some new) vars slots entries before after =
     (disk : FileDisk) × IsFoundOrMade vars slots disk × PlaysOver view_of vars slots entries disk new before after
 
--- Why it was not played to its end: it was stopped; or, with a path, it was stopped before there was a device, the output
--- failed, or the opening of the file's device was refused, which became this one.
+-- Why it was not played to its end: it was stopped; or, with a path, memory was refused or the device failed, and none is left;
+-- or the device of the file became this one, and the output failed, or its opening was refused.
 abbrev pub StopsWhere : Option (List ℕ) → Option FileDisk → ℕ → ℕ → List Entry → Failure → Type 0
 StopsWhere None left vars slots entries f = IsStop f
 StopsWhere (Some path) None vars slots entries f = (f ≡ failure.Refused fault.Memory) ⊎ (f ≡ failure.Refused fault.Device)
 StopsWhere (Some path) (Some new) vars slots entries f =
     (disk : FileDisk) × IsFoundOrMade vars slots disk × (StopsOver view_of vars slots entries disk new f ⊎ RefusesOver view_of vars slots disk new f)
 
--- Why a script that was read was not played to its end: its numbers are out of limits, or that.
+-- Why a script that was read was not played to its end: its numbers are out of limits, and there is no device; or that.
 abbrev pub StopsPlaying : Option (List ℕ) → Option FileDisk → ℕ → ℕ → List Entry → Failure → Type 0
 StopsPlaying path left vars slots entries f =
-    ((f ≡ failure.Refused fault.Geometry) × (¬ IsLayout vars slots)) ⊎ (IsLayout vars slots × StopsWhere path left vars slots entries f)
+    ((f ≡ failure.Refused fault.Geometry) × (¬ IsLayout vars slots) × (left ≡ None)) ⊎ (IsLayout vars slots × StopsWhere path left vars slots entries f)
