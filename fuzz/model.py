@@ -1,6 +1,6 @@
 """A plain model of the program: the bytes of docs/FORMAT.md, and the scripts of docs/SCRIPT.md.
 
-It is written from these two pages alone. It keeps the whole content of a device as bytes, and reads it anew at each opening. Memory
+Which refusal comes first is from docs/API.md and docs/MODEL.md. It keeps the whole content of a device as bytes, and reads it anew at each opening. Memory
 and the device never fail here."""
 import re
 import struct

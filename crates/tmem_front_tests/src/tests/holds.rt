@@ -12,6 +12,7 @@ use std::test::Fail;
 const CLOSED: Answer = Refused(Refusal::Closed);
 
 static SCENES: &[Line<'static>] = &[
+    // While one thread is held, another one reads and writes once by each way, peeks, and looks: nothing is durable by then.
     Scene("settle while sync held"),
     Before(TryCommit(Task::Write(0, 1)), Committed(0)),
     Before(HoldSyncs(1), Done),

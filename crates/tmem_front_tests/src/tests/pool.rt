@@ -39,6 +39,7 @@ static SCENES: &[Line<'static>] = &[
     First(Sleep(600), Done),
     First(TryCommit(Task::Write(1, 2)), Committed(1)),
     First(ReleasePass, Done),
+    // gets a pass once the first thread has written a 2
     Second(Sleep(300), Done),
     Second(Acquire, Done),
     Second(Peek(1), Value(2)),

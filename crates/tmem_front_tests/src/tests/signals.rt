@@ -103,12 +103,12 @@ impl Signals {
         self.needs.load(Ordering::SeqCst)
     }
 
-    /// Counts that a thread has played its rows.
+    /// Counts that a thread has played its lines.
     pub(super) fn count_end(&self) {
         self.ended.fetch_add(1, Ordering::SeqCst);
     }
 
-    /// Waits until so many threads have played their rows. Answers whether that came in time.
+    /// Waits until so many threads have played their lines. Answers whether that came in time.
     pub(super) fn await_ends<R: Clock>(&self, rt: &R, threads: u64) -> bool {
         has_come_in_time(rt, &self.ended, threads)
     }
