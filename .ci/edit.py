@@ -1,6 +1,6 @@
 """Mutants, as they stand in crates/*/{must-fail,mutants,test-mutants}/*.edit: a line 'file: PATH', and then pairs of lines 'old: TEXT' and
-'new: TEXT', each TEXT one line that stands once in that file. That of a test mutant begins with a line 'fails: CRATE' or
-'fails: .ci/PART', which says whose tests have to fail."""
+'new: TEXT', each TEXT one line that stands once in that file. That of a test mutant begins with a line 'fails: CRATE',
+'fails: CRATE TEST' or 'fails: .ci/PART', which says whose tests have to fail, or which one."""
 import glob
 import re
 
@@ -37,6 +37,11 @@ class Edit:
             elif word == "new" and file and old:
                 self.pairs.append((file, old, rest))
                 old = None
+
+    def of_tests(self):
+        """The crate or the part whose tests have to fail, and the test, if it is one."""
+        crate, _, test = (self.fails or "").partition(" ")
+        return crate, test
 
     def apply(self, texts, folder):
         """Puts its texts in place, or answers why they cannot be."""

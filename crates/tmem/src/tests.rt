@@ -14,9 +14,11 @@ use tmem_cli::run_words;
 const FIRST: &str =
     r#"{"vars":4,"slots":4,"events":[{"begin":[0,{"seq":[{"put":[0,5]},{"write":[0,0]}]}]},{"turn":0},{"settle":0},"flush","reopen","show"]}"#;
 
-/// Takes everything, and cannot be flushed.
+/// Takes everything, and cannot be flushed for this reason.
 #[derive(Drop)]
-struct Unflushed;
+struct Unflushed {
+    kind: io::ErrorKind,
+}
 
 impl io::Write for Unflushed {
     fn write(&mut self, buf: &[u8]) -> io::Result<usize> {
@@ -24,7 +26,7 @@ impl io::Write for Unflushed {
     }
 
     fn flush(&mut self) -> io::Result<()> {
-        Err(io::Error::from(io::ErrorKind::BrokenPipe))
+        Err(io::Error::from(self.kind))
     }
 }
 
@@ -41,18 +43,24 @@ fn with_name(alloc: Global, words: &[&str]) -> Result<Vec<String>, AllocError> {
 fn status_of<R: Files<File = File> + AllocGlobal + Threads + Wait + Clock + Sync, E: io::Write>(
     rt: &R,
     words: Vec<String>,
+    kind: io::ErrorKind,
     err: &mut E,
 ) -> u8 {
-    run_words(rt, words, &mut FIRST.as_bytes(), &mut Unflushed, err).0
+    run_words(rt, words, &mut FIRST.as_bytes(), &mut Unflushed { kind }, err).0
 }
 
 #[test]
 fn output_that_cannot_be_flushed_is_told(rt: HostRuntime) -> Result<(), Fail> {
-    let table: [&[&str]; 3] = [&["run"], &["threads", "1", "1"], &["--help"]];
-    for words in table {
+    let table: [(&[&str], io::ErrorKind); 4] = [
+        (&["run"], io::ErrorKind::BrokenPipe),
+        (&["run"], io::ErrorKind::PermissionDenied),
+        (&["threads", "1", "1"], io::ErrorKind::BrokenPipe),
+        (&["--help"], io::ErrorKind::BrokenPipe),
+    ];
+    for (words, kind) in table {
         let all = with_name(rt.alloc(), words)?;
         let mut err = Vec::new(rt.alloc());
-        assert_eq!(rt; status_of(&rt, all, &mut err), 1, "{words:?}");
+        assert_eq!(rt; status_of(&rt, all, kind, &mut err), 1, "{words:?}");
         assert!(rt;
             err.as_slice() == "tmem: output failed\n".as_bytes(),
             "{words:?}"

@@ -7,6 +7,7 @@ use super::moves::Move::{
 use super::moves::{Refusal, Task};
 use super::scenes::Line::{
     After, All, Before, FailSync, FailWrite, First, Last, Scene, Second, Slots, SyncMillis, Third,
+    Vars,
 };
 use super::scenes::{Line, play};
 use std::test::Fail;
@@ -15,6 +16,7 @@ const WRITE: Task = Task::Write(0, 1);
 
 static SCENES: &[Line<'static>] = &[
     Scene("a flusher ends with its pace"),
+    Vars(4),
     Before(Fill(200), Number(200)),
     Before(RunFlusher(2), Done),
     Before(Look, Number(128)),

@@ -22,6 +22,9 @@ static SCENES: &[Line<'static>] = &[
     Last(Commit(Task::AddOne), Committed(2)),
     Last(Attempt(Task::AddOne), Done),
     Last(Settle, Committed(3)),
+    // a transaction without a step is settled another way
+    Last(TryCommit(Task::Copy), Committed(4)),
+    Last(Commit(Task::Copy), Committed(5)),
     Last(Peek(0), Value(4)),
     Last(Look, Number(0)),
     Last(Release, Done),
@@ -35,8 +38,11 @@ static SCENES: &[Line<'static>] = &[
     Last(Commit(Task::AddOne), Committed(2)),
     Last(Attempt(Task::AddOne), Done),
     Last(Settle, Committed(3)),
+    Last(TryCommit(Task::Copy), Committed(4)),
+    Last(Commit(Task::Copy), Committed(5)),
     Last(Peek(0), Value(4)),
     Last(Look, Number(0)),
+    Last(Shut, Done),
     Last(Release, Done),
     // a checkpoint makes nothing durable that waits
     After(Look, Number(0)),

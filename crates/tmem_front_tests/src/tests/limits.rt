@@ -1,8 +1,8 @@
 //! Calls that wait for no longer than a time.
 use super::moves::Answer::{Committed, Done, Holds, Late, Number, Refused, Retried, Saw};
 use super::moves::Move::{
-    AcquireWithin, AwaitHeld, AwaitWithin, Close, CommitWithin, Count, Flush, HoldSteps, HoldSyncs,
-    LooksAtMost, NeedsAtMost, Release, ReleasePass, Shut, Sleep, TryCommit,
+    Acquire, AcquireWithin, AwaitHeld, AwaitWithin, Close, CommitWithin, Count, Flush, HoldSteps,
+    HoldSyncs, LooksAtMost, NeedsAtMost, NewPasses, Release, ReleasePass, Shut, Sleep, TryCommit,
 };
 use super::moves::{Answer, Refusal, Task};
 use super::scenes::Line::{After, Before, First, Last, Scene, Second, Third};
@@ -73,10 +73,29 @@ static SCENES: &[Line<'static>] = &[
     Last(TryCommit(Task::Write(2, 0)), Committed(0)),
     Last(Sleep(1500), Done),
     Last(Shut, Done),
-    Scene("a wait with a limit lasts as long"),
+    Scene("a wait with a limit below a second lasts as long"),
+    // with the one in hand and those that the threads take first, one is left for the pool
+    Before(NewPasses(26), Number(26)),
+    First(Acquire, Done),
     First(CommitWithin(Task::NeedOne, 900), Saw(1, ONE)),
+    First(ReleasePass, Done),
+    Second(AwaitWithin(0, 900), Done),
+    Third(Sleep(100), Done),
+    Third(AcquireWithin(900), Done),
     Last(Sleep(300), Done),
     Last(TryCommit(Task::Write(2, 1)), Committed(0)),
+    Last(Flush, Number(1)),
+    Scene("a wait with a limit lasts for more than a half of it"),
+    Before(NewPasses(26), Number(26)),
+    First(Acquire, Done),
+    First(CommitWithin(Task::NeedOne, 3000), Saw(1, ONE)),
+    First(ReleasePass, Done),
+    Second(AwaitWithin(0, 3000), Done),
+    Third(Sleep(100), Done),
+    Third(AcquireWithin(3000), Done),
+    Last(Sleep(2000), Done),
+    Last(TryCommit(Task::Write(2, 1)), Committed(0)),
+    Last(Flush, Number(1)),
 ];
 
 #[test]

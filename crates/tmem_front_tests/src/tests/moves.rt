@@ -23,6 +23,14 @@ pub(super) enum Task {
     AddOnceThereIsOne,
     /// Writes a number to two variables.
     WriteBoth(u16, u16, i64),
+    /// Reads each variable up to this one, and retries until this one is at least 1. Registers as those of `NeedOne`.
+    NeedLast(u16),
+    /// Retries until a variable is at least so great, and adds 1 to another one.
+    AddBehind(u16, i64, u16),
+    /// Writes a number to each of 64 variables.
+    WriteEach(i64),
+    /// Aborts with this code.
+    Abort(u16),
     /// Reads a variable, and another one where that is less than 1, and retries until either is at least 1.
     NeedEither(u16, u16),
     /// Retries.
@@ -39,8 +47,11 @@ pub(super) enum Move {
     TryCommit(Task),
     Attempt(Task),
     Settle,
-    /// Writes 1 to variable 0 so often by `try_atomically`. Answers how often the number was the next one, from 0.
+    /// Writes 1 to variable 0 so often by `try_atomically`, or commits a task. Answers how often the number was the next one, from 0.
     Fill(u64),
+    FillBy(Task, u64),
+    /// Commits `AddBehind` so often by `atomically_with_room`, for one more each time. Answers how often, or another answer.
+    Pass(u16, i64, u16, u64),
     /// Commits `AddOne` so often by `try_atomically`, again after each conflict. Answers how often it did.
     Add(u64),
     /// `atomically_within`, for so many milliseconds.
@@ -85,6 +96,8 @@ pub(super) enum Move {
     AcquireWithin(u64),
     /// Hands the one in hand to the pool.
     ReleasePass,
+    /// Both so often, in turn. Answers how often, or another answer.
+    Borrow(u64),
     /// Takes the other pass in hand, a new one at first.
     OtherPass,
     /// Lets so many milliseconds pass.
@@ -181,6 +194,10 @@ impl Task {
             Task::WriteBoth(var, other, number) => write_both(alloc, var, other, number),
             Task::NeedEither(var, other) => need_either(alloc, var, other),
             Task::Never => Ok(Tx::Retry),
+            Task::Abort(code) => Ok(Tx::Abort { code }),
+            Task::NeedLast(var) => need_last(alloc, var),
+            Task::AddBehind(var, least, other) => add_behind(alloc, var, least, other),
+            Task::WriteEach(number) => write_each(alloc, number),
             Task::AddOnceThereIsOne => Ok(Tx::Seq(vec![in alloc;
                 add_one(alloc)?,
                 need_one(alloc, 2)?,
@@ -199,6 +216,10 @@ fn copy(alloc: Global) -> Result<Tx, AllocError> {
 }
 
 fn add_one(alloc: Global) -> Result<Tx, AllocError> {
+    add_to(alloc, 0)
+}
+
+fn add_to(alloc: Global, var: u16) -> Result<Tx, AllocError> {
     let args = vec![in alloc; 0, 1]?;
     let step = Tx::Step {
         index: 0,
@@ -206,11 +227,33 @@ fn add_one(alloc: Global) -> Result<Tx, AllocError> {
         out: 0,
     };
     Ok(Tx::Seq(vec![in alloc;
-        Tx::Read { var: 0, reg: 0 },
+        Tx::Read { var, reg: 0 },
         Tx::Put { reg: 1, number: 1 },
         step,
-        Tx::Write { var: 0, reg: 0 },
+        Tx::Write { var, reg: 0 },
     ]?))
+}
+
+fn add_behind(alloc: Global, var: u16, least: i64, other: u16) -> Result<Tx, AllocError> {
+    let (first, second) = (need(alloc, var, least)?, add_to(alloc, other)?);
+    Ok(Tx::Seq(vec![in alloc; first, second]?))
+}
+
+fn need_last(alloc: Global, last: u16) -> Result<Tx, AllocError> {
+    let mut txs = Vec::new(alloc);
+    for var in 0..last {
+        txs.push(Tx::Read { var, reg: 3 })?;
+    }
+    txs.push(need_one(alloc, last)?)?;
+    Ok(Tx::Seq(txs))
+}
+
+fn write_each(alloc: Global, number: i64) -> Result<Tx, AllocError> {
+    let mut txs = vec![in alloc; Tx::Put { reg: 0, number }]?;
+    for var in 0..64 {
+        txs.push(Tx::Write { var, reg: 0 })?;
+    }
+    Ok(Tx::Seq(txs))
 }
 
 fn write_both(alloc: Global, var: u16, other: u16, number: i64) -> Result<Tx, AllocError> {
@@ -224,6 +267,10 @@ fn need_either(alloc: Global, var: u16, other: u16) -> Result<Tx, AllocError> {
 }
 
 fn need_one(alloc: Global, var: u16) -> Result<Tx, AllocError> {
+    need(alloc, var, 1)
+}
+
+fn need(alloc: Global, var: u16, least: i64) -> Result<Tx, AllocError> {
     let args = vec![in alloc; 0, 1]?;
     let step = Tx::Step {
         index: 1,
@@ -232,7 +279,10 @@ fn need_one(alloc: Global, var: u16) -> Result<Tx, AllocError> {
     };
     Ok(Tx::Seq(vec![in alloc;
         Tx::Read { var, reg: 0 },
-        Tx::Put { reg: 1, number: 1 },
+        Tx::Put {
+            reg: 1,
+            number: least,
+        },
         step,
     ]?))
 }

@@ -1,11 +1,11 @@
 //! One caller or two passes: what they are answered, one after another.
-use super::moves::Answer::{Committed, Done, Number, Refused, Retried, Saw, Value};
+use super::moves::Answer::{Aborted, Committed, Done, Number, Refused, Retried, Saw, Value};
 use super::moves::Move::{
-    Attempt, Commit, CommitWithin, Fill, Flush, Look, NewPass, NewPasses, OtherPass, Peek, Seen,
-    Settle, Shut, TryCommit, Vouch,
+    Attempt, Commit, CommitDurable, CommitWithin, Count, Fill, Flush, Look, NewPass, NewPasses,
+    OtherPass, Peek, Seen, Settle, Shut, TryCommit, Vouch,
 };
 use super::moves::{Answer, Refusal, Task};
-use super::scenes::Line::{Before, First, Last, Scene, Second, Third};
+use super::scenes::Line::{Before, First, Last, Scene, Second, Third, Vars};
 use super::scenes::{Line, play};
 use std::test::Fail;
 
@@ -15,6 +15,7 @@ const WRITE: Task = Task::Write(0, 1);
 
 static SCENES: &[Line<'static>] = &[
     Scene("a look is fresh and a flush writes"),
+    Vars(4),
     // the other pass is there from the start
     Before(OtherPass, Done),
     Before(Attempt(Task::Write(0, 5)), Done),
@@ -36,11 +37,13 @@ static SCENES: &[Line<'static>] = &[
     Before(Vouch(0), Number(2)),
     Before(Seen, Number(1)),
     Scene("a dropped pass is not given out again"),
+    Vars(4),
     // one is in hand, so 32 are given out
     Before(NewPasses(31), Number(31)),
     Before(NewPass, Refused(Refusal::NoSeat)),
     Before(NewPasses(9), Number(0)),
     Scene("a full front takes more once a batch is durable"),
+    Vars(4),
     Before(Fill(256), Number(256)),
     Before(TryCommit(WRITE), FULL),
     Before(Flush, Number(64)),
@@ -53,6 +56,12 @@ static SCENES: &[Line<'static>] = &[
     Third(Attempt(WRITE), Done),
     Third(Settle, FULL),
     Last(CommitWithin(WRITE, 60_000), FULL),
+    Scene("an abort is answered at once"),
+    Before(Commit(Task::Abort(7)), Aborted(7)),
+    Before(TryCommit(Task::Abort(8)), Aborted(8)),
+    Before(CommitWithin(Task::Abort(9), 60_000), Aborted(9)),
+    Before(CommitDurable(Task::Abort(0)), Aborted(0)),
+    Before(Count, Number(0)),
     Scene("a late attempt is refused"),
     Before(Attempt(Task::AddOne), Done),
     Before(Settle, Committed(0)),

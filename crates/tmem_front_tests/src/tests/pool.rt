@@ -1,11 +1,13 @@
 //! Passes that callers share.
 use super::moves::Answer::{Committed, Done, Holds, Late, Number, Refused, Value};
 use super::moves::Move::{
-    Acquire, AcquireWithin, AwaitHeld, Commit, Flush, HoldSteps, Look, LooksAtMost, NewPass,
-    NewPasses, OtherPass, Peek, Release, ReleasePass, Seen, Shut, Sleep, TryCommit,
+    Acquire, AcquireWithin, AwaitHeld, Borrow, Commit, Flush, HoldSteps, Look, LooksAtMost,
+    NewPass, NewPasses, OtherPass, Peek, Release, ReleasePass, Seen, Shut, Sleep, TryCommit,
 };
 use super::moves::{Answer, Refusal, Task};
-use super::scenes::Line::{After, Before, FailSync, First, Last, Scene, Second, Third};
+use super::scenes::Line::{
+    After, Before, FailSync, First, FirstThree, Last, Scene, Second, SyncMillis, Third,
+};
 use super::scenes::{Line, play};
 use std::test::Fail;
 
@@ -58,6 +60,11 @@ static SCENES: &[Line<'static>] = &[
     Second(Peek(1), Value(2)),
     Last(Sleep(1), Done),
     After(LooksAtMost(8), Holds(true)),
+    Scene("one pass is handed from thread to thread"),
+    Before(NewPasses(27), Number(27)),
+    // each thread has its first pass by then
+    FirstThree(Sleep(300), Done),
+    FirstThree(Borrow(3000), Number(3000)),
     Scene("a thread waits for a pass for no longer than a time"),
     Before(NewPasses(27), Number(27)),
     Before(HoldSteps(1), Done),
@@ -117,6 +124,11 @@ static SCENES: &[Line<'static>] = &[
     Before(Acquire, Done),
     Before(ReleasePass, Done),
     Before(Acquire, Done),
+    Scene("a pass that is handed back once the front is shut is lent again"),
+    Before(NewPasses(31), Number(31)),
+    Before(Shut, Done),
+    Before(ReleasePass, Done),
+    Before(Acquire, Done),
     Scene("a pool lends again before it grows"),
     Before(Acquire, Done),
     Before(ReleasePass, Done),
@@ -145,6 +157,49 @@ static SCENES: &[Line<'static>] = &[
     Last(Release, Done),
     Last(AwaitHeld(3), Done),
     Last(Sleep(600), Done),
+    Last(Release, Done),
+    Scene("to count looks lets go of the core before it takes the pool"),
+    Before(TryCommit(Task::Write(0, 1)), Committed(0)),
+    Before(HoldSteps(3), Done),
+    First(Commit(Task::AddOne), Committed(3)),
+    Second(AwaitHeld(3), Done),
+    Second(Sleep(100), Done),
+    Second(LooksAtMost(8), Holds(true)),
+    Third(AwaitHeld(3), Done),
+    Third(Sleep(300), Done),
+    Third(Acquire, Done),
+    Last(AwaitHeld(1), Done),
+    Last(TryCommit(Task::Write(0, 5)), Committed(1)),
+    Last(Release, Done),
+    Last(AwaitHeld(2), Done),
+    Last(TryCommit(Task::Write(0, 7)), Committed(2)),
+    Last(Release, Done),
+    Last(AwaitHeld(3), Done),
+    Last(Sleep(600), Done),
+    Last(Release, Done),
+    Scene("a fault lets go of the core before it takes the pool"),
+    FailSync(1),
+    SyncMillis(600),
+    Before(TryCommit(Task::Write(0, 1)), Committed(0)),
+    Before(HoldSteps(3), Done),
+    // the third addition is held under the core's lock
+    First(Commit(Task::AddOne), Committed(3)),
+    // its sync fails after that, and then it waits for the core's lock
+    Second(AwaitHeld(2), Done),
+    Second(Flush, Refused(Refusal::Unknown)),
+    // waits for it too, under the pool's lock
+    Third(AwaitHeld(3), Done),
+    Third(Sleep(900), Done),
+    Third(Acquire, Done),
+    Last(AwaitHeld(1), Done),
+    Last(TryCommit(Task::Write(0, 5)), Committed(1)),
+    Last(Release, Done),
+    Last(AwaitHeld(2), Done),
+    Last(Sleep(200), Done),
+    Last(TryCommit(Task::Write(0, 7)), Committed(2)),
+    Last(Release, Done),
+    Last(AwaitHeld(3), Done),
+    Last(Sleep(1200), Done),
     Last(Release, Done),
 ];
 

@@ -1,4 +1,4 @@
-//! Scenes: in each a new store, and what one thread does with it, then four at once, and then that one again.
+//! Scenes: in each a new store, and what one thread does with it, then several at once, and then that one again.
 ghost use Rattle.std.specs.Prelude.{◌≡◌};
 ghost use Rattle.tmem_front.specs.Held.{found_of, spine_of};
 ghost use Rattle.tmem_front_tests.specs.Examples.{adding};
@@ -22,17 +22,17 @@ use tmem_invariants::Invariants;
 use tmem_journal::{Layout, format};
 use tmem_tree::StoredSteps;
 
-/// How many variables a store has.
-const VARS: u16 = 100;
-
 /// Where the generation of the first image stands.
 const GENERATION: u64 = 513;
 
 /// A line of a table of scenes. Those of one thread are played in their order.
 #[derive(Clone, Copy)]
 pub(super) enum Line<'a> {
-    /// Begins a scene of this name in a new store, whose device has four slots and never fails, if no line says otherwise.
+    /// Begins a scene of this name in a new store of 100 variables, whose device has four slots and never fails, if no line says
+    /// otherwise. Once it is over the device is taken out, and no call of it is made for that.
     Scene(&'a str),
+    /// How many variables the store has.
+    Vars(u16),
     /// How many slots the device has.
     Slots(u16),
     /// Which call of it fails, counted from 0 once it is formatted. The first sync is the one of the opening, which writes nothing.
@@ -44,15 +44,16 @@ pub(super) enum Line<'a> {
     LastImage,
     /// What one thread does before the others start, and what that has to be answered.
     Before(Move, Answer),
-    /// What one of four threads does, which play at once. The last one never waits for another thread: it waits until the others
+    /// What one of eight threads does, which play at once. The last one never waits for another thread: it waits until the others
     /// have ended, and where they have not in ten seconds it shuts the front until they do.
     First(Move, Answer),
     Second(Move, Answer),
     Third(Move, Answer),
     Last(Move, Answer),
-    /// What each of the first three does, or each of the four.
+    /// What each of the first three does, or each of these four, or each of four more.
     FirstThree(Move, Answer),
     All(Move, Answer),
+    FourMore(Move, Answer),
     /// What the thread that began does at the end.
     After(Move, Answer),
 }
@@ -75,7 +76,8 @@ impl Line<'_> {
             | (Line::Third(step, want), Part::Thread(2))
             | (Line::Last(step, want), Part::Thread(LAST))
             | (Line::FirstThree(step, want), Part::Thread(0 | 1 | 2))
-            | (Line::All(step, want), Part::Thread(_))
+            | (Line::All(step, want), Part::Thread(0 | 1 | 2 | LAST))
+            | (Line::FourMore(step, want), Part::Thread(4 | 5 | 6 | 7))
             | (Line::After(step, want), Part::After) => Some((step, want)),
             _ => None,
         }
@@ -93,6 +95,7 @@ enum Failing {
 /// The device of a new store.
 #[derive(Clone, Copy)]
 struct Device {
+    vars: u16,
     slots: u16,
     failing: Failing,
     sync_millis: u64,
@@ -102,6 +105,7 @@ struct Device {
 // What lines say of the device.
 fn device_of(lines: &[Line]) -> Device {
     let mut device = Device {
+        vars: 100,
         slots: 4,
         failing: Failing::Never,
         sync_millis: 0,
@@ -109,6 +113,7 @@ fn device_of(lines: &[Line]) -> Device {
     };
     for line in lines {
         match *line {
+            Line::Vars(vars) => device.vars = vars,
             Line::Slots(slots) => device.slots = slots,
             Line::FailWrite(k) => device.failing = Failing::Write(k),
             Line::FailSync(k) => device.failing = Failing::Sync(k),
@@ -133,6 +138,8 @@ enum Wrong {
     },
     /// The others did not end in time.
     Late,
+    /// The device was called while it was taken out.
+    Called,
 }
 
 /// How often the front is shut where threads still wait.
@@ -227,7 +234,7 @@ impl<D: Disk + Drop, N: StoreNaming, T: Invariants + Drop, S: StoredSteps + Drop
 
     // Waits until all threads have ended. Where they have not in time, shuts the front for each that still waits.
     fn ends_others<R: Clock + Wait>(&self, stage: &Stage<R>) -> bool {
-        if stage.signals.await_ends(stage.rt, 4) {
+        if stage.signals.await_ends(stage.rt, 8) {
             return true;
         }
         for _ in 0..MOST_SHUTS {
@@ -266,6 +273,32 @@ fn play_four<F: Plays + Sync, R: Clock + Threads + Wait + Sync>(
     one.or(other)
 }
 
+// Four more.
+fn play_four_more<F: Plays + Sync, R: Clock + Threads + Wait + Sync>(
+    stage: &Stage<R>,
+    store: &F,
+) -> Option<Wrong> {
+    let (one, other) = join(
+        stage.rt,
+        || play_two(stage, store, 4, 5),
+        || play_two(stage, store, 6, 7),
+    );
+    one.or(other)
+}
+
+// All eight.
+fn play_eight<F: Plays + Sync, R: Clock + Threads + Wait + Sync>(
+    stage: &Stage<R>,
+    store: &F,
+) -> Option<Wrong> {
+    let (one, other) = join(
+        stage.rt,
+        || play_four(stage, store),
+        || play_four_more(stage, store),
+    );
+    one.or(other)
+}
+
 // A scene in a store, with the hands that begin it and end it.
 fn play_in<
     D: Disk + Drop + Send,
@@ -279,7 +312,7 @@ fn play_in<
         return Some(Wrong::NotBegun(fault));
     }
     let before = store.play_lines(stage, hands, Part::Before);
-    let threads = play_four(stage, front);
+    let threads = play_eight(stage, front);
     let after = store.play_lines(stage, hands, Part::After);
     before.or(threads).or(after)
 }
@@ -300,8 +333,8 @@ type Opened<'a, R> = OpenedFront<StageDisk<'a, SimDisk, R>, AlwaysTrue, AddsAndN
 
 // A new device that fails as it is to.
 fn new_disk(alloc: Global, device: Device) -> Result<SimDisk, Fault> {
-    let mut disk = SimDisk::new(alloc, Layout::new(VARS, device.slots)?.end())?;
-    format(&mut disk, VARS, device.slots)?;
+    let mut disk = SimDisk::new(alloc, Layout::new(device.vars, device.slots)?.end())?;
+    format(&mut disk, device.vars, device.slots)?;
     if device.has_last_image && disk.size() >= GENERATION + 8 {
         let written = disk.write_at(GENERATION, &u64::MAX.to_le_bytes());
         if written.is_err() {
@@ -324,17 +357,18 @@ fn open<'a, R: Clock>(stage: &Stage<'a, R>, device: Device) -> Result<Opened<'a,
         signals: stage.signals,
         sync_millis: device.sync_millis,
     };
-    let table = AlwaysTrue { vars: VARS };
+    let vars = device.vars;
+    let table = AlwaysTrue { vars };
     let steps = AddsAndNeeds {
         signals: stage.signals,
     };
-    match OpenedFront::open(stage.alloc, disk, VARS, device.slots, table, steps) {
+    match OpenedFront::open(stage.alloc, disk, vars, device.slots, table, steps) {
         Ok(opened) => Ok(opened),
         Err(refusal) => Err(refusal.0),
     }
 }
 
-// A scene in a store under its name.
+// A scene in a store under its name, out of which its device is taken at the end.
 fn play_named<N: StoreNaming + Send + Sync, R: Clock + Threads + Wait + Sync>(
     stage: &Stage<R>,
     opened: Opened<R>,
@@ -343,7 +377,14 @@ fn play_named<N: StoreNaming + Send + Sync, R: Clock + Threads + Wait + Sync>(
     requires opening { found_of opened ≡ N.opening }
     requires program { N.program ≡ adding }
 {
-    play_on(stage, &opened.named::<N>())
+    let front = opened.named::<N>();
+    let wrong = play_on(stage, &front);
+    let calls = stage.signals.calls();
+    drop(front.into_disk());
+    if stage.signals.calls() != calls {
+        return wrong.or(Some(Wrong::Called));
+    }
+    wrong
 }
 
 // A scene, of whose lines the first one names it, in a new store.
@@ -383,6 +424,7 @@ fn is_played(lines: &[Line]) -> bool {
         Part::Thread(1),
         Part::Thread(2),
         Part::Thread(LAST),
+        Part::Thread(4),
         Part::After,
     ];
     parts

@@ -25,6 +25,7 @@ pub(super) struct Signals {
     adds: AtomicU64,
     needs: AtomicU64,
     ended: AtomicU64,
+    calls: AtomicU64,
 }
 
 impl Signals {
@@ -38,6 +39,7 @@ impl Signals {
             adds: AtomicU64::new(0),
             needs: AtomicU64::new(0),
             ended: AtomicU64::new(0),
+            calls: AtomicU64::new(0),
         }
     }
 
@@ -101,6 +103,16 @@ impl Signals {
     /// How often a number was needed.
     pub(super) fn needs(&self) -> u64 {
         self.needs.load(Ordering::SeqCst)
+    }
+
+    /// Counts a call of the device.
+    pub(super) fn count_call(&self) {
+        self.calls.fetch_add(1, Ordering::SeqCst);
+    }
+
+    /// How often the device was called.
+    pub(super) fn calls(&self) -> u64 {
+        self.calls.load(Ordering::SeqCst)
     }
 
     /// Counts that a thread has played its lines.

@@ -27,14 +27,17 @@ impl<'a, D: Disk, R: Clock> Disk for StageDisk<'a, D, R> {
     }
 
     fn read(&mut self, at: u64, into: &mut [u8]) -> Result<(), DeviceFault> {
+        self.signals.count_call();
         self.inner.read(at, into)
     }
 
     fn write_at(&mut self, at: u64, bytes: &[u8]) -> Result<(), DeviceFault> {
+        self.signals.count_call();
         self.inner.write_at(at, bytes)
     }
 
     fn sync(&mut self) -> Result<(), DeviceFault> {
+        self.signals.count_call();
         if self.sync_millis > 0 {
             thread::sleep(self.rt, Duration::from_millis(self.sync_millis));
         }

@@ -121,6 +121,7 @@ impl<D: Disk + Drop, N: StoreNaming, T: Invariants + Drop, S: StoredSteps + Drop
             Move::Acquire => Answer::done(self.acquire(stage, &mut hands.pass)),
             Move::AcquireWithin(millis) => self.acquire_within(stage, &mut hands.pass, millis),
             Move::ReleasePass => self.release(stage, &mut hands.pass),
+            Move::Borrow(times) => self.borrow(stage, &mut hands.pass, times),
             Move::OtherPass => Answer::done(self.other_pass(stage, hands)),
             other => match &mut hands.pass {
                 Some(pass) => self.answer_by(stage, pass, other),
@@ -139,7 +140,11 @@ impl<D: Disk + Drop, N: StoreNaming, T: Invariants + Drop, S: StoredSteps + Drop
         match step {
             Move::Commit(task) => self.commit(stage, pass, task),
             Move::TryCommit(task) => self.try_commit(stage, pass, task),
-            Move::Fill(times) => self.fill(stage, pass, times),
+            Move::Fill(times) => self.fill(stage, pass, Task::Write(0, 1), times),
+            Move::FillBy(task, times) => self.fill(stage, pass, task, times),
+            Move::Pass(var, first, other, times) => {
+                self.pass_on(stage, pass, var, first, other, times)
+            }
             Move::Add(times) => self.add(stage, pass, times),
             Move::CommitWithin(task, millis) => self.commit_within(stage, pass, task, millis),
             Move::AddWithRoom(times) => self.add_with_room(stage, pass, times),
@@ -256,10 +261,16 @@ impl<D: Disk + Drop, N: StoreNaming, T: Invariants + Drop, S: StoredSteps + Drop
     }
 
     // How often a commit has the next number, from 0.
-    fn fill<R: Wait>(&self, stage: &Stage<R>, pass: &mut Pass<N>, times: u64) -> Answer {
+    fn fill<R: Wait>(
+        &self,
+        stage: &Stage<R>,
+        pass: &mut Pass<N>,
+        task: Task,
+        times: u64,
+    ) -> Answer {
         let mut in_order = 0u64;
         for turn in 0..times {
-            if self.try_commit(stage, pass, Task::Write(0, 1)) == Answer::Committed(turn) {
+            if self.try_commit(stage, pass, task) == Answer::Committed(turn) {
                 in_order = in_order.saturating_add(1);
             }
         }
@@ -304,7 +315,7 @@ impl<D: Disk + Drop, N: StoreNaming, T: Invariants + Drop, S: StoredSteps + Drop
     // How often an addition commits that waits for room.
     fn add_with_room<R: Wait>(&self, stage: &Stage<R>, pass: &mut Pass<N>, times: u64) -> Answer {
         for _ in 0..times {
-            match self.commit_with_room(stage, pass) {
+            match self.commit_with_room(stage, pass, Task::AddOne) {
                 Answer::Committed(_) => {}
                 other => return other,
             }
@@ -312,8 +323,33 @@ impl<D: Disk + Drop, N: StoreNaming, T: Invariants + Drop, S: StoredSteps + Drop
         Answer::Number(times)
     }
 
-    fn commit_with_room<R: Wait>(&self, stage: &Stage<R>, pass: &mut Pass<N>) -> Answer {
-        match self.plan(stage, Task::AddOne) {
+    // How often an addition commits that waits for one more each time.
+    fn pass_on<R: Wait>(
+        &self,
+        stage: &Stage<R>,
+        pass: &mut Pass<N>,
+        var: u16,
+        first: i64,
+        other: u16,
+        times: u64,
+    ) -> Answer {
+        let mut least = first;
+        for _ in 0..times {
+            match self.commit_with_room(stage, pass, Task::AddBehind(var, least, other)) {
+                Answer::Committed(_) => least = least.saturating_add(1),
+                other => return other,
+            }
+        }
+        Answer::Number(times)
+    }
+
+    fn commit_with_room<R: Wait>(
+        &self,
+        stage: &Stage<R>,
+        pass: &mut Pass<N>,
+        task: Task,
+    ) -> Answer {
+        match self.plan(stage, task) {
             Ok(plan) => Answer::to(self.front.atomically_with_room(stage.rt, pass, &plan)),
             Err(fault) => Answer::refused(fault),
         }
@@ -368,6 +404,20 @@ impl<D: Disk + Drop, N: StoreNaming, T: Invariants + Drop, S: StoredSteps + Drop
             Some(pass) => Answer::done(self.front.release_pass(stage.rt, pass)),
             None => Answer::Nothing,
         }
+    }
+
+    // How often a pass is taken of the pool and handed back.
+    fn borrow<R: Wait>(&self, stage: &Stage<R>, place: &mut Option<Pass<N>>, times: u64) -> Answer {
+        for _ in 0..times {
+            if let Err(fault) = self.acquire(stage, place) {
+                return Answer::refused(fault);
+            }
+            let released = self.release(stage, place);
+            if released != Answer::Done {
+                return released;
+            }
+        }
+        Answer::Number(times)
     }
 
     // How many passes are given out, each dropped at once.

@@ -2,10 +2,12 @@
 use super::moves::Answer::{Committed, Done, Holds, Number, Refused, Saw};
 use super::moves::Move::{
     Acquire, Attempt, Await, Commit, Fill, Flush, Look, LooksAtMost, NeedsAtMost, NewPass,
-    NewPasses, ReleasePass, RunFlusher, Settle, Shut, Sleep, TryCommit,
+    NewPasses, Pass, ReleasePass, RunFlusher, Settle, Shut, Sleep, TryCommit,
 };
 use super::moves::{Answer, Refusal, Task};
-use super::scenes::Line::{After, Before, First, FirstThree, Last, Scene, Second, Third};
+use super::scenes::Line::{
+    After, Before, First, FirstThree, FourMore, Last, Scene, Second, Third, Vars,
+};
 use super::scenes::{Line, play};
 use std::test::Fail;
 
@@ -34,6 +36,7 @@ static SCENES: &[Line<'static>] = &[
     Last(Sleep(50), Done),
     Last(Shut, Done),
     Scene("a commit wakes each thread that retries"),
+    Vars(4),
     FirstThree(Commit(Task::NeedOne), Saw(1, ONE)),
     Last(Sleep(50), Done),
     Last(TryCommit(Task::Write(2, 1)), Committed(0)),
@@ -42,6 +45,33 @@ static SCENES: &[Line<'static>] = &[
     Last(Sleep(50), Done),
     Last(Attempt(Task::Write(2, 1)), Done),
     Last(Settle, Committed(0)),
+    Scene("a commit wakes each of seven threads that retry"),
+    FirstThree(Commit(Task::NeedOne), Saw(1, ONE)),
+    FourMore(Commit(Task::NeedOne), Saw(1, ONE)),
+    Last(Sleep(100), Done),
+    Last(TryCommit(Task::Write(2, 1)), Committed(0)),
+    Scene("a commit wakes the first pass that was given out"),
+    Before(ReleasePass, Done),
+    First(Acquire, Done),
+    First(Commit(Task::NeedOne), Saw(1, ONE)),
+    Last(Sleep(100), Done),
+    Last(TryCommit(Task::Write(2, 1)), Committed(0)),
+    Scene("a commit wakes a thread whatever it read first"),
+    First(Commit(Task::NeedLast(9)), Saw(1, ONE)),
+    Last(Sleep(100), Done),
+    Last(TryCommit(Task::Write(9, 1)), Committed(0)),
+    Scene("two threads wake each other in turn"),
+    First(Pass(2, 0, 3, 2000), Number(2000)),
+    Second(Pass(3, 1, 2, 2000), Number(2000)),
+    Third(RunFlusher(1_000_000), Done),
+    Last(Await(3999), Done),
+    Last(Shut, Done),
+    Scene("a settle wakes a flusher"),
+    Second(RunFlusher(1), Done),
+    Last(Sleep(50), Done),
+    Last(Attempt(Task::Write(0, 1)), Done),
+    Last(Settle, Committed(0)),
+    After(Look, Number(1)),
     Scene("a commit wakes each thread that waits for one"),
     Before(TryCommit(Task::Write(0, 1)), Committed(0)),
     Before(Flush, Number(1)),

@@ -28,6 +28,8 @@ enum Built {
     TakeOrPut(i64),
     /// The same, with a third alternative behind them.
     TakeOrPutOr(i64),
+    /// The last of ten alternatives puts this into variable 2, and the others retry.
+    LastOfTen(i64),
     OneOfNone,
 }
 
@@ -61,6 +63,8 @@ const ROWS: &[(Built, Ends)] = &[
     (Built::Is(2, 5), Ends::Sees),
     (Built::TakeOrPutOr(9), Ends::Commits),
     (Built::Is(2, 9), Ends::Sees),
+    (Built::LastOfTen(4), Ends::Commits),
+    (Built::Is(2, 4), Ends::Sees),
     (Built::OneOfNone, Ends::Retries),
     (Built::Put(3, i64::MAX), Ends::Commits),
     (Built::AddTo(3, 1), Ends::Aborts(65535)),
@@ -81,6 +85,7 @@ impl Built {
             Built::Move(from, to, n) => moves(alloc, from, to, n),
             Built::TakeOrPut(n) => first_of(alloc, take(alloc, 0, 1)?, put(alloc, 2, n)?),
             Built::TakeOrPutOr(n) => takes_or_puts_or(alloc, n),
+            Built::LastOfTen(n) => last_of_ten(alloc, n),
             Built::OneOfNone => first_of_several(alloc, Vec::new(alloc)),
         }
     }
@@ -94,6 +99,15 @@ fn moves(alloc: Global, from: u16, to: u16, n: i64) -> Result<Tx, AllocError> {
 fn takes_or_puts_or(alloc: Global, n: i64) -> Result<Tx, AllocError> {
     let (taken, this, other) = (take(alloc, 0, 1)?, put(alloc, 2, n)?, put(alloc, 2, 1)?);
     first_of_several(alloc, vec![in alloc; taken, this, other]?)
+}
+
+fn last_of_ten(alloc: Global, n: i64) -> Result<Tx, AllocError> {
+    let mut alternatives = Vec::new(alloc);
+    for _ in 0..9 {
+        alternatives.push(Tx::Retry)?;
+    }
+    alternatives.push(put(alloc, 2, n)?)?;
+    first_of_several(alloc, alternatives)
 }
 
 fn end_of(reply: &Reply) -> Ends {
