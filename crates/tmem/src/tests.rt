@@ -46,7 +46,14 @@ fn status_of<R: Files<File = File> + AllocGlobal + Threads + Wait + Clock + Sync
     kind: io::ErrorKind,
     err: &mut E,
 ) -> u8 {
-    run_words(rt, words, &mut FIRST.as_bytes(), &mut Unflushed { kind }, err).0
+    run_words(
+        rt,
+        words,
+        &mut FIRST.as_bytes(),
+        &mut Unflushed { kind },
+        err,
+    )
+    .0
 }
 
 #[test]
