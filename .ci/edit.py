@@ -1,6 +1,6 @@
 """Mutants, as they stand in crates/*/{must-fail,mutants,test-mutants}/*.edit: a line 'file: PATH', and then pairs of lines 'old: TEXT' and
 'new: TEXT', each TEXT one line that stands once in that file. That of a test mutant begins with a line 'fails: CRATE',
-'fails: CRATE TEST' or 'fails: .ci/PART', which says whose tests have to fail, or which one."""
+'fails: CRATE FILE' (FILE.rt of its src/tests) or 'fails: .ci/PART', which says what has to fail."""
 import glob
 import re
 
@@ -39,7 +39,7 @@ class Edit:
                 old = None
 
     def of_tests(self):
-        """The crate or the part whose tests have to fail, and the test, if it is one."""
+        """The crate or the part whose tests have to fail, and the file of tests, if it is one."""
         crate, _, test = (self.fails or "").partition(" ")
         return crate, test
 
