@@ -1,4 +1,4 @@
-//! The spine and the seats of a store that threads share, by calls.
+//! The spine, records, tables and names, by calls.
 //!
 //! A crate of tests alone. They stand above what they test, so that it is proved by itself.
 #![tactic(auto)]

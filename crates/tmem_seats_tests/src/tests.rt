@@ -1,2 +1,5 @@
-//! What no clause says of the spine, by calls and by threads.
+//! Tests by calls: bytes of records, limits, names and the lines of refusals, and the spine, also by threads.
+mod batches;
+mod limits;
 mod spine;
+mod words;

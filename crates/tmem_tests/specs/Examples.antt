@@ -1,12 +1,6 @@
--- What the tests' own tables and steps mean.
+-- What the tests' own tables mean.
 use Rattle.std.specs.Prelude.{ℤ, pos, ◌+ℤ◌, Bool, List, int_le, slice_index_or}
-use Rattle.tmem_tree.specs.declared.step.StepAnswer.{StepAnswer}
-use Rattle.tmem_tree.specs.declared.step.StepAnswer.TheVariants.{Value}
 use Rattle.tmem_builtins.specs.Steps.{first, second}
-
--- its first argument
-abbrev pub first_of : List ℤ → StepAnswer
-first_of args = Value (first args)
 
 -- the last of sixteen is at least 0
 abbrev pub is_last_not_negative : List ℤ → Bool

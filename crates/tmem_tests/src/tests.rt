@@ -1,6 +1,5 @@
 //! Tests by calls, and what those of worlds share: devices, and transactions with their replies.
 mod acts;
-mod batches;
 mod built;
 mod counting;
 mod crashes;
@@ -8,9 +7,7 @@ mod disks;
 mod files;
 mod images;
 mod journals;
-mod limits;
 mod tables;
-mod words;
 
 use std::alloc::Global;
 use tmem_disk::{Fault, SimDisk};

@@ -1,8 +1,7 @@
 //! Steps, footprints and tables out of their limits.
-ghost use Rattle.std.specs.Prelude.{◌≡◌, true, length};
-ghost use Rattle.tmem_tests.specs.Examples.{first_of};
+ghost use Rattle.std.specs.Prelude.{◌≡◌, true};
+ghost use Rattle.tmem_tree.specs.declared.step.StepAnswer.TheVariants.{Retry};
 
-use super::tables::add;
 use std::alloc::Global;
 use std::test::Fail;
 use tmem_disk::{Cause, Fault, Name};
@@ -13,10 +12,9 @@ use tmem_tree::{StepAnswer, StepEntry};
 fn a_step_of_five_arguments_is_refused(rt: HostRuntime) -> Result<(), Fail> {
     let step = Box::new(
         rt.alloc(),
-        |args: &[i64]| -> StepAnswer
-            requires { length args.now ≡ 5 }
-            ensures { result ≡ first_of args.now }
-        { StepAnswer::Value(args[0]) },
+        |_args: &[i64]| -> StepAnswer
+            ensures { result ≡ Retry }
+        { StepAnswer::Retry },
     )?;
     assert_eq!(rt;
         StepEntry::new(5, step).err(),
@@ -74,6 +72,12 @@ const TABLES: [(u8, u8, u16, Option<Fault>); 8] = [
     (2, 2, 4, Some(Fault::BadFootprint)),
 ];
 
+/// A name for each number.
+fn numbered(n: u8) -> Result<Name, Fault> {
+    let letters = [b'a' + n / 26, b'a' + n % 26];
+    Name::new(std::str::from_utf8(&letters).unwrap_or(""))
+}
+
 /// What a table over four variables is refused by, of so many entries with so many names, over this variable.
 fn refusal_of(alloc: Global, entries: u8, names: u8, var: u16) -> Result<Option<Fault>, Fault> {
     let mut made = Vec::new(alloc);
@@ -84,8 +88,8 @@ fn refusal_of(alloc: Global, entries: u8, names: u8, var: u16) -> Result<Option<
                 ensures { result ≡ true }
             { true },
         )?;
-        let number = if i < names { i } else { 0 };
-        add(&mut made, number, vec![in alloc; var]?, always)?;
+        let name = numbered(if i < names { i } else { 0 })?;
+        made.push(Invariant::new(name, vec![in alloc; var]?, always)?)?;
     }
     Ok(Table::of(alloc, made, 4).err())
 }
