@@ -4,6 +4,7 @@
    SHORT=N    no call moves more than N bytes of a file
    THREADS=N  N threads can be started
    STOPPED=1  no clock can be read
+   SLOW=N     each sync lasts N milliseconds more, and how often threads let others run is told, by hundreds
    REFUSED=N  the Nth request for memory (malloc and realloc, the only ones that the programs make)
    ROOM=N     standard output takes N bytes
    GIVEN=N    standard input gives N bytes and then fails */
@@ -12,6 +13,7 @@
 #include <errno.h>
 #include <fcntl.h>
 #include <pthread.h>
+#include <sched.h>
 #include <stdio.h>
 #include <stdlib.h>
 #include <string.h>
@@ -20,8 +22,8 @@
 #include <unistd.h>
 
 #define REAL(call) static __typeof__(&call) real; if (!real) real = (__typeof__(&call))dlsym(RTLD_NEXT, #call)
-static _Atomic long made, started, requests;
-static long out = -1, room = -1, given = -1;
+static _Atomic long made, started, requests, yields;
+static long out = -1, room = -1, given = -1, slow = -1;
 
 static long number(const char *name) {
   const char *text = getenv(name);
@@ -32,6 +34,7 @@ __attribute__((constructor)) static void begin(void) {
   out = open(getenv("CALLS"), O_WRONLY | O_APPEND | O_CREAT, 0600);
   room = number("ROOM");
   given = number("GIVEN");
+  slow = number("SLOW");
 }
 
 /* It asks for no memory, since it is called by those that do. */
@@ -74,9 +77,18 @@ ssize_t pread(int file, void *bytes, size_t count, off_t at) {
   return real(file, bytes, few(count), at);
 }
 
+/* Threads let others run, each time by this call: each hundredth is told. */
+int sched_yield(void) {
+  REAL(sched_yield);
+  long count = ++yields;
+  if (slow >= 0 && count % 100 == 0) say("yield", "thread", 0, count);
+  return real();
+}
+
 #define SYNC(call) int call(int file) { \
   REAL(call); \
   say_of("sync", file, 0, 0); \
+  if (slow > 0) usleep(1000 * slow); \
   return fails() ? -1 : real(file); }
 SYNC(fsync)
 SYNC(fdatasync)

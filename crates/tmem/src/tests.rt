@@ -58,9 +58,10 @@ fn status_of<R: Files<File = File> + AllocGlobal + Threads + Wait + Clock + Sync
 
 #[test]
 fn output_that_cannot_be_flushed_is_told(rt: HostRuntime) -> Result<(), Fail> {
-    let table: [(&[&str], io::ErrorKind); 4] = [
+    let table: [(&[&str], io::ErrorKind); 5] = [
         (&["run"], io::ErrorKind::BrokenPipe),
         (&["run"], io::ErrorKind::PermissionDenied),
+        (&["run"], io::ErrorKind::StorageFull),
         (&["threads", "1", "1"], io::ErrorKind::BrokenPipe),
         (&["--help"], io::ErrorKind::BrokenPipe),
     ];

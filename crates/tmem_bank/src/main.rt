@@ -3,10 +3,9 @@
 //! otherwise.
 #![tactic(auto)]
 
-ghost use Rattle.std.specs.Prelude.{◌≡◌, ◌∷◌, [], length};
+ghost use Rattle.std.specs.Prelude.{◌≡◌};
 ghost use Rattle.std.specs.List.{list_any};
 ghost use Rattle.tmem_bank.specs.Accounts.{bank, has_no_negative, is_negative};
-ghost use Rattle.tmem_builtins.specs.Steps.{sum_of, difference_of, at_least};
 
 mod device;
 mod service;
@@ -21,10 +20,10 @@ use std::fs::{File, Files};
 use std::rt::Clock;
 use std::sync::Wait;
 use std::thread::Threads;
-use tmem_builtins::{add, need, steps_of, sub};
+use tmem_builtins::stored_steps;
 use tmem_disk::Name;
 use tmem_invariants::{Invariant, Invariants, Table};
-use tmem_tree::{StepAnswer, StoredSteps};
+use tmem_tree::StoredSteps;
 
 fn main(rt: HostRuntime) -> Result<()> {
     let alloc = rt.alloc();
@@ -37,7 +36,8 @@ fn main(rt: HostRuntime) -> Result<()> {
     )?;
     let solvent = Invariant::new(Name::new("solvent")?, vec![in alloc; 0, 1, 2, 3]?, solvent)?;
     let table = Table::of(alloc, vec![in alloc; solvent]?, ACCOUNTS)?;
-    with_steps(&rt, alloc, path.as_deref(), table)
+    let steps = stored_steps(alloc)?;
+    with_device(&rt, alloc, path.as_deref(), table, steps)
 }
 
 // Whether an account is below zero.
@@ -45,40 +45,6 @@ fn has_negative(accounts: &[i64]) -> bool
     ensures { result ≡ list_any is_negative accounts.now }
 {
     accounts.iter().any(|account| *account < 0)
-}
-
-// Makes the stored steps.
-fn with_steps<
-    R: AllocGlobal + Clock + Files<File = File> + Print + Threads + Wait + Sync,
-    T: Invariants + Drop + Send,
->(rt: &R, alloc: Global, path: Option<&str>, table: T) -> Result<()>
-    requires vars { T.vars table ≡ 4 }
-    requires names { T.names table ≡ bank.names }
-    requires stated { T.is_stated table bank.tests }
-{
-    let total = Box::new(
-        alloc,
-        |args: &[i64]| -> StepAnswer
-            requires { length args.now ≡ 2 }
-            ensures { result ≡ sum_of args.now }
-        { add(args) },
-    )?;
-    let difference = Box::new(
-        alloc,
-        |args: &[i64]| -> StepAnswer
-            requires { length args.now ≡ 2 }
-            ensures { result ≡ difference_of args.now }
-        { sub(args) },
-    )?;
-    let floor = Box::new(
-        alloc,
-        |args: &[i64]| -> StepAnswer
-            requires { length args.now ≡ 2 }
-            ensures { result ≡ at_least args.now }
-        { need(args) },
-    )?;
-    let steps = steps_of(alloc, total, difference, floor)?;
-    with_device(rt, alloc, path, table, steps)
 }
 
 // Chooses the device.

@@ -287,8 +287,9 @@ fn move_and_flush<F: Moving + Sync, R: Clock + Threads + Wait + Sync>(
         let moved = move_all(rt, alloc, store);
         let last = store.audit(rt);
         let closed = store.end(rt);
-        flusher.join(rt)?;
+        let flushed = flusher.join(rt);
         closed?;
+        flushed?;
         Ok((moved?, last?))
     })
 }

@@ -1,7 +1,6 @@
 // A store for the jobs, with what its closures mean.
 ghost use Rattle.std.specs.Prelude.{◌≡◌, length};
 ghost use Rattle.std.specs.List.{list_any};
-ghost use Rattle.tmem_builtins.specs.Steps.{sum_of, difference_of, at_least};
 ghost use Rattle.tmem_front.specs.Held.{found_of, spine_of, steps_of as steps_held, table_of};
 ghost use Rattle.tmem_bench.specs.Accounts.{bank, has_no_negative, is_negative};
 
@@ -15,11 +14,11 @@ use std::marker::Brand;
 use std::rt::Clock;
 use std::sync::Wait;
 use std::thread::Threads;
-use tmem_builtins::{add, need, steps_of, sub};
+use tmem_builtins::stored_steps;
 use tmem_disk::{Disk, Name};
 use tmem_front::{Front, OpenedFront, StoreNaming};
 use tmem_invariants::{Invariant, Invariants, Table};
-use tmem_tree::{StepAnswer, StoredSteps};
+use tmem_tree::StoredSteps;
 
 /// What is done with a store once it is open.
 #[derive(Clone, Copy)]
@@ -56,7 +55,11 @@ pub fn with_bank<D: Disk + Drop + Send, R: Clock + AllocGlobal + Threads + Wait 
     )?;
     let solvent = Invariant::new(Name::new(SOLVENT)?, vec![in alloc; PAYER, PAYEE]?, solvent)?;
     let table = Table::of(alloc, vec![in alloc; solvent]?, vars)?;
-    with_steps(rt, alloc, vars, on, table)
+    let steps = stored_steps(alloc)?;
+    match on {
+        On::Core(act) => run_on_core(rt, alloc, vars, act, table, &steps),
+        On::Store(disk, task) => open(rt, alloc, vars, disk, task, table, steps),
+    }
 }
 
 // Whether an account is below zero.
@@ -64,46 +67,6 @@ fn has_negative(accounts: &[i64]) -> bool
     ensures { result ≡ list_any is_negative accounts.now }
 {
     accounts.iter().any(|account| *account < 0)
-}
-
-// Makes the stored steps.
-fn with_steps<D: Disk + Drop + Send, T: Invariants + Drop + Send, R: Clock + Threads + Wait + Sync>(
-    rt: &R,
-    alloc: Global,
-    vars: u16,
-    on: On<D>,
-    table: T,
-) -> Result<Figures, BenchError>
-    requires vars { T.vars table ≡ vars }
-    requires names { T.names table ≡ bank.names }
-    requires stated { T.is_stated table bank.tests }
-{
-    let total = Box::new(
-        alloc,
-        |args: &[i64]| -> StepAnswer
-            requires { length args.now ≡ 2 }
-            ensures { result ≡ sum_of args.now }
-        { add(args) },
-    )?;
-    let difference = Box::new(
-        alloc,
-        |args: &[i64]| -> StepAnswer
-            requires { length args.now ≡ 2 }
-            ensures { result ≡ difference_of args.now }
-        { sub(args) },
-    )?;
-    let floor = Box::new(
-        alloc,
-        |args: &[i64]| -> StepAnswer
-            requires { length args.now ≡ 2 }
-            ensures { result ≡ at_least args.now }
-        { need(args) },
-    )?;
-    let steps = steps_of(alloc, total, difference, floor)?;
-    match on {
-        On::Core(act) => run_on_core(rt, alloc, vars, act, table, &steps),
-        On::Store(disk, task) => open(rt, alloc, vars, disk, task, table, steps),
-    }
 }
 
 fn open<

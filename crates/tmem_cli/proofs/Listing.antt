@@ -2,8 +2,7 @@
 use Rattle.std.proofs.Common.{◌≡◌, ℕ, zero, suc, ◌+◌, ◌<◌, Bool, true, false, nat_eq, cond, List, [], ◌∷◌, ◌++◌, map, filter, take, length, get_or, codes, Option, refl, sym, ap, subst, ◌∙◌, append_assoc, append-nil, arith}
 use Rattle.std.specs.List.{range_with_len}
 use Rattle.std.proofs.lemmas.Bool.Decides.{nat_tests}
-use Rattle.std.proofs.lemmas.List.{take_more}
-use Rattle.std.proofs.lemmas.List.Elements.{filter-append}
+use Rattle.std.proofs.lemmas.List.Elements.{filter_more}
 use Rattle.std.proofs.lemmas.List.FromFn.{map-range_with_len_more}
 use Rattle.std.specs.Io.KnownBytes.{Appends}
 use Rattle.tmem_cli.specs.Printed.{listed}
@@ -36,20 +35,13 @@ pub listed-range_more : (f : ℕ → List ℕ) (n : ℕ) → listed (map f (rang
 listed-range_more f n =
     ap listed (map-range_with_len_more f 0 n n (omega arith)) ∙ listed-more (map f (range_with_len 0 n)) (f n) ∙ ap (λ b. listed (map f (range_with_len 0 n)) ++ (comma b ++ f n)) (none_before f n)
 
-filter_one : (p : List ℕ → Bool) (x : List ℕ) (b : Bool) → p x ≡ b → filter p (x ∷ []) ≡ cond b (x ∷ []) []
-filter_one p x b is = ap (λ v. cond v (x ∷ []) []) is
-
-filter_more : (p : List ℕ → Bool) (xs : List (List ℕ)) (i : ℕ) (d : List ℕ) (b : Bool) → i < length xs → p (get_or xs i d) ≡ b → filter p (take (i + 1) xs) ≡ filter p (take i xs) ++ cond b (get_or xs i d ∷ []) []
-filter_more p xs i d b below is =
-    ap (filter p) (take_more xs i d below) ∙ filter-append p (take i xs) (get_or xs i d ∷ []) ∙ ap (λ t. filter p (take i xs) ++ t) (filter_one p (get_or xs i d) b is)
-
 -- a name that is not registered is passed over
 pub filter-passed : (p : List ℕ → Bool) (xs : List (List ℕ)) (i : ℕ) (d : List ℕ) → i < length xs → p (get_or xs i d) ≡ false → filter p (take (i + 1) xs) ≡ filter p (take i xs)
-filter-passed p xs i d below is = filter_more p xs i d false below is ∙ append-nil (filter p (take i xs))
+filter-passed p xs i d below is = filter_more p xs i d below ∙ ap (λ b. filter p (take i xs) ++ cond b (get_or xs i d ∷ []) []) is ∙ append-nil (filter p (take i xs))
 
 -- one that is registered is printed
 pub filter-taken : (p : List ℕ → Bool) (xs : List (List ℕ)) (i : ℕ) (d : List ℕ) → i < length xs → p (get_or xs i d) ≡ true → filter p (take (i + 1) xs) ≡ filter p (take i xs) ++ get_or xs i d ∷ []
-filter-taken p xs i d below is = filter_more p xs i d true below is
+filter-taken p xs i d below is = filter_more p xs i d below ∙ ap (λ b. filter p (take i xs) ++ cond b (get_or xs i d ∷ []) []) is
 
 -- none stands before no longer
 pub is_none-more : (xs : List (List ℕ)) (y : List ℕ) → is_none (xs ++ y ∷ []) ≡ false

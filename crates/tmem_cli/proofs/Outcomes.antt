@@ -1,6 +1,6 @@
 -- What became of a command line.
 use Rattle.std.proofs.Common.{◌≡◌, ℕ, List, [], ◌∷◌, Option, Some, None, Result, Ok, Err, refl, sym, inl, inr, subst, ◌∙◌, append-nil}
-use Rattle.std.specs.Prelude.{IfSome, IfErr, OnOk, OnErr, MatchResult}
+use Rattle.std.specs.Prelude.{IfErr, OnOk, OnErr, MatchResult}
 use Rattle.std.specs.Io.KnownBytes.{Keeps}
 use Rattle.clap.specs.Kinds.{Kinds, IsAmong, HasKind}
 use Rattle.clap.specs.Values.{kind_of}
@@ -13,20 +13,15 @@ use Rattle.tmem_file.specs.declared.disk.FileDisk.{FileDisk}
 use Rattle.tmem_script.specs.Errors.{IsUnread}
 use Rattle.tmem_script.specs.Statuses.{status_of}
 use Rattle.tmem_script.specs.declared.failure.Failure.{Failure}
-use Rattle.tmem_script.specs.declared.failure.Failure.TheVariants.{Script, Refused, Output, Clock, Words}
+use Rattle.tmem_script.specs.declared.failure.Failure.TheVariants.{Output}
 use Rattle.tmem_script.specs.declared.script.Entry.{Entry}
 use Rattle.tmem_script.specs.declared.script.ScriptError.{ScriptError}
 use Rattle.tmem_script.specs.declared.script.ScriptError.TheVariants.{Memory, Unreadable, NoScript}
 use Rattle.tmem_cli.specs.CommandLine.{IsRequest, HasRequest}
-use Rattle.tmem_cli.specs.Outcomes.{MayBeRead, IsNoScript, IsWhyNotRead, PlaysRead, FailsWith}
+use Rattle.tmem_cli.specs.Outcomes.{MayBeRead, IsNoScript, IsWhyNotRead, FailsWith}
 use Rattle.tmem_cli.specs.Printed.{PlaysFrom}
 use Rattle.tmem_cli.specs.Stored.{PlaysWhere, StopsWhere}
 use Rattle.tmem_cli.proofs.Writing.{Appends-keeps}
-
--- all that was left of the input was read
-pub input_read : (left : Option (List ℕ)) (text : List ℕ) → IfSome left (λ bytes. text ≡ bytes) → MayBeRead None left text
-input_read None text is = tt
-input_read (Some bytes) text is = is
 
 -- the text was not read
 pub unread : (IsRead : List ℕ → Type 0) (e : ScriptError) → IsUnread e → IsWhyNotRead IsRead e
@@ -66,10 +61,6 @@ PlaysWhere-keeps (Some path) (Some new) vars slots entries before mid after so k
 )
 
 -- the same of words that ask for the same
-pub PlaysRead-along : (left p q d e before after : Option (List ℕ)) (device : Option FileDisk) → p ≡ q → d ≡ e → PlaysRead (MayBeRead p left) d device before after → PlaysRead (MayBeRead q left) e device before after
-PlaysRead-along left p q d e before after device path disk so =
-    subst (λ (x : Option (List ℕ)). PlaysRead (MayBeRead q left) x device before after) disk (subst (λ (x : Option (List ℕ)). PlaysRead (MayBeRead x left) d device before after) path so)
-
 pub FailsWith-along : (status : ℕ) (left p q d e : Option (List ℕ)) (device : Option FileDisk) → p ≡ q → d ≡ e → FailsWith status (MayBeRead p left) d device → FailsWith status (MayBeRead q left) e device
 FailsWith-along status left p q d e device path disk so =
     subst (λ (x : Option (List ℕ)). FailsWith status (MayBeRead q left) x device) disk (subst (λ (x : Option (List ℕ)). FailsWith status (MayBeRead x left) d device) path so)
@@ -104,26 +95,10 @@ output_stops (Some path) (Some new) vars slots entries before after so = (
   inl (refl, λ h store premise. let it = (so.2 premise).1.stored h store in (entries, it.0, ([], sym (append-nil entries)), it.1)),
 )
 
--- no failure has the status 0
-not_done : (f : Failure) → status_of f ≡ 0 → ⊥
-not_done (Script (Memory e)) is = cc
-not_done (Script Unreadable) is = cc
-not_done (Script NoScript) is = cc
-not_done (Refused fault) is = cc
-not_done Output is = cc
-not_done Clock is = cc
-not_done (Words e) is = cc
-
-module _ {T : Type 0} (P : Type 0) (Q : Failure → Type 0) (n : ℕ) where
-  -- status 0 is that of what was done
-  pub of_done : (r : Result T Failure) → MatchResult r (λ _. n ≡ 0) (λ f. n ≡ status_of f) → OnOk r P → n ≡ 0 → P
-  of_done (Ok x) is ok none = ok
-  of_done (Err f) is ok none = absurd (not_done f (sym is ∙ none))
-
-  -- and every other that of a failure
-  pub of_failure : (r : Result T Failure) (k : ℕ) → (0 ≡ k → ⊥) → MatchResult r (λ _. n ≡ 0) (λ f. n ≡ status_of f) → IfErr r Q → n ≡ k → (f : Failure) × (status_of f ≡ k) × Q f
-  of_failure (Ok x) k some is err so = absurd (some (sym is ∙ so))
-  of_failure (Err f) k some is err so = (f, sym is ∙ so, err)
+-- a status other than 0 is that of a failure
+pub of_failure : {T : Type 0} (Q : Failure → Type 0) (n : ℕ) (r : Result T Failure) (k : ℕ) → (0 ≡ k → ⊥) → MatchResult r (λ _. n ≡ 0) (λ f. n ≡ status_of f) → IfErr r Q → n ≡ k → (f : Failure) × (status_of f ≡ k) × Q f
+of_failure Q n (Ok x) k some is err so = absurd (some (sym is ∙ so))
+of_failure Q n (Err f) k some is err so = (f, sym is ∙ so, err)
 
 -- a request among these kinds
 among : (k : ErrorKind) (kinds : Kinds) → IsAmong k kinds → IsRequest k → HasRequest kinds

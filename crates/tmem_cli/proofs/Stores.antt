@@ -14,13 +14,13 @@ use Rattle.tmem_script.specs.declared.script.Entry.TheVariants as entry
 use Rattle.tmem_script.specs.declared.script.Playable.{Playable}
 use Rattle.tmem_world.specs.declared.world.World.{World}
 use Rattle.tmem_world.specs.WorldModel.{Setting, WorldModel, Allows, present, opening}
-use Rattle.tmem_world.specs.Represents.{WritesInStore, setting_of, numbers_of, steps_of, held_table, view_of}
-use Rattle.tmem_world.specs.Chain.{History, IsSafe, IsSafeIn, IsStore, Carries, RunsOn, OpensStore, IsChain, IsChainAt, just_opened, state_at, history_found, history_after}
-use Rattle.tmem_world.proofs.Laws.{grows, WritesInStore-trans}
+use Rattle.tmem_opening.specs.Opening.{Mending}
+use Rattle.tmem_world.specs.Represents.{Means, KeepsSetting, WritesInStore, setting_of, numbers_of, view_of}
+use Rattle.tmem_world.specs.Chain.{History, IsSafe, IsSafeIn, IsStore, Carries, RunsOn, OpensStore, IsChainAt, just_opened, state_at, history_found, history_after}
+use Rattle.tmem_world.proofs.Laws.{grows, means_stay, setting_stays, WritesInStore-trans}
 use Rattle.tmem_cli.specs.Builtin.{builtin_program, builtin_setting}
 use Rattle.tmem_cli.specs.Printed.{line, shown}
 use Rattle.tmem_cli.specs.Chains.{PrintsOn, events_of, IsSafeAmong, EntriesGoOn, PlaysEntriesOn, PlaysStore}
-use Rattle.tmem_cli.proofs.Playing.{means_stay, same_setting}
 
 module _ (set : Setting) where
   -- entries and then others
@@ -59,81 +59,49 @@ module _ (set : Setting) where
   pub prints_show : (m : WorldModel) (h : History) → PrintsOn set m h (entry.Show ∷ []) [] (line (shown set.vars m.session (present set.program m))) m h
   prints_show m h = ([], (refl, refl, refl), sym (append-nil (line (shown set.vars m.session (present set.program m)))))
 
+  -- what is safe at a point between the first entries and the rest is so among all
+  safe_at : (m : WorldModel) (h : History) (first : List Entry) (answers : List Reply) (early : List ℕ) (x : WorldModel) (g : History) → PrintsOn set m h first answers early x g
+      → (rest : List Entry) (later : List Reply) (late : List ℕ) (m' : WorldModel) (h' : History) → PrintsOn set x g rest later late m' h' → (c : List ℕ) → IsSafe set.program set.vars set.slots g c
+      → (es : List Entry) (rs : List Reply) → es ≡ first ++ rest → rs ≡ answers ++ later → IsSafeAmong set m h es rs m' h' c
+  safe_at m h first answers early x g before rest later late m' h' after c safe es rs entries replies = record {
+    first = first;
+    rest = rest;
+    answers = answers;
+    later = later;
+    early = early;
+    late = late;
+    entries = entries;
+    replies = replies;
+    point = x;
+    reached = g;
+    before = before;
+    after = after;
+    safe = safe;
+  }
+
   -- what was safe among the first entries is so among those and others
   pub safe_among-more : (m : WorldModel) (h : History) (es : List Entry) (rs : List Reply) (x : WorldModel) (g : History)
       → (more : List Entry) (later : List Reply) (rest : List ℕ) (m' : WorldModel) (h' : History) → PrintsOn set x g more later rest m' h'
       → (c : List ℕ) → IsSafeAmong set m h es rs x g c → IsSafeAmong set m h (es ++ more) (rs ++ later) m' h' c
-  safe_among-more m h es rs x g more later rest m' h' then c among = record {
-    first = among.first;
-    rest = among.rest ++ more;
-    answers = among.answers;
-    later = among.later ++ later;
-    early = among.early;
-    late = among.late ++ rest;
-    entries = ap (λ (l : List Entry). l ++ more) among.entries ∙ append_assoc among.first among.rest more;
-    replies = ap (λ (l : List Reply). l ++ later) among.replies ∙ append_assoc among.answers among.later later;
-    point = among.point;
-    reached = among.reached;
-    before = among.before;
-    after = prints_on-append among.point among.reached among.rest among.later among.late x g among.after more later rest m' h' then;
-    safe = among.safe;
-  }
+  safe_among-more m h es rs x g more later rest m' h' then c it =
+      safe_at m h it.first it.answers it.early it.point it.reached it.before (it.rest ++ more) (it.later ++ later) (it.late ++ rest) m' h' (prints_on-append it.point it.reached it.rest it.later it.late x g it.after more later rest m' h' then) c it.safe
+      (es ++ more) (rs ++ later) (ap (λ (l : List Entry). l ++ more) it.entries ∙ append_assoc it.first it.rest more) (ap (λ (l : List Reply). l ++ later) it.replies ∙ append_assoc it.answers it.later later)
 
   -- what is safe among later ones is so among all
   pub safe_among-then : (m : WorldModel) (h : History) (es : List Entry) (rs : List Reply) (text : List ℕ) (x : WorldModel) (g : History) → PrintsOn set m h es rs text x g
       → (more : List Entry) (later : List Reply) (m' : WorldModel) (h' : History)
       → (c : List ℕ) → IsSafeAmong set x g more later m' h' c → IsSafeAmong set m h (es ++ more) (rs ++ later) m' h' c
-  safe_among-then m h es rs text x g so more later m' h' c among = record {
-    first = es ++ among.first;
-    rest = among.rest;
-    answers = rs ++ among.answers;
-    later = among.later;
-    early = text ++ among.early;
-    late = among.late;
-    entries = ap (λ (l : List Entry). es ++ l) among.entries ∙ sym (append_assoc es among.first among.rest);
-    replies = ap (λ (l : List Reply). rs ++ l) among.replies ∙ sym (append_assoc rs among.answers among.later);
-    point = among.point;
-    reached = among.reached;
-    before = prints_on-append m h es rs text x g so among.first among.answers among.early among.point among.reached among.before;
-    after = among.after;
-    safe = among.safe;
-  }
+  safe_among-then m h es rs text x g so more later m' h' c it =
+      safe_at m h (es ++ it.first) (rs ++ it.answers) (text ++ it.early) it.point it.reached (prints_on-append m h es rs text x g so it.first it.answers it.early it.point it.reached it.before) it.rest it.later it.late m' h' it.after c it.safe
+      (es ++ more) (rs ++ later) (ap (λ (l : List Entry). es ++ l) it.entries ∙ sym (append_assoc es it.first it.rest)) (ap (λ (l : List Reply). rs ++ l) it.replies ∙ sym (append_assoc rs it.answers it.later))
 
   -- what is safe before an entry is so among those from it on
   pub safe_before : (m : WorldModel) (h : History) (es : List Entry) (rs : List Reply) (text : List ℕ) (m' : WorldModel) (h' : History) → PrintsOn set m h es rs text m' h' → (c : List ℕ) → IsSafe set.program set.vars set.slots h c → IsSafeAmong set m h es rs m' h' c
-  safe_before m h es rs text m' h' so c safe = record {
-    first = [];
-    rest = es;
-    answers = [];
-    later = rs;
-    early = [];
-    late = text;
-    entries = refl;
-    replies = refl;
-    point = m;
-    reached = h;
-    before = (refl, refl, refl);
-    after = so;
-    safe = safe;
-  }
+  safe_before m h es rs text m' h' so c safe = safe_at m h [] [] [] m h (refl, refl, refl) es rs text m' h' so c safe es rs refl refl
 
   -- and what is safe after the last one too
   pub safe_after : (m : WorldModel) (h : History) (es : List Entry) (rs : List Reply) (text : List ℕ) (m' : WorldModel) (h' : History) → PrintsOn set m h es rs text m' h' → (c : List ℕ) → IsSafe set.program set.vars set.slots h' c → IsSafeAmong set m h es rs m' h' c
-  safe_after m h es rs text m' h' so c safe = record {
-    first = es;
-    rest = [];
-    answers = rs;
-    later = [];
-    early = text;
-    late = [];
-    entries = sym (append-nil es);
-    replies = sym (append-nil rs);
-    point = m';
-    reached = h';
-    before = so;
-    after = (refl, refl, refl);
-    safe = safe;
-  }
+  safe_after m h es rs text m' h' so c safe = safe_at m h es rs text m' h' so [] [] [] m' h' (refl, refl, refl) c safe es rs (sym (append-nil es)) (sym (append-nil rs))
 
 module _ {D T S : Type 0} {d t s : _} (program : Program) where
   -- a crash between two entries leaves what is safe
@@ -210,52 +178,55 @@ module _ {D T S : Type 0} {d t s : _} (program : Program) where
         };
       }
 
-module _ {D T S : Type 0} {d t s : _} (w mid new : World D T S d t s) (numbers : numbers_of mid ≡ numbers_of w) (steps : steps_of mid ≡ steps_of w) (table : held_table mid ≡ held_table w) (model : (view_of new).keeps_model → (view_of mid).keeps_model) (later : (view_of mid).keeps_model → (view_of w).moment ≤ (view_of mid).moment) (P : List ℕ → Type 0) (time : Elapses (view_of mid) (view_of new) P) where
+module _ {D T S : Type 0} {d t s : _} (w mid new : World D T S d t s) (kept : KeepsSetting w mid) (then : KeepsSetting mid new) (first : WritesInStore (numbers_of w) (view_of w) (view_of mid)) (second : WritesInStore (numbers_of mid) (view_of mid) (view_of new)) where
+  -- what two parts of a run write
+  pub then_within : WritesInStore (numbers_of w) (view_of w) (view_of new)
+  then_within = WritesInStore-trans (numbers_of w) (view_of w) (view_of mid) (view_of new) then.model first (subst (λ (l : Layout). WritesInStore l (view_of mid) (view_of new)) kept.numbers second)
+
   -- entries and then others, and what was printed for them
   pub plays-then : (es more : List Entry) (IsOne IsTwo IsBoth : List ℕ → Type 0) → ((one two : List ℕ) → IsOne one → IsTwo two → IsBoth (one ++ two))
       → PlaysEntriesOn w es mid IsOne → PlaysEntriesOn mid more new IsTwo → PlaysEntriesOn w (es ++ more) new IsBoth
   plays-then es more IsOne IsTwo IsBoth both one two program means h m has keeps =
-      let first = one program means h m has (model keeps) in
-      let second = two program (means_stay w mid program steps table means) first.1.reached first.1.end first.1.carries keeps in
-      (first.0 ++ second.0, go_on-then program w mid new h m es more first.0 second.0 (same_setting w mid program numbers steps) model later P time first.1 second.1, both first.0 second.0 first.2 second.2)
+      let start = one program means h m has (then.model keeps) in
+      let rest = two program (means_stay w mid program kept means) start.1.reached start.1.end start.1.carries keeps in
+      (start.0 ++ rest.0, go_on-then program w mid new h m es more start.0 rest.0 (setting_stays w mid program kept) then.model first.time.later _ second.time start.1 rest.1, both start.0 rest.0 start.2 rest.2)
 
--- A world was opened on a store, and entries were played on it.
-module _ {D T S : Type 0} {d t s : _} (w new : World D T S d t s) (vars slots : ℕ) (old : DeviceView) (over : (numbers_of new).vars ≡ vars) (log : (numbers_of new).slots ≡ slots) (set : setting_of w (builtin_program vars) ≡ builtin_setting vars slots) (model : (view_of new).keeps_model → (view_of w).keeps_model) (later : (view_of w).keeps_model → old.moment ≤ (view_of w).moment) (P : List ℕ → Type 0) (time : Elapses (view_of w) (view_of new) P) where
-  pub plays_store : (h : History) (opened : OpensStore (builtin_program vars) vars slots h old (Ok w)) (es : List Entry) (text : List ℕ)
-      → EntriesGoOn (builtin_program vars) w (history_found opened.found.0 h) (opening (state_at (builtin_program vars) vars h opened.found.0) opened.found.1 old.failures) es text new
-      → PlaysStore vars slots h es (line (line_of (reply.Opened opened.found.0)) ++ text) old (view_of new)
-  plays_store h opened es text go =
+-- A world was opened on a store with the builtin steps and invariants, and entries were played on it.
+module _ {D T S : Type 0} {d t s : _} (w new : World D T S d t s) (vars slots : ℕ) (old : DeviceView) (over : (numbers_of new).vars ≡ vars) (log : (numbers_of new).slots ≡ slots) (means : Means w (builtin_program vars)) (set : setting_of w (builtin_program vars) ≡ builtin_setting vars slots)
+    (kept : KeepsSetting w new) (mends : Mending vars slots old (view_of w)) (within : WritesInStore (numbers_of w) (view_of w) (view_of new)) where
+  pub plays_store : (h : History) (opened : OpensStore (builtin_program vars) vars slots h old (Ok w)) (es : List Entry) (IsPrinted : List ℕ → Type 0) → PlaysEntriesOn w es new IsPrinted → (view_of new).keeps_model
+      → (text : List ℕ) × PlaysStore vars slots h es (line (line_of (reply.Opened opened.found.0)) ++ text) old (view_of new) × IsPrinted text
+  plays_store h opened es IsPrinted so keeps =
       let program = builtin_program vars in
       let n = opened.found.0 in
       let at = opening (state_at program vars h n) opened.found.1 old.failures in
-      let prints = subst (λ (x : Setting). PrintsOn x at (history_found n h) es go.replies text go.end go.reached) set go.prints in
+      let it = so program means (history_found n h) at opened.found.3 keeps in
+      let go = it.1 in
+      let prints = subst (λ (x : Setting). PrintsOn x at (history_found n h) es go.replies it.0 go.end go.reached) set go.prints in
       let among : AtEachMoment (view_of w) (view_of new) (λ c. ∥ IsSafeAmong (builtin_setting vars slots) at (history_found n h) es go.replies go.end go.reached c ∥₁) =
-      subst (λ (x : Setting). AtEachMoment (view_of w) (view_of new) (λ c. ∥ IsSafeAmong x at (history_found n h) es go.replies go.end go.reached c ∥₁)) set go.any_moment in
-      record {
-        found = n;
-        position = opened.found.1;
-        failures = old.failures;
-        prefix = opened.found.2;
-        replies = go.replies;
-        rest = text;
-        end = go.end;
-        reached = go.reached;
-        printed = refl;
-        prints = prints;
-        store = subst (λ (v : ℕ). IsStore program v slots go.reached (view_of new)) over (subst (λ (k : ℕ). IsStore program (numbers_of new).vars k go.reached (view_of new)) log go.carries.store);
-        any_moment = record {
-          each = λ k c left. ⊎_elim
-              (λ was. inl (opened.any_moment.each (model k) c was))
-              (λ is. inr (among.each k c is))
-              (either_time old (view_of w) (view_of new) P model later time k c left);
-        };
-        chain = λ earlier chain.
-            grows (builtin_setting vars slots) at (history_found n h) (events_of es) go.replies go.end go.reached (runs_of (builtin_setting vars slots) at (history_found n h) es go.replies text go.end go.reached prints) earlier (just_opened n)
-            (subst (λ (x : Setting). IsChainAt x earlier (just_opened n) (history_found n h) at) set (opened.found.4 earlier (subst (λ (x : Setting). IsChain x earlier h) (sym set) chain)));
-      }
-
--- what two parts of a run write
-pub then_within : {D T S : Type 0} {d t s : _} (w mid new : World D T S d t s) → numbers_of mid ≡ numbers_of w → ((view_of new).keeps_model → (view_of mid).keeps_model)
-    → WritesInStore (numbers_of w) (view_of w) (view_of mid) → WritesInStore (numbers_of mid) (view_of mid) (view_of new) → WritesInStore (numbers_of w) (view_of w) (view_of new)
-then_within w mid new numbers model first second =
-    WritesInStore-trans (numbers_of w) (view_of w) (view_of mid) (view_of new) model first (subst (λ (l : Layout). WritesInStore l (view_of mid) (view_of new)) numbers second)
+      subst (λ (x : Setting). AtEachMoment (view_of w) (view_of new) (λ c. ∥ IsSafeAmong x at (history_found n h) es go.replies go.end go.reached c ∥₁)) set go.any_moment in (
+        it.0,
+        record {
+          found = n;
+          position = opened.found.1;
+          failures = old.failures;
+          prefix = opened.found.2;
+          replies = go.replies;
+          rest = it.0;
+          end = go.end;
+          reached = go.reached;
+          printed = refl;
+          prints = prints;
+          store = subst (λ (v : ℕ). IsStore program v slots go.reached (view_of new)) over (subst (λ (k : ℕ). IsStore program (numbers_of new).vars k go.reached (view_of new)) log go.carries.store);
+          any_moment = record {
+            each = λ k c left. ⊎_elim
+                (λ was. inl (opened.any_moment.each (kept.model k) c was))
+                (λ is. inr (among.each k c is))
+                (either_time old (view_of w) (view_of new) _ kept.model mends.elsewhere.time.later within.time k c left);
+          };
+          chain = λ earlier chain.
+              grows (builtin_setting vars slots) at (history_found n h) (events_of es) go.replies go.end go.reached (runs_of (builtin_setting vars slots) at (history_found n h) es go.replies it.0 go.end go.reached prints) vars slots earlier (just_opened (builtin_setting vars slots) n opened.found.1 old.failures) refl
+              (subst (λ (x : Setting). IsChainAt vars slots earlier (just_opened x n opened.found.1 old.failures) (history_found n h) at) set (opened.found.4 earlier chain));
+        },
+        it.2,
+      )

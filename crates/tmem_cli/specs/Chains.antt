@@ -88,15 +88,15 @@ pub record PlaysStore (vars slots : ℕ) (h : History) (entries : List Entry) (t
   pub any_moment : AtEachMoment old new (λ c. IsSafe (builtin_program vars) vars slots h c
       ⊎ ∥ IsSafeAmong (builtin_setting vars slots) (opening (state_at (builtin_program vars) vars h found) position failures) (history_found found h) entries replies end reached c ∥₁)
   -- the run is the next session of each chain that led to the history
-  pub chain : (earlier : List SessionRun) → IsChain (builtin_setting vars slots) earlier h
-      → IsChainAt (builtin_setting vars slots) earlier (record { found = found; events = events_of entries; replies = replies }) reached end
+  pub chain : (earlier : List SessionRun) → IsChain vars slots earlier h
+      → IsChainAt vars slots earlier (record { set = builtin_setting vars slots; found = found; position = position; failures = failures; events = events_of entries; replies = replies }) reached end
 
 -- The session of an initial part of these entries is the last one of each chain that led to the history, and the device is a store
 -- with what they made of it.
 abbrev pub LeavesSession : ℕ → ℕ → History → List Entry → DeviceView → Type 0
 LeavesSession vars slots h entries left =
-    (s : SessionRun) × (first : List Entry) × (point : WorldModel) × (reached : History) × IsFirstOf first entries × (s.events ≡ events_of first)
-    × ((earlier : List SessionRun) → IsChain (builtin_setting vars slots) earlier h → IsChainAt (builtin_setting vars slots) earlier s reached point)
+    (s : SessionRun) × (first : List Entry) × (point : WorldModel) × (reached : History) × IsFirstOf first entries × (s.set ≡ builtin_setting vars slots) × (s.events ≡ events_of first)
+    × ((earlier : List SessionRun) → IsChain vars slots earlier h → IsChainAt vars slots earlier s reached point)
     × IsStore (builtin_program vars) vars slots reached left
 
 -- A crash at some moment of such a run leaves a store, once the device was started again so that it holds one content: with the

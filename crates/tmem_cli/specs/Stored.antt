@@ -8,15 +8,15 @@ use Rattle.tmem_disk.specs.declared.fault.Fault.TheVariants as fault
 use Rattle.tmem_record.specs.State.{State, first_state}
 use Rattle.tmem_record.specs.Layout.{IsLayout, end_place}
 use Rattle.tmem_journal.specs.Stands.{Position, first_position, StandsFor}
-use Rattle.tmem_core.specs.Opening.{opening_fault}
 use Rattle.tmem_file.specs.FileView.{view_of}
 use Rattle.tmem_file.specs.Opening.{IsOpened, IsPlaced}
 use Rattle.tmem_file.specs.declared.disk.FileDisk.{FileDisk}
 use Rattle.tmem_script.specs.declared.failure.Failure.{Failure}
 use Rattle.tmem_script.specs.declared.failure.Failure.TheVariants as failure
 use Rattle.tmem_script.specs.declared.script.Entry.{Entry}
+use Rattle.tmem_opening.specs.Opening.{OpeningRefused}
 use Rattle.tmem_world.specs.WorldModel.{WorldModel}
-use Rattle.tmem_world.specs.Represents.{OpeningRefused, StandsCut}
+use Rattle.tmem_world.specs.Represents.{StandsCut}
 use Rattle.tmem_world.specs.Chain.{History, IsStore, no_history}
 use Rattle.tmem_cli.specs.Builtin.{builtin_program}
 use Rattle.tmem_cli.specs.Chains.{PlaysStore, StaysStore, LeavesStore}
@@ -39,15 +39,10 @@ abbrev pub PlaysOver : {D : Type 0} → (D → DeviceView) → ℕ → ℕ → L
 PlaysOver view vars slots entries old new before after =
     (view new).keeps_model → (view old).keeps_model × PlaysOn vars slots entries (view old) (view new) before after
 
--- an invariant of the state that the content stood for is missing, or false
-abbrev pub IsUnsound : ℕ → ℕ → DeviceView → DeviceView → Fault → Type 0
-IsUnsound vars slots old new f =
-    (position : Position) × (found : State) × (new.keeps_model → StandsFor vars slots position found old.seen) × (opening_fault (builtin_program vars) found ≡ Some f)
-
 -- Its opening was refused by this failure's fault. If the first device was a store with a history, the one that it became still is.
 abbrev pub RefusesOver : {D : Type 0} → (D → DeviceView) → ℕ → ℕ → D → D → Failure → Type 0
 RefusesOver view vars slots old new f =
-    (g : Fault) × (f ≡ failure.Refused g) × OpeningRefused (view old) vars slots (IsUnsound vars slots (view old) (view new) g) g (view new)
+    (g : Fault) × (f ≡ failure.Refused g) × OpeningRefused (λ p. p ≡ builtin_program vars) vars slots (view old) g (view new)
     × ((h : History) → IsStore (builtin_program vars) vars slots h (view old) → (view new).keeps_model → StaysStore vars slots h (view old) (view new))
 
 -- The output failed. If the first device was a store with a history, some of the first entries were played on it, and it

@@ -1,12 +1,10 @@
 //! Plays a script on a device.
 ghost use Rattle.std.specs.Prelude.{◌≡◌, ◌⊎◌, [], ◌∷◌, None, IfErr, OnOk, OnErr, length, option_map};
 ghost use Rattle.std.specs.Io.KnownBytes.{Appends};
-ghost use Rattle.tmem_builtins.specs.Invariants.{is_not_negative, add_to_hundred, are_ordered};
-ghost use Rattle.tmem_builtins.specs.Steps.{sum_of, difference_of, at_least};
-ghost use Rattle.tmem_builtins.specs.Builtins.{builtin_steps, builtin_names, builtin_tests};
 ghost use Rattle.tmem_record.specs.Layout.{IsLayout};
 ghost use Rattle.tmem_script.specs.declared.failure.Failure.TheVariants.{Output, Refused};
-ghost use Rattle.tmem_world.specs.Represents.{WritesInStore, numbers_of, steps_of, held_table, view_of};
+ghost use Rattle.tmem_world.specs.Represents.{AreMeant, KeepsSetting, WritesInStore, numbers_of, view_of};
+ghost use Rattle.tmem_cli.specs.Builtin.{builtin_program};
 ghost use Rattle.tmem_cli.specs.Chains.{PlaysEntriesOn, PlaysFirstOn};
 ghost use Rattle.tmem_cli.specs.Printed.{PlaysEntries};
 ghost use Rattle.tmem_cli.specs.Stored.{PlaysOver, StopsOver, RefusesOver, PlaysWhere, StopsWhere, StopsPlaying};
@@ -16,13 +14,13 @@ use crate::print::{print_line, print_state};
 use std::alloc::Global;
 use std::fs::{File, Files};
 use std::io::Write;
-use tmem_builtins::{add, need, nonneg, ordered, steps_of, sub, sum, table_of};
+use tmem_builtins::{builtin_table, stored_steps};
 use tmem_disk::{Disk, Fault};
 use tmem_file::FileDisk;
 use tmem_invariants::Invariants;
 use tmem_journal::{refused_stands_for_none, stands_for_one};
 use tmem_script::{Entry, Failure, ReplyLine, Script};
-use tmem_tree::{StepAnswer, StoredSteps};
+use tmem_tree::StoredSteps;
 use tmem_world::{Layout, Reply, World};
 
 /// Plays a script on a fresh device in memory, or on the device of the file at a path, and prints a line for the opening
@@ -43,78 +41,9 @@ pub(crate) fn play<R: Files<File = File> + AllocGlobal, W: Write>(
 {
     let alloc = rt.alloc();
     let layout = Layout::new(script.vars, script.slots)?;
-    let at_least_zero = Box::new(
-        alloc,
-        |values: &[i64]| -> bool
-            requires { length values.now ≡ 1 }
-            ensures { result ≡ is_not_negative values.now }
-        { nonneg(values) },
-    );
-    let a_hundred = Box::new(
-        alloc,
-        |values: &[i64]| -> bool
-            requires { length values.now ≡ 2 }
-            ensures { result ≡ add_to_hundred values.now }
-        { sum(values) },
-    );
-    let in_order = Box::new(
-        alloc,
-        |values: &[i64]| -> bool
-            requires { length values.now ≡ 2 }
-            ensures { result ≡ are_ordered values.now }
-        { ordered(values) },
-    );
-    let at_least_zero = at_least_zero.map_err(Fault::from)?;
-    let a_hundred = a_hundred.map_err(Fault::from)?;
-    let in_order = in_order.map_err(Fault::from)?;
-    let table = table_of(alloc, script.vars, at_least_zero, a_hundred, in_order)?;
-    play_under(rt, path, layout, script.entries, table, out, device)
-}
-
-/// Plays the entries of a script, under these invariants.
-fn play_under<R: Files<File = File> + AllocGlobal, T: Invariants + Drop, W: Write>(
-    rt: &R,
-    path: Option<&str>,
-    layout: Layout,
-    entries: Vec<Entry>,
-    table: T,
-    out: &mut W,
-    device: &mut Option<FileDisk>,
-) -> Result<(), Failure>
-    requires none { device.old ≡ None }
-    requires vars { T.vars table ≡ layout.vars }
-    requires names { T.names table ≡ builtin_names layout.vars }
-    requires stated { T.is_stated table builtin_tests }
-    ensures played { OnOk result (PlaysWhere (option_map (λ text. text.now) path.entry) device.new layout.vars layout.slots entries.items (W.contents out.old) (W.contents out.new)) }
-    ensures failed { IfErr result (StopsWhere (option_map (λ text. text.now) path.entry) device.new layout.vars layout.slots entries.items) }
-{
-    let alloc = rt.alloc();
-    let total = Box::new(
-        alloc,
-        |args: &[i64]| -> StepAnswer
-            requires { length args.now ≡ 2 }
-            ensures { result ≡ sum_of args.now }
-        { add(args) },
-    );
-    let difference = Box::new(
-        alloc,
-        |args: &[i64]| -> StepAnswer
-            requires { length args.now ≡ 2 }
-            ensures { result ≡ difference_of args.now }
-        { sub(args) },
-    );
-    let floor = Box::new(
-        alloc,
-        |args: &[i64]| -> StepAnswer
-            requires { length args.now ≡ 2 }
-            ensures { result ≡ at_least args.now }
-        { need(args) },
-    );
-    let total = total.map_err(Fault::from)?;
-    let difference = difference.map_err(Fault::from)?;
-    let floor = floor.map_err(Fault::from)?;
-    let steps = steps_of(alloc, total, difference, floor)?;
-    play_with(rt, path, layout, entries, table, steps, out, device)
+    let table = builtin_table(alloc, script.vars)?;
+    let steps = stored_steps(alloc)?;
+    play_with(rt, path, layout, script.entries, table, steps, out, device)
 }
 
 /// Plays the entries of a script, under these invariants and with these stored steps, on a fresh device in memory or on the
@@ -136,10 +65,8 @@ fn play_with<
 ) -> Result<(), Failure>
     requires none { device.old ≡ None }
     requires vars { T.vars table ≡ layout.vars }
-    requires names { T.names table ≡ builtin_names layout.vars }
-    requires tests { T.is_stated table builtin_tests }
     requires arities { S.arities steps ≡ 2 ∷ 2 ∷ 2 ∷ [] }
-    requires steps { S.is_stated steps builtin_steps }
+    requires meant { AreMeant S.StoredSteps T.Invariants steps table (builtin_program layout.vars) }
     ensures played { OnOk result (PlaysWhere (option_map (λ text. text.now) path.entry) device.new layout.vars layout.slots entries.items (W.contents out.old) (W.contents out.new)) }
     ensures failed { IfErr result (StopsWhere (option_map (λ text. text.now) path.entry) device.new layout.vars layout.slots entries.items) }
 {
@@ -173,10 +100,8 @@ pub fn play_on<D: Disk + Drop, T: Invariants + Drop, S: StoredSteps + Drop, W: W
     out: &mut W,
 ) -> (D, Result<(), Failure>)
     requires vars { T.vars table ≡ layout.vars }
-    requires names { T.names table ≡ builtin_names layout.vars }
-    requires tests { T.is_stated table builtin_tests }
     requires arities { S.arities steps ≡ 2 ∷ 2 ∷ 2 ∷ [] }
-    requires steps { S.is_stated steps builtin_steps }
+    requires meant { AreMeant S.StoredSteps T.Invariants steps table (builtin_program layout.vars) }
     requires failures { (D.view disk).failures ≡ 0 }
     ensures played { OnOk result.1 (PlaysOver D.view layout.vars layout.slots entries.items disk result.0 (W.contents out.old) (W.contents out.new)) }
     ensures failed { IfErr result.1 (λ failure. StopsOver D.view layout.vars layout.slots entries.items disk result.0 failure ⊎ RefusesOver D.view layout.vars layout.slots disk result.0 failure) }
@@ -208,8 +133,7 @@ fn play_entries<D: Disk + Drop, T: Invariants + Drop, S: StoredSteps + Drop, W: 
     ensures chain { OnOk result (PlaysEntriesOn world.old entries.items world.new (Appends (W.contents out.old) (W.contents out.new))) }
     ensures stopped { OnErr result (PlaysFirstOn world.old entries.items world.new) }
     ensures elsewhere { WritesInStore (numbers_of world.old) (view_of world.old) (view_of world.new) }
-    ensures numbers { numbers_of world.new ≡ numbers_of world.old }
-    ensures model { (view_of world.new).keeps_model → (view_of world.old).keeps_model }
+    ensures kept { KeepsSetting world.old world.new }
 {
     for entry in entries {
         play_entry(world, entry, vars, out)?;
@@ -229,10 +153,7 @@ fn play_entry<D: Disk + Drop, T: Invariants + Drop, S: StoredSteps + Drop, W: Wr
     ensures failed { IfErr result (λ failure. failure ≡ Output) }
     ensures chain { PlaysEntriesOn world.old (entry ∷ []) world.new (λ text. OnOk result (Appends (W.contents out.old) (W.contents out.new) text)) }
     ensures elsewhere { WritesInStore (numbers_of world.old) (view_of world.old) (view_of world.new) }
-    ensures numbers { numbers_of world.new ≡ numbers_of world.old }
-    ensures steps { steps_of world.new ≡ steps_of world.old }
-    ensures table { held_table world.new ≡ held_table world.old }
-    ensures model { (view_of world.new).keeps_model → (view_of world.old).keeps_model }
+    ensures kept { KeepsSetting world.old world.new }
 {
     match entry {
         Entry::Event(playable) => print_line(out, ReplyLine(world.step(playable.event))),

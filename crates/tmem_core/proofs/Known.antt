@@ -1,6 +1,7 @@
 -- Names that are all in a table.
 use Rattle.std.proofs.Common.{◌≡◌, ℕ, ◌≤◌, ◌<◌, ◌||◌, ℤ, Bool, true, false, bytes_eq, List, length, get_or, All, IsTrue, None, refl, sym, ap, ◌∙◌, subst, arith}
-use Rattle.std.specs.Cmp.{IsEquivalence}
+use Rattle.std.proofs.Math.Bool.{or_comm}
+use Rattle.std.proofs.lemmas.Cmp.{nat_list_eq_equiv}
 use Rattle.std.specs.Set.{is_member}
 use Rattle.std.proofs.lemmas.Bool.{false_from_ne_true}
 use Rattle.std.proofs.lemmas.List.Folds.{Any-from_list_any, list_any_at}
@@ -16,22 +17,10 @@ use Rattle.tmem_invariants.proofs.Laws.{All-at_name, Contains-from_has_name, IsS
 abbrev pub AreAmong : List (List ℕ) → List (List ℕ) → Type 0
 AreAmong names ns = All (λ name. IsTrue (has_name names name)) ns
 
-bool_same : (a b : Bool) → (a ≡ true → b ≡ true) → (b ≡ true → a ≡ true) → a ≡ b
-bool_same true b there back = sym (there refl)
-bool_same false true there back = back refl
-bool_same false false there back = refl
-
-bytes_eq_laws : IsEquivalence bytes_eq
-bytes_eq_laws = record {
-  refl = λ x. (bytes_eq-Decides x x).1 refl;
-  symm = λ x y. bool_same (bytes_eq x y) (bytes_eq y x) (λ is. (bytes_eq-Decides y x).1 (sym ((bytes_eq-Decides x y).0 is))) (λ is. (bytes_eq-Decides x y).1 (sym ((bytes_eq-Decides y x).0 is)));
-  congr = λ x y z is. ap (λ w. bytes_eq w z) ((bytes_eq-Decides x y).0 is);
-}
-
 -- ascending names that are all among others are no more than those
 pub few-AreAmong : (names ns : List (List ℕ)) → AreAscending ns → AreAmong names ns → length ns ≤ length names
 few-AreAmong names ns up among =
-    length-le_from_is_member bytes_eq_laws ns names (IsDistinct-from_apart bytes_eq ns apart) member
+    length-le_from_is_member nat_list_eq_equiv ns names (IsDistinct-from_apart bytes_eq ns apart) member
   where
     apart : (i j : ℕ) (d : List ℕ) → i < j → j < length ns → bytes_eq (get_or ns i d) (get_or ns j d) ≡ false
     apart i j d order below =
@@ -44,19 +33,15 @@ few-AreAmong names ns up among =
         let there = Contains-from_has_name names name (subst (λ n. has_name names n ≡ true) same (among found.0 found.1 found.2)) in
         list_any_at (bytes_eq name) names there.0 name there.1 (ap (bytes_eq name) there.2 ∙ (bytes_eq-Decides name name).1 refl)
 
--- one of two, in either order
-pub either : (a b : Bool) → (a || b) ≡ (b || a)
-either true true = refl
-either true false = refl
-either false true = refl
-either false false = refl
+-- what a list has at a place is among it
+pub at_place : (ns : List (List ℕ)) → All (λ name. IsTrue (has_name ns name)) ns
+at_place ns k d below = list_any_at (λ n. bytes_eq n (get_or ns k d)) ns k d below ((bytes_eq-Decides (get_or ns k d) (get_or ns k d)).1 refl)
 
 -- each of the names with more added is one of them, or was added
 asked : (ns ms : List (List ℕ)) → All (λ name. IsTrue (has_name ns name || has_name ms name)) (with_names ns ms)
 asked ns ms k d below =
     let name = get_or (with_names ns ms) k d in
-    let there : has_name (with_names ns ms) name ≡ true = list_any_at (λ n. bytes_eq n name) (with_names ns ms) k d below ((bytes_eq-Decides name name).1 refl) in
-    either (has_name ns name) (has_name ms name) ∙ sym (has_name-with_names ns ms name) ∙ there
+    or_comm (has_name ns name) (has_name ms name) ∙ sym (has_name-with_names ns ms name) ∙ at_place (with_names ns ms) k d below
 
 -- so they are all in the table, where both are
 pub AreAmong-with_names : (names ns ms : List (List ℕ)) → AreAmong names ns → AreAmong names ms → AreAmong names (with_names ns ms)

@@ -1,7 +1,8 @@
 -- Values that were read, against the present ones.
-use Rattle.std.proofs.Common.{◌≡◌, ℕ, zero, suc, ℤ, pos, Bool, true, false, not, ◌||◌, cond, List, [], ◌∷◌, Some, nat_eq, refl, sym, ap, ◌∙◌}
-use Rattle.std.specs.Prelude.{slice_get, slice_index_or}
+use Rattle.std.proofs.Common.{◌≡◌, ℕ, ℤ, pos, Bool, true, false, not, ◌||◌, cond, List, [], ◌∷◌, Some, nat_eq, refl, sym, ap, ◌∙◌}
+use Rattle.std.specs.Prelude.{slice_get}
 use Rattle.std.specs.Ordering.{int_eq}
+use Rattle.std.proofs.lemmas.Option.{get_or_from_slice_get}
 use Rattle.std.proofs.lemmas.Bool.{eqb-true}
 use Rattle.std.proofs.lemmas.Bool.Decides.{Decides-int_eq}
 use Rattle.tmem_record.specs.State.{State}
@@ -10,14 +11,9 @@ use Rattle.tmem_tentative.specs.Right.{Agrees}
 use Rattle.tmem_core.specs.SettleAnswer.{is_stale}
 use Rattle.tmem_core.specs.Verdict.{map_of}
 
-value_of : (values : List ℤ) (var : ℕ) (n : ℤ) → slice_get values var ≡ Some n → slice_index_or values var (pos 0) ≡ n
-value_of [] var n is = cc
-value_of (v ∷ vs) zero n is = cc
-value_of (v ∷ vs) (suc var) n is = value_of vs var n is
-
 -- the map has what stands there
 pub map_of-there : (s : State) (var : ℕ) (n : ℤ) → slice_get s.values var ≡ Some n → map_of s var ≡ n
-map_of-there s var n is = value_of s.values var n is
+map_of-there s var n is = get_or_from_slice_get s.values var n (pos 0) is
 
 -- a value that differs
 pub stale_here : (s : State) (var : ℕ) (n m : ℤ) (rest : List (ℕ × ℤ)) → slice_get s.values var ≡ Some n → (n ≡ m → ⊥) → is_stale s ((var, m) ∷ rest) ≡ true

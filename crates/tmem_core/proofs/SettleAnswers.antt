@@ -1,5 +1,5 @@
 -- What the answer to an attempt tells of the verdict.
-use Rattle.std.proofs.Common.{◌≡◌, ◌-◌, ℕ, ℤ, Bool, true, false, cond, ◌==◌, List, Option, Some, None, Result, Ok, Err, refl, sym, ap, ◌∙◌, subst}
+use Rattle.std.proofs.Common.{◌≡◌, ◌-◌, ℕ, ℤ, Bool, true, false, cond, ◌==◌, List, [], ◌∷◌, Option, Some, None, Result, Ok, Err, IfOk, IfErr, refl, sym, ap, ◌∙◌, subst, append-nil}
 use Rattle.tmem_disk.specs.declared.fault.Fault.{Fault}
 use Rattle.tmem_disk.specs.declared.fault.Fault.TheVariants as fault
 use Rattle.tmem_record.specs.State.{State, is_empty}
@@ -11,9 +11,15 @@ use Rattle.tmem_tentative.specs.Right.{IsRight, EndsAs}
 use Rattle.tmem_tentative.specs.declared.attempt.Attempt.{Attempt}
 use Rattle.tmem_tree.specs.declared.settled.Settled.{Settled}
 use Rattle.tmem_tree.specs.declared.settled.Settled.TheVariants.{Committed, Seen}
-use Rattle.tmem_core.specs.Program.{Program}
-use Rattle.tmem_core.specs.Verdict.{map_of, first_broken, unless_broken, verdict, verdict_on, verdict_normal, effect_on, accepted, accepted_of}
-use Rattle.tmem_core.specs.SettleAnswer.{is_stale, sound_answer, unless_refused, normal_answer, ending_answer, allowed, judged, IsAdded}
+use Rattle.tmem_core.specs.Program.{Program, IsProgramOf}
+use Rattle.tmem_core.specs.Held.{CoreView, view_of, state_of, durable_of, is_shut_of, table_of, accepting}
+use Rattle.tmem_core.specs.Settling.{Settles}
+use Rattle.tmem_core.specs.Decisions.{answer_of}
+use Rattle.tmem_core.specs.declared.decision.Decision.{Decision}
+use Rattle.tmem_core.specs.declared.core_state.Core.{Core}
+use Rattle.tmem_invariants.specs.declared.named.Invariants.{Ghosts}
+use Rattle.tmem_core.specs.Verdict.{map_of, first_broken, unless_broken, verdict, verdict_on, verdict_normal, effect_on, accepted}
+use Rattle.tmem_core.specs.SettleAnswer.{is_stale, sound_answer, unless_refused, normal_answer, ending_answer, allowed, judged, IsAdded, IsRefusal, accepted_by}
 use Rattle.tmem_core.proofs.Present.{agrees}
 
 -- the verdict on an effect that breaks no invariant
@@ -34,54 +40,61 @@ allows_normal p s durable e registers = on (first_broken p s e) where
   on (Some name) = refl
   on None = allows_sound s durable e registers
 
--- what an answer accepts, as the effects that are added
-abbrev Adds : Result Settled Fault → Effect → List Effect → Type 0
-Adds (Ok settled) e added = accepted settled e ≡ added
-Adds (Err f) e added = Unit {0}
-
-adds_sound : (s : State) (durable : ℕ) (e : Effect) (registers : List ℤ) → Adds (sound_answer s durable e registers) e (accepted (sound_verdict s e registers) e)
-adds_sound s durable e registers = on (is_empty e) (s.count - durable == 256) (s.count == 18446744073709551615) where
-  on : (b c d : Bool) →
-      Adds (cond b (Ok (Seen s.count registers)) (cond c (Err fault.Full) (cond d (Err fault.Spent) (Ok (Committed s.count registers))))) e
-      (accepted (cond b (Seen s.count registers) (Committed s.count registers)) e)
-  on true c d = refl
-  on false true d = tt
-  on false false true = tt
-  on false false false = refl
-
-adds_normal : (p : Program) (s : State) (durable : ℕ) (e : Effect) (registers : List ℤ) → Adds (normal_answer p s durable e registers) e (accepted (verdict_normal p s e registers) e)
-adds_normal p s durable e registers = on (first_broken p s e) where
-  on : (o : Option (List ℕ)) → Adds (unless_refused o (sound_answer s durable e registers)) e (accepted (unless_broken o (sound_verdict s e registers)) e)
-  on (Some name) = refl
-  on None = adds_sound s durable e registers
+-- what is allowed accepts what the verdict does
+adds_allowed : (v : Settled) (durable : ℕ) (e : Effect) → IfOk (allowed v durable) (λ settled. accepted settled e ≡ accepted v e)
+adds_allowed (Committed number registers) durable e = on (number - durable == 256) (number == 18446744073709551615) where
+  on : (full spent : Bool) → IfOk (cond full (Err fault.Full) (cond spent (Err fault.Spent) (Ok (Committed number registers)))) (λ settled. accepted settled e ≡ e ∷ [])
+  on true spent = tt
+  on false true = tt
+  on false false = refl
+adds_allowed _ durable e = refl
 
 -- what an answer is to a run that ended so
 abbrev JudgesRun : Program → State → ℕ → Effect → Result Settled Fault → run.RunResult → Type 0
 JudgesRun p s durable own answer e =
-    (answer ≡ allowed (verdict_on p s e) durable) × Adds answer own (accepted (verdict_on p s e) (effect_on e))
+    (answer ≡ allowed (verdict_on p s e) durable) × IfOk answer (λ settled. accepted settled own ≡ accepted (verdict_on p s e) (effect_on e))
 
 judges_ending : (p : Program) (e : run.RunResult) (s : State) (durable : ℕ) (a : Attempt) → EndsAs e a → JudgesRun p s durable a.effect (ending_answer p a.ending s durable a.effect a.registers) e
 judges_ending p (run.Normal view) s durable a ends =
+    let allows = allows_normal p s durable view.effect view.registers in
     subst (λ x. JudgesRun p s durable a.effect (ending_answer p x s durable a.effect a.registers) (run.Normal view)) (sym ends.0)
     (subst (λ (rs : List ℤ). JudgesRun p s durable a.effect (normal_answer p s durable a.effect rs) (run.Normal view)) (sym ends.1)
     (subst (λ (e : Effect). JudgesRun p s durable e (normal_answer p s durable e view.registers) (run.Normal view)) (sym ends.2)
-    (allows_normal p s durable view.effect view.registers, adds_normal p s durable view.effect view.registers)))
+    (allows, subst (λ x. IfOk x (λ settled. accepted settled view.effect ≡ accepted (verdict_normal p s view.effect view.registers) view.effect)) (sym allows) (adds_allowed (verdict_normal p s view.effect view.registers) durable view.effect))))
 judges_ending p run.Retried s durable a ends = subst (λ x. JudgesRun p s durable a.effect (ending_answer p x s durable a.effect a.registers) run.Retried) (sym ends.0) (refl, refl)
 judges_ending p (run.Aborted code) s durable a ends = subst (λ x. JudgesRun p s durable a.effect (ending_answer p x s durable a.effect a.registers) (run.Aborted code)) (sym ends.0) (refl, refl)
 
-module _ (p : Program) (tx : Tx) (s : State) (durable : ℕ) (a : Attempt) (right : IsRight p.steps tx a) (fresh : is_stale s a.reads.entries ≡ false) where
-  ended : JudgesRun p s durable a.effect (ending_answer p a.ending s durable a.effect a.registers) (run p.steps tx (start (map_of s)))
-  ended = judges_ending p (run p.steps tx (start (map_of s))) s durable a (right.ends (map_of s) (agrees s a.reads.entries fresh))
+-- where no value that was read differs, the answer by the ending is the verdict's, and it accepts what the plan adds
+judges_attempt : (p : Program) (tx : Tx) (s : State) (durable : ℕ) (a : Attempt) → is_stale s a.reads.entries ≡ false → IsRight p.steps tx a
+    → JudgesRun p s durable a.effect (ending_answer p a.ending s durable a.effect a.registers) (run p.steps tx (start (map_of s)))
+judges_attempt p tx s durable a fresh right = judges_ending p (run p.steps tx (start (map_of s))) s durable a (right.ends (map_of s) (agrees s a.reads.entries fresh))
 
-  -- where no value that was read differs, the answer by the ending is the verdict's
-  pub judges : (shut : Bool) → shut ≡ false → ending_answer p a.ending s durable a.effect a.registers ≡ judged shut s durable a.reads.entries (verdict p tx s)
-  judges shut open_now =
-      ended.0 ∙ sym (ap (λ b. cond b (Err fault.Conflict) (allowed (verdict p tx s) durable)) fresh)
-      ∙ sym (ap (λ b. judged b s durable a.reads.entries (verdict p tx s)) open_now)
+-- a decision is refused as its whole answer is
+pub refused_with : (decision : Result Decision Fault) (registers : List ℤ) → IfErr decision IsRefusal → IfErr (answer_of decision registers) IsRefusal
+refused_with (Ok decision) registers refused = tt
+refused_with (Err f) registers refused = refused
 
-  -- and it accepts what the plan adds
-  pub adds : IsAdded p tx s a (ending_answer p a.ending s durable a.effect a.registers)
-  adds = as_added (ending_answer p a.ending s durable a.effect a.registers) ended.1 where
-    as_added : (x : Result Settled Fault) → Adds x a.effect (accepted_of p tx s) → IsAdded p tx s a x
-    as_added (Ok settled) is = is
-    as_added (Err f) is = tt
+-- to accept nothing changes nothing
+pub accepting-none : {T : Type 0} (v : CoreView T) → v ≡ accepting [] v
+accepting-none v = rw (append-nil v.history, append-nil v.waiting)
+
+module _ {T : Type 0} {t : Ghosts T} (old new : Core T t) (a : Attempt) where
+  -- an attempt is settled by its ending, where the core runs and no value that was read differs
+  pub settles : (x : Result Settled Fault) → is_shut_of old ≡ false → is_stale (state_of old) a.reads.entries ≡ false
+      → ((p : Program) → IsProgramOf t (table_of old) p → x ≡ ending_answer p a.ending (state_of old) (durable_of old) a.effect a.registers)
+      → IfErr x IsRefusal → view_of new ≡ accepting (accepted_by x a.effect) (view_of old) → Settles old new a x
+  settles x runs fresh by_ending refused view = record {
+    answer = λ p are. by_ending p are ∙ sym (running (λ b. cond b (Err fault.Closed) (cond (is_stale (state_of old) a.reads.entries) (Err fault.Conflict) (by_its_ending p)))
+        ∙ ap (λ b. cond b (Err fault.Conflict) (by_its_ending p)) fresh);
+    verdict = λ p tx are right. by_ending p are ∙ (judges_attempt p tx (state_of old) (durable_of old) a fresh right).0
+        ∙ sym (running (λ b. judged b (state_of old) (durable_of old) a.reads.entries (verdict p tx (state_of old)))
+        ∙ ap (λ b. cond b (Err fault.Conflict) (allowed (verdict p tx (state_of old)) (durable_of old))) fresh);
+    added = λ p tx are right. subst (IsAdded p tx (state_of old) a) (sym (by_ending p are)) (judges_attempt p tx (state_of old) (durable_of old) a fresh right).1;
+    refused = refused;
+    view = view;
+  } where
+    by_its_ending : Program → Result Settled Fault
+    by_its_ending p = ending_answer p a.ending (state_of old) (durable_of old) a.effect a.registers
+
+    running : (f : Bool → Result Settled Fault) → f (is_shut_of old) ≡ f false
+    running f = ap f runs

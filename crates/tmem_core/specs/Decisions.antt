@@ -1,9 +1,11 @@
 -- What an attempt is answered, told apart from the registers that it ended with.
-use Rattle.std.specs.Prelude.{◌≡◌, ℕ, ℤ, List, [], ◌∷◌, Result, Ok, Err}
+use Rattle.std.specs.Prelude.{◌≡◌, ℕ, ℤ, List, Result, Ok, Err}
 use Rattle.tmem_disk.specs.declared.fault.Fault.{Fault}
 use Rattle.tmem_record.specs.declared.effect.Effect.{Effect}
 use Rattle.tmem_tree.specs.declared.settled.Settled.{Settled}
 use Rattle.tmem_tree.specs.declared.settled.Settled.TheVariants as settled
+use Rattle.tmem_tentative.specs.declared.attempt.Attempt.{Attempt}
+use Rattle.tmem_core.specs.SettleAnswer.{accepted_by}
 use Rattle.tmem_core.specs.declared.decision.Decision.{Decision}
 use Rattle.tmem_core.specs.declared.decision.Decision.TheVariants.{Committed, Seen, Retry, Aborted, Refused}
 
@@ -25,7 +27,6 @@ abbrev pub RetriesAt : ℕ → Result Decision Fault → Type 0
 RetriesAt count (Ok (Retry at)) = at ≡ count
 RetriesAt count _ = Unit {0}
 
--- the effects that are accepted: only Committed accepts the effect
-abbrev pub taken_by : Result Decision Fault → Effect → List Effect
-taken_by (Ok (Committed number)) e = e ∷ []
-taken_by _ e = []
+-- the effects that are accepted of an attempt that is answered so: one or none
+abbrev pub taken_by : Result Decision Fault → Attempt → List Effect
+taken_by decision a = accepted_by (answer_of decision a.registers) a.effect

@@ -4,5 +4,7 @@ pub mod Held
 pub mod Opening
 pub mod Program
 pub mod SettleAnswer
+pub mod Settling
 pub mod Taking
 pub mod Verdict
+pub mod Versions

@@ -1,5 +1,5 @@
 -- What settling an attempt answers, and what it accepts.
-use Rattle.std.specs.Prelude.{◌≡◌, ◌-◌, ℕ, ℤ, Bool, not, ◌==◌, List, [], Option, Some, None, Result, Ok, Err, if◌then◌else◌}
+use Rattle.std.specs.Prelude.{◌≡◌, ◌-◌, ℕ, ℤ, Bool, not, ◌==◌, List, [], Option, Some, None, Result, Ok, Err, IfOk, if◌then◌else◌}
 use Rattle.std.specs.List.{list_any}
 use Rattle.std.specs.Ordering.{int_eq}
 use Rattle.tmem_disk.specs.declared.fault.Fault.{Fault}
@@ -79,5 +79,4 @@ judged shut s durable reads v =
 
 -- what an answer accepts of an attempt is what the plan adds to the state
 abbrev pub IsAdded : Program → Tx → State → Attempt → Result Settled Fault → Type 0
-IsAdded p tx s a (Ok settled) = accepted settled a.effect ≡ accepted_of p tx s
-IsAdded p tx s a (Err f) = Unit {0}
+IsAdded p tx s a answer = IfOk answer (λ settled. accepted settled a.effect ≡ accepted_of p tx s)

@@ -1,15 +1,14 @@
 // The core.
-ghost use Rattle.std.specs.Prelude.{List, ℤ, ◌≡◌, ◌≢◌, ◌≤◌, ◌<◌, ◌↔◌, ◌+◌, ◌-◌, true, false, [], ◌++◌, length, drop, slice_get, Some, All, IsTrue, IfOk, IfErr};
+ghost use Rattle.std.specs.Prelude.{List, ℤ, ◌≡◌, ◌≢◌, ◌≤◌, ◌<◌, ◌↔◌, ◌+◌, ◌-◌, true, false, [], ◌++◌, length, drop, slice_get, Some, All, IsTrue, IfSome, IfNone, IfOk, IfErr};
 ghost use Rattle.std.specs.Map.{keys_of};
 ghost use Rattle.std.proofs.Props.{props};
 ghost use Rattle.tmem_record.specs.Names.{has_name, with_names, AreRegistered, AreRegistered-prop};
-ghost use Rattle.tmem_record.specs.State.{apply, fold};
+ghost use Rattle.tmem_record.specs.State.{apply};
 ghost use Rattle.tmem_record.specs.declared.name_set.TheConstants.{MAX_NAMES};
-ghost use Rattle.tmem_tree.specs.declared.tx.Tx.{Tx};
 ghost use Rattle.tmem_invariants.specs.Meanings.{Meanings, AllHold, IsSound, first_false};
 ghost use Rattle.tmem_invariants.specs.Places.{ArePlacesOf};
 ghost use Rattle.tmem_tentative.specs.Fits.{IsForVariables};
-ghost use Rattle.tmem_tentative.specs.Right.{IsRight};
+ghost use Rattle.tmem_core.specs.Opening.{fault_against, IsOpeningRefusal};
 ghost use Rattle.tmem_core.specs.SettleAnswer.{is_stale};
 ghost use Rattle.tmem_record.specs.Loggable.{IsLoggable, IsLoggable-prop};
 ghost use Rattle.tmem_core.specs.History.{IsFolded, effects_of};
@@ -75,38 +74,30 @@ pub struct Core<T: Invariants> {
 }
 
 impl<T: Invariants + Drop> Core<T> {
-    ghost use Rattle.tmem_core.specs.Held.{state_of, opened_of, history_of, waiting_of, durable_of, is_shut_of, table_of};
-    ghost use Rattle.tmem_core.specs.Opening.{opening_fault, IsOpeningRefusal};
-    ghost use Rattle.tmem_core.specs.Program.{Program};
-    ghost use Rattle.tmem_core.specs.Verdict.{verdict};
-    ghost use Rattle.tmem_core.specs.SettleAnswer.{settle_answer, normal_answer, sound_answer, accepted_by, judged, IsRefusal, IsAdded};
-    ghost use Rattle.tmem_core.specs.Decisions.{answer_of, taken_by, RetriesAt};
+    ghost use Rattle.tmem_core.specs.Held.{view_of, state_of, waiting_of, durable_of, is_shut_of, table_of, new_view, accepting, knowing};
+    ghost use Rattle.tmem_core.specs.Opening.{opening_fault};
+    ghost use Rattle.tmem_core.specs.Program.{Program, IsProgramOf};
+    ghost use Rattle.tmem_core.specs.SettleAnswer.{normal_answer, sound_answer, accepted_by, IsRefusal};
+    ghost use Rattle.tmem_core.specs.Decisions.{answer_of, RetriesAt};
+    ghost use Rattle.tmem_core.specs.Settling.{Settles};
 
     /// A core of this state, all of it durable, with room for all that may wait: no other call takes memory. Refused with
     /// `Missing` and the first registered name, by bytes, that the table lacks; else with `Broken` and the first one in
     /// the table's order that is registered and false; and for want of memory. The table is handed back then.
     pub fn new(alloc: Global, state: &State, table: T) -> Result<Core<T>, (Fault, T)>
         requires vars { T.vars table ≡ length state.now.values }
-        ensures state { IfOk result (λ core. state_of core ≡ state.now) }
-        ensures history { IfOk result (λ core. (opened_of core ≡ state.now) × (history_of core ≡ [])) }
-        ensures waiting { IfOk result (λ core. waiting_of core ≡ []) }
-        ensures durable { IfOk result (λ core. durable_of core ≡ state.now.count) }
-        ensures shut { IfOk result (λ core. is_shut_of core ≡ false) }
-        ensures table { IfOk result (λ core. table_of core ≡ table) }
+        ensures view { IfOk result (λ core. view_of core ≡ new_view state.now table) }
         ensures back { IfErr result (λ refused. refused.1 ≡ table) }
         ensures refused { IfErr result (λ refused. IsOpeningRefusal refused.0) }
         ensures sound { (m : Meanings) → T.is_stated table m → IfOk result (λ core. IsSound m (T.names table) state.now.names state.now.values) }
         ensures unsound { (m : Meanings) → T.is_stated table m → IfErr result (λ refused. refused.0 ≢ Fault.Memory → ¬ IsSound m (T.names table) state.now.names state.now.values) }
-        ensures fault { (p : Program) → p.names ≡ T.names table → T.is_stated table p.tests
+        ensures fault { (p : Program) → IsProgramOf T.Invariants table p
             → IfErr result (λ refused. refused.0 ≢ Fault.Memory → opening_fault p state.now ≡ Some refused.0) }
+        ensures memory { (m : Meanings) → T.is_stated table m → IfErr result (λ refused. refused.0 ≡ Fault.Memory → IsSound m (T.names table) state.now.names state.now.values) }
     {
-        if let Some(name) = table.missing(state.names()) {
-            return Err((Fault::Missing(name), table));
-        }
         let places = places_of(&table, state.names());
-        if let Some(place) = table.test_all(state.values(), places, 0) {
-            let name = table.name(place);
-            return Err((Fault::Broken(name), table));
+        if let Some(fault) = fault_against(&table, state, places) {
+            return Err((fault, table));
         }
         match copies(alloc, state) {
             Ok((state, waiting)) => {
@@ -174,12 +165,7 @@ impl<T: Invariants + Drop> Core<T> {
 
     /// Every later attempt is refused as `Closed`.
     pub fn shut(&mut self)
-        ensures shut { is_shut_of self.new ≡ true }
-        ensures state { state_of self.new ≡ state_of self.old }
-        ensures history { (opened_of self.new ≡ opened_of self.old) × (history_of self.new ≡ history_of self.old) }
-        ensures waiting { waiting_of self.new ≡ waiting_of self.old }
-        ensures durable { durable_of self.new ≡ durable_of self.old }
-        ensures table { table_of self.new ≡ table_of self.old }
+        ensures { view_of self.new ≡ record (view_of self.old) { is_shut = true } }
     {
         self.is_shut = true;
     }
@@ -190,20 +176,7 @@ impl<T: Invariants + Drop> Core<T> {
     pub fn settle(&mut self, attempt: &Attempt) -> Result<Settled, Fault>
         requires variables { IsForVariables (length (state_of self.old).values) attempt.now }
         requires names { All (λ name. IsTrue (has_name (T.names (table_of self.old)) name)) attempt.now.effect.names }
-        ensures answer { (p : Program) → p.names ≡ T.names (table_of self.old) → T.is_stated (table_of self.old) p.tests
-            → result ≡ settle_answer p (is_shut_of self.old) (state_of self.old) (durable_of self.old) attempt.now }
-        ensures refused { IfErr result IsRefusal }
-        ensures state { state_of self.new ≡ fold (state_of self.old) (accepted_by result attempt.now.effect) }
-        ensures history { (opened_of self.new ≡ opened_of self.old) × (history_of self.new ≡ history_of self.old ++ accepted_by result attempt.now.effect) }
-        ensures waiting { waiting_of self.new ≡ waiting_of self.old ++ accepted_by result attempt.now.effect }
-        ensures durable { durable_of self.new ≡ durable_of self.old }
-        ensures shut { is_shut_of self.new ≡ is_shut_of self.old }
-        ensures table { table_of self.new ≡ table_of self.old }
-        ensures vars { length (state_of self.new).values ≡ length (state_of self.old).values }
-        ensures verdict { (p : Program) (tx : Tx) → p.names ≡ T.names (table_of self.old) → T.is_stated (table_of self.old) p.tests → IsRight p.steps tx attempt.now
-            → result ≡ judged (is_shut_of self.old) (state_of self.old) (durable_of self.old) attempt.now.reads.entries (verdict p tx (state_of self.old)) }
-        ensures added { (p : Program) (tx : Tx) → p.names ≡ T.names (table_of self.old) → T.is_stated (table_of self.old) p.tests → IsRight p.steps tx attempt.now
-            → IsAdded p tx (state_of self.old) attempt.now result }
+        ensures { Settles self.old self.new attempt.now result }
     {
         let decision = self.decide(attempt)?;
         Ok(decision.settled(&attempt.registers))
@@ -214,21 +187,8 @@ impl<T: Invariants + Drop> Core<T> {
     pub fn decide(&mut self, attempt: &Attempt) -> Result<Decision, Fault>
         requires variables { IsForVariables (length (state_of self.old).values) attempt.now }
         requires names { All (λ name. IsTrue (has_name (T.names (table_of self.old)) name)) attempt.now.effect.names }
-        ensures answer { (p : Program) → p.names ≡ T.names (table_of self.old) → T.is_stated (table_of self.old) p.tests
-            → answer_of result attempt.now.registers ≡ settle_answer p (is_shut_of self.old) (state_of self.old) (durable_of self.old) attempt.now }
-        ensures refused { IfErr result IsRefusal }
+        ensures settles { Settles self.old self.new attempt.now (answer_of result attempt.now.registers) }
         ensures retries { RetriesAt (state_of self.old).count result }
-        ensures state { state_of self.new ≡ fold (state_of self.old) (taken_by result attempt.now.effect) }
-        ensures history { (opened_of self.new ≡ opened_of self.old) × (history_of self.new ≡ history_of self.old ++ taken_by result attempt.now.effect) }
-        ensures waiting { waiting_of self.new ≡ waiting_of self.old ++ taken_by result attempt.now.effect }
-        ensures durable { durable_of self.new ≡ durable_of self.old }
-        ensures shut { is_shut_of self.new ≡ is_shut_of self.old }
-        ensures table { table_of self.new ≡ table_of self.old }
-        ensures vars { length (state_of self.new).values ≡ length (state_of self.old).values }
-        ensures verdict { (p : Program) (tx : Tx) → p.names ≡ T.names (table_of self.old) → T.is_stated (table_of self.old) p.tests → IsRight p.steps tx attempt.now
-            → answer_of result attempt.now.registers ≡ judged (is_shut_of self.old) (state_of self.old) (durable_of self.old) attempt.now.reads.entries (verdict p tx (state_of self.old)) }
-        ensures added { (p : Program) (tx : Tx) → p.names ≡ T.names (table_of self.old) → T.is_stated (table_of self.old) p.tests → IsRight p.steps tx attempt.now
-            → IsAdded p tx (state_of self.old) attempt.now (answer_of result attempt.now.registers) }
     {
         if self.is_shut {
             return Err(Fault::Closed);
@@ -247,17 +207,11 @@ impl<T: Invariants + Drop> Core<T> {
     fn settle_normal(&mut self, effect: &Effect) -> Result<Decision, Fault>
         requires variables { All (λ var. var < length (state_of self.old).values) (keys_of effect.now.writes) }
         requires names { All (λ name. IsTrue (has_name (T.names (table_of self.old)) name)) effect.now.names }
-        ensures answer { (p : Program) → p.names ≡ T.names (table_of self.old) → T.is_stated (table_of self.old) p.tests
+        ensures answer { (p : Program) → IsProgramOf T.Invariants (table_of self.old) p
             → (registers : List ℤ) → answer_of result registers ≡ normal_answer p (state_of self.old) (durable_of self.old) effect.now registers }
         ensures refused { IfErr result IsRefusal }
         ensures retries { RetriesAt (state_of self.old).count result }
-        ensures state { state_of self.new ≡ fold (state_of self.old) (taken_by result effect.now) }
-        ensures history { (opened_of self.new ≡ opened_of self.old) × (history_of self.new ≡ history_of self.old ++ taken_by result effect.now) }
-        ensures waiting { waiting_of self.new ≡ waiting_of self.old ++ taken_by result effect.now }
-        ensures durable { durable_of self.new ≡ durable_of self.old }
-        ensures shut { is_shut_of self.new ≡ is_shut_of self.old }
-        ensures table { table_of self.new ≡ table_of self.old }
-        ensures vars { length (state_of self.new).values ≡ length (state_of self.old).values }
+        ensures view { (registers : List ℤ) → view_of self.new ≡ accepting (accepted_by (answer_of result registers) effect.now) (view_of self.old) }
     {
         let proposed = places_of(&self.table, effect.names.as_slice());
         match self.first_broken(effect, proposed) {
@@ -273,12 +227,7 @@ impl<T: Invariants + Drop> Core<T> {
         requires proposed { ArePlacesOf effect.now.names (T.names (table_of self.old)) proposed }
         ensures first { (m : Meanings) → T.is_stated (table_of self.old) m
             → result ≡ first_false m (T.names (table_of self.old)) (state_of self.old).names effect.now.names (apply (state_of self.old) effect.now).values }
-        ensures state { state_of self.new ≡ state_of self.old }
-        ensures history { (opened_of self.new ≡ opened_of self.old) × (history_of self.new ≡ history_of self.old) }
-        ensures waiting { waiting_of self.new ≡ waiting_of self.old }
-        ensures durable { durable_of self.new ≡ durable_of self.old }
-        ensures shut { is_shut_of self.new ≡ is_shut_of self.old }
-        ensures table { table_of self.new ≡ table_of self.old }
+        ensures view { view_of self.new ≡ view_of self.old }
     {
         let (registered, state, olds) = (self.places, &mut self.state, &mut self.olds);
         match first_false(&self.table, registered, proposed, state, olds, effect) {
@@ -297,13 +246,7 @@ impl<T: Invariants + Drop> Core<T> {
         ensures answer { (registers : List ℤ) → answer_of result registers ≡ sound_answer (state_of self.old) (durable_of self.old) effect.now registers }
         ensures refused { IfErr result IsRefusal }
         ensures retries { RetriesAt (state_of self.old).count result }
-        ensures state { state_of self.new ≡ fold (state_of self.old) (taken_by result effect.now) }
-        ensures history { (opened_of self.new ≡ opened_of self.old) × (history_of self.new ≡ history_of self.old ++ taken_by result effect.now) }
-        ensures waiting { waiting_of self.new ≡ waiting_of self.old ++ taken_by result effect.now }
-        ensures durable { durable_of self.new ≡ durable_of self.old }
-        ensures shut { is_shut_of self.new ≡ is_shut_of self.old }
-        ensures table { table_of self.new ≡ table_of self.old }
-        ensures vars { length (state_of self.new).values ≡ length (state_of self.old).values }
+        ensures view { (registers : List ℤ) → view_of self.new ≡ accepting (accepted_by (answer_of result registers) effect.now) (view_of self.old) }
     {
         let number = self.state.count();
         if effect.is_empty() {
@@ -353,15 +296,27 @@ impl<T: Invariants + Drop> Core<T> {
     pub fn note_durable(&mut self, number: u64)
         requires known { durable_of self.old ≤ number }
         requires accepted { number ≤ (state_of self.old).count }
-        ensures durable { durable_of self.new ≡ number }
-        ensures waiting { waiting_of self.new ≡ drop (number - durable_of self.old) (waiting_of self.old) }
-        ensures state { state_of self.new ≡ state_of self.old }
-        ensures history { (opened_of self.new ≡ opened_of self.old) × (history_of self.new ≡ history_of self.old) }
-        ensures shut { is_shut_of self.new ≡ is_shut_of self.old }
-        ensures table { table_of self.new ≡ table_of self.old }
+        ensures { view_of self.new ≡ knowing number (view_of self.old) }
     {
         self.waiting.drop_oldest((number - self.durable) as usize);
         self.durable = number;
+    }
+}
+
+// What stands against a state, whose registered names have these places in the table.
+fn fault_against<T: Invariants>(table: &T, state: &State, places: u64) -> Option<Fault>
+    requires vars { T.vars table.now ≡ length state.now.values }
+    requires places { ArePlacesOf state.now.names (T.names table.now) places }
+    ensures which { (m : Meanings) → T.is_stated table.now m → result ≡ fault_against (T.names table.now) m state.now }
+    ensures refusal { IfSome result (λ fault. IsOpeningRefusal fault × (fault ≢ Fault.Memory)) }
+    ensures known { IfNone result (All (λ name. IsTrue (has_name (T.names table.now) name)) state.now.names) }
+{
+    if let Some(name) = table.missing(state.names()) {
+        return Some(Fault::Missing(name));
+    }
+    match table.test_all(state.values(), places, 0) {
+        Some(place) => Some(Fault::Broken(table.name(place))),
+        None => None,
     }
 }
 

@@ -1,11 +1,11 @@
 -- Whether a device in memory runs, and at which of its calls it stops, as at a crash, or fails.
-use Rattle.std.specs.Prelude.{◌⊎◌, ℕ, zero, suc, Bool, ◌&&◌, ◌==◌, Option, Some, None, is_none, IsTrue, IsSome, if◌then◌else◌}
+use Rattle.std.specs.Prelude.{◌⊎◌, ℕ, zero, suc, Bool, ◌&&◌, ◌||◌, ◌==◌, Option, Some, None, is_none, is_some, IsTrue, IsSome, if◌then◌else◌}
 use Rattle.tmem_disk.specs.Failing.{none_armed, armed_for, armed_with, is_next, armed_after}
 use Rattle.tmem_disk.specs.declared.disk.DeviceFault.{DeviceFault}
 use Rattle.tmem_disk.specs.declared.disk.DeviceFault.TheVariants.{Read, Write, Sync}
 use Rattle.tmem_disk.specs.declared.power.Fill.{Fill}
 use Rattle.tmem_disk.specs.declared.power.ArmedStop.{ArmedStop}
-use Rattle.tmem_disk.specs.declared.power.ArmedStop.TheVariants.{AtWrite, AtPlace}
+use Rattle.tmem_disk.specs.declared.power.ArmedStop.TheVariants.{AtWrite, AtPlace, AtSync}
 use Rattle.tmem_disk.specs.declared.power.Power.{Power}
 
 -- it stands at a stop
@@ -54,6 +54,7 @@ met_by_write at None = None
 met_by_write at (Some (AtWrite zero fill)) = Some fill
 met_by_write at (Some (AtWrite (suc more) fill)) = None
 met_by_write at (Some (AtPlace place fill)) = if at == place then Some fill else None
+met_by_write at (Some (AtSync more fill)) = None
 
 -- the stop that is still to come after a write from this place on
 abbrev pub left_by_write : ℕ → Option ArmedStop → Option ArmedStop
@@ -61,12 +62,29 @@ left_by_write at None = None
 left_by_write at (Some (AtWrite zero fill)) = None
 left_by_write at (Some (AtWrite (suc more) fill)) = Some (AtWrite more fill)
 left_by_write at (Some (AtPlace place fill)) = if at == place then None else Some (AtPlace place fill)
+left_by_write at (Some (AtSync more fill)) = Some (AtSync more fill)
 
--- What runs counts each call, also one that fails, and may meet a stop at a write.
+-- the fill of the stop that a sync meets
+abbrev pub met_by_sync : Option ArmedStop → Option Fill
+met_by_sync None = None
+met_by_sync (Some (AtWrite more fill)) = None
+met_by_sync (Some (AtPlace place fill)) = None
+met_by_sync (Some (AtSync zero fill)) = Some fill
+met_by_sync (Some (AtSync (suc more) fill)) = None
+
+-- the stop that is still to come after a sync
+abbrev pub left_by_sync : Option ArmedStop → Option ArmedStop
+left_by_sync None = None
+left_by_sync (Some (AtWrite more fill)) = Some (AtWrite more fill)
+left_by_sync (Some (AtPlace place fill)) = Some (AtPlace place fill)
+left_by_sync (Some (AtSync zero fill)) = None
+left_by_sync (Some (AtSync (suc more) fill)) = Some (AtSync more fill)
+
+-- What runs counts each call, also one that fails, and may meet a stop at a write or at a sync.
 abbrev pub after_running : Call → Power → Power
 after_running reading power = record { stopped = None; armed = power.armed; failing = armed_after Read power.failing }
 after_running (writing at) power = record { stopped = met_by_write at power.armed; armed = left_by_write at power.armed; failing = armed_after Write power.failing }
-after_running syncing power = record { stopped = None; armed = power.armed; failing = armed_after Sync power.failing }
+after_running syncing power = record { stopped = met_by_sync power.armed; armed = left_by_sync power.armed; failing = armed_after Sync power.failing }
 
 -- a call at a stopped device changes nothing
 abbrev pub unless_stopped : {A : Type 0} → Option Fill → A → A → A
@@ -80,6 +98,10 @@ after call power = unless_stopped power.stopped power (after_running call power)
 -- a write from this place on of a device that runs is armed to fail and meets no stop, which would win
 abbrev pub only_fails : ℕ → Power → Bool
 only_fails at power = is_next power.failing.write && is_none (met_by_write at power.armed)
+
+-- a sync of a device that runs is armed to fail, or meets a stop
+abbrev pub syncs_nothing : Power → Bool
+syncs_nothing power = is_next power.failing.sync || is_some (met_by_sync power.armed)
 
 -- it is the call of its kind that is armed to fail
 abbrev pub IsArmed : Call → Power → Type 0

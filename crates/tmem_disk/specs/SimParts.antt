@@ -2,8 +2,7 @@
 use Rattle.std.specs.Prelude.{ℕ, if◌then◌else◌, List, length}
 use Rattle.std.proofs.Common.{inl, refl, sym, ◌∙◌}
 use Rattle.tmem_disk.specs.Sim.{Bytes, written, touched, synced_with, memory_view, left_now}
-use Rattle.tmem_disk.specs.Failing.{is_next}
-use Rattle.tmem_disk.specs.Power.{only_fails, unless_stopped}
+use Rattle.tmem_disk.specs.Power.{only_fails, syncs_nothing, unless_stopped}
 use Rattle.tmem_disk.specs.Disk.{DeviceView, IsDevice}
 use Rattle.tmem_disk.specs.Moments.{moments_of}
 use Rattle.tmem_disk.specs.declared.power.Power.{Power}
@@ -38,6 +37,6 @@ is_device_of disk = record {
 abbrev pub bytes_after_write : Power → ℕ → List ℕ → Bytes → Bytes
 bytes_after_write power at bytes b = unless_stopped power.stopped b (if only_fails at power then touched at (length bytes) b else written at bytes b)
 
--- what a sync leaves: nothing changes where the device is stopped, or the sync is armed to fail
+-- what a sync leaves: nothing changes where the device is stopped, before it or at it, or the sync is armed to fail
 abbrev pub bytes_after_sync : Power → Bytes → Bytes
-bytes_after_sync power b = unless_stopped power.stopped b (if is_next power.failing.sync then b else synced_with b.present)
+bytes_after_sync power b = unless_stopped power.stopped b (if syncs_nothing power then b else synced_with b.present)

@@ -1,6 +1,6 @@
 // Whether a device in memory runs, and at which of its calls it stops, as at a crash, or fails.
 ghost use Rattle.std.specs.Prelude.{◌≡◌, ◌↔◌, Some, IsTrue};
-ghost use Rattle.tmem_disk.specs.Power.{IsStopped, running, reading, writing, syncing, after, met_by_write, left_by_write, only_fails, Fails, restarted};
+ghost use Rattle.tmem_disk.specs.Power.{IsStopped, running, reading, writing, syncing, after, met_by_write, left_by_write, met_by_sync, left_by_sync, only_fails, Fails, restarted};
 
 use crate::DeviceFault;
 use crate::failures::ArmedFailures;
@@ -23,6 +23,8 @@ pub(crate) enum ArmedStop {
     AtWrite(u64, Fill),
     /// At the next write that starts at this place.
     AtPlace(u64, Fill),
+    /// At the sync behind so many more.
+    AtSync(u64, Fill),
 }
 
 /// The stop that a device stands at, the one that is armed, and the calls that are armed to fail. What is armed outlives
@@ -64,12 +66,17 @@ impl Power {
         self.is_stopped() || self.failing.meets(DeviceFault::Read)
     }
 
-    // Begins a sync. Does it fail?
+    // Begins a sync. Does it fail? A stop that it meets wins.
     pub(crate) fn fails_at_sync(&mut self) -> bool
         ensures power { self.new ≡ after syncing self.old }
         ensures fails { IsTrue result ↔ Fails syncing self.old }
     {
-        self.is_stopped() || self.failing.meets(DeviceFault::Sync)
+        if self.is_stopped() {
+            return true;
+        }
+        let armed = self.failing.meets(DeviceFault::Sync);
+        self.meet_stop_at_sync();
+        armed || self.is_stopped()
     }
 
     // Begins a write from this place on at a device that runs. Does it fail with no stop? A stop that it meets wins.
@@ -79,13 +86,13 @@ impl Power {
         ensures fails { result ≡ only_fails at self.old }
     {
         let armed = self.failing.meets(DeviceFault::Write);
-        self.meet_stop(at);
+        self.meet_stop_at_write(at);
         armed && !self.is_stopped()
     }
 
     // Counts a write from this place on at a device that runs, and stops it there where it is the one that a stop is
     // armed for.
-    fn meet_stop(&mut self, at: u64)
+    fn meet_stop_at_write(&mut self, at: u64)
         requires { ¬ IsStopped self.old }
         ensures stopped { self.new.stopped ≡ met_by_write at self.old.armed }
         ensures armed { self.new.armed ≡ left_by_write at self.old.armed }
@@ -105,7 +112,26 @@ impl Power {
                     self.armed = None;
                 }
             }
-            None => {}
+            Some(ArmedStop::AtSync(..)) | None => {}
+        }
+    }
+
+    // Counts a sync at a device that runs, and stops it there where it is the one that a stop is armed for.
+    fn meet_stop_at_sync(&mut self)
+        requires { ¬ IsStopped self.old }
+        ensures stopped { self.new.stopped ≡ met_by_sync self.old.armed }
+        ensures armed { self.new.armed ≡ left_by_sync self.old.armed }
+        ensures failing { self.new.failing ≡ self.old.failing }
+    {
+        match self.armed {
+            Some(ArmedStop::AtSync(0, fill)) => {
+                self.stopped = Some(fill);
+                self.armed = None;
+            }
+            Some(ArmedStop::AtSync(more, fill)) => {
+                self.armed = Some(ArmedStop::AtSync(more - 1, fill));
+            }
+            Some(ArmedStop::AtWrite(..) | ArmedStop::AtPlace(..)) | None => {}
         }
     }
 

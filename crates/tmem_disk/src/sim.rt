@@ -14,11 +14,11 @@ use std::alloc::Global;
 
 /// Bytes in memory. It keeps the disk model, and no call but `new` takes memory.
 ///
-/// A stop is a crash, now or armed for a chosen write, by its number or by the place where it starts: that write and all
-/// later calls fail until `restart`. A failure is armed for a chosen call, which fails once, and the device runs on. A
-/// call fails in no other case. While the device runs, each call counts, also one that fails; while it stands at a stop,
-/// none does, so what is armed stays armed over `restart`. Where a write meets both, the stop wins, and the failure is
-/// spent.
+/// A stop is a crash, now or armed for a chosen call: a write, by its number or by the place where it starts, or a sync, by
+/// its number. That call and all later ones fail until `restart`. A failure is armed for a chosen call, which fails once,
+/// and the device runs on. A call fails in no other case. While the device runs, each call counts, also one that fails;
+/// while it stands at a stop, none does, so what is armed stays armed over `restart`. Where a call meets both, the stop
+/// wins, and the failure is spent.
 #[derive(Drop)]
 pub struct SimDisk {
     present: Vec<u8>,
@@ -76,6 +76,17 @@ impl SimDisk {
         ensures power { power_of self.new ≡ arming (ArmedStop.AtPlace at fill) (power_of self.old) }
     {
         self.power.armed = Some(ArmedStop::AtPlace(at, fill));
+    }
+
+    /// Stops the device at sync number `k` from now, where 0 is the next: that sync syncs nothing, and that call and all
+    /// later ones fail until `restart`, at which the bytes written since the last successful sync take the fill. It takes
+    /// the place of a stop that was armed before. At a stopped device it counts from the restart.
+    pub fn stop_at_sync(&mut self, k: u64, fill: Fill)
+        ensures same { SameDevice (view_of self.old) (view_of self.new) }
+        ensures bytes { bytes_of self.new ≡ bytes_of self.old }
+        ensures power { power_of self.new ≡ arming (ArmedStop.AtSync k fill) (power_of self.old) }
+    {
+        self.power.armed = Some(ArmedStop::AtSync(k, fill));
     }
 
     /// Stops the device now: all calls fail until `restart`, at which the bytes written since the last successful sync

@@ -2,5 +2,4 @@ pub mod Laws
 pub mod Sharing
 mod Again
 mod Looks
-mod OpensStore
 mod Planned

@@ -78,4 +78,4 @@ module _ (D N T S : RattleType) (d : DiskGhosts D.Denot) (s : StoreGhosts N.Deno
       let journal = journal_send a b in
       let pool = pool_send b in
       let whole = the_type D N T S d s n p i st in
-      recorded_sync _ whole.D whole.to whole.to_one (struct_sync (shape whole) (search (sendable, crosses) depth 20, (search (sendable, crosses), (f', (search (sendable, crosses, name_sync) depth 20, (spine_sync N n, (search (crosses, core), (search (sendable, crosses) depth 20, (search (sendable, crosses) depth 20, (search (sendable, crosses, condvar_sync) depth 20, (search (crosses, journal), (search (crosses, pool), (search (sendable, crosses) depth 20, tt)))))))))))))
+      recorded_sync _ whole.D whole.to whole.to_one (struct_sync (shape whole) (search (sendable, crosses) depth 20, (search (sendable, crosses), (f', (search (sendable, crosses, name_sync) depth 20, (spine_sync N n, (search (crosses, core), (search (sendable, crosses, condvar_sync) depth 20, (search (crosses, journal), (search (crosses, pool), (search (sendable, crosses) depth 20, tt)))))))))))

@@ -5,7 +5,6 @@ ghost use Rattle.tmem_seats.specs.Histories.{IsLeftOpen};
 
 use crate::front::Front;
 use std::sync::Wait;
-use tmem_core::MAX_WAITING;
 use tmem_disk::{Disk, Fault};
 use tmem_invariants::Invariants;
 use tmem_seats::StoreNaming;
@@ -17,9 +16,9 @@ impl<D: Disk + Drop, N: StoreNaming, T: Invariants + Drop, S: StoredSteps + Drop
     T,
     S,
 > {
-    /// Closes the store in good order: later attempts are refused as `Closed`, and what waits is made durable. Then each call that
-    /// waits goes on: whoever awaits a transaction that became durable is answered so, and `Closed` otherwise. Refused with the first
-    /// fault that the store had, or as a flush that makes room.
+    /// Closes the store in good order: later attempts are refused as `Closed`, and what waits is made durable, also where the store was
+    /// shut before or another close is at work. Then each call that waits goes on: whoever awaits a transaction that became durable is
+    /// answered so, and `Closed` otherwise. Refused with the first fault that the store had, or as a flush that makes room.
     pub fn close<R: Wait>(&self, rt: &R) -> Result<(), Fault>
         ensures refused { IfErr result IsFlusherRefusal }
     {
@@ -32,17 +31,17 @@ impl<D: Disk + Drop, N: StoreNaming, T: Invariants + Drop, S: StoredSteps + Drop
         }
     }
 
-    // Makes durable what waits. Nothing is committed meanwhile, so it is no more than may wait at once.
+    // Makes durable what waits, until nothing does. Nothing is committed meanwhile.
     fn flush_all<R: Wait>(&self, rt: &R) -> Result<(), Fault>
         ensures refused { IfErr result IsFlusherRefusal }
     {
-        for _ in 0..=MAX_WAITING {
+        for _ in rt.forever() {
             if !self.has_waiting(rt) {
                 return Ok(());
             }
             self.flush_with_room(rt)?;
         }
-        Ok(())
+        unreachable!()
     }
 
     // Whether a transaction waits to be durable.
@@ -52,14 +51,14 @@ impl<D: Disk + Drop, N: StoreNaming, T: Invariants + Drop, S: StoredSteps + Drop
 
     /// Closes the store at once: later attempts are refused as `Closed`, and the calls that wait go on.
     pub fn shut<R: Wait>(&self, rt: &R) {
-        self.core.lock(rt).shut();
-        self.committed.notify_all();
-        self.flushed.notify_all();
-        self.wake(u32::MAX);
+        let mut core = self.core.lock(rt);
+        core.shut();
+        self.conditions.tell_end(core);
         self.close_pool(rt);
     }
 
-    /// What the store was shut by, where its device has failed: `Device` or `Unknown`, as the flush or the checkpoint was answered.
+    /// The first fault of the device, `Device` or `Unknown`, as the flush or the checkpoint was answered, also where the front was shut
+    /// before it.
     pub fn fault<R: Wait>(&self, rt: &R) -> Option<Fault>
         ensures { IfSome result (λ fault. (fault ≡ Fault.Device) ⊎ (fault ≡ Fault.Unknown)) }
     {

@@ -17,10 +17,12 @@ ghost use Rattle.tmem_core.specs.SettleAnswer.{is_stale};
 ghost use Rattle.tmem_seats.specs.Histories.{after, IsPossibleValue};
 ghost use Rattle.tmem_front.specs.Settling.{Settles, SettlesPlan};
 
+use crate::conditions::Conditions;
 use crate::pass::Pass;
 use crate::pool::Pool;
+use crate::returned::Returned;
 use std::alloc::Global;
-use std::sync::{Condvar, Mutex, MutexGuard, Wait};
+use std::sync::{Mutex, MutexGuard, Wait};
 use tmem_core::{Decision, Settled};
 use tmem_disk::{Cause, Disk, Fault, Name};
 use tmem_invariants::Invariants;
@@ -39,15 +41,12 @@ pub struct Front<D: Disk, N: StoreNaming, T: Invariants, S: StoredSteps> {
     pub(crate) names: Vec<Name>,
     pub(crate) spine: Spine<N>,
     pub(crate) core: Mutex<CoreSeat<N, T>>,
-    // what is waited for under the core's lock: work for a flusher, more that is durable, and for each pass, by its number, a commit
-    // that writes what its transaction has read; all are told where the front is shut
-    pub(crate) committed: Condvar,
-    pub(crate) flushed: Condvar,
-    pub(crate) changed: Vec<Condvar>,
+    // what is waited for under the core's lock; all are told where the front is shut
+    pub(crate) conditions: Conditions,
     pub(crate) journal: Mutex<JournalSeat<D, N>>,
     // passes that are lent, and what is waited for where all are
     pub(crate) pool: Mutex<Pool<N>>,
-    pub(crate) returned: Condvar,
+    pub(crate) returned: Returned,
 
     /// It is over the variables of the opening state.
     pub ghost over: { vars ≡ length N.opening.values },
@@ -142,32 +141,12 @@ impl<D: Disk + Drop, N: StoreNaming, T: Invariants + Drop, S: StoredSteps + Drop
     // Lets the core's lock go. What was committed under it wakes the flushers, and each pass that waits for such a commit.
     pub(crate) fn unlock_and_wake(
         &self,
-        mut core: MutexGuard<CoreSeat<N, T>>,
+        core: MutexGuard<CoreSeat<N, T>>,
         decision: &Result<Decision, Fault>,
         attempt: &Attempt,
     ) {
-        let Ok(Decision::Committed(_)) = decision else {
-            return;
-        };
-        let woken = core.wake(&attempt.effect);
-        drop(core);
-        self.committed.notify_all();
-        if woken != 0 {
-            self.wake(woken);
-        }
-    }
-
-    // What the pass of this number waits for. (There are as many as passes.)
-    pub(crate) fn condvar_of(&self, number: u64) -> &Condvar {
-        self.changed.get(number as usize).unwrap_or(&self.committed)
-    }
-
-    // Wakes the passes whose bits are set.
-    pub(crate) fn wake(&self, woken: u32) {
-        for (number, changed) in self.changed.iter().enumerate() {
-            if woken >> (number % 32) & 1 == 1 {
-                changed.notify_all();
-            }
+        if let Ok(Decision::Committed(_)) = decision {
+            self.conditions.tell_commit(core, &attempt.effect);
         }
     }
 
@@ -334,11 +313,8 @@ impl<D: Disk + Drop, N: StoreNaming, T: Invariants + Drop, S: StoredSteps + Drop
     {
         let mut core = self.core.lock(rt);
         let is_shut = journal.tell(&self.spine, &mut core, failure);
-        drop(core);
-        self.flushed.notify_all();
+        self.conditions.tell(core, journal);
         if is_shut {
-            self.committed.notify_all();
-            self.wake(u32::MAX);
             self.close_pool(rt);
         }
     }

@@ -9,6 +9,7 @@
 #![tactic(auto)]
 
 mod closing;
+mod conditions;
 mod durably;
 mod front;
 mod opened;
@@ -16,6 +17,7 @@ mod pace;
 mod pass;
 mod patience;
 mod pool;
+mod returned;
 mod values;
 mod waiting;
 mod within;

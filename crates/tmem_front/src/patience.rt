@@ -53,7 +53,9 @@ pub(crate) struct Limited<'a, R: Wait + Clock> {
 
 impl<'a, R: Wait + Clock> Limited<'a, R> {
     /// From now on for so long.
-    pub(crate) fn new(rt: &'a R, limit: Duration) -> Limited<'a, R> {
+    pub(crate) fn new(rt: &'a R, limit: Duration) -> Limited<'a, R>
+        ensures { result.limit ≡ limit }
+    {
         let start = Instant::now(rt).ok();
         Limited { rt, start, limit }
     }

@@ -1,5 +1,6 @@
 // Passes that callers share.
-ghost use Rattle.std.specs.Prelude.{◌≡◌, ◌⊎◌, None, Ok, IfErr};
+ghost use Rattle.std.specs.Prelude.{◌≡◌, ◌⊎◌, ◌≤◌, vec_capacity, None, Ok, IfErr};
+ghost use Rattle.tmem_spine.specs.declared.spine.TheConstants.{MOST_PASSES};
 
 use crate::front::Front;
 use crate::pass::Pass;
@@ -10,13 +11,13 @@ use std::time::Duration;
 use tmem_disk::{Disk, Fault};
 use tmem_invariants::Invariants;
 use tmem_seats::StoreNaming;
-use tmem_spine::Naming;
+use tmem_spine::{MOST_PASSES, Naming};
 use tmem_tree::StoredSteps;
 
 /// The passes of a front that are lent, one after another, to whoever asks for one.
 #[derive(Drop)]
 pub(crate) struct Pool<N: Naming> {
-    // those that are not lent now, with room for all that it has
+    // those that are not lent now, with room for all of a front once one was asked for
     pub(crate) free: Vec<Pass<N>>,
     // how many it has
     pub(crate) owned: usize,
@@ -28,7 +29,10 @@ pub(crate) struct Pool<N: Naming> {
 
 impl<N: Naming> Pool<N> {
     // Whether nobody waits any more. The look is counted.
-    fn has_ended(&mut self) -> bool {
+    fn has_ended(&mut self) -> bool
+        ensures ended { result ≡ self.new.is_closed }
+        ensures same { self.new ≡ record self.old { looks = self.new.looks } }
+    {
         self.looks = self.looks.wrapping_add(1);
         self.is_closed
     }
@@ -79,14 +83,9 @@ impl<D: Disk + Drop, N: StoreNaming, T: Invariants + Drop, S: StoredSteps + Drop
             if let Some(pass) = pool.free.pop() {
                 return Ok(Some(pass));
             }
-            let more = pool.owned.saturating_add(1);
-            pool.free.reserve(more)?;
-            match self.pass(rt) {
-                Ok(mut pass) => {
-                    pass.is_pooled = true;
-                    pool.owned = more;
-                    return Ok(Some(pass));
-                }
+            pool.free.reserve(MOST_PASSES as usize)?;
+            match self.new_for_pool(rt, &mut pool) {
+                Ok(pass) => return Ok(Some(pass)),
                 Err(fault) if pool.owned == 0 => return Err(fault),
                 Err(_) => {
                     if pool.has_ended() {
@@ -95,11 +94,23 @@ impl<D: Disk + Drop, N: StoreNaming, T: Invariants + Drop, S: StoredSteps + Drop
                     if patience.is_over() {
                         return Ok(None);
                     }
-                    pool = patience.sleep(&self.returned, pool);
+                    pool = self.returned.sleep(patience, pool);
                 }
             }
         }
         unreachable!()
+    }
+
+    // A new pass, where the pool has room for all, so that none is lost.
+    fn new_for_pool<R: Wait>(&self, rt: &R, pool: &mut Pool<N>) -> Result<Pass<N>, Fault>
+        requires room { MOST_PASSES ≤ vec_capacity pool.old.free }
+        ensures none { IfErr result (λ fault. fault ≡ Fault.NoSeat) }
+        ensures pool { pool.new ≡ record pool.old { owned = pool.new.owned } }
+    {
+        let mut pass = self.pass(rt)?;
+        pass.is_pooled = true;
+        pool.owned = pool.owned.saturating_add(1);
+        Ok(pass)
     }
 
     /// Hands a pass back to the pool, for the next caller. One that `pass` gave out is the pool's from then on. Refused by `Memory` where
@@ -109,20 +120,20 @@ impl<D: Disk + Drop, N: StoreNaming, T: Invariants + Drop, S: StoredSteps + Drop
     {
         let mut pool = self.pool.lock(rt);
         if !pass.is_pooled {
-            let with_it = pool.owned.saturating_add(1);
-            pool.free.reserve(with_it)?;
+            let missing = (MOST_PASSES as usize).saturating_sub(pool.free.len());
+            pool.free.reserve(missing)?;
             pass.is_pooled = true;
-            pool.owned = with_it;
+            pool.owned = pool.owned.saturating_add(1);
         }
-        let kept = pool.free.push(pass);
-        drop(pool);
-        self.returned.notify_one();
-        Ok(kept?)
+        pool.free.push(pass)?;
+        self.returned.tell_one(pool);
+        Ok(())
     }
 
     // Ends the wait of each caller that waits for a pass, once the front is shut, and of those to come.
     pub(crate) fn close_pool<R: Wait>(&self, rt: &R) {
-        self.pool.lock(rt).is_closed = true;
-        self.returned.notify_all();
+        let mut pool = self.pool.lock(rt);
+        pool.is_closed = true;
+        self.returned.tell_end(pool);
     }
 }

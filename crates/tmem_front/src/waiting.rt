@@ -9,7 +9,7 @@ ghost use Rattle.tmem_record.specs.Names.{has_name};
 ghost use Rattle.tmem_spine.specs.History.{count};
 ghost use Rattle.std.specs.Sync.Mutex.{mutex_guard_value};
 ghost use Rattle.tmem_seats.specs.Flushing.{IsFlusherRefusal};
-ghost use Rattle.tmem_seats.specs.Seats.{HasMoreOrShut, HasFlushedOrShut, HasRoomOrShut, HasWorkOrShut};
+ghost use Rattle.tmem_seats.specs.Seats.{HasMoreOrShut, HasFlushedOrEnded, HasRoomOrShut, HasWorkOrShut};
 ghost use Rattle.tmem_seats.specs.Histories.{after};
 ghost use Rattle.tmem_front.specs.Settling.{Settles, SettlesAtLast, SettlesPlan};
 
@@ -197,8 +197,8 @@ impl<D: Disk + Drop, N: StoreNaming, T: Invariants + Drop, S: StoredSteps + Drop
         self.settle_or_wait(rt, patience, core, seat, cursor.attempt(), how)
     }
 
-    // Waits under the core's lock until more than so many are accepted, the front is shut, or the patience is over. A commit wakes the
-    // pass of this number that writes what the attempt read.
+    // Waits under the core's lock until more than so many are accepted, which are as many as at first, the front is shut, or the
+    // patience is over. A commit wakes the pass of this number that writes what the attempt read.
     fn wait_for_another<'a, R: Wait, P: Patience>(
         &self,
         rt: &R,
@@ -208,14 +208,16 @@ impl<D: Disk + Drop, N: StoreNaming, T: Invariants + Drop, S: StoredSteps + Drop
         number: u64,
         attempt: &Attempt,
     ) -> MutexGuard<'a, CoreSeat<N, T>>
+        requires { at ≡ count N.name.start (mutex_guard_value core).accepted }
         ensures { HasMoreOrShut N.name.start at (mutex_guard_value result) ⊎ P.ends patience.now }
     {
         for _ in rt.forever() {
             if core.has_more(at) || patience.is_over() {
                 return core;
             }
-            core.sleep(number, &attempt.reads);
-            core = patience.sleep(self.condvar_of(number), core);
+            core = self
+                .conditions
+                .sleep_for_another(patience, core, at, number, attempt);
         }
         unreachable!()
     }
@@ -233,7 +235,7 @@ impl<D: Disk + Drop, N: StoreNaming, T: Invariants + Drop, S: StoredSteps + Drop
             if held.has_room() || patience.is_over() {
                 return held;
             }
-            held = patience.sleep(&self.flushed, held);
+            held = self.conditions.sleep_for_room(patience, held);
         }
         unreachable!()
     }
@@ -288,13 +290,13 @@ impl<D: Disk + Drop, N: StoreNaming, T: Invariants + Drop, S: StoredSteps + Drop
         mut core: MutexGuard<'a, CoreSeat<N, T>>,
         number: u64,
     ) -> MutexGuard<'a, CoreSeat<N, T>>
-        ensures { HasFlushedOrShut number (mutex_guard_value result) ⊎ P.ends patience.now }
+        ensures { HasFlushedOrEnded number (mutex_guard_value result) ⊎ P.ends patience.now }
     {
         for _ in rt.forever() {
             if core.has_flushed(number) || patience.is_over() {
                 return core;
             }
-            core = patience.sleep(&self.flushed, core);
+            core = self.conditions.sleep_for_more(patience, core, number);
         }
         unreachable!()
     }
@@ -309,9 +311,7 @@ impl<D: Disk + Drop, N: StoreNaming, T: Invariants + Drop, S: StoredSteps + Drop
                 return Ok(());
             }
             let core = self.wait_for_commit(rt, self.core.lock(rt));
-            let is_waiting = core.has_waiting();
-            drop(core);
-            if !is_waiting {
+            if !is_to_flush(core) {
                 return Ok(());
             }
             self.flush_with_room(rt)?;
@@ -331,10 +331,17 @@ impl<D: Disk + Drop, N: StoreNaming, T: Invariants + Drop, S: StoredSteps + Drop
             if core.has_work() {
                 return core;
             }
-            core = self.committed.wait(rt, core);
+            core = self.conditions.sleep_for_work(rt, core);
         }
         unreachable!()
     }
+}
+
+// Lets the core's lock go where there is work or the front is shut. Answers whether a transaction waits to be durable.
+fn is_to_flush<N: StoreNaming, T: Invariants + Drop>(core: MutexGuard<CoreSeat<N, T>>) -> bool
+    requires { HasWorkOrShut N.name.start (mutex_guard_value core) }
+{
+    core.has_waiting()
 }
 
 // How many conflicts are left to meet after this answer. After a wait they are counted anew.
@@ -352,10 +359,12 @@ fn is_waited_for(answer: &Result<Settled, Fault>) -> bool
     matches!(answer, Ok(Settled::Retry) | Err(Fault::Full))
 }
 
-// Whether a plan is not attempted again after this answer. Where it is, nothing was accepted.
+// Whether a plan is not attempted again after this answer. It is after a retry and a conflict, and where it waits for room; nothing was
+// accepted then.
 fn is_last(answer: &Result<Settled, Fault>, waits_for_room: bool) -> bool
     ensures last { IsTrue result → (answer.now ≢ Err Fault.Conflict) × (answer.now ≢ Ok Settled.Retry) }
     ensures no_full { IsTrue result → waits_for_room ≡ true → answer.now ≢ Err Fault.Full }
+    ensures only { result ≡ false → (answer.now ≡ Ok Settled.Retry) ⊎ (answer.now ≡ Err Fault.Conflict) ⊎ ((answer.now ≡ Err Fault.Full) × (waits_for_room ≡ true)) }
     ensures again { (effect : EffectOf) → result ≡ false → accepted_by answer.now effect ≡ [] }
 {
     match answer {

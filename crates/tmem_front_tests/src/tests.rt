@@ -11,6 +11,7 @@ mod pool;
 mod room;
 mod scenes;
 mod signals;
+mod skipping;
 mod stage_disk;
 mod store;
 mod threads;

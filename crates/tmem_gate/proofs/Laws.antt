@@ -7,6 +7,7 @@ use Rattle.tmem_disk.specs.Disk.{DeviceView, IsDevice, overwritten, ReadsAs, Lea
 use Rattle.tmem_disk.proofs.Laws.{SameOutside-refl, SameOutside-trans, SameOutside-wider, slice_get-before, slice_get-after, slice_range-before, slice_range-after, slice_range-overwritten, Rewritten-left, Rewritten-wider, Rewritten-trans, Elapses-more, Elapses-trans, before_or_since-trans}
 use Rattle.tmem_gate.specs.Gate.{IsOpenAt, IsClosed, HasBody, IsOpenOver, IsWhole}
 use Rattle.tmem_gate.specs.Calls.{LooksOnly, WritesWithin}
+use Rattle.tmem_gate.specs.Changes.{Outcome, IsMade, NotMade, InDoubt, NotBegun, Becomes, Meanwhile, Puts}
 
 -- a gate is open or closed
 pub gate_cases : (at : ℕ) (c : List ℕ) → IsOpenAt at c ⊎ IsClosed at c
@@ -97,8 +98,9 @@ module _ (at n : ℕ) (old new : DeviceView) (device : IsDevice old) (model : ne
   by_write seen stop time = by_time seen stop (Elapses-more old new new.may_leave (Rewritten at n old) time stop.each)
 
   -- that writes nothing
-  pub by_look : LooksOnly old new → Elapses old new new.may_leave → WritesWithin at n old new
-  by_look looks time = by_write (λ k. subst (λ (l : List ℕ). SameOutside at n old.seen l) (sym (looks.seen k)) (SameOutside-refl at n old.seen)) (record { each = λ k c left. (c, looks.stop.each k c left, SameOutside-refl at n c) }) time
+  pub by_look : LooksOnly old new → WritesWithin at n old new
+  by_look looks = by_time (λ k. subst (λ (l : List ℕ). SameOutside at n old.seen l) (sym (looks.seen k)) (SameOutside-refl at n old.seen)) (record { each = λ k c left. Rewritten-left at n old c (looks.stop.each k c left) })
+      (Elapses-more old new _ _ looks.time (λ k. Rewritten-left at n old))
 
 -- a call over a range that says what each of its moments leaves
 pub by_moment : (at n : ℕ) (old new : DeviceView) → IsDevice new → SameSeenOutside at n old new → AtEachMoment old new (Rewritten at n old) → Elapses old new (Rewritten at n old) → WritesWithin at n old new
@@ -126,7 +128,7 @@ LooksOnly-trans old mid new model first second = record {
 
 -- no call at all
 pub WritesWithin-refl : (at n : ℕ) (d : DeviceView) → IsDevice d → WritesWithin at n d d
-WritesWithin-refl at n d device = by_look at n d d device (λ k. k) (LooksOnly-refl d) (no_time d d.may_leave)
+WritesWithin-refl at n d device = by_look at n d d device (λ k. k) (LooksOnly-refl d)
 
 -- over a wider range
 pub WritesWithin-wider : (at n wide_at wide_n : ℕ) → wide_at ≤ at → at + n ≤ wide_at + wide_n → (old new : DeviceView) → WritesWithin at n old new → WritesWithin wide_at wide_n old new
@@ -157,11 +159,28 @@ WritesWithin-trans at n old mid new model first second = record {
     both : new.keeps_model → (c : List ℕ) → Rewritten at n mid c → Rewritten at n old c
     both k c from = Rewritten-trans at n old mid c (model k) first.stop from
 
--- and a call after it that writes nothing
-pub WritesWithin-then_look : (at n : ℕ) (old mid new : DeviceView) → IsDevice mid → (new.keeps_model → mid.keeps_model) → WritesWithin at n old mid → ReadsAs new mid.seen → LeavesOnly new mid.may_leave → Elapses mid new new.may_leave → WritesWithin at n old new
-WritesWithin-then_look at n old mid new device model first seen stop time = WritesWithin-trans at n old mid new model first (by_look at n mid new device model (looks mid new seen stop time) time)
+-- what becomes of a change that says more becomes of one that says less
+Becomes-more : (W V W' V' : List ℕ → List ℕ → Type 0) → ((b c : List ℕ) → W b c → W' b c) → ((b c : List ℕ) → V b c → V' b c) → (old : DeviceView) (o : Outcome) (c : List ℕ) → Becomes W V old o c → Becomes W' V' old o c
+Becomes-more W V W' V' without with old IsMade c from = (from.0, from.1, with from.0 c from.2)
+Becomes-more W V W' V' without with old NotMade c from = (from.0, from.1, without from.0 c from.2)
+Becomes-more W V W' V' without with old InDoubt c from = (from.0, from.1, ⊎_elim (λ no. inl (without from.0 c no)) (λ yes. inr (with from.0 c yes)) from.2)
+Becomes-more W V W' V' without with old NotBegun c left = left
 
--- a body and its gate, in one range
-pub of_cell : (at n : ℕ) (old mid new : DeviceView) → (new.keeps_model → mid.keeps_model) → WritesWithin (at + 1) n old mid → WritesWithin at 1 mid new → WritesWithin at (1 + n) old new
-of_cell at n old mid new model body gate =
-    WritesWithin-trans at (1 + n) old mid new model (WritesWithin-wider (at + 1) n at (1 + n) (omega arith) (omega arith) old mid body) (WritesWithin-wider at 1 at (1 + n) (omega arith) (omega arith) mid new gate)
+Meanwhile-more : (W V W' V' : List ℕ → List ℕ → Type 0) → ((b c : List ℕ) → W b c → W' b c) → ((b c : List ℕ) → V b c → V' b c) → (old : DeviceView) (o : Outcome) (c : List ℕ) → Meanwhile W V old o c → Meanwhile W' V' old o c
+Meanwhile-more W V W' V' without with old IsMade c from = Becomes-more W V W' V' without with old InDoubt c from
+Meanwhile-more W V W' V' without with old NotMade c from = Becomes-more W V W' V' without with old NotMade c from
+Meanwhile-more W V W' V' without with old InDoubt c from = Becomes-more W V W' V' without with old InDoubt c from
+Meanwhile-more W V W' V' without with old NotBegun c left = left
+
+-- no call at all makes no change
+pub not_begun : (at n : ℕ) (W V : List ℕ → List ℕ → Type 0) (d : DeviceView) → IsDevice d → Puts at n W V d d NotBegun
+not_begun at n W V d device = record { elsewhere = WritesWithin-refl at n d device; stands = record { each = λ k c left. left }; any_moment = record { each = λ k c left. device.only_now c k left } }
+
+-- so does a call that makes it, in a wider range
+pub Puts-more : (at n wide_at wide_n : ℕ) (W V W' V' : List ℕ → List ℕ → Type 0) (old new : DeviceView) (o : Outcome) → wide_at ≤ at → at + n ≤ wide_at + wide_n → ((b c : List ℕ) → W b c → W' b c) → ((b c : List ℕ) → V b c → V' b c)
+    → Puts at n W V old new o → Puts wide_at wide_n W' V' old new o
+Puts-more at n wide_at wide_n W V W' V' old new o low high without with puts = record {
+  elsewhere = WritesWithin-wider at n wide_at wide_n low high old new puts.elsewhere;
+  stands = record { each = λ k c left. Becomes-more W V W' V' without with old o c (puts.stands.each k c left) };
+  any_moment = record { each = λ k c left. Meanwhile-more W V W' V' without with old o c (puts.any_moment.each k c left) };
+}

@@ -4,7 +4,7 @@ use Rattle.tmem_disk.specs.Disk.{DeviceView, ReadsAs, SameSeenOutside, LeavesOnl
 use Rattle.tmem_disk.specs.declared.disk.DeviceFault.{DeviceFault}
 use Rattle.tmem_disk.specs.declared.disk.DeviceFault.TheVariants.{Read, Write}
 use Rattle.tmem_disk.specs.declared.fault.Fault.{Fault}
-use Rattle.tmem_disk.specs.declared.fault.Fault.TheVariants.{Memory, Device, Unknown, Damaged}
+use Rattle.tmem_disk.specs.declared.fault.Fault.TheVariants.{Device, Unknown, Damaged}
 
 -- how many calls of the device have failed, once this is answered
 abbrev pub failures_after : Fault → ℕ → ℕ
@@ -40,9 +40,8 @@ MadeBy R old c = (b : List ℕ) × old.may_leave b × R b c
 abbrev pub IsReadOrWrite : DeviceFault → Type 0
 IsReadOrWrite fault = (fault ≡ Read) ⊎ (fault ≡ Write)
 
--- why what was looked for was not found: want of memory, a failed call of the device, or else damage, as there is none
+-- why what was looked for was not found: a failed call of the device, or else damage, as there is none
 abbrev pub IsWhyNone : Type 0 → Fault → Type 0
-IsWhyNone none Memory = Unit {0}
 IsWhyNone none Device = Unit {0}
 IsWhyNone none Damaged = none
 IsWhyNone none _ = ⊥

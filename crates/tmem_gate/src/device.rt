@@ -1,9 +1,8 @@
 //! The calls of a device, each failure as a fault.
-ghost use Rattle.std.specs.Prelude.{Some, ◌≡◌, ◌⊎◌, ◌≤◌, ◌+◌, length, slice_range, IfOk, OnOk, OnErr, IfErr, IsErrOf};
+ghost use Rattle.std.specs.Prelude.{Some, ◌≡◌, ◌⊎◌, ◌≤◌, ◌+◌, length, slice_range, IfOk, OnOk, OnErr, IfErr};
 ghost use Rattle.tmem_disk.specs.Disk.{Elapses, IsSynced, ReadsAs, overwritten};
 ghost use Rattle.tmem_gate.specs.Calls.{Uses, LooksOnly, WritesWithin};
 
-use std::alloc::Global;
 use tmem_disk::{DeviceFault, Disk, Fault};
 
 /// Fills a buffer with the bytes from a place on. `Device` where the read failed.
@@ -21,22 +20,16 @@ pub fn read<D: Disk>(disk: &mut D, at: u64, into: &mut [u8]) -> Result<(), Fault
     }
 }
 
-/// So many bytes from a place on, by one read. `Memory`, and `Device` where the read failed.
-pub fn read_piece<D: Disk>(
-    alloc: Global,
-    disk: &mut D,
-    at: u64,
-    len: usize,
-) -> Result<Vec<u8>, Fault>
-    requires { at + len ≤ (D.view disk.old).capacity }
+/// Fills a list of bytes with those from a place on, by one read, and hands it back. `Device` where the read failed.
+pub fn read_piece<D: Disk>(disk: &mut D, at: u64, mut piece: Vec<u8>) -> Result<Vec<u8>, Fault>
+    requires { at + length piece.items ≤ (D.view disk.old).capacity }
     ensures uses { Uses (D.view disk.old) (D.view disk.new) result }
     ensures looks { LooksOnly (D.view disk.old) (D.view disk.new) }
-    ensures length { IfOk result (λ piece. length piece.items ≡ len) }
-    ensures bytes { (D.view disk.new).keeps_model → IfOk result (λ piece. piece.items ≡ slice_range (D.view disk.old).seen at (at + len)) }
-    ensures err { IfErr result (λ f. (f ≡ Fault.Memory) ⊎ (f ≡ Fault.Device)) }
-    ensures read_failed { IsErrOf result Fault.Device → (D.view disk.new).last_fault ≡ Some DeviceFault.Read }
+    ensures length { IfOk result (λ filled. length filled.items ≡ length piece.items) }
+    ensures bytes { (D.view disk.new).keeps_model → IfOk result (λ filled. filled.items ≡ slice_range (D.view disk.old).seen at (at + length piece.items)) }
+    ensures err { IfErr result (λ f. f ≡ Fault.Device) }
+    ensures last { OnErr result ((D.view disk.new).last_fault ≡ Some DeviceFault.Read) }
 {
-    let mut piece = vec![in alloc; 0; len]?;
     read(disk, at, &mut piece)?;
     Ok(piece)
 }

@@ -1,20 +1,24 @@
 -- What a crash leaves of the spare copy, while an image is written to it.
-use Rattle.std.proofs.Common.{◌≡◌, ◌⊎◌, inl, inr, ⊎_elim, ℕ, ◌+◌, ◌-◌, ◌≤◌, List, ◌++◌, length, take, drop, sym, ◌∙◌, ap, subst, arith, append_assoc, length-append}
-use Rattle.std.specs.Prelude.{Ok, Err, slice_range}
-use Rattle.std.proofs.lemmas.List.{take_at, drop_at, length-take-le}
-use Rattle.tmem_disk.specs.Disk.{DeviceView, IsDevice, overwritten, LeavesOnly, LeavesEach, AtEachMoment, Elapses, Rewritten, SameOutside, SameSeenOutside, IsSynced, ReadsAs}
+use Rattle.std.proofs.Common.{◌≡◌, ◌⊎◌, inl, inr, ⊎_elim, ℕ, ℤ, ◌+◌, ◌-◌, ◌*◌, ◌≤◌, List, ◌++◌, length, take, drop, refl, sym, ◌∙◌, ap, subst, arith, append_assoc}
+use Rattle.std.specs.Prelude.{Result, Ok, Err, IfErr, slice_range}
+use Rattle.tmem_disk.specs.Disk.{DeviceView, IsDevice, overwritten, ReadsAs, LeavesOnly, Elapses, Rewritten, SameOutside}
 use Rattle.tmem_disk.specs.declared.fault.Fault.{Fault}
 use Rattle.tmem_disk.specs.declared.fault.Fault.TheVariants.{Device, Unknown}
-use Rattle.tmem_disk.proofs.Laws.{SameOutside-refl, SameOutside-trans, SameOutside-wider, LeavesOnly-moment, LeavesOnly-each, AtEachMoment-more, AtEachMoment-elapsed, Elapses-more, Elapses-trans}
-use Rattle.tmem_gate.specs.Gate.{IsOpenAt, StandsClosed, HasBody, IsOpenOver, IsClosedOver}
+use Rattle.tmem_disk.proofs.Laws.{SameOutside-refl, SameOutside-trans, SameOutside-wider, slice_range-after, slice_range-overwritten, LeavesOnly-moment, AtEachMoment-more, AtEachMoment-elapsed, AtEachMoment-trans, Elapses-more, either_time}
+use Rattle.tmem_gate.specs.Gate.{IsOpenAt, IsClosed, StandsClosed, HasBody}
 use Rattle.tmem_gate.specs.Calls.{LooksOnly, WritesWithin, MadeBy}
-use Rattle.tmem_gate.proofs.Laws.{body_behind, whole_after, closed_before, looks}
+use Rattle.tmem_gate.specs.Cells.{LeftClosed, LeftOpen}
+use Rattle.tmem_gate.specs.Changes.{Outcome, IsMade, NotMade, InDoubt, NotBegun, outcome_of, Becomes, Meanwhile, Puts}
+use Rattle.tmem_gate.proofs.Laws.{gate_cases, whole_after, closed_before, by_look, WritesWithin-wider, WritesWithin-trans}
 use Rattle.tmem_record.specs.Stale.{IsStale}
 use Rattle.tmem_record.specs.State.{State}
-use Rattle.tmem_record.specs.Layout.{image_place, image_size}
+use Rattle.tmem_record.specs.Layout.{pages_of, image_place, image_size}
+use Rattle.tmem_record.proofs.Laws.{both_parts}
+use Rattle.tmem_record.specs.Names.{AreRegistered}
+use Rattle.tmem_image.proofs.Lengths.{length-header_body, length-pages_body}
 use Rattle.tmem_image.specs.Spelling.{header_body, pages_body, image_body, IsImage}
 use Rattle.tmem_image.specs.Image.{IsGeneration}
-use Rattle.tmem_image.specs.Spare.{Placed, Left, Without, With, Either, Puts, Meanwhile, AwaitsGate}
+use Rattle.tmem_image.specs.Spare.{Placed, IsSettled, Left, Spares, Without, With}
 
 -- an open gate that is written over leaves the cell as stale as it was
 stale_kept : (at generation : ℕ) (b c : List ℕ) → IsOpenAt at b → SameOutside at 1 b c → IsStale generation at b → IsStale generation at c
@@ -23,173 +27,223 @@ stale_kept at generation b c opened same stale = ⊎_elim (λ closed. absurd (cl
 Left-refl : (at n : ℕ) (c : List ℕ) → Left at n c c
 Left-refl at n c = record { elsewhere = SameOutside-refl at n c; stale = λ generation stale. stale }
 
--- while an open gate is closed
-module _ (old mid : DeviceView) (at : ℕ) (device : IsDevice old) (synced : IsSynced old) (model : mid.keeps_model → old.keeps_model) (stop : LeavesEach mid old.may_leave) (opened : mid.keeps_model → IsOpenAt at old.seen) (looked : Elapses old mid mid.may_leave) where
-  shut_made : mid.keeps_model → (c : List ℕ) → Rewritten at 1 mid c → MadeBy (Left at 1) old c
-  shut_made k c from =
-      let left = (stop k from.0).0 from.1 in
-      let is = synced (model k) from.0 left in
-      (from.0, left, record { elsewhere = from.2; stale = λ generation. stale_kept at generation from.0 c (subst (IsOpenAt at) (sym is) (opened k)) from.2 })
+-- a gate is closed that reads open
+module _ (old shut : DeviceView) (at : ℕ) (device : IsDevice old) (settled : IsSettled at old) (model : shut.keeps_model → old.keeps_model) (within : WritesWithin at 1 old shut) (idle : IsClosed at old.seen → LooksOnly old shut) where
+  shut_made : old.keeps_model → IsOpenAt at old.seen → (c : List ℕ) → Rewritten at 1 old c → MadeBy (Left at 1) old c
+  shut_made k opened c from = (from.0, from.1, record { elsewhere = from.2; stale = λ generation. stale_kept at generation from.0 c (settled.each k from.0 from.1 ∙ opened) from.2 })
 
-  as_before : mid.keeps_model → (c : List ℕ) → mid.may_leave c → MadeBy (Left at 1) old c
-  as_before k c left = (c, (stop k c).0 left, Left-refl at 1 c)
+  as_before : (c : List ℕ) → old.may_leave c → MadeBy (Left at 1) old c
+  as_before c left = (c, left, Left-refl at 1 c)
 
-  at_first : LeavesOnly old (MadeBy (Left at 1) old)
-  at_first = record { each = λ k c left. (c, left, Left-refl at 1 c) }
+  shut_time : Elapses old shut (MadeBy (Left at 1) old)
+  shut_time = ⊎_elim
+      (λ opened. Elapses-more old shut _ _ within.time (λ k. shut_made (model k) opened))
+      (λ closed. Elapses-more old shut _ _ (idle closed).time (λ k. as_before))
+      (gate_cases at old.seen)
 
-  module _ (new : DeviceView) (model_now : new.keeps_model → mid.keeps_model) (closing : Elapses mid new (Rewritten at 1 mid)) where
-    shut_time : Elapses old new (MadeBy (Left at 1) old)
-    shut_time = Elapses-trans old mid new _ model_now (Elapses-more old mid _ _ looked as_before) (Elapses-more mid new _ _ closing (λ k c from. shut_made (model_now k) c from))
+  pub while_shut : Spares at 1 old shut
+  while_shut = record { within = within; during = AtEachMoment-elapsed old shut _ _ device model shut_time (record { each = λ k. as_before }) (λ k c it. it) }
 
-    pub while_shut : AtEachMoment old new (MadeBy (Left at 1) old)
-    while_shut = AtEachMoment-elapsed old new _ _ device (λ k. model (model_now k)) shut_time at_first (λ k c made. made)
+module _ (at n : ℕ) (old mid : DeviceView) (device : IsDevice mid) (spares : Spares at n old mid) where
+  spared_now : LeavesOnly mid (MadeBy (Left at n) old)
+  spared_now = LeavesOnly-moment old mid _ device spares.within.time.later spares.during
 
-    -- and synced
-    pub while_synced : (then : DeviceView) → (then.keeps_model → new.keeps_model) → IsDevice new → AtEachMoment mid new (Rewritten at 1 mid) → LooksOnly new then → AtEachMoment old then (MadeBy (Left at 1) old)
-    while_synced then model_then device_now during looks =
-        let left = LeavesOnly-moment mid new _ device_now closing.later during in
-        let made : then.keeps_model → (c : List ℕ) → new.may_leave c → MadeBy (Left at 1) old c = λ k c may. shut_made (model_now (model_then k)) c (left.each (model_then k) c may) in
-        AtEachMoment-elapsed old then _ _ device (λ k. model (model_now (model_then k)))
-        (Elapses-trans old new then _ model_then shut_time (Elapses-more new then _ _ looks.time made)) at_first (λ k c it. it)
+  -- and a call follows that writes nothing
+  pub Spares-look : (new : DeviceView) → (new.keeps_model → mid.keeps_model) → LooksOnly mid new → Spares at n old new
+  Spares-look new model looks = record {
+    within = WritesWithin-trans at n old mid new model spares.within (by_look at n mid new device model looks);
+    during = AtEachMoment-trans old mid new _ _ model spares.within.time.later spares.during looks.time (λ k. spared_now.each (model k));
+  }
 
--- the bytes of a header and of the pages behind it, which were written first
-pub body_is : (a n : ℕ) (header pages old between new : List ℕ) → n ≡ a + length header → n + length pages ≤ length old → between ≡ overwritten old n pages → new ≡ overwritten between a header → slice_range new a (a + length (header ++ pages)) ≡ header ++ pages
-body_is a n header pages old between new place room first second =
-    let rest : List ℕ = drop (n + length pages) old in
-    let long : length (header ++ pages) ≡ a + length (header ++ pages) - a = omega arith in
-    let front : length (take n old) ≡ n = length-take-le n old (omega (arith, room)) in
-    let whole : length between ≡ n + (length pages + length rest) = ap length (first ∙ append_assoc (take n old) pages rest) ∙ length-append (take n old) (pages ++ rest) ∙ omega (arith, front, length-append pages rest) in
-    let short : length (take a between) ≡ a = length-take-le a between (omega (arith, whole, place)) in
-    let behind : drop (a + length header) between ≡ pages ++ rest =
-    ap (λ (k : ℕ). drop k between) (sym place) ∙ ap (drop n) (first ∙ append_assoc (take n old) pages rest) ∙ drop_at (take n old) (pages ++ rest) n front in
-    let all : drop a new ≡ (header ++ pages) ++ rest =
-    ap (drop a) (second ∙ append_assoc (take a between) header (drop (a + length header) between)) ∙ drop_at (take a between) (header ++ drop (a + length header) between) a short
-    ∙ ap (λ (l : List ℕ). header ++ l) behind ∙ sym (append_assoc header pages rest) in
-    ap (take (a + length (header ++ pages) - a)) all ∙ take_at (header ++ pages) rest (a + length (header ++ pages) - a) long
-
-pub parts_of_image : (vars generation : ℕ) (s : State) → header_body generation s ++ pages_body vars s.values ≡ image_body vars generation s
-unfolding header_body image_body
-parts_of_image vars generation s = simp append_assoc
-
--- closed over the whole image, once it is synced
-pub closed_over : (at : ℕ) (header body : List ℕ) (d : DeviceView) → IsSynced d → (d.keeps_model → HasBody at body d.seen) → LeavesOnly d (IsClosedOver at header) → LeavesOnly d (IsClosedOver at body)
-closed_over at header body d synced has stands = record {
-  each = λ k c left. record { gate = (stands.each k c left).gate; body = subst (HasBody at body) (sym (synced k c left)) (has k) };
-}
-
--- once the write of the gate alone has failed behind that
-pub awaits : (p : Placed) (at : ℕ) (old filled new : DeviceView) → at ≡ image_place p.vars p.copy → LeavesOnly filled (IsClosedOver at (image_body p.vars p.generation p.state)) → IsDevice filled → (new.keeps_model → filled.keeps_model)
-    → SameSeenOutside at 1 filled new → SameSeenOutside (image_place p.vars p.copy) (image_size p.vars) old new → AwaitsGate p old new
-awaits p at old filled new same stands device model seen elsewhere =
-    let body = image_body p.vars p.generation p.state in
-    record {
-      body = λ k. subst (λ (place : ℕ). HasBody place body new.seen) same (body_behind at (length body) filled.seen new.seen (seen k) ∙ (stands.each (model k) filled.seen (device.seen_may_stay (model k))).body);
-      elsewhere = elsewhere;
-    }
-
--- while the copy is written, of n bytes from its gate on
-module _ (old shut : DeviceView) (at n : ℕ) (some : 1 ≤ n) (device : IsDevice shut) (shutting : AtEachMoment old shut (MadeBy (Left at 1) old)) (time : Elapses old shut (Rewritten at 1 old)) where
-  wider : (c : List ℕ) → MadeBy (Left at 1) old c → MadeBy (Left at n) old c
-  wider c from = (from.0, from.1, record { elsewhere = SameOutside-wider at 1 at n from.0 c (omega arith) (omega arith) from.2.elsewhere; stale = from.2.stale })
-
-  pub while_shutting : AtEachMoment old shut (MadeBy (Left at n) old)
-  while_shutting = AtEachMoment-more old shut _ _ shutting (λ k c from. wider c from)
-
-  pub once_shut : LeavesOnly shut (MadeBy (Left at n) old)
-  once_shut = LeavesOnly-moment old shut _ device time.later while_shutting
-
-  module _ (filled : DeviceView) (closed : StandsClosed at shut) (writes : WritesWithin (at + 1) (n - 1) shut filled) (model : filled.keeps_model → shut.keeps_model) where
-    fill_made : shut.keeps_model → (c : List ℕ) → Rewritten (at + 1) (n - 1) shut c → MadeBy (Left at n) old c
-    fill_made k c from =
-        let before = once_shut.each k from.0 from.1 in
+  -- or one that writes behind the gate, which stands closed
+  module _ (paged : DeviceView) (some : 1 ≤ n) (closed : StandsClosed at mid) (writes : WritesWithin (at + 1) (n - 1) mid paged) (model : paged.keeps_model → mid.keeps_model) where
+    page_made : mid.keeps_model → (c : List ℕ) → Rewritten (at + 1) (n - 1) mid c → MadeBy (Left at n) old c
+    page_made k c from =
+        let before = spared_now.each k from.0 from.1 in
         let gate = closed_before (at + 1) (n - 1) at from.0 c from.2 (omega arith) (closed.each k from.0 from.1) in (
           before.0,
           before.1,
           record {
-            elsewhere = SameOutside-trans at n before.0 from.0 c before.2.elsewhere (SameOutside-wider (at + 1) (n - 1) at n from.0 c (omega arith) (omega arith) from.2);
+            elsewhere = SameOutside-trans at n before.0 from.0 c before.2.elsewhere (SameOutside-wider (at + 1) (n - 1) at n from.0 c (omega arith) (omega (arith, some)) from.2);
             stale = λ generation stale. inl gate;
           },
         )
 
-    pub while_filled : AtEachMoment old filled (MadeBy (Left at n) old)
-    while_filled = record {
-      each = λ k c left. ⊎_elim (λ was. while_shutting.each (model k) c was) (λ from. fill_made (model k) c from) (writes.time.nothing_else k old.moment c (time.later (model k)) left);
+    Spares-paged : Spares at n old paged
+    Spares-paged = record {
+      within = WritesWithin-trans at n old mid paged model spares.within (WritesWithin-wider (at + 1) (n - 1) at n (omega arith) (omega (arith, some)) mid paged writes);
+      during = AtEachMoment-trans old mid paged _ _ model spares.within.time.later spares.during writes.time (λ k. page_made (model k));
     }
 
-    pub once_filled : LeavesOnly filled (MadeBy (Left at n) old)
-    once_filled = record { each = λ k c left. fill_made (model k) c (writes.stop.each k c left) }
+    still_closed : StandsClosed at paged
+    still_closed = record { each = λ k c left. let from = writes.stop.each k c left in closed_before (at + 1) (n - 1) at from.0 c from.2 (omega arith) (closed.each (model k) from.0 from.1) }
 
-    later_filled : filled.keeps_model → old.moment ≤ filled.moment
-    later_filled k = omega (arith, time.later (model k), writes.time.later k)
+-- over a wider range
+Spares-wider : (at n : ℕ) (old new : DeviceView) → 1 ≤ n → Spares at 1 old new → Spares at n old new
+Spares-wider at n old new some spares = record {
+  within = WritesWithin-wider at 1 at n (omega arith) (omega (arith, some)) old new spares.within;
+  during = AtEachMoment-more old new _ _ spares.during (λ k c from. (from.0, from.1, record { elsewhere = SameOutside-wider at 1 at n from.0 c (omega arith) (omega (arith, some)) from.2.elsewhere; stale = from.2.stale }));
+}
 
-    module _ (new : DeviceView) (body : List ℕ) (size : 1 + length body ≡ n) (stands : LeavesOnly filled (IsClosedOver at body)) (device_now : IsDevice new) (model_now : new.keeps_model → filled.keeps_model) (opening : Elapses filled new (Rewritten at 1 filled)) (during : AtEachMoment filled new (Rewritten at 1 filled)) where
-      -- as stale as it was, or open over the body
-      abbrev Whole : List ℕ → List ℕ → Type 0
-      Whole b c = Left at n b c ⊎ (SameOutside at n b c × IsOpenOver at body c)
+-- the copy of an image once its gate is closed, and then once its pages are written too
+module _ (p : Placed) (at : ℕ) (place : at ≡ image_place p.vars p.copy) (old mid : DeviceView) (spares : Spares at 1 old mid) where
+  pub once_shut : Spares (image_place p.vars p.copy) (image_size p.vars) old mid
+  once_shut = subst (λ (k : ℕ). Spares k (image_size p.vars) old mid) place (Spares-wider at (image_size p.vars) old mid (omega arith) spares)
 
-      open_made : filled.keeps_model → (c : List ℕ) → Rewritten at 1 filled c → MadeBy Whole old c
-      open_made k c from =
-          let before = once_filled.each k from.0 from.1 in
-          let same = SameOutside-trans at n before.0 from.0 c before.2.elsewhere (SameOutside-wider at 1 at n from.0 c (omega arith) (omega arith) from.2) in (
-            before.0,
-            before.1,
-            ⊎_elim
-                (λ gate. inl (record { elsewhere = same; stale = λ generation stale. inl gate }))
-                (λ over. inr (same, over))
-                (whole_after at body from.0 c (stands.each k from.0 from.1).body from.2),
-          )
+  module _ (paged : DeviceView) (device : IsDevice mid) (closed : StandsClosed at mid) (writes : WritesWithin (at + 2048) (512 * pages_of p.vars) mid paged) (model : paged.keeps_model → mid.keeps_model) where
+    behind : WritesWithin (at + 1) (image_size p.vars - 1) mid paged
+    behind = WritesWithin-wider (at + 2048) (512 * pages_of p.vars) (at + 1) (image_size p.vars - 1) (omega arith) (omega arith) mid paged writes
 
-      pub while_opened : AtEachMoment old new (MadeBy Whole old)
-      while_opened = record {
-        each = λ k c left. ⊎_elim
-            (λ was. let before = while_filled.each (model_now k) c was in (before.0, before.1, inl before.2))
-            (λ from. open_made (model_now k) c from)
-            (opening.nothing_else k old.moment c (later_filled (model_now k)) left);
-      }
+    pub once_paged : Spares (image_place p.vars p.copy) (image_size p.vars) old paged
+    once_paged = subst (λ (k : ℕ). Spares k (image_size p.vars) old paged) place
+        (Spares-paged at (image_size p.vars) old mid device (Spares-wider at (image_size p.vars) old mid (omega arith) spares) paged (omega arith) closed behind model)
 
-      pub once_opened : LeavesOnly new (MadeBy Whole old)
-      once_opened = record { each = λ k c left. open_made (model_now k) c ((LeavesOnly-moment filled new _ device_now opening.later during).each k c left) }
+    pub closed_once_paged : StandsClosed at paged
+    closed_once_paged = still_closed at (image_size p.vars) old mid device (Spares-wider at (image_size p.vars) old mid (omega arith) spares) paged (omega arith) closed behind model
 
-      pub once_open : LeavesOnly new (IsOpenOver at body) → LeavesOnly new (MadeBy (λ b c. SameOutside at n b c × IsOpenOver at body c) old)
-      once_open is_open = record {
-        each = λ k c left.
-            let before = (once_filled.each (model_now k)) in
-            let from = (LeavesOnly-moment filled new _ device_now opening.later during).each k c left in
-            let first = before from.0 from.1 in
-            (first.0, first.1, (SameOutside-trans at n first.0 from.0 c first.2.elsewhere (SameOutside-wider at 1 at n from.0 c (omega arith) (omega arith) from.2), is_open.each k c left));
-      }
+-- one body is made of a header behind the gate and of the pages behind that
+parts_stand : (at : ℕ) (header pages c : List ℕ) → HasBody at header c → slice_range c (at + 1 + length header) (at + 1 + length header + length pages) ≡ pages → HasBody at (header ++ pages) c
+parts_stand at header pages c first second =
+    let whole : at + 1 + length (header ++ pages) - (at + 1) ≡ length (header ++ pages) = omega arith in
+    let front : length header ≡ at + 1 + length header - (at + 1) = omega arith in
+    let behind : length pages ≡ at + 1 + length header + length pages - (at + 1 + length header) = omega arith in
+    ap (λ (n : ℕ). take n (drop (at + 1) c)) whole
+    ∙ (both_parts (at + 1) header pages c (record { is = ap (λ (n : ℕ). take n (drop (at + 1) c)) front ∙ first }) (record { is = ap (λ (n : ℕ). take n (drop (at + 1 + length header) c)) behind ∙ second })).is
 
--- the same, said of an image and its place
-module _ (p : Placed) (at : ℕ) (old new : DeviceView) (place : at ≡ image_place p.vars p.copy) where
+-- The pages of an image stand in its copy, behind the place of its header.
+pub record IsPaged (p : Placed) (header : List ℕ) (d : DeviceView) : Type 0 where
+  pub long : length header ≡ 2047
+  pub pages_long : length (pages_body p.vars p.state.values) ≡ 512 * pages_of p.vars
+  pub whole : header ++ pages_body p.vars p.state.values ≡ image_body p.vars p.generation p.state
+  pub stand : d.keeps_model → slice_range d.seen (image_place p.vars p.copy + 1 + length header) (image_place p.vars p.copy + 1 + length header + length (pages_body p.vars p.state.values)) ≡ pages_body p.vars p.state.values
+
+parts_of_image : (vars generation : ℕ) (s : State) → header_body generation s ++ pages_body vars s.values ≡ image_body vars generation s
+unfolding header_body image_body
+parts_of_image vars generation s = simp append_assoc
+
+-- once they were written there
+pub paged : (p : Placed) (at : ℕ) → at ≡ image_place p.vars p.copy → (header : List ℕ) → header ≡ header_body p.generation p.state → AreRegistered p.state.names → length p.state.values ≡ p.vars → (mid d : DeviceView) → IsDevice mid → (d.keeps_model → mid.keeps_model)
+    → at + 2048 + 512 * pages_of p.vars ≤ mid.capacity → (values : List ℤ) → values ≡ p.state.values → ReadsAs d (overwritten mid.seen (at + 2048) (pages_body p.vars values)) → IsPaged p header d
+paged p at place header is names sized mid d device model room values same written =
+    let pages = pages_body p.vars p.state.values in
+    let long : length header ≡ 2047 = ap length is ∙ length-header_body p.generation p.state names in
+    let pages_long = length-pages_body p.vars p.state.values sized in
+    let behind : image_place p.vars p.copy + 1 + length header ≡ at + 2048 = omega (arith, place, long) in
+    record {
+      long = long;
+      pages_long = pages_long;
+      whole = ap (λ (l : List ℕ). l ++ pages) is ∙ parts_of_image p.vars p.generation p.state;
+      stand = λ k. ap (λ (n : ℕ). slice_range d.seen n (n + length pages)) behind ∙ ap (λ (l : List ℕ). slice_range l (at + 2048) (at + 2048 + length pages)) (written k ∙ ap (λ (zs : List ℤ). overwritten mid.seen (at + 2048) (pages_body p.vars zs)) same)
+          ∙ slice_range-overwritten mid.seen (at + 2048) pages (omega (arith, room, pages_long, device.seen_is_whole (model k)));
+    }
+
+-- with its header the image stands there
+pub image_stands : (p : Placed) (header : List ℕ) (d : DeviceView) → IsPaged p header d → d.keeps_model → (c : List ℕ) → HasBody (image_place p.vars p.copy) header c → SameOutside (image_place p.vars p.copy) (1 + length header) d.seen c
+    → HasBody (image_place p.vars p.copy) (image_body p.vars p.generation p.state) c
+image_stands p header d it k c has same =
+    let at = image_place p.vars p.copy in
+    let pages = pages_body p.vars p.state.values in
+    subst (λ (body : List ℕ). HasBody at body c) it.whole (parts_stand at header pages c has (slice_range-after at (1 + length header) d.seen c (at + 1 + length header) (at + 1 + length header + length pages) (omega arith) same ∙ it.stand k))
+
+-- before the whole image was there
+by_then : (p : Placed) (old : DeviceView) (o : Outcome) → (o ≡ NotBegun → ⊥) → (c : List ℕ) → MadeBy (Without p) old c → Meanwhile (Without p) (With p) old o c
+by_then p old IsMade some c from = (from.0, from.1, inl from.2)
+by_then p old NotMade some c from = from
+by_then p old InDoubt some c from = (from.0, from.1, inl from.2)
+by_then p old NotBegun some c from = absurd (some refl)
+
+-- the copy is closed over its pages, and then its header is put, a cell of its own
+module _ (p : Placed) (header : List ℕ) (number : IsGeneration p.generation) (fits : IsImage p.vars p.state) (old paged new : DeviceView) (device : IsDevice paged) (spares : Spares (image_place p.vars p.copy) (image_size p.vars) old paged)
+    (is_paged : IsPaged p header paged) (o : Outcome) (begun : o ≡ NotBegun → ⊥) (model : new.keeps_model → paged.keeps_model) where
+  abbrev at : ℕ
+  at = image_place p.vars p.copy
+
   abbrev n : ℕ
   n = image_size p.vars
 
-  pub without : (b c : List ℕ) → Left at n b c → Without p b c
-  without b c left = subst (λ (k : ℕ). Left k n b c) place left
+  header_fits : at + (1 + length header) ≤ at + n
+  header_fits = omega (arith, is_paged.long)
 
-  pub with : IsGeneration p.generation → IsImage p.vars p.state → (b c : List ℕ) → SameOutside at n b c × IsOpenOver at (image_body p.vars p.generation p.state) c → With p b c
-  with number fits b c is = record {
-    elsewhere = subst (λ (k : ℕ). SameOutside k n b c) place is.0;
-    image = record { number = number; fits = fits; cell = subst (λ (k : ℕ). IsOpenOver k (image_body p.vars p.generation p.state) c) place is.1 };
+  abbrev No : List ℕ → List ℕ → Type 0
+  No = LeftClosed at (length header)
+
+  abbrev Yes : List ℕ → List ℕ → Type 0
+  Yes = LeftOpen at header paged.seen
+
+  no : (b m c : List ℕ) → Without p b m → No m c → Without p b c
+  no b m c left it = record {
+    elsewhere = SameOutside-trans at n b m c left.elsewhere (SameOutside-wider at (1 + length header) at n m c (omega arith) header_fits it.elsewhere);
+    stale = λ generation stale. inl it.gate;
   }
 
-  pub stands_err : (f : Fault) → (f ≡ Device) ⊎ (f ≡ Unknown) → LeavesOnly new (MadeBy (Left at n) old) → Puts p old new (Err f)
-  stands_err Device which left = record { each = λ k c may. let from = left.each k c may in (from.0, from.1, without from.0 c from.2) }
-  stands_err Unknown which left = record { each = λ k c may. let from = left.each k c may in (from.0, from.1, inl (without from.0 c from.2)) }
-  stands_err _ which left = absurd (⊎_elim (λ a. cc) (λ b. cc) which)
+  yes : paged.keeps_model → (b m c : List ℕ) → Without p b m → Yes m c → With p b c
+  yes k b m c left it = record {
+    elsewhere = SameOutside-trans at n b m c left.elsewhere (SameOutside-wider at (1 + length header) at n m c (omega arith) header_fits it.elsewhere);
+    image = record {
+      number = number;
+      fits = fits;
+      cell = record {
+        gate = it.cell.gate;
+        body = image_stands p header paged is_paged k c it.cell.body it.as_seen;
+      };
+    };
+  }
 
-  pub moments_err : (f : Fault) → (f ≡ Device) ⊎ (f ≡ Unknown) → AtEachMoment old new (MadeBy (Left at n) old) → AtEachMoment old new (Meanwhile p old (Err f))
-  moments_err Device which during = record { each = λ k c may. let from = during.each k c may in (from.0, from.1, without from.0 c from.2) }
-  moments_err Unknown which during = record { each = λ k c may. let from = during.each k c may in (from.0, from.1, inl (without from.0 c from.2)) }
-  moments_err _ which during = absurd (⊎_elim (λ a. cc) (λ b. cc) which)
+  before : paged.keeps_model → (c : List ℕ) → paged.may_leave c → MadeBy (Without p) old c
+  before = (spared_now at n old paged device spares).each
 
-  module _ (number : IsGeneration p.generation) (fits : IsImage p.vars p.state) where
-    pub either : (c : List ℕ) → MadeBy (λ b c. Left at n b c ⊎ (SameOutside at n b c × IsOpenOver at (image_body p.vars p.generation p.state) c)) old c → MadeBy (Either p) old c
-    either c from = (from.0, from.1, ⊎_elim (λ no. inl (without from.0 c no)) (λ yes. inr (with number fits from.0 c yes)) from.2)
+  chained : paged.keeps_model → (P : Outcome) → (P ≡ NotBegun → ⊥) → (c : List ℕ) → Becomes No Yes paged P c → Becomes (Without p) (With p) old P c
+  chained k IsMade some c from = let was = before k from.0 from.1 in (was.0, was.1, yes k was.0 from.0 c was.2 from.2)
+  chained k NotMade some c from = let was = before k from.0 from.1 in (was.0, was.1, no was.0 from.0 c was.2 from.2)
+  chained k InDoubt some c from =
+      let was = before k from.0 from.1 in
+      (was.0, was.1, ⊎_elim (λ shut_it. inl (no was.0 from.0 c was.2 shut_it)) (λ opened. inr (yes k was.0 from.0 c was.2 opened)) from.2)
+  chained k NotBegun some c from = absurd (some refl)
 
-    pub stands_ok : LeavesOnly new (MadeBy (λ b c. SameOutside at n b c × IsOpenOver at (image_body p.vars p.generation p.state) c) old) → Puts p old new (Ok tt)
-    stands_ok left = record { each = λ k c may. let from = left.each k c may in (from.0, from.1, with number fits from.0 c from.2) }
+  -- at a moment of it
+  since : paged.keeps_model → (P : Outcome) → (P ≡ NotBegun → ⊥) → (c : List ℕ) → Meanwhile No Yes paged P c → Meanwhile (Without p) (With p) old P c
+  since k IsMade some c from = chained k InDoubt (λ is. cc) c from
+  since k NotMade some c from = chained k NotMade (λ is. cc) c from
+  since k InDoubt some c from = chained k InDoubt (λ is. cc) c from
+  since k NotBegun some c from = absurd (some refl)
 
--- a call that looks, of a gate
-pub looked_at : (old new : DeviceView) → ReadsAs new old.seen → LeavesEach new old.may_leave → Elapses old new new.may_leave → LooksOnly old new
-looked_at old new seen stop time = looks old new seen (LeavesOnly-each new _ stop) time
+  pub put_last : Puts at (1 + length header) No Yes paged new o → Puts at n (Without p) (With p) old new o
+  put_last put = record {
+    elsewhere = WritesWithin-trans at n old paged new model spares.within (WritesWithin-wider at (1 + length header) at n (omega arith) header_fits paged new put.elsewhere);
+    stands = record { each = λ k c left. chained (model k) o begun c (put.stands.each k c left) };
+    any_moment = record {
+      each = λ k c left. ⊎_elim
+          (λ was. by_then p old o begun c (spares.during.each (model k) c was))
+          (λ is. since (model k) o begun c (put.any_moment.each k c is))
+          (either_time old paged new _ model spares.within.time.later put.elsewhere.time k c left);
+    };
+  }
+
+-- where a call failed then
+pub spared : (p : Placed) (old new : DeviceView) → IsDevice new → Spares (image_place p.vars p.copy) (image_size p.vars) old new → (r : Result (Unit {0}) Fault) (f : Fault) → r ≡ Err f → (f ≡ Device) ⊎ (f ≡ Unknown)
+    → Puts (image_place p.vars p.copy) (image_size p.vars) (Without p) (With p) old new (outcome_of r)
+spared p old new device spares r f is which =
+    subst (λ (o : Outcome). Puts (image_place p.vars p.copy) (image_size p.vars) (Without p) (With p) old new o) (sym (ap outcome_of is)) (⊎_elim
+    (λ e. subst (λ (g : Fault). Puts (image_place p.vars p.copy) (image_size p.vars) (Without p) (With p) old new (outcome_of (Err g))) (sym e) (record {
+      elsewhere = spares.within;
+      stands = spared_now (image_place p.vars p.copy) (image_size p.vars) old new device spares;
+      any_moment = spares.during;
+    }))
+    (λ e. subst (λ (g : Fault). Puts (image_place p.vars p.copy) (image_size p.vars) (Without p) (With p) old new (outcome_of (Err g))) (sym e) (record {
+      elsewhere = spares.within;
+      stands = record { each = λ k c left. by_then p old InDoubt (λ x. cc) c ((spared_now (image_place p.vars p.copy) (image_size p.vars) old new device spares).each k c left) };
+      any_moment = record { each = λ k c left. by_then p old InDoubt (λ x. cc) c (spares.during.each k c left) };
+    }))
+    which)
+
+-- a call that writes and syncs does not end before it begins
+pub is_begun : (r : Result (Unit {0}) Fault) → IfErr r (λ f. (f ≡ Device) ⊎ (f ≡ Unknown)) → outcome_of r ≡ NotBegun → ⊥
+is_begun (Ok x) errors is = cc
+is_begun (Err f) (inl e) is = made_not (sym (ap (λ (g : Fault). outcome_of (Err g)) e) ∙ is)
+  where
+    made_not : NotMade ≡ NotBegun → ⊥
+    made_not same = cc
+is_begun (Err f) (inr e) is = doubt_not (sym (ap (λ (g : Fault). outcome_of (Err g)) e) ∙ is)
+  where
+    doubt_not : InDoubt ≡ NotBegun → ⊥
+    doubt_not same = cc

@@ -1,5 +1,6 @@
 pub mod Framed
 pub mod Image
 pub mod Laws
+pub mod Room
 pub mod Spare
 pub mod Spelling

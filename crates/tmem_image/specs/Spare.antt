@@ -1,9 +1,7 @@
 -- What a crash leaves of the copy that an image is written to.
-use Rattle.std.specs.Prelude.{◌⊎◌, ℕ, List, Result, Ok, Err}
-use Rattle.tmem_disk.specs.Disk.{DeviceView, LeavesOnly, SameOutside, SameSeenOutside}
-use Rattle.tmem_disk.specs.declared.fault.Fault.{Fault}
-use Rattle.tmem_disk.specs.declared.fault.Fault.TheVariants.{Device, Unknown}
-use Rattle.tmem_gate.specs.Calls.{MadeBy}
+use Rattle.std.specs.Prelude.{◌≡◌, ℕ, List, slice_get}
+use Rattle.tmem_disk.specs.Disk.{DeviceView, SameOutside, SameSeenOutside, LeavesOnly, AtEachMoment}
+use Rattle.tmem_gate.specs.Calls.{MadeBy, WritesWithin}
 use Rattle.tmem_gate.specs.Gate.{HasBody}
 use Rattle.tmem_record.specs.Stale.{IsStale}
 use Rattle.tmem_record.specs.State.{State}
@@ -28,6 +26,16 @@ pub record Left (at n : ℕ) (b c : List ℕ) : Type 0 where
   pub elsewhere : SameOutside at n b c
   pub stale : (generation : ℕ) → IsStale generation at b → IsStale generation at c
 
+-- every crash leaves the gate at a place as a read gives it
+abbrev pub IsSettled : ℕ → DeviceView → Type 0
+IsSettled at d = LeavesOnly d (λ c. slice_get c at ≡ slice_get d.seen at)
+
+-- What calls do to the cell there that make it ready: nothing outside the n bytes is written, and a crash at each moment of them
+-- leaves the cell as stale as it was.
+pub record Spares (at n : ℕ) (old new : DeviceView) : Type 0 where
+  pub within : WritesWithin at n old new
+  pub during : AtEachMoment old new (MadeBy (Left at n) old)
+
 -- nothing outside the copy changes, and the copy is as stale as it was
 abbrev pub Without : Placed → List ℕ → List ℕ → Type 0
 Without p b c = Left (image_place p.vars p.copy) (image_size p.vars) b c
@@ -36,22 +44,6 @@ Without p b c = Left (image_place p.vars p.copy) (image_size p.vars) b c
 pub record With (p : Placed) (b c : List ℕ) : Type 0 where
   pub elsewhere : SameOutside (image_place p.vars p.copy) (image_size p.vars) b c
   pub image : HoldsImage p.vars p.copy p.generation p.state c
-
-abbrev pub Either : Placed → List ℕ → List ℕ → Type 0
-Either p b c = Without p b c ⊎ With p b c
-
--- What a crash leaves after the image was written: at Ok the copy holds it; where a read, or a write of anything but the
--- gate that opens it failed, the copy is as stale as it was; where a sync or the write of that gate failed, either.
-abbrev pub Puts : Placed → DeviceView → DeviceView → Result (Unit {0}) Fault → Type 0
-Puts p old new (Ok _) = LeavesOnly new (MadeBy (With p) old)
-Puts p old new (Err Device) = LeavesOnly new (MadeBy (Without p) old)
-Puts p old new (Err Unknown) = LeavesOnly new (MadeBy (Either p) old)
-Puts p old new (Err _) = ⊥
-
--- while it is written
-abbrev pub Meanwhile : Placed → DeviceView → Result (Unit {0}) Fault → List ℕ → Type 0
-Meanwhile p old (Err Device) = MadeBy (Without p) old
-Meanwhile p old _ = MadeBy (Either p) old
 
 -- Where the write of the gate that opens the image failed: the whole image stands behind that gate, and a read gives outside
 -- the copy what it gave before.

@@ -5,9 +5,10 @@ ghost use Rattle.tmem_record.specs.State.{State as StateOf};
 ghost use Rattle.tmem_record.specs.Layout.{image_place, end_place};
 ghost use Rattle.tmem_image.specs.Spelling.{IsImage};
 ghost use Rattle.tmem_image.specs.Image.{IsGeneration, HoldsImage, ChoosesCopy, HasHead};
+ghost use Rattle.tmem_image.specs.Room.{IsImageRoom};
 
 use crate::reading::{ImageState, read_image};
-use std::alloc::Global;
+use crate::room::ImageRoom;
 use tmem_disk::{DeviceFault, Disk, Fault};
 use tmem_gate::device::{read, read_piece};
 use tmem_gate::reads_open;
@@ -34,16 +35,17 @@ pub fn choose<D: Disk>(disk: &mut D, layout: Layout) -> Result<u8, Fault>
     greater(first, second).ok_or(Fault::Damaged)
 }
 
-/// Reads the image of a copy, by one read. `Damaged` where the copy holds none; `Memory`; and `Device` where the read
-/// failed.
+/// Reads the image of a copy, by one read, into the room that is given. `Damaged` where the copy holds none; and `Device`
+/// where the read failed. It takes no memory.
 pub fn load<D: Disk>(
-    alloc: Global,
     disk: &mut D,
     layout: Layout,
     copy: u8,
+    room: ImageRoom,
 ) -> Result<ImageState, Fault>
-    requires room { end_place layout.vars layout.slots ≤ (D.view disk.old).capacity }
+    requires fits { end_place layout.vars layout.slots ≤ (D.view disk.old).capacity }
     requires one { copy ≤ 1 }
+    requires room { IsImageRoom layout.vars room }
     ensures uses { Uses (D.view disk.old) (D.view disk.new) result }
     ensures looks { LooksOnly (D.view disk.old) (D.view disk.new) }
     ensures number { IfOk result (λ image. IsGeneration image.generation) }
@@ -53,12 +55,16 @@ pub fn load<D: Disk>(
     ensures refused { IfErr result (IsWhyNone ((D.view disk.new).keeps_model → (generation : ℕ) (s : StateOf) →
         HoldsImage layout.vars copy generation s (D.view disk.old).seen → ⊥)) }
 {
-    let size = layout.image_size() as usize;
-    let bytes = read_piece(alloc, disk, layout.image(copy), size)?;
+    let ImageRoom {
+        bytes,
+        names,
+        values,
+    } = room;
+    let bytes = read_piece(disk, layout.image(copy), bytes)?;
     if !reads_open(&bytes, 0) {
         return Err(Fault::Damaged);
     }
-    read_image(alloc, &bytes[1..], layout.vars)?.ok_or(Fault::Damaged)
+    read_image(&bytes[1..], layout.vars, names, values).ok_or(Fault::Damaged)
 }
 
 // The generation of the cell at a place, where it is open.

@@ -7,11 +7,13 @@
 
 mod choosing;
 mod reading;
+mod room;
 mod spare;
 mod spelling;
 mod unique;
 
 pub use choosing::{choose, load};
 pub use reading::ImageState;
+pub use room::ImageRoom;
 pub use spare::write_spare;
 pub use unique::{one_choice, one_image};

@@ -1,5 +1,6 @@
 // An image, from its bytes.
-ghost use Rattle.std.specs.Prelude.{◌≡◌, ◌≤◌, ◌+◌, ◌*◌, ◌↔◌, ℕ, List, length, IfOk, IfSome, IfNone, IsTrue};
+ghost use Rattle.std.specs.Bool.{OnTrue, OnFalse};
+ghost use Rattle.std.specs.Prelude.{◌≡◌, ◌≤◌, ◌+◌, ◌*◌, ◌↔◌, ℕ, List, [], length, vec_capacity, IfSome, IfNone, IsTrue};
 ghost use Rattle.tmem_record.specs.Names.{AreRegistered};
 ghost use Rattle.tmem_record.specs.State.{State as StateOf};
 ghost use Rattle.tmem_record.specs.StandsAt.{StandsAt, values_bytes};
@@ -8,7 +9,6 @@ ghost use Rattle.tmem_image.specs.Spelling.{names_body, image_body, AreValues, I
 ghost use Rattle.tmem_image.specs.Image.{IsGeneration};
 ghost use Rattle.tmem_image.specs.Framed.{IsPadded};
 
-use std::alloc::{AllocError, Global};
 use tmem_record::bytes::{is_blank, is_zero, number_at, value_at};
 use tmem_record::{NameSet, State, read_name_set};
 
@@ -36,61 +36,63 @@ fn is_padded(bytes: &[u8], vars: u16) -> bool
     is_blank(bytes, end, bytes.len() - end)
 }
 
-// The names of an image, from their number on to the end of the header.
-fn read_names(alloc: Global, bytes: &[u8]) -> Result<Option<NameSet>, AllocError>
-    requires { length bytes.now ≡ 2031 }
-    ensures are_registered { IfOk result (λ found. IfSome found AreRegistered) }
-    ensures found { IfOk result (λ found. IfSome found (λ names. bytes.now ≡ names_body names)) }
-    ensures none { IfOk result (λ found. IfNone found ((ns : List (List ℕ)) → AreRegistered ns → bytes.now ≡ names_body ns → ⊥)) }
+// Reads the names of an image, from their number on to the end of the header, into an empty set, and answers whether they
+// stand there.
+fn read_names(bytes: &[u8], names: &mut NameSet) -> bool
+    requires long { length bytes.now ≡ 2031 }
+    requires empty { names.old ≡ [] }
+    ensures found { OnTrue result (bytes.now ≡ names_body names.new) }
+    ensures are_registered { OnTrue result (AreRegistered names.new) }
+    ensures none { OnFalse result ((ns : List (List ℕ)) → AreRegistered ns → bytes.now ≡ names_body ns → ⊥) }
 {
-    let mut names = NameSet::new(alloc)?;
-    let Some(rest) = read_name_set(bytes, &mut names) else {
-        return Ok(None);
+    let Some(rest) = read_name_set(bytes, names) else {
+        return false;
     };
-    if !is_zero(rest) {
-        return Ok(None);
-    }
-    Ok(Some(names))
+    is_zero(rest)
 }
 
-// The values that stand from a place on.
-fn values_at(alloc: Global, bytes: &[u8], from: usize, count: u16) -> Result<Vec<i64>, AllocError>
-    requires { from + 8 * count ≤ length bytes.now }
-    ensures length { IfOk result (λ values. length values.items ≡ count) }
-    ensures fits { IfOk result (λ values. AreValues values.items) }
-    ensures values { IfOk result (λ values. StandsAt from (values_bytes values.items) bytes.now) }
+// Reads the values that stand from a place on, into an empty list that has room for them.
+fn read_values(bytes: &[u8], from: usize, count: u16, values: &mut Vec<i64>)
+    requires there { from + 8 * count ≤ length bytes.now }
+    requires empty { values.old.items ≡ [] }
+    requires room { count ≤ vec_capacity values.old }
+    ensures length { length values.new.items ≡ count }
+    ensures fits { AreValues values.new.items }
+    ensures values { StandsAt from (values_bytes values.new.items) bytes.now }
 {
-    let mut values = Vec::new(alloc);
     for k in 0..count {
-        values.push(value_at(bytes, from + 8 * k as usize))?;
+        values.push(value_at(bytes, from + 8 * k as usize)).unwrap();
     }
-    Ok(values)
 }
 
-/// Reads an image from all of the bytes behind its gate.
+/// Reads an image from all of the bytes behind its gate, into an empty set of names and an empty list of values with room.
 pub(crate) fn read_image(
-    alloc: Global,
     bytes: &[u8],
     vars: u16,
-) -> Result<Option<ImageState>, AllocError>
-    requires { length bytes.now + 1 ≡ image_size vars }
-    ensures number { IfOk result (λ found. IfSome found (λ image. IsGeneration image.generation)) }
-    ensures fits { IfOk result (λ found. IfSome found (λ image. IsImage vars image.state)) }
-    ensures found { IfOk result (λ found. IfSome found (λ image. bytes.now ≡ image_body vars image.generation image.state)) }
-    ensures none { IfOk result (λ found. IfNone found ((generation : ℕ) (s : StateOf) → IsGeneration generation → IsImage vars s → bytes.now ≡ image_body vars generation s → ⊥)) }
+    mut names: NameSet,
+    mut values: Vec<i64>,
+) -> Option<ImageState>
+    requires long { length bytes.now + 1 ≡ image_size vars }
+    requires no_names { names ≡ [] }
+    requires no_values { values.items ≡ [] }
+    requires room { vars ≤ vec_capacity values }
+    ensures number { IfSome result (λ image. IsGeneration image.generation) }
+    ensures fits { IfSome result (λ image. IsImage vars image.state) }
+    ensures found { IfSome result (λ image. bytes.now ≡ image_body vars image.generation image.state) }
+    ensures none { IfNone result ((generation : ℕ) (s : StateOf) → IsGeneration generation → IsImage vars s → bytes.now ≡ image_body vars generation s → ⊥) }
 {
     if !is_padded(bytes, vars) {
-        return Ok(None);
+        return None;
     }
     let generation = number_at(bytes, 0);
     if generation == 0 {
-        return Ok(None);
+        return None;
     }
-    let Some(names) = read_names(alloc, &bytes[NAMES_AT..HEADER_ROOM])? else {
-        return Ok(None);
-    };
+    if !read_names(&bytes[NAMES_AT..HEADER_ROOM], &mut names) {
+        return None;
+    }
     let count = number_at(bytes, 8);
-    let values = values_at(alloc, bytes, HEADER_ROOM, vars)?;
+    read_values(bytes, HEADER_ROOM, vars, &mut values);
     let state = State::of(count, names, values);
-    Ok(Some(ImageState { generation, state }))
+    Some(ImageState { generation, state })
 }

@@ -1,17 +1,18 @@
 // An image, written to the copy that is not chosen.
 ghost use Rattle.std.specs.Prelude.{◌≡◌, ◌⊎◌, ◌≤◌, ◌<◌, ◌+◌, ◌-◌, ◌*◌, Some, length, take, IfErr, IfSome, IsErrOf, OnOk, OnErr};
-ghost use Rattle.tmem_disk.specs.Disk.{AtEachMoment, IsSynced, IsWriteOrSync, LeavesOnly, ReadsAs, overwritten};
-ghost use Rattle.tmem_gate.specs.Calls.{Uses, WritesWithin, IsReadOrWrite, MadeBy};
-ghost use Rattle.tmem_gate.specs.Gate.{StandsClosed, IsClosedOver};
+ghost use Rattle.tmem_disk.specs.Disk.{IsSynced, IsWriteOrSync, ReadsAs, overwritten};
+ghost use Rattle.tmem_gate.specs.Calls.{Uses, WritesWithin, IsReadOrWrite};
+ghost use Rattle.tmem_gate.specs.Changes.{Puts, outcome_of};
+ghost use Rattle.tmem_gate.specs.Gate.{StandsClosed};
 ghost use Rattle.tmem_record.specs.Layout.{pages_of, image_place, image_size, end_place};
-ghost use Rattle.tmem_image.specs.Spelling.{image_body, pages_body, AreValues, IsImage};
+ghost use Rattle.tmem_image.specs.Spelling.{pages_body, AreValues};
 ghost use Rattle.tmem_image.specs.Image.{IsGeneration};
-ghost use Rattle.tmem_image.specs.Spare.{Left, placed, Puts, Meanwhile, AwaitsGate};
+ghost use Rattle.tmem_image.specs.Spare.{IsSettled, Spares, placed, With, Without, AwaitsGate};
 
 use crate::spelling::{PAGE_SIZE, header_of, page_of};
 use tmem_disk::{DeviceFault, Disk, Fault};
 use tmem_gate::device::{sync, write};
-use tmem_gate::{close_gate, is_open, open_gate, put_body};
+use tmem_gate::{close_if_open, put_cell};
 use tmem_record::{Layout, State};
 
 // How long a header is, with its gate.
@@ -21,7 +22,8 @@ const HEADER_SIZE: u64 = 2048;
 /// pages, then the header without its gate, and syncs; opens the gate, and syncs. `Device` where a read failed, or a write
 /// of anything but the gate that is opened: no crash leaves the image. `Unknown` where a sync or the write of that gate
 /// failed: a crash leaves the image or not; where it was that write, the whole image stands behind the gate. Nothing
-/// outside the copy is written. The device is synced, and the image is of as many values as the layout has variables.
+/// outside the copy is written. Every crash leaves the gate of the copy as a read gives it, and the image is of as many values
+/// as the layout has variables.
 pub fn write_spare<D: Disk>(
     disk: &mut D,
     layout: Layout,
@@ -33,80 +35,45 @@ pub fn write_spare<D: Disk>(
     requires one { copy ≤ 1 }
     requires number { IsGeneration generation }
     requires sized { length state.now.values ≡ layout.vars }
-    requires synced { IsSynced (D.view disk.old) }
+    requires settled { IsSettled (image_place layout.vars copy) (D.view disk.old) }
     ensures uses { Uses (D.view disk.old) (D.view disk.new) result }
     ensures errors { IfErr result (λ f. (f ≡ Fault.Device) ⊎ (f ≡ Fault.Unknown)) }
     ensures call_failed { IsErrOf result Fault.Device → IfSome (D.view disk.new).last_fault IsReadOrWrite }
     ensures gate_failed { IsErrOf result Fault.Unknown → IfSome (D.view disk.new).last_fault IsWriteOrSync }
     ensures gate_write_failed { IsErrOf result Fault.Unknown → (D.view disk.new).last_fault ≡ Some DeviceFault.Write →
         AwaitsGate (placed layout copy generation state.now) (D.view disk.old) (D.view disk.new) }
-    ensures elsewhere { WritesWithin (image_place layout.vars copy) (image_size layout.vars) (D.view disk.old) (D.view disk.new) }
 
     // A crash leaves what one might have left before, with the image in that copy, or with that copy as stale as it was.
-    ensures stands { Puts (placed layout copy generation state.now) (D.view disk.old) (D.view disk.new) result }
-    ensures any_moment { AtEachMoment (D.view disk.old) (D.view disk.new)
-        (Meanwhile (placed layout copy generation state.now) (D.view disk.old) result) }
+    // Nothing outside the copy is written.
+    ensures puts { Puts (image_place layout.vars copy) (image_size layout.vars)
+        (Without (placed layout copy generation state.now)) (With (placed layout copy generation state.now))
+        (D.view disk.old) (D.view disk.new) (outcome_of result) }
     ensures durable { OnOk result (IsSynced (D.view disk.new)) }
 {
     let at = layout.image(copy);
     shut(disk, at)?;
-    fill(disk, layout, at, generation, state)?;
-    match open_gate(disk, at) {
-        Ok(()) => Ok(()),
-        Err(_) => Err(Fault::Unknown),
-    }
+    write_pages(disk, layout, at + HEADER_SIZE, state.values())?;
+    put_cell(disk, at, &header_of(generation, state))
 }
 
 // Closes the gate at a place where it reads open, and syncs then.
 fn shut<D: Disk>(disk: &mut D, at: u64) -> Result<(), Fault>
     requires place { at < (D.view disk.old).capacity }
-    requires synced { IsSynced (D.view disk.old) }
+    requires settled { IsSettled at (D.view disk.old) }
     ensures uses { Uses (D.view disk.old) (D.view disk.new) result }
     ensures errors { IfErr result (λ f. (f ≡ Fault.Device) ⊎ (f ≡ Fault.Unknown)) }
     ensures call_failed { IsErrOf result Fault.Device → IfSome (D.view disk.new).last_fault IsReadOrWrite }
     ensures sync_failed { IsErrOf result Fault.Unknown → (D.view disk.new).last_fault ≡ Some DeviceFault.Sync }
-    ensures elsewhere { WritesWithin at 1 (D.view disk.old) (D.view disk.new) }
-    ensures any_moment { AtEachMoment (D.view disk.old) (D.view disk.new) (MadeBy (Left at 1) (D.view disk.old)) }
+    ensures spares { Spares at 1 (D.view disk.old) (D.view disk.new) }
     ensures closed { OnOk result (StandsClosed at (D.view disk.new)) }
 {
-    match is_open(disk, at) {
+    match close_if_open(disk, at) {
         Ok(false) => return Ok(()),
         Ok(true) => {}
         Err(_) => return Err(Fault::Device),
     }
-    match close_gate(disk, at) {
-        Ok(()) => {}
-        Err(_) => return Err(Fault::Device),
-    }
     match sync(disk) {
         Ok(()) => Ok(()),
-        Err(_) => Err(Fault::Unknown),
-    }
-}
-
-// Writes an image behind a gate that stands closed, and syncs.
-fn fill<D: Disk>(
-    disk: &mut D,
-    layout: Layout,
-    at: u64,
-    generation: u64,
-    state: &State,
-) -> Result<(), Fault>
-    requires room { at + image_size layout.vars ≤ (D.view disk.old).capacity }
-    requires sized { length state.now.values ≡ layout.vars }
-    requires closed { StandsClosed at (D.view disk.old) }
-    ensures uses { Uses (D.view disk.old) (D.view disk.new) result }
-    ensures errors { IfErr result (λ f. (f ≡ Fault.Device) ⊎ (f ≡ Fault.Unknown)) }
-    ensures write_failed { IsErrOf result Fault.Device → (D.view disk.new).last_fault ≡ Some DeviceFault.Write }
-    ensures sync_failed { IsErrOf result Fault.Unknown → (D.view disk.new).last_fault ≡ Some DeviceFault.Sync }
-    ensures elsewhere { WritesWithin (at + 1) (image_size layout.vars - 1) (D.view disk.old) (D.view disk.new) }
-    ensures fits { OnOk result (IsImage layout.vars state.now) }
-    ensures stands { OnOk result (LeavesOnly (D.view disk.new) (IsClosedOver at (image_body layout.vars generation state.now))) }
-{
-    write_pages(disk, layout, at + HEADER_SIZE, state.values())?;
-    match put_body(disk, at, &header_of(generation, state)) {
-        Ok(()) => Ok(()),
-        Err(DeviceFault::Write) => Err(Fault::Device),
         Err(_) => Err(Fault::Unknown),
     }
 }

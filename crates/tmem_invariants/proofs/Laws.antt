@@ -1,5 +1,5 @@
 -- The laws of names in a table and of sound states, on which the crates above rest too.
-use Rattle.std.proofs.Common.{◌≡◌, ℕ, ◌<◌, ℤ, bit_or, length, Bool, true, false, not, cond, ◌||◌, ◌&&◌, List, [], ◌∷◌, All, Option, Some, None, is_some, find, get_or, IsTrue, refl, sym, ap, ◌∙◌}
+use Rattle.std.proofs.Common.{◌≡◌, ℕ, ◌<◌, ℤ, bit_or, length, Bool, true, false, not, cond, ◌||◌, ◌&&◌, List, [], ◌∷◌, All, Option, Some, None, find, get_or, IsTrue, refl, sym, ap, ◌∙◌}
 use Rattle.std.specs.Prelude.{slice_get}
 use Rattle.std.specs.List.{list_any}
 use Rattle.std.specs.Option.{option_map_or}
@@ -8,7 +8,7 @@ use Rattle.std.proofs.lemmas.List.Folds.{list_any_at, list_any_none}
 use Rattle.std.proofs.lemmas.Option.{slice_get-get_or}
 use Rattle.tmem_invariants.specs.Meanings.{Meanings, AllHold, DifferInWritten, IsSound, fails, first_false, holds, touched}
 use Rattle.tmem_invariants.specs.Places.{ArePlacesOf, has_place, stands_at}
-use Rattle.tmem_invariants.specs.TableNames.{first_missing, has_name, lacks, name_at}
+use Rattle.tmem_invariants.specs.TableNames.{first_missing, has_name, lacks}
 pub use Rattle.tmem_invariants.proofs.Among.{All-at_name, Contains-from_has_name, has_name-from_Contains}
 use Rattle.tmem_invariants.proofs.NamePlaces.{stands_at-none}
 use Rattle.tmem_invariants.proofs.PlaceSets.{has_place-or, has_place-zero}
@@ -42,11 +42,6 @@ holds_from_none m names registered proposed values none name there asked =
     held false is =
         let clash : true ≡ false = sym (ap (λ a. a && not (holds m values name)) asked ∙ ap not is) ∙ passed in
         cc
-
--- an answer that names no place
-pub None-from_answer : (names : List (List ℕ)) (answer : Option ℕ) (first : Option (List ℕ)) → name_at names answer ≡ first → is_some answer ≡ false → first ≡ None
-None-from_answer names None first is none = sym is
-None-from_answer names (Some place) first is none = cc
 
 -- where a table lacks none of the registered names, each is there
 pub All-there : (names registered : List (List ℕ)) → first_missing names registered ≡ None → All (λ name. IsTrue (has_name names name)) registered

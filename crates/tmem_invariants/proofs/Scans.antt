@@ -59,17 +59,9 @@ pub scan_more : {E X : Type 0} (es : List E) (f : E → X) (p : X → Bool) (i :
 scan_more es f p i e within is none fails =
     list_any-take_more p (map f es) i (f e) (slice_get-map_read es f i e within is) none fails
 
-pub scan_here : {E X : Type 0} (es : List E) (f : E → X) (p : X → Bool) (i : ℕ) (e : E) → i < length es → e ≡ get_or es i e → list_any p (take i (map f es)) ≡ false → p (f e) ≡ true → slice_get (map f es) i ≡ find p (map f es)
-scan_here es f p i e within is none passes =
-    let at : slice_get (map f es) i ≡ Some (f e) = slice_get-map_read es f i e within is in
-    at ∙ sym (find_here p (map f es) i (f e) at none passes)
-
 pub scan_none : {E X : Type 0} (es : List E) (f : E → X) (p : X → Bool) (i : ℕ) → length es ≤ i → list_any p (take i (map f es)) ≡ false → list_any p (map f es) ≡ false
 scan_none es f p i past none =
     list_any_whole p (map f es) i (simp length-map past) none
-
-pub scan_end : {E X : Type 0} (es : List E) (f : E → X) (p : X → Bool) (i : ℕ) → length es ≤ i → list_any p (take i (map f es)) ≡ false → find p (map f es) ≡ None
-scan_end es f p i past none = find_none p (map f es) (scan_none es f p i past none)
 
 -- what each of the elements so far has, and one more
 pub All-take_more : {E : Type 0} (es : List E) (P : E → Type 0) (i : ℕ) (e : E) → i < length es → e ≡ get_or es i e → All P (take i es) → P e → All P (take (i + 1) es)

@@ -14,13 +14,6 @@ pub record AreTested (held : List ℕ → Bool) (names : List (List ℕ)) (place
   pub hold : (place : ℕ) (name : List ℕ) → slice_get names place ≡ Some name → has_place places place ≡ true → has_place left place ≡ false → held name ≡ true
 
 module _ (held : List ℕ → Bool) (names : List (List ℕ)) (places : ℕ) where
-  -- at first all are left
-  pub tested-none : AreTested held names places places
-  tested-none = record {
-    within = λ place there. there;
-    hold = λ place name at there gone. let clash : true ≡ false = sym there ∙ gone in absurd (cc);
-  }
-
   module _ (left : ℕ) (so_far : AreTested held names places left) where
     -- one more holds
     pub tested-more : (place less : ℕ) → ((other : ℕ) → has_place less other ≡ (has_place left other && not (other == place))) → (name : List ℕ) → slice_get names place ≡ Some name → held name ≡ true → AreTested held names places less

@@ -1,12 +1,12 @@
 -- The index from variables to places.
-use Rattle.std.proofs.Common.{◌≡◌, ℕ, zero, suc, ◌+◌, ◌^◌, ◌<◌, ◌≤◌, ◌≢◌, ◌⊎◌, ◌==◌, ℤ, Bool, true, false, not, w64, Option, None, ◌||◌, ◌&&◌, List, [], ◌∷◌, length, take, get_or, replicate, map, bit_and, bit_or, Some, refl, sym, ap, ◌∙◌, subst, inl, inr, arith, All}
-use Rattle.std.specs.Prelude.{slice_get, slice_set}
+use Rattle.std.proofs.Common.{◌≡◌, ℕ, zero, suc, ◌+◌, ◌^◌, ◌<◌, ◌==◌, ℤ, Bool, true, false, not, w64, Option, None, ◌||◌, ◌&&◌, List, [], ◌∷◌, length, take, get_or, replicate, map, bit_and, bit_or, Some, refl, sym, ap, ◌∙◌, inl, inr, arith, All}
+use Rattle.std.specs.Prelude.{slice_get}
 use Rattle.std.specs.Option.{option_map_or}
 use Rattle.std.specs.Int.{trailing_zeros}
 use Rattle.std.specs.List.{list_any}
 use Rattle.std.proofs.lemmas.Bool.{cases_lt, eqb-true, eqb-false}
 use Rattle.std.proofs.lemmas.Bool.Decides.{nat_tests}
-use Rattle.std.proofs.lemmas.List.{get_or-take, get_or_default, get_or_past, length-replicate, get_or-replicate, get_or-set_same, get_or-set_other, length-take}
+use Rattle.std.proofs.lemmas.List.{get_or_past, length-replicate, get_or-replicate}
 use Rattle.std.proofs.lemmas.List.Elements.{All-head, All-tail}
 use Rattle.std.proofs.lemmas.List.Folds.{list_any_at, list_any_more, list_any_none}
 use Rattle.std.proofs.lemmas.Option.{get_or_from_slice_get, slice_get-get_or, slice_get_within}
@@ -27,67 +27,6 @@ touching-none vars var place = ap (λ n. has_place n place) none ∙ has_place-z
     | inl low ↦ get_or-replicate vars var 0 0 low
     | inr high ↦ get_or_past (replicate vars 0) var 0 (omega (arith, high, length-replicate {A = ℕ} vars 0))
   ]
-
--- one place more at one variable
-place_added : (index : List ℕ) (v place new : ℕ) → v < length index → ((other : ℕ) → has_place new other ≡ (has_place (get_or index v 0) other || other == place)) → (var other : ℕ) → has_place (get_or (slice_set index v new) var 0) other ≡ (has_place (get_or index var 0) other || (other == place && v == var))
-place_added index v place new within is var other = on (v == var) refl where
-  yes : (b : Bool) → (b && true) ≡ b
-  yes true = refl
-  yes false = refl
-
-  no : (a b : Bool) → (a || (b && false)) ≡ a
-  no true b = refl
-  no false true = refl
-  no false false = refl
-
-  on : (b : Bool) → (v == var) ≡ b → has_place (get_or (slice_set index v new) var 0) other ≡ (has_place (get_or index var 0) other || (other == place && b))
-  on true same =
-      let at : v ≡ var = eqb-true v var same in
-      subst (λ (k : ℕ). has_place (get_or (slice_set index v new) k 0) other ≡ (has_place (get_or index k 0) other || (other == place && true))) at
-      (ap (λ n. has_place n other) (get_or-set_same index v new 0 within) ∙ is other ∙ ap (λ b. has_place (get_or index v 0) other || b) (sym (yes (other == place))))
-  on false apart =
-      ap (λ n. has_place n other) (get_or-set_other index v var new 0 (λ same. eqb-false v var apart (sym same))) ∙ sym (no (has_place (get_or index var 0) other) (other == place))
-
--- at one more variable of a footprint
-pub place_added-more : (start index footprint : List ℕ) (i v place new : ℕ) → i < length footprint → v ≡ get_or footprint i 0 → v < length index
-    → ((other : ℕ) → has_place new other ≡ (has_place (get_or index v 0) other || other == place))
-    → ((var other : ℕ) → has_place (get_or index var 0) other ≡ (has_place (get_or start var 0) other || (other == place && has_var (take i footprint) var)))
-    → (var other : ℕ) → has_place (get_or (slice_set index v new) var 0) other ≡ (has_place (get_or start var 0) other || (other == place && has_var (take (i + 1) footprint) var))
-place_added-more start index footprint i v place new inside is within added so_far var other =
-    place_added index v place new within added var other
-    ∙ ap (λ b. b || (other == place && v == var)) (so_far var other)
-    ∙ joined (has_place (get_or start var 0) other) (other == place) (has_var (take i footprint) var) (v == var)
-    ∙ ap (λ b. has_place (get_or start var 0) other || (other == place && b)) (sym more)
-  where
-    joined : (a q h e : Bool) → ((a || (q && h)) || (q && e)) ≡ (a || (q && (h || e)))
-    joined true q h e = refl
-    joined false true h e = refl
-    joined false false h e = refl
-
-    more : has_var (take (i + 1) footprint) var ≡ (has_var (take i footprint) var || v == var)
-    more = list_any_more (λ x. x == var) footprint i 0 inside ∙ ap (λ n. has_var (take i footprint) var || n == var) (sym is)
-
--- a footprint more
-pub touching-more : (footprints : List (List ℕ)) (i : ℕ) (footprint : List ℕ) → i < length footprints → footprint ≡ get_or footprints i footprint → (var place : ℕ) → (has_var (get_or (take i footprints) place []) var || (place == i && has_var footprint var)) ≡ has_var (get_or (take (i + 1) footprints) place []) var
-touching-more footprints i footprint within is var place = on (place == i) refl (cases_lt place i) where
-  apart : (a b : Bool) → b ≡ false → (a || b) ≡ a
-  apart true b none = refl
-  apart false b none = none
-
-  on : (b : Bool) → (place == i) ≡ b → (place < i) ⊎ (i ≤ place) → (has_var (get_or (take i footprints) place []) var || (b && has_var footprint var)) ≡ has_var (get_or (take (i + 1) footprints) place []) var
-  on true same order =
-      let at : place ≡ i = eqb-true place i same in
-      let past : get_or (take i footprints) place [] ≡ [] = get_or_past (take i footprints) place [] (omega (arith, length-take i footprints, at)) in
-      let here : get_or (take (i + 1) footprints) place [] ≡ footprint = get_or-take (i + 1) footprints place [] (omega (arith, at)) ∙ ap (λ (k : ℕ). get_or footprints k []) at ∙ get_or_default footprints i [] footprint within ∙ sym is in
-      ap (λ fp. has_var fp var || has_var footprint var) past ∙ ap (λ fp. has_var fp var) (sym here)
-  on false apart_is (inl low) =
-      apart (has_var (get_or (take i footprints) place []) var) false refl
-      ∙ ap (λ fp. has_var fp var) (get_or-take i footprints place [] low ∙ sym (get_or-take (i + 1) footprints place [] (omega (arith, low))))
-  on false apart_is (inr high) =
-      let past : get_or (take i footprints) place [] ≡ [] = get_or_past (take i footprints) place [] (omega (arith, length-take i footprints, high)) in
-      let distinct : place ≢ i = eqb-false place i apart_is in
-      let past_too : get_or (take (i + 1) footprints) place [] ≡ [] = get_or_past (take (i + 1) footprints) place [] (omega (arith, length-take (i + 1) footprints, high, distinct)) in
-      apart (has_var (get_or (take i footprints) place []) var) false refl ∙ ap (λ fp. has_var fp var) (past ∙ sym past_too)
 
 -- the test by the written variables is the one by the footprint's
 any_swapped : (footprint : List ℕ) (written : List (ℕ × ℤ)) → list_any (λ (w : ℕ × ℤ). has_var footprint w.0) written ≡ has_written written footprint

@@ -7,12 +7,13 @@ use Rattle.tmem_disk.specs.Disk.{DeviceView, LeavesOnly, AtEachMoment}
 use Rattle.tmem_disk.specs.declared.fault.Fault.{Fault}
 use Rattle.tmem_disk.specs.declared.fault.Fault.TheVariants.{Memory, Device, Unknown, LogFull, NotFormatted, Damaged, Geometry}
 use Rattle.tmem_gate.specs.Calls.{MadeBy}
+use Rattle.tmem_gate.specs.Changes.{Either, Becomes, Meanwhile, outcome_of}
 use Rattle.tmem_record.specs.State.{State, fold}
 use Rattle.tmem_record.specs.Layout.{IsLayout}
-use Rattle.tmem_redolog.specs.Appends.{Placed, Without, With, Either, Appended, Meanwhile, IsAppendFault}
+use Rattle.tmem_redolog.specs.Appends.{Placed, Without, With, IsAppendFault}
 use Rattle.tmem_journal.specs.Stands.{Position, next_slot, HoldsState, StandsFor, StandsForEither}
 use Rattle.tmem_journal.specs.Calls.{doubted}
-use Rattle.tmem_journal.specs.Refusals.{IsRefusedBy, IsWhy}
+use Rattle.tmem_journal.specs.Refusals.{IsRefusedBy, IsWhyRead, IsWhy}
 use Rattle.tmem_journal.proofs.Logged.{position_at, state_without, state_with}
 use Rattle.tmem_journal.proofs.Unique.{one_state_at_most}
 use Rattle.tmem_journal.proofs.Refused.{none_where_refused}
@@ -40,7 +41,7 @@ module _ (old new : DeviceView) (p : Placed) (copy : ℕ) (s : State) (count : s
   with : old.keeps_model → (c : List ℕ) → MadeBy (With p) old c → StandsFor p.vars p.slots there (fold s p.batch) c
   with k c from = ∥∥₁_map (sure.each k from.0 from.1) (λ held. state_with p copy s count room from.0 c held from.2)
 
-  either : old.keeps_model → (t : State) → t ≡ fold s p.batch → (c : List ℕ) → MadeBy (Either p) old c → StandsForEither p.vars p.slots s t c
+  either : old.keeps_model → (t : State) → t ≡ fold s p.batch → (c : List ℕ) → MadeBy (Either (Without p) (With p)) old c → StandsForEither p.vars p.slots s t c
   either k t is c from = ∥∥₁_map (sure.each k from.0 from.1) (λ held. ⊎_elim
       (λ no. (here, inl (state_without p copy s count room from.0 c held no)))
       (λ yes. (there, inr (subst (λ (x : State). HoldsState p.vars p.slots there x c) (sym is) (state_with p copy s count room from.0 c held yes)))) from.2)
@@ -50,14 +51,14 @@ module _ (old new : DeviceView) (p : Placed) (copy : ℕ) (s : State) (count : s
   sure_ok t is left = record { each = λ k c may. subst (λ (x : State). StandsFor p.vars p.slots there x c) (sym is) (with (model k) c (left.each k c may)) }
 
   -- where the flush failed
-  pub sure_err : (t : State) (f : Fault) → IsAppendFault f → (f ≡ LogFull → ⊥) → t ≡ fold s (doubted f p.batch) → Appended p old new (Err f) → LeavesOnly new (StandsForEither p.vars p.slots s t)
+  pub sure_err : (t : State) (f : Fault) → IsAppendFault f → (f ≡ LogFull → ⊥) → t ≡ fold s (doubted f p.batch) → LeavesOnly new (Becomes (Without p) (With p) old (outcome_of (Err f))) → LeavesOnly new (StandsForEither p.vars p.slots s t)
   sure_err t LogFull which other is left = absurd (other refl)
   sure_err t Device which other is left = record { each = λ k c may. ∥∥₁_map (without (model k) c (left.each k c may)) (λ held. (here, inl held)) }
   sure_err t Unknown which other is left = record { each = λ k c may. either (model k) t is c (left.each k c may) }
-  sure_err t _ which other is left = absurd left
+  sure_err t _ which other is left = absurd (⊎_elim (λ a. cc) (λ b. ⊎_elim (λ x. cc) (λ y. cc) b) which)
 
   -- while it is made durable
-  pub moments_ok : (t t' t'' : State) → t ≡ fold s p.batch → AtEachMoment old new (MadeBy (Either p) old) → AtEachMoment old new (λ c. ∥ StandsForEither p.vars p.slots s t' c ⊎ StandsForEither p.vars p.slots t t'' c ∥₁)
+  pub moments_ok : (t t' t'' : State) → t ≡ fold s p.batch → AtEachMoment old new (MadeBy (Either (Without p) (With p)) old) → AtEachMoment old new (λ c. ∥ StandsForEither p.vars p.slots s t' c ⊎ StandsForEither p.vars p.slots t t'' c ∥₁)
   moments_ok t t' t'' is during = record {
     each = λ k c left.
         let from = during.each k c left in
@@ -66,7 +67,7 @@ module _ (old new : DeviceView) (p : Placed) (copy : ℕ) (s : State) (count : s
         (λ yes. inr ∣ (there, inl (subst (λ (x : State). HoldsState p.vars p.slots there x c) (sym is) (state_with p copy s count room from.0 c held yes))) ∣₁) from.2);
   }
 
-  pub moments_err : (t t' : State) (f : Fault) → IsAppendFault f → (f ≡ LogFull → ⊥) → t ≡ fold s (doubted f p.batch) → AtEachMoment old new (Meanwhile p old (Err f)) → AtEachMoment old new (λ c. ∥ StandsForEither p.vars p.slots s t' c ⊎ StandsForEither p.vars p.slots s t c ∥₁)
+  pub moments_err : (t t' : State) (f : Fault) → IsAppendFault f → (f ≡ LogFull → ⊥) → t ≡ fold s (doubted f p.batch) → AtEachMoment old new (Meanwhile (Without p) (With p) old (outcome_of (Err f))) → AtEachMoment old new (λ c. ∥ StandsForEither p.vars p.slots s t' c ⊎ StandsForEither p.vars p.slots s t c ∥₁)
   moments_err t t' LogFull which other is during = absurd (other refl)
   moments_err t t' Device which other is during = record { each = λ k c left. ∣ inr (∥∥₁_map (without (model k) c (during.each k c left)) (λ held. (here, inl held))) ∣₁ }
   moments_err t t' Unknown which other is during = record { each = λ k c left. ∣ inr (either (model k) t is c (during.each k c left)) ∣₁ }
@@ -84,17 +85,19 @@ pub none_refused : (vars slots : ℕ) (f : Fault) (s t : State) (c : List ℕ) �
 none_refused vars slots f s t c layout either by = ∥∥₁_elim either (hlevel props) (λ e. ⊎_elim (λ one. none_where_refused vars slots layout c f by e.0 s one) (λ two. none_where_refused vars slots layout c f by e.0 t two) e.1)
 
 -- why it was not opened then
-pub wanting : (f : Fault) (P : Fault → Type 0) → ((g : Fault) → P g → ⊥) → IsWhy P f → (f ≡ Memory) ⊎ (f ≡ Device)
-wanting Memory P none why = inl refl
+pub wanting : (f : Fault) (P : Fault → Type 0) → ((g : Fault) → P g → ⊥) → IsWhyRead P f → (f ≡ Memory) ⊎ (f ≡ Device)
 wanting Device P none why = inr refl
 wanting NotFormatted P none why = absurd (none NotFormatted why)
 wanting Damaged P none why = absurd (none Damaged why)
 wanting Geometry P none why = absurd (none Geometry why)
 wanting _ P none why = absurd why
 
+-- memory was not wanted there
+pub not_wanted : (f : Fault) (P : Fault → Type 0) → IsWhyRead P f → f ≡ Memory → ⊥
+not_wanted f P why is = subst (IsWhyRead P) is why
+
 -- why it was not opened, said under more premises
-pub why_fits : (f : Fault) (P Q : Fault → Type 0) → ((g : Fault) → P g → Q g) → IsWhy P f → IsWhy Q f
-why_fits Memory P Q more why = tt
+pub why_fits : (f : Fault) (P Q : Fault → Type 0) → ((g : Fault) → P g → Q g) → IsWhyRead P f → IsWhy Q f
 why_fits Device P Q more why = tt
 why_fits NotFormatted P Q more why = more NotFormatted why
 why_fits Damaged P Q more why = more Damaged why

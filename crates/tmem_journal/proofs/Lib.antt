@@ -1,3 +1,4 @@
+pub mod Building
 pub mod Finding
 pub mod Flushed
 pub mod FormattedStands

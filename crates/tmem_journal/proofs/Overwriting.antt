@@ -1,6 +1,6 @@
 -- What a device holds after it was written over from the front.
-use Rattle.std.proofs.Common.{◌≡◌, ◌≤◌, ◌+◌, ◌-◌, ℕ, List, [], ◌∷◌, ◌++◌, length, take, drop, replicate, refl, sym, ◌∙◌, ap, arith, append_assoc, length-append}
-use Rattle.std.proofs.lemmas.List.{take_at, drop_at, drop-drop, take-take, length-take-le, length-replicate, replicate-append-replicate}
+use Rattle.std.proofs.Common.{◌≡◌, ◌≤◌, ◌+◌, ◌-◌, ℕ, List, [], ◌++◌, length, take, drop, replicate, refl, sym, ◌∙◌, ap, arith, append_assoc, length-append}
+use Rattle.std.proofs.lemmas.List.{take_at, drop_at, drop-drop, length-replicate, replicate-append-replicate}
 use Rattle.tmem_disk.specs.Disk.{overwritten}
 
 -- a part of a list that is written over
@@ -39,17 +39,3 @@ two_parts e n m first second rest zeroed between whole long_first long_second fi
     second_is ∙ ap (λ (l : List ℕ). overwritten l n second) parted ∙ ap (λ (k : ℕ). overwritten (replicate n 0 ++ (replicate m 0 ++ tail)) k second) at
     ∙ over_part (replicate n 0) (replicate m 0) tail second (long_second ∙ sym (length-replicate m 0)) in
     first_is ∙ ap (λ (l : List ℕ). overwritten l 0 first) then ∙ over_part [] (replicate n 0) (second ++ tail) first (long_first ∙ at)
-
--- a body, and then the byte in front of it
-pub byte_in_front : (at x : ℕ) (body old between new : List ℕ) → at + 1 ≤ length old → between ≡ overwritten old (at + 1) body → new ≡ overwritten between at (x ∷ []) → new ≡ overwritten old at (x ∷ body)
-byte_in_front at x body old between new fits body_is byte_is =
-    let rest : List ℕ = drop (at + 1 + length body) old in
-    let long : length (take (at + 1) old) ≡ at + 1 = length-take-le (at + 1) old fits in
-    let parted : between ≡ take (at + 1) old ++ (body ++ rest) = body_is ∙ append_assoc (take (at + 1) old) body rest in
-    let le : at ≤ at + 1 = omega arith in
-    let front : take at between ≡ take at old =
-    sym (take-take at (at + 1) between le) ∙ ap (take at) (ap (take (at + 1)) parted ∙ take_at (take (at + 1) old) (body ++ rest) (at + 1) long) ∙ take-take at (at + 1) old le in
-    let behind : drop (at + 1) between ≡ body ++ rest = ap (drop (at + 1)) parted ∙ drop_at (take (at + 1) old) (body ++ rest) (at + 1) long in
-    let place : at + 1 + length body ≡ at + length (x ∷ body) = omega arith in
-    byte_is ∙ ap (λ (l : List ℕ). (l ++ x ∷ []) ++ drop (at + 1) between) front ∙ ap (λ (l : List ℕ). (take at old ++ x ∷ []) ++ l) behind
-    ∙ sym (append_assoc (take at old ++ x ∷ []) body rest) ∙ ap (λ (l : List ℕ). l ++ rest) (append_assoc (take at old) (x ∷ []) body) ∙ ap (λ (k : ℕ). (take at old ++ x ∷ body) ++ drop k old) place

@@ -1,7 +1,9 @@
 -- The parts of a content that were found, put together.
 use Rattle.std.proofs.Common.{◌≡◌, ◌≤◌, ℕ, List, sym, ◌∙◌, subst}
 use Rattle.tmem_disk.specs.Disk.{DeviceView, LeavesOnly, IsSynced}
+use Rattle.tmem_gate.specs.Calls.{LooksOnly}
 use Rattle.tmem_gate.specs.Gate.{IsOpenOver}
+use Rattle.tmem_gate.proofs.Laws.{LooksOnly-trans}
 use Rattle.tmem_record.specs.Layout.{image_place}
 use Rattle.tmem_record.specs.Stale.{IsStale}
 use Rattle.tmem_record.specs.State.{State}
@@ -62,6 +64,11 @@ module _ (vars slots : ℕ) (c then : List ℕ) (same : then ≡ c) where
 -- what is synced leaves what a read gives
 pub leaves_seen : {d : DeviceView} {P : List ℕ → Type 0} → IsSynced d → (d.keeps_model → P d.seen) → LeavesOnly d P
 leaves_seen {P = P} synced holds = record { each = λ k c left. subst P (sym (synced k c left)) (holds k) }
+
+-- five calls that only look
+pub looking : (a b c d e f : DeviceView) → (c.keeps_model → b.keeps_model) → (d.keeps_model → c.keeps_model) → (e.keeps_model → d.keeps_model) → (f.keeps_model → e.keeps_model)
+    → LooksOnly a b → LooksOnly b c → LooksOnly c d → LooksOnly d e → LooksOnly e f → LooksOnly a f
+looking a b c d e f m1 m2 m3 m4 l1 l2 l3 l4 l5 = LooksOnly-trans a e f m4 (LooksOnly-trans a d e m3 (LooksOnly-trans a c d m2 (LooksOnly-trans a b c m1 l1 l2) l3) l4) l5
 
 -- the parts as a reader met them one after another, of one content
 module _ (vars slots copy : ℕ) (seen s1 s2 s3 : List ℕ) (is1 : s1 ≡ seen) (is2 : s2 ≡ s1) (is3 : s3 ≡ s2) where

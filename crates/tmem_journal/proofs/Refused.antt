@@ -6,7 +6,7 @@ use Rattle.std.proofs.Math.Logic.{∥∥₁_elim}
 use Rattle.std.proofs.Props.{props}
 use Rattle.byteorder.specs.Endian.{little_bytes, little_number}
 use Rattle.tmem_disk.specs.declared.fault.Fault.{Fault}
-use Rattle.tmem_disk.specs.declared.fault.Fault.TheVariants.{Memory, Device, NotFormatted, Damaged, Geometry}
+use Rattle.tmem_disk.specs.declared.fault.Fault.TheVariants.{Device, NotFormatted, Damaged, Geometry}
 use Rattle.tmem_gate.specs.Calls.{IsWhyNone}
 use Rattle.tmem_gate.specs.Gate.{IsOpenAt, IsOpenOver}
 use Rattle.tmem_record.specs.State.{State}
@@ -17,7 +17,7 @@ use Rattle.tmem_record.specs.Layout.{IsLayout}
 use Rattle.tmem_record.specs.StandsAt.{StandsAt}
 use Rattle.tmem_journal.specs.BlockSpelling.{block_body}
 use Rattle.tmem_journal.specs.Stands.{Position, HoldsState}
-use Rattle.tmem_journal.specs.Refusals.{HasMagic, IsOfOthers, IsRefusedBy, IsWhy}
+use Rattle.tmem_journal.specs.Refusals.{HasMagic, IsOfOthers, IsRefusedBy, IsWhyRead}
 use Rattle.tmem_journal.specs.Parts.{IsBlockFault, IsBlockBy}
 use Rattle.tmem_journal.proofs.Lengths.{length-block_body}
 use Rattle.tmem_image.proofs.Laws.{one_body}
@@ -77,13 +77,13 @@ module _ (c bytes : List ℕ) (gate : IsOpenAt 0 c) (read : bytes ≡ slice_rang
   block_refused vars slots _ is = absurd is
 
 module _ (K : Type 0) (vars slots : ℕ) (c bytes : List ℕ) (gate : K → IsOpenAt 0 c) (read : K → bytes ≡ slice_range c 1 (1 + 511)) where
-  why_fault : (f : Fault) → IsBlockFault vars slots bytes f → IsWhy (λ g. K → IsBlockBy vars slots c g) f
+  why_fault : (f : Fault) → IsBlockFault vars slots bytes f → IsWhyRead (λ g. K → IsBlockBy vars slots c g) f
   why_fault NotFormatted is = λ k. block_refused c bytes (gate k) (read k) vars slots NotFormatted is
   why_fault Damaged is = λ k. block_refused c bytes (gate k) (read k) vars slots Damaged is
   why_fault Geometry is = λ k. block_refused c bytes (gate k) (read k) vars slots Geometry is
   why_fault _ is = absurd is
 
-  pub why_read : {T : Type 0} (r : Result T Fault) → IfErr r (IsBlockFault vars slots bytes) → IfErr r (IsWhy (λ g. K → IsBlockBy vars slots c g))
+  pub why_read : {T : Type 0} (r : Result T Fault) → IfErr r (IsBlockFault vars slots bytes) → IfErr r (IsWhyRead (λ g. K → IsBlockBy vars slots c g))
   why_read (Ok x) is = tt
   why_read (Err f) is = why_fault f is
 
@@ -124,8 +124,7 @@ module _ (vars slots : ℕ) (layout : IsLayout vars slots) (c : List ℕ) where
     block_by : (f : Fault) → (J → IsBlockBy vars slots then f) → J → IsRefusedBy vars slots c f
     block_by f is j = by_block f (subst (λ (x : List ℕ). IsBlockBy vars slots x f) (same j) (is j))
 
-    pub why_block : (f : Fault) → IsWhy (λ g. J → IsBlockBy vars slots then g) f → IsWhy (λ g. J → IsRefusedBy vars slots c g) f
-    why_block Memory why = tt
+    pub why_block : (f : Fault) → IsWhyRead (λ g. J → IsBlockBy vars slots then g) f → IsWhyRead (λ g. J → IsRefusedBy vars slots c g) f
     why_block Device why = tt
     why_block NotFormatted why = block_by NotFormatted why
     why_block Damaged why = block_by Damaged why
@@ -133,8 +132,7 @@ module _ (vars slots : ℕ) (layout : IsLayout vars slots) (c : List ℕ) where
     why_block _ why = absurd why
 
   -- where block 0 is that of these numbers, all else is damage
-  pub why_part : (J none : Type 0) (f : Fault) → (J → IsOpenOver 0 (block_body vars slots) c) → (none → J → (p : Position) (s : State) → HoldsState vars slots p s c → ⊥) → IsWhyNone none f → IsWhy (λ g. J → IsRefusedBy vars slots c g) f
-  why_part J none Memory block from why = tt
+  pub why_part : (J none : Type 0) (f : Fault) → (J → IsOpenOver 0 (block_body vars slots) c) → (none → J → (p : Position) (s : State) → HoldsState vars slots p s c → ⊥) → IsWhyNone none f → IsWhyRead (λ g. J → IsRefusedBy vars slots c g) f
   why_part J none Device block from why = tt
   why_part J none Damaged block from why = λ j. (letters_of vars slots c (block j), of_no_others vars slots layout c (block j), λ p s stands. ∥∥₁_elim stands (hlevel props) (from why j p s))
   why_part J none _ block from why = absurd why

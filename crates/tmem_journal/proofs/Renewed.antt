@@ -1,13 +1,14 @@
 -- What a crash leaves of a device, while an image of the next generation is written to the other copy, and while the log
 -- is emptied behind it.
-use Rattle.std.proofs.Common.{◌≡◌, ◌⊎◌, inl, inr, ⊎_elim, ℕ, ◌+◌, ◌*◌, ◌≤◌, ◌<◌, ◌^◌, List, [], refl, sym, subst, arith}
-use Rattle.std.specs.Prelude.{Result, Ok, Err, IsErrOf}
+use Rattle.std.proofs.Common.{◌≡◌, ◌⊎◌, inl, inr, ⊎_elim, ℕ, ◌+◌, ◌*◌, ◌≤◌, ◌<◌, ◌^◌, List, [], refl, sym, ap, subst, arith}
+use Rattle.std.specs.Prelude.{Result, IsErrOf, slice_get}
 use Rattle.std.proofs.Math.Logic.{∥∥₁_map}
-use Rattle.tmem_disk.specs.Disk.{DeviceView, LeavesOnly, AtEachMoment, Elapses, SameOutside}
+use Rattle.tmem_disk.specs.Disk.{DeviceView, LeavesOnly, AtEachMoment, Elapses, IsSynced, SameOutside}
 use Rattle.tmem_disk.specs.declared.fault.Fault.{Fault}
-use Rattle.tmem_disk.specs.declared.fault.Fault.TheVariants.{Device, Unknown}
+use Rattle.tmem_disk.specs.declared.fault.Fault.TheVariants.{Device}
 use Rattle.tmem_disk.proofs.Laws.{AtEachMoment-trans}
 use Rattle.tmem_gate.specs.Calls.{MadeBy, WritesWithin}
+use Rattle.tmem_gate.specs.Changes.{Outcome, IsMade, NotMade, InDoubt, NotBegun, Either, Becomes, Meanwhile, outcome_of}
 use Rattle.tmem_gate.specs.Gate.{IsOpenOver}
 use Rattle.tmem_gate.proofs.Laws.{open_before, open_after, WritesWithin-wider, WritesWithin-trans}
 use Rattle.tmem_record.specs.Layout.{image_place, image_size, slot_place}
@@ -15,7 +16,7 @@ use Rattle.tmem_record.specs.Stale.{IsStale}
 use Rattle.tmem_record.specs.State.{State}
 use Rattle.tmem_record.specs.declared.effect.Effect.{Effect}
 use Rattle.tmem_image.specs.Image.{HoldsImage, other_copy}
-use Rattle.tmem_image.specs.Spare.{Placed, Without, With, Either, Puts, Meanwhile}
+use Rattle.tmem_image.specs.Spare.{Placed, IsSettled, Without, With}
 use Rattle.tmem_image.specs.Spelling.{image_body}
 use Rattle.tmem_image.proofs.Laws.{front_of_image}
 use Rattle.tmem_redolog.specs.Closes.{bytes_from, Keeps}
@@ -25,6 +26,10 @@ use Rattle.tmem_journal.specs.BlockSpelling.{block_body}
 use Rattle.tmem_journal.specs.Stands.{Position, next_image, HoldsState, StandsFor, StandsForState, StandsForEither}
 use Rattle.tmem_journal.proofs.Lengths.{length-block_body}
 use Rattle.tmem_journal.proofs.Logged.{copy_cases, copy_below, other_one, image_before, state_closed}
+
+-- on a synced device each gate is settled
+pub settled : {at : ℕ} (d : DeviceView) → IsSynced d → IsSettled at d
+settled {at} d synced = record { each = λ k c left. ap (λ (l : List ℕ). slice_get l at) (synced k c left) }
 
 -- one copy stands in front of the other, or behind it
 apart : (vars copy : ℕ) → copy ≤ 1 → (image_place vars copy + image_size vars ≤ image_place vars (other_copy copy)) ⊎ (image_place vars (other_copy copy) + image_size vars ≤ image_place vars copy)
@@ -116,30 +121,34 @@ module _ (vars slots : ℕ) (p : Position) (s : State) (fits : p.generation + 1 
   with : old.keeps_model → (c : List ℕ) → MadeBy (With next) old c → StandsFor vars slots (next_image p) s c
   with k c from = ∥∥₁_map (sure.each k from.0 from.1) (λ held. written_state vars slots p s from.0 c held fits from.2)
 
-  either : old.keeps_model → (c : List ℕ) → MadeBy (Either next) old c → StandsForState vars slots s c
+  either : old.keeps_model → (c : List ℕ) → MadeBy (Either (Without next) (With next)) old c → StandsForState vars slots s c
   either k c from = ⊎_elim
       (λ no. without k c (from.0, from.1, no))
       (λ yes. ∥∥₁_map (with k c (from.0, from.1, yes)) (λ held. (next_image p, held)))
       from.2
 
   -- whatever was answered
-  pub after_writing : (r : Result (Unit {0}) Fault) → Puts next old mid r → LeavesOnly mid (StandsForState vars slots s)
-  after_writing (Ok x) puts = record { each = λ k c may. ∥∥₁_map (with (model k) c (puts.each k c may)) (λ held. (next_image p, held)) }
-  after_writing (Err Device) puts = record { each = λ k c may. without (model k) c (puts.each k c may) }
-  after_writing (Err Unknown) puts = record { each = λ k c may. either (model k) c (puts.each k c may) }
-  after_writing (Err _) puts = absurd puts
+  before : old.keeps_model → (c : List ℕ) → old.may_leave c → StandsForState vars slots s c
+  before k c may = ∥∥₁_map (sure.each k c may) (λ held. (p, held))
+
+  pub after_writing : (o : Outcome) → LeavesOnly mid (Becomes (Without next) (With next) old o) → LeavesOnly mid (StandsForState vars slots s)
+  after_writing IsMade puts = record { each = λ k c may. ∥∥₁_map (with (model k) c (puts.each k c may)) (λ held. (next_image p, held)) }
+  after_writing NotMade puts = record { each = λ k c may. without (model k) c (puts.each k c may) }
+  after_writing InDoubt puts = record { each = λ k c may. either (model k) c (puts.each k c may) }
+  after_writing NotBegun puts = record { each = λ k c may. before (model k) c (puts.each k c may) }
 
   -- where it was not written, the old image is chosen
-  pub not_written : (r : Result (Unit {0}) Fault) → IsErrOf r Device → Puts next old mid r → LeavesOnly mid (StandsFor vars slots p s)
+  pub not_written : (r : Result (Unit {0}) Fault) → IsErrOf r Device → LeavesOnly mid (Becomes (Without next) (With next) old (outcome_of r)) → LeavesOnly mid (StandsFor vars slots p s)
   not_written r is puts =
-      let none : LeavesOnly mid (MadeBy (Without next) old) = subst (λ (x : Result (Unit {0}) Fault). Puts next old mid x) is puts in
+      let none : LeavesOnly mid (MadeBy (Without next) old) = subst (λ (x : Result (Unit {0}) Fault). LeavesOnly mid (Becomes (Without next) (With next) old (outcome_of x))) is puts in
       record { each = λ k c may. let from = none.each k c may in ∥∥₁_map (sure.each (model k) from.0 from.1) (λ held. kept_state vars slots p s from.0 c held from.2) }
 
   -- while it is written
-  pub while_writing : (r : Result (Unit {0}) Fault) → AtEachMoment old mid (Meanwhile next old r) → AtEachMoment old mid (StandsForState vars slots s)
-  while_writing (Ok x) during = record { each = λ k c left. either (model k) c (during.each k c left) }
-  while_writing (Err Device) during = record { each = λ k c left. without (model k) c (during.each k c left) }
-  while_writing (Err _) during = record { each = λ k c left. either (model k) c (during.each k c left) }
+  pub while_writing : (o : Outcome) → AtEachMoment old mid (Meanwhile (Without next) (With next) old o) → AtEachMoment old mid (StandsForState vars slots s)
+  while_writing IsMade during = record { each = λ k c left. either (model k) c (during.each k c left) }
+  while_writing NotMade during = record { each = λ k c left. without (model k) c (during.each k c left) }
+  while_writing InDoubt during = record { each = λ k c left. either (model k) c (during.each k c left) }
+  while_writing NotBegun during = record { each = λ k c left. before (model k) c (during.each k c left) }
 
   -- and then the log is emptied
   module _ (new : DeviceView) (model_now : new.keeps_model → mid.keeps_model) (puts : LeavesOnly mid (MadeBy (With next) old)) where

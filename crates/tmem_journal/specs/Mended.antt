@@ -1,6 +1,7 @@
 -- What recovery makes of a content.
 use Rattle.std.specs.Prelude.{◌≡◌, ◌≢◌, ◌<◌, ◌≤◌, ◌*◌, ℕ, List, slice_get}
-use Rattle.tmem_disk.specs.Disk.{DeviceView, SameOutside}
+use Rattle.tmem_disk.specs.Disk.{DeviceView, SameOutside, AtEachMoment}
+use Rattle.tmem_gate.specs.Calls.{LooksOnly, WritesWithin}
 use Rattle.tmem_gate.specs.Gate.{IsOpenAt, IsClosed}
 use Rattle.tmem_record.specs.Layout.{slot_place}
 use Rattle.tmem_record.specs.State.{State}
@@ -25,3 +26,13 @@ MendedBy vars slots d c = (b : List ℕ) × d.may_leave b × Mends vars slots b 
 -- a read gives closed gates in each slot from one on
 abbrev pub ClosedFrom : ℕ → ℕ → ℕ → List ℕ → Type 0
 ClosedFrom vars slots used c = (k : ℕ) → used ≤ k → k < slots → IsClosed (slot_place vars k) c
+
+-- What recovery does to a device, whatever it answers. Gates behind the log are closed, and nothing else is written; nothing at
+-- all where they read closed, or where the content stands for no state. A crash at any moment leaves what one might have left
+-- before, but for such gates that are closed in it.
+pub record MendsDevice (vars slots : ℕ) (old new : DeviceView) : Type 0 where
+  pub any_moment : AtEachMoment old new (MendedBy vars slots old)
+  pub seen : new.keeps_model → Mends vars slots old.seen new.seen
+  pub elsewhere : WritesWithin (slot_place vars 0) (4096 * slots) old new
+  pub looks : (p : Position) (s : State) → StandsFor vars slots p s old.seen → ClosedFrom vars slots p.used old.seen → LooksOnly old new
+  pub damaged_looks : ((p : Position) (s : State) → ¬ StandsFor vars slots p s old.seen) → LooksOnly old new

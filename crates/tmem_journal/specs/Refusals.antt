@@ -27,11 +27,15 @@ IsRefusedBy vars slots c Geometry = IsOfOthers vars slots c
 IsRefusedBy vars slots c Damaged = HasMagic c × (¬ IsOfOthers vars slots c) × ((p : Position) (s : State) → StandsFor vars slots p s c → ⊥)
 IsRefusedBy vars slots c _ = ⊥
 
--- Why a content was not opened: want of memory, a failed call of the device, or one of these three.
+-- Why a content was refused once it was read: a failed call of the device, or one of these three.
+abbrev pub IsWhyRead : (Fault → Type 0) → Fault → Type 0
+IsWhyRead refused_by Device = Unit {0}
+IsWhyRead refused_by NotFormatted = refused_by NotFormatted
+IsWhyRead refused_by Damaged = refused_by Damaged
+IsWhyRead refused_by Geometry = refused_by Geometry
+IsWhyRead refused_by _ = ⊥
+
+-- Why a content was not opened: want of memory, or why it was refused once it was read.
 abbrev pub IsWhy : (Fault → Type 0) → Fault → Type 0
 IsWhy refused_by Memory = Unit {0}
-IsWhy refused_by Device = Unit {0}
-IsWhy refused_by NotFormatted = refused_by NotFormatted
-IsWhy refused_by Damaged = refused_by Damaged
-IsWhy refused_by Geometry = refused_by Geometry
-IsWhy refused_by _ = ⊥
+IsWhy refused_by f = IsWhyRead refused_by f

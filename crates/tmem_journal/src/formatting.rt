@@ -1,11 +1,12 @@
 // Writes the content of an empty store.
 ghost use Rattle.std.specs.Prelude.{◌≡◌, ◌⊎◌, ◌≤◌, ◌*◌, ◌++◌, drop, replicate, OnOk, IfErr, IsErrOf};
-ghost use Rattle.tmem_disk.specs.Disk.{LeavesOnly, ReadsAs, IsSynced};
+ghost use Rattle.tmem_disk.specs.Disk.{AtEachMoment, LeavesOnly, ReadsAs, IsSynced};
 ghost use Rattle.tmem_record.specs.State.{first_state};
 ghost use Rattle.tmem_record.specs.Layout.{end_place};
 ghost use Rattle.tmem_journal.specs.Formatted.{formatted};
 ghost use Rattle.tmem_journal.specs.Stands.{first_position, StandsFor};
 ghost use Rattle.tmem_gate.specs.Calls.{WritesWithin, Uses};
+ghost use Rattle.tmem_gate.specs.Gate.{IsClosed};
 ghost use Rattle.tmem_journal.specs.Calls.{FitsOn};
 
 use crate::block::spell_block;
@@ -40,8 +41,26 @@ pub fn format<D: Disk>(disk: &mut D, vars: u16, slots: u16) -> Result<(), Fault>
         return Err(Fault::Geometry);
     }
     erase(disk, end)?;
+    build(disk, layout)
+}
+
+// Puts the first image on a device of zeros, and then block 0.
+fn build<D: Disk>(disk: &mut D, layout: Layout) -> Result<(), Fault>
+    requires room { end_place layout.vars layout.slots ≤ (D.view disk.old).capacity }
+    requires zeros { ReadsAs (D.view disk.old) (replicate (end_place layout.vars layout.slots) 0 ++ drop (end_place layout.vars layout.slots) (D.view disk.old).seen) }
+    requires synced { IsSynced (D.view disk.old) }
+    ensures uses { Uses (D.view disk.old) (D.view disk.new) result }
+    ensures written { OnOk result (ReadsAs (D.view disk.new) (formatted layout.vars layout.slots ++ drop (end_place layout.vars layout.slots) (D.view disk.old).seen)) }
+    ensures durable { OnOk result (IsSynced (D.view disk.new)) }
+    ensures elsewhere { WritesWithin 0 (end_place layout.vars layout.slots) (D.view disk.old) (D.view disk.new) }
+    ensures err { IfErr result (λ f. f ≡ Fault.Device) }
+
+    // A crash leaves block 0 closed, so that a device is told not to be formatted, or the whole store.
+    ensures any_moment { AtEachMoment (D.view disk.old) (D.view disk.new)
+        (λ c. IsClosed 0 c ⊎ StandsFor layout.vars layout.slots first_position (first_state layout.vars) c) }
+{
     put_cell(disk, layout.image(0), &1u64.to_le_bytes())?;
-    put_cell(disk, 0, &spell_block(vars, slots))
+    put_cell(disk, 0, &spell_block(layout.vars, layout.slots))
 }
 
 // Writes zeros up to a place, in large pieces, and syncs.

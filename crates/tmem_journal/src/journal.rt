@@ -17,6 +17,7 @@ use crate::accepting::accept_all;
 use crate::buffer::Buffer;
 use crate::recovery::recover;
 use crate::renewing::renew;
+use crate::room::Room;
 use std::alloc::Global;
 use std::snapshot::Snapshot;
 use tmem_disk::{DeviceFault, Disk, Fault};
@@ -77,8 +78,8 @@ impl<D: Disk> Journal<D> {
 
     /// Recovers the state that a device of these numbers stands for. Refused by `Geometry` where the numbers are out of
     /// limits, the device is smaller than their layout, or it was formatted for others; by `NotFormatted` where block 0 is
-    /// closed or lacks its magic; else by `Damaged` where its content stands for no state; by `Memory`; by `Device` where a
-    /// call of the device fails. The device is handed back with the refusal. Gates that read open behind the log are closed,
+    /// closed or lacks its magic; else by `Damaged` where its content stands for no state; by `Memory`, before the device is
+    /// touched; by `Device` where a call of the device fails. The device is handed back with the refusal. Gates that read open behind the log are closed,
     /// and nothing else is written.
     pub fn open(alloc: Global, mut disk: D, vars: u16, slots: u16) -> Result<Journal<D>, (Fault, D)>
         ensures uses { Uses (D.view disk) (device_after result) (fault_alone result) }
@@ -87,8 +88,10 @@ impl<D: Disk> Journal<D> {
         ensures found { IfOk result (λ j. (device_of j).keeps_model → StandsFor vars slots (position_of j) (state_of j) (D.view disk).seen) }
         ensures refused { IfErr result (λ e. IsOpeningRefused (D.view disk) vars slots e.0 (D.view e.1)) }
 
-        // Where the numbers do not fit the device, no call of it is made: the one that was handed in is handed back.
+        // Where the numbers do not fit the device, no call of it is made: the one that was handed in is handed back. So is it
+        // where memory is wanted, which is found out before anything is read: it stands in place of nothing that was found.
         ensures untouched { ¬ FitsOn vars slots (D.view disk).capacity → IfErr result (λ e. e.1 ≡ disk) }
+        ensures memory { IfErr result (λ e. e.0 ≡ Fault.Memory → e.1 ≡ disk) }
 
         // A crash at any moment leaves what one might have left before, but for gates behind the log that are closed in it.
         ensures any_moment { AtEachMoment (D.view disk) (device_after result) (MendedBy vars slots (D.view disk)) }
@@ -113,11 +116,11 @@ impl<D: Disk> Journal<D> {
         if disk.size() < layout.end() {
             return Err((Fault::Geometry, disk));
         }
-        let buffer = match Buffer::zeroed(alloc) {
-            Ok(buffer) => buffer,
+        let Room { image, log, buffer } = match Room::new(alloc, layout) {
+            Ok(room) => room,
             Err(_) => return Err((Fault::Memory, disk)),
         };
-        match recover(alloc, &mut disk, layout) {
+        match recover(&mut disk, layout, image, log) {
             Ok(found) => Ok(Journal {
                 disk,
                 layout,

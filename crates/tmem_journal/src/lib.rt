@@ -20,6 +20,7 @@ mod laws;
 mod parts;
 mod recovery;
 mod renewing;
+mod room;
 
 pub use formatting::format;
 pub use journal::Journal;

@@ -4,7 +4,7 @@ ghost use Rattle.tmem_gate.specs.Calls.{Uses, LooksOnly};
 ghost use Rattle.tmem_gate.specs.Gate.{IsOpenOver};
 ghost use Rattle.tmem_record.specs.Layout.{end_place};
 ghost use Rattle.tmem_journal.specs.BlockSpelling.{block_body};
-ghost use Rattle.tmem_journal.specs.Refusals.{IsWhy};
+ghost use Rattle.tmem_journal.specs.Refusals.{IsWhyRead};
 ghost use Rattle.tmem_journal.specs.Parts.{IsBlockBy};
 
 use crate::block::read_block;
@@ -19,7 +19,7 @@ pub(crate) fn found_block<D: Disk>(disk: &mut D, layout: Layout) -> Result<(), F
     ensures uses { Uses (D.view disk.old) (D.view disk.new) result }
     ensures looks { LooksOnly (D.view disk.old) (D.view disk.new) }
     ensures found { (D.view disk.new).keeps_model → OnOk result (IsOpenOver 0 (block_body layout.vars layout.slots) (D.view disk.old).seen) }
-    ensures refused { IfErr result (IsWhy (λ f. (D.view disk.new).keeps_model → IsBlockBy layout.vars layout.slots (D.view disk.old).seen f)) }
+    ensures refused { IfErr result (IsWhyRead (λ f. (D.view disk.new).keeps_model → IsBlockBy layout.vars layout.slots (D.view disk.old).seen f)) }
 {
     let mut block = [0; BLOCK_SIZE];
     read(disk, 0, &mut block)?;

@@ -9,7 +9,7 @@ use Rattle.std.proofs.lemmas.List.{append-nil, length_push, length-map, get_or-m
 use Rattle.std.proofs.lemmas.List.Concat.{flat_map-append}
 use Rattle.std.proofs.lemmas.List.Elements.{All-push, All-nil}
 use Rattle.std.proofs.lemmas.List.Folds.{Any-from_list_any}
-use Rattle.std.proofs.lemmas.List.Sums.{sum_by-append, sum_by-cons, sum_by_push}
+use Rattle.std.proofs.lemmas.List.Sums.{sum_by-append, sum_by-cons}
 use Rattle.std.specs.Str.{IsUtf8}
 use Rattle.std.proofs.lemmas.Str.{IsUtf8-from_ascii}
 use Rattle.std.proofs.lemmas.Str.Ascii.{IsAscii-from_all}
@@ -113,6 +113,47 @@ module _ {X : Type 0} (V : List X → Type 0) (P : X → Type 0) (f : X → List
       let same_one = one more.0 x (flat_map f more.1 ++ s) next (middle P xs more.1 more.0 (subst (All P) more.2 (each os valid))) is (sym more.3 ∙ here) in
       (more.1, more.2 ∙ ap (λ z. xs ++ z ∷ more.1) same_one.0)
 
+-- lists of a kind that are spelled behind their count
+pub record Counted (X : Type 0) : Type 1 where
+  pub Are : List X → Type 0
+  pub Is : X → Type 0
+  pub one : X → List ℕ
+  pub all : List X → List ℕ
+  pub limit : ℕ
+  pub each : (xs : List X) → Are xs → All Is xs
+  pub few : (xs : List X) → Are xs → length xs ≤ limit
+  pub delimits : Delimits Is one
+  pub spelled : (xs : List X) → all xs ≡ length xs ∷ flat_map one xs
+
+pub no_bytes : {X : Type 0} (k : Counted X) (bytes : List ℕ) → bytes ≡ [] → (os : List X) (rest : List ℕ) → k.Are os → bytes ≡ k.all os ++ rest → ⊥
+no_bytes k bytes none os rest are same =
+    absurd (omega (arith, ap length none, ap length (same ∙ ap (λ (l : List ℕ). l ++ rest) (k.spelled os))))
+
+module _ {X : Type 0} (k : Counted X) (count : ℕ) (bytes behind : List ℕ) (parts : bytes ≡ count ∷ behind) where
+  split : (os : List X) (s : List ℕ) → bytes ≡ k.all os ++ s → (length os ≡ count) × (behind ≡ flat_map k.one os ++ s)
+  split os s same =
+      let cells = same_cons count (length os) behind (flat_map k.one os ++ s) (sym parts ∙ same ∙ ap (λ (l : List ℕ). l ++ s) (k.spelled os)) in
+      (sym cells.0, cells.1)
+
+  pub all_found : (i : ℕ) (xs : List X) (rest : List ℕ) → HasRead k.Are k.one i xs behind rest → count ≡ i → bytes ≡ k.all xs ++ rest
+  all_found i xs rest read all =
+      parts ∙ ap (λ (l : List ℕ). count ∷ l) read.left ∙ ap (λ (n : ℕ). n ∷ (flat_map k.one xs ++ rest)) (all ∙ sym read.counted)
+      ∙ ap (λ (l : List ℕ). l ++ rest) (sym (k.spelled xs))
+
+  pub too_many : k.limit < count → (os : List X) (s : List ℕ) → k.Are os → bytes ≡ k.all os ++ s → ⊥
+  too_many more os s are same = absurd (omega (arith, (split os s same).0, k.few os are))
+
+  module _ (i : ℕ) (xs : List X) (rest : List ℕ) (read : HasRead k.Are k.one i xs behind rest) (less : i < count) where
+    pub none_more : ((x : X) (t : List ℕ) → k.Is x → rest ≡ k.one x ++ t → ⊥) → (os : List X) (s : List ℕ) → k.Are os → bytes ≡ k.all os ++ s → ⊥
+    none_more none os s are same =
+        let parted = split os s same in
+        none_next k.Are k.Is k.one k.each k.delimits i count xs behind rest read less none os s parted.0 are parted.1
+
+    pub one_more : (x : X) (next : List ℕ) → k.Is x → rest ≡ k.one x ++ next → (os : List X) (s : List ℕ) → k.Are os → bytes ≡ k.all os ++ s → (zs : List X) × (os ≡ xs ++ x ∷ zs)
+    one_more x next is here os s are same =
+        let parted = split os s same in
+        one_next k.Are k.Is k.one k.each k.delimits i count xs behind rest read less x next is here os s parted.0 are parted.1
+
 -- writes
 
 pub no_writes : (vars : ℕ) → AreWritesWithin vars []
@@ -162,46 +203,35 @@ write_more vars i ws w bytes rest next read room is new same =
     }) same)
 
 -- the writes behind their count
-module _ (vars count : ℕ) (few : vars ≤ 2 ^ 16) (bytes behind : List ℕ) (parts : bytes ≡ count ∷ behind) where
-  split_writes : (os : List (ℕ × ℤ)) (s : List ℕ) → bytes ≡ writes_bytes os ++ s → (length os ≡ count) × (behind ≡ flat_map write_bytes os ++ s)
-  unfolding writes_bytes
-  split_writes os s same =
-      let cells = same_cons count (length os) behind (flat_map write_bytes os ++ s) (sym parts ∙ same) in
-      (sym cells.0, cells.1)
+pub writes_spelled : (ws : List (ℕ × ℤ)) → writes_bytes ws ≡ length ws ∷ flat_map write_bytes ws
+unfolding writes_bytes
+writes_spelled ws = refl
 
-  pub writes_found : (i : ℕ) (ws : List (ℕ × ℤ)) (rest : List ℕ) → ReadWrites vars i ws behind rest → count ≡ i → bytes ≡ writes_bytes ws ++ rest
-  unfolding writes_bytes
-  writes_found i ws rest read all = parts ∙ ap (λ (l : List ℕ). count ∷ l) read.left ∙ ap (λ (n : ℕ). n ∷ (flat_map write_bytes ws ++ rest)) (all ∙ sym read.counted)
+abbrev pub written : (vars : ℕ) → vars ≤ 2 ^ 16 → Counted (ℕ × ℤ)
+written vars few = record {
+  Are = AreWritesWithin vars;
+  Is = IsWriteWithin vars;
+  one = write_bytes;
+  all = writes_bytes;
+  limit = 64;
+  each = each_write vars;
+  few = λ ws are. are.are_writes.few;
+  delimits = delimits_write vars few;
+  spelled = writes_spelled;
+}
 
-  pub too_many_writes : 64 < count → (os : List (ℕ × ℤ)) (s : List ℕ) → AreWritesWithin vars os → bytes ≡ writes_bytes os ++ s → ⊥
-  too_many_writes more os s are same = let split = split_writes os s same in absurd (omega (arith, split.0, are.are_writes.few))
-
-  pub no_write_next : (i : ℕ) (ws : List (ℕ × ℤ)) (rest : List ℕ) → ReadWrites vars i ws behind rest → i < count → ((w : ℕ × ℤ) (t : List ℕ) → IsWriteWithin vars w → rest ≡ write_bytes w ++ t → ⊥)
-      → (os : List (ℕ × ℤ)) (s : List ℕ) → AreWritesWithin vars os → bytes ≡ writes_bytes os ++ s → ⊥
-  no_write_next i ws rest read less none os s are same =
-      let split = split_writes os s same in
-      none_next (AreWritesWithin vars) (IsWriteWithin vars) write_bytes (each_write vars) (delimits_write vars few) i count ws behind rest read less none os s split.0 are split.1
-
-  pub written_twice : (i : ℕ) (ws : List (ℕ × ℤ)) (w : ℕ × ℤ) (rest next : List ℕ) → ReadWrites vars i ws behind rest → i < count → IsWriteWithin vars w → rest ≡ write_bytes w ++ next → is_some (look ws w.0) ≡ true
-      → (os : List (ℕ × ℤ)) (s : List ℕ) → AreWritesWithin vars os → bytes ≡ writes_bytes os ++ s → ⊥
-  written_twice i ws w rest next read less is here written os s are same =
-      let split = split_writes os s same in
-      let more = one_next (AreWritesWithin vars) (IsWriteWithin vars) write_bytes (each_write vars) (delimits_write vars few) i count ws behind rest read less w next is here os s split.0 are split.1 in
-      not_twice ws more.0 w (subst AreWrites more.1 are.are_writes) written
+pub written_twice : (vars : ℕ) (few : vars ≤ 2 ^ 16) (count : ℕ) (bytes behind : List ℕ) → bytes ≡ count ∷ behind → (i : ℕ) (ws : List (ℕ × ℤ)) (rest : List ℕ) → ReadWrites vars i ws behind rest → i < count → (w : ℕ × ℤ) (next : List ℕ) → IsWriteWithin vars w → rest ≡ write_bytes w ++ next
+    → is_some (look ws w.0) ≡ true → (os : List (ℕ × ℤ)) (s : List ℕ) → AreWritesWithin vars os → bytes ≡ writes_bytes os ++ s → ⊥
+written_twice vars few count bytes behind parts i ws rest read less w next is here there os s are same =
+    let more = one_more (written vars few) count bytes behind parts i ws rest read less w next is here os s are same in
+    not_twice ws more.0 w (subst AreWrites more.1 are.are_writes) there
 
 -- the same of writes that are well formed, and of variables that exist
 pub of_writes : (vars : ℕ) (bytes : List ℕ) → ((ws : List (ℕ × ℤ)) (rest : List ℕ) → AreWritesWithin vars ws → bytes ≡ writes_bytes ws ++ rest → ⊥)
     → (ws : List (ℕ × ℤ)) (rest : List ℕ) → AreWrites ws → All (λ (w : ℕ × ℤ). w.0 < vars) ws → bytes ≡ writes_bytes ws ++ rest → ⊥
 of_writes vars bytes none ws rest are within same = none ws rest (record { are_writes = are; within = within }) same
 
-pub nothing_of_writes : (vars : ℕ) (bytes : List ℕ) → bytes ≡ [] → (ws : List (ℕ × ℤ)) (rest : List ℕ) → AreWritesWithin vars ws → bytes ≡ writes_bytes ws ++ rest → ⊥
-unfolding writes_bytes
-nothing_of_writes vars bytes none ws rest are same = absurd (omega (arith, ap length none, ap length same))
-
 -- names
-
-pub no_names : AreChecks []
-no_names = record { few = omega arith; names = All-nil IsName; distinct = λ i j d before below. absurd (omega (arith, below)) }
 
 with_name_new : (ns : List (List ℕ)) (name : List ℕ) → has_name ns name ≡ false → with_name ns name ≡ ns ++ name ∷ []
 with_name_new ns name new = by (has_name ns name) new
@@ -221,45 +251,37 @@ not_checked_twice ns zs name are there =
 abbrev pub ReadNames : ℕ → List (List ℕ) → List ℕ → List ℕ → Type 0
 ReadNames i ns bytes rest = HasRead AreChecks name_bytes i ns bytes rest
 
-each_name : (ns : List (List ℕ)) → AreChecks ns → All IsName ns
-each_name ns are = are.names
-
 pub name_more : (i : ℕ) (ns : List (List ℕ)) (name bytes rest next : List ℕ) → ReadNames i ns bytes rest → i < 8 → IsName name → has_name ns name ≡ false → rest ≡ name_bytes name ++ next → ReadNames (i + 1) (with_name ns name) bytes next
 name_more i ns name bytes rest next read room is new same =
     subst (λ (l : List (List ℕ)). ReadNames (i + 1) l bytes next) (sym (with_name_new ns name new))
     (read_more AreChecks name_bytes i ns name bytes rest next read (AreChecks-push ns name new (omega (arith, read.counted)) is read.valid) same)
 
 -- the names behind their count
-module _ (count : ℕ) (bytes behind : List ℕ) (parts : bytes ≡ count ∷ behind) where
-  split_names : (os : List (List ℕ)) (s : List ℕ) → bytes ≡ names_bytes os ++ s → (length os ≡ count) × (behind ≡ flat_map name_bytes os ++ s)
-  unfolding names_bytes
-  split_names os s same =
-      let cells = same_cons count (length os) behind (flat_map name_bytes os ++ s) (sym parts ∙ same) in
-      (sym cells.0, cells.1)
-
-  pub names_found : (i : ℕ) (ns : List (List ℕ)) (rest : List ℕ) → ReadNames i ns behind rest → count ≡ i → bytes ≡ names_bytes ns ++ rest
-  unfolding names_bytes
-  names_found i ns rest read all = parts ∙ ap (λ (l : List ℕ). count ∷ l) read.left ∙ ap (λ (n : ℕ). n ∷ (flat_map name_bytes ns ++ rest)) (all ∙ sym read.counted)
-
-  pub too_many_names : 8 < count → (os : List (List ℕ)) (s : List ℕ) → AreChecks os → bytes ≡ names_bytes os ++ s → ⊥
-  too_many_names more os s are same = let split = split_names os s same in absurd (omega (arith, split.0, are.few))
-
-  pub no_name_next : (i : ℕ) (ns : List (List ℕ)) (rest : List ℕ) → ReadNames i ns behind rest → i < count → ((name t : List ℕ) → IsName name → rest ≡ name_bytes name ++ t → ⊥)
-      → (os : List (List ℕ)) (s : List ℕ) → AreChecks os → bytes ≡ names_bytes os ++ s → ⊥
-  no_name_next i ns rest read less none os s are same =
-      let split = split_names os s same in
-      none_next AreChecks IsName name_bytes each_name delimits_name i count ns behind rest read less none os s split.0 are split.1
-
-  pub checked_twice : (i : ℕ) (ns : List (List ℕ)) (name rest next : List ℕ) → ReadNames i ns behind rest → i < count → IsName name → rest ≡ name_bytes name ++ next → has_name ns name ≡ true
-      → (os : List (List ℕ)) (s : List ℕ) → AreChecks os → bytes ≡ names_bytes os ++ s → ⊥
-  checked_twice i ns name rest next read less is here there os s are same =
-      let split = split_names os s same in
-      let more = one_next AreChecks IsName name_bytes each_name delimits_name i count ns behind rest read less name next is here os s split.0 are split.1 in
-      not_checked_twice ns more.0 name (subst AreChecks more.1 are) there
-
-pub nothing_of_names : (bytes : List ℕ) → bytes ≡ [] → (ns : List (List ℕ)) (rest : List ℕ) → AreChecks ns → bytes ≡ names_bytes ns ++ rest → ⊥
+pub names_spelled : (ns : List (List ℕ)) → names_bytes ns ≡ length ns ∷ flat_map name_bytes ns
 unfolding names_bytes
-nothing_of_names bytes none ns rest are same = absurd (omega (arith, ap length none, ap length same))
+names_spelled ns = refl
+
+abbrev pub names_that : (Are : List (List ℕ) → Type 0) (limit : ℕ) → ((ns : List (List ℕ)) → Are ns → All IsName ns) → ((ns : List (List ℕ)) → Are ns → length ns ≤ limit) → Counted (List ℕ)
+names_that Are limit each few = record {
+  Are = Are;
+  Is = IsName;
+  one = name_bytes;
+  all = names_bytes;
+  limit = limit;
+  each = each;
+  few = few;
+  delimits = delimits_name;
+  spelled = names_spelled;
+}
+
+abbrev pub checks : Counted (List ℕ)
+checks = names_that AreChecks 8 (λ ns are. are.names) (λ ns are. are.few)
+
+pub checked_twice : (count : ℕ) (bytes behind : List ℕ) → bytes ≡ count ∷ behind → (i : ℕ) (ns : List (List ℕ)) (rest : List ℕ) → ReadNames i ns behind rest → i < count → (name next : List ℕ) → IsName name → rest ≡ name_bytes name ++ next
+    → has_name ns name ≡ true → (os : List (List ℕ)) (s : List ℕ) → AreChecks os → bytes ≡ names_bytes os ++ s → ⊥
+checked_twice count bytes behind parts i ns rest read less name next is here there os s are same =
+    let more = one_more checks count bytes behind parts i ns rest read less name next is here os s are same in
+    not_checked_twice ns more.0 name (subst AreChecks more.1 are) there
 
 -- one name: its length, and as many letters
 pub name_front : (bytes behind letters rest : List ℕ) (n : ℕ) → bytes ≡ n ∷ behind → n ≤ length behind → letters ≡ take n behind → rest ≡ drop n behind → bytes ≡ name_bytes letters ++ rest
@@ -335,16 +357,6 @@ ReadRecords vars i es bytes rest = HasRead (FitTogether vars) record_bytes i es 
 each_record : (vars : ℕ) (es : List Effect) → FitTogether vars es → All (IsLoggable vars) es
 each_record vars es fit = fit.each
 
-pub no_records : (vars : ℕ) → FitTogether vars []
-no_records vars = record { each = All-nil (IsLoggable vars); fits = omega arith }
-
-pub record_more : (vars i : ℕ) (es : List Effect) (e : Effect) (bytes rest next : List ℕ) → ReadRecords vars i es bytes rest → IsLoggable vars e → records_length es + record_length e ≤ 4077 → rest ≡ record_bytes e ++ next → ReadRecords vars (i + 1) (es ++ e ∷ []) bytes next
-record_more vars i es e bytes rest next read is room same =
-    read_more (FitTogether vars) record_bytes i es e bytes rest next read (record {
-      each = All-push (IsLoggable vars) es e read.valid.each is;
-      fits = omega (arith, sum_by_push record_length es e);
-    }) same
-
 -- all that were counted are a batch
 pub IsBatch-read : (vars i : ℕ) (es : List Effect) (bytes rest : List ℕ) → ReadRecords vars i es bytes rest → 1 ≤ i → i ≤ 64 → IsBatch vars es
 IsBatch-read vars i es bytes rest read some few = record { some = omega (arith, read.counted, some); few = omega (arith, read.counted, few); each = read.valid.each; fits = read.valid.fits }
@@ -399,15 +411,6 @@ pub no_room_for_head : (bytes : List ℕ) (g f : ℕ) (es : List Effect) (s : Li
 no_room_for_head bytes g f es s short same =
     let records : List ℕ = flat_map record_bytes es ++ s in
     absurd (omega (arith, ap length (same ∙ batch_parts g f es s), length-append (number_bytes 8 g) (number_bytes 8 f ++ (number_bytes 2 (length es) ++ records)), length-append (number_bytes 8 f) (number_bytes 2 (length es) ++ records), length-append (number_bytes 2 (length es)) records, length-number_bytes 8 g, length-number_bytes 8 f, length-number_bytes 2 (length es)))
-
--- what was found in front of the rest is spelled by the bytes in front of it
-pub front_spells : (vars g f len : ℕ) (es : List Effect) (bytes rest : List ℕ) → g < 2 ^ 64 → f < 2 ^ 64 → IsBatch vars es → bytes ≡ batch_bytes g f es ++ rest → len + length rest ≡ length bytes → SpellsBatch vars g f es (take len bytes)
-front_spells vars g f len es bytes rest fits_g fits_f is same long = record {
-  generation_fits = fits_g;
-  first_fits = fits_f;
-  batch = is;
-  spelled = ap (take len) same ∙ take_at (batch_bytes g f es) rest len (omega (arith, ap length same, length-append (batch_bytes g f es) rest, long));
-}
 
 -- where no batch is spelled in front of a rest, no beginning of the bytes spells one
 pub no_beginning : (vars : ℕ) (bytes : List ℕ) → ((g f : ℕ) (es : List Effect) (s : List ℕ) → g < 2 ^ 64 → f < 2 ^ 64 → IsBatch vars es → bytes ≡ batch_bytes g f es ++ s → ⊥) → (g f n : ℕ) (es : List Effect) → SpellsBatch vars g f es (take n bytes) → ⊥

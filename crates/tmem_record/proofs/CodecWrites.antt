@@ -2,7 +2,7 @@
 use Rattle.std.proofs.Common.{◌≡◌, ◌<◌, ◌≤◌, ◌+◌, ◌-◌, ℕ, ℤ, pos, List, [], ◌∷◌, ◌++◌, length, take, drop, get_or, flat_map, sum_by, sym, ◌∙◌, ap, arith, append_assoc, length-append, refl}
 use Rattle.std.specs.Int.{w64, cast_unsigned}
 use Rattle.std.proofs.lemmas.List.{take_more, flat_map_more, drop-drop}
-use Rattle.std.proofs.lemmas.List.Sums.{sum_by_more, sum_by-take-le, sum_by-cons}
+use Rattle.std.proofs.lemmas.List.Sums.{sum_by-cons}
 use Rattle.byteorder.specs.Endian.{little_bytes}
 use Rattle.tmem_record.specs.State.{Effect}
 use Rattle.tmem_record.specs.Spelling.{number_bytes, value_bytes, write_bytes, name_bytes, writes_bytes, names_bytes, record_bytes, batch_bytes}
@@ -12,10 +12,6 @@ pub part_more : {X : Type 0} (f : X → List ℕ) (xs : List X) (i : ℕ) (d : X
 part_more f xs i d below front b0 b1 part before here is =
     here ∙ ap (λ (l : List ℕ). l ++ part) before ∙ ap (λ (l : List ℕ). (front ++ flat_map f (take i xs)) ++ l) is ∙ flat_map_more f front (take i xs) (get_or xs i d)
     ∙ ap (λ l. front ++ flat_map f l) (sym (take_more xs i d below))
-
--- there is room for the next one, where there is room for all
-pub room_more : {X : Type 0} (h : X → ℕ) (xs : List X) (i : ℕ) (d : X) → i < length xs → sum_by h (take i xs) + h (get_or xs i d) ≤ sum_by h xs
-room_more h xs i d below = omega (arith, sum_by_more h xs i d below, sum_by-take-le h xs (i + 1))
 
 two_parts : (b0 b1 b2 p q : List ℕ) → b1 ≡ b0 ++ p → b2 ≡ b1 ++ q → b2 ≡ b0 ++ (p ++ q)
 two_parts b0 b1 b2 p q first second = second ∙ ap (λ (l : List ℕ). l ++ q) first ∙ append_assoc b0 p q

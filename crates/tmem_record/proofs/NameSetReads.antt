@@ -1,5 +1,5 @@
 -- The names of a set, read one after another.
-use Rattle.std.proofs.Common.{◌≡◌, ◌<◌, ◌+◌, ℕ, Bool, true, false, List, [], ◌∷◌, ◌++◌, length, get_or, flat_map, refl, sym, ◌∙◌, ap, subst, arith, length-append}
+use Rattle.std.proofs.Common.{◌≡◌, ◌<◌, ◌+◌, ℕ, Bool, true, false, List, [], ◌∷◌, ◌++◌, length, get_or, refl, sym, ◌∙◌, ap, subst, arith, length-append}
 use Rattle.std.specs.Prelude.{All, IsTrue, ◌↔◌}
 use Rattle.std.proofs.lemmas.Bool.{false≢true}
 use Rattle.std.proofs.lemmas.List.{get_or_at, get_or_append_left}
@@ -7,8 +7,7 @@ use Rattle.tmem_disk.specs.Name.{IsName}
 use Rattle.tmem_record.specs.Names.{is_before, AreRegistered}
 use Rattle.tmem_record.specs.Spelling.{name_bytes, names_bytes}
 use Rattle.tmem_record.proofs.NamesLaws.{AreRegistered-nil, AreRegistered-push}
-use Rattle.tmem_record.proofs.SpellingLaws.{same_cons, delimits_name}
-use Rattle.tmem_record.proofs.CodecReads.{HasRead, read_none, read_more, none_next, one_next}
+use Rattle.tmem_record.proofs.CodecReads.{HasRead, Counted, read_none, read_more, one_more, names_that}
 
 -- so many names were read, and this is left
 abbrev pub ReadNameSet : ℕ → List (List ℕ) → List ℕ → List ℕ → Type 0
@@ -16,9 +15,6 @@ ReadNameSet i ns bytes rest = HasRead AreRegistered name_bytes i ns bytes rest
 
 pub none_read : (ns : List (List ℕ)) (bytes : List ℕ) → ns ≡ [] → ReadNameSet 0 ns bytes bytes
 none_read ns bytes none = subst (λ (l : List (List ℕ)). ReadNameSet 0 l bytes bytes) (sym none) (read_none AreRegistered name_bytes bytes AreRegistered-nil)
-
-each_name : (ns : List (List ℕ)) → AreRegistered ns → All IsName ns
-each_name ns are = are.names
 
 -- one name more
 pub name_more : (i : ℕ) (ns : List (List ℕ)) (name bytes rest next : List ℕ) → ReadNameSet i ns bytes rest → All (λ (n : List ℕ). is_before n name ≡ true) ns → length ns < 64 → IsName name → rest ≡ name_bytes name ++ next
@@ -35,35 +31,13 @@ above_those_before ns zs name are k d below =
     subst (λ (n : List ℕ). is_before n name ≡ true) first (subst (λ (n : List ℕ). is_before (get_or (ns ++ name ∷ zs) k d) n ≡ true) second (are.ascending k (length ns) d below (omega (arith, long))))
 
 -- the names behind their count
-module _ (count : ℕ) (bytes behind : List ℕ) (parts : bytes ≡ count ∷ behind) where
-  split_names : (os : List (List ℕ)) (s : List ℕ) → bytes ≡ names_bytes os ++ s → (length os ≡ count) × (behind ≡ flat_map name_bytes os ++ s)
-  unfolding names_bytes
-  split_names os s same =
-      let cells = same_cons count (length os) behind (flat_map name_bytes os ++ s) (sym parts ∙ same) in
-      (sym cells.0, cells.1)
+abbrev pub registered : Counted (List ℕ)
+registered = names_that AreRegistered 64 (λ ns are. are.names) (λ ns are. are.few)
 
-  pub names_found : (i : ℕ) (ns : List (List ℕ)) (rest : List ℕ) → ReadNameSet i ns behind rest → count ≡ i → bytes ≡ names_bytes ns ++ rest
-  unfolding names_bytes
-  names_found i ns rest read all = parts ∙ ap (λ (l : List ℕ). count ∷ l) read.left ∙ ap (λ (n : ℕ). n ∷ (flat_map name_bytes ns ++ rest)) (all ∙ sym read.counted)
-
-  pub too_many_names : 64 < count → (os : List (List ℕ)) (s : List ℕ) → AreRegistered os → bytes ≡ names_bytes os ++ s → ⊥
-  too_many_names more os s are same = let split = split_names os s same in absurd (omega (arith, split.0, are.few))
-
-  pub no_name_next : (i : ℕ) (ns : List (List ℕ)) (rest : List ℕ) → ReadNameSet i ns behind rest → i < count → ((name t : List ℕ) → IsName name → rest ≡ name_bytes name ++ t → ⊥)
-      → (os : List (List ℕ)) (s : List ℕ) → AreRegistered os → bytes ≡ names_bytes os ++ s → ⊥
-  no_name_next i ns rest read less none os s are same =
-      let split = split_names os s same in
-      none_next AreRegistered IsName name_bytes each_name delimits_name i count ns behind rest read less none os s split.0 are split.1
-
-  -- a name that cannot come last
-  pub not_above : (i : ℕ) (ns : List (List ℕ)) (name rest next : List ℕ) (fits : Bool) → ReadNameSet i ns behind rest → i < count → IsName name → rest ≡ name_bytes name ++ next
-      → (IsTrue fits ↔ ((length ns < 64) × All (λ (n : List ℕ). is_before n name ≡ true) ns)) → fits ≡ false → (os : List (List ℕ)) (s : List ℕ) → AreRegistered os → bytes ≡ names_bytes os ++ s → ⊥
-  not_above i ns name rest next fits read less is here iff not os s are same =
-      let split = split_names os s same in
-      let more = one_next AreRegistered IsName name_bytes each_name delimits_name i count ns behind rest read less name next is here os s split.0 are split.1 in
-      let whole : length os ≡ length ns + (1 + length more.0) = ap length more.1 ∙ length-append ns (name ∷ more.0) ∙ omega arith in
-      false≢true (sym not ∙ iff.1 (omega (arith, whole, are.few), above_those_before ns more.0 name (subst AreRegistered more.1 are)))
-
-pub nothing_of_names : (bytes : List ℕ) → bytes ≡ [] → (ns : List (List ℕ)) (rest : List ℕ) → AreRegistered ns → bytes ≡ names_bytes ns ++ rest → ⊥
-unfolding names_bytes
-nothing_of_names bytes none ns rest are same = absurd (omega (arith, ap length none, ap length same))
+-- a name that cannot come last
+pub not_above : (count : ℕ) (bytes behind : List ℕ) → bytes ≡ count ∷ behind → (i : ℕ) (ns : List (List ℕ)) (rest : List ℕ) → ReadNameSet i ns behind rest → i < count → (name next : List ℕ) → IsName name → rest ≡ name_bytes name ++ next
+    → (fits : Bool) → (IsTrue fits ↔ ((length ns < 64) × All (λ (n : List ℕ). is_before n name ≡ true) ns)) → fits ≡ false → (os : List (List ℕ)) (s : List ℕ) → AreRegistered os → bytes ≡ names_bytes os ++ s → ⊥
+not_above count bytes behind parts i ns rest read less name next is here fits iff not os s are same =
+    let more = one_more registered count bytes behind parts i ns rest read less name next is here os s are same in
+    let whole : length os ≡ length ns + (1 + length more.0) = ap length more.1 ∙ length-append ns (name ∷ more.0) ∙ omega arith in
+    false≢true (sym not ∙ iff.1 (omega (arith, whole, are.few), above_those_before ns more.0 name (subst AreRegistered more.1 are)))

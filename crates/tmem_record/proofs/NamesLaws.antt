@@ -10,13 +10,12 @@ use Rattle.std.proofs.lemmas.Slice.Eq.{bytes_eq-Decides}
 use Rattle.std.proofs.lemmas.Map.Text.{is_eq-slice_cmp}
 use Rattle.std.proofs.lemmas.List.{take_more, take-append-drop}
 use Rattle.std.proofs.lemmas.List.Elements.{All-push, All-cons, All-nil, All-head, All-tail}
-use Rattle.std.proofs.lemmas.List.Folds.{list_any-append}
 use Rattle.std.proofs.lemmas.List.Kept.{AllPairs-cons}
 use Rattle.std.proofs.lemmas.List.Quantifiers.{all_pairs_push}
 use Rattle.std.proofs.lemmas.List.Sums.{sum_by-cons}
 use Rattle.tmem_disk.specs.Name.{IsName}
 use Rattle.tmem_disk.specs.Distinct.{AreDistinct}
-use Rattle.tmem_record.specs.Names.{has_name, with_name, is_before, at_its_place, insert_name, with_names, AreAscending, AreChecks, AreRegistered}
+use Rattle.tmem_record.specs.Names.{has_name, is_before, at_its_place, insert_name, with_names, AreAscending, AreChecks, AreRegistered}
 
 -- what holds of the pairs of a list holds of its first element beside the rest, and of the pairs of the rest
 pub AllPairs-head : {X : Type 0} (R : X → X → Type 0) (x : X) (xs : List X) → AllPairs R (x ∷ xs) → All (R x) xs
@@ -163,32 +162,6 @@ AreRegistered-at_its_place ns name absent room is_name are =
       names = All-at_its_place IsName ns name are.names is_name;
       ascending = AreAscending-at_its_place ns name absent are.ascending;
     }
-
--- a name is among those that were there, or the one that was added
-pub has_name-with_name : (ns : List (List ℕ)) (m name : List ℕ) → has_name (with_name ns m) name ≡ (has_name ns name || bytes_eq m name)
-has_name-with_name ns m name = by (has_name ns m) refl
-  where
-    swapped : (a b : Bool) → (a || b) ≡ (b || a)
-    swapped true true = refl
-    swapped true false = refl
-    swapped false true = refl
-    swapped false false = refl
-
-    last : (b : Bool) → (b || false) ≡ b
-    last true = refl
-    last false = refl
-
-    by : (b : Bool) → has_name ns m ≡ b → has_name (cond b ns (ns ++ m ∷ [])) name ≡ (has_name ns name || bytes_eq m name)
-    by true is = has_name-there ns m name is ∙ swapped (bytes_eq m name) (has_name ns name)
-    by false is = list_any-append (λ n. bytes_eq n name) ns (m ∷ []) ∙ ap (λ b. has_name ns name || b) (last (bytes_eq m name))
-
--- a name more leaves at most 8 distinct names, where there is room for it
-pub AreChecks-with_name : (ns : List (List ℕ)) (name : List ℕ) → (has_name ns name ≡ false → length ns < 8) → IsName name → AreChecks ns → AreChecks (with_name ns name)
-AreChecks-with_name ns name room is_name are = by (has_name ns name) refl
-  where
-    by : (b : Bool) → has_name ns name ≡ b → AreChecks (cond b ns (ns ++ name ∷ []))
-    by true is = are
-    by false is = AreChecks-push ns name is (room is) is_name are
 
 -- ascending names are distinct
 pub AreDistinct-ascending : (ns : List (List ℕ)) → AreAscending ns → AreDistinct ns

@@ -2,17 +2,16 @@
 use Rattle.std.proofs.Common.{◌≡◌, ◌⊎◌, inl, inr, ⊎_elim, ℕ, ◌+◌, ◌<◌, ◌≤◌, Bool, true, false, List, length, refl, sym, ◌∙◌, ap, subst, arith}
 use Rattle.std.specs.Prelude.{slice_get, slice_range}
 use Rattle.std.proofs.lemmas.Bool.{cases_lt, cases_eq, false≢true}
-use Rattle.tmem_disk.specs.Disk.{DeviceView, IsDevice, ReadsAs, LeavesOnly, LeavesEach, AtEachMoment, Elapses, IsSynced, SameOutside, SameSeenOutside, Rewritten}
-use Rattle.tmem_disk.proofs.Laws.{SameOutside-refl, SameOutside-trans, SameOutside-wider, slice_get-before, slice_get-after, slice_range-before, slice_range-after, LeavesOnly-moment, LeavesOnly-each, Elapses-more, Elapses-trans, before_or_since-trans}
-use Rattle.tmem_gate.specs.Calls.{LooksOnly, WritesWithin}
+use Rattle.tmem_disk.specs.Disk.{DeviceView, IsDevice, LeavesOnly, AtEachMoment, Elapses, IsSynced, SameOutside}
+use Rattle.tmem_disk.proofs.Laws.{SameOutside-refl, SameOutside-trans, SameOutside-wider, slice_get-before, slice_get-after, slice_range-before, slice_range-after, LeavesOnly-moment, LeavesOnly-synced, LeavesOnly-after, AtEachMoment-elapsed, AtEachMoment-trans, Elapses-more, Elapses-trans}
+use Rattle.tmem_gate.specs.Calls.{LooksOnly, WritesWithin, MadeBy}
 use Rattle.tmem_gate.specs.Gate.{IsOpenAt, IsClosed, IsOpenOver}
-use Rattle.tmem_gate.proofs.Laws.{gate_cases, closed_along, closed_before, looks, by_look, by_moment, LooksOnly-trans, WritesWithin-wider, WritesWithin-trans}
+use Rattle.tmem_gate.proofs.Laws.{gate_cases, closed_along, closed_before, no_time, by_look, LooksOnly-trans, WritesWithin-refl, WritesWithin-wider, WritesWithin-trans}
 use Rattle.tmem_record.specs.Layout.{slot_place}
 use Rattle.tmem_record.specs.Spelling.{number_bytes}
 use Rattle.tmem_record.proofs.Laws.{length-number_bytes}
 use Rattle.tmem_redolog.specs.Log.{IsStale}
-use Rattle.tmem_redolog.specs.Slots.{MadeBy}
-use Rattle.tmem_redolog.specs.Closes.{bytes_from, Keeps, ReadClosed, Aside}
+use Rattle.tmem_redolog.specs.Closes.{bytes_from, IsNoOpenGate, Keeps, ReadClosed, Closes}
 use Rattle.tmem_redolog.proofs.Logs.{held_before}
 
 -- what is said under the premise alone
@@ -28,9 +27,18 @@ looks_given old new given = record {
   };
 }
 
+-- The second content is the first but for the open gates of the slots from one to another: a closed one stays closed, and
+-- what carries a generation behind each of them stays.
+pub record Aside (vars slots from to : ℕ) (b c : List ℕ) : Type 0 where
+  pub elsewhere : SameOutside (slot_place vars from) (bytes_from from slots) b c
+  pub closed : (k : ℕ) → from ≤ k → k < slots → IsClosed (slot_place vars k) b → IsClosed (slot_place vars k) c
+  pub generation : (k : ℕ) → from ≤ k → k < slots → slice_range c (slot_place vars k + 1) (slot_place vars k + 9) ≡ slice_range b (slot_place vars k + 1) (slot_place vars k + 9)
+  pub others : (i : ℕ) → IsNoOpenGate vars slots from b i → slice_get c i ≡ slice_get b i
+  pub not_yet : (k : ℕ) → to ≤ k → k < slots → slice_get c (slot_place vars k) ≡ slice_get b (slot_place vars k)
+
 -- a content is aside of itself
-pub Aside-refl : (vars slots from : ℕ) (c : List ℕ) → Aside vars slots from from c c
-Aside-refl vars slots from c = record {
+Aside-refl : (vars slots from to : ℕ) (c : List ℕ) → Aside vars slots from to c c
+Aside-refl vars slots from to c = record {
   elsewhere = SameOutside-refl (slot_place vars from) (bytes_from from slots) c;
   closed = λ k above below is. is;
   generation = λ k above below. refl;
@@ -38,13 +46,13 @@ Aside-refl vars slots from c = record {
   not_yet = λ k above below. refl;
 }
 
-pub Aside-further : (vars slots from to more : ℕ) (b c : List ℕ) → to ≤ more → Aside vars slots from to b c → Aside vars slots from more b c
-Aside-further vars slots from to more b c le aside = record {
+Aside-further : (vars slots from k : ℕ) (b c : List ℕ) → Aside vars slots from k b c → Aside vars slots from (k + 1) b c
+Aside-further vars slots from k b c aside = record {
   elsewhere = aside.elsewhere;
   closed = aside.closed;
   generation = aside.generation;
   others = aside.others;
-  not_yet = λ k above below. aside.not_yet k (omega (arith, le, above)) below;
+  not_yet = λ j above below. aside.not_yet j (omega (arith, above)) below;
 }
 
 -- a slot that is another one lies before or behind it
@@ -70,7 +78,7 @@ module _ (vars slots from k : ℕ) (low : from ≤ k) (high : k < slots) (b m c 
   at_other i (inl below) other = slice_get-before (slot_place vars k) 1 m c i below same
   at_other i (inr above) other = slice_get-after (slot_place vars k) 1 m c i (omega (arith, above, other)) same
 
-  pub Aside-next : Aside vars slots from (k + 1) b c
+  Aside-next : Aside vars slots from (k + 1) b c
   Aside-next = record {
     elsewhere = SameOutside-trans (slot_place vars from) (bytes_from from slots) b m c aside.elsewhere
         (SameOutside-wider (slot_place vars k) 1 (slot_place vars from) (bytes_from from slots) m c (omega (arith, low)) (omega (arith, low, high)) same);
@@ -81,8 +89,8 @@ module _ (vars slots from k : ℕ) (low : from ≤ k) (high : k < slots) (b m c 
   }
 
 -- what is aside keeps each log that ends before those slots
-pub keeps : (vars slots generation used : ℕ) (b c : List ℕ) → Aside vars slots used slots b c → Keeps vars slots generation used b c
-keeps vars slots generation used b c aside = record {
+keeps : (vars slots generation used to : ℕ) (b c : List ℕ) → Aside vars slots used to b c → Keeps vars slots generation used b c
+keeps vars slots generation used to b c aside = record {
   elsewhere = aside.elsewhere;
   closed = aside.closed;
   others = aside.others;
@@ -105,110 +113,82 @@ keeps vars slots generation used b c aside = record {
     stale_too k above below (inl shut) = inl (aside.closed k above below shut)
     stale_too k above below (inr it) = ⊎_elim (λ gate. inr (it.0, it.1, over k it.0 above below it.2 gate)) (λ shut. inl shut) (gate_cases (slot_place vars k) c)
 
+-- What closing the gates from one slot to another does to the device: a gate is written where it reads open.
+pub record Sets (vars slots from to : ℕ) (old now : DeviceView) : Type 0 where
+  pub model : now.keeps_model → old.keeps_model
+  pub within : WritesWithin (slot_place vars from) (bytes_from from slots) old now
+  pub seen : now.keeps_model → Aside vars slots from to old.seen now.seen
+  pub time : IsSynced old → Elapses old now (Aside vars slots from to old.seen)
+
+-- nothing is done yet
+pub Sets-refl : (vars slots from : ℕ) (d : DeviceView) → IsDevice d → Sets vars slots from from d d
+Sets-refl vars slots from d device = record {
+  model = λ k. k;
+  within = WritesWithin-refl (slot_place vars from) (bytes_from from slots) d device;
+  seen = λ k. Aside-refl vars slots from from d.seen;
+  time = λ synced. no_time d (Aside vars slots from from d.seen);
+}
+
+module _ (vars slots from to : ℕ) (old now : DeviceView) (device : IsDevice old) (device_now : IsDevice now) (sets : Sets vars slots from to old now) where
+  -- what a crash leaves then
+  sets_left : IsSynced old → LeavesOnly now (Aside vars slots from to old.seen)
+  sets_left synced = LeavesOnly-moment old now _ device_now sets.within.time.later
+      (AtEachMoment-elapsed old now _ _ device sets.model (sets.time synced) (LeavesOnly-synced old _ synced (λ k. Aside-refl vars slots from to old.seen)) (λ k c it. it))
+
+-- one gate more
+module _ (vars slots from k : ℕ) (low : from ≤ k) (high : k < slots) (old mid new : DeviceView) (device : IsDevice old) (device_mid : IsDevice mid) (model : new.keeps_model → mid.keeps_model)
+    (before : Sets vars slots from k old mid) (within : WritesWithin (slot_place vars k) 1 mid new) (idle : IsClosed (slot_place vars k) mid.seen → LooksOnly mid new) where
+  -- the gate reads as it did before
+  pub shut_in : mid.keeps_model → IsClosed (slot_place vars k) old.seen → IsClosed (slot_place vars k) mid.seen
+  shut_in keeps shut = closed_along ((before.seen keeps).not_yet k (omega arith) high) shut
+
+  -- where it read closed, it is not written
+  idle_given : IsClosed (slot_place vars k) old.seen → LooksOnly mid new
+  idle_given shut = looks_given mid new (λ keeps. idle (shut_in (model keeps) shut))
+
+  seen_by : IsOpenAt (slot_place vars k) old.seen ⊎ IsClosed (slot_place vars k) old.seen → new.keeps_model → Aside vars slots from (k + 1) old.seen new.seen
+  seen_by (inl open_now) keeps = Aside-next vars slots from k low high old.seen mid.seen new.seen open_now (before.seen (model keeps)) (within.seen keeps)
+  seen_by (inr shut) keeps = Aside-further vars slots from k old.seen new.seen (subst (λ (l : List ℕ). Aside vars slots from k old.seen l) (sym ((idle_given shut).seen keeps)) (before.seen (model keeps)))
+
+  since_by : IsOpenAt (slot_place vars k) old.seen ⊎ IsClosed (slot_place vars k) old.seen → IsSynced old → Elapses mid new (Aside vars slots from (k + 1) old.seen)
+  since_by (inl open_now) synced = Elapses-more mid new _ _ within.time (λ keeps c it. Aside-next vars slots from k low high old.seen it.0 c open_now ((sets_left vars slots from k old mid device device_mid before synced).each (model keeps) it.0 it.1) it.2)
+  since_by (inr shut) synced = Elapses-more mid new _ _ (idle_given shut).time (λ keeps c it. Aside-further vars slots from k old.seen c ((sets_left vars slots from k old mid device device_mid before synced).each (model keeps) c it))
+
+  pub Sets-next : Sets vars slots from (k + 1) old new
+  Sets-next = record {
+    model = λ keeps. before.model (model keeps);
+    within = WritesWithin-trans (slot_place vars from) (bytes_from from slots) old mid new model before.within
+        (WritesWithin-wider (slot_place vars k) 1 (slot_place vars from) (bytes_from from slots) (omega (arith, low)) (omega (arith, low, high)) mid new within);
+    seen = seen_by (gate_cases (slot_place vars k) old.seen);
+    time = λ synced. Elapses-trans old mid new _ model (Elapses-more old mid _ _ (before.time synced) (λ keeps c it. Aside-further vars slots from k old.seen c it)) (since_by (gate_cases (slot_place vars k) old.seen) synced);
+  }
+
+  -- with each gate closed before, nothing is written
+  pub idle_next : (mid.keeps_model → LooksOnly old mid) → ReadClosed vars from slots old → LooksOnly old new
+  idle_next looked closed = looks_given old new (λ keeps. LooksOnly-trans old mid new model (looked (model keeps)) (idle_given (closed k low high)))
+
+  -- and the gates up to this one read closed, once this one does
+  pub closed_next : (mid.keeps_model → ReadClosed vars from k mid) → new.keeps_model → IsClosed (slot_place vars k) new.seen → ReadClosed vars from (k + 1) new
+  closed_next shut keeps here j above below = by_place (other_slot j k)
+    where
+      by_place : (j ≡ k) ⊎ ((j < k) ⊎ (k < j)) → IsClosed (slot_place vars j) new.seen
+      by_place (inl is) = subst (λ (n : ℕ). IsClosed (slot_place vars n) new.seen) (sym is) here
+      by_place (inr (inl less)) = closed_before (slot_place vars k) 1 (slot_place vars j) mid.seen new.seen (within.seen keeps) (omega (arith, less)) (shut (model keeps) j above less)
+      by_place (inr (inr more)) = absurd (omega (arith, more, below))
+
 -- How far the gates are closed: those from one slot to another, and whether one was open.
 pub record Closing (vars slots from to : ℕ) (old now : DeviceView) (any : Bool) : Type 0 where
   pub capacity : now.capacity ≡ old.capacity
   pub failures : now.failures ≡ old.failures
   pub last : now.last_fault ≡ old.last_fault
-  pub model : now.keeps_model → old.keeps_model
-  pub within : WritesWithin (slot_place vars from) (bytes_from from slots) old now
-  pub aside : AtEachMoment old now (Aside vars slots from to old.seen)
-  pub time : Elapses old now (Aside vars slots from to old.seen)
+  pub gates : Sets vars slots from to old now
   pub closed : now.keeps_model → ReadClosed vars from to now
   pub looks : any ≡ false → LooksOnly old now
   pub idle : now.keeps_model → ReadClosed vars from to old → any ≡ false
 
--- nothing is done yet
-pub aside_first : (vars slots from : ℕ) (d : DeviceView) → IsDevice d → IsSynced d → AtEachMoment d d (Aside vars slots from from d.seen)
-aside_first vars slots from d device synced = record {
-  each = λ k c left. subst (λ (l : List ℕ). Aside vars slots from from d.seen l) (sym (synced k c (device.only_now c k left))) (Aside-refl vars slots from d.seen);
-}
-
--- one gate more
-module _ (vars slots from k : ℕ) (low : from ≤ k) (high : k < slots) (old mid new : DeviceView) (any : Bool) (device : IsDevice mid) (model : new.keeps_model → mid.keeps_model)
-    (before : Closing vars slots from k old mid any) (within : WritesWithin (slot_place vars k) 1 mid new) (idle : IsClosed (slot_place vars k) mid.seen → LooksOnly mid new) where
-  left_aside : mid.keeps_model → (c : List ℕ) → mid.may_leave c → Aside vars slots from k old.seen c
-  left_aside keeps c left = (LeavesOnly-moment old mid _ device before.within.time.later before.aside).each keeps c left
-
-  -- the gate reads as it did before
-  pub gate_as_before : mid.keeps_model → slice_get mid.seen (slot_place vars k) ≡ slice_get old.seen (slot_place vars k)
-  gate_as_before keeps = (left_aside keeps mid.seen (device.seen_may_stay keeps)).not_yet k (omega arith) high
-
-  shut_in : mid.keeps_model → IsClosed (slot_place vars k) old.seen → IsClosed (slot_place vars k) mid.seen
-  shut_in keeps shut = closed_along (gate_as_before keeps) shut
-
-  now : new.keeps_model → (c : List ℕ) → new.left_since old.moment c → IsOpenAt (slot_place vars k) old.seen ⊎ IsClosed (slot_place vars k) old.seen → Aside vars slots from (k + 1) old.seen c
-  now keeps c left (inl open_now) = ⊎_elim
-      (λ was. Aside-further vars slots from k (k + 1) old.seen c (omega arith) (before.aside.each (model keeps) c was))
-      (λ it. Aside-next vars slots from k low high old.seen it.0 c open_now (left_aside (model keeps) it.0 it.1) it.2)
-      (within.time.nothing_else keeps old.moment c (before.within.time.later (model keeps)) left)
-  now keeps c left (inr shut) = ⊎_elim
-      (λ was. Aside-further vars slots from k (k + 1) old.seen c (omega arith) (before.aside.each (model keeps) c was))
-      (λ it. Aside-further vars slots from k (k + 1) old.seen c (omega arith) (left_aside (model keeps) c it))
-      ((idle (shut_in (model keeps) shut)).time.nothing_else keeps old.moment c (before.within.time.later (model keeps)) left)
-
-  since_then : new.keeps_model → (t : ℕ) (c : List ℕ) → t ≤ old.moment → new.left_since t c → IsOpenAt (slot_place vars k) old.seen ⊎ IsClosed (slot_place vars k) old.seen → old.left_since t c ⊎ Aside vars slots from (k + 1) old.seen c
-  since_then keeps t c since left gate =
-      by_gate gate
-    where
-      earlier : mid.left_since t c → old.left_since t c ⊎ Aside vars slots from (k + 1) old.seen c
-      earlier was = ⊎_elim (λ long_ago. inl long_ago) (λ is. inr (Aside-further vars slots from k (k + 1) old.seen c (omega arith) is)) (before.time.nothing_else (model keeps) t c since was)
-
-      by_gate : IsOpenAt (slot_place vars k) old.seen ⊎ IsClosed (slot_place vars k) old.seen → old.left_since t c ⊎ Aside vars slots from (k + 1) old.seen c
-      by_gate (inl open_now) = let later = before.time.later (model keeps) in ⊎_elim earlier
-          (λ it. inr (Aside-next vars slots from k low high old.seen it.0 c open_now (left_aside (model keeps) it.0 it.1) it.2))
-          (within.time.nothing_else keeps t c (omega (arith, since, later)) left)
-      by_gate (inr shut) = let later = before.time.later (model keeps) in ⊎_elim earlier
-          (λ it. inr (Aside-further vars slots from k (k + 1) old.seen c (omega arith) (left_aside (model keeps) c it)))
-          ((idle (shut_in (model keeps) shut)).time.nothing_else keeps t c (omega (arith, since, later)) left)
-
-  pub time_next : Elapses old new (Aside vars slots from (k + 1) old.seen)
-  time_next = record {
-    later = λ keeps. let a = before.time.later (model keeps) in let b = within.time.later keeps in omega (arith, a, b);
-    nothing_else = λ keeps t c since left. since_then keeps t c since left (gate_cases (slot_place vars k) old.seen);
-    keeps = λ keeps t c since left. let a = before.time.later (model keeps) in within.time.keeps keeps t c (omega (arith, since, a)) (before.time.keeps (model keeps) t c since left);
-    before_or_since = before_or_since-trans old mid new _ _ model before.time within.time;
-  }
-
-  pub time_after : Elapses old new (Aside vars slots from slots old.seen)
-  time_after = Elapses-more old new (Aside vars slots from (k + 1) old.seen) (Aside vars slots from slots old.seen) time_next (λ keeps c is. Aside-further vars slots from (k + 1) slots old.seen c (omega (arith, high)) is)
-
-  pub aside_next : AtEachMoment old new (Aside vars slots from (k + 1) old.seen)
-  aside_next = record { each = λ keeps c left. now keeps c left (gate_cases (slot_place vars k) old.seen) }
-
-  pub aside_after : AtEachMoment old new (Aside vars slots from slots old.seen)
-  aside_after = record { each = λ keeps c left. Aside-further vars slots from (k + 1) slots old.seen c (omega (arith, high)) (aside_next.each keeps c left) }
-
-  pub within_next : WritesWithin (slot_place vars from) (bytes_from from slots) old new
-  within_next = WritesWithin-trans (slot_place vars from) (bytes_from from slots) old mid new model before.within
-      (WritesWithin-wider (slot_place vars k) 1 (slot_place vars from) (bytes_from from slots) (omega (arith, low)) (omega (arith, low, high)) mid new within)
-
-  -- with each gate closed before, nothing is written
-  pub idle_next : ReadClosed vars from slots old → LooksOnly old new
-  idle_next closed = looks_given old new (λ keeps.
-      let none = before.idle (model keeps) (λ j above below. closed j above (omega (arith, below, high))) in
-      LooksOnly-trans old mid new model (before.looks none) (idle (shut_in (model keeps) (closed k low high))))
-
-  pub shut_now : new.keeps_model → ReadClosed vars from slots old → IsClosed (slot_place vars k) mid.seen
-  shut_now keeps closed = shut_in (model keeps) (closed k low high)
-
-  pub shut_up_to : new.keeps_model → ReadClosed vars from (k + 1) old → IsClosed (slot_place vars k) mid.seen
-  shut_up_to keeps closed = shut_in (model keeps) (closed k low (omega arith))
-
-  -- and the gates up to this one read closed, once this one does
-  pub closed_next : new.keeps_model → IsClosed (slot_place vars k) new.seen → ReadClosed vars from (k + 1) new
-  closed_next keeps here j above below = by_place (other_slot j k)
-    where
-      by_place : (j ≡ k) ⊎ ((j < k) ⊎ (k < j)) → IsClosed (slot_place vars j) new.seen
-      by_place (inl is) = subst (λ (n : ℕ). IsClosed (slot_place vars n) new.seen) (sym is) here
-      by_place (inr (inl less)) = closed_before (slot_place vars k) 1 (slot_place vars j) mid.seen new.seen (within.seen keeps) (omega (arith, less)) (before.closed (model keeps) j above less)
-      by_place (inr (inr more)) = absurd (omega (arith, more, below))
-
--- a gate that was read, and then written
-pub read_and_written : (at : ℕ) (old mid new : DeviceView) → IsDevice old → IsDevice new → (mid.keeps_model → old.keeps_model) → (new.keeps_model → mid.keeps_model) → ReadsAs mid old.seen → LeavesEach mid old.may_leave → Elapses old mid mid.may_leave
-    → SameSeenOutside at 1 mid new → AtEachMoment mid new (Rewritten at 1 mid) → Elapses mid new (Rewritten at 1 mid) → WritesWithin at 1 old new
-read_and_written at old mid new device device_now model model_now seen stop time seen_now during time_now =
-    WritesWithin-trans at 1 old mid new model_now (by_look at 1 old mid device model (looks old mid seen (LeavesOnly-each mid old.may_leave stop) time) time) (by_moment at 1 mid new device_now seen_now during time_now)
+-- with each gate closed before, nothing is written so far
+pub idle_so_far : (vars slots from k : ℕ) (old now : DeviceView) (any : Bool) → k ≤ slots → Closing vars slots from k old now any → ReadClosed vars from slots old → now.keeps_model → LooksOnly old now
+idle_so_far vars slots from k old now any few closing shut keeps = closing.looks (closing.idle keeps (λ j above below. shut j above (omega (arith, below, few))))
 
 -- one was open before, or this one was
 pub no_gate_open : (any closed now : Bool) → ((any ≡ true) × (now ≡ true)) ⊎ ((any ≡ false) × (now ≡ closed)) → now ≡ false → (any ≡ false) × (closed ≡ false)
@@ -219,34 +199,31 @@ pub none_open_yet : (any closed now : Bool) → ((any ≡ true) × (now ≡ true
 none_open_yet any closed now (inl both) none this = absurd (false≢true (sym none ∙ both.0))
 none_open_yet any closed now (inr both) none this = both.1 ∙ this
 
--- what is aside of what a read gave keeps its logs
-pub keeps_each : (vars slots generation used : ℕ) (old new : DeviceView) → IsDevice old → (new.keeps_model → old.keeps_model) → AtEachMoment old new (Aside vars slots used slots old.seen) → AtEachMoment old new (MadeBy (Keeps vars slots generation used) old)
-keeps_each vars slots generation used old new device model aside = record {
-  each = λ k c left. (old.seen, device.seen_may_stay (model k), keeps vars slots generation used old.seen c (aside.each k c left));
+-- once all of them are closed, each log that ends before them stays
+pub sets_closes : (vars slots used to generation : ℕ) (old now : DeviceView) → IsDevice old → IsDevice now → Sets vars slots used to old now → Closes vars slots generation used old now
+sets_closes vars slots used to generation old now device device_now sets = record {
+  seen = λ k. keeps vars slots generation used to old.seen now.seen (sets.seen k);
+  elsewhere = sets.within;
+  any_moment = each;
+  time = time;
+  stop = λ synced. LeavesOnly-moment old now _ device_now sets.within.time.later (each synced);
 }
+  where
+    made : old.keeps_model → (c : List ℕ) → Aside vars slots used to old.seen c → MadeBy (Keeps vars slots generation used) old c
+    made k c aside = (old.seen, device.seen_may_stay k, keeps vars slots generation used to old.seen c aside)
 
--- at each moment of a longer time too
-pub keeps_time : (vars slots generation used : ℕ) (old new : DeviceView) → IsDevice old → (new.keeps_model → old.keeps_model) → Elapses old new (Aside vars slots used slots old.seen) → Elapses old new (MadeBy (Keeps vars slots generation used) old)
-keeps_time vars slots generation used old new device model time =
-    Elapses-more old new (Aside vars slots used slots old.seen) (MadeBy (Keeps vars slots generation used) old) time (λ k c aside. (old.seen, device.seen_may_stay (model k), keeps vars slots generation used old.seen c aside))
+    time : IsSynced old → Elapses old now (MadeBy (Keeps vars slots generation used) old)
+    time synced = Elapses-more old now _ _ (sets.time synced) (λ k. made (sets.model k))
 
-pub time_then : (vars slots used : ℕ) (old mid new : DeviceView) → IsDevice mid → (new.keeps_model → mid.keeps_model) → (mid.keeps_model → old.moment ≤ mid.moment) → AtEachMoment old mid (Aside vars slots used slots old.seen) → Elapses old mid (Aside vars slots used slots old.seen) → Elapses mid new new.may_leave
-    → LeavesOnly new mid.may_leave → Elapses old new (Aside vars slots used slots old.seen)
-time_then vars slots used old mid new device model later aside time then stop =
-    Elapses-trans old mid new (Aside vars slots used slots old.seen) model time
-    (Elapses-more mid new new.may_leave (Aside vars slots used slots old.seen) then (λ k c left. (LeavesOnly-moment old mid _ device later aside).each (model k) c (stop.each k c left)))
+    each : IsSynced old → AtEachMoment old now (MadeBy (Keeps vars slots generation used) old)
+    each synced = AtEachMoment-elapsed old now _ _ device sets.model (time synced) (LeavesOnly-synced old _ synced (λ k. made k old.seen (Aside-refl vars slots used to old.seen))) (λ k c it. it)
 
--- and what a read gives keeps them too
-pub keeps_seen : (vars slots generation used : ℕ) (old new : DeviceView) → IsDevice new → (new.keeps_model → old.moment ≤ new.moment) → AtEachMoment old new (Aside vars slots used slots old.seen) → new.keeps_model → Keeps vars slots generation used old.seen new.seen
-keeps_seen vars slots generation used old new device later aside k =
-    keeps vars slots generation used old.seen new.seen (aside.each k new.seen (device.counts_now old.moment new.seen k (later k) (device.seen_may_stay k)))
-
--- over a call that leaves no more than before
-pub aside_then : (vars slots used : ℕ) (old mid new : DeviceView) → IsDevice mid → (new.keeps_model → mid.keeps_model) → (mid.keeps_model → old.moment ≤ mid.moment) → AtEachMoment old mid (Aside vars slots used slots old.seen) → Elapses mid new new.may_leave → LeavesOnly new mid.may_leave
-    → AtEachMoment old new (Aside vars slots used slots old.seen)
-aside_then vars slots used old mid new device model later aside time stop = record {
-  each = λ k c left. ⊎_elim
-      (λ was. aside.each (model k) c was)
-      (λ is. (LeavesOnly-moment old mid _ device later aside).each (model k) c (stop.each k c is))
-      (time.nothing_else k old.moment c (later (model k)) left);
+-- and so it does over a call that writes nothing
+pub Closes-then_look : (vars slots generation used : ℕ) (old mid new : DeviceView) → IsDevice mid → (new.keeps_model → mid.keeps_model) → Closes vars slots generation used old mid → LooksOnly mid new → Closes vars slots generation used old new
+Closes-then_look vars slots generation used old mid new device model closes looks = record {
+  seen = λ k. subst (λ (l : List ℕ). Keeps vars slots generation used old.seen l) (sym (looks.seen k)) (closes.seen (model k));
+  elsewhere = WritesWithin-trans (slot_place vars used) (bytes_from used slots) old mid new model closes.elsewhere (by_look (slot_place vars used) (bytes_from used slots) mid new device model looks);
+  any_moment = λ synced. AtEachMoment-trans old mid new _ _ model closes.elsewhere.time.later (closes.any_moment synced) looks.time (λ k. (closes.stop synced).each (model k));
+  time = λ synced. Elapses-trans old mid new _ model (closes.time synced) (Elapses-more mid new _ _ looks.time (λ k. (closes.stop synced).each (model k)));
+  stop = λ synced. LeavesOnly-after mid new _ model looks.stop (closes.stop synced);
 }

@@ -13,7 +13,7 @@ use Rattle.tmem_record.proofs.Laws.{length-values-fold}
 use Rattle.tmem_redolog.specs.Appends.{FollowsOn, Placed, Without, With}
 use Rattle.tmem_redolog.specs.Closes.{Keeps}
 use Rattle.tmem_redolog.specs.Log.{HoldsBatches, HoldsLog, IsStale, IsWithin, replayed}
-use Rattle.tmem_redolog.specs.Slots.{MadeBy}
+use Rattle.tmem_gate.specs.Calls.{MadeBy}
 use Rattle.tmem_redolog.proofs.OneLog.{begins, generation_first}
 -- one batch more, how many a log has made, and what it takes nothing away from
 pub use Rattle.tmem_redolog.proofs.Logs.{replayed-push, length-batch_bytes, length-batch_bytes-le}

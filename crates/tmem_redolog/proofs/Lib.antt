@@ -3,6 +3,5 @@ pub mod Closing
 pub mod Laws
 pub mod Logs
 pub mod OneLog
-pub mod Putting
 pub mod Replaying
 pub mod Scanned

@@ -5,6 +5,7 @@ use Rattle.std.proofs.lemmas.Bool.{cases_lt}
 use Rattle.std.proofs.lemmas.List.Sums.{sum_by-cons}
 use Rattle.tmem_disk.proofs.Laws.{SameOutside-wider}
 use Rattle.tmem_disk.specs.Disk.{SameOutside}
+use Rattle.tmem_gate.specs.Cells.{LeftClosed, LeftOpen}
 use Rattle.tmem_gate.specs.Gate.{IsClosed}
 use Rattle.tmem_gate.proofs.Laws.{closed_after, open_before, open_after}
 use Rattle.tmem_record.specs.Batch.{record_length, records_length, IsBatch}
@@ -15,7 +16,6 @@ use Rattle.tmem_record.specs.declared.effect.Effect.{Effect}
 use Rattle.tmem_record.proofs.Laws.{count-fold, length-number_bytes, length-write_bytes}
 use Rattle.tmem_redolog.specs.Log.{HoldsBatch, HoldsBatches, IsStale, IsWithin, replayed}
 use Rattle.tmem_redolog.specs.Appends.{Placed, Without, With}
-use Rattle.tmem_redolog.specs.Slots.{LeftClosed, LeftOpen}
 
 -- how many bytes a batch has
 
@@ -125,8 +125,8 @@ without p n short b c left =
     }
 
 -- an open one has the batch that goes last
-pub with_batch : (p : Placed) → p.slot < p.slots → IsBatch p.vars p.batch → p.first + length p.batch < 2 ^ 64 → (b c : List ℕ) → LeftOpen (slot_place p.vars p.slot) (batch_bytes p.generation p.first p.batch) b c → With p b c
-with_batch p room is number b c left =
+pub with_batch : (p : Placed) → p.slot < p.slots → IsBatch p.vars p.batch → p.first + length p.batch < 2 ^ 64 → (seen b c : List ℕ) → LeftOpen (slot_place p.vars p.slot) (batch_bytes p.generation p.first p.batch) seen b c → With p b c
+with_batch p room is number seen b c left =
     let bytes = batch_bytes p.generation p.first p.batch in
     let same = SameOutside-wider (slot_place p.vars p.slot) (1 + length bytes) (slot_place p.vars p.slot) 4096 b c (omega arith) (omega (arith, length-batch_bytes-le p.vars p.generation p.first p.batch is)) left.elsewhere in
     record {

@@ -165,26 +165,6 @@ module _ (vars slots generation : ℕ) (few : vars ≤ 2 ^ 16) (fits : generatio
 pub as_damaged : {P : Type 0} (f : Fault) → f ≡ fault.Damaged → P → IsWhyNone P f
 as_damaged {P} f is none = subst (IsWhyNone P) (sym is) none
 
--- why there is no log may be said of another thing that follows
-pub why_weaker : {P Q : Type 0} (f : Fault) → (P → Q) → IsWhyNone P f → IsWhyNone Q f
-why_weaker fault.Memory from why = tt
-why_weaker fault.Device from why = tt
-why_weaker fault.Closed from why = why
-why_weaker fault.Unknown from why = why
-why_weaker fault.Full from why = why
-why_weaker fault.LogFull from why = why
-why_weaker fault.Conflict from why = why
-why_weaker fault.NotFormatted from why = why
-why_weaker fault.Damaged from why = from why
-why_weaker (fault.Missing n) from why = why
-why_weaker (fault.Broken n) from why = why
-why_weaker (fault.BadPlan n) from why = why
-why_weaker fault.BadName from why = why
-why_weaker fault.BadFootprint from why = why
-why_weaker fault.Spent from why = why
-why_weaker fault.NoSeat from why = why
-why_weaker fault.Geometry from why = why
-
 -- what was read of all slots
-pub is_log : (vars slots at : ℕ) (c items log : List ℕ) → at ≡ slot_place vars 0 → items ≡ slice_range c at (at + 4096 * slots) → log ≡ items → IsLogOf vars slots log c
-is_log vars slots at c items log place read same = record { read = same ∙ read ∙ ap (λ (n : ℕ). slice_range c n (n + 4096 * slots)) place }
+pub is_log : (vars slots at n : ℕ) (c items log : List ℕ) → at ≡ slot_place vars 0 → n ≡ 4096 * slots → items ≡ slice_range c at (at + n) → log ≡ items → IsLogOf vars slots log c
+is_log vars slots at n c items log place long read same = record { read = same ∙ read ∙ ap (λ (m : ℕ). slice_range c at (at + m)) long ∙ ap (λ (p : ℕ). slice_range c p (p + 4096 * slots)) place }

@@ -1,13 +1,12 @@
 -- What appending a batch makes of a log.
-use Rattle.std.specs.Prelude.{◌≡◌, ◌⊎◌, ◌≤◌, ℕ, List, [], ◌∷◌, ◌++◌, length, Result, Ok, Err}
-use Rattle.tmem_disk.specs.Disk.{DeviceView, LeavesOnly, SameOutside}
+use Rattle.std.specs.Prelude.{◌≡◌, ◌⊎◌, ◌≤◌, ℕ, List, [], ◌∷◌, ◌++◌, length}
+use Rattle.tmem_disk.specs.Disk.{SameOutside}
 use Rattle.tmem_disk.specs.declared.fault.Fault.{Fault}
 use Rattle.tmem_disk.specs.declared.fault.Fault.TheVariants.{Device, Unknown, LogFull}
 use Rattle.tmem_record.specs.Layout.{slot_place}
 use Rattle.tmem_record.specs.State.{State, fold}
 use Rattle.tmem_record.specs.declared.effect.Effect.{Effect}
 use Rattle.tmem_redolog.specs.Log.{HoldsLog, replayed}
-use Rattle.tmem_redolog.specs.Slots.{MadeBy}
 use Rattle.tmem_redolog.specs.declared.log.Log.{Log}
 use Rattle.tmem_record.specs.declared.layout.Layout.{Layout}
 
@@ -40,25 +39,6 @@ pub record Without (p : Placed) (b c : List ℕ) : Type 0 where
 pub record With (p : Placed) (b c : List ℕ) : Type 0 where
   pub elsewhere : SameOutside (slot_place p.vars p.slot) 4096 b c
   pub log : (image : State) (batches : List (List Effect)) → FollowsOn p.slot p.first p.batch image batches → HoldsLog p.vars p.slots p.generation image batches b → HoldsLog p.vars p.slots p.generation image (batches ++ p.batch ∷ []) c
-
--- the log without the batch, or with it
-abbrev pub Either : Placed → List ℕ → List ℕ → Type 0
-Either p b c = Without p b c ⊎ With p b c
-
--- What a crash leaves after an append: at Ok the log with the batch, where the write of its bytes failed the log without
--- it, where a sync or the write of the gate failed either.
-abbrev pub Appended : Placed → DeviceView → DeviceView → Result (Unit {0}) Fault → Type 0
-Appended p old new (Ok _) = LeavesOnly new (MadeBy (With p) old)
-Appended p old new (Err Device) = LeavesOnly new (MadeBy (Without p) old)
-Appended p old new (Err Unknown) = LeavesOnly new (MadeBy (Either p) old)
-Appended p old new (Err LogFull) = Unit {0}
-Appended p old new (Err _) = ⊥
-
--- What a crash inside the call leaves: where the write of the batch failed, the log without it.
-abbrev pub Meanwhile : Placed → DeviceView → Result (Unit {0}) Fault → List ℕ → Type 0
-Meanwhile p old (Err Device) = MadeBy (Without p) old
-Meanwhile p old (Err LogFull) = old.may_leave
-Meanwhile p old _ = MadeBy (Either p) old
 
 -- what an append is refused by
 abbrev pub IsAppendFault : Fault → Type 0

@@ -1,6 +1,7 @@
 -- What closing the stale gates behind a log leaves.
-use Rattle.std.specs.Prelude.{◌≡◌, ◌≢◌, ◌<◌, ◌≤◌, ◌+◌, ◌-◌, ◌*◌, ℕ, List, length, slice_get, slice_range}
-use Rattle.tmem_disk.specs.Disk.{DeviceView, SameOutside}
+use Rattle.std.specs.Prelude.{◌≡◌, ◌≢◌, ◌<◌, ◌≤◌, ◌-◌, ◌*◌, ℕ, List, length, slice_get}
+use Rattle.tmem_disk.specs.Disk.{DeviceView, SameOutside, AtEachMoment, Elapses, LeavesOnly, IsSynced}
+use Rattle.tmem_gate.specs.Calls.{WritesWithin, MadeBy}
 use Rattle.tmem_gate.specs.Gate.{IsOpenAt, IsClosed}
 use Rattle.tmem_record.specs.Layout.{slot_place}
 use Rattle.tmem_record.specs.State.{State}
@@ -28,14 +29,15 @@ pub record Keeps (vars slots generation used : ℕ) (b c : List ℕ) : Type 0 wh
 abbrev pub ReadClosed : ℕ → ℕ → ℕ → DeviceView → Type 0
 ReadClosed vars from to d = (k : ℕ) → from ≤ k → k < to → IsClosed (slot_place vars k) d.seen
 
--- The second content is the first but for the open gates of the slots from one to another: a closed one stays closed, and
--- what carries a generation behind each of them stays.
-pub record Aside (vars slots from to : ℕ) (b c : List ℕ) : Type 0 where
-  pub elsewhere : SameOutside (slot_place vars from) (bytes_from from slots) b c
-  pub closed : (k : ℕ) → from ≤ k → k < slots → IsClosed (slot_place vars k) b → IsClosed (slot_place vars k) c
-  pub generation : (k : ℕ) → from ≤ k → k < slots → slice_range c (slot_place vars k + 1) (slot_place vars k + 9) ≡ slice_range b (slot_place vars k + 1) (slot_place vars k + 9)
-  pub others : (i : ℕ) → IsNoOpenGate vars slots from b i → slice_get c i ≡ slice_get b i
-  pub not_yet : (k : ℕ) → to ≤ k → k < slots → slice_get c (slot_place vars k) ≡ slice_get b (slot_place vars k)
+-- What closing gates behind a log does to a device, whatever it answers. A read gives what it gave before but for open gates,
+-- and nothing outside those slots is written. On a device that was synced before, a crash at any moment of the call, or after
+-- it, leaves what it might have left before, but for such gates.
+pub record Closes (vars slots generation used : ℕ) (old new : DeviceView) : Type 0 where
+  pub seen : new.keeps_model → Keeps vars slots generation used old.seen new.seen
+  pub elsewhere : WritesWithin (slot_place vars used) (bytes_from used slots) old new
+  pub any_moment : IsSynced old → AtEachMoment old new (MadeBy (Keeps vars slots generation used) old)
+  pub time : IsSynced old → Elapses old new (MadeBy (Keeps vars slots generation used) old)
+  pub stop : IsSynced old → LeavesOnly new (MadeBy (Keeps vars slots generation used) old)
 
 -- the log of a generation that has no batch yet
 abbrev pub empty_log : ℕ → Log

@@ -1,16 +1,17 @@
 // One batch more.
 ghost use Rattle.std.specs.Prelude.{Some, ◌≡◌, ◌↔◌, ◌<◌, ◌≤◌, ◌+◌, ◌^◌, ℕ, length, OnOk, OnErr, IfErr, IfSome, IsErrOf};
-ghost use Rattle.tmem_disk.specs.Disk.{SameSeenOutside, AtEachMoment, IsSynced, IsWriteOrSync};
-ghost use Rattle.tmem_gate.specs.Calls.{Uses, WritesWithin};
+ghost use Rattle.tmem_disk.specs.Disk.{SameSeenOutside, IsSynced, IsWriteOrSync};
+ghost use Rattle.tmem_gate.specs.Calls.{Uses};
+ghost use Rattle.tmem_gate.specs.Changes.{Puts, outcome_of};
 ghost use Rattle.tmem_gate.specs.Gate.{StandsClosed, HasBody};
 ghost use Rattle.tmem_record.specs.Batch.{IsBatch};
 ghost use Rattle.tmem_record.specs.Layout.{slot_place, end_place};
 ghost use Rattle.tmem_record.specs.Spelling.{batch_bytes};
-ghost use Rattle.tmem_redolog.specs.Appends.{placed, Appended, Meanwhile, IsAppendFault};
+ghost use Rattle.tmem_redolog.specs.Appends.{placed, Without, With, IsAppendFault};
 
 use crate::log::Log;
-use crate::slot::put_slot;
 use tmem_disk::{DeviceFault, Disk, Fault};
+use tmem_gate::put_cell;
 use tmem_record::{BATCH_ROOM, Batch, Layout, SLOT_SIZE, encode_batch};
 
 /// Puts a batch last in the log, into the first slot behind it, whose gate stands closed. `LogFull` where every slot is
@@ -48,15 +49,13 @@ pub fn append<D: Disk>(
     ensures body_written { IsErrOf result Fault.Unknown → (D.view disk.new).keeps_model →
         HasBody (slot_place layout.vars log.old.used) (batch_bytes log.old.generation first batch.now) (D.view disk.new).seen }
 
-    // Nothing outside the slot changes, and each closed slot behind it stays closed.
-    ensures elsewhere { WritesWithin (slot_place layout.vars log.old.used) SLOT_SIZE (D.view disk.old) (D.view disk.new) }
+    // A crash leaves what one might have left before, with the batch or without it in each log that it follows on. Nothing
+    // outside the slot changes, and each closed slot behind it stays closed.
+    ensures puts { Puts (slot_place layout.vars log.old.used) SLOT_SIZE
+        (Without (placed layout log.old first batch.now)) (With (placed layout log.old first batch.now))
+        (D.view disk.old) (D.view disk.new) (outcome_of result) }
     ensures behind { (k : ℕ) → log.old.used < k → StandsClosed (slot_place layout.vars k) (D.view disk.old)
         → StandsClosed (slot_place layout.vars k) (D.view disk.new) }
-
-    // A crash leaves what one might have left before, with the batch or without it in each log that it follows on.
-    ensures stands { Appended (placed layout log.old first batch.now) (D.view disk.old) (D.view disk.new) result }
-    ensures any_moment { AtEachMoment (D.view disk.old) (D.view disk.new)
-        (Meanwhile (placed layout log.old first batch.now) (D.view disk.old) result) }
 
     // After `Ok` every write made before is synced, and that of the batch.
     ensures durable { OnOk result (IsSynced (D.view disk.new)) }
@@ -70,7 +69,7 @@ pub fn append<D: Disk>(
         return Err(Fault::LogFull);
     }
     let len = encode_batch(batch, log.generation, first, buffer);
-    let put = put_slot(disk, layout.slot(log.used), &buffer[..len]);
+    let put = put_cell(disk, layout.slot(log.used), &buffer[..len]);
     if put.is_ok() {
         log.used += 1;
     }

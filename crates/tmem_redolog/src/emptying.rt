@@ -1,11 +1,10 @@
 // The log behind an image that holds all that the log held.
 ghost use Rattle.std.specs.Prelude.{◌≡◌, ◌⊎◌, ◌<◌, ◌≤◌, Some, ℕ, OnOk, OnErr, IfErr, IfSome, IsErrOf};
-ghost use Rattle.tmem_disk.specs.Disk.{AtEachMoment, Elapses, LeavesOnly, IsSynced};
-ghost use Rattle.tmem_gate.specs.Calls.{Uses, LooksOnly, WritesWithin};
+ghost use Rattle.tmem_disk.specs.Disk.{IsSynced};
+ghost use Rattle.tmem_gate.specs.Calls.{Uses, LooksOnly};
 ghost use Rattle.tmem_gate.specs.Gate.{StandsClosed};
 ghost use Rattle.tmem_record.specs.Layout.{slot_place, end_place};
-ghost use Rattle.tmem_redolog.specs.Closes.{bytes_from, Keeps, ReadClosed, empty_log};
-ghost use Rattle.tmem_redolog.specs.Slots.{MadeBy};
+ghost use Rattle.tmem_redolog.specs.Closes.{Closes, ReadClosed, empty_log};
 
 use crate::log::Log;
 use crate::stale::close_stale;
@@ -13,8 +12,8 @@ use tmem_disk::{DeviceFault, Disk, Fault};
 use tmem_record::Layout;
 
 /// Begins an empty log of this generation, once an image of it holds all that the log held: closes the gate of each slot
-/// that reads open, and syncs where there was one. The device is synced before. `Device` where a read or a write failed,
-/// `Unknown` where the sync failed: a gate may stand closed then or not, and the log's numbers stay.
+/// that reads open, and syncs where there was one. `Device` where a read or a write failed, `Unknown` where the sync failed:
+/// a gate may stand closed then or not, and the log's numbers stay.
 pub fn empty<D: Disk>(
     disk: &mut D,
     layout: &Layout,
@@ -22,7 +21,6 @@ pub fn empty<D: Disk>(
     generation: u64,
 ) -> Result<(), Fault>
     requires room { end_place layout.now.vars layout.now.slots ≤ (D.view disk.old).capacity }
-    requires synced { IsSynced (D.view disk.old) }
     ensures uses { Uses (D.view disk.old) (D.view disk.new) result }
 
     // At `Device` a read or a write failed, at `Unknown` the sync.
@@ -31,25 +29,13 @@ pub fn empty<D: Disk>(
         IfSome (D.view disk.new).last_fault (λ f. (f ≡ DeviceFault.Read) ⊎ (f ≡ DeviceFault.Write)) }
     ensures sync_failed { IsErrOf result Fault.Unknown → (D.view disk.new).last_fault ≡ Some DeviceFault.Sync }
 
-    // A crash at any moment, or one after any answer, leaves what it might have left before, but for the open gates of
-    // the slots, and with the empty log of this generation where there was one.
-    ensures any_moment { AtEachMoment (D.view disk.old) (D.view disk.new)
-        (MadeBy (Keeps layout.now.vars layout.now.slots generation 0) (D.view disk.old)) }
-    ensures time { Elapses (D.view disk.old) (D.view disk.new)
-        (MadeBy (Keeps layout.now.vars layout.now.slots generation 0) (D.view disk.old)) }
-    ensures stands { LeavesOnly (D.view disk.new)
-        (MadeBy (Keeps layout.now.vars layout.now.slots generation 0) (D.view disk.old)) }
+    // The empty log of this generation stays where there was one, and every byte but the open gates of the slots.
+    ensures closes { Closes layout.now.vars layout.now.slots generation 0 (D.view disk.old) (D.view disk.new) }
 
-    // A read gives what it gave before, but for those gates too. Nothing outside the slots is written.
-    ensures seen { (D.view disk.new).keeps_model →
-        Keeps layout.now.vars layout.now.slots generation 0 (D.view disk.old).seen (D.view disk.new).seen }
-    ensures elsewhere { WritesWithin (slot_place layout.now.vars 0) (bytes_from 0 layout.now.slots)
-        (D.view disk.old) (D.view disk.new) }
-
-    // After `Ok` each slot reads closed, and stands closed.
+    // After `Ok` each slot reads closed, and stands closed where the device was synced before.
     ensures read_closed { (D.view disk.new).keeps_model → OnOk result (ReadClosed layout.now.vars 0 layout.now.slots (D.view disk.new)) }
-    ensures closed { OnOk result ((k : ℕ) → k < layout.now.slots → StandsClosed (slot_place layout.now.vars k) (D.view disk.new)) }
-    ensures durable { OnOk result (IsSynced (D.view disk.new)) }
+    ensures closed { IsSynced (D.view disk.old) → OnOk result ((k : ℕ) → k < layout.now.slots → StandsClosed (slot_place layout.now.vars k) (D.view disk.new)) }
+    ensures durable { IsSynced (D.view disk.old) → OnOk result (IsSynced (D.view disk.new)) }
 
     // With nothing to close there is no write, and no sync that could fail.
     ensures idle { ReadClosed layout.now.vars 0 layout.now.slots (D.view disk.old) →

@@ -10,14 +10,15 @@ mod appending;
 mod emptying;
 mod log;
 mod replay;
+mod room;
 mod scanning;
-mod slot;
 mod stale;
 mod unique;
 
 pub use appending::append;
 pub use emptying::empty;
 pub use log::Log;
+pub use room::LogRoom;
 pub use scanning::scan;
 pub use stale::close_stale;
 pub use unique::one_log;

@@ -1,32 +1,34 @@
 // Reads the log of a device.
-ghost use Rattle.std.specs.Prelude.{◌≡◌, ◌⊎◌, ◌↔◌, ◌<◌, ◌≤◌, ◌+◌, ◌*◌, ℕ, List, length, IsTrue, IfOk, OnOk, IfErr};
+ghost use Rattle.std.specs.Prelude.{◌≡◌, ◌↔◌, ◌<◌, ◌≤◌, ◌+◌, ◌*◌, ℕ, List, length, IsTrue, IfOk, OnOk, OnErr, IfErr};
 ghost use Rattle.tmem_gate.specs.Calls.{Uses, LooksOnly};
 ghost use Rattle.tmem_gate.specs.Gate.{IsOpenOver};
 ghost use Rattle.tmem_record.specs.Layout.{slot_place, end_place};
 ghost use Rattle.tmem_record.specs.Spelling.{number_bytes};
 ghost use Rattle.tmem_record.specs.declared.effect.Effect.{Effect as EffectOf};
 ghost use Rattle.tmem_redolog.specs.Log.{HoldsLog, IsStale, IsWithin};
+ghost use Rattle.tmem_redolog.specs.Room.{IsLogRoom};
 ghost use Rattle.tmem_redolog.specs.Scans.{FindsLog, IsWhyNone, IsLogOf, slot_bytes, HoldsFrom, Reached};
 
 use crate::log::Log;
 use crate::replay::{carries, is_stale, replay_slot};
-use std::alloc::Global;
+use crate::room::LogRoom;
 use tmem_disk::{Disk, Fault};
 use tmem_gate::device::read_piece;
 use tmem_record::{Batch, Layout, SLOT_SIZE, State};
 
 /// Reads the log over an image of this generation, and brings the image's state to the state after it. The log is read in
-/// one piece. `Damaged` where the device holds no log over that image; `Memory`; and `Device` where the read failed. After
-/// a refusal the state is of no use.
+/// one piece, into the room that is given. `Damaged` where the device holds no log over that image; and `Device` where the
+/// read failed. After a refusal the state is of no use. It takes no memory.
 pub fn scan<D: Disk>(
-    alloc: Global,
     disk: &mut D,
     layout: Layout,
     generation: u64,
     state: &mut State,
+    room: LogRoom,
 ) -> Result<Log, Fault>
-    requires room { end_place layout.vars layout.slots ≤ (D.view disk.old).capacity }
+    requires fits { end_place layout.vars layout.slots ≤ (D.view disk.old).capacity }
     requires sized { length state.old.values ≡ layout.vars }
+    requires room { IsLogRoom layout.slots room }
     ensures uses { Uses (D.view disk.old) (D.view disk.new) result }
     ensures looks { LooksOnly (D.view disk.old) (D.view disk.new) }
     ensures generation { IfOk result (λ log. log.generation ≡ generation) }
@@ -37,10 +39,10 @@ pub fn scan<D: Disk>(
     ensures refused { IfErr result (IsWhyNone ((D.view disk.new).keeps_model → (batches : List (List EffectOf)) →
         HoldsLog layout.vars layout.slots generation state.old batches (D.view disk.old).seen → ⊥)) }
 {
-    let len = SLOT_SIZE * layout.slots as usize;
-    let log = read_piece(alloc, disk, layout.slot(0), len)?;
+    let LogRoom { bytes, mut batch } = room;
+    let log = read_piece(disk, layout.slot(0), bytes)?;
     let bytes: &[u8] = &log;
-    let used = replay(alloc, bytes, layout, generation, state)?;
+    let used = replay(bytes, layout, generation, &mut batch, state)?;
     if !are_stale(bytes, used, layout.slots, generation) {
         return Err(Fault::Damaged);
     }
@@ -58,35 +60,34 @@ fn slot_of(log: &[u8], k: u16) -> &[u8]
 }
 
 // Replays the slots from the first one on, as long as they are open and of this generation, and answers how many there
-// are. `Damaged` where one of them cannot be replayed; and `Memory` where there is no room for one batch, into which each
-// slot is read in turn.
+// are. `Damaged` where one of them cannot be replayed: the one refusal. Each is read in turn into the batch that is lent,
+// which may hold anything before and after.
 fn replay(
-    alloc: Global,
     log: &[u8],
     layout: Layout,
     generation: u64,
+    batch: &mut Batch,
     state: &mut State,
 ) -> Result<u16, Fault>
     requires long { length log.now ≡ 4096 * layout.slots }
     requires sized { length state.old.values ≡ layout.vars }
-    ensures errors { IfErr result (λ f. (f ≡ Fault.Memory) ⊎ (f ≡ Fault.Damaged)) }
+    ensures errors { IfErr result (λ f. f ≡ Fault.Damaged) }
     ensures few { IfOk result (λ used. used ≤ layout.slots) }
     ensures sized { OnOk result (length state.new.values ≡ layout.vars) }
     ensures within { OnOk result (IsWithin state.new) }
     ensures reached { IfOk result (λ used. (c : List ℕ) → IsLogOf layout.vars layout.slots log.now c →
         Reached layout.vars layout.slots generation state.old used state.new c) }
     ensures ends { IfOk result (λ used. used < layout.slots → IsOpenOver 0 (number_bytes 8 generation) (slot_bytes log.now used) → ⊥) }
-    ensures refused { IfErr result (IsWhyNone ((c : List ℕ) → IsLogOf layout.vars layout.slots log.now c → (batches : List (List EffectOf)) →
-        HoldsFrom layout.vars layout.slots generation 0 state.old batches c → ⊥)) }
+    ensures refused { OnErr result ((c : List ℕ) → IsLogOf layout.vars layout.slots log.now c → (batches : List (List EffectOf)) →
+        HoldsFrom layout.vars layout.slots generation 0 state.old batches c → ⊥) }
 {
     recall_limits(state);
-    let mut batch = Batch::new(alloc)?;
     for k in 0..layout.slots {
         let slot = slot_of(log, k);
         if !carries(slot, generation) {
             return Ok(k);
         }
-        replay_slot(slot, layout.vars, generation, &mut batch, state)?;
+        replay_slot(slot, layout.vars, generation, batch, state)?;
     }
     Ok(layout.slots)
 }

@@ -1,12 +1,13 @@
 // What lies under the core's lock.
-ghost use Rattle.std.specs.Prelude.{◌≡◌, ◌↔◌, ◌+◌, ◌<◌, ◌≤◌, slice_get, map, IfOk, IfErr, OnOk, Some, ◌++◌, ◌∷◌, [], true, length, MatchBool, All, IsTrue, IfSome, IfNone};
+ghost use Rattle.std.specs.Prelude.{◌≡◌, ◌↔◌, ◌+◌, ◌^◌, ◌<◌, ◌≤◌, slice_get, map, IfOk, IfErr, OnOk, Some, ◌++◌, ◌∷◌, [], true, false, length, MatchBool, All, IsTrue, IfSome, IfNone};
 ghost use Rattle.tmem_record.specs.Prefix.{IsPrefix};
 ghost use Rattle.tmem_record.specs.Names.{has_name};
-ghost use Rattle.tmem_record.specs.declared.effect.Effect.{Effect as EffectOf};
+ghost use Rattle.tmem_tentative.specs.declared.attempt.Attempt.{Attempt as AttemptOf};
 ghost use Rattle.tmem_tentative.specs.Fits.{IsForVariables};
-ghost use Rattle.tmem_core.specs.Held.{state_of, opened_of, history_of, waiting_of, durable_of, is_shut_of, table_of};
+ghost use Rattle.tmem_core.specs.Held.{state_of, waiting_of, durable_of, is_shut_of, table_of};
 ghost use Rattle.tmem_core.specs.SettleAnswer.{settle_answer, judged, accepted_by};
 ghost use Rattle.tmem_core.specs.Decisions.{answer_of, taken_by, RetriesAt};
+ghost use Rattle.tmem_core.specs.Program.{IsProgramOf};
 ghost use Rattle.tmem_core.specs.Verdict.{verdict};
 ghost use Rattle.tmem_tentative.specs.Right.{IsRight};
 ghost use Rattle.tmem_tree.specs.declared.tx.Tx.{Tx as TxOf};
@@ -15,7 +16,7 @@ ghost use Rattle.tmem_spine.specs.Views.{new_core, new_pass};
 ghost use Rattle.tmem_spine.specs.declared.spine.TheConstants.{MOST_PASSES};
 ghost use Rattle.tmem_seats.specs.Flushing.{GoesOn, TakesOldest};
 ghost use Rattle.tmem_seats.specs.Histories.{after, marked, numbered, IsSoundState};
-ghost use Rattle.tmem_seats.specs.Seats.{HasMoreOrShut, HasFlushedOrShut, HasRoomOrShut, HasWorkOrShut};
+ghost use Rattle.tmem_seats.specs.Seats.{HasMoreOrShut, HasFlushedOrEnded, HasRoomOrShut, HasWorkOrShut, first_failure};
 
 use crate::failure::Failure;
 use crate::naming::StoreNaming;
@@ -29,7 +30,7 @@ use tmem_spine::{CoreSide, JournalSide, Pass, Spine};
 use tmem_tentative::{Attempt, Reads};
 
 /// The core, beside its seat. Contracts see what it accepted, how many are known durable, how many passes it gave out,
-/// and whether it is shut.
+/// whether it is shut, whether it then still waits for a flush, and how its device failed.
 #[derive(Drop)]
 pub struct CoreSeat<N: StoreNaming, T: Invariants> {
     core: Core<T>,
@@ -44,15 +45,14 @@ pub struct CoreSeat<N: StoreNaming, T: Invariants> {
 
 impl<N: StoreNaming, T: Invariants> Model for CoreSeat<N, T> {
     ghost use Rattle.std.specs.Prelude.{◌≡◌};
-    ghost use Rattle.tmem_core.specs.Held.{is_shut_of, table_of};
+    ghost use Rattle.tmem_core.specs.Held.{is_shut_of};
     ghost use Rattle.tmem_seats.specs.Seats.{CoreSeatView, IsCoreOf};
 
     ghost Value = { CoreSeatView };
 
-    ghost view = { λ s. record { accepted = s.side.accepted; trimmed = s.side.trimmed; given = s.side.given; is_shut = is_shut_of s.core } };
+    ghost view = { λ s. record { accepted = s.side.accepted; trimmed = s.side.trimmed; given = s.side.given; is_shut = is_shut_of s.core; is_draining = s.is_draining; failure = s.failure } };
 
-    ghost invariant = { λ s. IsCoreOf N.name.start N.opening N.program s.core s.side × T.is_stated (table_of s.core) N.program.tests
-        × (T.names (table_of s.core) ≡ N.program.names) };
+    ghost invariant = { λ s. IsCoreOf N.name.start N.opening N.program s.core s.side };
 }
 
 impl<N: StoreNaming, T: Invariants + Drop> CoreSeat<N, T> {
@@ -60,9 +60,8 @@ impl<N: StoreNaming, T: Invariants + Drop> CoreSeat<N, T> {
     pub fn new(core: Core<T>, side: CoreSide<N>) -> CoreSeat<N, T>
         requires opening { (state_of core ≡ N.opening) × (N.opening.count ≡ N.name.start) }
         requires fresh { (waiting_of core ≡ []) × (durable_of core ≡ N.name.start) × (side ≡ new_core N.name.start) }
-        requires stated { T.is_stated (table_of core) N.program.tests }
-        requires named { T.names (table_of core) ≡ N.program.names }
-        ensures { (result.accepted ≡ []) × (result.trimmed ≡ N.name.start) × (result.given ≡ 0) × (result.is_shut ≡ is_shut_of core) }
+        requires program { IsProgramOf T.Invariants (table_of core) N.program }
+        ensures { (result.accepted ≡ []) × (result.trimmed ≡ N.name.start) × (result.given ≡ 0) × (result.is_shut ≡ is_shut_of core) × (result.is_draining ≡ false) × (result.failure ≡ Failure.None) }
     {
         let (looks, is_draining, failure) = (0, false, Failure::None);
         CoreSeat {
@@ -92,22 +91,18 @@ impl<N: StoreNaming, T: Invariants + Drop> CoreSeat<N, T> {
             → answer_of result attempt.now.registers ≡ judged self.old.is_shut (after N.opening self.old.accepted) self.new.trimmed attempt.now.reads.entries (verdict N.program tx (after N.opening self.old.accepted)) }
         ensures number { (after N.opening self.old.accepted).count ≡ count N.name.start self.old.accepted }
         ensures retries { RetriesAt (count N.name.start self.old.accepted) result }
-        ensures accepted { self.new.accepted ≡ self.old.accepted ++ marked pass.old.mark (taken_by result attempt.now.effect) }
-        ensures pass { pass.new ≡ record pass.old { known = self.new.accepted; own = pass.old.own ++ numbered (count N.name.start self.old.accepted) (taken_by result attempt.now.effect) } }
+        ensures accepted { self.new.accepted ≡ self.old.accepted ++ marked pass.old.mark (taken_by result attempt.now) }
+        ensures pass { pass.new ≡ record pass.old { known = self.new.accepted; own = pass.old.own ++ numbered (count N.name.start self.old.accepted) (taken_by result attempt.now) } }
         ensures begins { IsPrefix pass.old.known self.old.accepted }
         ensures sound { IsSoundState N.program (after N.opening self.new.accepted) }
-        ensures rest { (self.new.given ≡ self.old.given) × (self.new.is_shut ≡ self.old.is_shut) }
+        ensures rest { self.new ≡ record self.old { accepted = self.new.accepted; trimmed = self.new.trimmed } }
     {
         let durable = spine.trim(&mut self.side, pass);
         self.core.note_durable(durable);
         let decision = self.core.decide(attempt);
-        if commits(&decision) {
-            // that the count has room for it is why the core accepted it
-            let _count = self.core.count();
-            spine.accept(&mut self.side, pass, &attempt.effect);
-        } else {
-            spine.meet_core(&mut self.side, pass);
-        }
+        // that the count has room for it is why the core accepted it
+        let _count = self.core.count();
+        enter(spine, &mut self.side, pass, &decision, attempt);
         decision
     }
 
@@ -129,7 +124,7 @@ impl<N: StoreNaming, T: Invariants + Drop> CoreSeat<N, T> {
         ensures pass { pass.new ≡ record pass.old { known = self.new.accepted; own = pass.old.own ++ numbered (count N.name.start self.old.accepted) (accepted_by result attempt.now.effect) } }
         ensures begins { IsPrefix pass.old.known self.old.accepted }
         ensures sound { IsSoundState N.program (after N.opening self.new.accepted) }
-        ensures rest { (self.new.given ≡ self.old.given) × (self.new.is_shut ≡ self.old.is_shut) }
+        ensures rest { self.new ≡ record self.old { accepted = self.new.accepted; trimmed = self.new.trimmed } }
     {
         let decision = self.decide(spine, pass, attempt);
         with_registers(decision, attempt)
@@ -258,7 +253,7 @@ impl<N: StoreNaming, T: Invariants + Drop> CoreSeat<N, T> {
     /// Whether more than so many are known durable, or it was shut and no flush is to come: what a call waits for that awaits a flush.
     /// The look is counted.
     pub fn has_flushed(&mut self, number: u64) -> bool
-        ensures more { IsTrue result → HasFlushedOrShut number self.new }
+        ensures more { IsTrue result ↔ HasFlushedOrEnded number self.new }
         ensures same { self.new ≡ self.old }
     {
         self.looks = self.looks.wrapping_add(1);
@@ -304,23 +299,28 @@ impl<N: StoreNaming, T: Invariants + Drop> CoreSeat<N, T> {
 
     /// Later attempts are refused as `Closed`, and no flush is awaited any more.
     pub fn shut(&mut self)
-        ensures { self.new ≡ record self.old { is_shut = true } }
+        ensures { self.new ≡ record self.old { is_shut = true; is_draining = false } }
     {
         self.core.shut();
         self.is_draining = false;
     }
 
-    /// Later attempts are refused as `Closed`. What waits is to be flushed, and is awaited until `shut`.
+    /// Later attempts are refused as `Closed`. What waits is to be flushed, and is awaited until `shut`. Where it was shut before, that
+    /// ended the waits, and they do not begin again.
     pub fn drain(&mut self)
-        ensures { self.new ≡ record self.old { is_shut = true } }
+        ensures open { self.old.is_shut ≡ false → self.new ≡ record self.old { is_shut = true; is_draining = true } }
+        ensures shut { self.old.is_shut ≡ true → self.new ≡ self.old }
     {
+        if self.is_shut() {
+            return;
+        }
         self.shut();
         self.is_draining = true;
     }
 
     /// The device has failed, so nothing is settled or flushed any more. The first failure is kept.
     pub fn fail(&mut self, failure: Failure)
-        ensures { self.new ≡ record self.old { is_shut = true } }
+        ensures { self.new ≡ record self.old { is_shut = true; is_draining = false; failure = first_failure self.old.failure failure } }
     {
         self.shut();
         if matches!(self.failure, Failure::None) {
@@ -329,14 +329,36 @@ impl<N: StoreNaming, T: Invariants + Drop> CoreSeat<N, T> {
     }
 
     /// How the device failed first, if it did.
-    pub fn failure(&self) -> Failure {
+    pub fn failure(&self) -> Failure
+        ensures { result ≡ self.now.failure }
+    {
         self.failure
+    }
+}
+
+// Enters into the history what was decided of an attempt for a pass. The pass knows all that is accepted then.
+fn enter<N: StoreNaming>(
+    spine: &Spine<N>,
+    side: &mut CoreSide<N>,
+    pass: &mut Pass<N>,
+    decision: &Result<Decision, Fault>,
+    attempt: &Attempt,
+)
+    requires begins { IsPrefix pass.old.known side.old.accepted }
+    requires room { count N.name.start side.old.accepted + length (taken_by decision.now attempt.now) < 2 ^ 64 }
+    ensures side { side.new ≡ record side.old { accepted = side.old.accepted ++ marked pass.old.mark (taken_by decision.now attempt.now) } }
+    ensures pass { pass.new ≡ record pass.old { known = side.new.accepted; own = pass.old.own ++ numbered (count N.name.start side.old.accepted) (taken_by decision.now attempt.now) } }
+{
+    if commits(decision) {
+        spine.accept(side, pass, &attempt.effect);
+    } else {
+        spine.meet_core(side, pass);
     }
 }
 
 // Whether a decision accepts the effect of its attempt.
 fn commits(decision: &Result<Decision, Fault>) -> bool
-    ensures { (effect : EffectOf) → MatchBool result (taken_by decision.now effect ≡ effect ∷ []) (taken_by decision.now effect ≡ []) }
+    ensures { (attempt : AttemptOf) → MatchBool result (taken_by decision.now attempt ≡ attempt.effect ∷ []) (taken_by decision.now attempt ≡ []) }
 {
     match decision {
         Ok(Decision::Committed(_)) => true,
@@ -354,8 +376,7 @@ pub fn with_registers(
     decision: Result<Decision, Fault>,
     attempt: &Attempt,
 ) -> Result<Settled, Fault>
-    ensures answer { result ≡ answer_of decision attempt.now.registers }
-    ensures accepted { (effect : EffectOf) → accepted_by result effect ≡ taken_by decision effect }
+    ensures { result ≡ answer_of decision attempt.now.registers }
 {
     Ok(decision?.settled(&attempt.registers))
 }

@@ -12,6 +12,7 @@ ghost use Rattle.tmem_spine.specs.Views.{new_journal};
 ghost use Rattle.tmem_journal.specs.Journals.{Flushes, Checkpoints, HasSlot};
 ghost use Rattle.tmem_seats.specs.Flushing.{GoesOn, TakesOldest, IsFlushRefusal, IsCheckpointRefusal, IsFlusherRefusal};
 ghost use Rattle.tmem_seats.specs.Histories.{after};
+ghost use Rattle.tmem_seats.specs.Seats.{KnowsOrEnded, first_failure};
 
 use crate::core_seat::CoreSeat;
 use crate::failure::Failure;
@@ -161,7 +162,8 @@ impl<D: Disk, N: StoreNaming> JournalSeat<D, N> {
     ) -> bool
         ensures told { result ≡ core.new.is_shut }
         ensures journal { (journal_of self.new ≡ journal_of self.old) × (side_of self.new ≡ side_of self.old) × (batch_of self.new ≡ batch_of self.old) }
-        ensures shut { is_closed_of (journal_of self.old) ≡ true → core.new ≡ record core.old { is_shut = true } }
+        ensures knows { KnowsOrEnded N.name.start (side_of self.new).durable core.new }
+        ensures shut { is_closed_of (journal_of self.old) ≡ true → core.new ≡ record core.old { is_shut = true; is_draining = false; failure = first_failure core.old.failure failure } }
         ensures durable { is_closed_of (journal_of self.old) ≡ false → core.new ≡ record core.old { trimmed = count N.name.start (side_of self.old).durable } }
     {
         if self.is_closed() {

@@ -14,7 +14,7 @@ use Rattle.tmem_spine.specs.Rule.{History, IsHistory, IsPass, Fits, KeepsHistory
 use Rattle.tmem_spine.specs.Steps.{told, Accepts, Aims, Stays, Hardens, Trims, Looks}
 use Rattle.tmem_spine.proofs.Prefixes.{prefix_shorter, prefix_more, longer_is}
 use Rattle.tmem_spine.proofs.Owning.{owns_more}
-use Rattle.tmem_spine.proofs.Keeps.{kept_step}
+use Rattle.tmem_spine.proofs.Keeps.{fits_as, kept_step}
 
 -- a seat of another role was not read
 pub unread : {r q : Role} → r ≡ q → q ≢ Spent → r ≢ Spent
@@ -78,16 +78,7 @@ accepts start slots id v carried e role room s kept len at small =
             few = is.few;
           })
           (λ j u ne fu. accepted_else start h e j u (λ eq. ne (sym eq ∙ sym mine.0)) fu)
-          (record {
-            based = f.based;
-            known = prefix_more v.known h.accepted (e ∷ []) f.known;
-            seen = f.seen;
-            trimmed = f.trimmed;
-            is_start = λ r. absurd (cc (r, role));
-            is_core = λ r. (mine.0, ap (λ (xs : List Entry). xs ++ e ∷ []) mine.1, mine.2);
-            is_journal = f.is_journal;
-            is_pass = f.is_pass;
-          })
+          (fits_as Core role f.based (prefix_more v.known h.accepted (e ∷ []) f.known) f.seen f.trimmed (mine.0, ap (λ (xs : List Entry). xs ++ e ∷ []) mine.1, mine.2))
           (λ r. (r, refl)),
       (refl, (refl, word ∙ omega (arith, based))),
     )
@@ -125,16 +116,7 @@ aims start slots id v carried upto role low high s kept len at small =
       kept_step start s kept h' (set s.words 0 (slice_index s.words 0)) s.homes id v (record v { aimed = xs }) at
           (record { counts = (loaded start h s.words 0 (omega arith) is).counts; room = is.room; durable = durable; aimed = within; few = is.few })
           (λ j u ne fu. aimed_else start h xs j u (λ eq. ne (sym eq ∙ sym mine.0)) fu)
-          (record {
-            based = f.based;
-            known = f.known;
-            seen = f.seen;
-            trimmed = f.trimmed;
-            is_start = f.is_start;
-            is_core = f.is_core;
-            is_journal = λ r. (mine.0, mine.1, refl, mine.3);
-            is_pass = f.is_pass;
-          })
+          (fits_as Journal role f.based f.known f.seen f.trimmed (mine.0, mine.1, refl, mine.3))
           (λ r. (r, refl)),
       (refl, (refl, subst (λ (ys : List Entry). IsPrefix ys xs) (sym mine.3) durable)),
     )
@@ -201,16 +183,7 @@ hardens start slots id v carried by role sum s kept len at small =
             few = is.few;
           })
           (λ j u ne fu. durable_else start h j u (λ eq. ne (sym eq ∙ sym mine.0)) is.durable fu)
-          (record {
-            based = f.based;
-            known = f.known;
-            seen = IsPrefix-trans v.seen h.durable h.aimed f.seen is.durable;
-            trimmed = omega arith;
-            is_start = f.is_start;
-            is_core = f.is_core;
-            is_journal = λ r. (mine.0, mine.1, mine.2, mine.2);
-            is_pass = f.is_pass;
-          })
+          (fits_as Journal role f.based f.known (IsPrefix-trans v.seen h.durable h.aimed f.seen is.durable) (omega arith) (mine.0, mine.1, mine.2, mine.2))
           (λ r. (r, refl)),
       (refl, refl),
     )
@@ -234,16 +207,7 @@ trims start slots id v carried role s kept len at small =
       tt,
       kept_step start s kept h (set s.words 1 (slice_index s.words 1)) s.homes id v (record v { trimmed = slice_index s.words 1 }) at
           (loaded start h s.words 1 (omega arith) is) (λ j u ne fu. fu)
-          (record {
-            based = f.based;
-            known = f.known;
-            seen = f.seen;
-            trimmed = omega arith;
-            is_start = f.is_start;
-            is_core = f.is_core;
-            is_journal = f.is_journal;
-            is_pass = f.is_pass;
-          })
+          (fits_as Core role f.based f.known f.seen (omega arith) mine)
           (λ r. (r, refl)),
       (
         refl,
@@ -274,16 +238,7 @@ looks start slots id v carried role s kept len at small =
       keeps,
       tt,
       kept_step start s kept h (set s.words 1 (slice_index s.words 1)) s.homes id v w at (loaded start h s.words 1 (omega arith) is) (λ j u ne fu. fu)
-          (record {
-            based = f.based;
-            known = l.2;
-            seen = IsPrefix-self h.durable;
-            trimmed = f.trimmed;
-            is_start = λ r. absurd (cc (r, role));
-            is_core = λ r. absurd (cc (r, role));
-            is_journal = λ r. absurd (cc (r, role));
-            is_pass = λ r. (is_pass, mine.1);
-          })
+          (fits_as Pass role f.based l.2 (IsPrefix-self h.durable) f.trimmed (is_pass, mine.1))
           (λ r. (r, refl)),
       (refl, (refl, word ∙ omega (arith, based), f.seen, l.0, subst (λ (k : ℕ). IsPass k w) (sym based) is_pass)),
     )

@@ -1,13 +1,16 @@
 -- A change of one seat's view, or a seat more, keeps the rule.
-use Rattle.std.proofs.Common.{◌≡◌, ◌≢◌, ◌⊎◌, inl, inr, ⊎_elim, ℕ, zero, suc, List, [], ◌∷◌, ◌++◌, length, set, refl, sym, ap, ◌∙◌, subst, arith}
+use Rattle.std.proofs.Common.{◌≡◌, ◌≢◌, ◌⊎◌, inl, inr, ⊎_elim, ℕ, zero, suc, ◌<◌, ◌≤◌, List, [], ◌∷◌, ◌++◌, length, set, refl, sym, ap, ◌∙◌, subst, arith}
 use mathlib.Core.Option.{Option, some, some-injective, some-ne-none}
 use lib.ListN.{get_elem?}
 use Rattle.atomic_table.specs.Table.{State, Joins}
 use Rattle.atomic_table.proofs.Lists.{at_set, set_else}
-use Rattle.tmem_spine.specs.declared.view.Role.TheVariants.{Pass}
+use Rattle.tmem_record.specs.Prefix.{IsPrefix}
+use Rattle.tmem_spine.specs.declared.view.Role.{Role}
+use Rattle.tmem_spine.specs.declared.view.Role.TheVariants.{Start, Core, Journal, Pass, Spent}
+use Rattle.tmem_spine.specs.History.{count}
 use Rattle.tmem_spine.specs.declared.view.View.{View}
 use Rattle.tmem_spine.specs.Notes.{spent}
-use Rattle.tmem_spine.specs.Rule.{History, IsHistory, Fits, Each, Apart, KeepsHistory}
+use Rattle.tmem_spine.specs.Rule.{History, IsHistory, IsPass, IsStart, IsCore, IsJournal, Fits, Each, Apart, KeepsHistory}
 
 -- the view of a pass comes from one of these, which has the same mark
 abbrev ComesFrom : List View → ℕ → View → Type 0
@@ -90,17 +93,26 @@ kept_split start s kept h id v left right at is others mine same new apart = rec
   apart = apart_end (set s.views id left) right (apart_set s.views id v left at same kept.apart) apart;
 }
 
--- a note that was read fits any history
-spent_fits : (start : ℕ) (h : History) (id : ℕ) → Fits start h id spent
-spent_fits start h id = record {
-  based = λ n. absurd (n refl);
-  known = refl;
-  seen = refl;
-  trimmed = omega arith;
-  is_start = λ r. absurd (cc r);
-  is_core = λ r. absurd (cc r);
-  is_journal = λ r. absurd (cc r);
-  is_pass = λ r. absurd (cc r);
+-- what the seat of a role sees of the history
+abbrev pub SeesAs : Role → ℕ → History → ℕ → View → Type 0
+SeesAs Start start h id v = IsStart start h id v
+SeesAs Core start h id v = IsCore h id v
+SeesAs Journal start h id v = IsJournal h id v
+SeesAs Pass start h id v = IsPass start v × (v.mark < h.given)
+SeesAs _ start h id v = Unit {0}
+
+-- what a seat knows is so, where what its role sees is
+pub fits_as : {start : ℕ} {h : History} {id : ℕ} {v : View} (role : Role) → v.role ≡ role → (v.role ≢ Spent → v.start ≡ start) → IsPrefix v.known h.accepted → IsPrefix v.seen h.durable → v.trimmed ≤ count start h.durable
+    → SeesAs role start h id v → Fits start h id v
+fits_as {start} {h} {id} {v} role of based known seen trimmed is = record {
+  based = based;
+  known = known;
+  seen = seen;
+  trimmed = trimmed;
+  is_start = λ r. subst (λ x. SeesAs x start h id v) (sym of ∙ r) is;
+  is_core = λ r. subst (λ x. SeesAs x start h id v) (sym of ∙ r) is;
+  is_journal = λ r. subst (λ x. SeesAs x start h id v) (sym of ∙ r) is;
+  is_pass = λ r. subst (λ x. SeesAs x start h id v) (sym of ∙ r) is;
 }
 
 -- a seat reads a note
@@ -114,6 +126,6 @@ kept_join start id v other w both same fits s kept at apart there =
     record {
       history = h;
       is_history = kept.is_history;
-      each = each_set start h h views other spent (each_set start h h s.views id both kept.each (λ j u ne f. f) mine) (λ j u ne f. f) (spent_fits start h other);
+      each = each_set start h h views other spent (each_set start h h s.views id both kept.each (λ j u ne f. f) mine) (λ j u ne f. f) (fits_as Spent refl (λ n. absurd (n refl)) refl refl (omega arith) tt);
       apart = apart_set views other w spent there (λ r. absurd (cc r)) (apart_set s.views id v both at same kept.apart);
     }

@@ -8,7 +8,7 @@ use Rattle.tmem_record.specs.Prefix.{IsPrefix}
 use Rattle.tmem_record.specs.declared.effect.Effect.{Effect}
 use Rattle.tmem_record.proofs.Laws.{IsPrefix-self}
 use Rattle.tmem_spine.specs.declared.view.Entry.{Entry}
-use Rattle.tmem_spine.specs.declared.view.Role.TheVariants.{Start, Core, Journal, Pass}
+use Rattle.tmem_spine.specs.declared.view.Role.TheVariants.{Start, Core, Journal, Pass, Note}
 use Rattle.tmem_spine.specs.declared.view.View.{View}
 use Rattle.tmem_spine.specs.History.{count, entry, longer, HasAt}
 use Rattle.tmem_spine.specs.Notes.{first_view, as_core, journal_from, pass_from, gives, note, spent, core_told, journal_told}
@@ -16,7 +16,7 @@ use Rattle.tmem_spine.specs.Rule.{History, IsPass, Fits, KeepsHistory}
 use Rattle.tmem_spine.specs.Steps.{meets_core, gains, meets_journal}
 use Rattle.tmem_spine.proofs.Prefixes.{prefix_empty, longer_is}
 use Rattle.tmem_spine.proofs.Owning.{pass_more, pass_one}
-use Rattle.tmem_spine.proofs.Keeps.{kept_split, kept_join, IsNewMark}
+use Rattle.tmem_spine.proofs.Keeps.{fits_as, kept_split, kept_join, IsNewMark}
 use Rattle.tmem_spine.proofs.Allowed.{durable_accepted}
 
 only_first : (start id : ℕ) (v : View) → get_elem? (first_view start ∷ []) id ≡ some v → (id ≡ 0) × (first_view start ≡ v)
@@ -27,16 +27,7 @@ only_first start (suc id) v there = absurd (some-ne-none v (sym there))
 pub opens : (start : ℕ) → start < 2 ^ 64 → KeepsHistory start (opening {S = ℕ} (start ∷ start ∷ []) [] (first_view start))
 opens start fits =
     let h : History = record { accepted = []; aimed = []; durable = []; core = 0; journal = 0; given = 0; has_journal = false } in
-    let first : Fits start h 0 (first_view start) = record {
-      based = λ n. refl;
-      known = refl;
-      seen = refl;
-      trimmed = omega arith;
-      is_start = λ r. (refl, refl, refl, refl, refl);
-      is_core = λ r. absurd (cc r);
-      is_journal = λ r. absurd (cc r);
-      is_pass = λ r. absurd (cc r);
-    } in
+    let first : Fits start h 0 (first_view start) = fits_as Start refl (λ n. refl) refl refl (omega arith) (refl, refl, refl, refl, refl) in
     let none : start ≡ count start [] = omega arith in
     record {
       history = h;
@@ -68,27 +59,9 @@ begins start id v role based s kept at =
       is_journal = λ r. absurd (cc ((fu.is_journal r).1, mine.2));
       is_pass = fu.is_pass;
     })
-    (record {
-      based = λ n. based;
-      known = f.known;
-      seen = f.seen;
-      trimmed = omega (arith, based);
-      is_start = λ r. absurd (cc r);
-      is_core = λ r. (mine.0, mine.3 ∙ sym mine.1, mine.4);
-      is_journal = λ r. absurd (cc r);
-      is_pass = λ r. absurd (cc r);
-    })
+    (fits_as Core refl (λ n. based) f.known f.seen (omega (arith, based)) (mine.0, mine.3 ∙ sym mine.1, mine.4))
     (λ r. absurd (cc r))
-    (record {
-      based = λ n. based;
-      known = refl;
-      seen = refl;
-      trimmed = omega arith;
-      is_start = λ r. absurd (cc r);
-      is_core = λ r. absurd (cc r);
-      is_journal = λ r. (refl, refl, sym none, sym none');
-      is_pass = λ r. absurd (cc r);
-    })
+    (fits_as Journal refl (λ n. based) refl refl (omega arith) (refl, refl, sym none, sym none'))
     (λ r. absurd (cc r))
 
 -- a pass from the core's seat
@@ -116,27 +89,9 @@ passes start id v role based few s kept at =
       is_journal = fu.is_journal;
       is_pass = λ r. ((fu.is_pass r).0, (let below : u.mark < h.given = (fu.is_pass r).1 in omega arith));
     })
-    (record {
-      based = f.based;
-      known = f.known;
-      seen = f.seen;
-      trimmed = f.trimmed;
-      is_start = λ r. absurd (cc (r, role));
-      is_core = λ r. (mine.0, mine.1, omega arith);
-      is_journal = f.is_journal;
-      is_pass = λ r. absurd (cc (r, role));
-    })
+    (fits_as Core role f.based f.known f.seen f.trimmed (mine.0, mine.1, ap (λ k. k + 1) mine.2))
     (λ r. (r, refl))
-    (record {
-      based = λ n. based;
-      known = refl;
-      seen = refl;
-      trimmed = omega arith;
-      is_start = λ r. absurd (cc r);
-      is_core = λ r. absurd (cc r);
-      is_journal = λ r. absurd (cc r);
-      is_pass = λ r. ((refl, record { ascend = λ i j d lt below. absurd (omega arith); stand = λ k d below. absurd (omega arith) }), omega arith);
-    })
+    (fits_as Pass refl (λ n. based) refl refl (omega arith) ((refl, record { ascend = λ i j d lt below. absurd (omega arith); stand = λ k d below. absurd (omega arith) }), omega arith))
     new
 
 -- a note of what is so
@@ -149,16 +104,7 @@ noted start id v known seen trimmed based so s kept at =
     let f = kept.each id v at in
     let t = so h (durable_accepted start h s.words is) f in
     kept_split start s kept h id v v (note v.start known seen trimmed) at is (λ j u ne fu. fu) f (λ r. (r, refl))
-    (record {
-      based = λ n. based;
-      known = t.0;
-      seen = t.1;
-      trimmed = t.2;
-      is_start = λ r. absurd (cc r);
-      is_core = λ r. absurd (cc r);
-      is_journal = λ r. absurd (cc r);
-      is_pass = λ r. absurd (cc r);
-    })
+    (fits_as Note refl (λ n. based) t.0 t.1 t.2 tt)
     (λ r. absurd (cc r))
 
 pub core_notes : (start id : ℕ) (v : View) → v.role ≡ Core → v.start ≡ start → Splits (KeepsHistory start) id v v (note v.start v.accepted [] v.trimmed)
@@ -174,43 +120,19 @@ pub pass_notes : (start id : ℕ) (v : View) → v.start ≡ start → Splits (K
 pass_notes start id v based = noted start id v v.known v.seen 0 based (λ h all f. (f.known, f.seen, omega arith))
 
 pub core_hears : (start id : ℕ) (v : View) (other : ℕ) (w : View) → v.role ≡ Core → Joins (KeepsHistory start) id v other w (core_told v w) spent
-core_hears start id v other w role = kept_join start id v other w (core_told v w) (λ r. (r, refl)) (λ h f t. record {
-  based = f.based;
-  known = t.known;
-  seen = t.seen;
-  trimmed = f.trimmed;
-  is_start = f.is_start;
-  is_core = f.is_core;
-  is_journal = f.is_journal;
-  is_pass = λ r. absurd (cc (r, role));
-})
+core_hears start id v other w role =
+    kept_join start id v other w (core_told v w) (λ r. (r, refl)) (λ h f t. fits_as Core role f.based t.known t.seen f.trimmed (f.is_core role))
 
 pub journal_hears : (start id : ℕ) (v : View) (other : ℕ) (w : View) → v.role ≡ Journal → Joins (KeepsHistory start) id v other w (journal_told v w) spent
-journal_hears start id v other w role = kept_join start id v other w (journal_told v w) (λ r. (r, refl)) (λ h f t. record {
-  based = f.based;
-  known = t.known;
-  seen = t.seen;
-  trimmed = t.trimmed;
-  is_start = f.is_start;
-  is_core = f.is_core;
-  is_journal = f.is_journal;
-  is_pass = λ r. absurd (cc (r, role));
-})
+journal_hears start id v other w role =
+    kept_join start id v other w (journal_told v w) (λ r. (r, refl)) (λ h f t. fits_as Journal role f.based t.known t.seen t.trimmed (f.is_journal role))
 
 -- a pass knows more, and perhaps has an effect more
 pass_hears : (start id : ℕ) (v : View) (other : ℕ) (w : View) (known : List Entry) (own : List (ℕ × Effect)) → v.role ≡ Pass
     → ((h : History) → IsPrefix v.known h.accepted → IsPrefix w.known h.accepted → IsPrefix known h.accepted)
     → (IsPass start v → IsPass start (record v { known = known; own = own })) → Joins (KeepsHistory start) id v other w (record v { known = known; own = own }) spent
-pass_hears start id v other w known own role so is_pass = kept_join start id v other w (record v { known = known; own = own }) (λ r. (r, refl)) (λ h f t. record {
-  based = f.based;
-  known = so h f.known t.known;
-  seen = f.seen;
-  trimmed = f.trimmed;
-  is_start = f.is_start;
-  is_core = f.is_core;
-  is_journal = f.is_journal;
-  is_pass = λ r. (is_pass (f.is_pass r).0, (f.is_pass r).1);
-})
+pass_hears start id v other w known own role so is_pass =
+    kept_join start id v other w (record v { known = known; own = own }) (λ r. (r, refl)) (λ h f t. fits_as Pass role f.based (so h f.known t.known) f.seen f.trimmed (is_pass (f.is_pass role).0, (f.is_pass role).1))
 
 pub meets_core_note : (start id : ℕ) (v : View) (other : ℕ) (w : View) → v.role ≡ Pass → IsPrefix v.known w.known → Joins (KeepsHistory start) id v other w (meets_core v w) spent
 meets_core_note start id v other w role more = pass_hears start id v other w w.known v.own role (λ h p q. q) (λ is. pass_more start v w.known is more)

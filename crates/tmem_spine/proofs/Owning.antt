@@ -1,5 +1,5 @@
 -- A pass's own effects, once it knows more.
-use Rattle.std.proofs.Common.{◌≡◌, ℕ, zero, suc, ◌-◌, ◌<◌, ◌≤◌, List, [], ◌∷◌, ◌++◌, get_or, Some, slice_get, ◌∙◌, subst, arith}
+use Rattle.std.proofs.Common.{◌≡◌, ℕ, zero, suc, ◌-◌, ◌<◌, ◌≤◌, List, [], ◌∷◌, ◌++◌, get_or, Some, slice_get, subst, arith}
 use Rattle.std.proofs.lemmas.List.Elements.{All-push}
 use Rattle.std.proofs.lemmas.List.Quantifiers.{all_pairs_push}
 use Rattle.tmem_record.specs.Prefix.{IsPrefix}
@@ -9,7 +9,7 @@ use Rattle.tmem_spine.specs.declared.view.Entry.{Entry}
 use Rattle.tmem_spine.specs.declared.view.View.{View}
 use Rattle.tmem_spine.specs.History.{count, entry, Has, HasAt}
 use Rattle.tmem_spine.specs.Rule.{IsPass, Owns}
-use Rattle.tmem_spine.proofs.Prefixes.{get_more, get_same, get_within}
+use Rattle.tmem_spine.proofs.Prefixes.{get_more, get_within}
 
 pub at_more : (start : ℕ) (xs ys : List Entry) (n : ℕ) (e : Entry) → IsPrefix xs ys → HasAt start xs n e → HasAt start ys n e
 at_more start xs ys n e p h = (h.0, get_more xs ys (n - start) e p h.1)
@@ -49,12 +49,3 @@ pub owned_at : (start mark : ℕ) (known : List Entry) (own : List (ℕ × Effec
 owned_at start mark known own n e o has =
     let is = get_or_is own has.0 (n, e) has.1 in
     subst (λ (x : ℕ × Effect). HasAt start known x.0 (entry mark x.1)) is (o.stand has.0 (n, e) (get_within own has.0 (n, e) has.1))
-
--- an effect of the pass's own below the number that it saw stands in what it saw, and in all that goes on from that
-pub owned_durable : (start : ℕ) (v : View) (durable : List Entry) (n : ℕ) (e : Effect) → IsPass start v → IsPrefix v.seen durable → n < count start v.seen → Has v.own n e
-    → HasAt start durable n (entry v.mark e)
-owned_durable start v durable n e is saw below has =
-    let at = owned_at start v.mark v.known v.own n e is.1 has in
-    let low = at.0 in
-    let seen : slice_get v.seen (n - start) ≡ Some (entry v.mark e) = get_same v.seen v.known (n - start) is.0 (omega arith) ∙ at.1 in
-    (low, get_more v.seen durable (n - start) (entry v.mark e) saw seen)

@@ -1,10 +1,9 @@
 -- On each map that agrees with the reads, an evaluation tells how the run ends and what it visits.
-use Rattle.std.proofs.Common.{◌≡◌, ℕ, ℤ, Bool, true, false, List, [], ◌∷◌, ◌++◌, map, Option, Some, None, nat_eq, cond, refl, sym, ap, ◌∙◌, subst}
-use Rattle.std.proofs.lemmas.Bool.{eqb-true, eq-eqb}
+use Rattle.std.proofs.Common.{◌≡◌, ℕ, ℤ, Bool, true, false, List, [], ◌∷◌, ◌++◌, map, Option, Some, None, unwrap_or, nat_eq, cond, refl, sym, ap, ◌∙◌, subst}
 use mathlib.Core.Path.{fun_ext}
 use Rattle.indexmap.specs.IndexMap.{insert_entry}
 use Rattle.tmem_tree.specs.declared.tx.Tx.{Tx, Row_of-Tx, end_of-Tx, more_of-Tx}
-use Rattle.tmem_tree.specs.declared.tx.Tx.TheVariants.{Skip, Seq', Put, Read, Write, Step, When', OrElse', Retry, Abort, Check}
+use Rattle.tmem_tree.specs.declared.tx.Tx.TheVariants.{Seq', Read, Write, Step, When', OrElse'}
 use Rattle.tmem_tree.specs.declared.step.StepAnswer.{StepAnswer}
 use Rattle.tmem_tree.specs.declared.step.StepAnswer.TheVariants as answer
 use Rattle.tmem_tree.specs.StepAnswers.{StepMeanings}
@@ -14,55 +13,21 @@ use Rattle.tmem_tree.specs.Run.{View, RunResult, Normal, Retried, Aborted, run, 
 use Rattle.tmem_tree.specs.Visited.{visits, visits_all, read_of, then_visit, else_visit}
 use Rattle.tmem_tentative.specs.Eval.{RunState, Flow, Goes, Needs, Retries, Aborts, eval, eval_all, then_eval, else_eval, read, answered}
 use Rattle.tmem_tentative.specs.Right.{Agrees, if_there, first_lacking}
-use Rattle.tmem_tentative.proofs.ReadEntries.{note, note-append}
+use Rattle.tmem_tentative.proofs.ReadEntries.{write_is_insert, look-insert, note, note-append}
 
 -- a map under some writes
 abbrev pub overlay : (ℕ → ℤ) → List (ℕ × ℤ) → ℕ → ℤ
-overlay values [] v = values v
-overlay values (w ∷ ws) v = cond (nat_eq v w.0) w.1 (overlay values ws v)
+overlay values ws v = unwrap_or (look ws v) (values v)
 
 -- the view of a state on a map
 abbrev pub view_of : (ℕ → ℤ) → RunState → View
 view_of values s = record { values = overlay values s.effect.writes; registers = s.registers; effect = s.effect }
 
-cond_twice : (c : Bool) (a b r : ℤ) → cond c a r ≡ cond c a (cond c b r)
-cond_twice true a b r = refl
-cond_twice false a b r = refl
-
-cond_swap : (c d : Bool) (a b r : ℤ) → (c ≡ true → d ≡ true → ⊥) → cond c a (cond d b r) ≡ cond d b (cond c a r)
-cond_swap true true a b r h = absurd (h refl refl)
-cond_swap true false a b r h = refl
-cond_swap false true a b r h = refl
-cond_swap false false a b r h = refl
-
-overlay-write_at : (values : ℕ → ℤ) (ws : List (ℕ × ℤ)) (x : ℕ) (n : ℤ) (v : ℕ) → overlay values (with_write ws x n) v ≡ updated (overlay values ws) x n v
-overlay-write_at values [] x n v = refl
-overlay-write_at values (w ∷ ws) x n v = on (nat_eq x w.0) refl (overlay-write_at values ws x n v) where
-  on : (b : Bool) → nat_eq x w.0 ≡ b → overlay values (with_write ws x n) v ≡ updated (overlay values ws) x n v → overlay values (cond b ((x, n) ∷ ws) (w ∷ with_write ws x n)) v ≡ updated (overlay values (w ∷ ws)) x n v
-  on true e ih =
-      cond_twice (nat_eq v x) n w.1 (overlay values ws v) ∙ ap (λ y. cond (nat_eq v x) n (cond (nat_eq v y) w.1 (overlay values ws v))) (eqb-true x w.0 e)
-  on false e ih =
-      ap (cond (nat_eq v w.0) w.1) ih ∙ cond_swap (nat_eq v w.0) (nat_eq v x) w.1 n (overlay values ws v) (λ p q.
-      let same : x ≡ w.0 = sym (eqb-true v x q) ∙ eqb-true v w.0 p in
-      let both : true ≡ false = sym (eq-eqb x w.0 same) ∙ e in
-      cc)
-
 overlay-write : (values : ℕ → ℤ) (ws : List (ℕ × ℤ)) (x : ℕ) (n : ℤ) → overlay values (with_write ws x n) ≡ updated (overlay values ws) x n
-overlay-write values ws x n = fun_ext (overlay-write_at values ws x n)
-
-overlay-there : (values : ℕ → ℤ) (ws : List (ℕ × ℤ)) (v : ℕ) (n : ℤ) → look ws v ≡ Some n → overlay values ws v ≡ n
-overlay-there values [] v n h = cc
-overlay-there values (w ∷ ws) v n h = on (nat_eq v w.0) (overlay-there values ws v n) h where
-  on : (b : Bool) → (look ws v ≡ Some n → overlay values ws v ≡ n) → cond b (Some w.1) (look ws v) ≡ Some n → cond b w.1 (overlay values ws v) ≡ n
-  on true k h = cc
-  on false k h = k h
-
-overlay-absent : (values : ℕ → ℤ) (ws : List (ℕ × ℤ)) (v : ℕ) → look ws v ≡ None → overlay values ws v ≡ values v
-overlay-absent values [] v h = refl
-overlay-absent values (w ∷ ws) v h = on (nat_eq v w.0) (overlay-absent values ws v) h where
-  on : (b : Bool) → (look ws v ≡ None → overlay values ws v ≡ values v) → cond b (Some w.1) (look ws v) ≡ None → cond b w.1 (overlay values ws v) ≡ values v
-  on true k h = cc
-  on false k h = k h
+overlay-write values ws x n = fun_ext (λ v. ap (λ es. unwrap_or (look es v) (values v)) (write_is_insert ws x n) ∙ ap (λ o. unwrap_or o (values v)) (look-insert ws x n v) ∙ on v (nat_eq v x)) where
+  on : (v : ℕ) (b : Bool) → unwrap_or (cond b (Some n) (look ws v)) (values v) ≡ cond b n (overlay values ws v)
+  on v true = refl
+  on v false = refl
 
 module _ (reads : List (ℕ × ℤ)) where
   lacking-append : (xs ys : List ℕ) → first_lacking reads xs ≡ None → first_lacking reads (xs ++ ys) ≡ first_lacking reads ys
@@ -120,9 +85,9 @@ module _ (reads : List (ℕ × ℤ)) (values : ℕ → ℤ) where
       subst (λ d. Tells seen (or_else d e') (vars ++ else_visit d vars') (Aborts code s)) (sym t.0) (refl, lacking-append reads vars [] t.1, t.2 ∙ sym (note-append values seen vars []))
 
   read_tells : Agrees values reads → (s : RunState) (var reg : ℕ) (o p : Option ℤ) → look s.effect.writes var ≡ o → look reads var ≡ p → Tells s.seen (Normal (run.put (view_of values s) reg (overlay values s.effect.writes var))) (read_of o var) (read o p s var reg)
-  read_tells agrees s var reg (Some n) p h k = (ap (λ m. Normal (run.put (view_of values s) reg m)) (overlay-there values s.effect.writes var n h), refl, refl)
+  read_tells agrees s var reg (Some n) p h k = (ap (λ m. Normal (run.put (view_of values s) reg m)) (ap (λ o. unwrap_or o (values var)) h), refl, refl)
   read_tells agrees s var reg None (Some n) h k =
-      (ap (λ m. Normal (run.put (view_of values s) reg m)) (overlay-absent values s.effect.writes var h ∙ agrees var n k), ap (λ o. if_there o var None) k, ap (λ m. insert_entry nat_eq s.seen var m) (sym (agrees var n k)))
+      (ap (λ m. Normal (run.put (view_of values s) reg m)) (ap (λ o. unwrap_or o (values var)) h ∙ agrees var n k), ap (λ o. if_there o var None) k, ap (λ m. insert_entry nat_eq s.seen var m) (sym (agrees var n k)))
   read_tells agrees s var reg None None h k = ap (λ o. if_there o var None) k
 
   answered_tells : (a : StepAnswer) (s : RunState) (out : ℕ) → Tells s.seen (run.answered a (view_of values s) out) [] (answered a s out)
@@ -137,17 +102,13 @@ module _ (reads : List (ℕ × ℤ)) (values : ℕ → ℤ) where
   module _ (steps : StepMeanings) (agrees : Agrees values reads) where
     mutual
       pub tells : (tx : Tx) (s : RunState) → Tells s.seen (run steps tx (view_of values s)) (visits steps tx (view_of values s)) (eval steps reads tx s)
-      tells Skip s = (refl, refl, refl)
       tells (Seq' shape txs) s = tells_all txs s
-      tells (Put reg n) s = (refl, refl, refl)
       tells (Read var reg) s = read_tells agrees s var reg (look s.effect.writes var) (look reads var) refl refl
       tells (Write var reg) s = (ap (λ m. Normal (record { values = m; registers = s.registers; effect = record { writes = with_write s.effect.writes var (register s.registers reg); names = s.effect.names } })) (sym (overlay-write values s.effect.writes var (register s.registers reg))), refl, refl)
       tells (Step index args out) s = answered_tells (steps index (map (register s.registers) args.items)) s out
       tells (When' reg p a q b) s = cond_tells (is_zero (register s.registers reg)) s.seen _ _ _ _ _ _ (tells b s) (tells a s)
       tells (OrElse' p a q b) s = else_tells s.seen _ _ _ _ _ (λ seen. eval steps reads b (record s { seen = seen })) (tells a s) (λ seen. tells b (record s { seen = seen }))
-      tells Retry s = (refl, refl, refl)
-      tells (Abort code) s = (refl, refl, refl)
-      tells (Check name) s = (refl, refl, refl)
+      tells tx s = (refl, refl, refl)
 
       pub tells_all : {m : _} (txs : Row_of-Tx m) (s : RunState) → Tells s.seen (run_all steps txs (view_of values s)) (visits_all steps txs (view_of values s)) (eval_all steps reads txs s)
       tells_all end_of-Tx s = (refl, refl, refl)

@@ -3,7 +3,7 @@ use Rattle.std.proofs.Common.{◌≡◌, ℕ, ℤ, Bool, true, false, List, map,
 use Rattle.std.proofs.lemmas.Bool.{eqb-true, eq-eqb}
 use Rattle.indexmap.specs.IndexMap.{insert_entry}
 use Rattle.tmem_tree.specs.declared.tx.Tx.{Tx, Row_of-Tx, end_of-Tx, more_of-Tx}
-use Rattle.tmem_tree.specs.declared.tx.Tx.TheVariants.{Skip, Seq', Put, Read, Write, Step, When', OrElse', Retry, Abort, Check}
+use Rattle.tmem_tree.specs.declared.tx.Tx.TheVariants.{Seq', Read, Step, When', OrElse'}
 use Rattle.tmem_tree.specs.declared.step.StepAnswer.{StepAnswer}
 use Rattle.tmem_tree.specs.declared.step.StepAnswer.TheVariants as answer
 use Rattle.tmem_tree.specs.StepAnswers.{StepMeanings}
@@ -42,35 +42,24 @@ module _ (reads reads' : List (ℕ × ℤ)) where
   Keeps seen (Retries seen') f = Covers seen' seen × Covers reads seen' × (Covers reads' seen' → f ≡ Retries seen')
   Keeps seen (Aborts code seen') f = Covers seen' seen × Covers reads seen' × (Covers reads' seen' → f ≡ Aborts code seen')
 
-  then_on : (seen : List (ℕ × ℤ)) (s : RunState) (on on' : RunState → Flow) (e' f : Flow) → on s ≡ f → Covers s.seen seen → (Covers reads' s.seen → e' ≡ Goes s) → Keeps s.seen f (on' s) → Keeps seen f (then_eval e' on')
-  then_on seen s on on' e' (Goes r) is more same k =
-      (covers_trans _ _ _ k.0 more, k.1, λ a. ap (λ x. then_eval x on') (same (covers_trans _ _ _ a k.0)) ∙ k.2 a)
-  then_on seen s on on' e' (Needs var) is more same k = tt
-  then_on seen s on on' e' (Retries r) is more same k =
-      (covers_trans _ _ _ k.0 more, k.1, λ a. ap (λ x. then_eval x on') (same (covers_trans _ _ _ a k.0)) ∙ k.2 a)
-  then_on seen s on on' e' (Aborts code r) is more same k =
-      (covers_trans _ _ _ k.0 more, k.1, λ a. ap (λ x. then_eval x on') (same (covers_trans _ _ _ a k.0)) ∙ k.2 a)
+  -- behind what was kept so far
+  on : (seen seen1 : List (ℕ × ℤ)) (next : Flow → Flow) (e' start f : Flow) → Covers seen1 seen → (Covers reads' seen1 → e' ≡ start) → Keeps seen1 f (next start) → Keeps seen f (next e')
+  on seen seen1 next e' start (Needs var) more same k = tt
+  on seen seen1 next e' start (Goes r) more same k = (covers_trans _ _ _ k.0 more, k.1, λ a. ap next (same (covers_trans _ _ _ a k.0)) ∙ k.2 a)
+  on seen seen1 next e' start (Retries r) more same k = (covers_trans _ _ _ k.0 more, k.1, λ a. ap next (same (covers_trans _ _ _ a k.0)) ∙ k.2 a)
+  on seen seen1 next e' start (Aborts code r) more same k = (covers_trans _ _ _ k.0 more, k.1, λ a. ap next (same (covers_trans _ _ _ a k.0)) ∙ k.2 a)
 
-  then_keeps : (seen : List (ℕ × ℤ)) (e e' : Flow) (on on' : RunState → Flow) → Keeps seen e e' → ((s : RunState) → Covers reads s.seen → Keeps s.seen (on s) (on' s)) → Keeps seen (then_eval e on) (then_eval e' on')
-  then_keeps seen (Goes s) e' on on' t k = then_on seen s on on' e' (on s) refl t.0 t.2 (k s t.1)
-  then_keeps seen (Needs var) e' on on' t k = tt
-  then_keeps seen (Retries s) e' on on' t k = (t.0, t.1, λ a. ap (λ x. then_eval x on') (t.2 a))
-  then_keeps seen (Aborts code s) e' on on' t k = (t.0, t.1, λ a. ap (λ x. then_eval x on') (t.2 a))
+  then_keeps : (seen : List (ℕ × ℤ)) (e e' : Flow) (on1 on2 : RunState → Flow) → Keeps seen e e' → ((s : RunState) → Covers reads s.seen → Keeps s.seen (on1 s) (on2 s)) → Keeps seen (then_eval e on1) (then_eval e' on2)
+  then_keeps seen (Goes s) e' on1 on2 t k = on seen s.seen (λ x. then_eval x on2) e' (Goes s) (on1 s) t.0 t.2 (k s t.1)
+  then_keeps seen (Needs var) e' on1 on2 t k = tt
+  then_keeps seen (Retries s) e' on1 on2 t k = (t.0, t.1, λ a. ap (λ x. then_eval x on2) (t.2 a))
+  then_keeps seen (Aborts code s) e' on1 on2 t k = (t.0, t.1, λ a. ap (λ x. then_eval x on2) (t.2 a))
 
-  else_on : (seen seen1 : List (ℕ × ℤ)) (on' : List (ℕ × ℤ) → Flow) (e' f : Flow) → Covers seen1 seen → (Covers reads' seen1 → e' ≡ Retries seen1) → Keeps seen1 f (on' seen1) → Keeps seen f (else_eval e' on')
-  else_on seen seen1 on' e' (Goes r) more same k =
-      (covers_trans _ _ _ k.0 more, k.1, λ a. ap (λ x. else_eval x on') (same (covers_trans _ _ _ a k.0)) ∙ k.2 a)
-  else_on seen seen1 on' e' (Needs var) more same k = tt
-  else_on seen seen1 on' e' (Retries r) more same k =
-      (covers_trans _ _ _ k.0 more, k.1, λ a. ap (λ x. else_eval x on') (same (covers_trans _ _ _ a k.0)) ∙ k.2 a)
-  else_on seen seen1 on' e' (Aborts code r) more same k =
-      (covers_trans _ _ _ k.0 more, k.1, λ a. ap (λ x. else_eval x on') (same (covers_trans _ _ _ a k.0)) ∙ k.2 a)
-
-  else_keeps : (seen : List (ℕ × ℤ)) (e e' : Flow) (on on' : List (ℕ × ℤ) → Flow) → Keeps seen e e' → ((seen1 : List (ℕ × ℤ)) → Covers reads seen1 → Keeps seen1 (on seen1) (on' seen1)) → Keeps seen (else_eval e on) (else_eval e' on')
-  else_keeps seen (Goes s) e' on on' t k = (t.0, t.1, λ a. ap (λ x. else_eval x on') (t.2 a))
-  else_keeps seen (Needs var) e' on on' t k = tt
-  else_keeps seen (Retries s) e' on on' t k = else_on seen s on' e' (on s) t.0 t.2 (k s t.1)
-  else_keeps seen (Aborts code s) e' on on' t k = (t.0, t.1, λ a. ap (λ x. else_eval x on') (t.2 a))
+  else_keeps : (seen : List (ℕ × ℤ)) (e e' : Flow) (on1 on2 : List (ℕ × ℤ) → Flow) → Keeps seen e e' → ((seen1 : List (ℕ × ℤ)) → Covers reads seen1 → Keeps seen1 (on1 seen1) (on2 seen1)) → Keeps seen (else_eval e on1) (else_eval e' on2)
+  else_keeps seen (Goes s) e' on1 on2 t k = (t.0, t.1, λ a. ap (λ x. else_eval x on2) (t.2 a))
+  else_keeps seen (Needs var) e' on1 on2 t k = tt
+  else_keeps seen (Retries s) e' on1 on2 t k = on seen s (λ x. else_eval x on2) e' (Retries s) (on1 s) t.0 t.2 (k s t.1)
+  else_keeps seen (Aborts code s) e' on1 on2 t k = (t.0, t.1, λ a. ap (λ x. else_eval x on2) (t.2 a))
 
   read_keeps : (s : RunState) (var reg : ℕ) (o p : Option ℤ) → look reads var ≡ p → Covers reads s.seen → Keeps s.seen (read o p s var reg) (read o (look reads' var) s var reg)
   read_keeps s var reg (Some n) p e c = (covers_refl s.seen, c, λ a. refl)
@@ -90,17 +79,12 @@ module _ (reads reads' : List (ℕ × ℤ)) where
   module _ (steps : StepMeanings) where
     mutual
       pub keeps : (tx : Tx) (s : RunState) → Covers reads s.seen → Keeps s.seen (eval steps reads tx s) (eval steps reads' tx s)
-      keeps Skip s c = (covers_refl s.seen, c, λ a. refl)
       keeps (Seq' shape txs) s c = keeps_all txs s c
-      keeps (Put reg n) s c = (covers_refl s.seen, c, λ a. refl)
       keeps (Read var reg) s c = read_keeps s var reg (look s.effect.writes var) (look reads var) refl c
-      keeps (Write var reg) s c = (covers_refl s.seen, c, λ a. refl)
       keeps (Step index args out) s c = answered_keeps (steps index (map (register s.registers) args.items)) s out c
       keeps (When' reg p a q b) s c = cond_keeps (is_zero (register s.registers reg)) s.seen _ _ _ _ (keeps b s c) (keeps a s c)
       keeps (OrElse' p a q b) s c = else_keeps s.seen _ _ (λ seen. eval steps reads b (record s { seen = seen })) (λ seen. eval steps reads' b (record s { seen = seen })) (keeps a s c) (λ seen d. keeps b (record s { seen = seen }) d)
-      keeps Retry s c = (covers_refl s.seen, c, λ a. refl)
-      keeps (Abort code) s c = (covers_refl s.seen, c, λ a. refl)
-      keeps (Check name) s c = (covers_refl s.seen, c, λ a. refl)
+      keeps tx s c = (covers_refl s.seen, c, λ a. refl)
 
       pub keeps_all : {m : _} (txs : Row_of-Tx m) (s : RunState) → Covers reads s.seen → Keeps s.seen (eval_all steps reads txs s) (eval_all steps reads' txs s)
       keeps_all end_of-Tx s c = (covers_refl s.seen, c, λ a. refl)

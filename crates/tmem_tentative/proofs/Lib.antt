@@ -1,13 +1,12 @@
 mod CursorKept
 mod CursorStands
-mod EvalNames
+mod EvalFits
 mod EvalRuns
 mod EvalSeen
 mod EvalSeq
-mod EvalWrites
-mod FitOutcomes
 mod MadeOutcomes
 mod OrElseLaws
+mod PlaceChildren
 mod PlaceRoom
 mod PlaceRuns
 mod PlaceSaves

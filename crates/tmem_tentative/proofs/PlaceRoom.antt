@@ -19,13 +19,6 @@ count_all-items : (test : Tx → Bool) {m : _} (txs : Row_of-Tx m) → count_all
 count_all-items test end_of-Tx = refl
 count_all-items test (more_of-Tx tx txs) = ap (λ n. count test tx + n) (count_all-items test txs)
 
--- a path that is short enough for a tree is short enough for a path
-pub path_fits : (flow : code.Flow) (d : ℕ) (path : List ℕ) → IsPathBehind flow d path → d ≤ 32 → IsPathBehind flow 32 path
-path_fits Normal d path h le = h
-path_fits (Need var) d path h le = omega arith
-path_fits Retry d path h le = h
-path_fits (Abort code) d path h le = h
-
 -- with the child before it, it is short enough for the tree around
 pub path_grows : (flow : code.Flow) (d e child : ℕ) (path : List ℕ) → IsPathBehind flow d path → d < e → IsPathBehind flow e (with_child flow child path)
 path_grows Normal d e child path h lt = h
@@ -96,17 +89,10 @@ module _ (test : Tx → Bool) (limit : ℕ) (size : Effect → ℕ) where
   -- a leaf has no place but its start
   pub leaf_start : (rest : ℕ) (path : List ℕ) (tx : Tx) (saves : List Save) (n : ℕ) → IsLeaf tx → HasRoom test limit size rest path tx saves n → path ≡ []
   leaf_start rest [] tx saves n leaf h = refl
-  leaf_start rest (i ∷ path) tree.Skip saves n leaf h = absurd h
-  leaf_start rest (i ∷ path) (tree.Put reg x) saves n leaf h = absurd h
-  leaf_start rest (i ∷ path) (tree.Read var reg) saves n leaf h = absurd h
-  leaf_start rest (i ∷ path) (tree.Write var reg) saves n leaf h = absurd h
-  leaf_start rest (i ∷ path) (tree.Step index args out) saves n leaf h = absurd h
-  leaf_start rest (i ∷ path) tree.Retry saves n leaf h = absurd h
-  leaf_start rest (i ∷ path) (tree.Abort code) saves n leaf h = absurd h
-  leaf_start rest (i ∷ path) (tree.Check name) saves n leaf h = absurd h
   leaf_start rest (i ∷ path) (tree.Seq' shape txs) saves n leaf h = absurd leaf
   leaf_start rest (i ∷ path) (When' reg p a q b) saves n leaf h = absurd leaf
   leaf_start rest (i ∷ path) (OrElse' p a q b) saves n leaf h = absurd leaf
+  leaf_start rest (i ∷ path) tx saves n leaf h = absurd h
 
   -- a When
   pub when_then_room : (rest reg : ℕ) (a b : Tx) (p q : _) (path : List ℕ) (start : ℕ) (left : List ℕ) (saves : List Save) (n : ℕ) → Enters path start 0 left → HasRoom test limit size rest path (When' reg p a q b) saves n → HasRoom test limit size rest left a saves n
@@ -173,14 +159,5 @@ leaf_path Retry d path none some = none
 leaf_path (Abort code) d path none some = none
 
 pub leaf_depth : (tx : Tx) → IsLeaf tx → 0 < depth tx
-leaf_depth tree.Skip leaf = omega arith
-leaf_depth (tree.Put reg x) leaf = omega arith
-leaf_depth (tree.Read var reg) leaf = omega arith
-leaf_depth (tree.Write var reg) leaf = omega arith
-leaf_depth (tree.Step index args out) leaf = omega arith
-leaf_depth tree.Retry leaf = omega arith
-leaf_depth (tree.Abort code) leaf = omega arith
-leaf_depth (tree.Check name) leaf = omega arith
 leaf_depth (tree.Seq' shape txs) leaf = absurd leaf
-leaf_depth (When' reg p a q b) leaf = absurd leaf
-leaf_depth (OrElse' p a q b) leaf = absurd leaf
+leaf_depth tx leaf = omega arith

@@ -7,11 +7,11 @@ use Rattle.tmem_tree.specs.StepAnswers.{StepMeanings}
 use Rattle.tmem_record.specs.Writes.{look}
 use Rattle.tmem_tree.specs.Run.{register, is_zero}
 use Rattle.tmem_tentative.specs.declared.flow.Flow as code
-use Rattle.tmem_tentative.specs.declared.flow.Flow.TheVariants.{Normal, Need, Retry, Abort}
+use Rattle.tmem_tentative.specs.declared.flow.Flow.TheVariants.{Normal, Need, Retry}
 use Rattle.tmem_tentative.specs.declared.save.Save.{Save}
-use Rattle.tmem_tentative.specs.Eval.{RunState, Goes, Needs, Retries, Aborts, eval, else_eval, put, read}
+use Rattle.tmem_tentative.specs.Eval.{RunState, Flow, Goes, eval, else_eval, put, read}
 use Rattle.tmem_tentative.specs.Logs.{flow_of}
-use Rattle.tmem_tentative.specs.Places.{Covers, Place, LeadsTo, eval_on, eval_from, with_child, Enters, EntersChoice, read_seen}
+use Rattle.tmem_tentative.specs.Places.{Covers, Place, LeadsTo, eval_on, eval_from, behind, seen_behind, with_child, Enters, EntersChoice, read_seen}
 use Rattle.tmem_tentative.proofs.EvalSeen.{covers_refl, look-saw}
 
 -- what is there is inserted once more
@@ -28,58 +28,39 @@ module _ (m : StepMeanings) where
     abbrev at : RunState → Place
     at r = record { path = []; saves = saves; registers = r.registers; effect = r.effect }
 
-    read_wants : (o p : Option ℤ) → look s.effect.writes var ≡ o → look s.seen var ≡ p → Needs var ≡ read_seen o p s var reg → LeadsTo m s.seen (Read var reg) (at s) (Need var) (at s)
-    read_wants (Some n) p h k e = cc
-    read_wants None (Some n) h k e = cc
-    read_wants None None h k e = record {
-      needs = λ v is. ap (λ o. read o (look s.seen var) s var reg) h ∙ ap (λ p. read None p s var reg) k ∙ e ∙ ap (λ w. Needs w) (need_is v is);
+    read_wants : look s.effect.writes var ≡ None → look s.seen var ≡ None → LeadsTo m s.seen (Read var reg) (at s) (Need var) (at s)
+    read_wants h k = record {
+      needs = λ v is. ap (λ o. read o (look s.seen var) s var reg) h ∙ ap (λ p. read None p s var reg) k ∙ cc;
       goes_on = λ reads n c d.
           let there : look reads var ≡ Some n = d.at var n (look-saw s.seen var n) in
           let r : RunState = record { registers = s.registers; effect = s.effect; seen = insert_entry nat_eq s.seen var n } in
           ap (λ o. read o (look reads var) s var reg) h ∙ ap (λ p. read None p s var reg) there
           ∙ ap (λ es. Goes (put (record { registers = s.registers; effect = s.effect; seen = es }) reg n)) (sym (insert-same (insert_entry nat_eq s.seen var n) var n (look-saw s.seen var n)))
           ∙ sym (ap (λ o. read o (look reads var) r var reg) h ∙ ap (λ p. read None p r var reg) there);
-    } where
-      need_is : (v : ℕ) → Need var ≡ Need v → var ≡ v
-      need_is v e = cc
-
-    read_gives : (o p : Option ℤ) (s' : RunState) → look s.effect.writes var ≡ o → look s.seen var ≡ p → Goes s' ≡ read_seen o p s var reg → LeadsTo m s.seen (Read var reg) (at s) Normal (at s')
-    read_gives (Some n) p s' h k e = record {
-      needs = λ v is. cc;
-      goes_on = λ reads x c d. ap (λ o. read o (look reads var) s var reg) h ∙ ap (λ r. Goes (record { registers = r.registers; effect = r.effect; seen = s.seen })) (sym (goes_is e));
-    } where
-      goes_is : Goes s' ≡ Goes (put s reg n) → s' ≡ put s reg n
-      goes_is e = cc
-    read_gives None (Some n) s' h k e = record {
-      needs = λ v is. cc;
-      goes_on = λ reads x c d.
-          ap (λ o. read o (look reads var) s var reg) h ∙ ap (λ p. read None p s var reg) (c.at var n k)
-          ∙ ap (λ es. Goes (put (record { registers = s.registers; effect = s.effect; seen = es }) reg n)) (insert-same s.seen var n k)
-          ∙ ap (λ r. Goes (record { registers = r.registers; effect = r.effect; seen = s.seen })) (sym (goes_is e));
-    } where
-      goes_is : Goes s' ≡ Goes (put s reg n) → s' ≡ put s reg n
-      goes_is e = cc
-    read_gives None None s' h k e = cc
+    }
 
     pub read_leads : (flow : code.Flow) (s' : RunState) → flow_of flow s' ≡ read_seen (look s.effect.writes var) (look s.seen var) s var reg → ((n : ℕ) → flow ≡ Need n → s' ≡ s) → LeadsTo m s.seen (Read var reg) (at s) flow (at s')
-    read_leads Normal s' e stays = read_gives (look s.effect.writes var) (look s.seen var) s' refl refl e
-    read_leads (Need v) s' e stays = on (look s.effect.writes var) (look s.seen var) refl refl e where
-      on : (o p : Option ℤ) → look s.effect.writes var ≡ o → look s.seen var ≡ p → Needs v ≡ read_seen o p s var reg → LeadsTo m s.seen (Read var reg) (at s) (Need v) (at s')
-      on (Some n) p h k e = cc
-      on None (Some n) h k e = cc
-      on None None h k e = subst (λ r. LeadsTo m s.seen (Read var reg) (at s) (Need v) (at r)) (sym (stays v refl)) (subst (λ w. LeadsTo m s.seen (Read var reg) (at s) (Need w) (at s)) (sym (is_var e)) (read_wants None None h k refl)) where
-        is_var : Needs v ≡ Needs var → v ≡ var
-        is_var e = cc
-    read_leads Retry s' e stays = on (look s.effect.writes var) (look s.seen var) e where
-      on : (o p : Option ℤ) → Retries s'.seen ≡ read_seen o p s var reg → LeadsTo m s.seen (Read var reg) (at s) Retry (at s')
-      on (Some n) p e = cc
-      on None (Some n) e = cc
-      on None None e = cc
-    read_leads (Abort a) s' e stays = on (look s.effect.writes var) (look s.seen var) e where
-      on : (o p : Option ℤ) → Aborts a s'.seen ≡ read_seen o p s var reg → LeadsTo m s.seen (Read var reg) (at s) (Abort a) (at s')
-      on (Some n) p e = cc
-      on None (Some n) e = cc
-      on None None e = cc
+    read_leads flow s' e stays = on (look s.effect.writes var) (look s.seen var) refl refl flow e stays where
+      on : (o p : Option ℤ) → look s.effect.writes var ≡ o → look s.seen var ≡ p → (flow : code.Flow) → flow_of flow s' ≡ read_seen o p s var reg → ((n : ℕ) → flow ≡ Need n → s' ≡ s) → LeadsTo m s.seen (Read var reg) (at s) flow (at s')
+      on (Some n) p h k Normal e stays =
+          let is : s' ≡ put s reg n = cc in
+          record {
+            needs = λ v is. cc;
+            goes_on = λ reads x c d. ap (λ o. read o (look reads var) s var reg) h ∙ ap (λ r. Goes (record { registers = r.registers; effect = r.effect; seen = s.seen })) (sym is);
+          }
+      on None (Some n) h k Normal e stays =
+          let is : s' ≡ put s reg n = cc in
+          record {
+            needs = λ v is. cc;
+            goes_on = λ reads x c d.
+                ap (λ o. read o (look reads var) s var reg) h ∙ ap (λ p. read None p s var reg) (c.at var n k)
+                ∙ ap (λ es. Goes (put (record { registers = s.registers; effect = s.effect; seen = es }) reg n)) (insert-same s.seen var n k)
+                ∙ ap (λ r. Goes (record { registers = r.registers; effect = r.effect; seen = s.seen })) (sym is);
+          }
+      on None None h k (Need v) e stays =
+          let is : v ≡ var = cc in
+          subst (λ r. LeadsTo m s.seen (Read var reg) (at s) (Need v) (at r)) (sym (stays v refl)) (subst (λ w. LeadsTo m s.seen (Read var reg) (at s) (Need w) (at s)) (sym is) (read_wants h k))
+      on o p h k flow e stays = cc
 
 -- the place behind a run of a child
 abbrev pub in_child : code.Flow → ℕ → Place → Place
@@ -92,22 +73,13 @@ module _ (m : StepMeanings) (seen : List (ℕ × ℤ)) (tx child : Tx) (before i
       → ((reads : List (ℕ × ℤ)) → Covers reads seen → eval_from m reads tx before seen ≡ eval_from m reads child inside seen)
       → ((reads : List (ℕ × ℤ)) (path : List ℕ) (saves : List Save) (s : RunState) → eval_on m reads (i ∷ path) tx saves s ≡ eval_on m reads path child saves s)
       → LeadsTo m seen child inside flow after → LeadsTo m seen tx before flow (in_child flow i after)
-  child_leads Normal after start same l = record {
-    needs = λ var is. cc;
-    goes_on = λ reads n c d. start reads c ∙ l.goes_on reads n c d;
-  }
-  child_leads (Need v) after start same l = record {
+  child_leads flow after start same l = record {
     needs = λ var is. start seen (covers_refl seen) ∙ l.needs var is;
-    goes_on = λ reads n c d. start reads c ∙ l.goes_on reads n c d ∙ sym (same reads after.path after.saves (record { registers = after.registers; effect = after.effect; seen = insert_entry nat_eq seen v n }));
-  }
-  child_leads Retry after start same l = record {
-    needs = λ var is. cc;
-    goes_on = λ reads n c d. start reads c ∙ l.goes_on reads n c d;
-  }
-  child_leads (Abort code) after start same l = record {
-    needs = λ var is. cc;
-    goes_on = λ reads n c d. start reads c ∙ l.goes_on reads n c d;
-  }
+    goes_on = λ reads n c d. start reads c ∙ l.goes_on reads n c d ∙ on reads flow (seen_behind flow seen n);
+  } where
+    on : (reads : List (ℕ × ℤ)) (flow : code.Flow) (seen : List (ℕ × ℤ)) → behind m reads child flow after seen ≡ behind m reads tx flow (in_child flow i after) seen
+    on reads (Need v) seen = sym (same reads after.path after.saves _)
+    on reads flow seen = refl
 
 -- a When goes on as the child that is entered
 pub when_then : (m : StepMeanings) (reads : List (ℕ × ℤ)) (reg : ℕ) (a b : Tx) (p q : _) (path rest : List ℕ) (saves : List Save) (s : RunState)
@@ -155,23 +127,21 @@ choice_first m reads a b p q (zero ∷ path) rest save saves inner s some e =
 choice_first m reads a b p q (suc i ∷ path) rest save saves inner s some e = let no : true ≡ false = e.0 in cc
 
 -- a choice whose first branch has not retried
-pub first_leads : (m : StepMeanings) (seen : List (ℕ × ℤ)) (a b : Tx) (p q : _) (before inside : Place) (save : Save) (inner' : List Save) (flow : code.Flow) (after : Place)
+pub first_leads : (m : StepMeanings) (seen : List (ℕ × ℤ)) (a b : Tx) (p q : _) (before inside : Place) (save : Save) (flow : code.Flow) (after : Place)
     → ((reads : List (ℕ × ℤ)) → eval_from m reads (OrElse' p a q b) before seen ≡ else_eval (eval_from m reads a inside seen) (λ seen. eval m reads b (record { registers = save.registers; effect = save.effect; seen = seen })))
     → (flow ≡ Retry → ⊥) → LeadsTo m seen a inside flow after
     → LeadsTo m seen (OrElse' p a q b) before flow (record { path = with_child flow 0 after.path; saves = save ∷ after.saves; registers = after.registers; effect = after.effect })
-first_leads m seen a b p q before inside save inner' Normal after start some l = record {
-  needs = λ var is. cc;
-  goes_on = λ reads n c d. start reads ∙ ap (λ f. else_eval f (λ seen. eval m reads b (record { registers = save.registers; effect = save.effect; seen = seen }))) (l.goes_on reads n c d);
-}
-first_leads m seen a b p q before inside save inner' (Need v) after start some l = record {
-  needs = λ var is. start seen ∙ ap (λ f. else_eval f (λ seen'. eval m seen b (record { registers = save.registers; effect = save.effect; seen = seen' }))) (l.needs var is);
-  goes_on = λ reads n c d. start reads ∙ ap (λ f. else_eval f (λ seen. eval m reads b (record { registers = save.registers; effect = save.effect; seen = seen }))) (l.goes_on reads n c d);
-}
-first_leads m seen a b p q before inside save inner' Retry after start some l = absurd (some refl)
-first_leads m seen a b p q before inside save inner' (Abort code) after start some l = record {
-  needs = λ var is. cc;
-  goes_on = λ reads n c d. start reads ∙ ap (λ f. else_eval f (λ seen. eval m reads b (record { registers = save.registers; effect = save.effect; seen = seen }))) (l.goes_on reads n c d);
-}
+first_leads m seen a b p q before inside save flow after start some l = record {
+  needs = λ var is. start seen ∙ ap (λ f. else_eval f (second seen)) (l.needs var is);
+  goes_on = λ reads n c d. start reads ∙ ap (λ f. else_eval f (second reads)) (l.goes_on reads n c d) ∙ on reads flow some (seen_behind flow seen n);
+} where
+  second : List (ℕ × ℤ) → List (ℕ × ℤ) → Flow
+  second reads seen = eval m reads b (record { registers = save.registers; effect = save.effect; seen = seen })
+
+  on : (reads : List (ℕ × ℤ)) (flow : code.Flow) → (flow ≡ Retry → ⊥) → (seen : List (ℕ × ℤ))
+      → else_eval (behind m reads a flow after seen) (second reads) ≡ behind m reads (OrElse' p a q b) flow (record { path = with_child flow 0 after.path; saves = save ∷ after.saves; registers = after.registers; effect = after.effect }) seen
+  on reads Retry some seen = absurd (some refl)
+  on reads flow some seen = refl
 
 -- a choice whose first branch has retried
 pub retried_start : (m : StepMeanings) (seen : List (ℕ × ℤ)) (a b : Tx) (p q : _) (before inside after : Place) (save : Save) (saves : List Save)

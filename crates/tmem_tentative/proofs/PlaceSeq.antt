@@ -1,23 +1,23 @@
 -- The rest of the evaluation of a Seq, over the list of its trees.
-use Rattle.std.proofs.Common.{◌≡◌, ℕ, zero, suc, ℤ, pos, ◌+◌, ◌-◌, ◌<◌, ◌≤◌, Bool, List, [], ◌∷◌, take, drop, get_or, length, length-drop, drop-cons, add-one, nat_eq, refl, sym, ap, ◌∙◌, arith, rules}
+use Rattle.std.proofs.Common.{◌≡◌, ℕ, zero, suc, ℤ, pos, ◌+◌, ◌<◌, ◌≤◌, Bool, List, [], ◌∷◌, drop, get_or, length, drop-cons, add-one, refl, sym, ap, ◌∙◌, arith, rules}
 use mathlib.Core.Path.{fun_ext}
-use Rattle.std.proofs.lemmas.List.{take_all, drop-drop}
 use Rattle.std.specs.declared.vec.Vec.{Vec}
 use Rattle.std.specs.declared.alloc.Global.{Global}
-use Rattle.indexmap.specs.IndexMap.{insert_entry}
 use Rattle.tmem_tree.specs.declared.tx.Tx.{Tx, Row_of-Tx, end_of-Tx, more_of-Tx}
 use Rattle.tmem_tree.specs.declared.tx.Tx.TheVariants.{Seq}
 use Rattle.tmem_tree.specs.declared.tx.Tx.TheBlock.{items-the_row-Tx}
 use Rattle.tmem_tree.specs.declared.tx.Tx.TheViews.{the_lemmas}
-use Rattle.tmem_tree.proofs.Laws.{count_in, depth_in, choices_in}
+use Rattle.tmem_tree.proofs.Laws.{count_in, depth_in, choices_in, count-Seq, depth-Seq, choices-Seq}
+use Rattle.tmem_tree.specs.Limits.{depth, count, is_write, is_check, has_bad_register, has_bad_step, has_bad_arguments}
 use Rattle.tmem_tree.specs.StepAnswers.{StepMeanings}
 use Rattle.tmem_tentative.specs.declared.flow.Flow as code
-use Rattle.tmem_tentative.specs.declared.flow.Flow.TheVariants.{Normal, Need, Retry, Abort}
+use Rattle.tmem_tentative.specs.declared.flow.Flow.TheVariants.{Normal, Need}
 use Rattle.tmem_tentative.specs.declared.save.Save.{Save}
 use Rattle.tmem_tentative.specs.Eval.{RunState, Flow, Goes, then_eval}
-use Rattle.tmem_tentative.specs.Places.{Covers, Place, LeadsTo, eval_on, eval_all_on, eval_from, Enters}
+use Rattle.tmem_tentative.specs.Places.{Covers, Place, LeadsTo, MayRunFrom, RunsTo, WritesFit, NamesFit, eval_on, eval_all_on, eval_from, behind, seen_behind, Enters}
 use Rattle.tmem_tentative.proofs.EvalSeen.{covers_refl}
 use Rattle.tmem_tentative.proofs.EvalSeq.{eval_in, eval-Seq, eval_all-items}
+use Rattle.tmem_tentative.proofs.PlaceRoom.{RoomIn, path_grows, seq_room, seq_leaves, seq_next}
 use Rattle.tmem_tentative.proofs.PlaceRuns.{in_child}
 
 -- the first from a place inside it, and the others from their starts
@@ -51,28 +51,16 @@ pub seq_leads : (m : StepMeanings) (seen : List (ℕ × ℤ)) (txs : Vec Tx Glob
     → ((reads : List (ℕ × ℤ)) → Covers reads seen → eval_from m reads (Seq txs) before seen ≡ eval_in_on m reads (tx ∷ others) inside.path inside.saves (record { registers = inside.registers; effect = inside.effect; seen = seen }))
     → (flow ≡ Normal → ⊥) → LeadsTo m seen tx inside flow after
     → LeadsTo m seen (Seq txs) before flow (in_child flow k after)
-seq_leads m seen txs k tx others before inside Normal after here start some l = absurd (some refl)
-seq_leads m seen txs k tx others before inside (Need v) after here start some l = record {
+seq_leads m seen txs k tx others before inside flow after here start some l = record {
   needs = λ var is. start seen (covers_refl seen) ∙ ap (λ f. then_eval f (eval_in m seen others)) (l.needs var is);
-  goes_on = λ reads n c d. start reads c ∙ ap (λ f. then_eval f (eval_in m reads others)) (l.goes_on reads n c d)
-      ∙ sym (eval_on-Seq m reads k after.path txs after.saves (record { registers = after.registers; effect = after.effect; seen = insert_entry nat_eq seen v n })
-      ∙ ap (λ ts. eval_in_on m reads ts after.path after.saves (record { registers = after.registers; effect = after.effect; seen = insert_entry nat_eq seen v n })) here);
-}
-seq_leads m seen txs k tx others before inside Retry after here start some l = record {
-  needs = λ var is. cc;
-  goes_on = λ reads n c d. start reads c ∙ ap (λ f. then_eval f (eval_in m reads others)) (l.goes_on reads n c d);
-}
-seq_leads m seen txs k tx others before inside (Abort code) after here start some l = record {
-  needs = λ var is. cc;
-  goes_on = λ reads n c d. start reads c ∙ ap (λ f. then_eval f (eval_in m reads others)) (l.goes_on reads n c d);
-}
-
--- what is left of a list of trees
-pub part_is : (txs : List Tx) (from : ℕ) → take (length txs - from) (drop from txs) ≡ drop from txs
-part_is txs from = take_all (length txs - from) (drop from txs) (omega (arith, length-drop from txs))
-
-pub rest_is : (txs : List Tx) (from i : ℕ) → drop i (take (length txs - from) (drop from txs)) ≡ drop (from + i) txs
-rest_is txs from i = ap (drop i) (part_is txs from) ∙ drop-drop i from txs
+  goes_on = λ reads n c d. start reads c ∙ ap (λ f. then_eval f (eval_in m reads others)) (l.goes_on reads n c d) ∙ on reads flow some (seen_behind flow seen n);
+} where
+  on : (reads : List (ℕ × ℤ)) (flow : code.Flow) → (flow ≡ Normal → ⊥) → (seen : List (ℕ × ℤ)) → then_eval (behind m reads tx flow after seen) (eval_in m reads others) ≡ behind m reads (Seq txs) flow (in_child flow k after) seen
+  on reads Normal some seen = absurd (some refl)
+  on reads (Need v) some seen =
+      let s : RunState = record { registers = after.registers; effect = after.effect; seen = seen } in
+      sym (eval_on-Seq m reads k after.path txs after.saves s ∙ ap (λ ts. eval_in_on m reads ts after.path after.saves s) here)
+  on reads flow some seen = refl
 
 pub here_is : (txs : List Tx) (i : ℕ) (tx : Tx) → i < length txs → tx ≡ get_or txs i tx → drop i txs ≡ tx ∷ drop (i + 1) txs
 here_is txs i tx h is = drop-cons txs i tx h ∙ ap (λ t. t ∷ drop (suc i) txs) (sym is) ∙ ap (λ k. tx ∷ drop k txs) (sym (add-one i))
@@ -102,3 +90,68 @@ pub seq_goes : (m : StepMeanings) (seen reads : List (ℕ × ℤ)) (tx : Tx) (ot
 seq_goes m seen reads tx others before after l covers =
     ap (λ f. then_eval f (eval_in m reads others)) (l.goes_on reads (pos 0) covers covers)
     ∙ eval_in_on-start m reads others after.saves (record { registers = after.registers; effect = after.effect; seen = seen })
+
+module _ (IsStated : StepMeanings → Type 0) (seen : List (ℕ × ℤ)) where
+  -- what is left of a tree, the first from a place inside it: the tree goes on there
+  pub record IsLeft (tree : Tx) (before : Place) (txs : List Tx) (here : Place) : Type 0 where
+    pub counts : (test : Tx → Bool) → count_in test txs ≤ count test tree
+    pub deep : depth_in txs < depth tree
+    pub enough : choices_in txs ≤ length here.saves
+    pub writes : (rest : ℕ) → WritesFit rest before.path tree before.saves before.effect → RoomIn is_write 64 (λ e. length e.writes) rest txs here.path here.saves (length here.effect.writes)
+    pub names : (rest : ℕ) → NamesFit rest before.path tree before.saves before.effect → RoomIn is_check 8 (λ e. length e.names) rest txs here.path here.saves (length here.effect.names)
+    pub leads : (m : StepMeanings) → IsStated m → (reads : List (ℕ × ℤ)) → Covers reads seen → eval_from m reads tree before seen ≡ eval_in_on m reads txs here.path here.saves (record { registers = here.registers; effect = here.effect; seen = seen })
+
+  -- a Seq that is entered
+  pub enter_seq : {arities : List ℕ} {before : Place} {left : List ℕ} (txs : Vec Tx Global) (from : ℕ) → Enters before.path 0 from left → MayRunFrom arities (Seq txs) before → IsLeft (Seq txs) before (drop from txs.items) (record before { path = left })
+  enter_seq {arities} {before} {left} txs from e may = record {
+    counts = λ test. omega (arith, count-Seq test txs, count_in-drop test from txs.items);
+    deep = omega (arith, depth-Seq txs, depth_in-drop from txs.items);
+    enough = omega (arith, may.enough, choices-Seq txs, choices_in-drop from txs.items);
+    writes = λ rest. seq_room is_write 64 (λ e. length e.writes) rest txs before.path from left before.saves (length before.effect.writes) e;
+    names = λ rest. seq_room is_check 8 (λ e. length e.names) rest txs before.path from left before.saves (length before.effect.names) e;
+    leads = λ m stated reads c. seq_start m reads txs before.path from left before.saves _ e;
+  }
+
+  module _ {arities : List ℕ} {tree : Tx} {before : Place} (may : MayRunFrom arities tree before) where
+    -- its first tree
+    pub first_may : {tx : Tx} {txs : List Tx} {here : Place} → IsLeft tree before (tx ∷ txs) here → MayRunFrom arities tx here
+    first_may {tx} {txs} is = record {
+      registers = omega (arith, may.registers, is.counts has_bad_register);
+      steps = record { there = omega (arith, may.steps.there, is.counts (has_bad_step arities)); given = omega (arith, may.steps.given, is.counts (has_bad_arguments arities)) };
+      deep = omega (arith, may.deep, is.deep);
+      enough = omega (arith, is.enough);
+      writes = (count_in is_write txs + may.writes.0, is.writes may.writes.0 may.writes.1);
+      names = (count_in is_check txs + may.names.0, is.names may.names.0 may.names.1);
+    }
+
+    -- none is left
+    pub all_run : {here : Place} → IsLeft tree before [] here → RunsTo IsStated seen tree before Normal here
+    all_run is = record {
+      path = (is.writes may.writes.0 may.writes.1).0;
+      writes = λ rest h. (is.writes rest h).1;
+      names = λ rest h. (is.names rest h).1;
+      leads = λ m stated. record { needs = λ var e. cc; goes_on = λ reads n c d. is.leads m stated reads c };
+    }
+
+  -- behind its first tree that has ended normally
+  pub next_left : {tree tx : Tx} {txs : List Tx} {before here after : Place} → length after.saves ≡ length here.saves → IsLeft tree before (tx ∷ txs) here → RunsTo IsStated seen tx here Normal after → IsLeft tree before txs after
+  next_left {tx = tx} {txs = txs} {here = here} {after = after} same is r = record {
+    counts = λ test. omega (arith, is.counts test);
+    deep = omega (arith, is.deep);
+    enough = omega (arith, is.enough);
+    writes = λ rest h. seq_next is_write 64 (λ e. length e.writes) rest tx txs after.path after.saves after.effect r.path (r.writes _ (is.writes rest h));
+    names = λ rest h. seq_next is_check 8 (λ e. length e.names) rest tx txs after.path after.saves after.effect r.path (r.names _ (is.names rest h));
+    leads = λ m stated reads c.
+        is.leads m stated reads c ∙ seq_goes m seen reads tx txs here after (r.leads m stated) c
+        ∙ ap (λ l. eval_in_on m reads txs l after.saves (record { registers = after.registers; effect = after.effect; seen = seen })) (sym r.path);
+  }
+
+  -- behind one that has not
+  pub part_runs : {tx : Tx} {others : List Tx} {before here after : Place} {flow : code.Flow} (txs : Vec Tx Global) (k : ℕ) → drop k txs.items ≡ tx ∷ others → (flow ≡ Normal → ⊥)
+      → IsLeft (Seq txs) before (tx ∷ others) here → RunsTo IsStated seen tx here flow after → RunsTo IsStated seen (Seq txs) before flow (in_child flow k after)
+  part_runs {tx} {others} {before} {here} {after} {flow} txs k key some is r = record {
+    path = path_grows flow _ _ k after.path r.path (omega (arith, is.deep));
+    writes = λ rest h. seq_leaves is_write 64 (λ e. length e.writes) rest k txs tx others flow after.path after.saves after.effect key some (r.writes _ (is.writes rest h));
+    names = λ rest h. seq_leaves is_check 8 (λ e. length e.names) rest k txs tx others flow after.path after.saves after.effect key some (r.names _ (is.names rest h));
+    leads = λ m stated. seq_leads m seen txs k tx others before here flow after key (is.leads m stated) some (r.leads m stated);
+  }

@@ -2,7 +2,7 @@
 use Rattle.std.proofs.Common.{◌≡◌, ℕ, ℤ, Bool, true, false, List, [], ◌∷◌, ◌++◌, Option, Some, None, nat_eq, cond, refl, sym, ap, ◌∙◌, append_assoc}
 use Rattle.std.proofs.lemmas.Bool.{eqb-true, eq-eqb}
 use Rattle.indexmap.specs.IndexMap.{insert_entry}
-use Rattle.tmem_record.specs.Writes.{look}
+use Rattle.tmem_record.specs.Writes.{look, with_write}
 use Rattle.tmem_tree.specs.Visited.{has, noted, each_once}
 use Rattle.tmem_tentative.specs.Right.{valued, if_there, first_lacking}
 
@@ -16,6 +16,14 @@ swap_look false false x n o h = refl
 twice_look : (c : Bool) (x n : ℤ) (o : Option ℤ) → cond c (Some n) o ≡ cond c (Some n) (cond c (Some x) o)
 twice_look true x n o = refl
 twice_look false x n o = refl
+
+-- a write is kept as an entry is inserted
+pub write_is_insert : (es : List (ℕ × ℤ)) (k : ℕ) (n : ℤ) → with_write es k n ≡ insert_entry nat_eq es k n
+write_is_insert [] k n = refl
+write_is_insert (e ∷ es) k n = on (nat_eq k e.0) refl (write_is_insert es k n) where
+  on : (b : Bool) → nat_eq k e.0 ≡ b → with_write es k n ≡ insert_entry nat_eq es k n → cond b ((k, n) ∷ es) (e ∷ with_write es k n) ≡ cond b ((e.0, n) ∷ es) (e ∷ insert_entry nat_eq es k n)
+  on true is same = ap (λ x. (x, n) ∷ es) (eqb-true k e.0 is)
+  on false is same = ap (λ l. e ∷ l) same
 
 -- a look at what was inserted
 pub look-insert : (es : List (ℕ × ℤ)) (k : ℕ) (n : ℤ) (v : ℕ) → look (insert_entry nat_eq es k n) v ≡ cond (nat_eq v k) (Some n) (look es v)

@@ -4,7 +4,7 @@ use Rattle.std.specs.Coded.{codes, Coded, Coded-set, ×_prop, le_prop}
 use Rattle.std.proofs.Props.{props}
 use Rattle.tmem_record.specs.declared.effect.Effect.{Effect}
 use Rattle.tmem_tree.specs.declared.tx.Tx.{Tx, Row_of-Tx, end_of-Tx, more_of-Tx}
-use Rattle.tmem_tree.specs.declared.tx.Tx.TheVariants.{Skip, Seq', Put, Read, Write, Step, When', OrElse', Retry, Abort, Check}
+use Rattle.tmem_tree.specs.declared.tx.Tx.TheVariants.{Seq', When', OrElse'}
 use Rattle.tmem_tree.specs.Limits.{is_write, is_check}
 use Rattle.tmem_tree.specs.StepAnswers.{StepMeanings}
 use Rattle.tmem_tentative.specs.declared.attempt.Attempt.{Attempt}
@@ -35,14 +35,7 @@ module _ (test : Tx → Bool) (limit : ℕ) (size : Effect → ℕ) where
     HasRoom-prop rest (zero ∷ path) (OrElse' p a q b) [] n = hlevel
     HasRoom-prop rest (zero ∷ path) (OrElse' p a q b) (save ∷ saves) n = ×_prop (HasRoom-prop rest path a saves n) le_prop
     HasRoom-prop rest (suc i ∷ path) (OrElse' p a q b) saves n = HasRoom-prop rest path b saves n
-    HasRoom-prop rest (i ∷ path) Skip saves n = hlevel
-    HasRoom-prop rest (i ∷ path) (Put reg x) saves n = hlevel
-    HasRoom-prop rest (i ∷ path) (Read var reg) saves n = hlevel
-    HasRoom-prop rest (i ∷ path) (Write var reg) saves n = hlevel
-    HasRoom-prop rest (i ∷ path) (Step index args out) saves n = hlevel
-    HasRoom-prop rest (i ∷ path) Retry saves n = hlevel
-    HasRoom-prop rest (i ∷ path) (Abort code) saves n = hlevel
-    HasRoom-prop rest (i ∷ path) (Check name) saves n = hlevel
+    HasRoom-prop rest (i ∷ path) tx saves n = hlevel
 
     pub AllHaveRoom-prop : {m : _} (rest i : ℕ) (path : List ℕ) (txs : Row_of-Tx m) (saves : List Save) (n : ℕ) → IsProp (AllHaveRoom test limit size rest i path txs saves n)
     AllHaveRoom-prop rest i path end_of-Tx saves n = hlevel

@@ -6,7 +6,8 @@ use Rattle.tmem_tree.specs.declared.tx.Tx.TheVariants.{Seq', When', OrElse'}
 use Rattle.tmem_tree.specs.StepAnswers.{StepMeanings}
 use Rattle.tmem_record.specs.Writes.{look}
 use Rattle.tmem_record.specs.declared.effect.Effect.{Effect}
-use Rattle.tmem_tree.specs.Limits.{count, count_all, is_write, is_check}
+use Rattle.tmem_tree.specs.Limits.{depth, choices, count, count_all, is_write, is_check, has_bad_register}
+use Rattle.tmem_tree.specs.Plans.{FitsSteps}
 use Rattle.tmem_tentative.specs.declared.attempt.Attempt.{Attempt}
 use Rattle.tmem_tentative.specs.declared.flow.Flow as code
 use Rattle.tmem_tentative.specs.declared.flow.Flow.TheVariants.{Normal, Need}
@@ -114,6 +115,24 @@ abbrev pub LeavesRoom : (Tx → Bool) → ℕ → (Effect → ℕ) → ℕ → c
 LeavesRoom test limit size rest Normal path tx saves effect = size effect + rest ≤ limit
 LeavesRoom test limit size rest (Need var) path tx saves effect = HasRoom test limit size rest path tx saves (size effect)
 LeavesRoom test limit size rest _ path tx saves effect = ⊤
+
+-- A run of this tree may go on from here, for steps that take so many arguments: it is no deeper than a plan, there is a
+-- save for each of its choices, and with so many behind it there is room for what it writes and checks.
+pub record MayRunFrom (arities : List ℕ) (tx : Tx) (p : Place) : Type 0 where
+  pub registers : count has_bad_register tx ≡ 0
+  pub steps : FitsSteps arities tx
+  pub deep : depth tx ≤ 32
+  pub enough : choices tx ≤ length p.saves
+  pub writes : (rest : ℕ) × WritesFit rest p.path tx p.saves p.effect
+  pub names : (rest : ℕ) × NamesFit rest p.path tx p.saves p.effect
+
+-- a run from one place to another, where so much was seen: the path and the room behind it, and what it leads to under each
+-- meaning that is stated of the steps
+pub record RunsTo (IsStated : StepMeanings → Type 0) (seen : List (ℕ × ℤ)) (tx : Tx) (before : Place) (flow : code.Flow) (after : Place) : Type 0 where
+  pub path : IsPathBehind flow (depth tx) after.path
+  pub writes : (rest : ℕ) → WritesFit rest before.path tx before.saves before.effect → LeavesRoom is_write 64 (λ e. length e.writes) rest flow after.path tx after.saves after.effect
+  pub names : (rest : ℕ) → NamesFit rest before.path tx before.saves before.effect → LeavesRoom is_check 8 (λ e. length e.names) rest flow after.path tx after.saves after.effect
+  pub leads : (m : StepMeanings) → IsStated m → LeadsTo m seen tx before flow after
 
 -- the path with the child that leads to the place, where the run goes on
 abbrev pub with_child : code.Flow → ℕ → List ℕ → List ℕ

@@ -1,12 +1,12 @@
 // An evaluation that goes on where it stopped.
 
-ghost use Rattle.std.specs.Prelude.{◌≡◌, ℕ, ◌+◌, ◌<◌, ◌≤◌, ◌↔◌, List, [], length, vec_len, vec_capacity, nat_eq, IsTrue, IfOk, IfErr};
+ghost use Rattle.std.specs.Prelude.{◌≡◌, ℕ, ◌+◌, ◌-◌, ◌<◌, ◌≤◌, ◌↔◌, List, [], ◌++◌, length, replicate, vec_len, vec_capacity, nat_eq, IsTrue, IfOk, IfErr};
 ghost use Rattle.indexmap.specs.IndexMap.{insert_entry, spare};
 ghost use Rattle.tmem_tree.specs.declared.tx.Tx.{Tx};
 ghost use Rattle.tmem_tree.specs.Limits.{choices};
 ghost use Rattle.tmem_tree.specs.StepAnswers.{StepMeanings};
 ghost use Rattle.tmem_tree.specs.Plans.{IsWithinLimits, FitsSteps, FitsVariables, FitsNames};
-ghost use Rattle.tmem_tentative.specs.Stages.{wanted};
+ghost use Rattle.tmem_tentative.specs.Stages.{wanted, no_save};
 
 use crate::attempt::{Attempt, Ending, Outcome, Progress, Reads};
 use crate::evaluation::end;
@@ -218,9 +218,9 @@ impl Cursor {
     }
 }
 
-// Adds saves where there are too few for the choices of a plan. Where memory is refused there are as many as before.
+// Adds as many saves as the choices of a plan lack, each with nothing in it. Where memory is refused there are as many as before.
 fn make_room(saves: &mut Vec<Save>, plan: &Plan) -> Result<(), AllocError>
-    ensures enough { IfOk result (λ _. choices plan.now ≤ length saves.new.items) }
+    ensures added { IfOk result (λ _. saves.new.items ≡ saves.old.items ++ replicate (choices plan.now - length saves.old.items) no_save) }
     ensures limits { IsWithinLimits plan.now }
     ensures same { IfErr result (λ _. saves.new.items ≡ saves.old.items) }
 {

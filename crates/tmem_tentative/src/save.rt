@@ -1,8 +1,7 @@
 // What a choice goes back to.
 
 ghost use Rattle.std.specs.Prelude.{◌≡◌};
-ghost use Rattle.tmem_record.specs.State.{no_effect};
-ghost use Rattle.tmem_tree.specs.Run.{no_registers};
+ghost use Rattle.tmem_tentative.specs.Stages.{no_save};
 
 use tmem_record::Effect;
 use tmem_tree::REGISTERS;
@@ -17,7 +16,7 @@ pub(crate) struct Save {
 impl Save {
     // A save that nothing was put into yet.
     pub(crate) fn new() -> Save
-        ensures { result ≡ record { registers = no_registers; effect = no_effect } }
+        ensures { result ≡ no_save }
     {
         Save {
             registers: [0; REGISTERS],

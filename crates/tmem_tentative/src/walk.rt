@@ -4,11 +4,10 @@ ghost use Rattle.std.specs.Prelude.{◌≡◌, ℕ, ◌+◌, ◌<◌, ◌≤◌,
 ghost use Rattle.std.specs.List.{list_any};
 ghost use Rattle.tmem_tree.specs.StepAnswers.{StepMeanings};
 ghost use Rattle.tmem_record.specs.Writes.{look};
-ghost use Rattle.tmem_tree.specs.Limits.{count, is_write, is_check, has_bad_register, is_no_register};
-ghost use Rattle.tmem_tree.specs.Plans.{FitsSteps};
+ghost use Rattle.tmem_tree.specs.Limits.{count, is_write, is_check, is_no_register};
 ghost use Rattle.tmem_tree.specs.Run.{register};
 ghost use Rattle.tmem_tentative.specs.Eval.{eval, read, answered};
-ghost use Rattle.tmem_tentative.specs.Logs.{run_state_of, flow_of};
+ghost use Rattle.tmem_tentative.specs.Logs.{MayWalk, run_state_of, flow_of};
 
 use crate::attempt::{Attempt, Reads};
 use crate::flow::Flow;
@@ -26,10 +25,7 @@ pub(crate) fn walk<S: StoredSteps>(
     reads: &Reads,
     log: &mut Attempt,
 ) -> Result<Flow, Fault>
-    requires registers { count has_bad_register tx.now ≡ 0 }
-    requires steps { FitsSteps (S.arities steps.now) tx.now }
-    requires room { length log.old.effect.writes + count is_write tx.now ≤ 64 }
-    requires names { length log.old.effect.names + count is_check tx.now ≤ 8 }
+    requires { MayWalk (S.arities steps.now) tx.now log.old.effect }
     ensures room { length log.new.effect.writes ≤ length log.old.effect.writes + count is_write tx.now }
     ensures names { length log.new.effect.names ≤ length log.old.effect.names + count is_check tx.now }
     ensures flow { (m : StepMeanings) → S.is_stated steps.now m → IfOk result (λ flow. flow_of flow (run_state_of log.new) ≡ eval m reads.now.entries tx.now (run_state_of log.old)) }
@@ -87,10 +83,7 @@ fn walk_first<S: StoredSteps>(
     reads: &Reads,
     log: &mut Attempt,
 ) -> Result<Flow, Fault>
-    requires registers { count has_bad_register tx.now ≡ 0 }
-    requires steps { FitsSteps (S.arities steps.now) tx.now }
-    requires room { length log.old.effect.writes + count is_write tx.now ≤ 64 }
-    requires names { length log.old.effect.names + count is_check tx.now ≤ 8 }
+    requires { MayWalk (S.arities steps.now) tx.now log.old.effect }
     ensures room { length log.new.effect.writes ≤ length log.old.effect.writes + count is_write tx.now }
     ensures names { length log.new.effect.names ≤ length log.old.effect.names + count is_check tx.now }
     ensures flow { (m : StepMeanings) → S.is_stated steps.now m → IfOk result (λ flow. flow_of flow (run_state_of log.new) ≡ eval m reads.now.entries tx.now (run_state_of log.old)) }

@@ -1,16 +1,15 @@
 // A run that goes on from a place inside its tree.
 
-ghost use Rattle.std.specs.Prelude.{◌≡◌, ◌↔◌, ℕ, ◌+◌, ◌<◌, ◌≤◌, List, [], length, true, false, IsTrue, if◌then◌else◌};
+ghost use Rattle.std.specs.Prelude.{◌≡◌, ◌↔◌, ℕ, ◌+◌, ◌<◌, ◌≤◌, List, [], length, drop, IsTrue, if◌then◌else◌};
 ghost use Rattle.std.specs.List.{list_any};
 ghost use Rattle.tmem_tree.specs.StepAnswers.{StepMeanings};
 ghost use Rattle.tmem_record.specs.Writes.{look};
 ghost use Rattle.tmem_record.specs.declared.effect.Effect.{Effect};
-ghost use Rattle.tmem_tree.specs.Limits.{depth, count, is_write, is_check, has_bad_register, choices};
-ghost use Rattle.tmem_tree.specs.Plans.{FitsSteps};
+ghost use Rattle.tmem_tree.specs.Limits.{count, is_write, is_check};
 ghost use Rattle.tmem_tree.specs.Run.{register, is_zero};
 ghost use Rattle.tmem_tentative.specs.declared.save.Save.{Save};
-ghost use Rattle.tmem_tentative.specs.Logs.{run_state_of, flow_of};
-ghost use Rattle.tmem_tentative.specs.Places.{WritesFit, NamesFit, LeavesRoom, IsPathBehind, LeadsTo, place_of, with_child, Enters, EntersChoice, IsLeaf, read_seen};
+ghost use Rattle.tmem_tentative.specs.Logs.{MayWalk, run_state_of, flow_of};
+ghost use Rattle.tmem_tentative.specs.Places.{MayRunFrom, RunsTo, IsPathBehind, LeadsTo, place_of, with_child, Enters, EntersChoice, IsLeaf, read_seen};
 
 use crate::attempt::{Attempt, Reads};
 use crate::flow::Flow;
@@ -29,22 +28,14 @@ pub(crate) fn walk_on<S: StoredSteps>(
     path: &mut Path,
     saves: &mut [Save],
 ) -> Flow
-    requires registers { count has_bad_register tx.now ≡ 0 }
-    requires steps { FitsSteps (S.arities steps.now) tx.now }
-    requires deep { depth tx.now ≤ 32 }
-    requires choices { choices tx.now ≤ length saves.old }
-    requires room { (rest : ℕ) × WritesFit rest path.old tx.now saves.old log.old.effect }
-    requires names { (rest : ℕ) × NamesFit rest path.old tx.now saves.old log.old.effect }
+    requires { MayRunFrom (S.arities steps.now) tx.now (place_of log.old path.old saves.old) }
     ensures reads { log.new.reads ≡ log.old.reads }
-    ensures path { IsPathBehind result (depth tx.now) path.new }
-    ensures room { (rest : ℕ) → WritesFit rest path.old tx.now saves.old log.old.effect → LeavesRoom is_write 64 (λ e. length e.writes) rest result path.new tx.now saves.new log.new.effect }
-    ensures names { (rest : ℕ) → NamesFit rest path.old tx.now saves.old log.old.effect → LeavesRoom is_check 8 (λ e. length e.names) rest result path.new tx.now saves.new log.new.effect }
-    ensures leads { (m : StepMeanings) → S.is_stated steps.now m → LeadsTo m log.old.reads.entries tx.now (place_of log.old path.old saves.old) result (place_of log.new path.new saves.new) }
+    ensures runs { RunsTo (S.is_stated steps.now) log.old.reads.entries tx.now (place_of log.old path.old saves.old) result (place_of log.new path.new saves.new) }
 {
     match tx {
         Tx::Seq(txs) => {
             let from = enter(path, 0);
-            for (i, t) in txs[from..].iter().enumerate() {
+            for (i, t) in rest_of(txs, from).iter().enumerate() {
                 let flow = walk_part(t, steps, log, path, saves);
                 if flow != Flow::Normal {
                     note(path, flow, from + i);
@@ -84,6 +75,15 @@ pub(crate) fn walk_on<S: StoredSteps>(
     }
 }
 
+// The trees of a sequence from one of them on.
+#[inline(always)]
+fn rest_of(txs: &[Tx], from: usize) -> &[Tx]
+    requires { from ≤ length txs.now }
+    ensures { result.now ≡ drop from txs.now }
+{
+    &txs[from..]
+}
+
 // Goes on with a part of a run, as `walk_on` does. Most parts are leaves: they are run in the frame of the sequence.
 #[cycle(walk_on)]
 #[inline(always)]
@@ -94,17 +94,9 @@ fn walk_part<S: StoredSteps>(
     path: &mut Path,
     saves: &mut [Save],
 ) -> Flow
-    requires registers { count has_bad_register tx.now ≡ 0 }
-    requires steps { FitsSteps (S.arities steps.now) tx.now }
-    requires deep { depth tx.now ≤ 32 }
-    requires choices { choices tx.now ≤ length saves.old }
-    requires room { (rest : ℕ) × WritesFit rest path.old tx.now saves.old log.old.effect }
-    requires names { (rest : ℕ) × NamesFit rest path.old tx.now saves.old log.old.effect }
+    requires { MayRunFrom (S.arities steps.now) tx.now (place_of log.old path.old saves.old) }
     ensures reads { log.new.reads ≡ log.old.reads }
-    ensures path { IsPathBehind result (depth tx.now) path.new }
-    ensures room { (rest : ℕ) → WritesFit rest path.old tx.now saves.old log.old.effect → LeavesRoom is_write 64 (λ e. length e.writes) rest result path.new tx.now saves.new log.new.effect }
-    ensures names { (rest : ℕ) → NamesFit rest path.old tx.now saves.old log.old.effect → LeavesRoom is_check 8 (λ e. length e.names) rest result path.new tx.now saves.new log.new.effect }
-    ensures leads { (m : StepMeanings) → S.is_stated steps.now m → LeadsTo m log.old.reads.entries tx.now (place_of log.old path.old saves.old) result (place_of log.new path.new saves.new) }
+    ensures runs { RunsTo (S.is_stated steps.now) log.old.reads.entries tx.now (place_of log.old path.old saves.old) result (place_of log.new path.new saves.new) }
 {
     if is_leaf(tx) {
         act(tx, steps, log)
@@ -186,10 +178,7 @@ fn go_back(log: &mut Attempt, save: &Save)
 #[inline(always)]
 fn act<S: StoredSteps>(tx: &Tx, steps: &S, log: &mut Attempt) -> Flow
     requires leaf { IsLeaf tx.now }
-    requires registers { count has_bad_register tx.now ≡ 0 }
-    requires steps { FitsSteps (S.arities steps.now) tx.now }
-    requires room { length log.old.effect.writes + count is_write tx.now ≤ 64 }
-    requires names { length log.old.effect.names + count is_check tx.now ≤ 8 }
+    requires may { MayWalk (S.arities steps.now) tx.now log.old.effect }
     ensures leaf { IsLeaf tx.now }
     ensures reads { log.new.reads ≡ log.old.reads }
     ensures room { length log.new.effect.writes ≤ length log.old.effect.writes + count is_write tx.now }

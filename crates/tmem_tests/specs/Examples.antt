@@ -1,6 +1,14 @@
--- What the tests' own tables mean.
+-- What the tests' own tables and steps mean.
 use Rattle.std.specs.Prelude.{ℤ, pos, ◌+ℤ◌, Bool, List, int_le, slice_index_or}
+use Rattle.tmem_tree.specs.declared.step.StepAnswer.{StepAnswer}
+use Rattle.tmem_tree.specs.declared.step.StepAnswer.TheVariants.{Value}
+use Rattle.tmem_builtins.specs.Builtins.{builtin_steps, builtin_names, builtin_tests}
 use Rattle.tmem_builtins.specs.Steps.{first, second}
+use Rattle.tmem_core.specs.Program.{Program}
+
+-- its first argument
+abbrev pub first_of : List ℤ → StepAnswer
+first_of args = Value (first args)
 
 -- the last of sixteen is at least 0
 abbrev pub is_last_not_negative : List ℤ → Bool
@@ -9,3 +17,7 @@ is_last_not_negative values = int_le (pos 0) (slice_index_or values 15 (pos 0))
 -- the first two add up to at least 0, as whole numbers
 abbrev pub is_sum_not_negative : List ℤ → Bool
 is_sum_not_negative values = int_le (pos 0) (first values +ℤ second values)
+
+-- what the closures of scripts bring to a store of 1024 variables
+abbrev pub built_in : Program
+built_in = record { steps = builtin_steps; names = builtin_names 1024; tests = builtin_tests }

@@ -1,7 +1,6 @@
-//! Devices, images, journals, tables and worlds, by calls.
+//! Tables of invariants, worlds, and what a front settles, by calls.
 //!
-//! A crate of tests alone. They stand above the crates that they test, so that each is proved by itself. Most are tables of
-//! acts with what they are answered, which `tests/acts.rt` plays.
+//! A crate of tests alone. They stand above the crates that they test, so that each is proved by itself.
 #![tactic(auto)]
 
 #[cfg(test)]

@@ -1,13 +1,12 @@
 //! Tests by calls, and what those of worlds share: devices, and transactions with their replies.
-mod acts;
 mod built;
-mod counting;
 mod crashes;
-mod disks;
-mod files;
-mod images;
-mod journals;
+mod fronts;
+mod limits;
+mod names;
+mod stops;
 mod tables;
+mod versions;
 
 use std::alloc::Global;
 use tmem_disk::{Fault, SimDisk};

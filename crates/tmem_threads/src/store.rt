@@ -1,8 +1,6 @@
 // A store for the threads, from its opening to their totals.
 ghost use Rattle.std.specs.Prelude.{◌≡◌, ◌<◌, ◌≤◌, ◌∷◌, [], length, IfOk};
 ghost use Rattle.tmem_builtins.specs.Builtins.{builtin_steps, builtin_names, builtin_tests};
-ghost use Rattle.tmem_builtins.specs.Invariants.{is_not_negative, add_to_hundred, are_ordered};
-ghost use Rattle.tmem_builtins.specs.Steps.{sum_of, difference_of, at_least};
 ghost use Rattle.tmem_front.specs.Held.{found_of, spine_of, steps_of as held_steps, table_of as held_table};
 ghost use Rattle.tmem_seats.specs.Histories.{IsPossibleValue};
 ghost use Rattle.tmem_record.specs.State.{State};
@@ -16,11 +14,11 @@ use std::marker::Brand;
 use std::rt::Clock;
 use std::sync::Wait;
 use std::thread::Threads;
-use tmem_builtins::{add, need, nonneg, ordered, steps_of, sub, sum, table_of};
+use tmem_builtins::{builtin_table, stored_steps};
 use tmem_disk::{Disk, Fault};
 use tmem_front::{Front, OpenedFront, Pass, StoreNaming};
 use tmem_invariants::Invariants;
-use tmem_tree::{StepAnswer, StoredSteps};
+use tmem_tree::StoredSteps;
 
 /// How many variables the store has.
 pub const VARS: u16 = 4;
@@ -49,64 +47,8 @@ pub fn count_up<R: Threads + Wait + Clock + Sync, D: Disk + Drop + Send>(
 ) -> Result<Totals, Fault>
     ensures { IfOk result (λ totals. (opening : State) × AreTotals opening work totals) }
 {
-    let at_least_zero = Box::new(
-        alloc,
-        |values: &[i64]| -> bool
-            requires { length values.now ≡ 1 }
-            ensures { result ≡ is_not_negative values.now }
-        { nonneg(values) },
-    )?;
-    let a_hundred = Box::new(
-        alloc,
-        |values: &[i64]| -> bool
-            requires { length values.now ≡ 2 }
-            ensures { result ≡ add_to_hundred values.now }
-        { sum(values) },
-    )?;
-    let in_order = Box::new(
-        alloc,
-        |values: &[i64]| -> bool
-            requires { length values.now ≡ 2 }
-            ensures { result ≡ are_ordered values.now }
-        { ordered(values) },
-    )?;
-    let table = table_of(alloc, VARS, at_least_zero, a_hundred, in_order)?;
-    count_under(rt, alloc, disk, table, work)
-}
-
-// The same under these invariants.
-fn count_under<
-    R: Threads + Wait + Clock + Sync,
-    D: Disk + Drop + Send,
-    T: Invariants + Drop + Send,
->(rt: &R, alloc: Global, disk: D, table: T, work: Work) -> Result<Totals, Fault>
-    requires vars { T.vars table ≡ VARS }
-    requires names { T.names table ≡ counting.names }
-    requires stated { T.is_stated table counting.tests }
-    ensures { IfOk result (λ totals. (opening : State) × AreTotals opening work totals) }
-{
-    let total = Box::new(
-        alloc,
-        |args: &[i64]| -> StepAnswer
-            requires { length args.now ≡ 2 }
-            ensures { result ≡ sum_of args.now }
-        { add(args) },
-    )?;
-    let difference = Box::new(
-        alloc,
-        |args: &[i64]| -> StepAnswer
-            requires { length args.now ≡ 2 }
-            ensures { result ≡ difference_of args.now }
-        { sub(args) },
-    )?;
-    let floor = Box::new(
-        alloc,
-        |args: &[i64]| -> StepAnswer
-            requires { length args.now ≡ 2 }
-            ensures { result ≡ at_least args.now }
-        { need(args) },
-    )?;
-    let steps = steps_of(alloc, total, difference, floor)?;
+    let table = builtin_table(alloc, VARS)?;
+    let steps = stored_steps(alloc)?;
     count_with(rt, alloc, disk, table, steps, work)
 }
 

@@ -1,12 +1,10 @@
 -- What breaking no limit comes to, and that one count of all bad nodes is enough.
-use Rattle.std.proofs.Common.{◌≡◌, ℕ, ◌+◌, ◌<◌, ◌≤◌, Bool, true, false, ◌||◌, List, lit<, arith}
-use Rattle.tmem_disk.specs.declared.fault.Cause.{Cause}
+use Rattle.std.proofs.Common.{◌≡◌, ℕ, ◌+◌, ◌<◌, ◌≤◌, Bool, true, false, ◌||◌, List, arith}
 use Rattle.tmem_disk.specs.declared.fault.Cause.TheVariants.{TooDeep, TooManyNodes, TooManyWrites, TooManyChecks, BadRegister, BadVariable, BadStep, BadArguments, UnknownName}
-use Rattle.tmem_disk.specs.Fault.{number_of}
 use Rattle.tmem_tree.specs.declared.tx.Tx.{Tx, Row_of-Tx, end_of-Tx, more_of-Tx}
 use Rattle.tmem_tree.specs.declared.tx.Tx.TheVariants.{Skip, Seq', Put, Read, Write, Step, When', OrElse', Retry, Abort, Check}
 use Rattle.tmem_tree.specs.Limits.{depth, one_if, count, count_all, is_node, is_write, is_check, has_bad_register, has_bad_variable, has_bad_step, has_bad_arguments, has_unknown_name}
-use Rattle.tmem_tree.specs.Plans.{Breaks, BreaksNone, IsWithinLimits, FitsSteps, FitsVariables, FitsNames, is_bad}
+use Rattle.tmem_tree.specs.Plans.{BreaksNone, IsWithinLimits, FitsSteps, FitsVariables, FitsNames, is_bad}
 
 either : (a b : Bool) → (one_if a ≤ one_if (a || b)) × (one_if b ≤ one_if (a || b)) × (one_if (a || b) ≤ one_if a + one_if b)
 either true true = (omega arith, omega arith, omega arith)
@@ -91,9 +89,6 @@ none_at n not_one = omega arith
 not_one : (n : ℕ) → n ≡ 0 → 0 < n → ⊥
 not_one n none some = omega arith
 
-some_at : (n : ℕ) → (n ≡ 0 → ⊥) → 0 < n
-some_at n not_none = omega arith
-
 pub within_limits : (arities : List ℕ) (vars : ℕ) (names : List (List ℕ)) (tx : Tx) → BreaksNone arities vars names tx → IsWithinLimits tx
 within_limits arities vars names tx none = record {
   shallow = at_most _ _ (none TooDeep);
@@ -147,17 +142,3 @@ are_within arities vars names tx none = record {
     known = none_at _ (none UnknownName);
   });
 }
-
--- one is broken, and it is none of the other eight
-pub breaks_last : (arities : List ℕ) (vars : ℕ) (names : List (List ℕ)) (tx : Tx) → ¬ BreaksNone arities vars names tx → ((lesser : Cause) → number_of lesser < 9 → Breaks arities vars names tx lesser → ⊥) → Breaks arities vars names tx UnknownName
-breaks_last arities vars names tx some others = some_at _ (λ none. some (by_cause none)) where
-  by_cause : count (has_unknown_name names) tx ≡ 0 → BreaksNone arities vars names tx
-  by_cause none TooDeep = others TooDeep (lit< tt)
-  by_cause none TooManyNodes = others TooManyNodes (lit< tt)
-  by_cause none TooManyWrites = others TooManyWrites (lit< tt)
-  by_cause none TooManyChecks = others TooManyChecks (lit< tt)
-  by_cause none BadRegister = others BadRegister (lit< tt)
-  by_cause none BadVariable = others BadVariable (lit< tt)
-  by_cause none BadStep = others BadStep (lit< tt)
-  by_cause none BadArguments = others BadArguments (lit< tt)
-  by_cause none UnknownName = not_one _ none

@@ -1,5 +1,5 @@
 -- The point of a run after an event, on any device.
-use Rattle.std.proofs.Common.{ℕ, refl, subst}
+use Rattle.std.proofs.Common.{ℕ, ⊎_elim, refl, subst}
 use Rattle.tmem_disk.specs.Disk.{DeviceView}
 use Rattle.tmem_disk.specs.declared.fault.Fault.{Fault}
 use Rattle.tmem_disk.specs.declared.fault.Fault.TheVariants as fault
@@ -7,34 +7,40 @@ use Rattle.tmem_event.specs.declared.event.Event.{Event}
 use Rattle.tmem_event.specs.declared.event.Event.TheVariants as event
 use Rattle.tmem_event.specs.declared.event.Reply.{Reply}
 use Rattle.tmem_event.specs.declared.event.Reply.TheVariants as reply
-use Rattle.tmem_core.specs.Program.{Program}
+use Rattle.tmem_core.specs.Program.{Program, IsProgramOf}
 use Rattle.tmem_world.specs.declared.world.World.{World}
 use Rattle.tmem_journal.specs.Calls.{FitsOn}
-use Rattle.tmem_journal.specs.Refusals.{IsRefusedBy}
-use Rattle.tmem_world.specs.SessionRefusals.{IsWhyNot}
+use Rattle.tmem_journal.specs.Refusals.{IsWhy, IsRefusedBy}
+use Rattle.tmem_opening.specs.Opening.{NamesInvariant, FindsUnsound, IsWhyNot, OpeningRefused}
 use Rattle.tmem_world.specs.WorldModel.{WorldModel, opening}
-use Rattle.tmem_world.specs.Represents.{Represents, Means, IsStep, OpeningRefused, setting_of}
+use Rattle.tmem_world.specs.Represents.{Represents, Means, IsStep, held_table, setting_of, view_of}
 use Rattle.tmem_world.specs.AnyDevice.{IsOpeningFault, dropped_by, AllowsReopenOnAnyDevice, AllowsOnAnyDevice, IsReopened, Reopens}
 
 -- what an opening is refused for is among its faults
-opening_faults : (old new : DeviceView) (vars slots : ℕ) (unsound : Type 0) (f : Fault) → OpeningRefused old vars slots unsound f new → IsOpeningFault f
-opening_faults old new vars slots unsound f it = faults f it.why
+opening_faults : (P : Fault → Type 0) (U : Type 0) (f : Fault) → IsWhyNot P U f → IsOpeningFault f
+opening_faults P U f why = ⊎_elim (by_content f) (λ it. by_invariant f it.0) why
   where
-    faults : (g : Fault) → IsWhyNot (λ h. new.keeps_model → FitsOn vars slots old.capacity → IsRefusedBy vars slots old.seen h) unsound g → IsOpeningFault g
-    faults fault.Memory why = tt
-    faults fault.Device why = tt
-    faults fault.NotFormatted why = tt
-    faults fault.Damaged why = tt
-    faults fault.Geometry why = tt
-    faults (fault.Missing name) why = tt
-    faults (fault.Broken name) why = tt
-    faults _ why = absurd why
+    by_content : (g : Fault) → IsWhy P g → IsOpeningFault g
+    by_content fault.Memory why = tt
+    by_content fault.Device why = tt
+    by_content fault.NotFormatted why = tt
+    by_content fault.Damaged why = tt
+    by_content fault.Geometry why = tt
+    by_content _ why = absurd why
+
+    by_invariant : (g : Fault) → NamesInvariant g → IsOpeningFault g
+    by_invariant (fault.Missing name) is = tt
+    by_invariant (fault.Broken name) is = tt
+    by_invariant _ is = absurd is
+
+refusals : (AreTheirs : Program → Type 0) (vars slots : ℕ) (old : DeviceView) (f : Fault) (new : DeviceView) → OpeningRefused AreTheirs vars slots old f new → IsOpeningFault f
+refusals AreTheirs vars slots old f new it = opening_faults (λ g. new.keeps_model → FitsOn vars slots old.capacity → IsRefusedBy vars slots old.seen g) (FindsUnsound AreTheirs vars slots old f new) f it.why
 
 module _ {D T S : Type 0} {d t s : _} (program : Program) (w w' : World D T S d t s) (m : WorldModel) (r : Represents program w m) (means : Means w' program) where
   reopens : (x : Reply) → IsReopened w x w' → (m' : WorldModel) × AllowsReopenOnAnyDevice m x m' × Represents program w' m'
   reopens (reply.Opened n) it =
       (opening it.0 it.1 m.failures, (it.0, it.1, it.2, refl), subst (λ (k : ℕ). Represents program w' (opening it.0 it.1 k)) r.failures (it.3 program means))
-  reopens (reply.Fault f) it = (dropped_by f m, (opening_faults _ _ _ _ _ f it.refused, refl), it.point program m r)
+  reopens (reply.Fault f) it = (dropped_by f m, (refusals (IsProgramOf t (held_table w)) w.layout.vars w.layout.slots (view_of w) f (view_of w') it.refused, refl), it.point program m r)
   reopens _ it = absurd it
 
   -- the point of the run after an event, by the clauses of a step

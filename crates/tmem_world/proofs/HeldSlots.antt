@@ -1,7 +1,6 @@
 -- What a slot and a session keep.
 use Rattle.std.proofs.Common.{◌≡◌, ⊎_elim, ℕ, List, length, sym, ◌∙◌, ap, subst, Option, Some, None}
-use Rattle.std.proofs.lemmas.Bool.{false≢true}
-use Rattle.std.specs.Prelude.{ℤ, ◌<◌, true, All, IsSome, Result, Ok, Err, OnOk, IfErr}
+use Rattle.std.specs.Prelude.{ℤ, ◌<◌, true, All, Result, Ok, Err, OnOk, IfErr}
 use Rattle.std.specs.Map.{keys_of}
 use Rattle.tmem_disk.specs.declared.fault.Fault.{Fault}
 use Rattle.tmem_record.specs.Names.{has_name}
@@ -19,7 +18,7 @@ use Rattle.tmem_core.specs.Program.{Program}
 use Rattle.tmem_event.specs.declared.event.Reply.{Reply}
 use Rattle.tmem_world.specs.declared.slot.Slot.{Slot}
 use Rattle.tmem_world.specs.declared.session.Session as core
-use Rattle.tmem_world.specs.Slots.{HoldsEnded, IsForStore, FitsPlan, FitsOption, FitsSlot}
+use Rattle.tmem_world.specs.Slots.{IsForStore, FitsPlan, FitsOption, FitsSlot}
 use Rattle.tmem_world.specs.SettleSlot.{Settles, slot_after}
 use Rattle.tmem_world.specs.declared.held.Held.{Held}
 use Rattle.tmem_world.specs.declared.held.Held.TheVariants.{With}
@@ -33,14 +32,6 @@ abbrev Stays : Cursor → Cursor → Type 0
 Stays old new = (m : StepMeanings) (plan : Tx) → IsAt m plan old → IsAt m plan new
 
 module _ (vars : ℕ) (arities : List ℕ) (stated : StepMeanings → Type 0) (names : List (List ℕ)) where
-  ended_in : (o : Option Tx) (cursor : Cursor) → FitsOption vars arities stated names o cursor → IsSome o → HasEnded cursor → IsForStore vars names (attempt_of cursor)
-  ended_in None cursor fits some ended = absurd (false≢true some)
-  ended_in (Some plan) cursor fits some ended = fits.ended ended
-
-  -- an attempt that has ended may be settled
-  pub ended_fits : (s : Slot) → FitsSlot vars arities stated names s → HoldsEnded s → IsForStore vars names (attempt_of s.cursor)
-  ended_fits s fits ended = ended_in s.plan s.cursor fits ended.0 ended.1
-
   -- the plan that a slot holds
   pub plan_fits : (s : Slot) (plan : Tx) → s.plan ≡ Some plan → FitsSlot vars arities stated names s → FitsPlan vars arities stated names plan s.cursor
   plan_fits s plan is fits = subst (λ (o : Option Tx). FitsOption vars arities stated names o s.cursor) is fits
@@ -48,10 +39,6 @@ module _ (vars : ℕ) (arities : List ℕ) (stated : StepMeanings → Type 0) (n
   -- a slot that holds this plan
   pub with_plan_fits : (s : Slot) (plan : Tx) → s.plan ≡ Some plan → FitsPlan vars arities stated names plan s.cursor → FitsSlot vars arities stated names s
   with_plan_fits s plan is fits = subst (λ (o : Option Tx). FitsOption vars arities stated names o s.cursor) (sym is) fits
-
-  -- a slot that holds nothing
-  pub empty_fits : (s : Slot) → s.plan ≡ None → FitsSlot vars arities stated names s
-  empty_fits s none = subst (λ (o : Option Tx). FitsOption vars arities stated names o s.cursor) (sym none) tt
 
   -- an attempt is for the same variables and names where its cursor is as it was
   attempt_again : (old new : Cursor) → IsAsBefore old new → IsForStore vars names (attempt_of old) → IsForStore vars names (attempt_of new)
@@ -83,24 +70,13 @@ module _ (vars : ℕ) (arities : List ℕ) (stated : StepMeanings → Type 0) (n
       with_plan_fits new plan held (record { variables = variables; steps = steps; names = known; at = λ m is. at m; ended = λ ended. absurd (going ended) })
   begun_fits plan old new (Err f) variables steps known held at going same stays fits = fits_again old new same.1 same.2 stays fits
 
-  module _ {D T : Type 0} {d t : _} (o o' : core.Session D T d t) where
-    -- a slot that was settled
-    pub settles_fit : (s after : Slot) (r : Reply) → Settles o s r o' after → FitsSlot vars arities stated names s → FitsSlot vars arities stated names after
-    settles_fit s after r it fits =
-        ⊎_elim (λ none. subst (FitsSlot vars arities stated names) (sym none.1.2) fits) (λ some. subst (FitsSlot vars arities stated names) (sym some.1.1.slot) (by_answer some.1.0)) it
-      where
-        by_answer : (x : Result Settled Fault) → FitsSlot vars arities stated names (slot_after x s)
-        by_answer (Ok settled) = tt
-        by_answer (Err f) = fits
-
-module _ {D T : Type 0} {d t : _} (o o' : core.Session D T d t) where
-  -- its session keeps its journal
-  pub settles_journal : (s after : Slot) (r : Reply) → Settles o s r o' after → o'.journal ≡ o.journal
-  settles_journal s after r it = ⊎_elim (λ none. ap (λ (x : core.Session D T d t). x.journal) none.1.1) (λ some. some.1.1.journal) it
-
-  -- and its table
-  pub settles_table : (s after : Slot) (r : Reply) → Settles o s r o' after → table_of o'.core ≡ table_of o.core
-  settles_table s after r it = ⊎_elim (λ none. ap (λ (x : core.Session D T d t). table_of x.core) none.1.1) (λ some. some.1.1.table) it
+  -- a slot that was settled
+  pub settles_fit : {D T : Type 0} {d t : _} (o o' : core.Session D T d t) (s after : Slot) (r : Reply) → Settles o s r o' after → FitsSlot vars arities stated names s → FitsSlot vars arities stated names after
+  settles_fit o o' s after r it fits = ⊎_elim (λ none. subst (FitsSlot vars arities stated names) (sym none.1.2) fits) (λ some. subst (FitsSlot vars arities stated names) (sym some.1.1.slot) (by_answer some.1.0)) it
+    where
+      by_answer : (x : Result Settled Fault) → FitsSlot vars arities stated names (slot_after x s)
+      by_answer (Ok settled) = tt
+      by_answer (Err f) = fits
 
 module _ {D T S : Type 0} {d t s : _} (w : World D T S d t s) (o : core.Session D T d t) (here : held_of w ≡ With o) where
   vars_here : (length (state_of o.core).values) ≡ w.layout.vars

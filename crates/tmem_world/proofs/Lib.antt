@@ -4,12 +4,12 @@ pub mod DroppedPoints
 pub mod CheckpointedPoints
 pub mod FlushedPoints
 pub mod HeldSlots
-pub mod HeldTables
 pub mod Histories
 pub mod TakenBatches
 pub mod Laws
 pub mod Mending
 pub mod OpenedPoints
+pub mod Played
 pub mod Points
 pub mod Prefixes
 pub mod ReopenedPoints

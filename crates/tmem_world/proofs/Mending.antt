@@ -1,14 +1,11 @@
 -- What is left of a device once the gates behind its log were closed.
-use Rattle.std.proofs.Common.{◌⊎◌, inl, inr, ⊎_elim, ℕ, ◌*◌, List}
+use Rattle.std.proofs.Common.{◌⊎◌, inl, inr, ⊎_elim, ℕ, List}
 use Rattle.std.proofs.Math.Logic.{∥∥₁_elim, ∥∥₁_map}
 use Rattle.std.proofs.Props.{props}
-use Rattle.tmem_disk.specs.Disk.{DeviceView, IsDevice, LeavesOnly, AtEachMoment}
-use Rattle.tmem_record.specs.Layout.{slot_place}
+use Rattle.tmem_disk.specs.Disk.{DeviceView, LeavesOnly}
 use Rattle.tmem_record.specs.State.{State}
-use Rattle.tmem_gate.specs.Calls.{WritesWithin}
 use Rattle.tmem_journal.specs.Mended.{Mends, MendedBy}
 use Rattle.tmem_journal.specs.Stands.{Position, HoldsState, StandsForEither}
-use Rattle.tmem_world.specs.Represents.{LooksWhereClosed}
 
 -- a content stands for what it stood for before
 stands_mended : (vars slots : ℕ) (s t : State) (b c : List ℕ) → Mends vars slots b c → StandsForEither vars slots s t b → StandsForEither vars slots s t c
@@ -19,21 +16,3 @@ stands_mended vars slots s t b c mends it = ∥∥₁_elim it (hlevel props) (λ
 -- so it is of each content that a stop might have left
 pub mended_stands : (vars slots : ℕ) (s t : State) (d : DeviceView) → LeavesOnly d (StandsForEither vars slots s t) → d.keeps_model → (c : List ℕ) → MendedBy vars slots d c → StandsForEither vars slots s t c
 mended_stands vars slots s t d left keeps c from = stands_mended vars slots s t from.0 c from.2 (left.each keeps from.0 from.1)
-
--- What an opening did to a device, whatever it answered.
-pub record Mending (vars slots : ℕ) (old new : DeviceView) : Type 0 where
-  pub seen : new.keeps_model → Mends vars slots old.seen new.seen
-  pub stop : LeavesOnly new (MendedBy vars slots old)
-  pub any_moment : AtEachMoment old new (MendedBy vars slots old)
-  pub elsewhere : WritesWithin (slot_place vars 0) (4096 * slots) old new
-  pub looks : LooksWhereClosed vars slots old new
-
--- what a stop leaves after it is among what one leaves in it
-pub mending : (vars slots : ℕ) (old new : DeviceView) → IsDevice new → (new.keeps_model → Mends vars slots old.seen new.seen) → AtEachMoment old new (MendedBy vars slots old) → WritesWithin (slot_place vars 0) (4096 * slots) old new → LooksWhereClosed vars slots old new → Mending vars slots old new
-mending vars slots old new device seen during within looks = record {
-  seen = seen;
-  stop = record { each = λ k c left. during.each k c (device.counts_now old.moment c k (within.time.later k) left) };
-  any_moment = during;
-  elsewhere = within;
-  looks = looks;
-}

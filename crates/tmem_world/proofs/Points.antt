@@ -1,12 +1,14 @@
 -- How a world goes from one point of a run to the next.
-use Rattle.std.proofs.Common.{◌≡◌, ◌⊎◌, ⊎_elim, inl, inr, ℕ, zero, suc, ◌<◌, Bool, true, false, List, [], ◌∷◌, length, get_or, refl, sym, ◌∙◌, ap, subst, arith, Option, Some, None}
+use Rattle.std.proofs.Common.{◌≡◌, ◌⊎◌, ⊎_elim, inl, inr, ℕ, zero, suc, ◌+◌, ◌-◌, ◌<◌, ◌≤◌, Bool, true, false, List, [], ◌∷◌, length, drop, get_or, refl, sym, ◌∙◌, ap, subst, arith, Option, Some, None}
 use Rattle.std.specs.Prelude.{slice_set, IsSome}
 use Rattle.std.proofs.Math.Logic.{∥∥₁_map}
 use Rattle.std.proofs.lemmas.List.{set-get_or}
 use Rattle.std.specs.List.{AllZip}
 use Rattle.tmem_disk.specs.Disk.{IsDevice, LeavesOnly, AtEachMoment}
-use Rattle.tmem_core.specs.Program.{Program}
-use Rattle.tmem_core.specs.Held.{is_shut_of}
+use Rattle.tmem_core.specs.Program.{Program, IsProgramOf}
+use Rattle.tmem_core.specs.Held.{state_of, waiting_of, is_shut_of, table_of}
+use Rattle.tmem_core.specs.Verdict.{serial_effects}
+use Rattle.tmem_event.specs.declared.event.Event.{Event}
 use Rattle.tmem_event.specs.declared.event.Reply.{Reply}
 use Rattle.tmem_world.specs.declared.slot.Slot.{Slot}
 use Rattle.tmem_world.specs.declared.session.Session as core
@@ -16,13 +18,20 @@ use Rattle.std.proofs.lemmas.Bool.{false≢true}
 use Rattle.tmem_world.specs.Parts.{what, disk_in, layout_in, table_in, IsWith}
 use Rattle.tmem_record.specs.State.{State}
 use Rattle.tmem_journal.specs.Held as journal
+use Rattle.tmem_journal.specs.Journals as journals
 use Rattle.tmem_journal.specs.Mended.{MendedBy}
-use Rattle.tmem_journal.specs.Stands.{StandsForState, StandsForEither}
+use Rattle.tmem_journal.specs.Stands.{Position, StandsForEither}
+use Rattle.tmem_journal.specs.declared.journal.Journal as owner
 use Rattle.tmem_record.specs.declared.layout.Layout.{Layout}
 use Rattle.tmem_world.specs.declared.world.World.{World}
 use Rattle.tmem_world.specs.WorldModel.{WorldModel, SlotModel, NoTransaction, SessionStatus, InSession, cut, holding, slot_at}
 use Rattle.tmem_world.proofs.Mending.{mended_stands}
-use Rattle.tmem_world.specs.Represents.{SlotIs, SessionIs, HasSession, IsNumbered, Represents, EachMoment, StandsCut, session_of, held_of, device_of, view_of, held_table}
+use Rattle.tmem_world.proofs.Serial.{count-cut}
+use Rattle.tmem_world.specs.Represents.{SlotIs, SessionIs, HasSession, IsNumbered, Represents, Means, IsStep, EachMoment, WritesInStore, StandsCut, session_of, held_of, held_table, device_of, view_of}
+use Rattle.tmem_world.specs.AnyDevice.{Reopens}
+use Rattle.tmem_world.specs.EachPlayed.{IsAnswered}
+use Rattle.tmem_world.specs.Replies.{failures_by, IsFailedCall}
+use Rattle.tmem_world.proofs.Laws.{WritesInStore-refl}
 
 pub AllZip-set : {A B : Type 0} (R : A → B → Type 0) (xs : List A) (ys : List B) (k : ℕ) (x : A) (y : B) → AllZip R xs ys → R x y → AllZip R (slice_set xs k x) (slice_set ys k y)
 AllZip-set R [] [] k x y each here = tt
@@ -92,10 +101,47 @@ module _ {D T S : Type 0} {d t s : _} (program : Program) (w : World D T S d t s
   pub failures_at : (journal.device_of o.journal).failures ≡ m.failures
   failures_at = sym (ap (λ (h : Held D T d t). (d.view (disk_in h)).failures) here) ∙ r.failures
 
+-- What a call of a session's journal leaves, which accepts nothing.
+module _ {D T S : Type 0} {d t s : _} (program : Program) (w w' : World D T S d t s) (m : WorldModel) (o o' : core.Session D T d t) (r : Represents program w m)
+    (before : held_of w ≡ With o) (after : held_of w' ≡ With o') (slots : w'.slots.items ≡ w.slots.items) (state : state_of o'.core ≡ state_of o.core) where
+  was : SessionIs program o m
+  was = session_at program w m o before r
+
+  -- the point where n transactions are durable, and k may be in their place
+  pub point_at : (first second : State) (n k : ℕ) (moved : Position → Position) (shut : Bool) (status : SessionStatus) (failed : ℕ → ℕ) → journals.IsAt o'.journal first second (moved (journal.position_of o.journal)) shut → first ≡ cut program m n → second ≡ cut program m k
+      → (journal.device_of o'.journal).failures ≡ failed (journal.device_of o.journal).failures → waiting_of o'.core ≡ drop (n - m.opened.count) (serial_effects program m.opened m.accepted) → status ≡ session_of shut → (shut ≡ false → k ≡ n)
+      → m.opened.count ≤ n → n ≤ k → k ≤ m.opened.count + length m.accepted → Represents program w' (record m { durable = n; doubtful = k; position = moved m.position; session = status; failures = failed m.failures })
+  point_at first second n k moved shut status failed at durable doubtful failures waiting is certain low between high =
+      let now : is_shut_of o'.core ≡ shut = o'.shut ∙ at.closed in
+      let here : journal.state_of o'.journal ≡ cut program m n = at.state ∙ durable in
+      in_point program w' (record m { durable = n; doubtful = k; position = moved m.position; session = status; failures = failed m.failures }) o' after
+      (record {
+        state = state ∙ was.state;
+        number = o'.known ∙ ap (λ (x : State). x.count) here ∙ count-cut program m.opened m.accepted n r.numbers.each low (omega (arith, between, high));
+        waiting = waiting;
+        durable = here;
+        doubtful = at.doubtful ∙ doubtful;
+        position = at.position ∙ ap moved was.position;
+        status = is ∙ ap session_of (sym now);
+        certain = λ yes. certain (sym now ∙ yes);
+      })
+      (record { opened = low; durable = between; doubtful = high; each = r.numbers.each; sound = r.numbers.sound }) (subst (λ (l : List Slot). AllZip (SlotIs program) l m.slots) (sym slots) r.slots) (failures ∙ ap failed (failures_at program w m o before r))
+
+  -- the same point, where the journal is as it was
+  pub refused_at : o'.journal ≡ o.journal → waiting_of o'.core ≡ waiting_of o.core → Represents program w' m
+  refused_at same waits =
+      let at : journals.IsAt o'.journal (journal.state_of o.journal) (journal.doubtful_of o.journal) (journal.position_of o.journal) (is_shut_of o.core) = record {
+        state = ap (λ (j : owner.Journal D d). journal.state_of j) same;
+        doubtful = ap (λ (j : owner.Journal D d). journal.doubtful_of j) same;
+        position = ap (λ (j : owner.Journal D d). journal.position_of j) same;
+        closed = ap (λ (j : owner.Journal D d). journal.is_closed_of j) same ∙ sym o.shut;
+      } in
+      point_at _ _ m.durable m.doubtful (λ p. p) (is_shut_of o.core) m.session (λ n. n) at was.durable was.doubtful (ap (λ (j : owner.Journal D d). (journal.device_of j).failures) same) (waits ∙ was.waiting) was.status was.certain r.numbers.opened r.numbers.durable r.numbers.doubtful
+
 module _ {D T S : Type 0} {d t s : _} (w w' : World D T S d t s) (layout : w'.layout ≡ w.layout) where
-  -- a session's journal at each moment of a flush
-  pub flush_moments : (o o' : core.Session D T d t) → held_of w ≡ With o → held_of w' ≡ With o' → AtEachMoment (journal.device_of o.journal) (journal.device_of o'.journal) (λ c. ∥ journal.MayBe o.journal c ⊎ journal.MayBe o'.journal c ∥₁) → EachMoment w w'
-  flush_moments o o' before after during = λ program m m' r r'.
+  -- a session's journal at each moment of a flush or a checkpoint
+  pub call_moments : (o o' : core.Session D T d t) → held_of w ≡ With o → held_of w' ≡ With o' → AtEachMoment (journal.device_of o.journal) (journal.device_of o'.journal) (λ c. ∥ journal.MayBe o.journal c ⊎ journal.MayBe o'.journal c ∥₁) → EachMoment w w'
+  call_moments o o' before after during = λ program m m' r r'.
       let P : List ℕ → Type 0 = λ c. ∥ StandsCut program w.layout.vars w.layout.slots m c ⊎ StandsCut program w.layout.vars w.layout.slots m' c ∥₁ in
       let then : (c : List ℕ) → journal.MayBe o'.journal c → StandsCut program w.layout.vars w.layout.slots m' c =
       λ c it. subst (λ (l : Layout). StandsCut program l.vars l.slots m' c) layout (may_be program w' m' o' after (session_at program w' m' o' after r') c it) in
@@ -106,13 +152,6 @@ module _ {D T S : Type 0} {d t s : _} (w w' : World D T S d t s) (layout : w'.la
       } in
       subst (λ (h : Held D T d t). AtEachMoment (d.view (disk_in h)) (view_of w') P) (sym before)
       (subst (λ (h : Held D T d t). AtEachMoment (journal.device_of o.journal) (d.view (disk_in h)) P) (sym after) both)
-
-  -- a session's journal at each moment of a checkpoint
-  pub checkpoint_moments : (o o' : core.Session D T d t) → held_of w ≡ With o → held_of w' ≡ With o'
-      → AtEachMoment (journal.device_of o.journal) (journal.device_of o'.journal) (StandsForState (journal.layout_of o.journal).vars (journal.layout_of o.journal).slots (journal.state_of o.journal)) → EachMoment w w'
-  checkpoint_moments o o' before after during = flush_moments o o' before after (record {
-    each = λ k c left. ∣ inl (∥∥₁_map (during.each k c left) (λ held. (held.0, inl held.1))) ∣₁;
-  })
 
   -- an event without a call of the device
   pub still_moments : IsDevice (view_of w) → device_of w' ≡ device_of w → EachMoment w w'
@@ -143,15 +182,16 @@ module _ {D T S : Type 0} {d t s : _} (program : Program) (w w' : World D T S d 
       kept (Without left) has = has
       kept (With o) has = record { state = has.state; number = has.number; waiting = has.waiting; durable = has.durable; doubtful = has.doubtful; position = has.position; status = has.status; certain = has.certain }
 
+-- what the closures of a world mean, those of its session's table mean
+pub core_means : {D T S : Type 0} {d t s : _} (program : Program) (w : World D T S d t s) (o : core.Session D T d t) → held_of w ≡ With o → Means w program → IsProgramOf t (table_of o.core) program
+core_means {D} {T} {t = t} program w o is means = subst (λ (x : T). IsProgramOf t x program) (ap (λ (h : Held D T _ t). table_in h) is) means.invariants
+
 module _ {D T S : Type 0} {d t s : _} (w w' : World D T S d t s) (same : w'.held ≡ w.held) where
   pub held_stays : held_of w' ≡ held_of w
   held_stays = same_what w.held w'.held w.here w'.here same
 
   pub device_stays : device_of w' ≡ device_of w
   device_stays = ap (λ (h : Held D T d t). disk_in h) held_stays
-
-  pub table_stays : held_table w' ≡ held_table w
-  table_stays = ap (λ (h : Held D T d t). table_in h) held_stays
 
   pub failures_stay : (view_of w').failures ≡ (view_of w).failures
   failures_stay = ap (λ (x : D). (d.view x).failures) device_stays
@@ -165,6 +205,26 @@ module _ {D T S : Type 0} {d t s : _} (w w' : World D T S d t s) (same : w'.held
     failures = failures_stay ∙ r.failures;
     device = subst (λ (x : D). LeavesOnly (d.view x) (StandsCut program w'.layout.vars w'.layout.slots m)) (sym device_stays) (subst (λ (l : Layout). LeavesOnly (view_of w) (StandsCut program l.vars l.slots m)) (sym layout) r.device);
   }
+
+-- an event without a call of the device
+pub still_answered : {D T S : Type 0} {d t s : _} (w w' : World D T S d t s) (e : Event) (r : Reply) → w'.layout ≡ w.layout → w'.steps ≡ w.steps → held_table w' ≡ held_table w → device_of w' ≡ device_of w → IsDevice (view_of w)
+    → IsStep w e r w' → Reopens w e r w' → ((n : ℕ) → failures_by r n ≡ n) → IsFailedCall e r (view_of w').last_fault → IsAnswered w e r w'
+still_answered {D} {d = d} w w' e r layout steps table same device step again failures which = record {
+  step = step;
+  reopened = again;
+  any_moment = still_moments w w' layout device same;
+  elsewhere = subst (λ (x : D). WritesInStore w.layout (view_of w) (d.view x)) (sym same) (WritesInStore-refl w.layout (view_of w) device);
+  failures = ap (λ (x : D). (d.view x).failures) same ∙ sym (failures (view_of w).failures);
+  failed_call = which;
+  still = λ _. same;
+  kept = record { numbers = layout; steps = steps; table = table; model = subst (λ (x : D). (d.view x).keeps_model → (view_of w).keeps_model) (sym same) (λ keeps. keeps) };
+}
+
+-- so it is of one that changes slots alone
+pub slots_answered : {D T S : Type 0} {d t s : _} (w w' : World D T S d t s) (e : Event) (r : Reply) → w'.layout ≡ w.layout → w'.steps ≡ w.steps → w'.held ≡ w.held → IsDevice (view_of w)
+    → IsStep w e r w' → Reopens w e r w' → ((n : ℕ) → failures_by r n ≡ n) → IsFailedCall e r (view_of w').last_fault → IsAnswered w e r w'
+slots_answered {D} {T} {d = d} {t = t} w w' e r layout steps same device step again failures which =
+    still_answered w w' e r layout steps (ap (λ (h : Held D T d t). table_in h) (held_stays w w' same)) (device_stays w w' same) device step again failures which
 
 pub AllZip-at : {A B : Type 0} (R : A → B → Type 0) (xs : List A) (ys : List B) (k : ℕ) (d : A) (e : B) → AllZip R xs ys → k < length xs → R (get_or xs k d) (get_or ys k e)
 AllZip-at R [] ys k d e each below = absurd (omega arith)

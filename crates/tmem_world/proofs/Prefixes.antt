@@ -1,6 +1,7 @@
 -- Prefixes of a history, and the contents that stand for the states after them.
-use Rattle.std.proofs.Common.{◌≡◌, ◌⊎◌, inl, inr, ⊎_elim, ℕ, zero, suc, ◌+◌, ◌-◌, ◌≤◌, List, [], ◌∷◌, ◌++◌, length, take, refl, sym, ◌∙◌, ap, subst, arith, append-nil, length-append}
+use Rattle.std.proofs.Common.{◌≡◌, ◌⊎◌, inl, inr, ⊎_elim, ℕ, ◌+◌, ◌-◌, ◌≤◌, List, [], ◌∷◌, ◌++◌, length, take, refl, sym, ◌∙◌, ap, subst, arith, append-nil, length-append}
 use Rattle.std.proofs.Math.Logic.{∥∥₁_map}
+use Rattle.std.proofs.Math.Seq.{take-append-add}
 use Rattle.std.proofs.Props.{props}
 use Rattle.tmem_disk.specs.Disk.{DeviceView}
 use Rattle.tmem_record.specs.State.{State, first_state}
@@ -11,7 +12,8 @@ use Rattle.tmem_tree.specs.declared.settled.Settled.TheVariants.{Committed, Seen
 use Rattle.tmem_invariants.specs.Meanings.{IsSound}
 use Rattle.tmem_core.specs.Program.{Program}
 use Rattle.tmem_core.specs.Verdict.{serial_state, state_after, IsCommitted, AreCommitted}
-use Rattle.tmem_core.proofs.Laws.{serial_state-append, count-committed}
+use Rattle.tmem_core.specs.Versions.{Follows}
+use Rattle.tmem_core.proofs.Laws.{serial_state-append, count-committed, sound_after, same_order}
 use Rattle.tmem_journal.specs.Calls.{FitsOn}
 use Rattle.tmem_journal.specs.Mended.{Mends, MendedBy}
 use Rattle.tmem_journal.specs.Stands.{Position, HoldsState, StandsFor, StandsForEither}
@@ -21,15 +23,13 @@ use Rattle.tmem_world.specs.declared.world.World.{World}
 use Rattle.tmem_world.specs.Parts.{disk_in, layout_in}
 use Rattle.tmem_world.specs.WorldModel.{WorldModel, opening, cut}
 use Rattle.tmem_world.specs.Represents.{IsNumbered, Represents, StandsCut, held_of, view_of}
-use Rattle.tmem_world.specs.Chain.{History, IsSafePrefix, IsSafe, IsStore, GoesOn, Carries, state_at, history_found}
+use Rattle.tmem_world.specs.Chain.{History, IsSafePrefix, IsSafe, IsStore, GoesOn, Carries, MayFollow, state_at, history_found}
 use Rattle.tmem_world.proofs.Laws.{count_at}
 use Rattle.tmem_world.proofs.Serial.{committed-take}
 
 -- a beginning that ends in the second of two lists
 pub take_behind : (xs ys : List Tx) (n k : ℕ) → n ≡ length xs + k → take n (xs ++ ys) ≡ xs ++ take k ys
-take_behind [] ys n k is = ap (λ (j : ℕ). take j ys) (omega (arith, is))
-take_behind (x ∷ xs) ys zero k is = absurd (omega (arith, is))
-take_behind (x ∷ xs) ys (suc n) k is = ap (λ (l : List Tx). x ∷ l) (take_behind xs ys n k (omega (arith, is)))
+take_behind xs ys n k is = ap (λ (j : ℕ). take j (xs ++ ys)) is ∙ take-append-add xs ys k
 
 module _ (program : Program) where
   committed-append : (s : State) (txs more : List Tx) → AreCommitted program s txs → AreCommitted program (serial_state program s txs) more → AreCommitted program s (txs ++ more)
@@ -141,3 +141,27 @@ module _ {D T S : Type 0} {d t s : _} (w : World D T S d t s) where
     history = goes;
     store = record { fits = fits_in; device = record { each = λ keeps c left. point_safe program w.layout.vars h m goes point.numbers w.layout.slots c (point.device.each keeps c left) } };
   }
+
+-- what is a safe prefix of one program's is one of the next one's, and the state after it is the same
+module _ (old new : Program) (vars : ℕ) (h : History) (n : ℕ) (safe : IsSafePrefix old vars h n) (follows : Follows old (state_at old vars h n).names new) where
+  both : AreCommitted new (first_state vars) (take n h.accepted) × (state_at new vars h n ≡ state_at old vars h n)
+  both = same_order old new (state_at old vars h n).names safe.sound.there follows (first_state vars) (take n h.accepted) safe.each (λ name is. is)
+
+  prefix_following : IsSafePrefix new vars h n
+  prefix_following = record {
+    cut = safe.cut;
+    acknowledged = safe.acknowledged;
+    accepted = safe.accepted;
+    each = both.0;
+    sound = subst (λ (s : State). IsSound new.tests new.names s.names s.values) (sym both.1) (sound_after old new (state_at old vars h n).names (state_at old vars h n).values follows safe.sound);
+  }
+
+-- so what stood for the state after the one stands for that after the other
+pub safe_following : (old new : Program) (vars slots : ℕ) (h : History) → MayFollow old vars h new → (c : List ℕ) → (n : ℕ) × IsSafePrefix old vars h n × ((position : Position) × StandsFor vars slots position (state_at old vars h n) c)
+    → (n : ℕ) × IsSafePrefix new vars h n × ((position : Position) × StandsFor vars slots position (state_at new vars h n) c)
+safe_following old new vars slots h follows c it =
+    let so = follows it.0 it.1 in (
+      it.0,
+      prefix_following old new vars h it.0 it.1 so,
+      (it.2.0, subst (λ (s : State). StandsFor vars slots it.2.0 s c) (sym (both old new vars h it.0 it.1 so).1) it.2.1),
+    )

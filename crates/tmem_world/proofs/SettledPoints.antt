@@ -1,51 +1,46 @@
 -- The point of a run after a slot was settled.
 use Rattle.std.proofs.Common.{◌≡◌, ⊎_elim, ℕ, suc, ◌+◌, ◌-◌, ◌≤◌, ℤ, Bool, true, false, cond, List, [], ◌∷◌, ◌++◌, length, get_or, refl, sym, ◌∙◌, ap, subst, arith, length-append}
-use Rattle.std.proofs.lemmas.Bool.{false≢true}
+use Rattle.std.proofs.lemmas.Bool.{cases_eq, false≢true}
 use Rattle.std.specs.Prelude.{slice_set, Option, None, IsSome, Result, Ok, Err, All, IsTrue}
 use Rattle.std.specs.List.{AllZip}
-use Rattle.std.proofs.lemmas.List.{set-get_or, append-nil}
+use Rattle.std.proofs.lemmas.List.{set-get_or, append-nil, take-append-le, take_all}
 use Rattle.tmem_disk.specs.declared.fault.Fault.{Fault}
 use Rattle.tmem_disk.specs.declared.fault.Fault.TheVariants as fault
 use Rattle.tmem_record.specs.State.{State, fold}
 use Rattle.tmem_record.specs.declared.effect.Effect.{Effect}
 use Rattle.tmem_tree.specs.declared.tx.Tx.{Tx}
-use Rattle.tmem_core.specs.Program.{Program}
+use Rattle.tmem_core.specs.Program.{Program, IsProgramOf}
 use Rattle.tmem_tentative.specs.Cursors.{IsAt, given, attempt_of}
 use Rattle.tmem_tree.specs.declared.settled.Settled.{Settled}
-use Rattle.tmem_tree.specs.declared.settled.Settled.TheVariants.{Committed, Seen, Retry, Aborted, Refused}
+use Rattle.tmem_tree.specs.declared.settled.Settled.TheVariants.{Committed}
 use Rattle.tmem_invariants.specs.Meanings.{IsSound}
 use Rattle.tmem_invariants.specs.TableNames.{has_name}
-use Rattle.tmem_core.specs.Held.{state_of, waiting_of, durable_of, is_shut_of, table_of}
+use Rattle.tmem_core.specs.Held.{CoreView, view_of, state_of, waiting_of, durable_of, is_shut_of, table_of, accepting}
 use Rattle.tmem_core.specs.SettleAnswer.{is_stale, allowed, judged}
 use Rattle.tmem_core.specs.Verdict.{verdict, accepted_of, state_after, serial_state, IsCommitted}
 use Rattle.tmem_core.proofs.Laws.{serial_state-push, AreCommitted-push}
 use Rattle.tmem_event.specs.declared.event.Reply.{Reply}
-use Rattle.tmem_event.specs.declared.event.Reply.TheVariants as reply
 use Rattle.tmem_journal.specs.Held as journal
 use Rattle.tmem_journal.specs.declared.journal.Journal as owner
 use Rattle.tmem_world.specs.declared.slot.Slot.{Slot}
 use Rattle.tmem_world.specs.declared.session.Session as core
 use Rattle.tmem_world.specs.declared.held.Held.TheVariants.{With}
 use Rattle.tmem_world.specs.declared.world.World.{World}
-use Rattle.tmem_world.specs.Slots as slot
-use Rattle.tmem_world.specs.SettleSlot.{CoreMeans, Settles, SettlesEnded}
+use Rattle.tmem_world.specs.SettleSlot.{Settles, SettlesEnded}
 use Rattle.tmem_world.specs.Replies.{reply_of}
 use Rattle.tmem_world.specs.WorldModel.{WorldModel, SlotModel, NoTransaction, Begun, Ended, is_closed, settle_result, settled_by, present, cut, holding}
 use Rattle.tmem_world.specs.Represents.{Evaluates, SlotIs, SessionIs, Represents, held_of, session_of}
-use Rattle.tmem_world.proofs.Serial.{waiting-append, take-append, take-all, up_to_next}
+use Rattle.tmem_world.proofs.Serial.{waiting-append}
 use Rattle.tmem_world.proofs.Points.{AllZip-set, in_point, session_at, failures_at}
 
 -- the point of the run after one plan more
-abbrev accepting : WorldModel → ℕ → Tx → WorldModel
-accepting m k plan = record (holding m k NoTransaction) { accepted = m.accepted ++ plan ∷ [] }
+abbrev accepting_plan : WorldModel → ℕ → Tx → WorldModel
+accepting_plan m k plan = record (holding m k NoTransaction) { accepted = m.accepted ++ plan ∷ [] }
 
 -- only a verdict to commit is answered so
 allowed-committed : (v : Settled) (d n : ℕ) (rs : List ℤ) → Ok (Committed n rs) ≡ allowed v d → IsCommitted v
 allowed-committed (Committed number registers) d n rs is = tt
-allowed-committed (Seen at registers) d n rs is = cc
-allowed-committed Retry d n rs is = cc
-allowed-committed (Aborted code) d n rs is = cc
-allowed-committed (Refused name) d n rs is = cc
+allowed-committed _ d n rs is = cc
 
 judged-committed : (shut : Bool) (s : State) (d : ℕ) (reads : List (ℕ × ℤ)) (v : Settled) (n : ℕ) (rs : List ℤ) → Ok (Committed n rs) ≡ judged shut s d reads v → IsCommitted v
 judged-committed true s d reads v n rs is = cc
@@ -63,68 +58,67 @@ module _ (program : Program) where
   abbrev SoundOn : State → Type 0
   SoundOn x = IsSound program.tests program.names x.names x.values
 
-  module _ {D T S : Type 0} {d t s : _} (w w' : World D T S d t s) (m : WorldModel) (k : ℕ) (o o' : core.Session D T d t) (means : CoreMeans o.core program) (r : Represents program w m)
+  module _ {D T S : Type 0} {d t s : _} (w w' : World D T S d t s) (m : WorldModel) (k : ℕ) (o o' : core.Session D T d t) (means : IsProgramOf t (table_of o.core) program) (kept : o'.journal ≡ o.journal) (r : Represents program w m)
       (before : held_of w ≡ With o) (after : held_of w' ≡ With o') where
-    abbrev with_point : Reply → Reply × WorldModel
-    with_point x = (x, m)
-
     was : SessionIs program o m
     was = session_at program w m o before r
 
-    -- the failed calls, where the journal is the same
-    same_failures : o'.journal ≡ o.journal → (journal.device_of o'.journal).failures ≡ m.failures
-    same_failures same = ap (λ (j : owner.Journal D d). (journal.device_of j).failures) same ∙ failures_at program w m o before r
+    same_failures : (journal.device_of o'.journal).failures ≡ m.failures
+    same_failures = ap (λ (j : owner.Journal D d). (journal.device_of j).failures) kept ∙ failures_at program w m o before r
 
-    -- the session after an answer that accepted nothing
-    same_session : state_of o'.core ≡ state_of o.core → waiting_of o'.core ≡ waiting_of o.core ++ [] → durable_of o'.core ≡ durable_of o.core → o'.journal ≡ o.journal → is_shut_of o'.core ≡ is_shut_of o.core → SessionIs program o' m
-    same_session state waiting durable kept closed = record {
-      state = state ∙ was.state;
-      number = durable ∙ was.number;
-      waiting = waiting ∙ append-nil (waiting_of o.core) ∙ was.waiting;
-      durable = ap (λ (j : owner.Journal D d). journal.state_of j) kept ∙ was.durable;
-      doubtful = ap (λ (j : owner.Journal D d). journal.doubtful_of j) kept ∙ was.doubtful;
-      position = ap (λ (j : owner.Journal D d). journal.position_of j) kept ∙ was.position;
-      status = was.status ∙ ap session_of (sym closed);
-      certain = λ open_now. was.certain (sym closed ∙ open_now);
-    }
+    -- the point after an answer that accepted nothing
+    unaccepted : (xs : List SlotModel) → AllZip (SlotIs program) w'.slots.items xs → view_of o'.core ≡ accepting [] (view_of o.core) → Represents program w' (record m { slots = xs })
+    unaccepted xs slots view = in_point program w' (record m { slots = xs }) o' after
+        (record {
+          state = ap (λ (v : CoreView T). v.state) view ∙ was.state;
+          number = ap (λ (v : CoreView T). v.durable) view ∙ was.number;
+          waiting = ap (λ (v : CoreView T). v.waiting) view ∙ append-nil (waiting_of o.core) ∙ was.waiting;
+          durable = ap (λ (j : owner.Journal D d). journal.state_of j) kept ∙ was.durable;
+          doubtful = ap (λ (j : owner.Journal D d). journal.doubtful_of j) kept ∙ was.doubtful;
+          position = ap (λ (j : owner.Journal D d). journal.position_of j) kept ∙ was.position;
+          status = was.status ∙ ap (λ (v : CoreView T). session_of v.is_shut) (sym view);
+          certain = λ running. was.certain (ap (λ (v : CoreView T). v.is_shut) (sym view) ∙ running);
+        })
+        (record { opened = r.numbers.opened; durable = r.numbers.durable; doubtful = r.numbers.doubtful; each = r.numbers.each; sound = r.numbers.sound }) slots same_failures
 
     -- the order cut at a number that it had before, once one plan more is accepted
-    cuts : (plan : Tx) (n : ℕ) → n - m.opened.count ≤ length m.accepted → cut program m n ≡ cut program (accepting m k plan) n
-    cuts plan n le = ap (serial_state program m.opened) (sym (take-append (n - m.opened.count) m.accepted plan le))
+    cuts : (plan : Tx) (n : ℕ) → n - m.opened.count ≤ length m.accepted → cut program m n ≡ cut program (accepting_plan m k plan) n
+    cuts plan n le = ap (serial_state program m.opened) (sym (take-append-le (n - m.opened.count) m.accepted (plan ∷ []) le))
 
     -- the session after one that accepted a plan
-    more_accepted : (plan : Tx) (e : Effect) → e ∷ [] ≡ accepted_of program plan (state_of o.core) → state_of o'.core ≡ fold (state_of o.core) (e ∷ []) → waiting_of o'.core ≡ waiting_of o.core ++ e ∷ [] → durable_of o'.core ≡ durable_of o.core → o'.journal ≡ o.journal → is_shut_of o'.core ≡ is_shut_of o.core
-        → SessionIs program o' (accepting m k plan)
-    more_accepted plan e added state waiting durable kept closed = record {
-      state = state ∙ ap (fold (state_of o.core)) added ∙ ap (λ (s : State). state_after program s plan) was.state ∙ sym (serial_state-push program m.opened m.accepted plan);
-      number = durable ∙ was.number;
-      waiting = waiting ∙ ap (λ (es : List Effect). waiting_of o.core ++ es) added ∙ ap (λ (s : State). waiting_of o.core ++ accepted_of program plan s) was.state
+    more_accepted : (plan : Tx) (e : Effect) → e ∷ [] ≡ accepted_of program plan (state_of o.core) → view_of o'.core ≡ accepting (e ∷ []) (view_of o.core) → SessionIs program o' (accepting_plan m k plan)
+    more_accepted plan e added view = record {
+      state = ap (λ (v : CoreView T). v.state) view ∙ ap (fold (state_of o.core)) added ∙ ap (λ (s : State). state_after program s plan) was.state ∙ sym (serial_state-push program m.opened m.accepted plan);
+      number = ap (λ (v : CoreView T). v.durable) view ∙ was.number;
+      waiting = ap (λ (v : CoreView T). v.waiting) view ∙ ap (λ (es : List Effect). waiting_of o.core ++ es) added ∙ ap (λ (s : State). waiting_of o.core ++ accepted_of program plan s) was.state
           ∙ ap (λ (es : List Effect). es ++ accepted_of program plan (present program m)) was.waiting
           ∙ sym (waiting-append program (m.durable - m.opened.count) m.opened m.accepted plan r.numbers.each (omega (arith, r.numbers.durable, r.numbers.doubtful)));
       durable = ap (λ (j : owner.Journal D d). journal.state_of j) kept ∙ was.durable ∙ cuts plan m.durable (omega (arith, r.numbers.doubtful, r.numbers.durable));
       doubtful = ap (λ (j : owner.Journal D d). journal.doubtful_of j) kept ∙ was.doubtful ∙ cuts plan m.doubtful (omega (arith, r.numbers.doubtful));
       position = ap (λ (j : owner.Journal D d). journal.position_of j) kept ∙ was.position;
-      status = was.status ∙ ap session_of (sym closed);
-      certain = λ open_now. was.certain (sym closed ∙ open_now);
+      status = was.status ∙ ap (λ (v : CoreView T). session_of v.is_shut) (sym view);
+      certain = λ running. was.certain (ap (λ (v : CoreView T). v.is_shut) (sym view) ∙ running);
     }
 
     -- the order with one plan more, cut at its end, is the whole
-    whole : (n : ℕ) (plan : Tx) → n ≡ suc (m.opened.count + length m.accepted) → present program (accepting m k plan) ≡ cut program (accepting m k plan) n
-    whole n plan is = ap (serial_state program m.opened) (sym (take-all (n - m.opened.count) (m.accepted ++ plan ∷ []) (omega (arith, is, length-append m.accepted (plan ∷ [])))))
+    whole : (n : ℕ) (plan : Tx) → n ≡ suc (m.opened.count + length m.accepted) → present program (accepting_plan m k plan) ≡ cut program (accepting_plan m k plan) n
+    whole n plan is = ap (serial_state program m.opened) (sym (take_all (n - m.opened.count) (m.accepted ++ plan ∷ []) (omega (arith, is, length-append m.accepted (plan ∷ [])))))
 
     -- the point where a plan was accepted
-    accepts : (plan : Tx) → IsCommitted (verdict program plan (present program m)) → SoundOn (present program (accepting m k plan)) → AllZip (SlotIs program) w'.slots.items (slice_set m.slots k NoTransaction)
-        → SessionIs program o' (accepting m k plan) → o'.journal ≡ o.journal → Represents program w' (accepting m k plan)
-    accepts plan committed here slots session kept = in_point program w' (accepting m k plan) o' after session (record {
+    accepts : (plan : Tx) → IsCommitted (verdict program plan (present program m)) → SoundOn (present program (accepting_plan m k plan)) → AllZip (SlotIs program) w'.slots.items (slice_set m.slots k NoTransaction)
+        → SessionIs program o' (accepting_plan m k plan) → Represents program w' (accepting_plan m k plan)
+    accepts plan committed here slots session = in_point program w' (accepting_plan m k plan) o' after session (record {
       opened = r.numbers.opened;
       durable = r.numbers.durable;
       doubtful = omega (arith, r.numbers.doubtful, length-append m.accepted (plan ∷ []));
       each = AreCommitted-push program m.opened m.accepted plan r.numbers.each committed;
       sound = λ n from to. ⊎_elim
-          (λ (old : n ≤ m.opened.count + length m.accepted). subst SoundOn (cuts plan n (omega (arith, from, old))) (r.numbers.sound n from old))
           (λ (new : n ≡ suc (m.opened.count + length m.accepted)). subst SoundOn (whole n plan new) here)
-          (up_to_next n (m.opened.count + length m.accepted) (omega (arith, to, length-append m.accepted (plan ∷ []))));
-    }) slots (same_failures kept)
+          (λ old.
+          let below : n ≤ m.opened.count + length m.accepted = omega (arith, to, old, length-append m.accepted (plan ∷ [])) in
+          subst SoundOn (cuts plan n (omega (arith, from, below))) (r.numbers.sound n from below))
+          (cases_eq n (suc (m.opened.count + length m.accepted)));
+    }) slots same_failures
 
     -- the slots stay where the slot takes back what it held
     slots_stay : (s s' : Slot) → s ≡ get_or w.slots.items k s → s' ≡ s → w'.slots.items ≡ slice_set w.slots.items k s' → AllZip (SlotIs program) w'.slots.items m.slots
@@ -136,32 +130,16 @@ module _ (program : Program) where
     slots_empty s' none slots =
         subst (λ (l : List Slot). AllZip (SlotIs program) l (slice_set m.slots k NoTransaction)) (sym slots) (AllZip-set (SlotIs program) w.slots.items m.slots k s' NoTransaction r.slots none)
 
-    is_emptied : (s s' : Slot) → s' ≡ slot.emptied s → s'.plan ≡ None
-    is_emptied s s' is = ap (λ (x : Slot). x.plan) is
-
-    -- nothing changed that the run tells
-    stays : AllZip (SlotIs program) w'.slots.items m.slots → SessionIs program o' m → o'.journal ≡ o.journal → Represents program w' m
-    stays slots session kept = in_point program w' m o' after session r.numbers slots (same_failures kept)
-
     -- nothing changed, and the session is the one that it was
     idles : (s s' : Slot) → s ≡ get_or w.slots.items k s → s' ≡ s → w'.slots.items ≡ slice_set w.slots.items k s' → o' ≡ o → Represents program w' m
     idles s s' held same slots is =
-        stays (slots_stay s s' held same slots) (subst (λ (x : core.Session D T d t). SessionIs program x m) (sym is) was) (ap (λ (x : core.Session D T d t). x.journal) is)
-
-    -- nothing was accepted, and the slot is empty
-    emptied : (s' : Slot) → state_of o'.core ≡ state_of o.core → waiting_of o'.core ≡ waiting_of o.core ++ [] → durable_of o'.core ≡ durable_of o.core → o'.journal ≡ o.journal → is_shut_of o'.core ≡ is_shut_of o.core → s'.plan ≡ None → w'.slots.items ≡ slice_set w.slots.items k s' → Represents program w' (holding m k NoTransaction)
-    emptied s' state waiting number kept closed empty slots =
-        let is = same_session state waiting number kept closed in
-        in_point program w' (holding m k NoTransaction) o' after
-        (record { state = is.state; number = is.number; waiting = is.waiting; durable = is.durable; doubtful = is.doubtful; position = is.position; status = is.status; certain = is.certain })
-        (record { opened = r.numbers.opened; durable = r.numbers.durable; doubtful = r.numbers.doubtful; each = r.numbers.each; sound = r.numbers.sound })
-        (slots_empty s' empty slots) (same_failures kept)
+        in_point program w' m o' after (subst (λ (x : core.Session D T d t). SessionIs program x m) (sym is) was) r.numbers (slots_stay s s' held same slots) same_failures
 
     -- the core's new state is sound, by its type
     sound_now : table_of o'.core ≡ table_of o.core → SoundOn (state_of o'.core)
     sound_now same = record {
       there = subst (λ (names : List (List ℕ)). All (λ (name : List ℕ). IsTrue (has_name names name)) (state_of o'.core).names) (ap (λ (x : T). t.names x) same ∙ sym means.names) o'.core.known;
-      hold = o'.core.sound program.tests (subst (λ (x : T). t.is_stated x program.tests) (sym same) means.stated);
+      hold = o'.core.sound program.tests (subst (λ (x : T). t.is_stated x program.tests) (sym same) means.tests);
     }
 
     -- what the model answers is the core's answer
@@ -176,37 +154,30 @@ module _ (program : Program) where
 
     by_answer : (s s' : Slot) (plan : Tx) (x : Result Settled Fault) (y : Reply) → IsAt program.steps plan s.cursor → s ≡ get_or w.slots.items k s → w'.slots.items ≡ slice_set w.slots.items k s' → SettlesEnded o s x y o' s' → Represents program w' (settled_by x m k plan)
     by_answer s s' plan (Ok (Committed n rs)) y at held slots it =
-        let so = it.judged program plan means at in
+        let right = it.right program.steps plan at in
         let committed : IsCommitted (verdict program plan (present program m)) =
-        judged-committed (is_closed m.session) (present program m) m.durable (given s.cursor) (verdict program plan (present program m)) n rs (is_answer plan (Ok (Committed n rs)) (given s.cursor) (given s.cursor) refl so.0) in
-        let more = more_accepted plan (attempt_of s.cursor).effect so.1 it.state it.waiting it.durable it.journal it.closed in
-        accepts plan committed (subst SoundOn more.state (sound_now it.table)) (slots_empty s' (is_emptied s s' it.slot) slots) more it.journal
-    by_answer s s' plan (Ok (Seen n rs)) y at held slots it = emptied s' it.state it.waiting it.durable it.journal it.closed (is_emptied s s' it.slot) slots
-    by_answer s s' plan (Ok Retry) y at held slots it = emptied s' it.state it.waiting it.durable it.journal it.closed (is_emptied s s' it.slot) slots
-    by_answer s s' plan (Ok (Aborted code)) y at held slots it = emptied s' it.state it.waiting it.durable it.journal it.closed (is_emptied s s' it.slot) slots
-    by_answer s s' plan (Ok (Refused name)) y at held slots it = emptied s' it.state it.waiting it.durable it.journal it.closed (is_emptied s s' it.slot) slots
-    by_answer s s' plan (Err f) y at held slots it =
-        stays (slots_stay s s' held it.slot slots) (same_session it.state it.waiting it.durable it.journal it.closed) it.journal
+        judged-committed (is_closed m.session) (present program m) m.durable (given s.cursor) (verdict program plan (present program m)) n rs (is_answer plan (Ok (Committed n rs)) (given s.cursor) (given s.cursor) refl (it.core.verdict program plan means right)) in
+        let more = more_accepted plan (attempt_of s.cursor).effect (it.core.added program plan means right) it.core.view in
+        accepts plan committed (subst SoundOn more.state (sound_now (ap (λ (v : CoreView T). v.table) it.core.view))) (slots_empty s' (ap (λ (z : Slot). z.plan) it.slot) slots) more
+    by_answer s s' plan (Ok _) y at held slots it = unaccepted (slice_set m.slots k NoTransaction) (slots_empty s' (ap (λ (z : Slot). z.plan) it.slot) slots) it.core.view
+    by_answer s s' plan (Err f) y at held slots it = unaccepted m.slots (slots_stay s s' held it.slot slots) it.core.view
 
     by_ended : (s s' : Slot) (plan : Tx) (reads : List (ℕ × ℤ)) (x : Result Settled Fault) (y : Reply) → Evaluates program.steps s plan reads → s ≡ get_or w.slots.items k s → w'.slots.items ≡ slice_set w.slots.items k s' → SettlesEnded o s x y o' s'
         → (m' : WorldModel) × ((y, m') ≡ settle_result program (Ended plan reads) m k) × Represents program w' m'
     by_ended s s' plan reads x y is held slots it =
         let now = settled_by x m k plan in
-        let whole : x ≡ judged (is_closed m.session) (present program m) m.durable reads (verdict program plan (present program m)) = is_answer plan x (given s.cursor) reads is.given (it.judged program plan means is.at).0 in
+        let whole : x ≡ judged (is_closed m.session) (present program m) m.durable reads (verdict program plan (present program m)) = is_answer plan x (given s.cursor) reads is.given (it.core.verdict program plan means (it.right program.steps plan is.at)) in
         (now, ap (λ (z : Reply). (z, now)) it.reply ∙ ap (λ (z : Result Settled Fault). (reply_of z, settled_by z m k plan)) whole, by_answer s s' plan x y is.at held slots it)
-
-    idle : (x : Reply) → x ≡ reply.Idle → with_point x ≡ with_point reply.Idle
-    idle x is = ap with_point is
 
     -- the point of the run after a slot was settled
     pub settles : (s s' : Slot) (a : SlotModel) (x : Reply) → s ≡ get_or w.slots.items k s → w'.slots.items ≡ slice_set w.slots.items k s' → SlotIs program s a → Settles o s x o' s' → (m' : WorldModel) × ((x, m') ≡ settle_result program a m k) × Represents program w' m'
     settles s s' NoTransaction x held slots is it =
         ⊎_elim
-        (λ none. (m, idle x none.1.0, idles s s' held none.1.2 slots none.1.1))
+        (λ none. (m, ap (λ (y : Reply). (y, m)) none.1.0, idles s s' held none.1.2 slots none.1.1))
         (λ some. absurd (false≢true (subst (λ (o : Option Tx). IsSome o) is some.0.0))) it
     settles s s' (Begun tx rs) x held slots is it =
         ⊎_elim
-        (λ none. (m, idle x none.1.0, idles s s' held none.1.2 slots none.1.1))
+        (λ none. (m, ap (λ (y : Reply). (y, m)) none.1.0, idles s s' held none.1.2 slots none.1.1))
         (λ some. absurd (is.1 some.0.1)) it
     settles s s' (Ended tx rs) x held slots is it =
         ⊎_elim

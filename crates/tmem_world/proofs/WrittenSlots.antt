@@ -1,17 +1,19 @@
 -- Where a flush and a checkpoint write.
-use Rattle.std.proofs.Common.{◌≡◌, ℕ, ◌*◌, ◌+◌, ◌<◌, List, sym, ◌∙◌, ap, subst, arith}
+use Rattle.std.proofs.Common.{◌≡◌, ◌⊎◌, ℕ, ◌*◌, ◌+◌, ◌<◌, List, sym, ◌∙◌, ap, subst, arith}
 use Rattle.std.specs.Prelude.{Result, Ok, Err}
-use Rattle.tmem_disk.specs.Disk.{DeviceView, IsDevice}
+use Rattle.tmem_disk.specs.Disk.{DeviceView, IsDevice, AtEachMoment}
 use Rattle.tmem_disk.specs.declared.fault.Fault.{Fault}
 use Rattle.tmem_disk.specs.declared.fault.Fault.TheVariants as fault
 use Rattle.tmem_record.specs.Layout.{image_place, image_size, slot_place}
 use Rattle.tmem_record.specs.declared.effect.Effect.{Effect}
-use Rattle.tmem_gate.specs.Calls.{WritesWithin}
+use Rattle.tmem_gate.specs.Calls.{Uses, WritesWithin}
+use Rattle.tmem_core.specs.Held.{state_of, table_of}
 use Rattle.tmem_gate.proofs.Laws.{WritesWithin-refl, WritesWithin-wider}
-use Rattle.tmem_journal.specs.Held.{device_of, layout_of, position_of}
+use Rattle.tmem_journal.specs.Held.{device_of, layout_of, position_of, MayBe}
 use Rattle.tmem_journal.specs.Journals.{Flushes}
 use Rattle.tmem_journal.specs.declared.journal.Journal.{Journal}
 use Rattle.tmem_world.specs.Parts.{disk_in, layout_in}
+use Rattle.tmem_world.specs.Sessions.{CallsDevice}
 use Rattle.tmem_world.specs.Represents.{WritesInStore, held_of, view_of}
 use Rattle.tmem_world.specs.declared.session.Session as core
 use Rattle.tmem_world.specs.declared.held.Held.{Held}
@@ -42,6 +44,13 @@ module _ {D : Type 0} {d : _} (old new : Journal D d) (device : IsDevice (device
   in_log (Err fault.Closed) it within = none it.1
   in_log (Err fault.LogFull) it within = none it.2
   in_log (Err _) it within = absurd it
+
+-- so a session's flush does
+pub flush_called : {D T : Type 0} {d t : _} (o o' : core.Session D T d t) → IsDevice (device_of o.journal) → (es : List Effect) (x : Result ℕ Fault) → Uses (device_of o.journal) (device_of o'.journal) x
+    → AtEachMoment (device_of o.journal) (device_of o'.journal) (λ c. ∥ MayBe o.journal c ⊎ MayBe o'.journal c ∥₁) → Flushes o.journal es x o'.journal → WritesWithin (slot_place (layout_of o.journal).vars (position_of o.journal).used) 4096 (device_of o.journal) (device_of o'.journal)
+    → layout_of o'.journal ≡ layout_of o.journal → state_of o'.core ≡ state_of o.core → table_of o'.core ≡ table_of o.core → CallsDevice (slot_place (layout_of o.journal).vars 0) (4096 * (layout_of o.journal).slots) o x o'
+flush_called o o' device es x uses during it within layout state table =
+    record { uses = uses; any_moment = during; elsewhere = in_log o.journal o'.journal device es x it within; layout = layout; state = state; table = table }
 
 -- the log is in the store
 pub log_within : (vars slots : ℕ) (old new : DeviceView) → WritesWithin (slot_place vars 0) (4096 * slots) old new → WritesWithin (image_place vars 0) (2 * image_size vars + 4096 * slots) old new

@@ -1,6 +1,6 @@
 -- What holds on any device, also on one that breaks the disk model: Reopen may find another state than the run's, and
 -- then a new run begins there.
-use Rattle.std.specs.Prelude.{◌≡◌, ⊤, List, [], ◌∷◌, All, Some, None}
+use Rattle.std.specs.Prelude.{◌≡◌, ⊤, List, All, None}
 use Rattle.tmem_disk.specs.declared.fault.Fault.{Fault}
 use Rattle.tmem_disk.specs.declared.fault.Fault.TheVariants as fault
 use Rattle.tmem_event.specs.declared.event.Event.{Event}
@@ -8,14 +8,15 @@ use Rattle.tmem_event.specs.declared.event.Event.TheVariants as event
 use Rattle.tmem_event.specs.declared.event.Reply.{Reply}
 use Rattle.tmem_event.specs.declared.event.Reply.TheVariants as reply
 use Rattle.tmem_record.specs.State.{State}
-use Rattle.tmem_core.specs.Opening.{opening_fault}
-use Rattle.tmem_core.specs.Program.{Program}
+use Rattle.tmem_core.specs.Program.{Program, IsProgramOf}
 use Rattle.tmem_gate.specs.Calls.{failures_after}
 use Rattle.tmem_journal.specs.Stands.{Position, StandsFor}
+use Rattle.tmem_opening.specs.Opening.{OpeningRefused, LooksWhereClosed}
 use Rattle.tmem_world.specs.declared.slot.Slot.{Slot}
 use Rattle.tmem_world.specs.declared.world.World.{World}
+use Rattle.tmem_world.specs.OneByOne.{OneByOne}
 use Rattle.tmem_world.specs.WorldModel.{Setting, WorldModel, Allows, opening, dropped}
-use Rattle.tmem_world.specs.Represents.{Represents, Means, HoldsSession, OpeningRefused, LooksWhereClosed, setting_of, view_of}
+use Rattle.tmem_world.specs.Represents.{Represents, Means, HoldsSession, held_table, setting_of, view_of}
 
 -- what an opening can be refused for
 abbrev pub IsOpeningFault : Fault → Type 0
@@ -45,24 +46,15 @@ AllowsOnAnyDevice set m e r m' = Allows set m e r m'
 
 -- These events may be answered so, one after another: runs of the model, the next of which begins where Reopen opened.
 abbrev pub RunOnAnyDevice : Setting → WorldModel → List Event → List Reply → WorldModel → Type 0
-RunOnAnyDevice set m [] [] m' = m' ≡ m
-RunOnAnyDevice set m (e ∷ es) (r ∷ rs) m' = (mid : WorldModel) × AllowsOnAnyDevice set m e r mid × RunOnAnyDevice set mid es rs m'
-RunOnAnyDevice set m [] (r ∷ rs) m' = ⊥
-RunOnAnyDevice set m (e ∷ es) [] m' = ⊥
+RunOnAnyDevice set m es rs m' = OneByOne (AllowsOnAnyDevice set) m es rs m'
 
 -- each of the sixteen slots is empty
 abbrev pub HoldsNoTransaction : {D T S : Type 0} {d t s : _} → World D T S d t s → Type 0
 HoldsNoTransaction w = All (λ (slot : Slot). slot.plan ≡ None) w.slots.items
 
--- the content stands for a state of which an invariant is missing or false, the one that the refusal names
-abbrev pub FindsUnsound : {D T S : Type 0} {d t s : _} → World D T S d t s → Fault → World D T S d t s → Type 0
-FindsUnsound old f new =
-    (position : Position) × (s : State) × ((view_of new).keeps_model → StandsFor old.layout.vars old.layout.slots position s (view_of old).seen)
-    × ((program : Program) → Means old program → opening_fault program s ≡ Some f)
-
 -- Opening again was refused, as any opening is. No session stands then, each slot is empty, and the run goes on so.
 pub record ReopeningRefused {D T S : Type 0} {d t s : _} (old : World D T S d t s) (f : Fault) (new : World D T S d t s) : Type 0 where
-  pub refused : OpeningRefused (view_of old) old.layout.vars old.layout.slots (FindsUnsound old f new) f (view_of new)
+  pub refused : OpeningRefused (IsProgramOf t (held_table old)) old.layout.vars old.layout.slots (view_of old) f (view_of new)
   pub session : ¬ HoldsSession new
   pub slots : HoldsNoTransaction new
   pub point : (program : Program) (m : WorldModel) → Represents program old m → Represents program new (dropped_by f m)

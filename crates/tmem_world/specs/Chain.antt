@@ -10,6 +10,7 @@ use Rattle.tmem_tree.specs.declared.settled.Settled.TheVariants.{Committed}
 use Rattle.tmem_invariants.specs.Meanings.{IsSound}
 use Rattle.tmem_core.specs.Program.{Program}
 use Rattle.tmem_core.specs.Verdict.{serial_state, AreCommitted}
+use Rattle.tmem_core.specs.Versions.{Follows}
 use Rattle.tmem_journal.specs.Calls.{FitsOn}
 use Rattle.tmem_journal.specs.Stands.{Position, StandsFor}
 use Rattle.tmem_event.specs.declared.event.Event.{Event}
@@ -114,39 +115,48 @@ RunsOn set m h (e ∷ es) (r ∷ rs) m' h' = (x : WorldModel) × Allows set m e 
 RunsOn set m h [] (r ∷ rs) m' h' = ⊥
 RunsOn set m h (e ∷ es) [] m' h' = ⊥
 
--- One session of a chain: how many transactions its opening found, and its events with their replies.
+-- One session of a chain: what it was opened with; how many transactions its opening found, at which position of the device, and how
+-- many calls of that had failed by then; and its events with their replies.
 pub record SessionRun : Type 0 where
+  pub set : Setting
   pub found : ℕ
+  pub position : Position
+  pub failures : ℕ
   pub events : List Event
   pub replies : List Reply
 
--- A session on a store with this history: it found the state after a safe prefix, and its replies are a run of the model from
--- there to this point, with the history that it reached.
-abbrev pub IsSessionOn : Setting → History → SessionRun → History → WorldModel → Type 0
-IsSessionOn set before s h m =
-    IsSafePrefix set.program set.vars before s.found
-    × ((position : Position) × (failures : ℕ) × RunsOn set (opening (state_at set.program set.vars before s.found) position failures) (history_found s.found before) s.events s.replies m h)
+-- it was opened for so many variables and log slots
+abbrev pub IsOver : ℕ → ℕ → Setting → Type 0
+IsOver vars slots set = (set.vars ≡ vars) × (set.slots ≡ slots)
 
--- These sessions, the last one first, lead from a device that was formatted to this history.
-abbrev pub IsChain : Setting → List SessionRun → History → Type 0
-IsChain set [] h = h ≡ no_history
-IsChain set (s ∷ earlier) h = (m : WorldModel) × (before : History) × IsChain set earlier before × IsSessionOn set before s h m
+-- A session on a store with this history: it found the state after a prefix that is safe by its own program, and its replies are a
+-- run of the model from there to this point, with the history that it reached.
+abbrev pub IsSessionOn : History → SessionRun → History → WorldModel → Type 0
+IsSessionOn before s h m =
+    IsSafePrefix s.set.program s.set.vars before s.found
+    × RunsOn s.set (opening (state_at s.set.program s.set.vars before s.found) s.position s.failures) (history_found s.found before) s.events s.replies m h
+
+-- These sessions, the last one first, lead from a device that was formatted for so many variables and log slots to this history. Each
+-- has a program of its own.
+abbrev pub IsChain : ℕ → ℕ → List SessionRun → History → Type 0
+IsChain vars slots [] h = h ≡ no_history
+IsChain vars slots (s ∷ earlier) h = (m : WorldModel) × (before : History) × IsChain vars slots earlier before × IsOver vars slots s.set × IsSessionOn before s h m
 
 -- The last session of a chain is at this point of its run.
-abbrev pub IsChainAt : Setting → List SessionRun → SessionRun → History → WorldModel → Type 0
-IsChainAt set earlier s h m = (before : History) × IsChain set earlier before × IsSessionOn set before s h m
+abbrev pub IsChainAt : ℕ → ℕ → List SessionRun → SessionRun → History → WorldModel → Type 0
+IsChainAt vars slots earlier s h m = (before : History) × IsChain vars slots earlier before × IsOver vars slots s.set × IsSessionOn before s h m
 
 -- a session that was just opened
-abbrev pub just_opened : ℕ → SessionRun
-just_opened n = record { found = n; events = []; replies = [] }
+abbrev pub just_opened : Setting → ℕ → Position → ℕ → SessionRun
+just_opened set n position failures = record { set = set; found = n; position = position; failures = failures; events = []; replies = [] }
 
 -- the session with these events more
 abbrev pub gone_on : SessionRun → List Event → List Reply → SessionRun
-gone_on s es rs = record { found = s.found; events = s.events ++ es; replies = s.replies ++ rs }
+gone_on s es rs = record s { events = s.events ++ es; replies = s.replies ++ rs }
 
--- the last session of any chain goes on by these events
+-- the last session of any chain, if it was opened with this, goes on by these events
 abbrev pub GrowsChain : Setting → WorldModel → History → List Event → List Reply → WorldModel → History → Type 0
-GrowsChain set m h es rs m' h' = (earlier : List SessionRun) (s : SessionRun) → IsChainAt set earlier s h m → IsChainAt set earlier (gone_on s es rs) h' m'
+GrowsChain set m h es rs m' h' = (vars slots : ℕ) (earlier : List SessionRun) (s : SessionRun) → s.set ≡ set → IsChainAt vars slots earlier s h m → IsChainAt vars slots earlier (gone_on s es rs) h' m'
 
 -- Opening found the state after a prefix of the history that is safe to find: the durable transactions, or those that may be
 -- durable in their place, with every acknowledged one, and the state is sound. A run begins there, the next session of any chain
@@ -154,7 +164,8 @@ GrowsChain set m h es rs m' h' = (earlier : List SessionRun) (s : SessionRun) �
 abbrev pub FindsPrefix : {D T S : Type 0} {d t s : _} → Program → ℕ → ℕ → History → ℕ → Result (World D T S d t s) (Fault × D) → Type 0
 FindsPrefix program vars slots h failures (Ok w) =
     (n : ℕ) × (position : Position) × IsSafePrefix program vars h n × Carries program w (history_found n h) (opening (state_at program vars h n) position failures)
-    × ((earlier : List SessionRun) → IsChain (setting_of w program) earlier h → IsChainAt (setting_of w program) earlier (just_opened n) (history_found n h) (opening (state_at program vars h n) position failures))
+    × ((earlier : List SessionRun) → IsChain vars slots earlier h
+    → IsChainAt vars slots earlier (just_opened (setting_of w program) n position failures) (history_found n h) (opening (state_at program vars h n) position failures))
 FindsPrefix {d = d} program vars slots h failures (Err e) = ((e.0 ≡ Memory) ⊎ (e.0 ≡ Device)) × IsStore program vars slots h (d.view e.1)
 
 -- A device that is a store with this history was opened, and a crash at any moment of that leaves what is safe for it.
@@ -204,6 +215,16 @@ abbrev pub FormattedIsStore : {D : Type 0} → (D → DeviceView) → Type 0
 FormattedIsStore {D} view =
     (program : Program) (vars slots : ℕ) (position : _) (disk : D) → FitsOn vars slots (view disk).capacity
     → LeavesOnly (view disk) (StandsFor vars slots position (first_state vars)) → IsStore program vars slots no_history (view disk)
+
+-- The new program may follow on the old one over a store with this history: over what is registered after each prefix that may be
+-- found.
+abbrev pub MayFollow : Program → ℕ → History → Program → Type 0
+MayFollow old vars h new = (n : ℕ) → IsSafePrefix old vars h n → Follows old (state_at old vars h n).names new
+
+-- A store of a program is one of each that may follow on it, with the same history.
+abbrev pub FollowingKeepsStore : {D : Type 0} → (D → DeviceView) → Type 0
+FollowingKeepsStore {D} view =
+    (old new : Program) (vars slots : ℕ) (h : History) (disk : D) → MayFollow old vars h new → IsStore old vars slots h (view disk) → IsStore new vars slots h (view disk)
 
 -- A crash of a store leaves a store: with the same history, if it was between two calls or at some moment of an opening. Once the
 -- device was started again, so that it holds one content: with the history from before an event or from after it, if it was at

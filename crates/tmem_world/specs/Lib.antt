@@ -1,10 +1,11 @@
 pub mod AnyDevice
 pub mod Chain
+pub mod EachPlayed
 pub mod Facts
+pub mod OneByOne
 pub mod Parts
 pub mod Replies
 pub mod Represents
-pub mod SessionRefusals
 pub mod Sessions
 pub mod SettleSlot
 pub mod Slots

@@ -4,17 +4,16 @@ use Rattle.std.specs.List.{AllZip}
 use Rattle.tmem_invariants.specs.Meanings.{IsSound}
 use Rattle.tmem_disk.specs.Disk.{DeviceView, LeavesOnly, AtEachMoment}
 use Rattle.tmem_disk.specs.declared.fault.Fault.{Fault}
-use Rattle.tmem_disk.specs.declared.fault.Fault.TheVariants.{Memory, Device, NotFormatted, Damaged, Geometry}
 use Rattle.tmem_record.specs.State.{State}
 use Rattle.tmem_record.specs.Layout.{image_place, image_size}
-use Rattle.tmem_gate.specs.Calls.{Uses, LooksOnly, WritesWithin}
-use Rattle.tmem_journal.specs.Calls.{FitsOn}
-use Rattle.tmem_journal.specs.Refusals.{IsRefusedBy}
-use Rattle.tmem_world.specs.SessionRefusals.{IsWhyNot}
+use Rattle.tmem_gate.specs.Calls.{WritesWithin}
+use Rattle.tmem_opening.specs.Opening.{IsFailure}
 use Rattle.tmem_world.specs.Parts.{what, disk_in, table_in, IsWith}
-use Rattle.tmem_core.specs.Program.{Program}
+use Rattle.tmem_core.specs.Program.{Program, IsProgramOf}
 use Rattle.tmem_tentative.specs.Cursors.{IsAt, HasEnded, given}
 use Rattle.tmem_tree.specs.StepAnswers.{StepMeanings}
+use Rattle.tmem_tree.specs.declared.steps.StoredSteps as steps
+use Rattle.tmem_invariants.specs.declared.named.Invariants as invariants
 use Rattle.tmem_tree.specs.declared.tx.Tx.{Tx}
 use Rattle.tmem_core.specs.Held.{state_of, waiting_of, durable_of, is_shut_of}
 use Rattle.tmem_core.specs.Verdict.{serial_effects, AreCommitted}
@@ -27,8 +26,7 @@ use Rattle.tmem_world.specs.declared.session.Session as session
 use Rattle.tmem_world.specs.declared.held.Held.{Held}
 use Rattle.tmem_world.specs.declared.held.Held.TheVariants.{With, Without}
 use Rattle.tmem_world.specs.declared.world.World.{World}
-use Rattle.tmem_journal.specs.Mended.{Mends, MendedBy, ClosedFrom}
-use Rattle.tmem_journal.specs.Stands.{Position, StandsFor, StandsForEither}
+use Rattle.tmem_journal.specs.Stands.{Position, StandsForEither}
 use Rattle.tmem_journal.specs.Held as journal
 use Rattle.tmem_world.specs.Replies.{IsAcknowledged}
 use Rattle.tmem_world.specs.WorldModel.{Setting, WorldModel, SlotModel, NoTransaction, Begun, Ended, SessionStatus, Open, Closed, Gone, opening, present, cut, Allows, Run}
@@ -68,11 +66,22 @@ held_table w = table_in (held_of w)
 abbrev pub setting_of : {D T S : Type 0} {d t s : _} → World D T S d t s → Program → Setting
 setting_of {s = s} w program = record { vars = w.layout.vars; slots = w.layout.slots; arities = s.arities w.steps; program = program }
 
--- The program says what its stored steps and its invariants mean.
-pub record Means {D T S : Type 0} {d t s : _} (w : World D T S d t s) (program : Program) : Type 0 where
-  pub steps : s.is_stated w.steps program.steps
-  pub names : program.names ≡ t.names (held_table w)
-  pub tests : t.is_stated (held_table w) program.tests
+-- The program says what these stored steps and the invariants of this table mean.
+pub record AreMeant {S T : Type 0} (s : steps.Ghosts S) (t : invariants.Ghosts T) (called : S) (table : T) (program : Program) : Type 0 where
+  pub steps : s.is_stated called program.steps
+  pub invariants : IsProgramOf t table program
+
+-- so it is of those of a world
+abbrev pub Means : {D T S : Type 0} {d t s : _} → World D T S d t s → Program → Type 0
+Means {t = t} {s = s} w program = AreMeant s t (steps_of w) (held_table w) program
+
+-- What no event changes: the numbers, the stored steps and the table, and so what the closures mean. And the premise of a device
+-- that broke the disk model is not restored.
+pub record KeepsSetting {D T S : Type 0} {d t s : _} (old new : World D T S d t s) : Type 0 where
+  pub numbers : numbers_of new ≡ numbers_of old
+  pub steps : steps_of new ≡ steps_of old
+  pub table : held_table new ≡ held_table old
+  pub model : (view_of new).keeps_model → (view_of old).keeps_model
 
 -- the slot's cursor stands in the evaluation of this plan, where these values were read
 pub record Evaluates (steps : StepMeanings) (s : Slot) (tx : Tx) (values : List (ℕ × ℤ)) : Type 0 where
@@ -170,29 +179,4 @@ device_after {d = d} (Err e) = d.view e.1
 -- Opening found one of two states, and a run begins there; or memory or the device failed.
 abbrev pub OpensEither : {D T S : Type 0} {d t s : _} → Program → Result (World D T S d t s) (Fault × D) → ℕ → State → State → Type 0
 OpensEither program (Ok w) failures a b = (found : State) × (position : Position) × ∥ (found ≡ a) ⊎ (found ≡ b) ∥₁ × Represents program w (opening found position failures)
-OpensEither program (Err e) failures a b = (e.0 ≡ Memory) ⊎ (e.0 ≡ Device)
-
--- nothing was written, where the gates behind the log read closed
-abbrev pub LooksWhereClosed : ℕ → ℕ → DeviceView → DeviceView → Type 0
-LooksWhereClosed vars slots old new = (p : Position) (s : State) → StandsFor vars slots p s old.seen → ClosedFrom vars slots p.used old.seen → LooksOnly old new
-
--- a refusal that tells of the numbers or of the content
-abbrev pub TellsOfContent : Fault → Type 0
-TellsOfContent NotFormatted = ⊤
-TellsOfContent Damaged = ⊤
-TellsOfContent Geometry = ⊤
-TellsOfContent _ = ⊥
-
--- Why opening was refused, and what it left of the device: by Geometry where the numbers do not fit it; else memory or
--- the device, or what its content is refused by; or else an invariant of the state that it stands for is missing or
--- false.
-pub record OpeningRefused (old : DeviceView) (vars slots : ℕ) (unsound : Type 0) (f : Fault) (new : DeviceView) : Type 0 where
-  pub uses : Uses {T = Unit {0}} old new (Err f)
-  pub numbers : ¬ FitsOn vars slots old.capacity → f ≡ Geometry
-  pub why : IsWhyNot (λ g. new.keeps_model → FitsOn vars slots old.capacity → IsRefusedBy vars slots old.seen g) unsound f
-  -- gates that read open behind the log may be closed, and nothing else was written
-  pub seen : new.keeps_model → Mends vars slots old.seen new.seen
-  pub stop : LeavesOnly new (MendedBy vars slots old)
-  -- nothing at all where they read closed, or where the refusal tells of the content
-  pub looks : LooksWhereClosed vars slots old new
-  pub early : TellsOfContent f → LooksOnly old new
+OpensEither program (Err e) failures a b = IsFailure e.0

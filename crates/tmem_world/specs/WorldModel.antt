@@ -21,6 +21,7 @@ use Rattle.tmem_event.specs.declared.event.Event.{Event}
 use Rattle.tmem_event.specs.declared.event.Event.TheVariants as event
 use Rattle.tmem_event.specs.declared.event.Reply.{Reply}
 use Rattle.tmem_event.specs.declared.event.Reply.TheVariants as reply
+use Rattle.tmem_world.specs.OneByOne.{OneByOne}
 use Rattle.tmem_world.specs.Replies.{reply_of}
 
 -- What a store is opened with: how many variables and log slots it has, how many arguments each stored step takes, and what
@@ -93,9 +94,9 @@ slot_at m slot = slice_index_or m.slots slot NoTransaction
 abbrev pub holding : WorldModel → ℕ → SlotModel → WorldModel
 holding m slot a = record m { slots = slice_set m.slots slot a }
 
--- a plan is begun, or the least broken limit is named
+-- a plan is begun, or the least broken limit is named; for one that breaks none memory may be wanting
 abbrev pub IsPlanFault : Setting → Tx → Fault → Type 0
-IsPlanFault set tx fault.Memory = ⊤
+IsPlanFault set tx fault.Memory = BreaksNone set.arities set.vars set.program.names tx
 IsPlanFault set tx (fault.BadPlan cause) = IsLeastBroken set.arities set.vars set.program.names tx cause
 IsPlanFault set tx _ = ⊥
 
@@ -226,7 +227,4 @@ Allows set m event.Reopen r m' = AllowsReopen m r m'
 
 -- These events may be answered so, one after another.
 abbrev pub Run : Setting → WorldModel → List Event → List Reply → WorldModel → Type 0
-Run set m [] [] m' = m' ≡ m
-Run set m (e ∷ es) (r ∷ rs) m' = (mid : WorldModel) × Allows set m e r mid × Run set mid es rs m'
-Run set m [] (r ∷ rs) m' = ⊥
-Run set m (e ∷ es) [] m' = ⊥
+Run set m es rs m' = OneByOne (Allows set) m es rs m'

@@ -1,5 +1,5 @@
 // Laws of chains of sessions.
-ghost use Rattle.tmem_world.specs.Chain.{FormattedIsStore, CrashLeavesStore};
+ghost use Rattle.tmem_world.specs.Chain.{FormattedIsStore, CrashLeavesStore, FollowingKeepsStore};
 
 use tmem_disk::Disk;
 
@@ -7,6 +7,12 @@ use tmem_disk::Disk;
 /// contract.
 pub fn formatted_is_store<D: Disk>()
     ensures { FormattedIsStore D.view }
+{}
+
+/// A store is one for the next version of a program too: where its steps mean the same, and what is registered comes again with
+/// the footprint and the answers that it had. The table may have another order, and more invariants. It does nothing either.
+pub fn following_keeps_store<D: Disk>()
+    ensures { FollowingKeepsStore D.view }
 {}
 
 /// A crash of a store leaves a store: with the history from before the call that it met, or, inside a list of events, with the

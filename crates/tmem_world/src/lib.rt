@@ -14,7 +14,7 @@ mod session;
 mod slot;
 mod world;
 
-pub use chain::{crash_leaves_store, formatted_is_store};
+pub use chain::{crash_leaves_store, following_keeps_store, formatted_is_store};
 pub use tmem_event::{ATTEMPTS, Event, Reply, Settled};
 pub use tmem_journal::{Layout, format};
 pub use world::World;

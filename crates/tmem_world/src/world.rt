@@ -1,17 +1,15 @@
 // One thread plays a list of events over a core and a journal.
-ghost use Rattle.std.specs.Prelude.{◌≡◌, ◌<◌, ◌≤◌, ◌+◌, ◌*◌, ◌^◌, ◌⊎◌, ◌↔◌, ℕ, true, false, Some, None, [], length, All, IsTrue, IsSome, IfOk, IfErr, OnOk, replicate, slice_index_or, pos};
+ghost use Rattle.std.specs.Prelude.{◌≡◌, ◌<◌, ◌⊎◌, ◌↔◌, ℕ, true, false, Some, None, [], length, All, IsTrue, IsSome, IfOk, IfErr, OnOk, replicate, slice_index_or, pos};
 ghost use Rattle.std.proofs.Props.{props};
-ghost use Rattle.tmem_disk.specs.Disk.{LeavesOnly, AtEachMoment};
+ghost use Rattle.tmem_disk.specs.Disk.{LeavesOnly};
 ghost use Rattle.tmem_record.specs.State.{State};
 ghost use Rattle.tmem_record.specs.Names.{has_name};
 ghost use Rattle.tmem_invariants.specs.Meanings.{IsSound};
-ghost use Rattle.tmem_core.specs.Opening.{opening_fault};
-ghost use Rattle.tmem_core.specs.Program.{Program};
-ghost use Rattle.tmem_gate.specs.Calls.{WritesWithin};
-ghost use Rattle.tmem_record.specs.Layout.{slot_place};
-ghost use Rattle.tmem_journal.specs.Mended.{Mends, MendedBy};
+ghost use Rattle.tmem_core.specs.Program.{Program, IsProgramOf};
+ghost use Rattle.tmem_gate.specs.Calls.{Uses};
 ghost use Rattle.tmem_journal.specs.Stands.{Position, StandsFor, StandsForEither};
-ghost use Rattle.tmem_journal.specs.Calls.{FitsOn};
+ghost use Rattle.tmem_journal.specs.Calls.{FitsOn, fault_alone};
+ghost use Rattle.tmem_opening.specs.Opening.{Mending, OpeningRefused};
 ghost use Rattle.tmem_world.specs.Parts.{what, layout_in, table_in};
 ghost use Rattle.tmem_world.specs.Slots.{FitsSlot};
 ghost use Rattle.tmem_world.specs.Facts.{FitsSlot-prop};
@@ -19,13 +17,14 @@ ghost use Rattle.tmem_event.specs.Events.{NamesSlot};
 ghost use Rattle.tmem_world.specs.WorldModel.{WorldModel, opening, present, stands, Run};
 
 use crate::held::{Held, Left};
-use crate::session::begin_session;
+use crate::session::Session;
 use crate::slot::Slot;
 use std::alloc::{AllocError, Global};
 use tmem_disk::{Disk, Fault, Name};
 use tmem_event::{ATTEMPTS, Event, Reply};
 use tmem_invariants::Invariants;
-use tmem_journal::{Journal, Layout, refused_stands_for_none, stands_for_one};
+use tmem_journal::{Layout, refused_stands_for_none, stands_for_one};
+use tmem_opening::Opening;
 use tmem_tree::{Plan, StoredSteps, Tx};
 
 /// Durable transactional memory for one thread: it plays events over the present state and a device.
@@ -48,19 +47,20 @@ pub struct World<D: Disk, T: Invariants, S: StoredSteps> {
 }
 
 impl<D: Disk + Drop, T: Invariants + Drop, S: StoredSteps + Drop> World<D, T, S> {
-    ghost use Rattle.tmem_world.specs.Represents.{Represents, Means, IsStep, Plays, EachMoment, WritesInStore, HoldsSession, OpeningRefused, LooksWhereClosed, OpensEither, numbers_of, device_of, view_of, device_after, steps_of, held_table, setting_of, durable_number};
-    ghost use Rattle.tmem_world.specs.AnyDevice.{Reopens, IsReopened, PlaysOnAnyDevice};
-    ghost use Rattle.tmem_world.specs.Replies.{failures_by, failures_by_all, FlushedNothing, CheckpointedNothing, CallsNoDevice, IsFailedCall};
+    ghost use Rattle.tmem_world.specs.Represents.{Represents, AreMeant, Means, IsStep, Plays, EachMoment, WritesInStore, HoldsSession, OpensEither, KeepsSetting, numbers_of, device_of, view_of, device_after, steps_of, held_table, durable_number};
+    ghost use Rattle.tmem_world.specs.AnyDevice.{Reopens, PlaysOnAnyDevice};
+    ghost use Rattle.tmem_world.specs.Replies.{failures_by, failures_by_all, CallsNoDevice, IsFailedCall};
     ghost use Rattle.tmem_world.specs.Chain.{History, IsStore, OpensStore, StepsOn, PlaysOn};
+    ghost use Rattle.tmem_world.specs.EachPlayed.{IsAnswered, PlaysEach};
 
     /// Opens a device of these numbers: finds what its content stands for, and begins a session there, with these
     /// invariants and stored steps. Refused by `Geometry` where the numbers are out of limits, the device is smaller than
     /// their layout, or it was formatted for others; by `NotFormatted` where it lacks the open block 0 with its letters;
     /// else by `Damaged` where its content stands for no state; by `Missing` with the first registered name, by bytes,
     /// that the table lacks; by `Broken` with the first registered invariant, in the table's order, that is false; by
-    /// `Memory`; by `Device` where a call of the device failed. The device is handed back with the refusal. Gates that read
-    /// open behind the log are closed, and nothing else is written: nothing at all before a refusal by `Geometry`,
-    /// `NotFormatted` or `Damaged`.
+    /// `Memory`, before the device is touched or where the state that was found is sound; by `Device` where a call of the
+    /// device failed. The device is handed back with the refusal. Gates that read open behind the log are closed, and nothing
+    /// else is written: nothing at all before a refusal by `Geometry`, `NotFormatted` or `Damaged`.
     pub fn open(
         alloc: Global,
         disk: D,
@@ -75,30 +75,23 @@ impl<D: Disk + Drop, T: Invariants + Drop, S: StoredSteps + Drop> World<D, T, S>
         ensures steps { IfOk result (λ w. steps_of w ≡ steps) }
         ensures table { IfOk result (λ w. held_table w ≡ table) }
         ensures fits { IfOk result (λ w. ((numbers_of w).vars ≡ vars) × ((numbers_of w).slots ≡ slots) × HoldsSession w × FitsOn vars slots (D.view disk).capacity) }
-        ensures model { IfOk result (λ w. (view_of w).keeps_model → (D.view disk).keeps_model) }
-        ensures refused { IfErr result (λ e. OpeningRefused (D.view disk) vars slots
-            ((position : Position) × (s : State) × ((D.view e.1).keeps_model → StandsFor vars slots position s (D.view disk).seen)
-            × ((p : Program) → p.names ≡ T.names table → T.is_stated table p.tests → opening_fault p s ≡ Some e.0))
-            e.0 (D.view e.1)) }
+        ensures uses { Uses (D.view disk) (device_after result) (fault_alone result) }
+        ensures refused { IfErr result (λ e. OpeningRefused (IsProgramOf T.Invariants table) vars slots (D.view disk) e.0 (D.view e.1)) }
 
         // Where every crash left one of two states, and both are sound, one of them is found, unless memory or the device
         // fails.
-        ensures recovers { (program : Program) (a b : State) → S.is_stated steps program.steps → program.names ≡ T.names table → T.is_stated table program.tests
+        ensures recovers { (program : Program) (a b : State) → AreMeant S.StoredSteps T.Invariants steps table program
             → IsSound program.tests program.names a.names a.values → IsSound program.tests program.names b.names b.values
             → FitsOn vars slots (D.view disk).capacity → LeavesOnly (D.view disk) (StandsForEither vars slots a b)
             → (device_after result).keeps_model → OpensEither program result (D.view disk).failures a b }
 
-        // A crash at any moment of the opening leaves what it might have left before, but for gates behind the log that are
-        // closed in it. Nothing outside the log's slots is written, and nothing at all where these gates read closed.
-        ensures any_moment { AtEachMoment (D.view disk) (device_after result) (MendedBy vars slots (D.view disk)) }
-        ensures seen { (device_after result).keeps_model → Mends vars slots (D.view disk).seen (device_after result).seen }
-        ensures elsewhere { WritesWithin (slot_place vars 0) (4096 * slots) (D.view disk) (device_after result) }
-        ensures looks { LooksWhereClosed vars slots (D.view disk) (device_after result) }
+        // Gates behind the log may be closed, and nothing else is written, whatever the answer.
+        ensures mends { Mending vars slots (D.view disk) (device_after result) }
 
         // A store is opened with its history: what is found is the state after a prefix of it that has every acknowledged
         // transaction, and that state is sound, unless memory or the device fails. The world begins the next session of the
         // history's chain there. A crash at any moment leaves what is safe for the same history.
-        ensures chain { (program : Program) (h : History) → S.is_stated steps program.steps → program.names ≡ T.names table → T.is_stated table program.tests
+        ensures chain { (program : Program) (h : History) → AreMeant S.StoredSteps T.Invariants steps table program
             → IsStore program vars slots h (D.view disk) → (device_after result).keeps_model → OpensStore program vars slots h (D.view disk) result }
 
         // Where the numbers do not fit the device, no call of it is made: the one that was handed in is handed back.
@@ -107,30 +100,23 @@ impl<D: Disk + Drop, T: Invariants + Drop, S: StoredSteps + Drop> World<D, T, S>
         // what is found on a store is a state of its history, and that is not refused
         stands_for_one();
         refused_stands_for_none();
-        let journal = match Journal::open(alloc, disk, vars, slots) {
-            Ok(journal) => journal,
-            Err(refused) => return Err(refused),
+        let opening = match Opening::open(alloc, disk, vars, slots, table) {
+            Ok(opening) => opening,
+            Err((fault, disk, _)) => return Err((fault, disk)),
         };
-        let layout = journal.layout();
-        let held = match empty_slots(alloc) {
-            Ok(held) => held,
-            Err(_) => return Err((Fault::Memory, journal.into_disk())),
+        let slots = match empty_slots(alloc) {
+            Ok(slots) => slots,
+            Err(_) => return Err((Fault::Memory, opening.into_disk())),
         };
-        let names = match names_of(alloc, &table) {
-            Ok(names) => names,
-            Err(_) => return Err((Fault::Memory, journal.into_disk())),
-        };
-        match begin_session(alloc, journal, table) {
-            Ok(session) => Ok(World {
-                alloc,
-                layout,
-                steps,
-                names,
-                held: Some(Held::With(session)),
-                slots: held,
-            }),
-            Err((fault, disk, _)) => Err((fault, disk)),
-        }
+        let (session, names) = Session::begin(opening);
+        Ok(World {
+            alloc,
+            layout: session.journal.layout(),
+            steps,
+            names,
+            held: Some(Held::With(session)),
+            slots,
+        })
     }
 
     /// Plays one event. The event's slot, where it has one, is below 16.
@@ -151,12 +137,7 @@ impl<D: Disk + Drop, T: Invariants + Drop, S: StoredSteps + Drop> World<D, T, S>
         ensures failures { (view_of self.new).failures ≡ failures_by result (view_of self.old).failures }
         ensures failed_call { IsFailedCall event result (view_of self.new).last_fault }
         ensures still { CallsNoDevice (durable_number self.old) event result → device_of self.new ≡ device_of self.old }
-        ensures numbers { numbers_of self.new ≡ numbers_of self.old }
-        ensures steps { steps_of self.new ≡ steps_of self.old }
-        ensures table { held_table self.new ≡ held_table self.old }
-        ensures means { (program : Program) → Means self.old program → Means self.new program }
-        ensures setting { (program : Program) → setting_of self.new program ≡ setting_of self.old program }
-        ensures model { (view_of self.new).keeps_model → (view_of self.old).keeps_model }
+        ensures kept { KeepsSetting self.old self.new }
     {
         match event {
             Event::Begin { slot, tx } => self.begin(slot, tx),
@@ -172,17 +153,15 @@ impl<D: Disk + Drop, T: Invariants + Drop, S: StoredSteps + Drop> World<D, T, S>
     /// Plays events, one after another. Refused by `Memory`, before any event, where the replies find no room.
     pub fn play(&mut self, events: Vec<Event>) -> Result<Vec<Reply>, Fault>
         requires { All NamesSlot events.items }
+
+        // Each event was played as `step` says, one after another.
+        ensures each { IfOk result (λ replies. PlaysEach self.old events.items replies.items self.new) }
         ensures run { IfOk result (λ replies. Plays self.old events.items replies.items self.new) }
         ensures any_device { IfOk result (λ replies. PlaysOnAnyDevice self.old events.items replies.items self.new) }
         ensures chain { IfOk result (λ replies. PlaysOn self.old events.items replies.items self.new) }
         ensures elsewhere { WritesInStore (numbers_of self.old) (view_of self.old) (view_of self.new) }
         ensures failures { IfOk result (λ replies. (view_of self.new).failures ≡ failures_by_all replies.items (view_of self.old).failures) }
-        ensures numbers { numbers_of self.new ≡ numbers_of self.old }
-        ensures steps { steps_of self.new ≡ steps_of self.old }
-        ensures table { held_table self.new ≡ held_table self.old }
-        ensures means { (program : Program) → Means self.old program → Means self.new program }
-        ensures setting { (program : Program) → setting_of self.new program ≡ setting_of self.old program }
-        ensures model { (view_of self.new).keeps_model → (view_of self.old).keeps_model }
+        ensures kept { KeepsSetting self.old self.new }
         ensures err { IfErr result (λ f. (f ≡ Fault.Memory) × (self.new ≡ self.old)) }
     {
         let mut replies = Vec::with_capacity(self.alloc, events.len())?;
@@ -246,10 +225,7 @@ impl<D: Disk + Drop, T: Invariants + Drop, S: StoredSteps + Drop> World<D, T, S>
     // Makes a plan of a transaction.
     fn begin(&mut self, slot: u8, tx: Tx) -> Reply
         requires { slot < 16 }
-        ensures step { IsStep self.old (Event.Begin slot tx) result self.new }
-        ensures failures { failures_by result (view_of self.old).failures ≡ (view_of self.old).failures }
-        ensures kept { (self.new.layout ≡ self.old.layout) × (self.new.steps ≡ self.old.steps) × (device_of self.new ≡ device_of self.old) }
-        ensures table { held_table self.new ≡ held_table self.old }
+        ensures { IsAnswered self.old (Event.Begin slot tx) result self.new }
     {
         if !self.is_open() {
             return Reply::Fault(Fault::Closed);
@@ -267,10 +243,7 @@ impl<D: Disk + Drop, T: Invariants + Drop, S: StoredSteps + Drop> World<D, T, S>
     // Goes on with a plan as far as the values allow that it has read.
     fn turn(&mut self, slot: u8) -> Reply
         requires { slot < 16 }
-        ensures step { IsStep self.old (Event.Turn slot) result self.new }
-        ensures failures { failures_by result (view_of self.old).failures ≡ (view_of self.old).failures }
-        ensures kept { (self.new.layout ≡ self.old.layout) × (self.new.steps ≡ self.old.steps) × (device_of self.new ≡ device_of self.old) }
-        ensures table { held_table self.new ≡ held_table self.old }
+        ensures { IsAnswered self.old (Event.Turn slot) result self.new }
     {
         match &self.held {
             Some(Held::With(session)) => {
@@ -283,10 +256,7 @@ impl<D: Disk + Drop, T: Invariants + Drop, S: StoredSteps + Drop> World<D, T, S>
     // Settles a plan that has ended.
     fn settle(&mut self, slot: u8) -> Reply
         requires { slot < 16 }
-        ensures step { IsStep self.old (Event.Settle slot) result self.new }
-        ensures failures { failures_by result (view_of self.old).failures ≡ (view_of self.old).failures }
-        ensures kept { (self.new.layout ≡ self.old.layout) × (self.new.steps ≡ self.old.steps) × (device_of self.new ≡ device_of self.old) }
-        ensures table { held_table self.new ≡ held_table self.old }
+        ensures { IsAnswered self.old (Event.Settle slot) result self.new }
     {
         match &mut self.held {
             Some(Held::With(session)) => session.settle_slot(&mut self.slots[slot as usize]),
@@ -296,16 +266,7 @@ impl<D: Disk + Drop, T: Invariants + Drop, S: StoredSteps + Drop> World<D, T, S>
 
     // Makes the oldest transactions that wait durable, as long as any record would still fit into the batch.
     fn flush(&mut self) -> Reply
-        ensures step { IsStep self.old Event.Flush result self.new }
-        ensures any_moment { EachMoment self.old self.new }
-        ensures elsewhere { WritesInStore self.old.layout (view_of self.old) (view_of self.new) }
-        ensures failures { (view_of self.new).failures ≡ failures_by result (view_of self.old).failures }
-        ensures failed_call { IsFailedCall Event.Flush result (view_of self.new).last_fault }
-        ensures still { FlushedNothing (durable_number self.old) result → device_of self.new ≡ device_of self.old }
-        ensures layout { self.new.layout ≡ self.old.layout }
-        ensures steps { self.new.steps ≡ self.old.steps }
-        ensures table { held_table self.new ≡ held_table self.old }
-        ensures model { (view_of self.new).keeps_model → (view_of self.old).keeps_model }
+        ensures { IsAnswered self.old Event.Flush result self.new }
     {
         match &mut self.held {
             Some(Held::With(session)) => match session.flush() {
@@ -318,16 +279,7 @@ impl<D: Disk + Drop, T: Invariants + Drop, S: StoredSteps + Drop> World<D, T, S>
 
     // Writes the durable state as the next image, and frees every log slot.
     fn checkpoint(&mut self) -> Reply
-        ensures step { IsStep self.old Event.Checkpoint result self.new }
-        ensures any_moment { EachMoment self.old self.new }
-        ensures elsewhere { WritesInStore self.old.layout (view_of self.old) (view_of self.new) }
-        ensures failures { (view_of self.new).failures ≡ failures_by result (view_of self.old).failures }
-        ensures failed_call { IsFailedCall Event.Checkpoint result (view_of self.new).last_fault }
-        ensures still { CheckpointedNothing result → device_of self.new ≡ device_of self.old }
-        ensures layout { self.new.layout ≡ self.old.layout }
-        ensures steps { self.new.steps ≡ self.old.steps }
-        ensures table { held_table self.new ≡ held_table self.old }
-        ensures model { (view_of self.new).keeps_model → (view_of self.old).keeps_model }
+        ensures { IsAnswered self.old Event.Checkpoint result self.new }
     {
         match &mut self.held {
             Some(Held::With(session)) => match session.checkpoint() {
@@ -340,8 +292,7 @@ impl<D: Disk + Drop, T: Invariants + Drop, S: StoredSteps + Drop> World<D, T, S>
 
     // Asks how many transactions are durable.
     fn look(&self) -> Reply
-        ensures step { IsStep self.now Event.Look result self.now }
-        ensures failures { failures_by result (view_of self.now).failures ≡ (view_of self.now).failures }
+        ensures { IsAnswered self.now Event.Look result self.now }
     {
         match &self.held {
             Some(Held::With(session)) => Reply::Looked(session.core.durable()),
@@ -351,34 +302,15 @@ impl<D: Disk + Drop, T: Invariants + Drop, S: StoredSteps + Drop> World<D, T, S>
 
     // Drops the session and what the slots hold, and opens the device again.
     fn reopen(&mut self) -> Reply
-        ensures step { IsStep self.old Event.Reopen result self.new }
-        ensures reopened { IsReopened self.old result self.new }
-        ensures any_moment { EachMoment self.old self.new }
-        ensures elsewhere { WritesWithin (slot_place self.old.layout.vars 0) (4096 * self.old.layout.slots) (view_of self.old) (view_of self.new) }
-        ensures failures { (view_of self.new).failures ≡ failures_by result (view_of self.old).failures }
-        ensures layout { self.new.layout ≡ self.old.layout }
-        ensures steps { self.new.steps ≡ self.old.steps }
-        ensures table { held_table self.new ≡ held_table self.old }
-        ensures model { (view_of self.new).keeps_model → (view_of self.old).keeps_model }
+        ensures { IsAnswered self.old Event.Reopen result self.new }
     {
         stands_for_one();
         clear(&mut self.slots);
         let layout = self.layout;
         let (disk, table) = self.held.take().unwrap().into_parts();
-        let journal = match Journal::open(self.alloc, disk, layout.vars, layout.slots) {
-            Ok(journal) => journal,
-            Err((fault, disk)) => {
-                let left = Left {
-                    disk,
-                    layout,
-                    table,
-                };
-                self.held = Some(Held::Without(left));
-                return Reply::Fault(fault);
-            }
-        };
-        match begin_session(self.alloc, journal, table) {
-            Ok(session) => {
+        match Opening::open(self.alloc, disk, layout.vars, layout.slots, table) {
+            Ok(opening) => {
+                let (session, _) = Session::begin(opening);
                 let count = session.core.count();
                 self.held = Some(Held::With(session));
                 Reply::Opened(count)
@@ -394,17 +326,6 @@ impl<D: Disk + Drop, T: Invariants + Drop, S: StoredSteps + Drop> World<D, T, S>
             }
         }
     }
-}
-
-// The names of a table, in its order.
-fn names_of<T: Invariants>(alloc: Global, table: &T) -> Result<Vec<Name>, AllocError>
-    ensures { IfOk result (λ names. names.items ≡ T.names table.now) }
-{
-    let mut names = Vec::with_capacity(alloc, table.len())?;
-    for place in 0..table.len() {
-        names.push(table.name(place))?;
-    }
-    Ok(names)
 }
 
 // Slots that hold nothing.

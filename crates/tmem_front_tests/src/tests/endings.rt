@@ -13,6 +13,8 @@ use std::test::Fail;
 
 const CLOSED: Answer = Refused(Refusal::Closed);
 
+const UNKNOWN: Answer = Refused(Refusal::Unknown);
+
 const WRITE: Task = Task::Write(0, 1);
 
 static SCENES: &[Line<'static>] = &[
@@ -40,7 +42,7 @@ static SCENES: &[Line<'static>] = &[
     Last(Sleep(50), Done),
     Last(TryCommit(WRITE), Committed(0)),
     Last(Sleep(50), Done),
-    Last(Flush, Refused(Refusal::Unknown)),
+    Last(Flush, UNKNOWN),
     Scene("each wait ends once a checkpoint has failed"),
     // a flush makes two writes, so it is the first one of the checkpoint
     FailWrite(2),
@@ -102,6 +104,45 @@ static SCENES: &[Line<'static>] = &[
     Last(AwaitHeld(1), Done),
     Last(Sleep(200), Done),
     Last(Release, Done),
+    Scene("a close does not let a wait go on that a shut has ended"),
+    Before(TryCommit(WRITE), Committed(0)),
+    Before(HoldSyncs(1), Done),
+    First(Await(0), CLOSED),
+    Second(AwaitHeld(1), Done),
+    // it begins while the close is at work
+    Second(Await(0), CLOSED),
+    Second(Sleep(200), Done),
+    Second(Release, Done),
+    Third(Sleep(50), Done),
+    Third(Shut, Done),
+    Third(Close, Done),
+    Third(Look, Number(1)),
+    Last(Sleep(1), Done),
+    Scene("a second close is answered once the first has flushed"),
+    Before(TryCommit(WRITE), Committed(0)),
+    Before(HoldSyncs(1), Done),
+    First(Close, Done),
+    Second(AwaitHeld(1), Done),
+    Second(Close, Done),
+    Second(Look, Number(1)),
+    Last(AwaitHeld(1), Done),
+    Last(Sleep(200), Done),
+    Last(Release, Done),
+    Scene("a close flushes what a shut has left"),
+    Before(TryCommit(WRITE), Committed(0)),
+    Before(Shut, Done),
+    Before(Close, Done),
+    Before(Look, Number(1)),
+    Scene("a close is answered the fault that a flush at work meets"),
+    FailSync(1),
+    Before(TryCommit(WRITE), Committed(0)),
+    Before(HoldSyncs(1), Done),
+    First(Flush, UNKNOWN),
+    Second(AwaitHeld(1), Done),
+    Second(Close, UNKNOWN),
+    Last(AwaitHeld(1), Done),
+    Last(Sleep(200), Done),
+    Last(Release, Done),
     Scene("a close with nothing to flush ends each wait"),
     First(Await(0), CLOSED),
     Second(Commit(Task::NeedOne), CLOSED),
@@ -112,6 +153,10 @@ static SCENES: &[Line<'static>] = &[
     Before(FillBy(Task::WriteEach(1), 40), Number(40)),
     Before(Close, Done),
     Before(Look, Number(40)),
+    Scene("a close makes durable as many of the largest as may wait"),
+    Before(FillBy(Task::WriteEach(1), 256), Number(256)),
+    Before(Close, Done),
+    Before(Look, Number(256)),
     Scene("a close makes durable all that waits"),
     Slots(2),
     Before(Fill(256), Number(256)),
@@ -121,10 +166,10 @@ static SCENES: &[Line<'static>] = &[
     Scene("a close is answered the first fault"),
     FailSync(1),
     Before(TryCommit(WRITE), Committed(0)),
-    Before(Flush, Refused(Refusal::Unknown)),
+    Before(Flush, UNKNOWN),
     Before(Checkpoint, CLOSED),
-    Before(FaultOf, Refused(Refusal::Unknown)),
-    Before(Close, Refused(Refusal::Unknown)),
+    Before(FaultOf, UNKNOWN),
+    Before(Close, UNKNOWN),
 ];
 
 #[test]

@@ -1,8 +1,8 @@
 //! Flushers: when each ends, what it has made durable by then, and how it makes room in a full log.
 use super::moves::Answer::{Committed, Done, Number, Refused, Value};
 use super::moves::Move::{
-    AddDurably, Await, Commit, CommitAndFlush, FaultOf, Fill, Flush, FlushWithRoom, Look, Peek,
-    RunFlusher, Shut, Sleep, TryCommit,
+    AddDurably, Await, Checkpoint, Commit, CommitAndFlush, FaultOf, Fill, Flush, FlushWithRoom,
+    Look, Peek, RunFlusher, Shut, Sleep, TryCommit,
 };
 use super::moves::{Refusal, Task};
 use super::scenes::Line::{
@@ -35,6 +35,16 @@ static SCENES: &[Line<'static>] = &[
     Before(Flush, Refused(Refusal::LogFull)),
     Before(Look, Number(2)),
     Before(FlushWithRoom, Number(3)),
+    Scene("a checkpoint makes room in a full log"),
+    Slots(2),
+    Before(TryCommit(WRITE), Committed(0)),
+    Before(Flush, Number(1)),
+    Before(TryCommit(WRITE), Committed(1)),
+    Before(Flush, Number(2)),
+    Before(TryCommit(WRITE), Committed(2)),
+    Before(Flush, Refused(Refusal::LogFull)),
+    Before(Checkpoint, Done),
+    Before(Flush, Number(3)),
     Scene("a flusher flushes again once there is room"),
     Slots(2),
     Before(TryCommit(WRITE), Committed(0)),

@@ -1,8 +1,9 @@
 //! What goes on while a thread is held in the middle of a call.
-use super::moves::Answer::{Committed, Done, Holds, Number, Refused, Value};
+use super::moves::Answer::{Committed, Done, Holds, Nothing, Number, Refused, Value};
 use super::moves::Move::{
-    Attempt, Await, AwaitHeld, Checkpoint, Commit, Flush, HoldSteps, HoldSyncs, Look, LooksAtMost,
-    NewPass, Peek, Release, Settle, Shut, Sleep, TryCommit, Vouch,
+    Acquire, AddWithRoom, Attempt, Await, AwaitHeld, AwaitWithin, Checkpoint, Commit, CommitWithin,
+    Count, FaultOf, Flush, HasInvariant, HoldSteps, HoldSyncs, Look, LooksAtMost, NewPass, Peek,
+    Release, ReleasePass, Settle, Shut, Sleep, TryCommit, ValuesAre, Vouch,
 };
 use super::moves::{Answer, Refusal, Task};
 use super::scenes::Line::{After, Before, First, Last, Scene, Second, Third};
@@ -27,6 +28,16 @@ static SCENES: &[Line<'static>] = &[
     Last(Commit(Task::Copy), Committed(5)),
     Last(Peek(0), Value(4)),
     Last(Look, Number(0)),
+    // and asks what else can be asked, by a pass of the pool too
+    Last(Count, Number(6)),
+    Last(HasInvariant, Holds(false)),
+    Last(ValuesAre([0, 1, 2], [4, 4, 0]), Holds(true)),
+    Last(FaultOf, Nothing),
+    Last(ReleasePass, Done),
+    Last(Acquire, Done),
+    Last(CommitWithin(Task::AddOne, 60_000), Committed(6)),
+    Last(AddWithRoom(1), Number(1)),
+    Last(LooksAtMost(8), Holds(true)),
     Last(Release, Done),
     After(Look, Number(1)),
     Scene("settle while the sync of a checkpoint is held"),
@@ -42,6 +53,15 @@ static SCENES: &[Line<'static>] = &[
     Last(Commit(Task::Copy), Committed(5)),
     Last(Peek(0), Value(4)),
     Last(Look, Number(0)),
+    Last(Count, Number(6)),
+    Last(HasInvariant, Holds(false)),
+    Last(ValuesAre([0, 1, 2], [4, 4, 0]), Holds(true)),
+    Last(FaultOf, Nothing),
+    Last(ReleasePass, Done),
+    Last(Acquire, Done),
+    Last(CommitWithin(Task::AddOne, 60_000), Committed(6)),
+    Last(AddWithRoom(1), Number(1)),
+    Last(LooksAtMost(8), Holds(true)),
     Last(Shut, Done),
     Last(Release, Done),
     // a checkpoint makes nothing durable that waits
@@ -75,6 +95,18 @@ static SCENES: &[Line<'static>] = &[
     Last(Settle, CLOSED),
     Last(Release, Done),
     After(Look, Number(1)),
+    Scene("a shut ends a wait though a sync is held"),
+    Before(TryCommit(Task::Write(0, 1)), Committed(0)),
+    Before(HoldSyncs(1), Done),
+    First(Flush, Number(1)),
+    Second(AwaitHeld(1), Done),
+    Second(Await(1), CLOSED),
+    Second(Release, Done),
+    Third(AwaitHeld(1), Done),
+    Third(AwaitWithin(1, 60_000), CLOSED),
+    Last(AwaitHeld(1), Done),
+    Last(Sleep(100), Done),
+    Last(Shut, Done),
     Scene("a transaction that met two conflicts is evaluated alone"),
     Before(TryCommit(Task::Write(0, 1)), Committed(0)),
     Before(HoldSteps(3), Done),

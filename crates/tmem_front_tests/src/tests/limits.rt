@@ -5,7 +5,7 @@ use super::moves::Move::{
     HoldSyncs, LooksAtMost, NeedsAtMost, NewPasses, Release, ReleasePass, Shut, Sleep, TryCommit,
 };
 use super::moves::{Answer, Refusal, Task};
-use super::scenes::Line::{After, Before, First, Last, Scene, Second, Third};
+use super::scenes::Line::{After, Before, First, Last, Scene, Second, SkipSeconds, Third};
 use super::scenes::{Line, play};
 use std::test::Fail;
 
@@ -13,6 +13,12 @@ const CLOSED: Answer = Refused(Refusal::Closed);
 
 /// More milliseconds than a scene lasts.
 const LONG: u64 = 60_000;
+
+/// Ten years of milliseconds.
+const YEARS: u64 = 315_360_000_000;
+
+/// A month of seconds.
+const MONTH: u64 = 2_592_000;
 
 /// The registers of what waited for a 1.
 const ONE: [i64; 16] = [1, 1, 1, 0, 0, 0, 0, 0, 0, 0, 0, 0, 0, 0, 0, 0];
@@ -73,16 +79,18 @@ static SCENES: &[Line<'static>] = &[
     Last(TryCommit(Task::Write(2, 0)), Committed(0)),
     Last(Sleep(1500), Done),
     Last(Shut, Done),
-    Scene("a wait with a limit below a second lasts as long"),
+    Scene("a wait with a limit below a second does not end at once"),
     // with the one in hand and those that the threads take first, one is left for the pool
     Before(NewPasses(26), Number(26)),
     First(Acquire, Done),
     First(CommitWithin(Task::NeedOne, 900), Saw(1, ONE)),
     First(ReleasePass, Done),
     Second(AwaitWithin(0, 900), Done),
-    Third(Sleep(100), Done),
+    Third(Sleep(300), Done),
     Third(AcquireWithin(900), Done),
-    Last(Sleep(300), Done),
+    Last(Sleep(500), Done),
+    // each of the three has looked, and sleeps
+    Last(LooksAtMost(8), Holds(true)),
     Last(TryCommit(Task::Write(2, 1)), Committed(0)),
     Last(Flush, Number(1)),
     Scene("a wait with a limit lasts for more than a half of it"),
@@ -91,9 +99,21 @@ static SCENES: &[Line<'static>] = &[
     First(CommitWithin(Task::NeedOne, 3000), Saw(1, ONE)),
     First(ReleasePass, Done),
     Second(AwaitWithin(0, 3000), Done),
-    Third(Sleep(100), Done),
+    Third(Sleep(300), Done),
     Third(AcquireWithin(3000), Done),
     Last(Sleep(2000), Done),
+    Last(TryCommit(Task::Write(2, 1)), Committed(0)),
+    Last(Flush, Number(1)),
+    Scene("a wait with a limit of years is not over after months"),
+    SkipSeconds(MONTH),
+    Before(NewPasses(26), Number(26)),
+    First(Acquire, Done),
+    First(CommitWithin(Task::NeedOne, YEARS), Saw(1, ONE)),
+    First(ReleasePass, Done),
+    Second(AwaitWithin(0, YEARS), Done),
+    Third(Sleep(300), Done),
+    Third(AcquireWithin(YEARS), Done),
+    Last(Sleep(500), Done),
     Last(TryCommit(Task::Write(2, 1)), Committed(0)),
     Last(Flush, Number(1)),
 ];

@@ -23,7 +23,8 @@ pub(super) enum Task {
     AddOnceThereIsOne,
     /// Writes a number to two variables.
     WriteBoth(u16, u16, i64),
-    /// Reads each variable up to this one, and retries until this one is at least 1. Registers as those of `NeedOne`.
+    /// Reads each variable up to this one, and retries until this one is at least 1. Register 3 has the variable before it, and the
+    /// others are as those of `NeedOne`.
     NeedLast(u16),
     /// Retries until a variable is at least so great, and adds 1 to another one.
     AddBehind(u16, i64, u16),
@@ -50,8 +51,11 @@ pub(super) enum Move {
     /// Writes 1 to variable 0 so often by `try_atomically`, or commits a task. Answers how often the number was the next one, from 0.
     Fill(u64),
     FillBy(Task, u64),
-    /// Commits `AddBehind` so often by `atomically_with_room`, for one more each time. Answers how often, or another answer.
-    Pass(u16, i64, u16, u64),
+    /// `PassOn(var, least, other, times)`: waits until a variable is at least so great, and adds 1 to another one, and so on with one
+    /// more, by `atomically_with_room`. Answers how often, or the first other answer.
+    PassOn(u16, i64, u16, u64),
+    /// The same by `atomically_within`, for no longer than a minute each, and again where there is no room.
+    PassOnWithin(u16, i64, u16, u64),
     /// Commits `AddOne` so often by `try_atomically`, again after each conflict. Answers how often it did.
     Add(u64),
     /// `atomically_within`, for so many milliseconds.
@@ -96,8 +100,6 @@ pub(super) enum Move {
     AcquireWithin(u64),
     /// Hands the one in hand to the pool.
     ReleasePass,
-    /// Both so often, in turn. Answers how often, or another answer.
-    Borrow(u64),
     /// Takes the other pass in hand, a new one at first.
     OtherPass,
     /// Lets so many milliseconds pass.
@@ -115,6 +117,8 @@ pub(super) enum Move {
     NeedsAtMost(u64),
     /// Whether the calls that wait have looked so often at the most.
     LooksAtMost(u64),
+    /// Whether they have looked so often at the least.
+    LooksAtLeast(u64),
 }
 
 /// Which fault a move is refused with, without what some faults carry: so a line is plain data, and stands in a table.

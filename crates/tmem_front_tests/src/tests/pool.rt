@@ -1,13 +1,11 @@
 //! Passes that callers share.
 use super::moves::Answer::{Committed, Done, Holds, Late, Number, Refused, Value};
 use super::moves::Move::{
-    Acquire, AcquireWithin, AwaitHeld, Borrow, Commit, Flush, HoldSteps, Look, LooksAtMost,
+    Acquire, AcquireWithin, AwaitHeld, Commit, Flush, HoldSteps, Look, LooksAtLeast, LooksAtMost,
     NewPass, NewPasses, OtherPass, Peek, Release, ReleasePass, Seen, Shut, Sleep, TryCommit,
 };
 use super::moves::{Answer, Refusal, Task};
-use super::scenes::Line::{
-    After, Before, FailSync, First, FirstThree, Last, Scene, Second, SyncMillis, Third,
-};
+use super::scenes::Line::{After, Before, FailSync, First, Last, Scene, Second, SyncMillis, Third};
 use super::scenes::{Line, play};
 use std::test::Fail;
 
@@ -47,6 +45,7 @@ static SCENES: &[Line<'static>] = &[
     Second(Peek(1), Value(2)),
     Last(Sleep(1), Done),
     After(LooksAtMost(8), Holds(true)),
+    After(LooksAtLeast(1), Holds(true)),
     Scene("a thread waits for a pass that was not the pools"),
     Before(NewPasses(28), Number(28)),
     First(ReleasePass, Done),
@@ -60,11 +59,6 @@ static SCENES: &[Line<'static>] = &[
     Second(Peek(1), Value(2)),
     Last(Sleep(1), Done),
     After(LooksAtMost(8), Holds(true)),
-    Scene("one pass is handed from thread to thread"),
-    Before(NewPasses(27), Number(27)),
-    // each thread has its first pass by then
-    FirstThree(Sleep(300), Done),
-    FirstThree(Borrow(3000), Number(3000)),
     Scene("a thread waits for a pass for no longer than a time"),
     Before(NewPasses(27), Number(27)),
     Before(HoldSteps(1), Done),
@@ -136,6 +130,7 @@ static SCENES: &[Line<'static>] = &[
     Before(ReleasePass, Done),
     Before(Acquire, Done),
     Before(NewPasses(40), Number(30)),
+    // in these three, where the core's lock is held too long, two threads wait for each other for ever, and the test does not end
     Scene("a shut lets go of the core before it takes the pool"),
     Before(TryCommit(Task::Write(0, 1)), Committed(0)),
     Before(HoldSteps(3), Done),
@@ -179,7 +174,7 @@ static SCENES: &[Line<'static>] = &[
     Last(Release, Done),
     Scene("a fault lets go of the core before it takes the pool"),
     FailSync(1),
-    SyncMillis(600),
+    SyncMillis(1500),
     Before(TryCommit(Task::Write(0, 1)), Committed(0)),
     Before(HoldSteps(3), Done),
     // the third addition is held under the core's lock
@@ -189,7 +184,7 @@ static SCENES: &[Line<'static>] = &[
     Second(Flush, Refused(Refusal::Unknown)),
     // waits for it too, under the pool's lock
     Third(AwaitHeld(3), Done),
-    Third(Sleep(900), Done),
+    Third(Sleep(1800), Done),
     Third(Acquire, Done),
     Last(AwaitHeld(1), Done),
     Last(TryCommit(Task::Write(0, 5)), Committed(1)),
@@ -199,7 +194,7 @@ static SCENES: &[Line<'static>] = &[
     Last(TryCommit(Task::Write(0, 7)), Committed(2)),
     Last(Release, Done),
     Last(AwaitHeld(3), Done),
-    Last(Sleep(1200), Done),
+    Last(Sleep(2100), Done),
     Last(Release, Done),
 ];
 

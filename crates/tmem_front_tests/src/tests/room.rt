@@ -2,7 +2,8 @@
 use super::moves::Answer::{Committed, Done, Holds, Number, Refused, Saw, Value};
 use super::moves::Move::{
     AddWithRoom, AddsAtMost, Await, AwaitHeld, Close, CommitDurable, FaultOf, Fill, Flush,
-    HoldSyncs, Look, LooksAtMost, NewPass, Peek, Release, RunFlusher, Seen, Shut, Sleep, TryCommit,
+    HoldSyncs, Look, LooksAtLeast, LooksAtMost, NewPass, Peek, Release, RunFlusher, Seen, Shut,
+    Sleep, TryCommit,
 };
 use super::moves::{Answer, Refusal, Task};
 use super::scenes::Line::{After, Before, FailSync, First, FirstThree, Last, Scene, Second, Third};
@@ -26,6 +27,7 @@ static SCENES: &[Line<'static>] = &[
     // they have not added yet
     Last(Peek(0), Value(1)),
     Last(LooksAtMost(12), Holds(true)),
+    Last(LooksAtLeast(3), Holds(true)),
     Last(AddsAtMost(12), Holds(true)),
     Last(Flush, Number(64)),
     After(Peek(0), Value(4)),

@@ -14,7 +14,7 @@ use std::process::Abort;
 use std::rt::Clock;
 use std::sync::Wait;
 use std::test::Fail;
-use std::thread::{self, Threads, join};
+use std::thread::{self, Threads, map_indices};
 use std::time::Duration;
 use tmem_disk::{Disk, Fault, SimDisk};
 use tmem_front::{Front, OpenedFront, StoreNaming};
@@ -31,7 +31,7 @@ pub(super) enum Line<'a> {
     /// Begins a scene of this name in a new store of 100 variables, whose device has four slots and never fails, if no line says
     /// otherwise. Once it is over the device is taken out, and no call of it is made for that.
     Scene(&'a str),
-    /// How many variables the store has.
+    /// How many variables the store has. Some scenes are played with four, so that nothing hangs on a store of 100.
     Vars(u16),
     /// How many slots the device has.
     Slots(u16),
@@ -40,20 +40,24 @@ pub(super) enum Line<'a> {
     FailSync(u64),
     /// How many milliseconds a sync takes at the least.
     SyncMillis(u64),
+    /// How many seconds later it is at each reading of the clock, for a wait that has a limit.
+    SkipSeconds(u64),
     /// Its image is of the last generation, so that no checkpoint can be made.
     LastImage,
     /// What one thread does before the others start, and what that has to be answered.
     Before(Move, Answer),
-    /// What one of eight threads does, which play at once. The last one never waits for another thread: it waits until the others
-    /// have ended, and where they have not in ten seconds it shuts the front until they do.
+    /// What one of eight threads does, which play at once. The last one waits for no other thread, or only where a wrong body may hang:
+    /// it waits until the others have ended, and where they have not in ten seconds it shuts the front until they do.
     First(Move, Answer),
     Second(Move, Answer),
     Third(Move, Answer),
     Last(Move, Answer),
-    /// What each of the first three does, or each of these four, or each of four more.
+    /// What each of the first three does; each of First, Second, Third and Last; each of four more, which do nothing else.
     FirstThree(Move, Answer),
     All(Move, Answer),
     FourMore(Move, Answer),
+    /// What each of sixty-four more does. They have no pass in hand at first.
+    Crowd(Move, Answer),
     /// What the thread that began does at the end.
     After(Move, Answer),
 }
@@ -63,6 +67,7 @@ pub(super) enum Line<'a> {
 enum Part {
     Before,
     Thread(usize),
+    Crowd,
     After,
 }
 
@@ -78,6 +83,7 @@ impl Line<'_> {
             | (Line::FirstThree(step, want), Part::Thread(0 | 1 | 2))
             | (Line::All(step, want), Part::Thread(0 | 1 | 2 | LAST))
             | (Line::FourMore(step, want), Part::Thread(4 | 5 | 6 | 7))
+            | (Line::Crowd(step, want), Part::Crowd)
             | (Line::After(step, want), Part::After) => Some((step, want)),
             _ => None,
         }
@@ -100,6 +106,17 @@ struct Device {
     failing: Failing,
     sync_millis: u64,
     has_last_image: bool,
+}
+
+// How much later it is at each reading of the clock.
+fn skip_of(lines: &[Line]) -> Duration {
+    let mut skip = Duration::ZERO;
+    for line in lines {
+        if let Line::SkipSeconds(seconds) = *line {
+            skip = Duration::from_secs(seconds);
+        }
+    }
+    skip
 }
 
 // What lines say of the device.
@@ -148,6 +165,20 @@ const MOST_SHUTS: u64 = 100;
 /// The place of the last thread.
 const LAST: usize = 3;
 
+/// How many threads there are, and how many more are a crowd.
+const EIGHT: usize = 8;
+
+const CROWD: usize = 64;
+
+// How many threads a scene has.
+fn threads_of(lines: &[Line]) -> usize {
+    if lines.iter().any(|line| matches!(line, Line::Crowd(_, _))) {
+        EIGHT + CROWD
+    } else {
+        EIGHT
+    }
+}
+
 /// What is played on a store. The functions that start threads know no more of it.
 trait Plays {
     /// Plays what a thread does, and answers what went wrong first.
@@ -158,7 +189,12 @@ impl<D: Disk + Drop, N: StoreNaming, T: Invariants + Drop, S: StoredSteps + Drop
     for Front<D, N, T, S> {
     fn play<R: Clock + Wait>(&self, stage: &Stage<R>, thread: usize) -> Option<Wrong> {
         let store = Store { front: self };
-        let wrong = store.play_alone(stage, Part::Thread(thread));
+        let part = if thread < EIGHT {
+            Part::Thread(thread)
+        } else {
+            Part::Crowd
+        };
+        let wrong = store.play_alone(stage, part);
         stage.signals.count_end();
         if thread == LAST && !store.ends_others(stage) {
             return wrong.or(Some(Wrong::Late));
@@ -182,17 +218,19 @@ impl<D: Disk + Drop, N: StoreNaming, T: Invariants + Drop, S: StoredSteps + Drop
         self.play_from(stage, &mut Hands::new(), part)
     }
 
-    // Takes a pass, and plays a part.
+    // Takes a pass, which the crowd does not, and plays a part.
     fn play_from<R: Clock + Wait>(
         &self,
         stage: &Stage<R>,
         hands: &mut Hands<N>,
         part: Part,
     ) -> Option<Wrong> {
-        match self.take_pass(stage, &mut hands.pass) {
-            Ok(()) => self.play_lines(stage, hands, part),
-            Err(fault) => Some(Wrong::NotBegun(fault)),
+        if part != Part::Crowd {
+            if let Err(fault) = self.take_pass(stage, &mut hands.pass) {
+                return Some(Wrong::NotBegun(fault));
+            }
         }
+        self.play_lines(stage, hands, part)
     }
 
     // Plays all lines of a part, also after a wrong answer, and answers the first one.
@@ -234,7 +272,8 @@ impl<D: Disk + Drop, N: StoreNaming, T: Invariants + Drop, S: StoredSteps + Drop
 
     // Waits until all threads have ended. Where they have not in time, shuts the front for each that still waits.
     fn ends_others<R: Clock + Wait>(&self, stage: &Stage<R>) -> bool {
-        if stage.signals.await_ends(stage.rt, 8) {
+        let threads = threads_of(stage.lines) as u64;
+        if stage.signals.await_ends(stage.rt, threads) {
             return true;
         }
         for _ in 0..MOST_SHUTS {
@@ -245,58 +284,21 @@ impl<D: Disk + Drop, N: StoreNaming, T: Invariants + Drop, S: StoredSteps + Drop
     }
 }
 
-// Two threads.
-fn play_two<F: Plays + Sync, R: Clock + Threads + Wait + Sync>(
-    stage: &Stage<R>,
-    store: &F,
-    first: usize,
-    second: usize,
-) -> Option<Wrong> {
-    let (one, other) = join(
-        stage.rt,
-        || store.play(stage, first),
-        || store.play(stage, second),
-    );
-    one.or(other)
-}
-
-// Four threads.
-fn play_four<F: Plays + Sync, R: Clock + Threads + Wait + Sync>(
+// Each thread of a scene. Answers what went wrong first.
+fn play_all<F: Plays + Sync, R: Clock + Threads + Wait + Sync>(
     stage: &Stage<R>,
     store: &F,
 ) -> Option<Wrong> {
-    let (one, other) = join(
+    let threads = threads_of(stage.lines);
+    match map_indices(
         stage.rt,
-        || play_two(stage, store, 0, 1),
-        || play_two(stage, store, 2, LAST),
-    );
-    one.or(other)
-}
-
-// Four more.
-fn play_four_more<F: Plays + Sync, R: Clock + Threads + Wait + Sync>(
-    stage: &Stage<R>,
-    store: &F,
-) -> Option<Wrong> {
-    let (one, other) = join(
-        stage.rt,
-        || play_two(stage, store, 4, 5),
-        || play_two(stage, store, 6, 7),
-    );
-    one.or(other)
-}
-
-// All eight.
-fn play_eight<F: Plays + Sync, R: Clock + Threads + Wait + Sync>(
-    stage: &Stage<R>,
-    store: &F,
-) -> Option<Wrong> {
-    let (one, other) = join(
-        stage.rt,
-        || play_four(stage, store),
-        || play_four_more(stage, store),
-    );
-    one.or(other)
+        stage.alloc,
+        threads,
+        &|thread| store.play(stage, thread),
+    ) {
+        Ok(ended) => ended.into_iter().flatten().next(),
+        Err(_) => Some(Wrong::NotBegun(Fault::Memory)),
+    }
 }
 
 // A scene in a store, with the hands that begin it and end it.
@@ -312,7 +314,7 @@ fn play_in<
         return Some(Wrong::NotBegun(fault));
     }
     let before = store.play_lines(stage, hands, Part::Before);
-    let threads = play_eight(stage, front);
+    let threads = play_all(stage, front);
     let after = store.play_lines(stage, hands, Part::After);
     before.or(threads).or(after)
 }
@@ -399,6 +401,7 @@ fn play_scene<R: Clock + Threads + Wait + Sync>(
         alloc,
         signals: &signals,
         lines,
+        skip: skip_of(lines),
     };
     match open(&stage, device_of(lines)) {
         Ok(opened) => play_named::<Brand, _>(&stage, opened),
@@ -425,6 +428,7 @@ fn is_played(lines: &[Line]) -> bool {
         Part::Thread(2),
         Part::Thread(LAST),
         Part::Thread(4),
+        Part::Crowd,
         Part::After,
     ];
     parts

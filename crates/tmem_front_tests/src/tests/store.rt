@@ -7,6 +7,7 @@ use super::moves::{Answer, Move, Refusal, Task};
 use super::no_closures::always;
 use super::scenes::Line;
 use super::signals::Signals;
+use super::skipping::Skipping;
 use std::alloc::Global;
 use std::marker::PhantomData;
 use std::rt::Clock;
@@ -22,6 +23,9 @@ use tmem_tree::{Plan, StoredSteps, Tx};
 /// How often an addition is made at the most.
 const MOST_ATTEMPTS: u64 = 1_000_000;
 
+/// More milliseconds than a scene lasts.
+const MINUTE: u64 = 60_000;
+
 /// The front, in the hands of one thread.
 #[derive(Drop)]
 pub(super) struct Store<'a, D: Disk, N: StoreNaming, T: Invariants, S: StoredSteps> {
@@ -35,6 +39,8 @@ pub(super) struct Stage<'a, R> {
     pub(super) alloc: Global,
     pub(super) signals: &'a Signals,
     pub(super) lines: &'a [Line<'a>],
+    /// How much later it is at each reading of the clock, for a wait that has a limit.
+    pub(super) skip: Duration,
 }
 
 /// What one thread has in hand.
@@ -121,7 +127,6 @@ impl<D: Disk + Drop, N: StoreNaming, T: Invariants + Drop, S: StoredSteps + Drop
             Move::Acquire => Answer::done(self.acquire(stage, &mut hands.pass)),
             Move::AcquireWithin(millis) => self.acquire_within(stage, &mut hands.pass, millis),
             Move::ReleasePass => self.release(stage, &mut hands.pass),
-            Move::Borrow(times) => self.borrow(stage, &mut hands.pass, times),
             Move::OtherPass => Answer::done(self.other_pass(stage, hands)),
             other => match &mut hands.pass {
                 Some(pass) => self.answer_by(stage, pass, other),
@@ -142,8 +147,11 @@ impl<D: Disk + Drop, N: StoreNaming, T: Invariants + Drop, S: StoredSteps + Drop
             Move::TryCommit(task) => self.try_commit(stage, pass, task),
             Move::Fill(times) => self.fill(stage, pass, Task::Write(0, 1), times),
             Move::FillBy(task, times) => self.fill(stage, pass, task, times),
-            Move::Pass(var, first, other, times) => {
-                self.pass_on(stage, pass, var, first, other, times)
+            Move::PassOn(var, first, other, times) => {
+                self.pass_on(stage, pass, (var, first, other), times, false)
+            }
+            Move::PassOnWithin(var, first, other, times) => {
+                self.pass_on(stage, pass, (var, first, other), times, true)
             }
             Move::Add(times) => self.add(stage, pass, times),
             Move::CommitWithin(task, millis) => self.commit_within(stage, pass, task, millis),
@@ -179,6 +187,7 @@ impl<D: Disk + Drop, N: StoreNaming, T: Invariants + Drop, S: StoredSteps + Drop
                 None => Answer::Nothing,
             },
             Move::LooksAtMost(most) => Answer::Holds(self.front.looks(stage.rt) <= most),
+            Move::LooksAtLeast(least) => Answer::Holds(self.front.looks(stage.rt) >= least),
             other => stage.answer(other),
         }
     }
@@ -210,7 +219,10 @@ impl<D: Disk + Drop, N: StoreNaming, T: Invariants + Drop, S: StoredSteps + Drop
     ) -> Answer {
         let limit = Duration::from_millis(millis);
         match self.plan(stage, task) {
-            Ok(plan) => Answer::to(self.front.atomically_within(stage.rt, pass, &plan, limit)),
+            Ok(plan) => {
+                let rt = Skipping::new(stage.rt, stage.skip);
+                Answer::to(self.front.atomically_within(&rt, pass, &plan, limit))
+            }
             Err(fault) => Answer::refused(fault),
         }
     }
@@ -324,23 +336,35 @@ impl<D: Disk + Drop, N: StoreNaming, T: Invariants + Drop, S: StoredSteps + Drop
     }
 
     // How often an addition commits that waits for one more each time.
-    fn pass_on<R: Wait>(
+    fn pass_on<R: Clock + Wait>(
         &self,
         stage: &Stage<R>,
         pass: &mut Pass<N>,
-        var: u16,
-        first: i64,
-        other: u16,
+        (var, first, other): (u16, i64, u16),
         times: u64,
+        is_limited: bool,
     ) -> Answer {
-        let mut least = first;
-        for _ in 0..times {
-            match self.commit_with_room(stage, pass, Task::AddBehind(var, least, other)) {
-                Answer::Committed(_) => least = least.saturating_add(1),
+        let (mut least, mut passed) = (first, 0u64);
+        for _ in 0..MOST_ATTEMPTS {
+            if passed == times {
+                break;
+            }
+            let task = Task::AddBehind(var, least, other);
+            let answer = if is_limited {
+                self.commit_within(stage, pass, task, MINUTE)
+            } else {
+                self.commit_with_room(stage, pass, task)
+            };
+            match answer {
+                Answer::Committed(_) => {
+                    least = least.saturating_add(1);
+                    passed = passed.saturating_add(1);
+                }
+                Answer::Refused(Refusal::Full) if is_limited => {}
                 other => return other,
             }
         }
-        Answer::Number(times)
+        Answer::Number(passed)
     }
 
     fn commit_with_room<R: Wait>(
@@ -386,10 +410,9 @@ impl<D: Disk + Drop, N: StoreNaming, T: Invariants + Drop, S: StoredSteps + Drop
         place: &mut Option<Pass<N>>,
         millis: u64,
     ) -> Answer {
-        match self
-            .front
-            .acquire_pass_within(stage.rt, Duration::from_millis(millis))
-        {
+        let rt = Skipping::new(stage.rt, stage.skip);
+        let limit = Duration::from_millis(millis);
+        match self.front.acquire_pass_within(&rt, limit) {
             Ok(None) => Answer::Late,
             Ok(pass) => {
                 *place = pass;
@@ -404,20 +427,6 @@ impl<D: Disk + Drop, N: StoreNaming, T: Invariants + Drop, S: StoredSteps + Drop
             Some(pass) => Answer::done(self.front.release_pass(stage.rt, pass)),
             None => Answer::Nothing,
         }
-    }
-
-    // How often a pass is taken of the pool and handed back.
-    fn borrow<R: Wait>(&self, stage: &Stage<R>, place: &mut Option<Pass<N>>, times: u64) -> Answer {
-        for _ in 0..times {
-            if let Err(fault) = self.acquire(stage, place) {
-                return Answer::refused(fault);
-            }
-            let released = self.release(stage, place);
-            if released != Answer::Done {
-                return released;
-            }
-        }
-        Answer::Number(times)
     }
 
     // How many passes are given out, each dropped at once.
@@ -464,11 +473,9 @@ impl<D: Disk + Drop, N: StoreNaming, T: Invariants + Drop, S: StoredSteps + Drop
         number: u64,
         millis: u64,
     ) -> Answer {
+        let rt = Skipping::new(stage.rt, stage.skip);
         let limit = Duration::from_millis(millis);
-        Answer::awaited(
-            self.front
-                .await_durable_within(stage.rt, pass, number, limit),
-        )
+        Answer::awaited(self.front.await_durable_within(&rt, pass, number, limit))
     }
 
     // Whether variables have these values at one moment.

@@ -1,7 +1,9 @@
-//! Four threads over one front.
-use super::moves::Answer::{Number, Value};
-use super::moves::Move::{Add, Flush, Peek};
-use super::scenes::Line::{After, All, Scene, Vars};
+//! Threads that add over one front.
+use super::moves::Answer::{Done, Holds, Number, Value};
+use super::moves::Move::{
+    Acquire, Add, AddWithRoom, Count, Flush, LooksAtLeast, Peek, ReleasePass, Sleep,
+};
+use super::scenes::Line::{After, All, Before, Crowd, Scene, Vars};
 use super::scenes::{Line, play};
 use std::test::Fail;
 
@@ -12,9 +14,31 @@ static SCENES: &[Line<'static>] = &[
     After(Peek(0), Value(100)),
     After(Flush, Number(64)),
     After(Flush, Number(100)),
+    Scene("sixty-four threads share thirty-two passes"),
+    // so all 32 are the pool's
+    Before(ReleasePass, Done),
+    Crowd(Acquire, Done),
+    // meanwhile others come, and half of them wait
+    Crowd(Sleep(50), Done),
+    Crowd(AddWithRoom(2), Number(2)),
+    Crowd(ReleasePass, Done),
+    Crowd(Acquire, Done),
+    Crowd(AddWithRoom(1), Number(1)),
+    Crowd(ReleasePass, Done),
+    Crowd(Acquire, Done),
+    Crowd(Add(1), Number(1)),
+    Crowd(ReleasePass, Done),
+    After(Acquire, Done),
+    After(LooksAtLeast(1), Holds(true)),
+    After(Peek(0), Value(256)),
+    After(Count, Number(256)),
+    After(Flush, Number(64)),
+    After(Flush, Number(128)),
+    After(Flush, Number(192)),
+    After(Flush, Number(256)),
 ];
 
 #[test]
-fn no_addition_of_four_threads_is_lost(rt: HostRuntime) -> Result<(), Fail> {
+fn no_addition_of_several_threads_is_lost(rt: HostRuntime) -> Result<(), Fail> {
     play(&rt, rt.alloc(), SCENES)
 }

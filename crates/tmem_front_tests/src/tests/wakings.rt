@@ -1,17 +1,23 @@
 //! Each thread that waits is woken, and rests until then.
 use super::moves::Answer::{Committed, Done, Holds, Number, Refused, Saw};
 use super::moves::Move::{
-    Acquire, Attempt, Await, Commit, Fill, Flush, Look, LooksAtMost, NeedsAtMost, NewPass,
-    NewPasses, Pass, ReleasePass, RunFlusher, Settle, Shut, Sleep, TryCommit,
+    Acquire, Attempt, Await, Checkpoint, Commit, CommitWithin, Fill, Flush, Look, LooksAtLeast,
+    LooksAtMost, NeedsAtMost, NewPass, NewPasses, PassOn, PassOnWithin, ReleasePass, RunFlusher,
+    Settle, Shut, Sleep, TryCommit,
 };
 use super::moves::{Answer, Refusal, Task};
 use super::scenes::Line::{
-    After, Before, First, FirstThree, FourMore, Last, Scene, Second, Third, Vars,
+    After, Before, FailWrite, First, FirstThree, FourMore, Last, Scene, Second, Third, Vars,
 };
 use super::scenes::{Line, play};
 use std::test::Fail;
 
 const CLOSED: Answer = Refused(Refusal::Closed);
+
+const DEVICE: Answer = Refused(Refusal::Device);
+
+/// More milliseconds than the last thread waits for the others: a thread that is not woken ends after them, and the scene fails.
+const LONG: u64 = 15_000;
 
 /// The registers of what waited for a 1.
 const ONE: [i64; 16] = [1, 1, 1, 0, 0, 0, 0, 0, 0, 0, 0, 0, 0, 0, 0, 0];
@@ -35,6 +41,11 @@ static SCENES: &[Line<'static>] = &[
     FirstThree(RunFlusher(1), Done),
     Last(Sleep(50), Done),
     Last(Shut, Done),
+    Scene("a fault wakes each flusher"),
+    FailWrite(0),
+    FirstThree(RunFlusher(1), Done),
+    Last(Sleep(50), Done),
+    Last(Checkpoint, DEVICE),
     Scene("a commit wakes each thread that retries"),
     Vars(4),
     FirstThree(Commit(Task::NeedOne), Saw(1, ONE)),
@@ -61,11 +72,17 @@ static SCENES: &[Line<'static>] = &[
     Last(Sleep(100), Done),
     Last(TryCommit(Task::Write(9, 1)), Committed(0)),
     Scene("two threads wake each other in turn"),
-    First(Pass(2, 0, 3, 2000), Number(2000)),
-    Second(Pass(3, 1, 2, 2000), Number(2000)),
+    First(PassOn(2, 0, 3, 2000), Number(2000)),
+    First(Await(3999), Done),
+    First(Shut, Done),
+    Second(PassOn(3, 1, 2, 2000), Number(2000)),
     Third(RunFlusher(1_000_000), Done),
-    Last(Await(3999), Done),
-    Last(Shut, Done),
+    Scene("two threads whose waits have a limit wake each other in turn"),
+    First(PassOnWithin(2, 0, 3, 2000), Number(2000)),
+    First(Await(3999), Done),
+    First(Shut, Done),
+    Second(PassOnWithin(3, 1, 2, 2000), Number(2000)),
+    Third(RunFlusher(1_000_000), Done),
     Scene("a settle wakes a flusher"),
     Second(RunFlusher(1), Done),
     Last(Sleep(50), Done),
@@ -108,6 +125,7 @@ static SCENES: &[Line<'static>] = &[
     Last(Sleep(300), Done),
     // once each, and a few times more where a thread is woken for nothing
     Last(LooksAtMost(12), Holds(true)),
+    Last(LooksAtLeast(3), Holds(true)),
     Last(Shut, Done),
     Scene("a commit wakes whom it writes to"),
     // so the threads have the last four passes
@@ -176,6 +194,25 @@ static SCENES: &[Line<'static>] = &[
     Third(Sleep(1), Done),
     Last(Sleep(300), Done),
     Last(TryCommit(Task::Write(2, 1)), Committed(0)),
+    Scene("a shut wakes the last pass"),
+    Before(NewPasses(26), Number(26)),
+    First(Sleep(100), Done),
+    First(NewPass, Done),
+    First(CommitWithin(Task::NeedOne, LONG), CLOSED),
+    Second(Sleep(1), Done),
+    Third(Sleep(1), Done),
+    Last(Sleep(300), Done),
+    Last(Shut, Done),
+    Scene("a fault wakes the last pass"),
+    FailWrite(0),
+    Before(NewPasses(26), Number(26)),
+    First(Sleep(100), Done),
+    First(NewPass, Done),
+    First(CommitWithin(Task::NeedOne, LONG), CLOSED),
+    Second(Sleep(1), Done),
+    Third(Sleep(1), Done),
+    Last(Sleep(300), Done),
+    Last(Checkpoint, DEVICE),
 ];
 
 #[test]

@@ -1,17 +1,12 @@
 //! Transactions that are built over the steps of scripts, on a world.
-ghost use Rattle.std.specs.Prelude.{◌≡◌, length};
-ghost use Rattle.tmem_builtins.specs.Steps.{sum_of, difference_of, at_least};
-
 use super::{commit, opened};
 use std::alloc::{AllocError, Global};
 use std::process::Abort;
 use std::test::Fail;
-use tmem_builtins::{
-    add, add_to, all_of, first_of, first_of_several, need, put, read, steps_of, sub, take,
-};
+use tmem_builtins::{add_to, all_of, first_of, first_of_several, put, read, stored_steps, take};
 use tmem_disk::{Fault, SimDisk};
 use tmem_invariants::{Invariants, Table};
-use tmem_tree::{StepAnswer, StoredSteps, Tx};
+use tmem_tree::{StoredSteps, Tx};
 use tmem_world::{Reply, Settled, World};
 
 /// What is built.
@@ -147,28 +142,7 @@ fn plays_over<T: Invariants + Drop, S: StoredSteps + Drop>(
 #[test]
 fn what_is_built_does_what_it_says(rt: HostRuntime) -> Result<(), Fail> {
     let alloc = rt.alloc();
-    let total = Box::new(
-        alloc,
-        |args: &[i64]| -> StepAnswer
-            requires { length args.now ≡ 2 }
-            ensures { result ≡ sum_of args.now }
-        { add(args) },
-    )?;
-    let difference = Box::new(
-        alloc,
-        |args: &[i64]| -> StepAnswer
-            requires { length args.now ≡ 2 }
-            ensures { result ≡ difference_of args.now }
-        { sub(args) },
-    )?;
-    let floor = Box::new(
-        alloc,
-        |args: &[i64]| -> StepAnswer
-            requires { length args.now ≡ 2 }
-            ensures { result ≡ at_least args.now }
-        { need(args) },
-    )?;
-    let steps = steps_of(alloc, total, difference, floor)?;
+    let steps = stored_steps(alloc)?;
     let table = Table::of(alloc, Vec::new(alloc), 4)?;
     plays_over(&rt, alloc, table, steps)?;
     Ok(())

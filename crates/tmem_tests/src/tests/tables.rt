@@ -1,88 +1,16 @@
-//! Worlds over tables of the tests' own, of as many invariants as there may be: which ones are tested, and which one is named.
-ghost use Rattle.std.specs.Prelude.{◌≡◌, ◌<◌, length};
-ghost use Rattle.tmem_invariants.specs.Answers.{MayCall, HasMeaning};
-ghost use Rattle.tmem_tests.specs.Examples.{is_last_not_negative, is_sum_not_negative};
+//! A table of as many invariants as there may be: which ones are tested where a variable is written, and which one is named.
+ghost use Rattle.std.specs.Prelude.{◌≡◌, length};
+ghost use Rattle.tmem_tests.specs.Examples.{is_sum_not_negative};
 
+use super::names::{add, numbered, register_all};
 use super::{commit, committed, opened, write};
 use std::alloc::Global;
 use std::process::Abort;
 use std::test::Fail;
-use tmem_disk::{Fault, Name, SimDisk};
-use tmem_invariants::{Invariant, Invariants, Table, Test};
-use tmem_tree::{Steps, StoredSteps, Tx};
+use tmem_disk::{Fault, SimDisk};
+use tmem_invariants::{Invariants, Table};
+use tmem_tree::{Steps, StoredSteps};
 use tmem_world::{Reply, Settled, World};
-
-/// A name for each number, ascending.
-fn numbered(n: u8) -> Result<Name, Fault> {
-    let letters = [b'a' + n / 26, b'a' + n % 26];
-    Name::new(std::str::from_utf8(&letters).unwrap_or(""))
-}
-
-/// Puts the invariant of a number behind others.
-pub(super) fn add(
-    entries: &mut Vec<Invariant>,
-    number: u8,
-    footprint: Vec<u16>,
-    test: Test,
-) -> Result<(), Fault>
-    requires callable { MayCall (Test.pre test) (length footprint.items) }
-    requires stated { HasMeaning (Test.post test) (length footprint.items) }
-{
-    entries.push(Invariant::new(numbered(number)?, footprint, test)?)?;
-    Ok(())
-}
-
-/// Checks 8 names, from this number on.
-fn eight_checks(alloc: Global, from: u8) -> Result<Tx, Fault>
-    requires { from < 64 }
-{
-    let mut all = Vec::new(alloc);
-    for n in from..from + 8 {
-        let name = numbered(n)?;
-        all.push(Tx::Check { name })?;
-    }
-    Ok(Tx::Seq(all))
-}
-
-/// Registers 8 names in the transaction of this number.
-fn registers_eight<T: Invariants + Drop, S: StoredSteps + Drop>(
-    alloc: Global,
-    world: &mut World<SimDisk, T, S>,
-    number: u8,
-) -> Result<bool, Fault>
-    requires { number < 8 }
-{
-    let checks = eight_checks(alloc, 8 * number)?;
-    Ok(commit(world, checks) == committed(u64::from(number), 0))
-}
-
-/// Whether there is a session, with 64 names.
-fn has_all<T: Invariants + Drop, S: StoredSteps + Drop>(
-    world: &World<SimDisk, T, S>,
-) -> Result<bool, Fault> {
-    if !world.is_open() {
-        return Ok(false);
-    }
-    for n in 0..64 {
-        if !world.has(&numbered(n)?) {
-            return Ok(false);
-        }
-    }
-    Ok(true)
-}
-
-/// Registers 64 names, 8 in a transaction.
-fn register_all<T: Invariants + Drop, S: StoredSteps + Drop>(
-    rt: &impl Abort,
-    alloc: Global,
-    world: &mut World<SimDisk, T, S>,
-) -> Result<(), Fault> {
-    for number in 0..8u8 {
-        assert!(rt; registers_eight(alloc, world, number)?);
-    }
-    assert!(rt; has_all(world)?);
-    Ok(())
-}
 
 /// Whether a write with this number is refused by the invariant of that number, or else committed.
 fn is_kept<T: Invariants + Drop, S: StoredSteps + Drop>(
@@ -153,32 +81,6 @@ fn keeps_under(
 ) -> Result<(), Fault> {
     let steps = Steps::of(Vec::new(alloc))?;
     registers_and_keeps(rt, alloc, table, steps, writes)
-}
-
-/// Each of 64 invariants over sixteen variables is that the last is not negative.
-fn keeps_last(rt: &impl Abort, alloc: Global) -> Result<(), Fault> {
-    let mut entries = Vec::new(alloc);
-    for n in 0..64 {
-        let last = Box::new(
-            alloc,
-            |values: &[i64]| -> bool
-                requires { length values.now ≡ 16 }
-                ensures { result ≡ is_last_not_negative values.now }
-            { values[15] >= 0 },
-        )?;
-        let footprint = vec![in alloc; 0, 1, 2, 3, 4, 5, 6, 7, 8, 9, 10, 11, 12, 13, 14, 15]?;
-        add(&mut entries, n, footprint, last)?;
-    }
-    let table = Table::of(alloc, entries, 16)?;
-    keeps_under(rt, alloc, table, &[(15, -1, Some(0)), (15, 5, None)])
-}
-
-#[test]
-fn sixty_four_invariants_over_sixteen_variables_are_registered(
-    rt: HostRuntime,
-) -> Result<(), Fail> {
-    keeps_last(&rt, rt.alloc())?;
-    Ok(())
 }
 
 /// A variable, the set of the neighbours' invariants over it, and the first that is false where it is -1 and all others

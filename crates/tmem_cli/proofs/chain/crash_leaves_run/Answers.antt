@@ -22,13 +22,14 @@ returns g c = λ vars slots h entries text old new left run by synced keeps.
     ⊎_elim
     (λ before. ∣ inl (store h before) ∣₁)
     (λ among. ∥∥₁_map among (λ it. inr (
-      record { found = run.found; events = events_of it.first; replies = it.answers },
+      record { set = set; found = run.found; position = run.position; failures = run.failures; events = events_of it.first; replies = it.answers },
       it.first,
       it.point,
       it.reached,
       (it.rest, it.entries),
       refl,
-      (λ earlier chain. (h, chain, (run.prefix, (run.position, run.failures, runs_of set at (history_found run.found h) it.first it.answers it.early it.point it.reached it.before)))),
+      refl,
+      (λ earlier chain. (h, chain, (refl, refl), (run.prefix, runs_of set at (history_found run.found h) it.first it.answers it.early it.point it.reached it.before))),
       store it.reached it.safe,
     )))
     (run.any_moment.each (by.model keeps) (view left).seen (by.left keeps (view left).seen ((g.met.D.Disk.is_device left).seen_may_stay keeps)))

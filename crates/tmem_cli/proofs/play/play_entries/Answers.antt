@@ -1,8 +1,8 @@
-use Rattle.std.proofs.Common.{rules, refl, ◌≡◌, ◌++◌, ◌∷◌, [], List, ◌∙◌, ap, sym, subst, append_assoc, arith}
+use Rattle.std.proofs.Common.{rules, ◌≡◌, ◌++◌, ◌∷◌, [], List, ◌∙◌, ap, sym, subst, append_assoc, arith}
 use Rattle.std.proofs.lemmas.Grind.{common_steps}
 use Rattle.std.specs.Io.KnownBytes.{Appends}
 use Rattle.tmem_world.specs.Represents.{device_of, numbers_of, view_of}
-use Rattle.tmem_world.proofs.Laws.{WritesInStore-refl}
+use Rattle.tmem_world.proofs.Laws.{KeepsSetting-refl, KeepsSetting-trans, WritesInStore-refl}
 use Rattle.tmem_cli.specs.Chains.{PlaysEntriesOn, PlaysFirstOn}
 use Rattle.tmem_cli.proofs.Outcomes.{err_of}
 use Rattle.tmem_cli.specs.Printed.{PlaysEntries}
@@ -19,14 +19,11 @@ loop-entry-preserved g c =
     let parts : (c.loop-entry.yielded ++ c.in-Some.entry ∷ []) ++ c.next.new.self.rest.items ≡ c.args.entries.items =
     append_assoc c.loop-entry.yielded (c.in-Some.entry ∷ []) c.next.new.self.rest.items ∙ ap (λ (es : List Entry). c.loop-entry.yielded ++ es) (sym taken) ∙ so.parts in
     record {
-      numbers = c.play_entry.ensures.numbers ∙ so.numbers;
-      steps = c.play_entry.ensures.steps ∙ so.steps;
-      table = c.play_entry.ensures.table ∙ so.table;
-      model = λ premise. so.model (c.play_entry.ensures.model premise);
+      kept = KeepsSetting-trans c.args.world.now c.loop-entry.world c.play_entry.new.world so.kept c.play_entry.ensures.kept;
       parts = parts;
-      played = PlaysEntries-more c.args.world.now c.loop-entry.world c.play_entry.new.world _ _ _ c.loop-entry.yielded c.in-Some.entry so.numbers so.steps so.table c.play_entry.ensures.model so.played c.in_ok-play_entry.ensures.played;
-      elsewhere = then_within c.args.world.now c.loop-entry.world c.play_entry.new.world so.numbers c.play_entry.ensures.model so.elsewhere c.play_entry.ensures.elsewhere;
-      chain = plays-then c.args.world.now c.loop-entry.world c.play_entry.new.world so.numbers so.steps so.table c.play_entry.ensures.model so.elsewhere.time.later _ c.play_entry.ensures.elsewhere.time c.loop-entry.yielded (c.in-Some.entry ∷ []) _ _ _
+      played = PlaysEntries-more c.args.world.now c.loop-entry.world c.play_entry.new.world _ _ _ c.loop-entry.yielded c.in-Some.entry so.kept c.play_entry.ensures.kept so.played c.in_ok-play_entry.ensures.played;
+      elsewhere = then_within c.args.world.now c.loop-entry.world c.play_entry.new.world so.kept c.play_entry.ensures.kept so.elsewhere c.play_entry.ensures.elsewhere;
+      chain = plays-then c.args.world.now c.loop-entry.world c.play_entry.new.world so.kept c.play_entry.ensures.kept so.elsewhere c.play_entry.ensures.elsewhere c.loop-entry.yielded (c.in-Some.entry ∷ []) _ _ _
           (λ one two first second. Appends-then _ _ _ one two first second) so.chain c.in_ok-play_entry.ensures.chain;
     }
 
@@ -41,10 +38,7 @@ loop-entry-init g c =
     let w = c.args.world.now in
     let device = g.met.D.Disk.is_device (device_of w) in
     record {
-      numbers = refl;
-      steps = refl;
-      table = refl;
-      model = λ premise. premise;
+      kept = KeepsSetting-refl w;
       parts = search rules;
       elsewhere = WritesInStore-refl (numbers_of w) (view_of w) device;
       chain = λ program means h m has keeps. ([], go_on-nil program w device h m has, Appends-nil _);
@@ -60,7 +54,7 @@ returns-in_err-play_entry-clause-stopped g c =
     err_of (PlaysFirstOn c.args.world.now c.args.entries.items c.play_entry.new.world) c.from_residual.result (
       c.loop-entry.yielded ++ c.in-Some.entry ∷ [],
       (c.next.new.self.rest.items, sym parts),
-      plays-then c.args.world.now c.loop-entry.world c.play_entry.new.world so.numbers so.steps so.table c.play_entry.ensures.model so.elsewhere.time.later _ c.play_entry.ensures.elsewhere.time c.loop-entry.yielded (c.in-Some.entry ∷ []) _ _ _
+      plays-then c.args.world.now c.loop-entry.world c.play_entry.new.world so.kept c.play_entry.ensures.kept so.elsewhere c.play_entry.ensures.elsewhere c.loop-entry.yielded (c.in-Some.entry ∷ []) _ _ _
           (λ one two first second. tt) so.chain c.play_entry.ensures.chain,
     )
 
@@ -73,4 +67,4 @@ returns-clause-chain g c =
 pub returns-in_err-play_entry-clause-elsewhere : goal.returns-in_err-play_entry-clause-elsewhere
 returns-in_err-play_entry-clause-elsewhere g c =
     let so = c.loop-entry.invariant in
-    then_within c.args.world.now c.loop-entry.world c.play_entry.new.world so.numbers c.play_entry.ensures.model so.elsewhere c.play_entry.ensures.elsewhere
+    then_within c.args.world.now c.loop-entry.world c.play_entry.new.world so.kept c.play_entry.ensures.kept so.elsewhere c.play_entry.ensures.elsewhere

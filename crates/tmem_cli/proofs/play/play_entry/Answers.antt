@@ -9,7 +9,8 @@ use Rattle.tmem_world.specs.WorldModel.{present}
 use Rattle.tmem_world.specs.Represents.{setting_of, device_of}
 use Rattle.tmem_cli.specs.Chains.{PlaysEntriesOn}
 use Rattle.tmem_cli.specs.Printed.{line, shown, PlaysEntries}
-use Rattle.tmem_cli.proofs.Playing.{Prints-one, rests}
+use Rattle.tmem_world.proofs.Laws.{rests_on}
+use Rattle.tmem_cli.proofs.Playing.{Prints-one}
 use Rattle.tmem_cli.proofs.Stores.{go_on-event, go_on-show}
 use Rattle.tmem_cli.proofs.play.play_entry.Goals as goal
 
@@ -18,7 +19,7 @@ returns-in-Event-clause-played g c =
     subst (λ (e : Entry). OnOk c.print_line.result (PlaysEntries c.args.world.now (g.W.Write.contents c.args.out.now) (e ∷ []) c.step.new.self (g.W.Write.contents c.print_line.new.out))) (sym c.in-Event.is)
     (on_ok_weaker c.print_line.result
     (λ wrote program means m at premise.
-    let next = c.step.ensures.step program means m at (rests _ c.in-Event.playable.event premise) in
+    let next = c.step.ensures.step program means m at (rests_on _ c.in-Event.playable.event premise) in
     (next.0, line (line_of c.step.result), Prints-one (setting_of c.args.world.now program) (Event c.in-Event.playable) (line (line_of c.step.result)) m next.0 (c.step.result, next.1, refl), next.2, wrote))
     c.print_line.ensures.line)
 

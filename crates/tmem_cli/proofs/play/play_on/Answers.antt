@@ -1,4 +1,4 @@
-use Rattle.std.proofs.Common.{◌⊎◌, ℕ, [], ◌++◌, refl, sym, ap, subst, inl, inr, ◌∙◌}
+use Rattle.std.proofs.Common.{◌≡◌, ◌⊎◌, ℕ, [], ◌++◌, refl, sym, ap, subst, inl, inr, ◌∙◌}
 use Rattle.std.specs.Prelude.{OnOk, IfErr}
 use Rattle.std.specs.Io.KnownBytes.{Appends}
 use Rattle.tmem_record.specs.declared.layout.Layout.{Layout}
@@ -7,12 +7,13 @@ use Rattle.tmem_script.specs.Lines.{line_of}
 use Rattle.tmem_script.specs.declared.failure.Failure.{Failure}
 use Rattle.tmem_world.specs.WorldModel.{opening}
 use Rattle.tmem_world.specs.Represents.{Represents, device_of, view_of}
-use Rattle.tmem_world.specs.Chain.{history_found, state_at}
-use Rattle.tmem_world.proofs.Laws.{WritesInStore-refl, count_at}
+use Rattle.tmem_core.specs.Program.{IsProgramOf}
+use Rattle.tmem_world.specs.Chain.{state_at}
+use Rattle.tmem_world.proofs.Laws.{KeepsSetting-refl, WritesInStore-refl, count_at}
 use Rattle.tmem_cli.specs.Builtin.{builtin_program}
 use Rattle.tmem_cli.specs.Printed.{line}
 use Rattle.tmem_cli.specs.Stored.{PlaysOver, StopsOver, RefusesOver}
-use Rattle.tmem_cli.proofs.Opening.{OpeningRefused-weaker}
+use Rattle.tmem_opening.proofs.Laws.{refused_for_fewer}
 use Rattle.tmem_cli.proofs.Outcomes.{ok_both, err_both}
 use Rattle.tmem_cli.proofs.Playing.{PlaysOn-of, means_builtin, setting_builtin}
 use Rattle.tmem_cli.proofs.Stores.{go_on-nil, plays_store}
@@ -26,27 +27,27 @@ returns-clause-played g c =
     let vars = c.args.layout.vars in
     let slots = c.args.layout.slots in
     let program = builtin_program vars in
-    let old = g.D.Disk.view c.args.disk in
     let so = c.in-Ok.ensures in
+    let did = c.play_entries-outcome.ensures in
     let fits = so.fits in
-    let over = ap (λ (l : Layout). l.vars) c.play_entries-outcome.ensures.numbers ∙ fits.0 in
-    let log = ap (λ (l : Layout). l.slots) c.play_entries-outcome.ensures.numbers ∙ fits.1 in
-    let means = means_builtin w vars c.args.table c.args.steps so.table so.steps c.requires.names c.requires.tests c.requires.steps in
+    let over = ap (λ (l : Layout). l.vars) did.kept.numbers ∙ fits.0 in
+    let log = ap (λ (l : Layout). l.slots) did.kept.numbers ∙ fits.1 in
+    let means = means_builtin w vars slots c.args.table c.args.steps fits.0 fits.1 so.table so.steps c.requires.meant in
+    let set = setting_builtin w vars slots c.args.table c.args.steps fits.0 fits.1 so.table so.steps c.requires.arities in
     let found = so.found in
     let at = subst (λ (n : ℕ). Represents program w (opening found.0 found.1 n)) c.requires.failures (found.2 program means) in
-    let set = setting_builtin w vars slots c.args.steps fits.0 fits.1 so.steps c.requires.arities in
     subst (λ (x : g.row.D.Denot). OnOk c.play_entries-outcome.result (PlaysOver g.D.Disk.view vars slots c.args.entries.items c.args.disk x (g.W.Write.contents c.args.out.now) (g.W.Write.contents c.play_entries-outcome.new.out))) (sym c.into_disk-2.ensures)
-    (ok_both c.play_entries-outcome.result c.play_entries-outcome.ensures.played c.play_entries-outcome.ensures.chain
+    (ok_both c.play_entries-outcome.result did.played did.chain
     (λ played chain premise. (
-      so.model (c.play_entries-outcome.ensures.model premise),
-      PlaysOn-of old w new vars slots c.count.result found.1 found.0 _ _ _ c.args.entries.items over log (found.3 (c.play_entries-outcome.ensures.model premise)) means set at (c.count.ensures program (opening found.0 found.1 0) at) c.in-Ok-print_line.ensures.line played premise
+      so.uses.model (did.kept.model premise),
+      PlaysOn-of (g.D.Disk.view c.args.disk) w new vars slots over log means set c.count.result found.1 found.0 _ _ _ c.args.entries.items (found.3 (did.kept.model premise)) at (c.count.ensures program (opening found.0 found.1 0) at) c.in-Ok-print_line.ensures.line played premise
           (λ h store.
-          let opened = so.chain program h c.requires.steps (sym c.requires.names) c.requires.tests store (c.play_entries-outcome.ensures.model premise) in
+          let opened = so.chain program h c.requires.meant store (did.kept.model premise) in
           let n = opened.found.0 in
-          let it = chain program means (history_found n h) (opening (state_at program vars h n) opened.found.1 old.failures) opened.found.3 premise in
-          let counted = c.count.ensures program (opening (state_at program vars h n) opened.found.1 old.failures) opened.found.3.point ∙ count_at program vars h n opened.found.2 in (
+          let it = plays_store w new vars slots (g.D.Disk.view c.args.disk) over log means set did.kept so.mends did.elsewhere h opened c.args.entries.items _ chain premise in
+          let counted = c.count.ensures program (opening (state_at program vars h n) opened.found.1 (g.D.Disk.view c.args.disk).failures) opened.found.3.point ∙ count_at program vars h n opened.found.2 in (
             line (line_of (reply.Opened n)) ++ it.0,
-            plays_store w new vars slots old over log set c.play_entries-outcome.ensures.model so.elsewhere.time.later _ c.play_entries-outcome.ensures.elsewhere.time h opened c.args.entries.items it.0 it.1,
+            it.1,
             Appends-then _ _ _ (line (line_of (reply.Opened n))) it.0 (subst (λ (k : ℕ). Appends (g.W.Write.contents c.args.out.now) (g.W.Write.contents c.print_line.new.out) (line (line_of (reply.Opened k)))) counted c.in-Ok-print_line.ensures.line) it.2,
           )),
     )))
@@ -54,30 +55,21 @@ returns-clause-played g c =
 pub returns-clause-failed : goal.returns-clause-failed
 returns-clause-failed g c =
     let w = c.in-Ok.world in
-    let new = c.play_entries-outcome.new.world in
     let vars = c.args.layout.vars in
     let slots = c.args.layout.slots in
-    let program = builtin_program vars in
-    let old = g.D.Disk.view c.args.disk in
     let so = c.in-Ok.ensures in
+    let did = c.play_entries-outcome.ensures in
     let fits = so.fits in
-    let over = ap (λ (l : Layout). l.vars) c.play_entries-outcome.ensures.numbers ∙ fits.0 in
-    let log = ap (λ (l : Layout). l.slots) c.play_entries-outcome.ensures.numbers ∙ fits.1 in
-    let means = means_builtin w vars c.args.table c.args.steps so.table so.steps c.requires.names c.requires.tests c.requires.steps in
-    let set = setting_builtin w vars slots c.args.steps fits.0 fits.1 so.steps c.requires.arities in
+    let means = means_builtin w vars slots c.args.table c.args.steps fits.0 fits.1 so.table so.steps c.requires.meant in
+    let set = setting_builtin w vars slots c.args.table c.args.steps fits.0 fits.1 so.table so.steps c.requires.arities in
     subst (λ (x : g.row.D.Denot). IfErr c.play_entries-outcome.result (λ (f : Failure). StopsOver g.D.Disk.view vars slots c.args.entries.items c.args.disk x f ⊎ RefusesOver g.D.Disk.view vars slots c.args.disk x f)) (sym c.into_disk-2.ensures)
-    (err_both c.play_entries-outcome.result c.play_entries-outcome.ensures.failed c.play_entries-outcome.ensures.stopped
+    (err_both c.play_entries-outcome.result did.failed did.stopped
     (λ failure output stopped. inl (
       output,
       λ h store premise.
-          let opened = so.chain program h c.requires.steps (sym c.requires.names) c.requires.tests store (c.play_entries-outcome.ensures.model premise) in
-          let n = opened.found.0 in
-          let it = stopped.2 program means (history_found n h) (opening (state_at program vars h n) opened.found.1 old.failures) opened.found.3 premise in (
-            stopped.0,
-            line (line_of (reply.Opened n)) ++ it.0,
-            stopped.1,
-            plays_store w new vars slots old over log set c.play_entries-outcome.ensures.model so.elsewhere.time.later _ c.play_entries-outcome.ensures.elsewhere.time h opened stopped.0 it.0 it.1,
-          ),
+          let opened = so.chain (builtin_program vars) h c.requires.meant store (did.kept.model premise) in
+          let it = plays_store w c.play_entries-outcome.new.world vars slots (g.D.Disk.view c.args.disk) (ap (λ (l : Layout). l.vars) did.kept.numbers ∙ fits.0) (ap (λ (l : Layout). l.slots) did.kept.numbers ∙ fits.1) means set did.kept so.mends did.elsewhere h opened stopped.0 _ stopped.2 premise in
+          (stopped.0, line (line_of (reply.Opened opened.found.0)) ++ it.0, stopped.1, it.1),
     )))
 
 pub returns-in-Err-print_line-clause-failed : goal.returns-in-Err-print_line-clause-failed
@@ -85,38 +77,29 @@ returns-in-Err-print_line-clause-failed g c =
     let w = c.in-Ok.world in
     let vars = c.args.layout.vars in
     let slots = c.args.layout.slots in
-    let program = builtin_program vars in
-    let old = g.D.Disk.view c.args.disk in
     let so = c.in-Ok.ensures in
     let fits = so.fits in
     let device = g.met.D.Disk.is_device (device_of w) in
-    let set = setting_builtin w vars slots c.args.steps fits.0 fits.1 so.steps c.requires.arities in
+    let means = means_builtin w vars slots c.args.table c.args.steps fits.0 fits.1 so.table so.steps c.requires.meant in
+    let set = setting_builtin w vars slots c.args.table c.args.steps fits.0 fits.1 so.table so.steps c.requires.arities in
     subst (λ (x : g.row.D.Denot). StopsOver g.D.Disk.view vars slots c.args.entries.items c.args.disk x c.in-Err-print_line.failure ⊎ RefusesOver g.D.Disk.view vars slots c.args.disk x c.in-Err-print_line.failure) (sym c.into_disk.ensures)
     (inl (
       c.in-Err-print_line.ensures.failed,
       λ h store premise.
-          let opened = so.chain program h c.requires.steps (sym c.requires.names) c.requires.tests store premise in
-          let n = opened.found.0 in (
-            [],
-            line (line_of (reply.Opened n)) ++ [],
-            (c.args.entries.items, refl),
-            plays_store w w vars slots old fits.0 fits.1 set (λ k. k) so.elsewhere.time.later _ (WritesInStore-refl w.layout (view_of w) device).time h opened [] []
-                (go_on-nil program w device (history_found n h) (opening (state_at program vars h n) opened.found.1 old.failures) opened.found.3),
-          ),
+          let opened = so.chain (builtin_program vars) h c.requires.meant store premise in
+          let it = plays_store w w vars slots (g.D.Disk.view c.args.disk) fits.0 fits.1 means set (KeepsSetting-refl w) so.mends (WritesInStore-refl w.layout (view_of w) device) h opened [] (λ text. Unit {0}) (λ program known f m has keeps. ([], go_on-nil program w device f m has, tt)) premise in
+          ([], line (line_of (reply.Opened opened.found.0)) ++ it.0, (c.args.entries.items, refl), it.1),
     ))
 
 pub returns-in-Err-clause-failed : goal.returns-in-Err-clause-failed
 returns-in-Err-clause-failed g c =
-    let old = g.D.Disk.view c.args.disk in
-    let new = g.D.Disk.view c.in-Err.disk in
-    let program = builtin_program c.args.layout.vars in
+    let vars = c.args.layout.vars in
     inr (
       c.in-Err.fault,
       refl,
-      OpeningRefused-weaker old new c.args.layout.vars c.args.layout.slots _ _ c.in-Err.fault
-          (λ it. (it.0, it.1, it.2, it.3 program (sym c.requires.names) c.requires.tests))
-          c.in-Err.ensures.refused,
+      refused_for_fewer (IsProgramOf g.T.Invariants c.args.table) (λ p. p ≡ builtin_program vars) vars c.args.layout.slots (g.D.Disk.view c.args.disk) c.in-Err.fault (g.D.Disk.view c.in-Err.disk)
+          (λ p is. subst (IsProgramOf g.T.Invariants c.args.table) (sym is) c.requires.meant.invariants) c.in-Err.ensures.refused,
       λ h store premise.
-          let opened = c.in-Err.ensures.chain program h c.requires.steps (sym c.requires.names) c.requires.tests store premise in
+          let opened = c.in-Err.ensures.chain (builtin_program vars) h c.requires.meant store premise in
           record { store = opened.found.1; any_moment = opened.any_moment },
     )

@@ -1,10 +1,12 @@
-use Rattle.std.specs.Prelude.{length}
-use Rattle.tmem_disk.proofs.Laws.{Elapses-write_then}
+use Rattle.std.proofs.Common.{length}
+use Rattle.tmem_gate.proofs.Laws.{by_write, by_look, looks, WritesWithin-trans}
 use Rattle.tmem_gate.proofs.gate.write_and_sync.Goals as goal
 
-pub returns-clause-time : goal.returns-clause-time
-returns-clause-time g c =
-    let view = g.D.Disk.view in
+pub returns-clause-elsewhere : goal.returns-clause-elsewhere
+returns-clause-elsewhere g c =
+    let n = length c.args.bytes.now in
     let write = c.write_at.ensures in
     let sync = c.sync.ensures in
-    Elapses-write_then (view c.args.disk.now) (view c.write_at.new.self) (view c.sync.new.self) c.args.at (length c.args.bytes.now) sync.call.model write.time write.stop sync.time sync.stop
+    let device = g.met.D.Disk.is_device in
+    WritesWithin-trans c.args.at n _ _ _ sync.call.model (by_write c.args.at n _ _ (device c.args.disk.now) write.call.model write.elsewhere write.stop write.time)
+    (by_look c.args.at n _ _ (device c.write_at.new.self) sync.call.model (looks _ _ sync.seen sync.stop sync.time))

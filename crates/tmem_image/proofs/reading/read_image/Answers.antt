@@ -19,21 +19,19 @@ returns-then-generation-eq0-clause-none c = λ generation s number fits same.
     let one = one_number_at 8 0 c.number_at-generation.result generation c.args.bytes.now (omega (arith, zero)) (omega (arith, number.fits)) c.number_at-generation.ensures there in
     absurd (omega (arith, zero, one, number.some))
 
-pub returns-in_default-clause-none : goal.returns-in_default-clause-none
-returns-in_default-clause-none c = λ generation s number fits same.
-    let none = rw c.in_default.is at c.in_ok-names.ensures.none in
-    none s.names fits.names (names_part s.names c.args.bytes.now _ fits.names refl (split_image c.args.vars generation s fits.names fits.values c.args.bytes.now same).names)
+pub returns-then-not-read_names-clause-none : goal.returns-then-not-read_names-clause-none
+returns-then-not-read_names-clause-none c = λ generation s number fits same.
+    c.if-not-read_names.ensures.none s.names fits.names (names_part s.names c.args.bytes.now _ fits.names refl (split_image c.args.vars generation s fits.names fits.values c.args.bytes.now same).names)
 
 pub returns-clause-found : goal.returns-clause-found
 returns-clause-found c =
-    let registered = rw c.in-Some.is at c.in_ok-names.ensures.are_registered in
-    let found = rw c.in-Some.is at c.in_ok-names.ensures.found in
-    let long = ap length c.of-state.ensures.values ∙ c.in_ok-values.ensures.length in
-    let names = names_stand c.in-Some.names c.args.bytes.now _ registered refl found in
-    join_image c.args.vars c.number_at-generation.result c.of-state.result (subst AreRegistered (sym c.of-state.ensures.names) registered) long c.args.bytes.now c.requires (record {
+    let registered = c.if-not-read_names.ensures.are_registered in
+    let long = ap length c.of-state.ensures.values ∙ c.read_values.ensures.length in
+    let names = names_stand c.read_names.new.names c.args.bytes.now _ registered refl c.if-not-read_names.ensures.found in
+    join_image c.args.vars c.number_at-generation.result c.of-state.result (subst AreRegistered (sym c.of-state.ensures.names) registered) long c.args.bytes.now c.requires.long (record {
       first = c.number_at-generation.ensures;
       count = subst (λ (n : ℕ). StandsAt 8 (number_bytes 8 n) c.args.bytes.now) (sym c.of-state.ensures.count) c.number_at-count.ensures;
       names = subst (λ (ns : List (List ℕ)). StandsAt 16 (names_body ns) c.args.bytes.now) (sym c.of-state.ensures.names) names;
-      values = subst (λ (zs : List ℤ). StandsAt 2047 (values_bytes zs) c.args.bytes.now) (sym c.of-state.ensures.values) c.in_ok-values.ensures.values;
+      values = subst (λ (zs : List ℤ). StandsAt 2047 (values_bytes zs) c.args.bytes.now) (sym c.of-state.ensures.values) c.read_values.ensures.values;
       padded = c.is_padded.ensures.0 c.if-not-is_padded.false;
     })

@@ -1,50 +1,30 @@
-use Rattle.tmem_gate.proofs.Laws.{by_moment, by_look, WritesWithin-trans}
-use Rattle.tmem_image.proofs.Spared.{looked_at, while_synced}
+use Rattle.std.proofs.Common.{ℕ, List, sym, ◌∙◌, ap}
+use Rattle.std.specs.Prelude.{slice_get}
+use Rattle.tmem_gate.proofs.Laws.{closed_along}
+use Rattle.tmem_image.proofs.Spared.{while_shut, Spares-look}
 use Rattle.tmem_image.proofs.spare.shut.Goals as goal
 
-pub returns-in-Err-close_gate-clause-elsewhere : goal.returns-in-Err-close_gate-clause-elsewhere
-returns-in-Err-close_gate-clause-elsewhere g c =
-    let old = g.D.Disk.view c.args.disk.now in
-    let mid = g.D.Disk.view c.is_open.new.disk in
-    let new = g.D.Disk.view c.close_gate.new.disk in
-    WritesWithin-trans c.args.at 1 old mid new c.close_gate.ensures.call.model
-    (by_look c.args.at 1 old mid (g.met.D.Disk.is_device c.args.disk.now) c.is_open.ensures.call.model (looked_at old mid c.is_open.ensures.seen c.is_open.ensures.stop c.is_open.ensures.time) c.is_open.ensures.time)
-    (by_moment c.args.at 1 mid new (g.met.D.Disk.is_device c.close_gate.new.disk) c.close_gate.ensures.seen_elsewhere c.close_gate.ensures.elsewhere c.close_gate.ensures.time)
+pub returns-in-Ok-false-clause-spares : goal.returns-in-Ok-false-clause-spares
+returns-in-Ok-false-clause-spares g c =
+    let it = c.close_if_open.ensures in
+    while_shut _ _ c.args.at (g.met.D.Disk.is_device c.args.disk.now) c.requires.settled it.call.model it.within it.idle
 
-pub returns-in-Err-sync-clause-elsewhere : goal.returns-in-Err-sync-clause-elsewhere
-returns-in-Err-sync-clause-elsewhere g c =
-    let old = g.D.Disk.view c.args.disk.now in
-    let mid = g.D.Disk.view c.is_open.new.disk in
-    let new = g.D.Disk.view c.close_gate.new.disk in
-    let then = g.D.Disk.view c.sync.new.disk in
-    WritesWithin-trans c.args.at 1 old new then c.sync.ensures.uses.model
-    (WritesWithin-trans c.args.at 1 old mid new c.close_gate.ensures.call.model
-    (by_look c.args.at 1 old mid (g.met.D.Disk.is_device c.args.disk.now) c.is_open.ensures.call.model (looked_at old mid c.is_open.ensures.seen c.is_open.ensures.stop c.is_open.ensures.time) c.is_open.ensures.time)
-    (by_moment c.args.at 1 mid new (g.met.D.Disk.is_device c.close_gate.new.disk) c.close_gate.ensures.seen_elsewhere c.close_gate.ensures.elsewhere c.close_gate.ensures.time))
-    (by_look c.args.at 1 new then (g.met.D.Disk.is_device c.close_gate.new.disk) c.sync.ensures.uses.model c.sync.ensures.looks c.sync.ensures.time)
+pub returns-in-Ok-false-clause-closed : goal.returns-in-Ok-false-clause-closed
+returns-in-Ok-false-clause-closed g c =
+    let looks = c.in-Ok-false.ensures.looks (search) in
+    record { each = λ k d left. let before = c.close_if_open.ensures.call.model k in closed_along (c.requires.settled.each before d (looks.stop.each k d left) ∙ sym (ap (λ (l : List ℕ). slice_get l c.args.at) (looks.seen k))) (c.in-Ok-false.ensures.closed k) }
 
-pub returns-in-Ok-sync-clause-elsewhere : goal.returns-in-Ok-sync-clause-elsewhere
-returns-in-Ok-sync-clause-elsewhere g c =
-    let old = g.D.Disk.view c.args.disk.now in
-    let mid = g.D.Disk.view c.is_open.new.disk in
-    let new = g.D.Disk.view c.close_gate.new.disk in
-    let then = g.D.Disk.view c.sync.new.disk in
-    WritesWithin-trans c.args.at 1 old new then c.sync.ensures.uses.model
-    (WritesWithin-trans c.args.at 1 old mid new c.close_gate.ensures.call.model
-    (by_look c.args.at 1 old mid (g.met.D.Disk.is_device c.args.disk.now) c.is_open.ensures.call.model (looked_at old mid c.is_open.ensures.seen c.is_open.ensures.stop c.is_open.ensures.time) c.is_open.ensures.time)
-    (by_moment c.args.at 1 mid new (g.met.D.Disk.is_device c.close_gate.new.disk) c.close_gate.ensures.seen_elsewhere c.close_gate.ensures.elsewhere c.close_gate.ensures.time))
-    (by_look c.args.at 1 new then (g.met.D.Disk.is_device c.close_gate.new.disk) c.sync.ensures.uses.model c.sync.ensures.looks c.sync.ensures.time)
+pub returns-in-Err-clause-spares : goal.returns-in-Err-clause-spares
+returns-in-Err-clause-spares g c =
+    let it = c.close_if_open.ensures in
+    while_shut _ _ c.args.at (g.met.D.Disk.is_device c.args.disk.now) c.requires.settled it.call.model it.within it.idle
 
-pub returns-in-Ok-sync-clause-any_moment : goal.returns-in-Ok-sync-clause-any_moment
-returns-in-Ok-sync-clause-any_moment g c =
-    while_synced (g.D.Disk.view c.args.disk.now) (g.D.Disk.view c.is_open.new.disk) c.args.at (g.met.D.Disk.is_device c.args.disk.now) c.requires.synced c.is_open.ensures.call.model c.is_open.ensures.stop
-    (λ k. (c.in-Ok-true.ensures.open k).0 c.in-Ok-true.field-0-test) c.is_open.ensures.time
-    (g.D.Disk.view c.close_gate.new.disk) c.close_gate.ensures.call.model c.close_gate.ensures.time
-    (g.D.Disk.view c.sync.new.disk) c.sync.ensures.uses.model (g.met.D.Disk.is_device c.close_gate.new.disk) c.close_gate.ensures.elsewhere c.sync.ensures.looks
+pub returns-in-Ok-clause-spares : goal.returns-in-Ok-clause-spares
+returns-in-Ok-clause-spares g c =
+    let it = c.close_if_open.ensures in
+    Spares-look c.args.at 1 _ _ (g.met.D.Disk.is_device c.close_if_open.new.disk) (while_shut _ _ c.args.at (g.met.D.Disk.is_device c.args.disk.now) c.requires.settled it.call.model it.within it.idle) _ c.sync.ensures.uses.model c.sync.ensures.looks
 
-pub returns-in-Err-sync-clause-any_moment : goal.returns-in-Err-sync-clause-any_moment
-returns-in-Err-sync-clause-any_moment g c =
-    while_synced (g.D.Disk.view c.args.disk.now) (g.D.Disk.view c.is_open.new.disk) c.args.at (g.met.D.Disk.is_device c.args.disk.now) c.requires.synced c.is_open.ensures.call.model c.is_open.ensures.stop
-    (λ k. (c.in-Ok-true.ensures.open k).0 c.in-Ok-true.field-0-test) c.is_open.ensures.time
-    (g.D.Disk.view c.close_gate.new.disk) c.close_gate.ensures.call.model c.close_gate.ensures.time
-    (g.D.Disk.view c.sync.new.disk) c.sync.ensures.uses.model (g.met.D.Disk.is_device c.close_gate.new.disk) c.close_gate.ensures.elsewhere c.sync.ensures.looks
+pub returns-in-Err-sync-clause-spares : goal.returns-in-Err-sync-clause-spares
+returns-in-Err-sync-clause-spares g c =
+    let it = c.close_if_open.ensures in
+    Spares-look c.args.at 1 _ _ (g.met.D.Disk.is_device c.close_if_open.new.disk) (while_shut _ _ c.args.at (g.met.D.Disk.is_device c.args.disk.now) c.requires.settled it.call.model it.within it.idle) _ c.sync.ensures.uses.model c.sync.ensures.looks

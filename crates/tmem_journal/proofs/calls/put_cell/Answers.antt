@@ -1,27 +1,24 @@
-use Rattle.std.proofs.Common.{◌+◌, length, arith}
-use Rattle.tmem_journal.proofs.Overwriting.{byte_in_front}
-use Rattle.tmem_gate.proofs.Laws.{by_moment, of_cell, WritesWithin-wider}
+use Rattle.std.proofs.Common.{◌≡◌, ◌⊎◌, inl, inr, subst}
+use Rattle.std.specs.Prelude.{Err}
+use Rattle.tmem_disk.specs.Disk.{DeviceView}
+use Rattle.tmem_disk.specs.declared.fault.Fault.{Fault}
+use Rattle.tmem_disk.specs.declared.fault.Fault.TheVariants.{Device, Unknown}
+use Rattle.tmem_gate.specs.Calls.{Uses}
+use Rattle.tmem_journal.proofs.Building.{there_or_not}
 use Rattle.tmem_journal.proofs.calls.put_cell.Goals as goal
 
-pub returns-in-Err-clause-elsewhere : goal.returns-in-Err-clause-elsewhere
-returns-in-Err-clause-elsewhere g c =
-    let put = c.put_body.ensures in
-    WritesWithin-wider (c.args.at + 1) (length c.args.bytes.now) c.args.at (1 + length c.args.bytes.now) (omega arith) (omega arith) _ _ (by_moment _ _ _ _ (g.met.D.Disk.is_device c.put_body.new.disk) put.seen_elsewhere put.elsewhere put.time)
+-- each of the two counts as a failed call
+told_as_device : (old new : DeviceView) (f : Fault) → (f ≡ Device) ⊎ (f ≡ Unknown) → Uses {T = Unit {0}} old new (Err f) → Uses {T = Unit {0}} old new (Err Device)
+told_as_device old new f (inl is) uses = subst (λ (e : Fault). Uses {T = Unit {0}} old new (Err e)) is uses
+told_as_device old new f (inr is) uses =
+    let it : Uses {T = Unit {0}} old new (Err Unknown) = subst (λ (e : Fault). Uses {T = Unit {0}} old new (Err e)) is uses in
+    record { capacity = it.capacity; model = it.model; failures = it.failures }
 
-pub returns-in-Err-open_gate-clause-elsewhere : goal.returns-in-Err-open_gate-clause-elsewhere
-returns-in-Err-open_gate-clause-elsewhere g c =
-    let put = c.put_body.ensures in
-    let opened = c.open_gate.ensures in
-    of_cell c.args.at (length c.args.bytes.now) _ _ _ opened.call.model (by_moment _ _ _ _ (g.met.D.Disk.is_device c.put_body.new.disk) put.seen_elsewhere put.elsewhere put.time) (by_moment _ _ _ _ (g.met.D.Disk.is_device c.open_gate.new.disk) opened.seen_elsewhere opened.elsewhere opened.time)
+pub returns-in-Err-clause-uses : goal.returns-in-Err-clause-uses
+returns-in-Err-clause-uses g c = told_as_device _ _ _ c.in-Err.ensures.errors c.in-Err.ensures.uses
 
-pub returns-in-Ok-open_gate-clause-elsewhere : goal.returns-in-Ok-open_gate-clause-elsewhere
-returns-in-Ok-open_gate-clause-elsewhere g c =
-    let put = c.put_body.ensures in
-    let opened = c.open_gate.ensures in
-    of_cell c.args.at (length c.args.bytes.now) _ _ _ opened.call.model (by_moment _ _ _ _ (g.met.D.Disk.is_device c.put_body.new.disk) put.seen_elsewhere put.elsewhere put.time) (by_moment _ _ _ _ (g.met.D.Disk.is_device c.open_gate.new.disk) opened.seen_elsewhere opened.elsewhere opened.time)
+pub returns-in-Ok-clause-any_moment : goal.returns-in-Ok-clause-any_moment
+returns-in-Ok-clause-any_moment g c = there_or_not _ _ _ _ c.put_cell.result c.put_cell.ensures.errors c.put_cell.ensures.puts.any_moment
 
-pub returns-in-Ok-open_gate-clause-written : goal.returns-in-Ok-open_gate-clause-written
-returns-in-Ok-open_gate-clause-written g c = λ k.
-    let before = c.open_gate.ensures.call.model k in
-    let whole = (g.met.D.Disk.is_device c.args.disk.now).seen_is_whole (c.put_body.ensures.call.model before) in
-    byte_in_front c.args.at 0xA5 c.args.bytes.now _ _ _ (omega (arith, whole, c.requires.room)) (c.in-Ok.ensures.written before) (c.in-Ok-open_gate.ensures.written k)
+pub returns-in-Err-clause-any_moment : goal.returns-in-Err-clause-any_moment
+returns-in-Err-clause-any_moment g c = there_or_not _ _ _ _ c.put_cell.result c.put_cell.ensures.errors c.put_cell.ensures.puts.any_moment

@@ -54,4 +54,4 @@ returns-clause-zeros g c =
 pub returns-clause-elsewhere : goal.returns-clause-elsewhere
 returns-clause-elsewhere g c =
     let written = WritesWithin-trans 0 c.args.«end» _ _ _ c.write-2.ensures.uses.model c.loop-piece.invariant.elsewhere (WritesWithin-wider (16384 * (c.args.«end» / 16384)) _ 0 c.args.«end» (omega arith) (last_long c.args.«end» _ (last_blank c.args.«end»)) _ _ c.write-2.ensures.elsewhere) in
-    WritesWithin-trans 0 c.args.«end» _ _ _ c.sync.ensures.uses.model written (by_look 0 c.args.«end» _ _ (g.met.D.Disk.is_device c.write-2.new.disk) c.sync.ensures.uses.model c.sync.ensures.looks c.sync.ensures.time)
+    WritesWithin-trans 0 c.args.«end» _ _ _ c.sync.ensures.uses.model written (by_look 0 c.args.«end» _ _ (g.met.D.Disk.is_device c.write-2.new.disk) c.sync.ensures.uses.model c.sync.ensures.looks)

@@ -1,6 +1,6 @@
 use Rattle.std.proofs.Common.{◌∙◌}
 use Rattle.std.proofs.lemmas.Result.{err_from_is_err_and}
-use Rattle.tmem_journal.proofs.Recovering.{no_choice, image_missing, log_missing, all_found}
+use Rattle.tmem_journal.proofs.Recovering.{no_choice, image_missing, log_missing, all_found, looking}
 use Rattle.tmem_journal.proofs.Refused.{why_block, why_part, block_then}
 use Rattle.tmem_journal.proofs.recovery.look_up.Goals as goal
 
@@ -60,6 +60,16 @@ returns-in_err-log-clause-refused g c =
     log_missing c.args.layout.vars c.args.layout.slots c.in_ok-copy.copy seen s1 s2 s3 (c.sync.ensures.looks.seen m1) (c.found_block.ensures.looks.seen m2) (c.choose.ensures.looks.seen m3) s4 (c.load.ensures.looks.seen m4) c.in_ok-generation.field-0.generation c.in_ok-generation.field-0.state
     (c.in_ok-copy.ensures.found m3) (c.in_ok-generation.ensures.found m4) (refused k))
     c.in_err-log.ensures.refused)
+
+pub returns-in_err-log-clause-looks : goal.returns-in_err-log-clause-looks
+returns-in_err-log-clause-looks g c =
+    looking (g.D.Disk.view c.args.disk.now) _ _ _ _ _ c.found_block.ensures.uses.model c.choose.ensures.uses.model c.load.ensures.uses.model c.scan.ensures.uses.model
+    c.sync.ensures.looks c.found_block.ensures.looks c.choose.ensures.looks c.load.ensures.looks c.scan.ensures.looks
+
+pub returns-clause-looks : goal.returns-clause-looks
+returns-clause-looks g c =
+    looking (g.D.Disk.view c.args.disk.now) _ _ _ _ _ c.found_block.ensures.uses.model c.choose.ensures.uses.model c.load.ensures.uses.model c.scan.ensures.uses.model
+    c.sync.ensures.looks c.found_block.ensures.looks c.choose.ensures.looks c.load.ensures.looks c.scan.ensures.looks
 
 pub returns-clause-found : goal.returns-clause-found
 returns-clause-found g c = λ k.

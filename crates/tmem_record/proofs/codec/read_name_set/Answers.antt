@@ -1,27 +1,27 @@
 use Rattle.std.proofs.Common.{rules, ◌≡◌, ◌<◌, ◌+◌, ◌++◌, ◌∷◌, [], true, length, arith}
 use Rattle.std.specs.Prelude.{All, IsTrue, ◌↔◌}
 use Rattle.tmem_record.specs.Names.{is_before}
-use Rattle.tmem_record.proofs.CodecReads.{or_none}
-use Rattle.tmem_record.proofs.NameSetReads.{ReadNameSet, none_read, name_more, names_found, too_many_names, no_name_next, not_above, nothing_of_names}
+use Rattle.tmem_record.proofs.CodecReads.{or_none, no_bytes, too_many, none_more, all_found}
+use Rattle.tmem_record.proofs.NameSetReads.{ReadNameSet, registered, none_read, name_more, not_above}
 use Rattle.tmem_record.proofs.codec.read_name_set.Goals as goal
 
 pub returns-in_err-total-clause-none : goal.returns-in_err-total-clause-none
-returns-in_err-total-clause-none c = or_none _ (nothing_of_names c.args.bytes.now c.in_err-total.ensures.none)
+returns-in_err-total-clause-none c = or_none _ (no_bytes registered c.args.bytes.now c.in_err-total.ensures.none)
 
 pub returns-then-total-gt-MAX_NAMES-clause-none : goal.returns-then-total-gt-MAX_NAMES-clause-none
-returns-then-total-gt-MAX_NAMES-clause-none c = too_many_names c.in_ok-total.total c.args.bytes.now c.in_ok-total.behind.now c.in_ok-total.ensures.found (omega arith)
+returns-then-total-gt-MAX_NAMES-clause-none c = too_many registered c.in_ok-total.total c.args.bytes.now c.in_ok-total.behind.now c.in_ok-total.ensures.found (omega arith)
 
 pub loop-init : goal.loop-init
 loop-init c = none_read c.args.names.now c.in_ok-total.behind.now c.requires
 
 pub returns-in_default-clause-none : goal.returns-in_default-clause-none
 returns-in_default-clause-none c =
-    no_name_next c.in_ok-total.total c.args.bytes.now c.in_ok-total.behind.now c.in_ok-total.ensures.found c.loop.counter c.loop.names _ c.loop.invariant c.loop-test.true c.in_default.ensures.none
+    none_more registered c.in_ok-total.total c.args.bytes.now c.in_ok-total.behind.now c.in_ok-total.ensures.found c.loop.counter c.loop.names _ c.loop.invariant c.loop-test.true c.in_default.ensures.none
 
 pub returns-then-not-push-clause-none : goal.returns-then-not-push-clause-none
 returns-then-not-push-clause-none c =
     let fits : IsTrue c.push.result ↔ ((length c.loop.names < 64) × All (λ n. is_before n c.in-Some.name ≡ true) c.loop.names) = search rules in
-    not_above c.in_ok-total.total c.args.bytes.now c.in_ok-total.behind.now c.in_ok-total.ensures.found c.loop.counter c.loop.names c.in-Some.name _ _ c.push.result c.loop.invariant c.loop-test.true c.in-Some.ensures.is_name c.in-Some.ensures.found fits c.if-not-push.true
+    not_above c.in_ok-total.total c.args.bytes.now c.in_ok-total.behind.now c.in_ok-total.ensures.found c.loop.counter c.loop.names _ c.loop.invariant c.loop-test.true c.in-Some.name _ c.in-Some.ensures.is_name c.in-Some.ensures.found c.push.result fits c.if-not-push.true
 
 pub loop-preserved : goal.loop-preserved
 loop-preserved c =
@@ -36,4 +36,4 @@ pub returns-clause-are_registered : goal.returns-clause-are_registered
 returns-clause-are_registered c = c.loop.invariant.valid
 
 pub returns-clause-found : goal.returns-clause-found
-returns-clause-found c = names_found c.in_ok-total.total c.args.bytes.now c.in_ok-total.behind.now c.in_ok-total.ensures.found c.loop.counter c.loop.names _ c.loop.invariant (omega arith)
+returns-clause-found c = all_found registered c.in_ok-total.total c.args.bytes.now c.in_ok-total.behind.now c.in_ok-total.ensures.found c.loop.counter c.loop.names _ c.loop.invariant (omega arith)

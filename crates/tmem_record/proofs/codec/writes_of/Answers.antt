@@ -4,16 +4,18 @@ use Rattle.std.proofs.lemmas.Int.{to_z-of_z}
 use Rattle.tmem_record.specs.Writes.{with_write}
 use Rattle.tmem_record.specs.Spelling.{write_bytes}
 use Rattle.tmem_record.proofs.SpellingLaws.{IsWriteWithin, AreWritesWithin}
-use Rattle.tmem_record.proofs.CodecReads.{of_writes, ReadWrites, or_none, nothing_of_writes, too_many_writes, read_none, no_writes, no_write_next, written_twice, write_more, writes_found}
+use Rattle.tmem_record.proofs.CodecReads.{of_writes, ReadWrites, or_none, written, no_bytes, too_many, read_none, no_writes, none_more, written_twice, write_more, all_found}
 use Rattle.tmem_record.proofs.codec.writes_of.Goals as goal
 
 pub returns-in_err-count-clause-none : goal.returns-in_err-count-clause-none
-returns-in_err-count-clause-none c = or_none _ (of_writes c.args.vars c.args.bytes.now (nothing_of_writes c.args.vars c.args.bytes.now c.in_err-count.ensures.none))
+returns-in_err-count-clause-none c =
+    let few : c.args.vars ≤ 2 ^ 16 = omega (arith, c.ranges.vars) in
+    or_none _ (of_writes c.args.vars c.args.bytes.now (no_bytes (written c.args.vars few) c.args.bytes.now c.in_err-count.ensures.none))
 
 pub returns-then-count-gt-MAX_WRITES-clause-none : goal.returns-then-count-gt-MAX_WRITES-clause-none
 returns-then-count-gt-MAX_WRITES-clause-none c =
     let few : c.args.vars ≤ 2 ^ 16 = omega (arith, c.ranges.vars) in
-    of_writes c.args.vars c.args.bytes.now (too_many_writes c.args.vars c.in_ok-count.count few c.args.bytes.now c.in_ok-count.behind.now c.in_ok-count.ensures.found (omega arith))
+    of_writes c.args.vars c.args.bytes.now (too_many (written c.args.vars few) c.in_ok-count.count c.args.bytes.now c.in_ok-count.behind.now c.in_ok-count.ensures.found (omega arith))
 
 pub loop-init : goal.loop-init
 loop-init c =
@@ -22,13 +24,13 @@ loop-init c =
 pub returns-in_err-write-clause-none : goal.returns-in_err-write-clause-none
 returns-in_err-write-clause-none c =
     let few : c.args.vars ≤ 2 ^ 16 = omega (arith, c.ranges.vars) in
-    or_none _ (of_writes c.args.vars c.args.bytes.now (no_write_next c.args.vars c.in_ok-count.count few c.args.bytes.now c.in_ok-count.behind.now c.in_ok-count.ensures.found c.loop.counter c.loop.writes c.loop.rest.now c.loop.invariant c.loop-test.true (λ w rest is. c.in_err-write.ensures.none w rest is.within is.fits)))
+    or_none _ (of_writes c.args.vars c.args.bytes.now (none_more (written c.args.vars few) c.in_ok-count.count c.args.bytes.now c.in_ok-count.behind.now c.in_ok-count.ensures.found c.loop.counter c.loop.writes c.loop.rest.now c.loop.invariant c.loop-test.true (λ w rest is. c.in_err-write.ensures.none w rest is.within is.fits)))
 
 pub returns-then-has-clause-none : goal.returns-then-has-clause-none
 returns-then-has-clause-none c =
     let few : c.args.vars ≤ 2 ^ 16 = omega (arith, c.ranges.vars) in
     let is : IsWriteWithin c.args.vars c.in_ok-write.write = record { within = c.in_ok-write.ensures.within; fits = c.in_ok-write.ensures.fits } in
-    of_writes c.args.vars c.args.bytes.now (written_twice c.args.vars c.in_ok-count.count few c.args.bytes.now c.in_ok-count.behind.now c.in_ok-count.ensures.found c.loop.counter c.loop.writes c.in_ok-write.write c.loop.rest.now c.in_ok-write.next.now c.loop.invariant c.loop-test.true is c.in_ok-write.ensures.found
+    of_writes c.args.vars c.args.bytes.now (written_twice c.args.vars few c.in_ok-count.count c.args.bytes.now c.in_ok-count.behind.now c.in_ok-count.ensures.found c.loop.counter c.loop.writes c.loop.rest.now c.loop.invariant c.loop-test.true c.in_ok-write.write c.in_ok-write.next.now is c.in_ok-write.ensures.found
     (sym c.has.ensures ∙ c.if-has.true))
 
 pub put-requires : goal.put-requires
@@ -50,4 +52,4 @@ returns-clause-within c = c.loop.invariant.valid.within
 pub returns-clause-found : goal.returns-clause-found
 returns-clause-found c =
     let few : c.args.vars ≤ 2 ^ 16 = omega (arith, c.ranges.vars) in
-    writes_found c.args.vars c.in_ok-count.count few c.args.bytes.now c.in_ok-count.behind.now c.in_ok-count.ensures.found c.loop.counter c.loop.writes c.loop.rest.now c.loop.invariant (omega arith)
+    all_found (written c.args.vars few) c.in_ok-count.count c.args.bytes.now c.in_ok-count.behind.now c.in_ok-count.ensures.found c.loop.counter c.loop.writes c.loop.rest.now c.loop.invariant (omega arith)

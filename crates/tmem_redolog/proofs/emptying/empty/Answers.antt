@@ -1,6 +1,8 @@
+use Rattle.std.proofs.Common.{arith}
 use Rattle.tmem_redolog.proofs.emptying.empty.Goals as goal
 
-pub returns-clause-read_closed : goal.returns-clause-read_closed
-returns-clause-read_closed g c = λ keeps k low below.
-    let new = g.D.Disk.view c.close_stale.new.disk in
-    (c.in-Ok.ensures.closed k low below).each keeps new.seen ((g.met.D.Disk.is_device c.close_stale.new.disk).seen_may_stay keeps)
+pub returns-in-Err-clause-closes : goal.returns-in-Err-clause-closes
+returns-in-Err-clause-closes g c = c.close_stale.ensures.closes
+
+pub returns-clause-closed : goal.returns-clause-closed
+returns-clause-closed g c = λ synced k below. c.in-Ok.ensures.closed synced k (omega arith) below

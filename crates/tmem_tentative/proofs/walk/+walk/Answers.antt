@@ -2,7 +2,7 @@ use Rattle.std.proofs.Common.{arith}
 use Rattle.tmem_tree.proofs.Laws.{count-Seq}
 use Rattle.tmem_tree.specs.Limits.{is_write, is_check, has_bad_register, has_bad_step, has_bad_arguments}
 use Rattle.tmem_tentative.specs.Logs.{run_state_of}
-use Rattle.tmem_tentative.proofs.EvalWrites.{length-write}
+use Rattle.tmem_tentative.proofs.EvalFits.{length-write}
 use Rattle.tmem_tentative.proofs.EvalSeq.{eval-Seq}
 use Rattle.tmem_tentative.proofs.walk.+walk.Goals as goal
 

@@ -1,6 +1,6 @@
 use Rattle.std.proofs.Common.{arith, ap}
 use Rattle.tmem_tentative.specs.Logs.{run_state_of}
-use Rattle.tmem_tentative.proofs.EvalWrites.{length-write}
+use Rattle.tmem_tentative.proofs.EvalFits.{length-write}
 use Rattle.tmem_tentative.proofs.PlaceRuns.{read_leads}
 use Rattle.tmem_tentative.proofs.walk_on.act.Goals as goal
 

@@ -1,4 +1,5 @@
 use Rattle.std.proofs.Common.{bit_or, length, sym, subst, ◌∙◌}
+use Rattle.std.proofs.Math.Bool.{or_comm}
 use Rattle.std.proofs.lemmas.List.Elements.{All-push}
 use Rattle.tmem_record.specs.State.{State}
 use Rattle.tmem_record.proofs.Laws.{length-values-apply, AreRegistered-with_names, has_name-with_names}
@@ -7,7 +8,7 @@ use Rattle.tmem_invariants.specs.Places.{ArePlacesOf}
 use Rattle.tmem_invariants.proofs.Laws.{ArePlacesOf-join}
 use Rattle.tmem_record.specs.Names.{has_name, with_names}
 use Rattle.tmem_record.specs.Loggable.{IsLoggable}
-use Rattle.tmem_core.proofs.Known.{AreAmong, either}
+use Rattle.tmem_core.proofs.Known.{AreAmong}
 use Rattle.tmem_core.specs.History.{effects_of}
 use Rattle.tmem_core.proofs.Folded.{folded-push}
 use Rattle.tmem_core.proofs.Places.{writes_within}
@@ -28,9 +29,6 @@ pub invariant_of-self-clause-registered : goal.invariant_of-self-clause-register
 invariant_of-self-clause-registered g c =
     let is = c.is_empty.ensures.is_effect (length c.args.self.now.state.values) (writes_within (length c.args.self.now.state.values) c.args.effect.now.writes c.requires.variables) in
     rw c.accept.ensures (AreRegistered-with_names c.args.self.now.state.names c.args.effect.now.names is.names.names c.requires.room c.args.self.now.registered)
-
-pub returns-clause-vars : goal.returns-clause-vars
-returns-clause-vars g c = rw c.accept.ensures (length-values-apply c.args.self.now.state c.args.effect.now)
 
 pub invariant_of-self-clause-folded : goal.invariant_of-self-clause-folded
 invariant_of-self-clause-folded g c =
@@ -54,4 +52,4 @@ invariant_of-self-clause-placed g c =
     let e = c.args.effect.now in
     let names = g.T.Invariants.names core.table in
     subst (λ (s : State). ArePlacesOf s.names names (bit_or core.places c.args.proposed)) (sym c.accept.ensures)
-    (ArePlacesOf-join core.state.names e.names (with_names core.state.names e.names) names core.places c.args.proposed (λ name. has_name-with_names core.state.names e.names name ∙ either (has_name e.names name) (has_name core.state.names name)) core.placed c.requires.proposed)
+    (ArePlacesOf-join core.state.names e.names (with_names core.state.names e.names) names core.places c.args.proposed (λ name. has_name-with_names core.state.names e.names name ∙ or_comm (has_name e.names name) (has_name core.state.names name)) core.placed c.requires.proposed)

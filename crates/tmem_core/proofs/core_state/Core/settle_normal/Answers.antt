@@ -1,6 +1,7 @@
 use Rattle.std.proofs.Common.{◌≡◌, None, sym, ap, ◌∙◌}
 use Rattle.tmem_record.specs.State.{apply}
 use Rattle.tmem_invariants.specs.Meanings.{first_false}
+use Rattle.tmem_core.specs.Held.{CoreView}
 use Rattle.tmem_core.specs.SettleAnswer.{sound_answer, unless_refused}
 use Rattle.tmem_core.proofs.Known.{AllHold-with_names, AreAmong-with_names, few-with_names}
 use Rattle.tmem_core.proofs.core_state.Core.settle_normal.Goals as goal
@@ -8,32 +9,37 @@ use Rattle.tmem_core.proofs.core_state.Core.settle_normal.Goals as goal
 pub accept-requires-clause-room : goal.accept-requires-clause-room
 accept-requires-clause-room g c =
     let core = c.args.self.now in
-    rw c.first_broken.ensures.state (few-with_names (g.T.Invariants.names core.table) core.state.names c.args.effect.now.names core.registered.ascending core.known c.requires.names (g.met.T.Invariants.few core.table))
+    let state = ap (λ (v : CoreView _). v.state) c.first_broken.ensures.view in
+    rw state (few-with_names (g.T.Invariants.names core.table) core.state.names c.args.effect.now.names core.registered.ascending core.known c.requires.names (g.met.T.Invariants.few core.table))
 
 pub accept-requires-clause-known : goal.accept-requires-clause-known
 accept-requires-clause-known g c =
     let core = c.args.self.now in
-    rw (c.first_broken.ensures.state, c.first_broken.ensures.table) (AreAmong-with_names (g.T.Invariants.names core.table) core.state.names c.args.effect.now.names core.known c.requires.names)
+    let state = ap (λ (v : CoreView _). v.state) c.first_broken.ensures.view in
+    let table = ap (λ (v : CoreView _). v.table) c.first_broken.ensures.view in
+    rw (state, table) (AreAmong-with_names (g.T.Invariants.names core.table) core.state.names c.args.effect.now.names core.known c.requires.names)
 
 pub accept-requires-clause-sound : goal.accept-requires-clause-sound
 accept-requires-clause-sound g c = λ m stated.
     let core = c.args.self.now in
     let e = c.args.effect.now in
-    let broken = c.first_broken.ensures.first m (rw c.first_broken.ensures.table at stated) in
+    let state = ap (λ (v : CoreView _). v.state) c.first_broken.ensures.view in
+    let table = ap (λ (v : CoreView _). v.table) c.first_broken.ensures.view in
+    let broken = c.first_broken.ensures.first m (rw table at stated) in
     let none : first_false m (g.T.Invariants.names core.table) core.state.names e.names (apply core.state e).values ≡ None = sym broken ∙ c.in-None.is in
-    rw c.first_broken.ensures.state (AllHold-with_names m (g.T.Invariants.names core.table) core.state.names e.names (apply core.state e).values core.known c.requires.names none)
+    rw state (AllHold-with_names m (g.T.Invariants.names core.table) core.state.names e.names (apply core.state e).values core.known c.requires.names none)
 
 pub returns-in-Some-clause-answer : goal.returns-in-Some-clause-answer
-returns-in-Some-clause-answer g c = λ p names stated registers.
+returns-in-Some-clause-answer g c = λ p are registers.
     let s = c.args.self.now.state in
     let e = c.args.effect.now in
-    let broken = sym c.in-Some.is ∙ c.first_broken.ensures.first p.tests stated ∙ ap (λ ns. first_false p.tests ns s.names e.names (apply s e).values) (sym names) in
+    let broken = sym c.in-Some.is ∙ c.first_broken.ensures.first p.tests are.tests ∙ ap (λ ns. first_false p.tests ns s.names e.names (apply s e).values) (sym are.names) in
     ap (λ o. unless_refused o (sound_answer s c.args.self.now.durable e registers)) broken
 
 pub returns-in-None-clause-answer : goal.returns-in-None-clause-answer
-returns-in-None-clause-answer g c = λ p names stated registers.
+returns-in-None-clause-answer g c = λ p are registers.
     let s = c.args.self.now.state in
     let e = c.args.effect.now in
-    let broken = sym c.in-None.is ∙ c.first_broken.ensures.first p.tests stated ∙ ap (λ ns. first_false p.tests ns s.names e.names (apply s e).values) (sym names) in
-    let answer = rw (c.first_broken.ensures.state, c.first_broken.ensures.durable) at c.accept.ensures.answer in
-    answer registers ∙ ap (λ o. unless_refused o (sound_answer s c.args.self.now.durable e registers)) broken
+    let broken = sym c.in-None.is ∙ c.first_broken.ensures.first p.tests are.tests ∙ ap (λ ns. first_false p.tests ns s.names e.names (apply s e).values) (sym are.names) in
+    c.accept.ensures.answer registers ∙ ap (λ (v : CoreView _). sound_answer v.state v.durable e registers) c.first_broken.ensures.view
+    ∙ ap (λ o. unless_refused o (sound_answer s c.args.self.now.durable e registers)) broken

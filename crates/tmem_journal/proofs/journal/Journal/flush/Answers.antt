@@ -29,7 +29,7 @@ invariant_of-self-in-Ok-clause-stands g c =
     let new = g.D.Disk.view c.append.new.disk in
     let p = placed j.layout j.log c.count-first.result c.args.batch.now in
     let is = c.accept_all.ensures ∙ ap (fold j.state) c.effects-effects.ensures.effects in
-    sure_either _ (sure_ok old new p j.copy j.state (sym c.count-first.ensures) c.requires.room c.append.ensures.uses.model (j.sure c.if-self.false) c.accept_all.new.state is c.in-Ok.ensures.stands)
+    sure_either _ (sure_ok old new p j.copy j.state (sym c.count-first.ensures) c.requires.room c.append.ensures.uses.model (j.sure c.if-self.false) c.accept_all.new.state is c.in-Ok.ensures.puts.stands)
 
 pub invariant_of-self-in-Ok-clause-sure : goal.invariant_of-self-in-Ok-clause-sure
 invariant_of-self-in-Ok-clause-sure g c = λ running.
@@ -40,7 +40,7 @@ invariant_of-self-in-Ok-clause-sure g c = λ running.
     let is = c.accept_all.ensures ∙ ap (fold j.state) c.effects-effects.ensures.effects in
     let after = same_position (position_in j.copy c.append.new.log) (next_slot (position_at j.copy p)) refl c.append.ensures.generation c.in-Ok.ensures.next in
     subst (λ (q : Position). LeavesOnly new (StandsFor j.layout.vars j.layout.slots q c.accept_all.new.state)) (sym after)
-    (sure_ok old new p j.copy j.state (sym c.count-first.ensures) c.requires.room c.append.ensures.uses.model (j.sure running) c.accept_all.new.state is c.in-Ok.ensures.stands)
+    (sure_ok old new p j.copy j.state (sym c.count-first.ensures) c.requires.room c.append.ensures.uses.model (j.sure running) c.accept_all.new.state is c.in-Ok.ensures.puts.stands)
 
 pub invariant_of-self-in-Ok-clause-ahead : goal.invariant_of-self-in-Ok-clause-ahead
 invariant_of-self-in-Ok-clause-ahead g c = λ running k above below.
@@ -57,7 +57,7 @@ invariant_of-self-in-Err-clause-stands g c =
     let new = g.D.Disk.view c.append.new.disk in
     let p = placed j.layout j.log c.count-first.result c.args.batch.now in
     let not_full = full_is_not c.in-Err.fault j.log.used j.layout.slots c.if-self-2.false c.in-Err.ensures.full in
-    sure_err old new p j.copy j.state (sym c.count-first.ensures) c.requires.room c.append.ensures.uses.model (j.sure c.if-self.false) _ c.in-Err.fault c.in-Err.ensures.errors not_full (ap (fold j.state) c.in_doubt.ensures) c.in-Err.ensures.stands
+    sure_err old new p j.copy j.state (sym c.count-first.ensures) c.requires.room c.append.ensures.uses.model (j.sure c.if-self.false) _ c.in-Err.fault c.in-Err.ensures.errors not_full (ap (fold j.state) c.in_doubt.ensures) c.in-Err.ensures.puts.stands
 
 pub returns-in-Ok-clause-any_moment : goal.returns-in-Ok-clause-any_moment
 returns-in-Ok-clause-any_moment g c =
@@ -66,7 +66,7 @@ returns-in-Ok-clause-any_moment g c =
     let new = g.D.Disk.view c.append.new.disk in
     let p = placed j.layout j.log c.count-first.result c.args.batch.now in
     let is = c.accept_all.ensures ∙ ap (fold j.state) c.effects-effects.ensures.effects in
-    moments_ok old new p j.copy j.state (sym c.count-first.ensures) c.requires.room c.append.ensures.uses.model (j.sure c.if-self.false) c.accept_all.new.state _ _ is c.in-Ok.ensures.any_moment
+    moments_ok old new p j.copy j.state (sym c.count-first.ensures) c.requires.room c.append.ensures.uses.model (j.sure c.if-self.false) c.accept_all.new.state _ _ is c.in-Ok.ensures.puts.any_moment
 
 pub returns-in-Err-clause-any_moment : goal.returns-in-Err-clause-any_moment
 returns-in-Err-clause-any_moment g c =
@@ -75,4 +75,4 @@ returns-in-Err-clause-any_moment g c =
     let new = g.D.Disk.view c.append.new.disk in
     let p = placed j.layout j.log c.count-first.result c.args.batch.now in
     let not_full = full_is_not c.in-Err.fault j.log.used j.layout.slots c.if-self-2.false c.in-Err.ensures.full in
-    moments_err old new p j.copy j.state (sym c.count-first.ensures) c.requires.room c.append.ensures.uses.model (j.sure c.if-self.false) _ _ c.in-Err.fault c.in-Err.ensures.errors not_full (ap (fold j.state) c.in_doubt.ensures) c.in-Err.ensures.any_moment
+    moments_err old new p j.copy j.state (sym c.count-first.ensures) c.requires.room c.append.ensures.uses.model (j.sure c.if-self.false) _ _ c.in-Err.fault c.in-Err.ensures.errors not_full (ap (fold j.state) c.in_doubt.ensures) c.in-Err.ensures.puts.any_moment

@@ -6,20 +6,20 @@ use Rattle.tmem_record.specs.Layout.{IsLayout}
 use Rattle.tmem_journal.specs.Calls.{FitsOn}
 use Rattle.tmem_journal.specs.Refusals.{IsRefusedBy}
 use Rattle.tmem_journal.specs.Stands.{position_in}
-use Rattle.tmem_journal.proofs.Flushed.{sure_either, found_either, none_refused, wanting, why_fits}
+use Rattle.tmem_journal.proofs.Flushed.{sure_either, found_either, none_refused, wanting, not_wanted, why_fits}
 use Rattle.tmem_journal.proofs.journal.Journal.open.Goals as goal
 
 pub invariant_of-result-clause-sure : goal.invariant_of-result-clause-sure
 invariant_of-result-clause-sure g c = λ _.
     let found = c.in-Ok-recover.found in
     let it = c.in-Ok-recover.ensures in
-    LeavesOnly-synced _ _ it.synced (λ k. (it.seen k).states (position_in found.copy found.log) found.state (it.found k))
+    LeavesOnly-synced _ _ it.synced (λ k. (it.mends.seen k).states (position_in found.copy found.log) found.state (it.found k))
 
 pub invariant_of-result-clause-stands : goal.invariant_of-result-clause-stands
 invariant_of-result-clause-stands g c =
     let found = c.in-Ok-recover.found in
     let it = c.in-Ok-recover.ensures in
-    sure_either _ (LeavesOnly-synced _ _ it.synced (λ k. (it.seen k).states (position_in found.copy found.log) found.state (it.found k)))
+    sure_either _ (LeavesOnly-synced _ _ it.synced (λ k. (it.mends.seen k).states (position_in found.copy found.log) found.state (it.found k)))
 
 pub returns-in-Err-clause-either : goal.returns-in-Err-clause-either
 returns-in-Err-clause-either g c = λ s t fits left k. absurd (false≢true (c.in-Err.ensures.ok.1 fits.layout))
@@ -28,13 +28,13 @@ pub returns-then-size-end-clause-either : goal.returns-then-size-end-clause-eith
 returns-then-size-end-clause-either g c = λ s t fits left k. absurd (omega (arith, fits.room, c.size.ensures, c.end.ensures, c.in-Ok.ensures.vars, c.in-Ok.ensures.slots, c.if-size-end.true))
 
 pub returns-in-Ok-recover-clause-any_moment : goal.returns-in-Ok-recover-clause-any_moment
-returns-in-Ok-recover-clause-any_moment g c = rw (c.in-Ok.ensures.vars, c.in-Ok.ensures.slots) at c.in-Ok-recover.ensures.any_moment
+returns-in-Ok-recover-clause-any_moment g c = rw (c.in-Ok.ensures.vars, c.in-Ok.ensures.slots) at c.in-Ok-recover.ensures.mends.any_moment
 
 pub returns-in-Ok-recover-clause-seen : goal.returns-in-Ok-recover-clause-seen
-returns-in-Ok-recover-clause-seen g c = rw (c.in-Ok.ensures.vars, c.in-Ok.ensures.slots) at c.in-Ok-recover.ensures.seen
+returns-in-Ok-recover-clause-seen g c = rw (c.in-Ok.ensures.vars, c.in-Ok.ensures.slots) at c.in-Ok-recover.ensures.mends.seen
 
 pub returns-in-Ok-recover-clause-looks : goal.returns-in-Ok-recover-clause-looks
-returns-in-Ok-recover-clause-looks g c = rw (c.in-Ok.ensures.vars, c.in-Ok.ensures.slots) at c.in-Ok-recover.ensures.looks
+returns-in-Ok-recover-clause-looks g c = rw (c.in-Ok.ensures.vars, c.in-Ok.ensures.slots) at c.in-Ok-recover.ensures.mends.looks
 
 pub returns-in-Ok-recover-clause-either : goal.returns-in-Ok-recover-clause-either
 returns-in-Ok-recover-clause-either g c = λ s t fits left k.
@@ -42,13 +42,13 @@ returns-in-Ok-recover-clause-either g c = λ s t fits left k.
     found_either c.args.vars c.args.slots (omega (arith, fits.layout.vars_fit)) _ _ s t _ (rw (c.in-Ok.ensures.vars, c.in-Ok.ensures.slots) at (it.found k)) (seen-left _ _ (g.met.D.Disk.is_device c.args.disk) left (it.uses.model k))
 
 pub returns-in-Err-recover-clause-any_moment : goal.returns-in-Err-recover-clause-any_moment
-returns-in-Err-recover-clause-any_moment g c = rw (c.in-Ok.ensures.vars, c.in-Ok.ensures.slots) at c.in-Err-recover.ensures.any_moment
+returns-in-Err-recover-clause-any_moment g c = rw (c.in-Ok.ensures.vars, c.in-Ok.ensures.slots) at c.in-Err-recover.ensures.mends.any_moment
 
 pub returns-in-Err-recover-clause-seen : goal.returns-in-Err-recover-clause-seen
-returns-in-Err-recover-clause-seen g c = rw (c.in-Ok.ensures.vars, c.in-Ok.ensures.slots) at c.in-Err-recover.ensures.seen
+returns-in-Err-recover-clause-seen g c = rw (c.in-Ok.ensures.vars, c.in-Ok.ensures.slots) at c.in-Err-recover.ensures.mends.seen
 
 pub returns-in-Err-recover-clause-looks : goal.returns-in-Err-recover-clause-looks
-returns-in-Err-recover-clause-looks g c = rw (c.in-Ok.ensures.vars, c.in-Ok.ensures.slots) at c.in-Err-recover.ensures.looks
+returns-in-Err-recover-clause-looks g c = rw (c.in-Ok.ensures.vars, c.in-Ok.ensures.slots) at c.in-Err-recover.ensures.mends.looks
 
 pub returns-in-Err-recover-clause-refused : goal.returns-in-Err-recover-clause-refused
 returns-in-Err-recover-clause-refused g c =
@@ -70,13 +70,18 @@ returns-in-Err-recover-clause-either g c = λ s t fits left k.
     wanting c.in-Err-recover.fault P (λ f by. none_refused c.args.vars c.args.slots f s t _ fits.layout (seen-left _ _ (g.met.D.Disk.is_device c.args.disk) left (it.uses.model k)) (by k)) (rw (c.in-Ok.ensures.vars, c.in-Ok.ensures.slots) at it.refused)
 
 pub returns-in-Ok-recover-clause-elsewhere : goal.returns-in-Ok-recover-clause-elsewhere
-returns-in-Ok-recover-clause-elsewhere g c = rw (c.in-Ok.ensures.vars, c.in-Ok.ensures.slots) at c.in-Ok-recover.ensures.elsewhere
+returns-in-Ok-recover-clause-elsewhere g c = rw (c.in-Ok.ensures.vars, c.in-Ok.ensures.slots) at c.in-Ok-recover.ensures.mends.elsewhere
 
 pub returns-in-Err-recover-clause-elsewhere : goal.returns-in-Err-recover-clause-elsewhere
-returns-in-Err-recover-clause-elsewhere g c = rw (c.in-Ok.ensures.vars, c.in-Ok.ensures.slots) at c.in-Err-recover.ensures.elsewhere
+returns-in-Err-recover-clause-elsewhere g c = rw (c.in-Ok.ensures.vars, c.in-Ok.ensures.slots) at c.in-Err-recover.ensures.mends.elsewhere
 
 pub returns-in-Ok-recover-clause-damaged_looks : goal.returns-in-Ok-recover-clause-damaged_looks
-returns-in-Ok-recover-clause-damaged_looks g c = rw (c.in-Ok.ensures.vars, c.in-Ok.ensures.slots) at c.in-Ok-recover.ensures.damaged_looks
+returns-in-Ok-recover-clause-damaged_looks g c = rw (c.in-Ok.ensures.vars, c.in-Ok.ensures.slots) at c.in-Ok-recover.ensures.mends.damaged_looks
 
 pub returns-in-Err-recover-clause-damaged_looks : goal.returns-in-Err-recover-clause-damaged_looks
-returns-in-Err-recover-clause-damaged_looks g c = rw (c.in-Ok.ensures.vars, c.in-Ok.ensures.slots) at c.in-Err-recover.ensures.damaged_looks
+returns-in-Err-recover-clause-damaged_looks g c = rw (c.in-Ok.ensures.vars, c.in-Ok.ensures.slots) at c.in-Err-recover.ensures.mends.damaged_looks
+
+pub returns-in-Err-recover-clause-memory : goal.returns-in-Err-recover-clause-memory
+returns-in-Err-recover-clause-memory g c =
+    let P : Fault → Type 0 = λ f. (g.D.Disk.view c.recover.new.disk).keeps_model → IsRefusedBy c.in-Ok.layout.vars c.in-Ok.layout.slots (g.D.Disk.view c.args.disk).seen f in
+    λ is. absurd (not_wanted c.in-Err-recover.fault P c.in-Err-recover.ensures.refused is)

@@ -1,170 +1,66 @@
-use Rattle.std.proofs.Common.{◌≡◌, ◌-◌, ◌++◌, ◌∷◌, [], List, length, drop, sym, ap, ◌∙◌, subst}
-use Rattle.std.proofs.lemmas.List.{append-nil}
-use Rattle.tmem_record.specs.State.{State, fold}
-use Rattle.tmem_record.specs.declared.effect.Effect.{Effect}
-use Rattle.tmem_core.specs.Held.{state_of, waiting_of, durable_of, is_shut_of}
+use Rattle.std.proofs.Common.{◌≡◌, ℕ, ◌+◌, ◌++◌, Bool, Result, length, sym, ap, ◌∙◌, subst, arith}
+use Rattle.tmem_disk.specs.declared.fault.Fault.{Fault}
+use Rattle.tmem_record.specs.State.{State}
+use Rattle.tmem_record.proofs.Laws.{count-fold, IsPrefix-self}
+use Rattle.tmem_core.specs.Held as core
+use Rattle.tmem_core.specs.Held.{state_of, durable_of, is_shut_of, table_of, accepting}
 use Rattle.tmem_core.specs.Decisions.{taken_by}
+use Rattle.tmem_core.specs.Program.{IsProgramOf}
+use Rattle.tmem_core.specs.SettleAnswer.{settle_answer, judged}
+use Rattle.tmem_core.specs.Verdict.{verdict}
+use Rattle.tmem_tree.specs.declared.settled.Settled.{Settled}
 use Rattle.tmem_spine.specs.Views.{CoreView}
-use Rattle.tmem_seats.specs.Histories.{after, marked, IsSoundState}
+use Rattle.tmem_seats.specs.Histories.{after, marked}
 use Rattle.tmem_seats.specs.Seats.{CoreSeatView}
-use Rattle.tmem_seats.proofs.Seated.{values-after, core_settled, settled_sound, same_answer, same_verdict, sound_core, sound_one, sound_none}
+use Rattle.tmem_seats.proofs.Seated.{values-after, count-after, core_settled}
 use Rattle.tmem_seats.proofs.core_seat.CoreSeat.decide.Goals as goal
 
 pub decide-decision-requires-clause-variables : goal.decide-decision-requires-clause-variables
 decide-decision-requires-clause-variables g c =
     let opening = g.N.StoreNaming.opening in
-    let was = c.self.invariant.0 in
+    let was = c.self.invariant in
     let same : length (state_of c.note_durable.new.self).values ≡ length opening.values =
-    ap (λ (s : State). length s.values) (c.note_durable.ensures.state ∙ was.state) ∙ values-after opening c.self.inside.side.accepted in
+    ap (λ (v : core.CoreView _). length v.state.values) c.note_durable.ensures ∙ ap (λ (s : State). length s.values) was.state ∙ values-after opening c.self.inside.side.accepted in
     rw same c.requires.variables
+
+pub enter-requires-clause-room : goal.enter-requires-clause-room
+enter-requires-clause-room g c =
+    let was = c.self.invariant in
+    let side = c.self.inside.side in
+    let es = taken_by c.decide-decision.result c.args.attempt.now in
+    let more : (state_of c.decide-decision.new.self).count ≡ (state_of c.self.inside.core).count + length es =
+    ap (λ (v : core.CoreView _). v.state.count) (c.decide-decision.ensures.settles.view ∙ ap (accepting es) c.note_durable.ensures) ∙ count-fold (state_of c.self.inside.core) es in
+    omega (arith, more, ap (λ (s : State). s.count) was.state, count-after g.N.StoreNaming.opening g.N.Naming.name.start side.accepted was.starts, ap (λ (v : CoreView). length v.accepted) c.trim-durable.ensures.core)
 
 pub invariant_of-self : goal.invariant_of-self
 invariant_of-self g c =
-    let start = g.N.Naming.name.start in
-    let opening = g.N.StoreNaming.opening in
-    let p = g.N.ProgramNaming.program in
-    let was = c.self.invariant.0 in
-    let core = c.self.inside.core in
-    let side = c.self.inside.side in
-    let core' = c.decide-decision.new.self in
-    let e = c.args.attempt.now.effect in
+    let d = c.decide-decision.result in
+    let a = c.args.attempt.now in
+    core_settled g.N.Naming.name.start g.N.StoreNaming.opening g.N.ProgramNaming.program c.self.inside.core c.decide-decision.new.self c.self.inside.side c.enter.new.side c.trim-durable.new.pass.mark c.trim-durable.result d a c.self.invariant
+    (c.decide-decision.ensures.settles.view ∙ ap (accepting (taken_by d a)) c.note_durable.ensures) c.trim-durable.ensures.least.0 c.trim-durable.ensures.most
+    (c.enter.ensures.side ∙ ap (λ (v : CoreView). record v { accepted = v.accepted ++ marked c.trim-durable.new.pass.mark (taken_by d a) }) c.trim-durable.ensures.core)
+
+pub returns-clause-sound : goal.returns-clause-sound
+returns-clause-sound g c = (invariant_of-self g c).sound c.enter.new.side.accepted (IsPrefix-self c.enter.new.side.accepted)
+
+-- what is answered by the core that learned how many are durable, by what its seat showed before
+as_seen : (g : _) (c : goal.After-enter g) (F : Bool → State → ℕ → Result Settled Fault) → F (is_shut_of c.note_durable.new.self) (state_of c.note_durable.new.self) (durable_of c.note_durable.new.self)
+    ≡ F c.args.self.now.is_shut (after g.N.StoreNaming.opening c.args.self.now.accepted) c.enter.new.side.trimmed
+as_seen g c F =
     let n = c.trim-durable.result in
-    let note = c.note_durable.ensures in
-    let decided = c.decide-decision.ensures in
-    let table = decided.table ∙ note.table in
-    let trim = c.trim-durable.ensures.core in
-    let stated = subst (λ x. g.T.Invariants.is_stated x p.tests) (sym table) c.self.invariant.1 in
-    let names = ap (λ x. g.T.Invariants.names x) table ∙ c.self.invariant.2 in
-    let side' = c.accept.new.core in
-    let mark = c.trim-durable.new.pass.mark in
-    let es : List Effect = e ∷ [] in
-    let one : taken_by c.decide-decision.result e ≡ es = c.if-commits.ensures e in
-    let view = c.accept.ensures.core in
-    let trimmed : side'.trimmed ≡ n = ap (λ (v : CoreView). v.trimmed) view ∙ ap (λ (v : CoreView). v.trimmed) trim in
-    let accepted : side'.accepted ≡ side.accepted ++ marked mark es = ap (λ (v : CoreView). v.accepted) view ∙ ap (λ (v : CoreView). v.accepted ++ marked mark es) trim in
-    let state : state_of core' ≡ fold (state_of core) es =
-    decided.state ∙ (ap (λ (s : State). fold s (taken_by c.decide-decision.result e)) note.state ∙ ap (λ (l : List Effect). fold (state_of core) l) one) in
-    let durable : durable_of core' ≡ n = decided.durable ∙ note.durable in
-    let waiting : waiting_of core' ≡ drop (n - durable_of core) (waiting_of core) ++ es =
-    decided.waiting ∙ (ap (λ (l : List Effect). l ++ taken_by c.decide-decision.result e) note.waiting ∙ ap (λ (l : List Effect). drop (n - durable_of core) (waiting_of core) ++ l) one) in
-    let last : IsSoundState p (after opening side'.accepted) = settled_sound start opening p core core' side side' mark es was state accepted (sound_core p core' stated names) in (
-      core_settled start opening p core core' side side' mark n es was state durable waiting c.trim-durable.ensures.least.0 c.trim-durable.ensures.most trimmed accepted
-          (sound_one p opening side.accepted side'.accepted mark e accepted was.sound last),
-      stated,
-      names,
-    )
+    ap (λ (v : core.CoreView _). F v.is_shut v.state v.durable) c.note_durable.ensures ∙ ap (λ (s : State). F (is_shut_of c.self.inside.core) s n) c.self.invariant.state
+    ∙ ap (λ (v : CoreSeatView). F v.is_shut (after g.N.StoreNaming.opening v.accepted) n) c.self.view_is
+    ∙ sym (ap (λ (v : CoreView). F c.args.self.now.is_shut (after g.N.StoreNaming.opening c.args.self.now.accepted) v.trimmed) (c.enter.ensures.side ∙ ap (λ (v : CoreView). record v { accepted = v.accepted ++ marked c.trim-durable.new.pass.mark (taken_by c.decide-decision.result c.args.attempt.now) }) c.trim-durable.ensures.core))
 
-pub invariant_of-self-else-commits : goal.invariant_of-self-else-commits
-invariant_of-self-else-commits g c =
-    let start = g.N.Naming.name.start in
-    let opening = g.N.StoreNaming.opening in
-    let p = g.N.ProgramNaming.program in
-    let was = c.self.invariant.0 in
-    let core = c.self.inside.core in
-    let side = c.self.inside.side in
-    let core' = c.decide-decision.new.self in
-    let e = c.args.attempt.now.effect in
-    let n = c.trim-durable.result in
-    let note = c.note_durable.ensures in
-    let decided = c.decide-decision.ensures in
-    let table = decided.table ∙ note.table in
-    let trim = c.trim-durable.ensures.core in
-    let stated = subst (λ x. g.T.Invariants.is_stated x p.tests) (sym table) c.self.invariant.1 in
-    let names = ap (λ x. g.T.Invariants.names x) table ∙ c.self.invariant.2 in
-    let side' = c.meet_core.new.core in
-    let mark = c.trim-durable.new.pass.mark in
-    let es : List Effect = [] in
-    let one : taken_by c.decide-decision.result e ≡ es = c.if-commits.ensures e in
-    let view = c.meet_core.ensures.core in
-    let trimmed : side'.trimmed ≡ n = ap (λ (v : CoreView). v.trimmed) view ∙ ap (λ (v : CoreView). v.trimmed) trim in
-    let none : side'.accepted ≡ side.accepted = ap (λ (v : CoreView). v.accepted) view ∙ ap (λ (v : CoreView). v.accepted) trim in
-    let accepted : side'.accepted ≡ side.accepted ++ marked mark es = none ∙ sym (append-nil side.accepted) in
-    let state : state_of core' ≡ fold (state_of core) es =
-    decided.state ∙ (ap (λ (s : State). fold s (taken_by c.decide-decision.result e)) note.state ∙ ap (λ (l : List Effect). fold (state_of core) l) one) in
-    let durable : durable_of core' ≡ n = decided.durable ∙ note.durable in
-    let waiting : waiting_of core' ≡ drop (n - durable_of core) (waiting_of core) ++ es =
-    decided.waiting ∙ (ap (λ (l : List Effect). l ++ taken_by c.decide-decision.result e) note.waiting ∙ ap (λ (l : List Effect). drop (n - durable_of core) (waiting_of core) ++ l) one) in (
-      core_settled start opening p core core' side side' mark n es was state durable waiting c.trim-durable.ensures.least.0 c.trim-durable.ensures.most trimmed accepted
-          (sound_none p opening side.accepted side'.accepted none was.sound),
-      stated,
-      names,
-    )
+its_program : (g : _) (c : goal.After-enter g) → IsProgramOf g.T.Invariants (table_of c.note_durable.new.self) g.N.ProgramNaming.program
+its_program g c = subst (λ x. IsProgramOf g.T.Invariants x g.N.ProgramNaming.program) (sym (ap (λ (v : core.CoreView _). v.table) c.note_durable.ensures)) c.self.invariant.table
 
-pub returns-then-commits-clause-sound : goal.returns-then-commits-clause-sound
-returns-then-commits-clause-sound g c =
-    let start = g.N.Naming.name.start in
-    let opening = g.N.StoreNaming.opening in
+pub returns-clause-answer : goal.returns-clause-answer
+returns-clause-answer g c =
     let p = g.N.ProgramNaming.program in
-    let was = c.self.invariant.0 in
-    let core = c.self.inside.core in
-    let side = c.self.inside.side in
-    let core' = c.decide-decision.new.self in
-    let e = c.args.attempt.now.effect in
-    let n = c.trim-durable.result in
-    let note = c.note_durable.ensures in
-    let decided = c.decide-decision.ensures in
-    let table = decided.table ∙ note.table in
-    let trim = c.trim-durable.ensures.core in
-    let stated = subst (λ x. g.T.Invariants.is_stated x p.tests) (sym table) c.self.invariant.1 in
-    let names = ap (λ x. g.T.Invariants.names x) table ∙ c.self.invariant.2 in
-    let side' = c.accept.new.core in
-    let mark = c.trim-durable.new.pass.mark in
-    let es : List Effect = e ∷ [] in
-    let one : taken_by c.decide-decision.result e ≡ es = c.if-commits.ensures e in
-    let view = c.accept.ensures.core in
-    let trimmed : side'.trimmed ≡ n = ap (λ (v : CoreView). v.trimmed) view ∙ ap (λ (v : CoreView). v.trimmed) trim in
-    let accepted : side'.accepted ≡ side.accepted ++ marked mark es = ap (λ (v : CoreView). v.accepted) view ∙ ap (λ (v : CoreView). v.accepted ++ marked mark es) trim in
-    let state : state_of core' ≡ fold (state_of core) es =
-    decided.state ∙ (ap (λ (s : State). fold s (taken_by c.decide-decision.result e)) note.state ∙ ap (λ (l : List Effect). fold (state_of core) l) one) in
-    settled_sound start opening p core core' side side' mark es was state accepted (sound_core p core' stated names)
+    c.decide-decision.ensures.settles.answer p (its_program g c) ∙ as_seen g c (λ shut s n. settle_answer p shut s n c.args.attempt.now)
 
-pub returns-else-commits-clause-answer : goal.returns-else-commits-clause-answer
-returns-else-commits-clause-answer g c =
+pub returns-clause-verdict : goal.returns-clause-verdict
+returns-clause-verdict g c = λ tx right.
     let p = g.N.ProgramNaming.program in
-    let was = c.self.invariant.0 in
-    let note = c.note_durable.ensures in
-    let stated = subst (λ x. g.T.Invariants.is_stated x p.tests) (sym note.table) c.self.invariant.1 in
-    let names = ap (λ x. g.T.Invariants.names x) note.table ∙ c.self.invariant.2 in
-    let now = c.args.self.now in
-    let view = c.self.view_is in
-    let shut : is_shut_of c.note_durable.new.self ≡ now.is_shut = note.shut ∙ ap (λ (v : CoreSeatView). v.is_shut) view in
-    let state : state_of c.note_durable.new.self ≡ after g.N.StoreNaming.opening now.accepted =
-    note.state ∙ (was.state ∙ ap (λ (v : CoreSeatView). after g.N.StoreNaming.opening v.accepted) view) in
-    let trimmed : durable_of c.note_durable.new.self ≡ c.meet_core.new.core.trimmed =
-    note.durable ∙ sym (ap (λ (v : CoreView). v.trimmed) c.meet_core.ensures.core ∙ ap (λ (v : CoreView). v.trimmed) c.trim-durable.ensures.core) in
-    c.decide-decision.ensures.answer p (sym names) stated
-    ∙ same_answer p (is_shut_of c.note_durable.new.self) now.is_shut (state_of c.note_durable.new.self) (after g.N.StoreNaming.opening now.accepted) (durable_of c.note_durable.new.self) c.meet_core.new.core.trimmed c.args.attempt.now shut state trimmed
-
-pub returns-then-commits-clause-verdict : goal.returns-then-commits-clause-verdict
-returns-then-commits-clause-verdict g c =
-    let p = g.N.ProgramNaming.program in
-    let was = c.self.invariant.0 in
-    let note = c.note_durable.ensures in
-    let stated = subst (λ x. g.T.Invariants.is_stated x p.tests) (sym note.table) c.self.invariant.1 in
-    let names = ap (λ x. g.T.Invariants.names x) note.table ∙ c.self.invariant.2 in
-    let now = c.args.self.now in
-    let view = c.self.view_is in
-    let shut : is_shut_of c.note_durable.new.self ≡ now.is_shut = note.shut ∙ ap (λ (v : CoreSeatView). v.is_shut) view in
-    let state : state_of c.note_durable.new.self ≡ after g.N.StoreNaming.opening now.accepted =
-    note.state ∙ (was.state ∙ ap (λ (v : CoreSeatView). after g.N.StoreNaming.opening v.accepted) view) in
-    let trimmed : durable_of c.note_durable.new.self ≡ c.accept.new.core.trimmed =
-    note.durable ∙ sym (ap (λ (v : CoreView). v.trimmed) c.accept.ensures.core ∙ ap (λ (v : CoreView). v.trimmed) c.trim-durable.ensures.core) in
-    λ tx right. c.decide-decision.ensures.verdict p tx (sym names) stated right
-    ∙ same_verdict p tx (is_shut_of c.note_durable.new.self) now.is_shut (state_of c.note_durable.new.self) (after g.N.StoreNaming.opening now.accepted) (durable_of c.note_durable.new.self) c.accept.new.core.trimmed c.args.attempt.now shut state trimmed
-
-pub returns-else-commits-clause-verdict : goal.returns-else-commits-clause-verdict
-returns-else-commits-clause-verdict g c =
-    let p = g.N.ProgramNaming.program in
-    let was = c.self.invariant.0 in
-    let note = c.note_durable.ensures in
-    let stated = subst (λ x. g.T.Invariants.is_stated x p.tests) (sym note.table) c.self.invariant.1 in
-    let names = ap (λ x. g.T.Invariants.names x) note.table ∙ c.self.invariant.2 in
-    let now = c.args.self.now in
-    let view = c.self.view_is in
-    let shut : is_shut_of c.note_durable.new.self ≡ now.is_shut = note.shut ∙ ap (λ (v : CoreSeatView). v.is_shut) view in
-    let state : state_of c.note_durable.new.self ≡ after g.N.StoreNaming.opening now.accepted =
-    note.state ∙ (was.state ∙ ap (λ (v : CoreSeatView). after g.N.StoreNaming.opening v.accepted) view) in
-    let trimmed : durable_of c.note_durable.new.self ≡ c.meet_core.new.core.trimmed =
-    note.durable ∙ sym (ap (λ (v : CoreView). v.trimmed) c.meet_core.ensures.core ∙ ap (λ (v : CoreView). v.trimmed) c.trim-durable.ensures.core) in
-    λ tx right. c.decide-decision.ensures.verdict p tx (sym names) stated right
-    ∙ same_verdict p tx (is_shut_of c.note_durable.new.self) now.is_shut (state_of c.note_durable.new.self) (after g.N.StoreNaming.opening now.accepted) (durable_of c.note_durable.new.self) c.meet_core.new.core.trimmed c.args.attempt.now shut state trimmed
+    c.decide-decision.ensures.settles.verdict p tx (its_program g c) right ∙ as_seen g c (λ shut s n. judged shut s n c.args.attempt.now.reads.entries (verdict p tx s))

@@ -12,10 +12,10 @@ pub peek-requires : goal.peek-requires
 peek-requires g c =
     let opening = g.N.StoreNaming.opening in
     let same : length (state_of c.self.inside.core).values ≡ length opening.values =
-    ap (λ (s : State). length s.values) c.self.invariant.0.state ∙ values-after opening c.self.inside.side.accepted in
+    ap (λ (s : State). length s.values) c.self.invariant.state ∙ values-after opening c.self.inside.side.accepted in
     rw same c.requires
 
 pub returns-clause-sound : goal.returns-clause-sound
 returns-clause-sound g c =
     let log = c.self.inside.side.accepted in
-    subst (λ (l : List Entry). IsSoundState g.N.ProgramNaming.program (after g.N.StoreNaming.opening l)) (ap (λ (v : CoreSeatView). v.accepted) c.self.view_is) (c.self.invariant.0.sound log (IsPrefix-self log))
+    subst (λ (l : List Entry). IsSoundState g.N.ProgramNaming.program (after g.N.StoreNaming.opening l)) (ap (λ (v : CoreSeatView). v.accepted) c.self.view_is) (c.self.invariant.sound log (IsPrefix-self log))

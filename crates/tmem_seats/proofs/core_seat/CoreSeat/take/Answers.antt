@@ -1,8 +1,9 @@
-use Rattle.std.proofs.Common.{◌≡◌, All, ◌+◌, ◌≤◌, ℕ, List, length, drop, arith, sym, ap, ◌∙◌, subst}
+use Rattle.std.proofs.Common.{◌≡◌, All, ◌+◌, ◌-◌, ◌≤◌, ℕ, List, length, drop, arith, sym, ap, ◌∙◌, subst}
 use Rattle.tmem_record.specs.Loggable.{IsLoggable}
 use Rattle.tmem_record.specs.Prefix.{IsPrefix}
 use Rattle.tmem_record.specs.State.{State}
 use Rattle.tmem_record.specs.declared.effect.Effect.{Effect}
+use Rattle.tmem_core.specs.Held as core
 use Rattle.tmem_core.specs.Held.{state_of, waiting_of, durable_of}
 use Rattle.tmem_core.specs.Taking.{IsTaken}
 use Rattle.tmem_spine.specs.declared.view.Entry.{Entry}
@@ -14,52 +15,47 @@ use Rattle.tmem_seats.proofs.Seated.{values-after, count-after, drop_again}
 use Rattle.tmem_seats.proofs.Taken.{goes_on}
 use Rattle.tmem_seats.proofs.core_seat.CoreSeat.take.Goals as goal
 
+-- the core's state, after it learned how many are durable
+its_state : (g : _) (c : goal.After-aim g) → state_of c.note_durable.new.self ≡ after g.N.StoreNaming.opening c.self.inside.side.accepted
+its_state g c = ap (λ (v : core.CoreView _). v.state) c.note_durable.ensures ∙ c.self.invariant.state
+
+-- what waits in it then
+its_waiting : (g : _) (c : goal.After-aim g) → drop (c.trim_beside-durable.result - durable_of c.note_durable.new.self) (waiting_of c.note_durable.new.self)
+    ≡ drop (length c.args.journal.now.durable) (unmarked c.self.inside.side.accepted)
+its_waiting g c =
+    let was = c.self.invariant in
+    let trim = c.trim_beside-durable.ensures in
+    drop_again g.N.Naming.name.start c.trim_beside-durable.result (durable_of c.note_durable.new.self) c.self.inside.side.trimmed (durable_of c.self.inside.core) c.args.journal.now.durable (waiting_of c.note_durable.new.self) (waiting_of c.self.inside.core) (unmarked c.self.inside.side.accepted)
+    (ap (λ (v : core.CoreView _). v.durable) c.note_durable.ensures) trim.exact was.trimmed was.late trim.least (ap (λ (v : core.CoreView _). v.waiting) c.note_durable.ensures) was.waits
+
+its_aim : (g : _) (c : goal.After-aim g) → IsPrefix c.aim.new.journal.aimed c.self.inside.side.accepted
+its_aim g c = subst (λ (l : List Entry). IsPrefix c.aim.new.journal.aimed l) (ap (λ (v : CoreView). v.accepted) c.trim_beside-durable.ensures.core) c.aim.ensures.ahead
+
 pub returns-clause-goes_on : goal.returns-clause-goes_on
 returns-clause-goes_on g c =
-    let start = g.N.Naming.name.start in
     let opening = g.N.StoreNaming.opening in
-    let was = c.self.invariant.0 in
-    let side = c.self.inside.side in
-    let core' = c.note_durable.new.self in
+    let accepted = c.self.inside.side.accepted in
     let durable = c.args.journal.now.durable in
     let batch = c.take.new.batch in
     let aimed = c.aim.new.journal.aimed in
-    let n = c.trim_beside-durable.result in
-    let same_durable : c.trim_beside-durable.new.journal.durable ≡ durable = ap (λ (v : JournalView). v.durable) c.trim_beside-durable.ensures.journal in
-    let same_accepted : c.trim_beside-durable.new.core.accepted ≡ side.accepted = ap (λ (v : CoreView). v.accepted) c.trim_beside-durable.ensures.core in
-    let state : state_of core' ≡ after opening side.accepted = c.note_durable.ensures.state ∙ was.state in
-    let begins : IsPrefix durable aimed = subst (λ (l : List Entry). IsPrefix l aimed) same_durable c.aim.ensures.begins in
-    let ahead : IsPrefix aimed side.accepted = subst (λ (l : List Entry). IsPrefix aimed l) same_accepted c.aim.ensures.ahead in
-    let exact : n ≡ count start durable = c.trim_beside-durable.ensures.exact in
-    let long : length aimed ≡ length durable + length batch = omega (arith, c.aim.ensures.number, exact, c.len.ensures.len) in
-    let from = drop_again start n (durable_of core') side.trimmed (durable_of c.self.inside.core) durable (waiting_of core') (waiting_of c.self.inside.core) (unmarked side.accepted)
-    c.note_durable.ensures.durable exact was.trimmed was.late c.trim_beside-durable.ensures.least c.note_durable.ensures.waiting was.waits in
-    goes_on start opening side.accepted durable aimed batch _ c.trim_beside-durable.ensures.begins begins ahead long (sym from ∙ c.take.ensures.rest) c.take.ensures.few
-    (subst (λ (k : ℕ). All (IsLoggable k) batch) (ap (λ (s : State). length s.values) state ∙ values-after opening side.accepted) c.take.ensures.each)
+    let begins : IsPrefix durable aimed = subst (λ (l : List Entry). IsPrefix l aimed) (ap (λ (v : JournalView). v.durable) c.trim_beside-durable.ensures.journal) c.aim.ensures.begins in
+    let long : length aimed ≡ length durable + length batch = omega (arith, c.aim.ensures.number, c.trim_beside-durable.ensures.exact, c.len.ensures.len) in
+    goes_on g.N.Naming.name.start opening accepted durable aimed batch _ c.trim_beside-durable.ensures.begins begins (its_aim g c) long (sym (its_waiting g c) ∙ c.take.ensures.rest) c.take.ensures.few
+    (subst (λ (k : ℕ). All (IsLoggable k) batch) (ap (λ (s : State). length s.values) (its_state g c) ∙ values-after opening accepted) c.take.ensures.each)
     (omega (arith, c.count-count.ensures, c.take.ensures.reached, c.aim.ensures.number, c.len.ensures.len))
-    (subst (λ (s : State). length s.names ≤ 64) state core'.registered.few)
+    (subst (λ (s : State). length s.names ≤ 64) (its_state g c) c.note_durable.new.self.registered.few)
 
 pub returns-clause-oldest : goal.returns-clause-oldest
 returns-clause-oldest g c =
     let start = g.N.Naming.name.start in
-    let opening = g.N.StoreNaming.opening in
-    let was = c.self.invariant.0 in
-    let side = c.self.inside.side in
-    let core' = c.note_durable.new.self in
-    let durable = c.args.journal.now.durable in
-    let batch = c.take.new.batch in
-    let aimed = c.aim.new.journal.aimed in
-    let n = c.trim_beside-durable.result in
-    let view : side.accepted ≡ c.args.self.now.accepted = ap (λ (v : CoreSeatView). v.accepted) c.self.view_is in
-    let same_accepted : c.trim_beside-durable.new.core.accepted ≡ c.args.self.now.accepted = ap (λ (v : CoreView). v.accepted) c.trim_beside-durable.ensures.core ∙ view in
-    let exact : n ≡ count start durable = c.trim_beside-durable.ensures.exact in
-    let from = drop_again start n (durable_of core') side.trimmed (durable_of c.self.inside.core) durable (waiting_of core') (waiting_of c.self.inside.core) (unmarked side.accepted)
-    c.note_durable.ensures.durable exact was.trimmed was.late c.trim_beside-durable.ensures.least c.note_durable.ensures.waiting was.waits in
+    let accepted = c.self.inside.side.accepted in
+    let view : accepted ≡ c.args.self.now.accepted = ap (λ (v : CoreSeatView). v.accepted) c.self.view_is in
     record {
-      ahead = subst (λ (l : List Entry). IsPrefix aimed l) same_accepted c.aim.ensures.ahead;
-      oldest = subst (λ (l : List Entry). IsTaken (drop (length durable) (unmarked l)) batch) view (subst (λ (l : List Effect). IsTaken l batch) from c.take.ensures.taken);
+      ahead = subst (λ (l : List Entry). IsPrefix c.aim.new.journal.aimed l) view (its_aim g c);
+      oldest = subst (λ (l : List Entry). IsTaken (drop (length c.args.journal.now.durable) (unmarked l)) c.take.new.batch) view (subst (λ (l : List Effect). IsTaken l c.take.new.batch) (its_waiting g c) c.take.ensures.taken);
       some = λ lt.
-          let many : (state_of core').count ≡ count start side.accepted = ap (λ (s : State). s.count) (c.note_durable.ensures.state ∙ was.state) ∙ count-after opening start side.accepted was.starts in
+          let many : (state_of c.note_durable.new.self).count ≡ count start accepted = ap (λ (s : State). s.count) (its_state g c) ∙ count-after g.N.StoreNaming.opening start accepted c.self.invariant.starts in
           let same = ap (λ (l : List Entry). length l) view in
+          let exact = c.trim_beside-durable.ensures.exact in
           c.take.ensures.some (omega arith);
     }

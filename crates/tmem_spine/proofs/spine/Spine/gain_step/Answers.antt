@@ -1,6 +1,5 @@
 use Rattle.std.proofs.Common.{ℕ, ◌≡◌, length, arith, sym, ap, ◌∙◌, subst}
 use Rattle.atomic_table.specs.Table.{Me}
-use Rattle.tmem_record.specs.Prefix.{IsPrefix}
 use Rattle.tmem_spine.specs.declared.view.View.{View}
 use Rattle.tmem_spine.proofs.Noted.{gains_note}
 use Rattle.tmem_spine.proofs.Owning.{pass_one}
@@ -10,22 +9,17 @@ use Rattle.tmem_spine.proofs.spine.Spine.gain_step.Goals as goal
 
 pub join_seat-requires : goal.join_seat-requires
 join_seat-requires g c =
-    let of = c.pass.invariant in
-    let from = c.note.invariant in
     let spine = c.args.self.now.named in
-    let t = c.args.self.now.table.shared in
+    let from = c.note.invariant in
     let seat = c.pass.inside.seat in
     let note = c.note.inside.seat in
     let is = c.pass.view_is in
-    let role = ap (λ (v : View). v.role) is ∙ c.requires.role in
-    let n = g.C.Choice.number in
     let x = g.C.Choice.entry.effect in
-    let more : IsPrefix seat.me.0.known note.me.0.known = rw (is, c.note.view_is) c.requires.begins in
     let known = ap (λ (v : View). length v.known) is in
     let number = c.requires.choice.2 in
     let same : g.C.Choice.entry ≡ entry seat.me.0.mark x = ap (λ m. entry m x) (c.requires.choice.0 ∙ sym (ap (λ (v : View). v.mark) is)) in
-    let at : HasAt t.key note.me.0.known n (entry seat.me.0.mark x) = rw (c.note.view_is, spine.1, number, ← same) c.requires.stands in
-    (of.table ∙ sym spine.0, from.table ∙ sym spine.0, from.empty, omega (arith, spine.2), gains_note t.key seat.id seat.me.0 note.id note.me.0 n x role more (omega (arith, c.requires.behind, known, spine.1, number)) at)
+    let at : HasAt c.args.self.now.table.shared.key note.me.0.known g.C.Choice.number (entry seat.me.0.mark x) = rw (c.note.view_is, spine.1, number, ← same) c.requires.stands in
+    (c.pass.invariant.table ∙ sym spine.0, from.table ∙ sym spine.0, from.empty, omega (arith, spine.2), gains_note _ _ _ _ _ g.C.Choice.number x (rw is c.requires.role) (rw (is, c.note.view_is) c.requires.begins) (omega (arith, c.requires.behind, known, spine.1, number)) at)
 
 pub returns-clause-is_pass : goal.returns-clause-is_pass
 returns-clause-is_pass g c =
@@ -33,12 +27,9 @@ returns-clause-is_pass g c =
     let seat = c.pass.inside.seat in
     let note = c.note.inside.seat in
     let is = c.pass.view_is in
-    let n = g.C.Choice.number in
     let x = g.C.Choice.entry.effect in
-    let more : IsPrefix seat.me.0.known note.me.0.known = rw (is, c.note.view_is) c.requires.begins in
-    let was : IsPass start seat.me.0 = rw is c.requires.is_pass in
     let known = ap (λ (v : View). length v.known) is in
     let number = c.requires.choice.2 in
     let same : g.C.Choice.entry ≡ entry seat.me.0.mark x = ap (λ m. entry m x) (c.requires.choice.0 ∙ sym (ap (λ (v : View). v.mark) is)) in
-    let at : HasAt start note.me.0.known n (entry seat.me.0.mark x) = rw (c.note.view_is, number, ← same) c.requires.stands in
-    subst (λ (m : Me ℕ View). IsPass start m.0) (sym c.join_seat.ensures.2) (pass_one start seat.me.0 note.me.0.known n x was more (omega (arith, c.requires.behind, known, number)) at)
+    let at : HasAt start note.me.0.known g.C.Choice.number (entry seat.me.0.mark x) = rw (c.note.view_is, number, ← same) c.requires.stands in
+    subst (λ (m : Me ℕ View). IsPass start m.0) (sym c.join_seat.ensures.2) (pass_one start seat.me.0 note.me.0.known g.C.Choice.number x (rw is c.requires.is_pass) (rw (is, c.note.view_is) c.requires.begins) (omega (arith, c.requires.behind, known, number)) at)

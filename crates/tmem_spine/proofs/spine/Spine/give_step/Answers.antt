@@ -5,11 +5,6 @@ use Rattle.tmem_spine.proofs.spine.Spine.give_step.Goals as goal
 
 pub split_seat-requires : goal.split_seat-requires
 split_seat-requires g c =
-    let of = c.core.invariant in
     let spine = c.args.self.now.named in
-    let t = c.args.self.now.table.shared in
-    let seat = c.core.inside.seat in
-    let is = c.core.view_is in
-    let role = ap (λ (v : View). v.role) is ∙ c.requires.role in
-    let given = ap (λ (v : View). v.given) is in
-    (of.table ∙ sym spine.0, omega (arith, spine.2), passes t.key seat.id seat.me.0 role (of.based ∙ sym spine.1) (omega (arith, given, c.requires.few)))
+    let given = ap (λ (v : View). v.given) c.core.view_is in
+    (c.core.invariant.table ∙ sym spine.0, omega (arith, spine.2), passes _ _ _ (rw c.core.view_is c.requires.role) (c.core.invariant.based ∙ sym spine.1) (omega (arith, given, c.requires.few)))

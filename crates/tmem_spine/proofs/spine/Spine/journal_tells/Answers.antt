@@ -1,14 +1,8 @@
-use Rattle.std.proofs.Common.{arith, sym, ap, ◌∙◌}
-use Rattle.tmem_spine.specs.declared.view.View.{View}
+use Rattle.std.proofs.Common.{arith, sym, ◌∙◌}
 use Rattle.tmem_spine.proofs.Noted.{journal_notes}
 use Rattle.tmem_spine.proofs.spine.Spine.journal_tells.Goals as goal
 
 pub split_seat-requires : goal.split_seat-requires
 split_seat-requires g c =
-    let of = c.journal.invariant in
     let spine = c.args.self.now.named in
-    let t = c.args.self.now.table.shared in
-    let seat = c.journal.inside.seat in
-    let is = c.journal.view_is in
-    let role = ap (λ (v : View). v.role) is ∙ c.requires in
-    (of.table ∙ sym spine.0, omega (arith, spine.2), journal_notes t.key seat.id seat.me.0 role (of.based ∙ sym spine.1))
+    (c.journal.invariant.table ∙ sym spine.0, omega (arith, spine.2), journal_notes _ _ _ (rw c.journal.view_is c.requires) (c.journal.invariant.based ∙ sym spine.1))

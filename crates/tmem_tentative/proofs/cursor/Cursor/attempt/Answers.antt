@@ -1,7 +1,7 @@
 use Rattle.tmem_tentative.specs.declared.attempt.Progress.TheVariants.{Ended}
 use Rattle.tmem_tentative.specs.Cursors.{given, outcome_of}
 use Rattle.tmem_tentative.proofs.CursorStands.{at_made}
-use Rattle.tmem_tentative.proofs.MadeOutcomes.{made_right}
+use Rattle.tmem_tentative.proofs.RightOutcomes.{made_right}
 use Rattle.tmem_tentative.proofs.cursor.Cursor.attempt.Goals as goal
 
 pub returns-clause-right : goal.returns-clause-right

@@ -1,4 +1,5 @@
-use Rattle.std.proofs.Common.{List, refl, ap}
+use Rattle.std.proofs.Common.{List, length, length-append, refl, ap, arith}
+use Rattle.std.proofs.lemmas.List.{length-replicate}
 use Rattle.std.specs.Prelude.{Result, Ok, Err, IfErr}
 use Rattle.tmem_tentative.specs.declared.save.Save.{Save}
 use Rattle.tmem_tentative.specs.Places.{place_of}
@@ -9,7 +10,8 @@ use Rattle.tmem_tentative.proofs.cursor.Cursor.restart.Goals as goal
 
 pub returns-clause-at : goal.returns-clause-at
 returns-clause-at c = λ m.
-    start_stands m c.args.plan.now _ _ c.clear-2.ensures refl c.clear.ensures c.truncate.ensures.entries c.in_ok-make_room.ensures.enough c.make_room.ensures.limits
+    let long = simp (length-append, length-replicate) at (ap (λ (l : List Save). length l) c.in_ok-make_room.ensures.added) in
+    start_stands m c.args.plan.now _ _ c.clear-2.ensures refl c.clear.ensures c.truncate.ensures.entries (omega (arith, long)) c.make_room.ensures.limits
 
 -- what holds whatever the answer is
 on_err : {T E : Type 0} (r : Result T E) (P : Type 0) → P → IfErr r (λ _. P)

@@ -6,7 +6,8 @@ use Rattle.tmem_tentative.specs.declared.attempt.Progress.TheVariants.{Ended}
 use Rattle.tmem_tentative.specs.Cursors.{given, outcome_of, Answered}
 use Rattle.tmem_tentative.specs.Fits.{IsWithin, IsNamed}
 use Rattle.tmem_tentative.proofs.CursorStands.{at_made}
-use Rattle.tmem_tentative.proofs.MadeOutcomes.{made_right, copy_made}
+use Rattle.tmem_tentative.proofs.MadeOutcomes.{copy_made}
+use Rattle.tmem_tentative.proofs.RightOutcomes.{made_right}
 use Rattle.tmem_tentative.proofs.cursor.Cursor.resume.Goals as goal
 
 pub returns-in-Need-clause-within : goal.returns-in-Need-clause-within

@@ -11,4 +11,4 @@ invariant_of-self-clause-waits g c =
     let o = c.args.self.now in
     let durable = journal.state_of o.journal in
     let es = accepted_by c.settle.result c.attempt.result.now.effect in
-    ap (fold durable) c.settle.ensures.waiting ∙ fold-append durable (waiting_of o.core) es ∙ ap (λ (s : State). fold s es) o.waits ∙ sym c.settle.ensures.state
+    ap (λ v. fold durable v.waiting) c.settle.ensures.view ∙ fold-append durable (waiting_of o.core) es ∙ ap (λ (s : State). fold s es) o.waits ∙ sym (ap (λ v. v.state) c.settle.ensures.view)

@@ -7,49 +7,50 @@ use Rattle.tmem_tree.specs.Plans.{BreaksNone, IsLeastBroken, FitsSteps, FitsVari
 use Rattle.tmem_tentative.specs.Cursors.{IsAt}
 use Rattle.tmem_world.specs.Slots.{FitsSlot}
 use Rattle.tmem_world.specs.WorldModel.{holding, slot_at, Begun, IsPlanFault}
-use Rattle.tmem_world.specs.Represents.{held_of, setting_of}
-use Rattle.tmem_world.proofs.Points.{in_session, with_slot, same_point, slot_holds, same_attempt}
-use Rattle.tmem_world.proofs.HeldTables.{known_names}
+use Rattle.tmem_event.specs.declared.event.Reply.TheVariants as reply
+use Rattle.tmem_world.specs.Replies.{failures_by}
+use Rattle.tmem_world.specs.Represents.{device_of, held_of, setting_of}
+use Rattle.tmem_world.proofs.Points.{slots_answered, in_session, with_slot, same_point, slot_holds, same_attempt}
 use Rattle.tmem_world.proofs.HeldSlots.{begun_fits, held_again}
 use Rattle.tmem_world.proofs.world.World.begin.Goals as goal
 
-pub returns-in-Ok-begin-clause-step : goal.returns-in-Ok-begin-clause-step
-returns-in-Ok-begin-clause-step g c = λ program means m r keeps.
+pub returns-in-Ok-begin : goal.returns-in-Ok-begin
+returns-in-Ok-begin g c =
     let w = c.args.self.now in
-    let names = known_names program w means in
-    let fine = subst (λ (ns : List (List ℕ)). BreaksNone (g.S.StoredSteps.arities w.steps) w.layout.vars ns c.args.tx) (c.deref.ensures.value ∙ sym names) c.in-Ok.ensures.fine in
     let new = c.begin.new.self in
     let so = c.in-Ok-begin.ensures in
-    let is = c.in-Ok.ensures.plan in (
+    let is = c.in-Ok.ensures.plan in
+    slots_answered w _ _ _ refl refl refl (g.met.D.Disk.is_device (device_of w))
+    (λ program means m r keeps. (
       holding m c.args.slot (Begun c.args.tx []),
-      in_session program (held_of w) m _ _ _ r.session (search rules) (fine, refl),
+      in_session program (held_of w) m _ _ _ r.session (search rules) (subst (λ (ns : List (List ℕ)). BreaksNone (g.S.StoredSteps.arities w.steps) w.layout.vars ns c.args.tx) (c.deref.ensures.value ∙ sym (means.invariants.names ∙ w.named)) c.in-Ok.ensures.fine, refl),
       with_slot program w _ m c.args.slot new (Begun c.args.tx []) r (record { plan = so.plan ∙ ap Some is; at = subst (λ (p : Tx). IsAt program.steps p new.cursor) is (so.at program.steps); given = so.given }, so.going) refl refl refl,
-    )
+    )) tt (λ n. refl) tt
 
-pub returns-in-Err-begin-clause-step : goal.returns-in-Err-begin-clause-step
-returns-in-Err-begin-clause-step g c = λ program means m r keeps.
+pub returns-in-Err-begin : goal.returns-in-Err-begin
+returns-in-Err-begin g c =
     let w = c.args.self.now in
     let below : c.args.slot < length w.slots.items = omega (arith, w.sized) in
     let old = c.index_mut.result.now in
     let new = c.begin.new.self in
-    let holds = slot_holds program _ m c.args.slot old r below c.index_mut.ensures.value in
     let so = c.in-Err-begin.ensures in
-    let may : IsPlanFault (setting_of w program) c.args.tx c.in-Err-begin.fault = subst (λ (f : Fault). IsPlanFault (setting_of w program) c.args.tx f) (sym so.same.0) tt in (
+    slots_answered w _ _ _ refl refl refl (g.met.D.Disk.is_device (device_of w))
+    (λ program means m r keeps.
+    let fine = subst (λ (ns : List (List ℕ)). BreaksNone (g.S.StoredSteps.arities w.steps) w.layout.vars ns c.args.tx) (c.deref.ensures.value ∙ sym (means.invariants.names ∙ w.named)) c.in-Ok.ensures.fine in
+    let may : IsPlanFault (setting_of w program) c.args.tx c.in-Err-begin.fault = subst (λ (f : Fault). IsPlanFault (setting_of w program) c.args.tx f) (sym so.same.0) fine in (
       holding m c.args.slot (slot_at m c.args.slot),
       in_session program (held_of w) m _ _ _ r.session (search rules) (may, same_attempt m c.args.slot),
-      with_slot program w _ m c.args.slot new (slot_at m c.args.slot) r (held_again program (slot_at m c.args.slot) old new so.same.1 so.same.2 so.stays holds) refl refl refl,
-    )
+      with_slot program w _ m c.args.slot new (slot_at m c.args.slot) r (held_again program (slot_at m c.args.slot) old new so.same.1 so.same.2 so.stays (slot_holds program _ m c.args.slot old r below c.index_mut.ensures.value)) refl refl refl,
+    )) tt (λ n. ap (λ (f : Fault). failures_by (reply.Fault f) n) so.same.0) tt
 
-pub returns-in-Err-clause-step : goal.returns-in-Err-clause-step
-returns-in-Err-clause-step g c = λ program means m r keeps.
+pub returns-in-Err : goal.returns-in-Err
+returns-in-Err g c =
     let w = c.args.self.now in
-    let names = known_names program w means in
     let least = c.in-Err.ensures.least in
-    let so = subst (λ (ns : List (List ℕ)). IsLeastBroken (g.S.StoredSteps.arities w.steps) w.layout.vars ns c.args.tx least.0) (c.deref.ensures.value ∙ sym names) least.2 in (
-      m,
-      in_session program (held_of w) m _ _ _ r.session (search rules) (rw least.1 so, refl),
-      same_point _ _ refl program m r refl refl,
-    )
+    slots_answered w _ _ _ refl refl refl (g.met.D.Disk.is_device (device_of w))
+    (λ program means m r keeps.
+    let so = subst (λ (ns : List (List ℕ)). IsLeastBroken (g.S.StoredSteps.arities w.steps) w.layout.vars ns c.args.tx least.0) (c.deref.ensures.value ∙ sym (means.invariants.names ∙ w.named)) least.2 in
+    (m, in_session program (held_of w) m _ _ _ r.session (search rules) (rw least.1 so, refl), same_point _ _ refl program m r refl refl)) tt (λ n. ap (λ (f : Fault). failures_by (reply.Fault f) n) least.1) tt
 
 pub invariant_of-self-2 : goal.invariant_of-self-2
 invariant_of-self-2 g c =

@@ -4,8 +4,8 @@ use Rattle.tmem_core.specs.Held.{state_of}
 use Rattle.tmem_world.specs.declared.held.Held.TheVariants.{With}
 use Rattle.tmem_world.specs.Slots.{FitsSlot}
 use Rattle.tmem_world.specs.WorldModel.{holding, slot_at}
-use Rattle.tmem_world.specs.Represents.{held_of}
-use Rattle.tmem_world.proofs.Points.{held_is, is_with, in_session, with_slot, slot_holds, session_at}
+use Rattle.tmem_world.specs.Represents.{device_of, held_of}
+use Rattle.tmem_world.proofs.Points.{slots_answered, held_is, is_with, in_session, with_slot, slot_holds, session_at}
 use Rattle.tmem_world.proofs.HeldSlots.{fits_session, fits_world, plan_fits}
 use Rattle.tmem_world.proofs.TurnedPoints.{turns}
 use Rattle.tmem_world.proofs.world.World.turn.Goals as goal
@@ -31,17 +31,18 @@ invariant_of-self g c =
       fit = All-set (FitsSlot w.layout.vars (g.S.StoredSteps.arities w.steps) (g.S.StoredSteps.is_stated w.steps) w.names.items) w.slots.items c.args.slot c.turn.new.self (fits_world w o before c.turn.new.self c.turn.ensures.fits) w.fit;
     }
 
-pub returns-in-Some-With-clause-step : goal.returns-in-Some-With-clause-step
-returns-in-Some-With-clause-step g c = λ program stated m r keeps.
+pub returns-in-Some-With : goal.returns-in-Some-With
+returns-in-Some-With g c =
     let w = c.args.self.now in
     let o = c.in-Some-With.session in
     let before : held_of w ≡ With o = held_is w.held w.here (With o) (search rules) in
     let below : c.args.slot < length w.slots.items = omega (arith, w.sized) in
     let old = c.index_mut.result.now in
     let new = c.turn.new.self in
-    let holds = slot_holds program _ m c.args.slot old r below c.index_mut.ensures.value in
     let so = c.turn.ensures in
-    let state = (session_at program w m o before r).state in
-    let done = turns program m c.args.slot old new (state_of o.core) state (g.S.StoredSteps.is_stated w.steps) stated.steps (slot_at m c.args.slot) c.turn.result refl holds so.idle so.ended so.begun so.plan
-    (λ plan is. (plan_fits _ _ _ _ new plan is so.fits).at program.steps stated.steps) in
-    (holding m c.args.slot done.0, in_session program (held_of w) m _ _ _ r.session (is_with (held_of w) o before) done.1, with_slot program w _ m c.args.slot new done.0 r done.2 refl refl refl)
+    slots_answered w _ _ _ refl refl refl (g.met.D.Disk.is_device (device_of w))
+    (λ program means m r keeps.
+    let holds = slot_holds program _ m c.args.slot old r below c.index_mut.ensures.value in
+    let done = turns program m c.args.slot old new (state_of o.core) (session_at program w m o before r).state (g.S.StoredSteps.is_stated w.steps) means.steps (slot_at m c.args.slot) c.turn.result refl holds so.idle so.ended so.begun so.plan
+    (λ plan is. (plan_fits _ _ _ _ new plan is so.fits).at program.steps means.steps) in
+    (holding m c.args.slot done.0, in_session program (held_of w) m _ _ _ r.session (is_with (held_of w) o before) done.1, with_slot program w _ m c.args.slot new done.0 r done.2 refl refl refl)) tt so.failures tt

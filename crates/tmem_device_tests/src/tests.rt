@@ -1,0 +1,7 @@
+//! Tests of what lies on a device, as tables of acts.
+mod acts;
+mod counting;
+mod disks;
+mod files;
+mod images;
+mod journals;

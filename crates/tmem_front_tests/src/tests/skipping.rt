@@ -1,0 +1,37 @@
+//! A clock that goes on by a time at each reading.
+use std::io;
+use std::rt::Clock;
+use std::sync::Wait;
+use std::sync::atomic::{AtomicU64, Ordering};
+use std::time::Duration;
+
+/// The clock of a handle, which was so much further at each reading.
+#[derive(Drop)]
+pub(super) struct Skipping<'a, R> {
+    rt: &'a R,
+    skip: Duration,
+    readings: AtomicU64,
+}
+
+impl<'a, R> Skipping<'a, R> {
+    /// It was not read yet.
+    pub(super) fn new(rt: &'a R, skip: Duration) -> Skipping<'a, R> {
+        let readings = AtomicU64::new(0);
+        Skipping { rt, skip, readings }
+    }
+}
+
+impl<R: Wait> Wait for Skipping<'_, R> {}
+
+impl<R: Clock> Clock for Skipping<'_, R> {
+    fn monotonic(&self) -> io::Result<Duration> {
+        let reading = self.readings.fetch_add(1, Ordering::SeqCst);
+        let times = u32::try_from(reading).unwrap_or(u32::MAX);
+        let skipped = self.skip.saturating_mul(times);
+        Ok(self.rt.monotonic()?.saturating_add(skipped))
+    }
+
+    fn since_1970(&self) -> io::Result<Duration> {
+        self.rt.since_1970()
+    }
+}

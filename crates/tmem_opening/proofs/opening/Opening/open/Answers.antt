@@ -1,0 +1,74 @@
+use Rattle.std.proofs.Common.{◌≡◌, Some, sym, subst}
+use Rattle.tmem_disk.specs.Disk.{SameDevice}
+use Rattle.tmem_disk.specs.declared.fault.Fault.TheVariants as fault
+use Rattle.tmem_record.specs.State.{State}
+use Rattle.tmem_invariants.specs.Meanings.{IsSound}
+use Rattle.tmem_core.specs.Opening.{opening_fault}
+use Rattle.tmem_core.specs.Program.{IsProgramOf}
+use Rattle.tmem_journal.specs.Held as journal
+use Rattle.tmem_opening.specs.Opening.{OpeningRefused}
+use Rattle.tmem_opening.proofs.Laws.{given_up}
+use Rattle.tmem_opening.proofs.Refusals.{mending, same, journal_refused, core_refused, only_memory}
+use Rattle.tmem_opening.proofs.opening.Opening.open.Goals as goal
+
+pub returns-in-Err-clause-refused : goal.returns-in-Err-clause-refused
+returns-in-Err-clause-refused g c =
+    let so = c.in-Err.ensures in
+    let old = g.D.Disk.view c.args.disk in
+    let new = g.D.Disk.view c.in-Err.disk in
+    let mends = mending c.args.vars c.args.slots old new (g.met.D.Disk.is_device c.in-Err.disk) so.seen so.any_moment so.elsewhere so.looks in
+    journal_refused _ c.args.vars c.args.slots old new c.in-Err.fault mends so.uses so.refused so.refused_looks
+    (λ is. subst (λ x. SameDevice old (g.D.Disk.view x)) (sym (so.memory is)) (same old))
+
+pub returns-in-Err-clause-mends : goal.returns-in-Err-clause-mends
+returns-in-Err-clause-mends g c = (returns-in-Err-clause-refused g c).mends
+
+pub returns-in-Ok-made-clause-mends : goal.returns-in-Ok-made-clause-mends
+returns-in-Ok-made-clause-mends g c =
+    let opened = c.in-Ok.ensures in
+    mending c.args.vars c.args.slots (g.D.Disk.view c.args.disk) (journal.device_of c.in-Ok.journal) (g.met.D.Disk.is_device (journal.disk_of c.in-Ok.journal)) opened.seen opened.any_moment opened.elsewhere opened.looks
+
+pub returns-in-Err-made-clause-refused : goal.returns-in-Err-made-clause-refused
+returns-in-Err-made-clause-refused g c =
+    let j = c.in-Ok.journal in
+    let opened = c.in-Ok.ensures in
+    let old = g.D.Disk.view c.args.disk in
+    let mends = mending c.args.vars c.args.slots old (journal.device_of j) (g.met.D.Disk.is_device (journal.disk_of j)) opened.seen opened.any_moment opened.elsewhere opened.looks in
+    subst (λ x. OpeningRefused (IsProgramOf g.T.Invariants c.args.table) c.args.vars c.args.slots old fault.Memory (g.D.Disk.view x)) (sym c.into_disk-in-Err-made.ensures)
+    (given_up g.T.Invariants c.args.table c.args.vars c.args.slots old (journal.device_of j) opened.uses opened.fits.2 mends (journal.position_of j) (journal.state_of j) opened.found
+    (λ m stated. subst (λ (x : State). IsSound m (g.T.Invariants.names c.args.table) x.names x.values) c.state.ensures (c.in-Ok-new.ensures.sound m stated)))
+
+pub returns-in-Err-made-clause-mends : goal.returns-in-Err-made-clause-mends
+returns-in-Err-made-clause-mends g c = (returns-in-Err-made-clause-refused g c).mends
+
+pub returns-in-Err-new-clause-refused : goal.returns-in-Err-new-clause-refused
+returns-in-Err-new-clause-refused g c =
+    let theirs = IsProgramOf g.T.Invariants c.args.table in
+    let j = c.in-Ok.journal in
+    let opened = c.in-Ok.ensures in
+    let so = c.in-Err-new.ensures in
+    let old = g.D.Disk.view c.args.disk in
+    let mends = mending c.args.vars c.args.slots old (journal.device_of j) (g.met.D.Disk.is_device (journal.disk_of j)) opened.seen opened.any_moment opened.elsewhere opened.looks in
+    subst (λ x. OpeningRefused theirs c.args.vars c.args.slots old c.in-Err-new.fault (g.D.Disk.view x)) (sym c.into_disk.ensures)
+    (core_refused theirs c.args.vars c.args.slots old (journal.device_of j) c.in-Err-new.fault mends opened.uses opened.fits.2 so.refused (journal.position_of j) (journal.state_of j) opened.found
+    (λ no p are. (
+      subst (λ (x : State). opening_fault p x ≡ Some c.in-Err-new.fault) c.state.ensures (so.fault p are no),
+      subst (λ (x : State). ¬ IsSound p.tests p.names x.names x.values) c.state.ensures
+          (subst (λ ns. ¬ IsSound p.tests ns c.state.result.now.names c.state.result.now.values) (sym are.names) (so.unsound p.tests are.tests no)),
+    ))
+    (λ is p are.
+    subst (λ (x : State). IsSound p.tests p.names x.names x.values) c.state.ensures
+    (subst (λ ns. IsSound p.tests ns c.state.result.now.names c.state.result.now.values) (sym are.names) (so.memory p.tests are.tests is))))
+
+pub returns-in-Err-new-clause-mends : goal.returns-in-Err-new-clause-mends
+returns-in-Err-new-clause-mends g c = (returns-in-Err-new-clause-refused g c).mends
+
+pub returns-in-Err-new-clause-recovers : goal.returns-in-Err-new-clause-recovers
+returns-in-Err-new-clause-recovers g c = λ p a b are sound_a sound_b fits left keeps.
+    let so = c.in-Err-new.ensures in
+    let s = journal.state_of c.in-Ok.journal in
+    let either = c.in-Ok.ensures.either a b fits left (subst (λ x. (g.D.Disk.view x).keeps_model) c.into_disk.ensures keeps) in
+    only_memory p s a b c.in-Err-new.fault so.refused
+    (λ no. subst (λ (x : State). ¬ IsSound p.tests p.names x.names x.values) c.state.ensures
+    (subst (λ ns. ¬ IsSound p.tests ns c.state.result.now.names c.state.result.now.values) (sym are.names) (so.unsound p.tests are.tests no)))
+    either sound_a sound_b

@@ -1,0 +1,130 @@
+// A store that was opened.
+ghost use Rattle.std.specs.Prelude.{◌≡◌, [], false, length, IfOk, IfErr};
+ghost use Rattle.tmem_disk.specs.Disk.{LeavesOnly};
+ghost use Rattle.tmem_gate.specs.Calls.{Uses};
+ghost use Rattle.tmem_record.specs.State.{State};
+ghost use Rattle.tmem_invariants.specs.Meanings.{Meanings, IsSound};
+ghost use Rattle.tmem_core.specs.Held.{state_of, waiting_of, durable_of, is_shut_of, table_of as core_table};
+ghost use Rattle.tmem_core.specs.Program.{Program, IsProgramOf};
+ghost use Rattle.tmem_journal.specs.Calls.{FitsOn};
+ghost use Rattle.tmem_journal.specs.Held.{disk_of, doubtful_of, is_closed_of, state_of as durable_state};
+ghost use Rattle.tmem_journal.specs.Stands.{StandsFor, StandsForEither};
+
+use std::alloc::{AllocError, Global};
+use tmem_core::Core;
+use tmem_disk::{Disk, Fault, Name};
+use tmem_invariants::Invariants;
+use tmem_journal::Journal;
+use tmem_record::Batch;
+
+/// A store that was opened: a core of the state that was found, with the table that was handed in, and the journal that goes
+/// on from there. Nothing waits, and nothing is doubtful.
+#[derive(Drop)]
+pub struct Opening<D: Disk, T: Invariants> {
+    pub core: Core<T>,
+    pub journal: Journal<D>,
+    /// What a flush hands to the journal.
+    pub batch: Batch,
+    /// The names of the table's invariants, in its order.
+    pub names: Vec<Name>,
+    pub ghost found: { state_of core ≡ durable_state journal },
+    pub ghost waits: { waiting_of core ≡ [] },
+    pub ghost known: { durable_of core ≡ (state_of core).count },
+    pub ghost running: { is_shut_of core ≡ false },
+    pub ghost open: { is_closed_of journal ≡ false },
+    pub ghost sure: { doubtful_of journal ≡ durable_state journal },
+    pub ghost named: { T.names (core_table core) ≡ names.items },
+}
+
+impl<D: Disk + Drop, T: Invariants + Drop> Opening<D, T> {
+    ghost use Rattle.tmem_opening.specs.Held.{device_of, device_after, answer_alone, found_of, position_of, layout_of, table_of};
+    ghost use Rattle.tmem_opening.specs.Opening.{Mending, OpeningRefused, FindsEither};
+
+    /// Opens a device of these numbers: finds what its content stands for, with these invariants. Refused by `Geometry` where
+    /// the numbers are out of limits, the device is smaller than their layout, or it was formatted for others; by
+    /// `NotFormatted` where it lacks the open block 0 with its letters; else by `Damaged` where its content stands for no
+    /// state; by `Missing` with the first registered name, by bytes, that the table lacks; by `Broken` with the first
+    /// registered invariant, in the table's order, that is false; by `Memory`, before the device is touched or where the state
+    /// that was found is sound; by `Device` where a call of the device failed. The device and the table are handed back with
+    /// the refusal. Gates that read open behind the log are closed, and nothing else is written: nothing at all before a
+    /// refusal by `Geometry`, `NotFormatted` or `Damaged`.
+    pub fn open(
+        alloc: Global,
+        disk: D,
+        vars: u16,
+        slots: u16,
+        table: T,
+    ) -> Result<Opening<D, T>, (Fault, D, T)>
+        requires { T.vars table ≡ vars }
+
+        // The state that the content stands for is found, and no invariant that is registered in it is false there.
+        ensures found { IfOk result (λ o. (device_of o).keeps_model → StandsFor vars slots (position_of o) (found_of o) (D.view disk).seen) }
+        ensures sound { (m : Meanings) → T.is_stated table m → IfOk result (λ o. IsSound m (T.names table) (found_of o).names (found_of o).values) }
+        ensures leaves { IfOk result (λ o. LeavesOnly (device_of o) (StandsFor vars slots (position_of o) (found_of o))) }
+        ensures values { IfOk result (λ o. length (found_of o).values ≡ vars) }
+        ensures fits { IfOk result (λ o. ((layout_of o).vars ≡ vars) × ((layout_of o).slots ≡ slots) × FitsOn vars slots (D.view disk).capacity) }
+        ensures table { IfOk result (λ o. table_of o ≡ table) }
+        ensures back { IfErr result (λ e. e.2 ≡ table) }
+        ensures uses { Uses (D.view disk) (device_after result) (answer_alone result) }
+        ensures mends { Mending vars slots (D.view disk) (device_after result) }
+        ensures refused { IfErr result (λ e. OpeningRefused (IsProgramOf T.Invariants table) vars slots (D.view disk) e.0 (D.view e.1)) }
+
+        // Where every crash left one of two states, and both are sound, one of them is found, unless memory or the device
+        // fails.
+        ensures recovers { (p : Program) (a b : State) → IsProgramOf T.Invariants table p
+            → IsSound p.tests p.names a.names a.values → IsSound p.tests p.names b.names b.values
+            → FitsOn vars slots (D.view disk).capacity → LeavesOnly (D.view disk) (StandsForEither vars slots a b)
+            → (device_after result).keeps_model → FindsEither result a b }
+
+        // Where the numbers do not fit the device, no call of it is made: the one that was handed in is handed back.
+        ensures untouched { ¬ FitsOn vars slots (D.view disk).capacity → IfErr result (λ e. e.1 ≡ disk) }
+    {
+        let journal = match Journal::open(alloc, disk, vars, slots) {
+            Ok(journal) => journal,
+            Err((fault, disk)) => return Err((fault, disk, table)),
+        };
+        // whether these found room is looked at last, so that want of memory hides no refusal of the state
+        let made = parts(alloc, &table);
+        let core = match Core::new(alloc, journal.state(), table) {
+            Ok(core) => core,
+            Err((fault, table)) => return Err((fault, journal.into_disk(), table)),
+        };
+        match made {
+            Ok((names, batch)) => Ok(Opening {
+                core,
+                journal,
+                batch,
+                names,
+            }),
+            Err(_) => Err((Fault::Memory, journal.into_disk(), core.into_table())),
+        }
+    }
+
+    /// The device, where the store is not used after all.
+    pub fn into_disk(self) -> D
+        ensures { result ≡ disk_of self.journal }
+    {
+        let Opening { journal, .. } = self;
+        journal.into_disk()
+    }
+}
+
+// What takes memory beside the journal and the core.
+fn parts<T: Invariants>(alloc: Global, table: &T) -> Result<(Vec<Name>, Batch), AllocError>
+    ensures { IfOk result (λ made. made.0.items ≡ T.names table.now) }
+{
+    let names = names_of(alloc, table)?;
+    let batch = Batch::new(alloc)?;
+    Ok((names, batch))
+}
+
+// The names of a table, in its order.
+fn names_of<T: Invariants>(alloc: Global, table: &T) -> Result<Vec<Name>, AllocError>
+    ensures { IfOk result (λ names. names.items ≡ T.names table.now) }
+{
+    let mut names = Vec::with_capacity(alloc, table.len())?;
+    for place in 0..table.len() {
+        names.push(table.name(place))?;
+    }
+    Ok(names)
+}

@@ -1,0 +1,319 @@
+//! A front by one caller: transactions of each form and at each limit, by each call that settles them.
+ghost use Rattle.std.specs.Prelude.{◌≡◌};
+ghost use Rattle.tmem_front.specs.Held.{found_of, spine_of, steps_of, table_of};
+ghost use Rattle.tmem_tests.specs.Examples.{built_in};
+ghost use Rattle.tmem_tree.specs.Plans.{FitsSteps, FitsVariables, FitsNames};
+
+use super::{formatted, write};
+use std::alloc::{AllocError, Global};
+use std::marker::Brand;
+use std::process::Abort;
+use std::rt::Clock;
+use std::sync::Wait;
+use std::test::Fail;
+use std::time::Duration;
+use tmem_builtins::{builtin_table, names, stored_steps};
+use tmem_disk::{Disk, Fault};
+use tmem_front::{Front, OpenedFront, Pass, StoreNaming};
+use tmem_invariants::Invariants;
+use tmem_tree::{Plan, StoredSteps, Tx};
+use tmem_world::Settled;
+
+/// A call that settles a transaction, or an attempt with its settle.
+#[derive(Clone, Copy, Debug)]
+enum Call {
+    AttemptAndSettle,
+    TryAtomically,
+    Atomically,
+    AtomicallyWithin,
+    AtomicallyWithRoom,
+    CommitDurable,
+}
+
+const ALL: &[Call] = &[
+    Call::AttemptAndSettle,
+    Call::TryAtomically,
+    Call::Atomically,
+    Call::AtomicallyWithin,
+    Call::AtomicallyWithRoom,
+    Call::CommitDurable,
+];
+
+/// Those that await no flush of what they commit.
+const NOT_AWAITING: &[Call] = &[
+    Call::AttemptAndSettle,
+    Call::TryAtomically,
+    Call::Atomically,
+    Call::AtomicallyWithin,
+    Call::AtomicallyWithRoom,
+];
+
+/// Those that wait for no room.
+const REFUSED_ROOM: &[Call] = &[
+    Call::AttemptAndSettle,
+    Call::TryAtomically,
+    Call::Atomically,
+    Call::AtomicallyWithin,
+];
+
+#[derive(Clone, Copy, Debug)]
+enum Task {
+    /// Writes a 1 to variable 0.
+    Write,
+    /// Has each form. It writes a 5 to variable 0, and aborts with 7 where the number is not 0.
+    EachForm(i64),
+    /// Has 512 nodes, is 32 deep, writes this number to 64 variables, and checks 8 times that variable 0 is not negative.
+    Largest(i64),
+    /// Reads 500 variables.
+    Reads,
+}
+
+/// How it ends.
+#[derive(Clone, Copy, Debug, PartialEq)]
+enum Ends {
+    /// With the next number, from 0.
+    Commits,
+    /// Sees what there was before anything was accepted, and has no number in any register.
+    SeesNothing,
+    Aborts(u16),
+    Breaks,
+    IsFull,
+    Otherwise,
+}
+
+/// By which calls what is settled, how often by each, and how it ends.
+const ROWS: &[(&[Call], Task, u32, Ends)] = &[
+    (ALL, Task::EachForm(1), 1, Ends::Aborts(7)),
+    (ALL, Task::Largest(-1), 1, Ends::Breaks),
+    (ALL, Task::Reads, 1, Ends::SeesNothing),
+    (NOT_AWAITING, Task::EachForm(0), 1, Ends::Commits),
+    (NOT_AWAITING, Task::Largest(1), 1, Ends::Commits),
+    // 256 wait then
+    (&[Call::TryAtomically], Task::Write, 246, Ends::Commits),
+    (REFUSED_ROOM, Task::Largest(1), 1, Ends::IsFull),
+];
+
+impl Task {
+    fn tx(self, alloc: Global) -> Result<Tx, Fault> {
+        match self {
+            Task::Write => write(alloc, 0, 1),
+            Task::EachForm(aborts) => Ok(each_form(alloc, aborts)?),
+            Task::Largest(number) => Ok(largest(alloc, number)?),
+            Task::Reads => Ok(reads(alloc)?),
+        }
+    }
+}
+
+fn each_form(alloc: Global, aborts: i64) -> Result<Tx, AllocError> {
+    let args = vec![in alloc; 0, 0]?;
+    let retries = Box::new(alloc, Tx::Retry)?;
+    let writes = Box::new(alloc, Tx::Write { var: 0, reg: 0 })?;
+    let then = Box::new(alloc, Tx::Abort { code: 7 })?;
+    let other = Box::new(alloc, Tx::Skip)?;
+    Ok(Tx::Seq(vec![in alloc;
+        Tx::Put { reg: 0, number: 5 },
+        Tx::Put {
+            reg: 3,
+            number: aborts
+        },
+        Tx::Read { var: 1, reg: 1 },
+        Tx::OrElse(retries, writes),
+        Tx::Step {
+            index: 0,
+            args,
+            out: 2
+        },
+        Tx::Check { name: names()[0] },
+        Tx::When {
+            reg: 3,
+            then,
+            other
+        },
+    ]?))
+}
+
+fn largest(alloc: Global, number: i64) -> Result<Tx, AllocError> {
+    let mut all = vec![in alloc; Tx::Put { reg: 0, number }]?;
+    for var in 0..64 {
+        all.push(Tx::Write { var, reg: 0 })?;
+    }
+    for _ in 0..8 {
+        all.push(Tx::Check { name: names()[0] })?;
+    }
+    for _ in 0..408 {
+        all.push(Tx::Skip)?;
+    }
+    let mut tx = Tx::Seq(all);
+    for _ in 0..30 {
+        tx = Tx::Seq(vec![in alloc; tx]?);
+    }
+    Ok(tx)
+}
+
+fn reads(alloc: Global) -> Result<Tx, AllocError> {
+    let mut all = Vec::new(alloc);
+    for var in 0..500 {
+        all.push(Tx::Read { var, reg: 0 })?;
+    }
+    Ok(Tx::Seq(all))
+}
+
+/// What a plan is settled with by a call.
+fn settled<
+    D: Disk + Drop,
+    N: StoreNaming,
+    T: Invariants + Drop,
+    S: StoredSteps + Drop,
+    R: Clock + Wait,
+>(
+    rt: &R,
+    front: &Front<D, N, T, S>,
+    pass: &mut Pass<N>,
+    plan: &Plan,
+    call: Call,
+) -> Result<Settled, Fault>
+    requires steps { FitsSteps (S.arities front.now.steps) plan.now }
+    requires variables { FitsVariables front.now.vars plan.now }
+    requires names { FitsNames N.program.names plan.now }
+{
+    match call {
+        Call::AttemptAndSettle => attempt_and_settle(rt, front, pass, plan),
+        Call::TryAtomically => front.try_atomically(rt, pass, plan),
+        Call::Atomically => front.atomically(rt, pass, plan),
+        Call::AtomicallyWithin => {
+            front.atomically_within(rt, pass, plan, Duration::from_secs(60))
+        }
+        Call::AtomicallyWithRoom => front.atomically_with_room(rt, pass, plan),
+        Call::CommitDurable => front.commit_durable(rt, pass, plan),
+    }
+}
+
+fn attempt_and_settle<
+    D: Disk + Drop,
+    N: StoreNaming,
+    T: Invariants + Drop,
+    S: StoredSteps + Drop,
+    R: Clock + Wait,
+>(rt: &R, front: &Front<D, N, T, S>, pass: &mut Pass<N>, plan: &Plan) -> Result<Settled, Fault>
+    requires steps { FitsSteps (S.arities front.now.steps) plan.now }
+    requires variables { FitsVariables front.now.vars plan.now }
+    requires names { FitsNames N.program.names plan.now }
+{
+    let attempt = front.attempt(rt, plan)?;
+    front.settle(rt, pass, &attempt)
+}
+
+/// How it ended, where so many were accepted before.
+fn end_of(settled: Result<Settled, Fault>, accepted: u64) -> Ends {
+    match settled {
+        Ok(settled) => end_settled(&settled, accepted),
+        Err(Fault::Full) => Ends::IsFull,
+        Err(_) => Ends::Otherwise,
+    }
+}
+
+fn end_settled(settled: &Settled, accepted: u64) -> Ends {
+    match settled {
+        Settled::Committed { number, .. } => end_where(*number == accepted, Ends::Commits),
+        Settled::Seen { at, registers } => {
+            end_where(*at == 0 && *registers == [0; 16], Ends::SeesNothing)
+        }
+        Settled::Aborted(code) => Ends::Aborts(*code),
+        Settled::Refused(name) => end_where(name.as_str() == "nonneg", Ends::Breaks),
+        Settled::Retry => Ends::Otherwise,
+    }
+}
+
+/// This end where it is so, and else another one.
+fn end_where(is_so: bool, end: Ends) -> Ends {
+    if is_so { end } else { Ends::Otherwise }
+}
+
+/// How a task ends by a call, where so many were accepted before.
+fn end_by<
+    D: Disk + Drop,
+    N: StoreNaming,
+    T: Invariants + Drop,
+    S: StoredSteps + Drop,
+    R: Clock + Wait,
+>(
+    rt: &R,
+    alloc: Global,
+    front: &Front<D, N, T, S>,
+    pass: &mut Pass<N>,
+    (call, task): (Call, Task),
+    accepted: u64,
+) -> Result<Ends, Fault> {
+    let plan = front.plan(task.tx(alloc)?)?;
+    Ok(end_of(settled(rt, front, pass, &plan, call), accepted))
+}
+
+/// Plays the rows.
+fn play<
+    D: Disk + Drop,
+    N: StoreNaming,
+    T: Invariants + Drop,
+    S: StoredSteps + Drop,
+    R: Abort + Clock + Wait,
+>(rt: &R, alloc: Global, front: &Front<D, N, T, S>, pass: &mut Pass<N>) -> Result<(), Fault> {
+    let mut accepted = 0u64;
+    for (calls, task, times, want) in ROWS {
+        for call in *calls {
+            for _ in 0..*times {
+                let had = end_by(rt, alloc, front, pass, (*call, *task), accepted)?;
+                assert!(rt; had == *want, "{task:?} by {call:?} ends so: {had:?}");
+                accepted = accepted.wrapping_add(u64::from(had == Ends::Commits));
+            }
+        }
+    }
+    assert!(rt; accepted == 256);
+    Ok(())
+}
+
+/// Plays them in a store that was opened.
+fn play_in<
+    N: StoreNaming,
+    D: Disk + Drop,
+    T: Invariants + Drop,
+    S: StoredSteps + Drop,
+    R: Abort + Clock + Wait,
+>(rt: &R, alloc: Global, opened: OpenedFront<D, T, S>) -> Result<(), Fault>
+    requires spine { spine_of opened ≡ N.name }
+    requires opening { found_of opened ≡ N.opening }
+    requires program { N.program ≡ built_in }
+    requires names { T.names (table_of opened) ≡ built_in.names }
+    requires stated { T.is_stated (table_of opened) built_in.tests }
+    requires steps { S.is_stated (steps_of opened) built_in.steps }
+{
+    let front = opened.named::<N>();
+    let mut pass = front.pass(rt)?;
+    play(rt, alloc, &front, &mut pass)
+}
+
+/// Plays them in a new store of 1024 variables and 64 slots.
+fn play_with<T: Invariants + Drop, S: StoredSteps + Drop, R: Abort + Clock + Wait>(
+    rt: &R,
+    alloc: Global,
+    table: T,
+    steps: S,
+) -> Result<(), Fault>
+    requires vars { T.vars table ≡ 1024 }
+    requires names { T.names table ≡ built_in.names }
+    requires tests { T.is_stated table built_in.tests }
+    requires steps { S.is_stated steps built_in.steps }
+{
+    let disk = formatted(alloc, 1024, 64)?;
+    match OpenedFront::open(alloc, disk, 1024, 64, table, steps) {
+        Ok(opened) => play_in::<Brand, _, T, S, R>(rt, alloc, opened),
+        Err((fault, _disk)) => Err(fault),
+    }
+}
+
+// at: 512 nodes, depth 32, 64 writes, 8 checks, 500 reads, 1024 variables, 64 slots, 256 waiting
+#[test]
+fn each_call_of_a_front_settles_each_form_at_each_limit(rt: HostRuntime) -> Result<(), Fail> {
+    let alloc = rt.alloc();
+    let (table, steps) = (builtin_table(alloc, 1024)?, stored_steps(alloc)?);
+    play_with(&rt, alloc, table, steps)?;
+    Ok(())
+}
