@@ -36,8 +36,7 @@ fn main(rt: HostRuntime) -> Result<()> {
     )?;
     let solvent = Invariant::new(Name::new("solvent")?, vec![in alloc; 0, 1, 2, 3]?, solvent)?;
     let table = Table::of(alloc, vec![in alloc; solvent]?, ACCOUNTS)?;
-    let steps = stored_steps(alloc)?;
-    with_device(&rt, alloc, path.as_deref(), table, steps)
+    with_device(&rt, alloc, path.as_deref(), table, stored_steps())
 }
 
 // Whether an account is below zero.

@@ -55,7 +55,7 @@ pub fn with_bank<D: Disk + Drop + Send, R: Clock + AllocGlobal + Threads + Wait 
     )?;
     let solvent = Invariant::new(Name::new(SOLVENT)?, vec![in alloc; PAYER, PAYEE]?, solvent)?;
     let table = Table::of(alloc, vec![in alloc; solvent]?, vars)?;
-    let steps = stored_steps(alloc)?;
+    let steps = stored_steps();
     match on {
         On::Core(act) => run_on_core(rt, alloc, vars, act, table, &steps),
         On::Store(disk, task) => open(rt, alloc, vars, disk, task, table, steps),

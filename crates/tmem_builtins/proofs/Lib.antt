@@ -6,5 +6,4 @@ mod Scratch
 mod Sequences
 mod Shapes
 mod Sizes
-mod Stated
 mod Tables

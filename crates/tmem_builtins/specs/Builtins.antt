@@ -1,5 +1,7 @@
 -- The program that scripts are played under: what its stored steps answer, and what its invariants mean.
-use Rattle.std.specs.Prelude.{ℕ, ℤ, Bool, true, List, [], ◌∷◌, codes, bytes_eq, find, map, slice_index_or, unwrap_or}
+use Rattle.std.specs.Prelude.{◌≤◌, ℕ, ℤ, All, Bool, true, List, [], ◌∷◌, codes, bytes_eq, find, map, slice_index_or, unwrap_or}
+use Rattle.std.proofs.Common.{lit≤}
+use Rattle.std.proofs.lemmas.List.Elements.{All-cons, All-nil}
 use Rattle.tmem_tree.specs.StepAnswers.{StepMeanings}
 use Rattle.tmem_tree.specs.declared.step.StepAnswer.{StepAnswer}
 use Rattle.tmem_tree.specs.declared.step.StepAnswer.TheVariants.{Retry}
@@ -14,6 +16,10 @@ step_answers = sum_of ∷ difference_of ∷ at_least ∷ []
 -- the step of each number: 0 is `add`, 1 is `sub`, 2 is `need`
 abbrev pub builtin_steps : StepMeanings
 builtin_steps index = slice_index_or step_answers index (λ args. Retry)
+
+-- two arguments are few
+pub three_small : All (λ n. n ≤ 4) (2 ∷ 2 ∷ 2 ∷ [])
+three_small = All-cons (λ n. n ≤ 4) 2 (2 ∷ 2 ∷ []) (lit≤ tt) (All-cons (λ n. n ≤ 4) 2 (2 ∷ []) (lit≤ tt) (All-cons (λ n. n ≤ 4) 2 [] (lit≤ tt) (All-nil (λ n. n ≤ 4))))
 
 -- each invariant's name, the variables that it is about, and what it says of their values
 abbrev pub invariants : List (List ℕ × List ℕ × (List ℤ → Bool))

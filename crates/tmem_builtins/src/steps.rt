@@ -1,17 +1,14 @@
 //! The stored steps that scripts can call, by name: `add`, `sub` and `need`.
-ghost use Rattle.std.specs.Prelude.{◌≡◌, ◌<◌, ◌∷◌, [], Some, codes, length, map, slice_index_or, IfErr, IfOk, IfSome};
-ghost use Rattle.tmem_tree.specs.StepAnswers.{MayCall, Gives};
+ghost use Rattle.std.specs.Prelude.{◌≡◌, ◌<◌, ◌∷◌, [], ℕ, ℤ, List, Some, codes, length, slice_index_or, IfSome};
 ghost use Rattle.tmem_builtins.specs.Builtins.{builtin_steps};
 ghost use Rattle.tmem_builtins.specs.Steps.{step_names, sum_of, difference_of, at_least};
 
-use std::alloc::Global;
-use tmem_disk::Fault;
-use tmem_tree::{Step, StepAnswer, StepEntry, Steps, StoredSteps};
+use tmem_tree::{StepAnswer, StoredSteps};
 
 /// The code of the abort where a result is no i64.
 const NO_NUMBER: u16 = 65535;
 
-/// Where the step of this name stands among `steps_of`, or none where there is no such step.
+/// Where the step of this name stands among `stored_steps`, or none where there is no such step.
 pub fn index_of(name: &str) -> Option<u16>
     ensures below { IfSome result (λ index. index < 3) }
     ensures add { name.now ≡ codes "add" → result ≡ Some 0 }
@@ -61,23 +58,45 @@ pub fn need(args: &[i64]) -> StepAnswer
     }
 }
 
-/// The table of the three steps, each of two arguments, in the order of `index_of`. Refused by
-/// `Memory`.
-pub fn steps_of(alloc: Global, add: Step, sub: Step, need: Step) -> Result<Steps, Fault>
-    requires add_callable { MayCall (Step.pre add) 2 }
-    requires add_stated { Gives (Step.post add) 2 sum_of }
-    requires sub_callable { MayCall (Step.pre sub) 2 }
-    requires sub_stated { Gives (Step.post sub) 2 difference_of }
-    requires need_callable { MayCall (Step.pre need) 2 }
-    requires need_stated { Gives (Step.post need) 2 at_least }
-    ensures steps { IfOk result (λ steps. map (λ entry. entry.step) steps.entries.items ≡ add ∷ sub ∷ need ∷ []) }
-    ensures arities { IfOk result (λ steps. ⟦<Steps as StoredSteps>⟧.arities steps ≡ 2 ∷ 2 ∷ 2 ∷ []) }
-    ensures stated { IfOk result (λ steps. ⟦<Steps as StoredSteps>⟧.is_stated steps builtin_steps) }
-    ensures refused { IfErr result (λ fault. fault ≡ Fault.Memory) }
+/// The steps `add`, `sub` and `need`, each of two arguments, in the order of `index_of`. They take no memory.
+#[derive(Clone, Copy, Drop)]
+pub struct BuiltinSteps;
+
+/// The three steps.
+pub fn stored_steps() -> BuiltinSteps
+    ensures arities { ⟦<BuiltinSteps as StoredSteps>⟧.arities result ≡ 2 ∷ 2 ∷ 2 ∷ [] }
+    ensures stated { ⟦<BuiltinSteps as StoredSteps>⟧.is_stated result builtin_steps }
 {
-    let mut entries = Vec::new(alloc);
-    entries.push(StepEntry::new(2, add)?)?;
-    entries.push(StepEntry::new(2, sub)?)?;
-    entries.push(StepEntry::new(2, need)?)?;
-    Steps::of(entries)
+    BuiltinSteps
+}
+
+impl StoredSteps for BuiltinSteps {
+    ghost arities = { λ _. 2 ∷ 2 ∷ 2 ∷ [] };
+
+    ghost is_stated = { λ _ m. (index : ℕ) (args : List ℤ) → index < 3 → m index args ≡ builtin_steps index args };
+
+    fn len(&self) -> usize {
+        3
+    }
+
+    fn arity(&self, _index: usize) -> usize {
+        2
+    }
+
+    fn answer(&self, index: usize, args: &[i64]) -> StepAnswer {
+        match index {
+            0 => add(args),
+            1 => sub(args),
+            _ => need(args),
+        }
+    }
+
+    ghost use Rattle.std.proofs.Common.{lit≤, refl};
+    ghost use Rattle.tmem_builtins.specs.Builtins.{three_small};
+
+    ghost few = { λ _. lit≤ tt };
+
+    ghost small = { λ _. three_small };
+
+    ghost has_meanings = { λ _. ∣ (builtin_steps, λ _ _ _. refl) ∣₁ };
 }

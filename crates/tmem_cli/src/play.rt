@@ -1,6 +1,7 @@
 //! Plays a script on a device.
 ghost use Rattle.std.specs.Prelude.{◌≡◌, ◌⊎◌, [], ◌∷◌, None, IfErr, OnOk, OnErr, length, option_map};
 ghost use Rattle.std.specs.Io.KnownBytes.{Appends};
+ghost use Rattle.tmem_builtins.specs.Invariants.{is_not_negative, add_to_hundred, are_ordered};
 ghost use Rattle.tmem_record.specs.Layout.{IsLayout};
 ghost use Rattle.tmem_script.specs.declared.failure.Failure.TheVariants.{Output, Refused};
 ghost use Rattle.tmem_world.specs.Represents.{AreMeant, KeepsSetting, WritesInStore, numbers_of, view_of};
@@ -14,7 +15,7 @@ use crate::print::{print_line, print_state};
 use std::alloc::Global;
 use std::fs::{File, Files};
 use std::io::Write;
-use tmem_builtins::{builtin_table, stored_steps};
+use tmem_builtins::{nonneg, ordered, stored_steps, sum, table_of};
 use tmem_disk::{Disk, Fault};
 use tmem_file::FileDisk;
 use tmem_invariants::Invariants;
@@ -41,9 +42,32 @@ pub(crate) fn play<R: Files<File = File> + AllocGlobal, W: Write>(
 {
     let alloc = rt.alloc();
     let layout = Layout::new(script.vars, script.slots)?;
-    let table = builtin_table(alloc, script.vars)?;
-    let steps = stored_steps(alloc)?;
-    play_with(rt, path, layout, script.entries, table, steps, out, device)
+    let at_least_zero = Box::new(
+        alloc,
+        |values: &[i64]| -> bool
+            requires { length values.now ≡ 1 }
+            ensures { result ≡ is_not_negative values.now }
+        { nonneg(values) },
+    );
+    let a_hundred = Box::new(
+        alloc,
+        |values: &[i64]| -> bool
+            requires { length values.now ≡ 2 }
+            ensures { result ≡ add_to_hundred values.now }
+        { sum(values) },
+    );
+    let in_order = Box::new(
+        alloc,
+        |values: &[i64]| -> bool
+            requires { length values.now ≡ 2 }
+            ensures { result ≡ are_ordered values.now }
+        { ordered(values) },
+    );
+    let at_least_zero = at_least_zero.map_err(Fault::from)?;
+    let a_hundred = a_hundred.map_err(Fault::from)?;
+    let in_order = in_order.map_err(Fault::from)?;
+    let table = table_of(alloc, script.vars, at_least_zero, a_hundred, in_order)?;
+    play_with(rt, path, layout, script.entries, table, stored_steps(), out, device)
 }
 
 /// Plays the entries of a script, under these invariants and with these stored steps, on a fresh device in memory or on the

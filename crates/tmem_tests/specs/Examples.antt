@@ -1,8 +1,9 @@
 -- What the tests' own tables and steps mean.
-use Rattle.std.specs.Prelude.{ℤ, pos, ◌+ℤ◌, Bool, List, int_le, slice_index_or}
+use Rattle.std.specs.Prelude.{ℤ, pos, ◌+ℤ◌, Bool, List, [], ◌∷◌, codes, int_le, slice_index_or}
 use Rattle.tmem_tree.specs.declared.step.StepAnswer.{StepAnswer}
 use Rattle.tmem_tree.specs.declared.step.StepAnswer.TheVariants.{Value}
-use Rattle.tmem_builtins.specs.Builtins.{builtin_steps, builtin_names, builtin_tests}
+use Rattle.tmem_builtins.specs.Builtins.{builtin_steps}
+use Rattle.tmem_builtins.specs.Invariants.{is_not_negative}
 use Rattle.tmem_builtins.specs.Steps.{first, second}
 use Rattle.tmem_core.specs.Program.{Program}
 
@@ -18,6 +19,10 @@ is_last_not_negative values = int_le (pos 0) (slice_index_or values 15 (pos 0))
 abbrev pub is_sum_not_negative : List ℤ → Bool
 is_sum_not_negative values = int_le (pos 0) (first values +ℤ second values)
 
--- what the closures of scripts bring to a store of 1024 variables
-abbrev pub built_in : Program
-built_in = record { steps = builtin_steps; names = builtin_names 1024; tests = builtin_tests }
+-- the stored steps of scripts, and one invariant: variable 0 is at least 0
+abbrev pub checked : Program
+checked = record {
+  steps = builtin_steps;
+  names = codes "nonneg" ∷ [];
+  tests = record { footprint = λ name. 0 ∷ []; test = λ name values. is_not_negative values };
+}

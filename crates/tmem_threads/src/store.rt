@@ -14,10 +14,10 @@ use std::marker::Brand;
 use std::rt::Clock;
 use std::sync::Wait;
 use std::thread::Threads;
-use tmem_builtins::{builtin_table, stored_steps};
+use tmem_builtins::stored_steps;
 use tmem_disk::{Disk, Fault};
 use tmem_front::{Front, OpenedFront, Pass, StoreNaming};
-use tmem_invariants::Invariants;
+use tmem_invariants::{Invariants, Table};
 use tmem_tree::StoredSteps;
 
 /// How many variables the store has.
@@ -47,12 +47,11 @@ pub fn count_up<R: Threads + Wait + Clock + Sync, D: Disk + Drop + Send>(
 ) -> Result<Totals, Fault>
     ensures { IfOk result (λ totals. (opening : State) × AreTotals opening work totals) }
 {
-    let table = builtin_table(alloc, VARS)?;
-    let steps = stored_steps(alloc)?;
-    count_with(rt, alloc, disk, table, steps, work)
+    let table = Table::of(alloc, Vec::new(alloc), VARS)?;
+    count_with(rt, alloc, disk, table, stored_steps(), work)
 }
 
-// The same under these invariants and with these steps.
+// The same with these steps.
 fn count_with<
     R: Threads + Wait + Clock + Sync,
     D: Disk + Drop + Send,

@@ -142,8 +142,7 @@ fn plays_over<T: Invariants + Drop, S: StoredSteps + Drop>(
 #[test]
 fn what_is_built_does_what_it_says(rt: HostRuntime) -> Result<(), Fail> {
     let alloc = rt.alloc();
-    let steps = stored_steps(alloc)?;
     let table = Table::of(alloc, Vec::new(alloc), 4)?;
-    plays_over(&rt, alloc, table, steps)?;
+    plays_over(&rt, alloc, table, stored_steps())?;
     Ok(())
 }

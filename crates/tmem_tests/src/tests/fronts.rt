@@ -1,7 +1,8 @@
 //! A front by one caller: transactions of each form and at each limit, by each call that settles them.
-ghost use Rattle.std.specs.Prelude.{◌≡◌};
+ghost use Rattle.std.specs.Prelude.{◌≡◌, length};
+ghost use Rattle.tmem_builtins.specs.Invariants.{is_not_negative};
 ghost use Rattle.tmem_front.specs.Held.{found_of, spine_of, steps_of, table_of};
-ghost use Rattle.tmem_tests.specs.Examples.{built_in};
+ghost use Rattle.tmem_tests.specs.Examples.{checked};
 ghost use Rattle.tmem_tree.specs.Plans.{FitsSteps, FitsVariables, FitsNames};
 
 use super::{formatted, write};
@@ -12,10 +13,10 @@ use std::rt::Clock;
 use std::sync::Wait;
 use std::test::Fail;
 use std::time::Duration;
-use tmem_builtins::{builtin_table, names, stored_steps};
+use tmem_builtins::{names, nonneg, stored_steps};
 use tmem_disk::{Disk, Fault};
 use tmem_front::{Front, OpenedFront, Pass, StoreNaming};
-use tmem_invariants::Invariants;
+use tmem_invariants::{Invariant, Invariants, Table};
 use tmem_tree::{Plan, StoredSteps, Tx};
 use tmem_world::Settled;
 
@@ -280,10 +281,10 @@ fn play_in<
 >(rt: &R, alloc: Global, opened: OpenedFront<D, T, S>) -> Result<(), Fault>
     requires spine { spine_of opened ≡ N.name }
     requires opening { found_of opened ≡ N.opening }
-    requires program { N.program ≡ built_in }
-    requires names { T.names (table_of opened) ≡ built_in.names }
-    requires stated { T.is_stated (table_of opened) built_in.tests }
-    requires steps { S.is_stated (steps_of opened) built_in.steps }
+    requires program { N.program ≡ checked }
+    requires names { T.names (table_of opened) ≡ checked.names }
+    requires stated { T.is_stated (table_of opened) checked.tests }
+    requires steps { S.is_stated (steps_of opened) checked.steps }
 {
     let front = opened.named::<N>();
     let mut pass = front.pass(rt)?;
@@ -298,9 +299,9 @@ fn play_with<T: Invariants + Drop, S: StoredSteps + Drop, R: Abort + Clock + Wai
     steps: S,
 ) -> Result<(), Fault>
     requires vars { T.vars table ≡ 1024 }
-    requires names { T.names table ≡ built_in.names }
-    requires tests { T.is_stated table built_in.tests }
-    requires steps { S.is_stated steps built_in.steps }
+    requires names { T.names table ≡ checked.names }
+    requires tests { T.is_stated table checked.tests }
+    requires steps { S.is_stated steps checked.steps }
 {
     let disk = formatted(alloc, 1024, 64)?;
     match OpenedFront::open(alloc, disk, 1024, 64, table, steps) {
@@ -313,7 +314,15 @@ fn play_with<T: Invariants + Drop, S: StoredSteps + Drop, R: Abort + Clock + Wai
 #[test]
 fn each_call_of_a_front_settles_each_form_at_each_limit(rt: HostRuntime) -> Result<(), Fail> {
     let alloc = rt.alloc();
-    let (table, steps) = (builtin_table(alloc, 1024)?, stored_steps(alloc)?);
-    play_with(&rt, alloc, table, steps)?;
+    let test = Box::new(
+        alloc,
+        |values: &[i64]| -> bool
+            requires { length values.now ≡ 1 }
+            ensures { result ≡ is_not_negative values.now }
+        { nonneg(values) },
+    )?;
+    let invariant = Invariant::new(names()[0], vec![in alloc; 0]?, test)?;
+    let table = Table::of(alloc, vec![in alloc; invariant]?, 1024)?;
+    play_with(&rt, alloc, table, stored_steps())?;
     Ok(())
 }
