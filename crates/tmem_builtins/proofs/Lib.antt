@@ -7,3 +7,4 @@ mod Sequences
 mod Shapes
 mod Sizes
 mod Tables
+mod Third
