@@ -3,7 +3,7 @@ use Rattle.std.specs.Prelude.{◌≡◌, ℕ, ℤ, pos, Bool, false, not, ◌&&�
 use Rattle.std.specs.List.{list_any}
 use Rattle.tmem_invariants.specs.TableNames.{has_name}
 
--- What each name means, in every table and every session: a footprint, and a yes or no for each list of its length.
+-- What each name means, in every table of a program: a footprint, and a yes or no for each list of its length.
 pub record Meanings : Type 0 where
   pub footprint : List ℕ → List ℕ
   pub test : List ℕ → List ℤ → Bool
