@@ -15,7 +15,7 @@ use Rattle.tmem_image.proofs.Imaging.{one_state}
 use Rattle.tmem_image.proofs.Lengths.{length-image_body}
 
 -- that a body stands behind a gate, in both words
-body_stands : (at : ℕ) (body c : List ℕ) → HasBody at body c → StandsAt (at + 1) body c
+pub body_stands : (at : ℕ) (body c : List ℕ) → HasBody at body c → StandsAt (at + 1) body c
 body_stands at body c has = record { is = sym (between_is (at + 1) (length body) c) ∙ has }
 
 body_from : (at : ℕ) (body c : List ℕ) → StandsAt (at + 1) body c → HasBody at body c

@@ -1,3 +1,4 @@
+pub mod Changed
 pub mod Choices
 pub mod Headers
 pub mod ImageNames
@@ -6,5 +7,6 @@ pub mod Imaging
 pub mod Laws
 pub mod Lengths
 pub mod Loading
+pub mod PageSets
 pub mod Pages
 pub mod Spared

@@ -2,11 +2,10 @@
 use Rattle.std.proofs.Common.{◌≡◌, ◌<◌, ◌≤◌, ◌+◌, ◌*◌, ◌-◌, ℕ, ℤ, pos, min, List, [], ◌++◌, length, take, drop, replicate, get_or, flat_map, refl, sym, ◌∙◌, ap, subst, arith, append_assoc, length-append, take-add}
 use Rattle.std.specs.Prelude.{FitsSigned, slice_range}
 use Rattle.std.specs.Int.{w64, cast_unsigned}
-use Rattle.std.proofs.lemmas.List.{take_more, take-append-drop, drop-replicate, take_all, drop-drop, length-take-le, length-drop, length-replicate, take_at, drop_at, append-nil, take_min, length-take}
+use Rattle.std.proofs.lemmas.List.{take_more, take-append-drop, drop-replicate, take_all, length-take-le, length-drop, length-replicate, append-nil, take_min, length-take}
 use Rattle.std.proofs.lemmas.List.Concat.{flat_map-append}
-use Rattle.std.proofs.lemmas.List.Elements.{All-push, All-append}
+use Rattle.std.proofs.lemmas.List.Elements.{All-push}
 use Rattle.byteorder.specs.Endian.{little_bytes}
-use Rattle.tmem_disk.specs.Disk.{overwritten}
 use Rattle.tmem_record.specs.Spelling.{number_bytes, value_bytes}
 use Rattle.tmem_record.specs.Layout.{pages_of}
 use Rattle.tmem_record.proofs.Laws.{part_more, length-value_bytes, length-flat}
@@ -83,32 +82,3 @@ unfolding pages_front pages_body
 front_all vars zs long =
     let all : take (64 * pages_of vars) zs ≡ zs = take_all (64 * pages_of vars) zs (omega (arith, long)) in
     ap (λ (l : List ℤ). flat_map value_bytes l ++ replicate (512 * pages_of vars - 8 * length l) 0) all ∙ ap (λ (k : ℕ). flat_map value_bytes zs ++ replicate (512 * pages_of vars - 8 * k) 0) long
-
--- bytes written behind bytes
-pub over_more : (at : ℕ) (a b old : List ℕ) → at + length a ≤ length old → overwritten (overwritten old at a) (at + length a) b ≡ overwritten old at (a ++ b)
-over_more at a b old room =
-    let front : length (take at old ++ a) ≡ at + length a = omega (arith, length-append (take at old) a, length-take-le at old (omega (arith, room))) in
-    let rest : List ℕ = drop (at + length a) old in
-    let place : at + length a + length b ≡ at + length (a ++ b) = omega (arith, length-append a b) in
-    let behind : drop (at + length a + length b) (overwritten old at a) ≡ drop (at + length (a ++ b)) old =
-    sym (drop-drop (length b) (at + length a) (overwritten old at a)) ∙ ap (drop (length b)) (drop_at (take at old ++ a) rest (at + length a) front) ∙ drop-drop (length b) (at + length a) old ∙ ap (λ (k : ℕ). drop k old) place in
-    ap (λ (l : List ℕ). (l ++ b) ++ drop (at + length a + length b) (overwritten old at a)) (take_at (take at old ++ a) rest (at + length a) front)
-    ∙ ap (λ (l : List ℕ). ((take at old ++ a) ++ b) ++ l) behind ∙ ap (λ (l : List ℕ). l ++ drop (at + length (a ++ b)) old) (append_assoc (take at old) a b)
-
-pub over_none : (at : ℕ) (old : List ℕ) → overwritten old at [] ≡ old
-over_none at old = ap (λ (l : List ℕ). l ++ drop (at + 0) old) (append-nil (take at old)) ∙ (let e : at + 0 ≡ at = omega arith in ap (λ (k : ℕ). take at old ++ drop k old) e) ∙ take-append-drop at old
-
--- a page more is written
-pub page_written : (zs : List ℤ) (n at place : ℕ) (old before after part : List ℕ) → 64 * n ≤ length zs → at + 512 * n ≤ length old → place ≡ at + 512 * n → before ≡ overwritten old at (pages_front zs n) → part ≡ page_bytes zs n → after ≡ overwritten before place part
-    → after ≡ overwritten old at (pages_front zs (n + 1))
-page_written zs n at place old before after part full room place_is before_is part_is after_is =
-    let long = length-pages_front zs n full in
-    let here : place ≡ at + length (pages_front zs n) = omega (arith, place_is, long) in
-    after_is ∙ ap (λ (l : List ℕ). overwritten l place part) before_is ∙ ap (overwritten (overwritten old at (pages_front zs n)) place) part_is
-    ∙ ap (λ (k : ℕ). overwritten (overwritten old at (pages_front zs n)) k (page_bytes zs n)) here
-    ∙ over_more at (pages_front zs n) (page_bytes zs n) old (omega (arith, long, room)) ∙ ap (overwritten old at) (sym (front_more zs n full))
-
-pub numbers_more : (zs : List ℤ) (n : ℕ) → AreValues (take (64 * n) zs) → AreValues (page_values zs n) → AreValues (take (64 * (n + 1)) zs)
-numbers_more zs n before here =
-    let next : 64 * (n + 1) ≡ 64 * n + 64 = omega arith in
-    subst AreValues (sym (ap (λ (k : ℕ). take k zs) next ∙ take-add (64 * n) 64 zs)) (All-append (FitsSigned w64) (take (64 * n) zs) (page_values zs n) before here)

@@ -1,10 +1,10 @@
 -- What a crash leaves of the spare copy, while an image is written to it.
 use Rattle.std.proofs.Common.{◌≡◌, ◌⊎◌, inl, inr, ⊎_elim, ℕ, ℤ, ◌+◌, ◌-◌, ◌*◌, ◌≤◌, List, ◌++◌, length, take, drop, refl, sym, ◌∙◌, ap, subst, arith, append_assoc}
 use Rattle.std.specs.Prelude.{Result, Ok, Err, IfErr, slice_range}
-use Rattle.tmem_disk.specs.Disk.{DeviceView, IsDevice, overwritten, ReadsAs, LeavesOnly, Elapses, Rewritten, SameOutside}
+use Rattle.tmem_disk.specs.Disk.{DeviceView, IsDevice, LeavesOnly, Elapses, Rewritten, SameOutside}
 use Rattle.tmem_disk.specs.declared.fault.Fault.{Fault}
 use Rattle.tmem_disk.specs.declared.fault.Fault.TheVariants.{Device, Unknown}
-use Rattle.tmem_disk.proofs.Laws.{SameOutside-refl, SameOutside-trans, SameOutside-wider, slice_range-after, slice_range-overwritten, LeavesOnly-moment, AtEachMoment-more, AtEachMoment-elapsed, AtEachMoment-trans, Elapses-more, either_time}
+use Rattle.tmem_disk.proofs.Laws.{SameOutside-refl, SameOutside-trans, SameOutside-wider, slice_range-after, LeavesOnly-moment, AtEachMoment-more, AtEachMoment-elapsed, AtEachMoment-trans, Elapses-more, either_time}
 use Rattle.tmem_gate.specs.Gate.{IsOpenAt, IsClosed, StandsClosed, HasBody}
 use Rattle.tmem_gate.specs.Calls.{LooksOnly, WritesWithin, MadeBy}
 use Rattle.tmem_gate.specs.Cells.{LeftClosed, LeftOpen}
@@ -13,7 +13,8 @@ use Rattle.tmem_gate.proofs.Laws.{gate_cases, whole_after, closed_before, by_loo
 use Rattle.tmem_record.specs.Stale.{IsStale}
 use Rattle.tmem_record.specs.State.{State}
 use Rattle.tmem_record.specs.Layout.{pages_of, image_place, image_size}
-use Rattle.tmem_record.proofs.Laws.{both_parts}
+use Rattle.tmem_record.specs.StandsAt.{StandsAt}
+use Rattle.tmem_record.proofs.Laws.{both_parts, between_is}
 use Rattle.tmem_record.specs.Names.{AreRegistered}
 use Rattle.tmem_image.proofs.Lengths.{length-header_body, length-pages_body}
 use Rattle.tmem_image.specs.Spelling.{header_body, pages_body, image_body, IsImage}
@@ -121,20 +122,20 @@ parts_of_image : (vars generation : ℕ) (s : State) → header_body generation 
 unfolding header_body image_body
 parts_of_image vars generation s = simp append_assoc
 
--- once they were written there
-pub paged : (p : Placed) (at : ℕ) → at ≡ image_place p.vars p.copy → (header : List ℕ) → header ≡ header_body p.generation p.state → AreRegistered p.state.names → length p.state.values ≡ p.vars → (mid d : DeviceView) → IsDevice mid → (d.keeps_model → mid.keeps_model)
-    → at + 2048 + 512 * pages_of p.vars ≤ mid.capacity → (values : List ℤ) → values ≡ p.state.values → ReadsAs d (overwritten mid.seen (at + 2048) (pages_body p.vars values)) → IsPaged p header d
-paged p at place header is names sized mid d device model room values same written =
+-- once they stand there
+pub paged : (p : Placed) (at : ℕ) → at ≡ image_place p.vars p.copy → (header : List ℕ) → header ≡ header_body p.generation p.state → AreRegistered p.state.names → length p.state.values ≡ p.vars → (d : DeviceView) → (values : List ℤ) → values ≡ p.state.values
+    → (d.keeps_model → StandsAt (at + 2048) (pages_body p.vars values) d.seen) → IsPaged p header d
+paged p at place header is names sized d values same stand =
     let pages = pages_body p.vars p.state.values in
     let long : length header ≡ 2047 = ap length is ∙ length-header_body p.generation p.state names in
-    let pages_long = length-pages_body p.vars p.state.values sized in
     let behind : image_place p.vars p.copy + 1 + length header ≡ at + 2048 = omega (arith, place, long) in
     record {
       long = long;
-      pages_long = pages_long;
+      pages_long = length-pages_body p.vars p.state.values sized;
       whole = ap (λ (l : List ℕ). l ++ pages) is ∙ parts_of_image p.vars p.generation p.state;
-      stand = λ k. ap (λ (n : ℕ). slice_range d.seen n (n + length pages)) behind ∙ ap (λ (l : List ℕ). slice_range l (at + 2048) (at + 2048 + length pages)) (written k ∙ ap (λ (zs : List ℤ). overwritten mid.seen (at + 2048) (pages_body p.vars zs)) same)
-          ∙ slice_range-overwritten mid.seen (at + 2048) pages (omega (arith, room, pages_long, device.seen_is_whole (model k)));
+      stand = λ k.
+          let there : StandsAt (at + 2048) pages d.seen = subst (λ (zs : List ℤ). StandsAt (at + 2048) (pages_body p.vars zs) d.seen) same (stand k) in
+          ap (λ (n : ℕ). slice_range d.seen n (n + length pages)) behind ∙ between_is (at + 2048) (length pages) d.seen ∙ there.is;
     }
 
 -- with its header the image stands there

@@ -1,11 +1,12 @@
 //! Images: a state as a whole, in one of two copies in front of the log.
 //!
 //! `specs/Image.antt` says which copy a content chooses: the open one of the greater generation. `choose` finds it, and
-//! `load` reads an image. `write_spare` writes one to the other copy: a crash (a power cut or a kill) at any moment leaves
-//! that copy as stale as it was, or open over the whole new image.
+//! `load` reads an image. `write_spare` writes one to the other copy, of its pages those that may differ there: a crash (a power
+//! cut or a kill) at any moment leaves that copy as stale as it was, or open over the whole new image.
 #![tactic(auto)]
 
 mod choosing;
+mod page_sets;
 mod reading;
 mod room;
 mod spare;
@@ -13,6 +14,7 @@ mod spelling;
 mod unique;
 
 pub use choosing::{choose, load};
+pub use page_sets::{ALL_PAGES, pages_changed};
 pub use reading::ImageState;
 pub use room::ImageRoom;
 pub use spare::write_spare;

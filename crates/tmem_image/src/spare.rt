@@ -1,14 +1,17 @@
 // An image, written to the copy that is not chosen.
 ghost use Rattle.std.specs.Prelude.{◌≡◌, ◌⊎◌, ◌≤◌, ◌<◌, ◌+◌, ◌-◌, ◌*◌, Some, length, take, IfErr, IfSome, IsErrOf, OnOk, OnErr};
-ghost use Rattle.tmem_disk.specs.Disk.{IsSynced, IsWriteOrSync, ReadsAs, overwritten};
+ghost use Rattle.tmem_disk.specs.Disk.{IsSynced, IsWriteOrSync, LeavesOnly};
 ghost use Rattle.tmem_gate.specs.Calls.{Uses, WritesWithin, IsReadOrWrite};
 ghost use Rattle.tmem_gate.specs.Changes.{Puts, outcome_of};
 ghost use Rattle.tmem_gate.specs.Gate.{StandsClosed};
 ghost use Rattle.tmem_record.specs.Layout.{pages_of, image_place, image_size, end_place};
+ghost use Rattle.tmem_record.specs.StandsAt.{StandsAt};
 ghost use Rattle.tmem_image.specs.Spelling.{pages_body, AreValues};
 ghost use Rattle.tmem_image.specs.Image.{IsGeneration};
+ghost use Rattle.tmem_image.specs.Pages.{HoldsOthers, pages_place};
 ghost use Rattle.tmem_image.specs.Spare.{IsSettled, Spares, placed, With, Without, AwaitsGate};
 
+use crate::page_sets::has_page;
 use crate::spelling::{PAGE_SIZE, header_of, page_of};
 use tmem_disk::{DeviceFault, Disk, Fault};
 use tmem_gate::device::{sync, write};
@@ -18,24 +21,27 @@ use tmem_record::{Layout, State};
 // How long a header is, with its gate.
 const HEADER_SIZE: u64 = 2048;
 
-/// Writes an image of this generation and state to a copy: closes its gate where it reads open, and syncs; writes the
+/// Writes an image of this generation and state to a copy: closes its gate where it reads open, and syncs; writes these
 /// pages, then the header without its gate, and syncs; opens the gate, and syncs. `Device` where a read failed, or a write
 /// of anything but the gate that is opened: no crash leaves the image. `Unknown` where a sync or the write of that gate
 /// failed: a crash leaves the image or not; where it was that write, the whole image stands behind the gate. Nothing
 /// outside the copy is written. Every crash leaves the gate of the copy as a read gives it, and the image is of as many values
-/// as the layout has variables.
+/// as the layout has variables. Each page that is not written holds the state's values already, after every crash. Bit `p` of
+/// `pages` stands for page `p`, and bits behind the last page count for nothing.
 pub fn write_spare<D: Disk>(
     disk: &mut D,
     layout: Layout,
     copy: u8,
     generation: u64,
     state: &State,
+    pages: u16,
 ) -> Result<(), Fault>
     requires room { end_place layout.vars layout.slots ≤ (D.view disk.old).capacity }
     requires one { copy ≤ 1 }
     requires number { IsGeneration generation }
     requires sized { length state.now.values ≡ layout.vars }
     requires settled { IsSettled (image_place layout.vars copy) (D.view disk.old) }
+    requires others { LeavesOnly (D.view disk.old) (HoldsOthers (pages_place layout.vars copy) layout.vars pages state.now.values) }
     ensures uses { Uses (D.view disk.old) (D.view disk.new) result }
     ensures errors { IfErr result (λ f. (f ≡ Fault.Device) ⊎ (f ≡ Fault.Unknown)) }
     ensures call_failed { IsErrOf result Fault.Device → IfSome (D.view disk.new).last_fault IsReadOrWrite }
@@ -51,8 +57,9 @@ pub fn write_spare<D: Disk>(
     ensures durable { OnOk result (IsSynced (D.view disk.new)) }
 {
     let at = layout.image(copy);
+    recall_values(state.values());
     shut(disk, at)?;
-    write_pages(disk, layout, at + HEADER_SIZE, state.values())?;
+    write_pages(disk, layout, at + HEADER_SIZE, state.values(), pages)?;
     put_cell(disk, at, &header_of(generation, state))
 }
 
@@ -78,21 +85,39 @@ fn shut<D: Disk>(disk: &mut D, at: u64) -> Result<(), Fault>
     }
 }
 
-// Writes the pages of these values from a place on, each by one write.
-fn write_pages<D: Disk>(disk: &mut D, layout: Layout, at: u64, values: &[i64]) -> Result<(), Fault>
+// That values have 64 bits, for a caller's proof: it does nothing.
+fn recall_values(values: &[i64])
+    ensures { AreValues values.now }
+{
+    for value in values {
+        let _value = *value;
+    }
+}
+
+// Writes those pages of these values that are in a set, each by one write. The pages begin at a place, and the others stand
+// there already.
+fn write_pages<D: Disk>(
+    disk: &mut D,
+    layout: Layout,
+    at: u64,
+    values: &[i64],
+    changed: u16,
+) -> Result<(), Fault>
     requires room { at + 512 * pages_of layout.vars ≤ (D.view disk.old).capacity }
     requires sized { length values.now ≡ layout.vars }
+    requires others { (D.view disk.old).keeps_model → HoldsOthers at layout.vars changed values.now (D.view disk.old).seen }
     ensures uses { Uses (D.view disk.old) (D.view disk.new) result }
     ensures err { IfErr result (λ f. f ≡ Fault.Device) }
     ensures last { OnErr result ((D.view disk.new).last_fault ≡ Some DeviceFault.Write) }
     ensures elsewhere { WritesWithin at (512 * pages_of layout.vars) (D.view disk.old) (D.view disk.new) }
-    ensures written { OnOk result (ReadsAs (D.view disk.new) (overwritten (D.view disk.old).seen at (pages_body layout.vars values.now))) }
-    ensures numbers { OnOk result (AreValues values.now) }
+    ensures stand { OnOk result ((D.view disk.new).keeps_model → StandsAt at (pages_body layout.vars values.now) (D.view disk.new).seen) }
 {
     let pages = layout.pages() as u16;
     for page in 0..pages {
-        let bytes = page_of(values, page);
-        write(disk, at + PAGE_SIZE as u64 * page as u64, &bytes)?;
+        if has_page(changed, page) {
+            let bytes = page_of(values, page);
+            write(disk, at + PAGE_SIZE as u64 * page as u64, &bytes)?;
+        }
     }
     Ok(())
 }

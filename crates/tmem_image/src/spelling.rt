@@ -11,8 +11,8 @@ use tmem_record::{State, write_names};
 /// How long a page is.
 pub(crate) const PAGE_SIZE: usize = 512;
 
-// How many values a page has.
-const PAGE_VALUES: usize = 64;
+/// How many values a page has.
+pub(crate) const PAGE_VALUES: usize = 64;
 
 /// Spells a header without its gate.
 pub(crate) fn header_of(generation: u64, state: &State) -> [u8; HEADER_ROOM]

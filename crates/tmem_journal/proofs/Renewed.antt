@@ -1,24 +1,25 @@
 -- What a crash leaves of a device, while an image of the next generation is written to the other copy, and while the log
 -- is emptied behind it.
-use Rattle.std.proofs.Common.{◌≡◌, ◌⊎◌, inl, inr, ⊎_elim, ℕ, ◌+◌, ◌*◌, ◌≤◌, ◌<◌, ◌^◌, List, [], refl, sym, ap, subst, arith}
+use Rattle.std.proofs.Common.{◌≡◌, ◌⊎◌, inl, inr, ⊎_elim, ℕ, ℤ, ◌+◌, ◌*◌, ◌≤◌, ◌<◌, ◌^◌, List, [], bit_or, refl, sym, ap, subst, arith}
 use Rattle.std.specs.Prelude.{Result, IsErrOf, slice_get}
 use Rattle.std.proofs.Math.Logic.{∥∥₁_map}
 use Rattle.tmem_disk.specs.Disk.{DeviceView, LeavesOnly, AtEachMoment, Elapses, IsSynced, SameOutside}
 use Rattle.tmem_disk.specs.declared.fault.Fault.{Fault}
 use Rattle.tmem_disk.specs.declared.fault.Fault.TheVariants.{Device}
-use Rattle.tmem_disk.proofs.Laws.{AtEachMoment-trans}
+use Rattle.tmem_disk.proofs.Laws.{AtEachMoment-trans, LeavesOnly-more, Rewritten-keeps}
 use Rattle.tmem_gate.specs.Calls.{MadeBy, WritesWithin}
 use Rattle.tmem_gate.specs.Changes.{Outcome, IsMade, NotMade, InDoubt, NotBegun, Either, Becomes, Meanwhile, outcome_of}
 use Rattle.tmem_gate.specs.Gate.{IsOpenOver}
 use Rattle.tmem_gate.proofs.Laws.{open_before, open_after, WritesWithin-wider, WritesWithin-trans}
-use Rattle.tmem_record.specs.Layout.{image_place, image_size, slot_place}
+use Rattle.tmem_record.specs.Layout.{pages_of, image_place, image_size, slot_place}
 use Rattle.tmem_record.specs.Stale.{IsStale}
-use Rattle.tmem_record.specs.State.{State}
+use Rattle.tmem_record.specs.State.{State, fold}
 use Rattle.tmem_record.specs.declared.effect.Effect.{Effect}
 use Rattle.tmem_image.specs.Image.{HoldsImage, other_copy}
 use Rattle.tmem_image.specs.Spare.{Placed, IsSettled, Without, With}
 use Rattle.tmem_image.specs.Spelling.{image_body}
-use Rattle.tmem_image.proofs.Laws.{front_of_image}
+use Rattle.tmem_image.specs.Pages.{has_page, is_page_changed, HoldsOthers, pages_place}
+use Rattle.tmem_image.proofs.Laws.{front_of_image, HoldsOthers-before, HoldsOthers-after, HoldsOthers-fold, HoldsOthers-image}
 use Rattle.tmem_redolog.specs.Closes.{bytes_from, Keeps}
 use Rattle.tmem_redolog.specs.Log.{HoldsLog, IsWithin}
 use Rattle.tmem_redolog.proofs.Laws.{HoldsLog-front, emptied}
@@ -181,3 +182,38 @@ pub renewed_within : (vars slots copy : ℕ) → copy ≤ 1 → (old mid new : D
 renewed_within vars slots copy one old mid new model first second =
     WritesWithin-trans (image_place vars 0) (2 * image_size vars + 4096 * slots) old mid new model (copy_within vars slots copy one old mid first)
     (WritesWithin-wider (slot_place vars 0) (bytes_from 0 slots) (image_place vars 0) (2 * image_size vars + 4096 * slots) (omega arith) (omega arith) mid new second)
+
+-- what the pages of a copy hold, they hold where the other copy is written
+pub pages_aside : (vars copy set : ℕ) (values : List ℤ) → copy ≤ 1 → (old new : DeviceView) → (new.keeps_model → old.keeps_model) → WritesWithin (image_place vars (other_copy copy)) (image_size vars) old new
+    → LeavesOnly old (HoldsOthers (pages_place vars copy) vars set values) → LeavesOnly new (HoldsOthers (pages_place vars copy) vars set values)
+pages_aside vars copy set values one old new model writes holds = record {
+  each = λ k c left. Rewritten-keeps (image_place vars (other_copy copy)) (image_size vars) old (HoldsOthers (pages_place vars copy) vars set values) c (model k) holds kept (writes.stop.each k c left);
+}
+  where
+    kept : (a b : List ℕ) → SameOutside (image_place vars (other_copy copy)) (image_size vars) a b → HoldsOthers (pages_place vars copy) vars set values a → HoldsOthers (pages_place vars copy) vars set values b
+    kept a b same = ⊎_elim
+        (λ before. HoldsOthers-before (image_place vars (other_copy copy)) (image_size vars) (pages_place vars copy) vars set values a b same (omega (arith, before)))
+        (λ after. HoldsOthers-after (image_place vars (other_copy copy)) (image_size vars) (pages_place vars copy) vars set values a b same (omega (arith, after)))
+        (apart vars copy one)
+
+-- and where slots are written
+pub pages_in_front : (vars copy set slot n : ℕ) (values : List ℤ) → copy ≤ 1 → (old new : DeviceView) → (new.keeps_model → old.keeps_model) → WritesWithin (slot_place vars slot) n old new
+    → LeavesOnly old (HoldsOthers (pages_place vars copy) vars set values) → LeavesOnly new (HoldsOthers (pages_place vars copy) vars set values)
+pages_in_front vars copy set slot n values one old new model writes holds = record {
+  each = λ k c left. Rewritten-keeps (slot_place vars slot) n old (HoldsOthers (pages_place vars copy) vars set values) c (model k) holds
+      (λ a b same. HoldsOthers-before (slot_place vars slot) n (pages_place vars copy) vars set values a b same (ends (image_place vars copy) (pages_of vars) (copy_below vars copy one))) (writes.stop.each k c left);
+}
+  where
+    ends : (place pages : ℕ) → place + (2048 + 512 * pages) ≤ 512 + 2 * (2048 + 512 * pages) + 4096 * 0 → place + 2048 + 512 * pages ≤ 512 + 2 * (2048 + 512 * pages) + 4096 * slot
+    ends place pages below = omega (arith, below)
+
+-- once the image is written, each page of its copy holds its state
+pub pages_written : (vars : ℕ) (p : Position) (s : State) (old new : DeviceView) → LeavesOnly new (MadeBy (With (next_placed vars p s)) old) → LeavesOnly new (HoldsOthers (pages_place vars (other_copy p.copy)) vars 0 s.values)
+pages_written vars p s old new made = record { each = λ k c left. HoldsOthers-image vars (other_copy p.copy) (p.generation + 1) 0 s c (made.each k c left).2.image }
+
+-- once a batch is flushed into a slot, the pages that it does not change hold the state after it
+pub pages_folded : (vars copy slot set more n : ℕ) (s : State) (es : List Effect) (t : State) → copy ≤ 1 → ((page : ℕ) → has_page more page ≡ is_page_changed es page) → fold s es ≡ t → (old new : DeviceView) → (new.keeps_model → old.keeps_model) → WritesWithin (slot_place vars slot) n old new
+    → LeavesOnly old (HoldsOthers (pages_place vars copy) vars set s.values) → LeavesOnly new (HoldsOthers (pages_place vars copy) vars (bit_or set more) t.values)
+pages_folded vars copy slot set more n s es t one are is old new model writes holds =
+    LeavesOnly-more new _ _ (pages_in_front vars copy set slot n s.values one old new model writes holds)
+    (λ c held. subst (λ (x : State). HoldsOthers (pages_place vars copy) vars (bit_or set more) x.values c) is (HoldsOthers-fold (pages_place vars copy) vars set more s es c are held))

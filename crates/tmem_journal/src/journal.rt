@@ -7,7 +7,8 @@ ghost use Rattle.tmem_record.specs.State.{State as StateOf, fold};
 ghost use Rattle.tmem_record.specs.Spelling.{batch_bytes};
 ghost use Rattle.tmem_record.specs.declared.codec.TheConstants.{BATCH_ROOM};
 ghost use Rattle.tmem_record.specs.Layout.{image_place, image_size, slot_place, end_place};
-ghost use Rattle.tmem_image.specs.Image.{IsGeneration};
+ghost use Rattle.tmem_image.specs.Image.{IsGeneration, other_copy};
+ghost use Rattle.tmem_image.specs.Pages.{HoldsOthers, pages_place};
 ghost use Rattle.tmem_image.specs.Spare.{placed, AwaitsGate};
 ghost use Rattle.tmem_journal.specs.Stands.{Position, next_image, position_in, StandsFor, StandsForState, StandsForEither};
 ghost use Rattle.tmem_journal.specs.Mended.{Mends, MendedBy, ClosedFrom};
@@ -21,8 +22,18 @@ use crate::room::Room;
 use std::alloc::Global;
 use std::snapshot::Snapshot;
 use tmem_disk::{DeviceFault, Disk, Fault};
+use tmem_image::{ALL_PAGES, pages_changed};
 use tmem_record::{Batch, Layout, State};
 use tmem_redolog::{Log, append};
+
+// Sets of pages, one for each image copy.
+#[derive(Clone, Copy)]
+struct Changed {
+    // of the copy that is chosen
+    chosen: u16,
+    // of the other one, which the next image goes to
+    spare: u16,
+}
 
 /// A device, and the state that it stands for: the accepted transactions that are durable. Once a call of the device has
 /// failed in `flush` or in `checkpoint` it is closed, and writes nothing more.
@@ -33,6 +44,8 @@ pub struct Journal<D: Disk> {
     state: State,
     // which image copy is chosen
     copy: u8,
+    // the pages of each image copy that may differ from the state
+    changed: Changed,
     // where the next batch goes
     log: Log,
     is_closed: bool,
@@ -70,6 +83,12 @@ pub struct Journal<D: Disk> {
 
     /// While it is open, each slot behind the log stands closed.
     pub ghost ahead: { is_closed ≡ false → (k : ℕ) → log.used ≤ k → k < layout.slots → StandsClosed (slot_place layout.vars k) (D.view disk) },
+
+    /// While it is open, each page that is not marked as changed holds the state's values after every crash, in the chosen copy.
+    pub ghost chosen_pages: { is_closed ≡ false → LeavesOnly (D.view disk) (HoldsOthers (pages_place layout.vars copy) layout.vars changed.chosen state.values) },
+
+    /// So it does in the other copy.
+    pub ghost spare_pages: { is_closed ≡ false → LeavesOnly (D.view disk) (HoldsOthers (pages_place layout.vars (other_copy copy)) layout.vars changed.spare state.values) },
 }
 
 impl<D: Disk> Journal<D> {
@@ -126,6 +145,10 @@ impl<D: Disk> Journal<D> {
                 layout,
                 state: found.state,
                 copy: found.copy,
+                changed: Changed {
+                    chosen: ALL_PAGES,
+                    spare: ALL_PAGES,
+                },
                 log: found.log,
                 is_closed: false,
                 buffer,
@@ -214,6 +237,9 @@ impl<D: Disk> Journal<D> {
             &mut self.buffer.bytes,
         ) {
             Ok(()) => {
+                let pages = pages_changed(effects);
+                self.changed.chosen |= pages;
+                self.changed.spare |= pages;
                 accept_all(&mut self.state, effects);
                 Ok(self.state.count())
             }
@@ -226,10 +252,11 @@ impl<D: Disk> Journal<D> {
     }
 
     /// Writes the state as an image of the next generation to the image copy that is not chosen, and empties the log then:
-    /// each log slot is free again. The state stays as it is. Refused by `Closed` once a call of the device has failed; by
-    /// `Spent` where no generation is left; by `Device` where a read failed, or a write of anything but the gate that opens
-    /// the image; and by `Unknown` where a sync or the write of that gate failed. After these two the journal is closed, and
-    /// a crash leaves the old image with its log, or the new one: after `Device` always the same one. It takes no memory.
+    /// each log slot is free again. Of the pages of that copy it writes those that may differ from the state. The state stays
+    /// as it is. Refused by `Closed` once a call of the device has failed; by `Spent` where no generation is left; by `Device`
+    /// where a read failed, or a write of anything but the gate that opens the image; and by `Unknown` where a sync or the
+    /// write of that gate failed. After these two the journal is closed, and a crash leaves the old image with its log, or
+    /// the new one: after `Device` always the same one. It takes no memory.
     pub fn checkpoint(&mut self) -> Result<(), Fault>
         ensures uses { Uses (device_of self.old) (device_of self.new) result }
         ensures layout { layout_of self.new ≡ layout_of self.old }
@@ -266,9 +293,14 @@ impl<D: Disk> Journal<D> {
             self.copy,
             &mut self.log,
             &self.state,
+            self.changed.spare,
         ) {
             Ok(()) => {
                 self.copy = 1 - self.copy;
+                self.changed = Changed {
+                    chosen: 0,
+                    spare: self.changed.chosen,
+                };
                 Ok(())
             }
             Err(fault) => {

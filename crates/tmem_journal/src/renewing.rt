@@ -1,9 +1,11 @@
 // A new image, and an empty log behind it.
-ghost use Rattle.std.specs.Prelude.{◌≡◌, ◌⊎◌, ◌<◌, ◌≤◌, ◌+◌, ◌-◌, ◌*◌, ◌^◌, ℕ, Some, length, OnOk, OnErr, IfErr, IfSome, IsErrOf};
+ghost use Rattle.std.specs.Prelude.{◌≡◌, ◌⊎◌, ◌<◌, ◌≤◌, ◌+◌, ◌-◌, ◌*◌, ◌^◌, ℕ, ℤ, List, Some, length, OnOk, OnErr, IfErr, IfSome, IsErrOf};
 ghost use Rattle.tmem_disk.specs.Disk.{AtEachMoment, IsSynced, IsWriteOrSync, LeavesOnly};
 ghost use Rattle.tmem_gate.specs.Calls.{Uses, WritesWithin, IsReadOrWrite};
 ghost use Rattle.tmem_gate.specs.Gate.{StandsClosed};
 ghost use Rattle.tmem_record.specs.Layout.{image_place, image_size, slot_place, end_place};
+ghost use Rattle.tmem_image.specs.Image.{other_copy};
+ghost use Rattle.tmem_image.specs.Pages.{HoldsOthers, pages_place};
 ghost use Rattle.tmem_image.specs.Spare.{placed, AwaitsGate};
 ghost use Rattle.tmem_redolog.specs.Closes.{empty_log};
 ghost use Rattle.tmem_journal.specs.Stands.{position_in, next_image, StandsFor, StandsForState};
@@ -14,14 +16,16 @@ use tmem_record::{Layout, State};
 use tmem_redolog::{Log, empty};
 
 /// Writes the state of a device as an image of the next generation to the copy that is not chosen, and empties the log
-/// then. `Device` where a read failed, or a write of anything but the gate that opens the image; `Unknown` where a sync or
-/// the write of that gate failed. A crash at any moment, or after any answer, leaves a content that stands for this state.
+/// then. Of the pages of that copy it writes these, as the others hold the state's values already. `Device` where a read
+/// failed, or a write of anything but the gate that opens the image; `Unknown` where a sync or the write of that gate failed.
+/// A crash at any moment, or after any answer, leaves a content that stands for this state.
 pub(crate) fn renew<D: Disk>(
     disk: &mut D,
     layout: Layout,
     copy: u8,
     log: &mut Log,
     state: &State,
+    pages: u16,
 ) -> Result<(), Fault>
     requires room { end_place layout.vars layout.slots ≤ (D.view disk.old).capacity }
     requires one { copy ≤ 1 }
@@ -29,6 +33,7 @@ pub(crate) fn renew<D: Disk>(
     requires sized { length state.now.values ≡ layout.vars }
     requires synced { IsSynced (D.view disk.old) }
     requires stands { LeavesOnly (D.view disk.old) (StandsFor layout.vars layout.slots (position_in copy log.old) state.now) }
+    requires others { LeavesOnly (D.view disk.old) (HoldsOthers (pages_place layout.vars (other_copy copy)) layout.vars pages state.now.values) }
     ensures uses { Uses (D.view disk.old) (D.view disk.new) result }
     ensures errors { IfErr result (λ f. (f ≡ Fault.Device) ⊎ (f ≡ Fault.Unknown)) }
     ensures call_failed { IsErrOf result Fault.Device → IfSome (D.view disk.new).last_fault IsReadOrWrite }
@@ -52,10 +57,16 @@ pub(crate) fn renew<D: Disk>(
         ⊎ LeavesOnly (D.view disk.new) (StandsFor layout.vars layout.slots (next_image (position_in copy log.old)) state.now) }
     ensures closed { OnOk result ((k : ℕ) → k < layout.slots → StandsClosed (slot_place layout.vars k) (D.view disk.new)) }
     ensures durable { OnOk result (IsSynced (D.view disk.new)) }
+
+    // After `Ok` each page of the copy that was written holds the state's values. What pages of the other copy hold, they hold
+    // after any answer.
+    ensures written { OnOk result (LeavesOnly (D.view disk.new) (HoldsOthers (pages_place layout.vars (other_copy copy)) layout.vars 0 state.now.values)) }
+    ensures aside { (set : ℕ) (values : List ℤ) → LeavesOnly (D.view disk.old) (HoldsOthers (pages_place layout.vars copy) layout.vars set values)
+        → LeavesOnly (D.view disk.new) (HoldsOthers (pages_place layout.vars copy) layout.vars set values) }
     ensures emptied { OnOk result (log.new ≡ empty_log (log.old.generation + 1)) }
     ensures stays { OnErr result (log.new ≡ log.old) }
 {
     let generation = log.generation + 1;
-    write_spare(disk, layout, 1 - copy, generation, state)?;
+    write_spare(disk, layout, 1 - copy, generation, state, pages)?;
     empty(disk, &layout, log, generation)
 }

@@ -1,21 +1,25 @@
-use Rattle.std.proofs.Common.{◌≡◌, ◌≤◌, ◌<◌, ◌*◌, ◌+◌, ◌∙◌, ℕ, length, rules, refl, sym, ap, subst, arith}
-use Rattle.std.proofs.lemmas.List.{take_all}
-use Rattle.tmem_disk.specs.Disk.{overwritten}
+use Rattle.std.proofs.Common.{◌≡◌, ◌≤◌, ◌<◌, ◌*◌, ◌+◌, ◌∙◌, ℕ, List, false, length, rules, refl, sym, ap, subst, arith}
+use Rattle.tmem_disk.proofs.Laws.{SameOutside-refl, SameOutside-trans, SameOutside-wider}
 use Rattle.tmem_record.specs.Layout.{pages_of}
+use Rattle.tmem_record.specs.StandsAt.{StandsAt}
 use Rattle.tmem_gate.proofs.Laws.{WritesWithin-refl, WritesWithin-wider, WritesWithin-trans}
-use Rattle.tmem_image.specs.Spelling.{AreValues}
-use Rattle.tmem_image.proofs.Pages.{pages_front, front_none, front_all, over_none, page_written, numbers_more, length-page_bytes}
+use Rattle.tmem_image.specs.Pages.{has_page}
+use Rattle.tmem_image.proofs.Changed.{page_written, page_kept}
+use Rattle.tmem_image.proofs.Pages.{front_none, front_all, pages_front, length-page_bytes}
 use Rattle.tmem_image.proofs.spare.write_pages.Goals as goal
+use Rattle.tmem_image.proofs.spare.write_pages.Goals.{then-has_page+in_ok-write, else-has_page}
 
 pub loop-page-init : goal.loop-page-init
-loop-page-init g c = record {
-  capacity = search rules;
-  model = search rules;
-  failures = search rules;
-  written = λ k. sym (ap (overwritten (g.D.Disk.view c.args.disk.now).seen c.args.at) (front_none c.args.values.now) ∙ over_none c.args.at (g.D.Disk.view c.args.disk.now).seen);
-  elsewhere = WritesWithin-refl c.args.at (512 * pages_of c.args.layout.vars) (g.D.Disk.view c.args.disk.now) (g.met.D.Disk.is_device c.args.disk.now);
-  numbers = search rules;
-}
+loop-page-init g c =
+    let seen = (g.D.Disk.view c.args.disk.now).seen in
+    record {
+      capacity = search rules;
+      model = search rules;
+      failures = search rules;
+      stand = λ k. subst (λ (l : List ℕ). StandsAt c.args.at l seen) (sym (front_none c.args.values.now)) (record { is = refl });
+      ahead = λ k. SameOutside-refl c.args.at 0 seen;
+      elsewhere = WritesWithin-refl c.args.at (512 * pages_of c.args.layout.vars) (g.D.Disk.view c.args.disk.now) (g.met.D.Disk.is_device c.args.disk.now);
+    }
 
 pub write-requires : goal.write-requires
 write-requires g c =
@@ -34,30 +38,51 @@ returns-in_err-write-clause-elsewhere g c =
 
 pub loop-page-preserved : goal.loop-page-preserved
 loop-page-preserved g c =
+    let at = c.args.at in
+    let page = c.loop-page.page in
+    let values = c.args.values.now in
+    let vars = c.args.layout.vars in
     let before = (g.D.Disk.view c.args.disk.now).seen in
-    let long : length c.page_of-bytes.result ≡ 512 = ap length c.page_of-bytes.ensures.bytes ∙ length-page_bytes c.args.values.now c.loop-page.page in
-    let full : 64 * c.loop-page.page ≤ length c.args.values.now = omega (arith, c.pages-pages.ensures, c.requires.sized) in
-    record {
-      capacity = search rules;
-      model = search rules;
-      failures = search rules;
-      written = λ k.
-          let then = c.write.ensures.uses.model k in
-          let whole = (g.met.D.Disk.is_device c.args.disk.now).seen_is_whole (c.loop-page.invariant.model then) in
-          page_written c.args.values.now c.loop-page.page c.args.at (c.args.at + 512 * c.loop-page.page) before _ _ c.page_of-bytes.result full (omega (arith, whole, c.requires.room, c.pages-pages.ensures)) refl (c.loop-page.invariant.written then) c.page_of-bytes.ensures.bytes (c.in_ok-write.ensures.written k);
-      elsewhere =
-          WritesWithin-trans c.args.at (512 * pages_of c.args.layout.vars) _ _ _ c.write.ensures.uses.model c.loop-page.invariant.elsewhere
-          (WritesWithin-wider (c.args.at + 512 * c.loop-page.page) (length c.page_of-bytes.result) c.args.at (512 * pages_of c.args.layout.vars) (omega arith) (within c.args.at c.loop-page.page c.args.layout.vars _ (omega (arith, c.pages-pages.ensures)) long) _ _ c.write.ensures.elsewhere);
-      numbers = numbers_more c.args.values.now c.loop-page.page c.loop-page.invariant.numbers c.page_of-bytes.ensures.numbers;
-    }
+    let now = (g.D.Disk.view c.loop-page.disk).seen in
+    let so_far = c.loop-page.invariant in
+    let below : page < pages_of vars = omega (arith, c.pages-pages.ensures) in
+    let full : 64 * page ≤ length values = omega (arith, below, c.requires.sized) in
+    elim c.if-has_page.branch [
+      | then-has_page+in_ok-write w ↦
+          let bytes = w.page_of-bytes.result in
+          let place = at + 512 * page in
+          let long : length bytes ≡ 512 = ap length w.page_of-bytes.ensures.bytes ∙ length-page_bytes values page in
+          let new = (g.D.Disk.view w.write.new.disk).seen in
+          rw w.disk-is (record {
+            capacity = w.write.ensures.uses.capacity ∙ so_far.capacity;
+            model = λ k. so_far.model (w.write.ensures.uses.model k);
+            failures = search rules;
+            stand = λ k.
+                let then = w.write.ensures.uses.model k in
+                let whole = (g.met.D.Disk.is_device c.loop-page.disk).seen_is_whole then in
+                page_written at page place values now new bytes full (omega (arith, whole, so_far.capacity, c.requires.room, below)) refl w.page_of-bytes.ensures.bytes (w.in_ok-write.ensures.written k) (so_far.stand then);
+            ahead = λ k.
+                SameOutside-trans at (512 * (page + 1)) before now new
+                (SameOutside-wider at (512 * page) at (512 * (page + 1)) before now (omega arith) (omega arith) (so_far.ahead (w.write.ensures.uses.model k)))
+                (SameOutside-wider place (length bytes) at (512 * (page + 1)) now new (omega arith) (omega (arith, long)) (w.write.ensures.elsewhere.seen k));
+            elsewhere =
+                WritesWithin-trans at (512 * pages_of vars) _ _ _ w.write.ensures.uses.model so_far.elsewhere
+                (WritesWithin-wider place (length bytes) at (512 * pages_of vars) (omega arith) (within at page vars (length bytes) below long) _ _ w.write.ensures.elsewhere);
+          })
+      | else-has_page w ↦
+          let no : has_page c.args.changed page ≡ false = sym c.has_page.ensures ∙ w.if-has_page.false in
+          rw w.disk-is (record {
+            capacity = so_far.capacity;
+            model = so_far.model;
+            failures = so_far.failures;
+            stand = λ k. page_kept at page values before now full (so_far.ahead k) ((c.requires.others (so_far.model k)).each page below no) (so_far.stand k);
+            ahead = λ k. SameOutside-wider at (512 * page) at (512 * (page + 1)) before now (omega arith) (omega arith) (so_far.ahead k);
+            elsewhere = so_far.elsewhere;
+          })
+    ]
 
-pub returns-clause-written : goal.returns-clause-written
-returns-clause-written g c =
+pub returns-clause-stand : goal.returns-clause-stand
+returns-clause-stand g c = λ k.
     let all : c.loop-page.page ≡ pages_of c.args.layout.vars = omega (arith, c.pages-pages.ensures) in
-    let before = (g.D.Disk.view c.args.disk.now).seen in
-    λ k. c.loop-page.invariant.written k ∙ ap (λ (n : ℕ). overwritten before c.args.at (pages_front c.args.values.now n)) all ∙ ap (overwritten before c.args.at) (front_all c.args.layout.vars c.args.values.now c.requires.sized)
-
-pub returns-clause-numbers : goal.returns-clause-numbers
-returns-clause-numbers g c =
-    let all : c.loop-page.page ≡ pages_of c.args.layout.vars = omega (arith, c.pages-pages.ensures) in
-    subst AreValues (take_all (64 * c.loop-page.page) c.args.values.now (omega (arith, all, c.requires.sized))) c.loop-page.invariant.numbers
+    let seen = (g.D.Disk.view c.loop-page.disk).seen in
+    subst (λ (l : List ℕ). StandsAt c.args.at l seen) (ap (pages_front c.args.values.now) all ∙ front_all c.args.layout.vars c.args.values.now c.requires.sized) (c.loop-page.invariant.stand k)

@@ -1,8 +1,8 @@
-use Rattle.std.proofs.Common.{◌≡◌, ◌*◌, take}
-use Rattle.tmem_disk.specs.Disk.{ReadsAs, overwritten}
+use Rattle.std.proofs.Common.{◌≡◌, ◌*◌}
+use Rattle.tmem_disk.specs.Disk.{SameSeenOutside}
 use Rattle.tmem_gate.specs.Calls.{WritesWithin}
 use Rattle.tmem_record.specs.Layout.{pages_of}
-use Rattle.tmem_image.specs.Spelling.{AreValues}
+use Rattle.tmem_record.specs.StandsAt.{StandsAt}
 use Rattle.tmem_image.proofs.Pages.{pages_front}
 use Rattle.tmem_image.proofs.spare.write_pages.Given as goal
 
@@ -14,7 +14,7 @@ invariant-loop-page g l =
       capacity : now.capacity ≡ before.capacity;
       model : now.keeps_model → before.keeps_model;
       failures : now.failures ≡ before.failures;
-      written : ReadsAs now (overwritten before.seen l.at (pages_front l.values l.page));
+      stand : now.keeps_model → StandsAt l.at (pages_front l.values l.page) now.seen;
+      ahead : SameSeenOutside l.at (512 * l.page) before now;
       elsewhere : WritesWithin l.at (512 * pages_of l.fn.layout.vars) before now;
-      numbers : AreValues (take (64 * l.page) l.values);
     }

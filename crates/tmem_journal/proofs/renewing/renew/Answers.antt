@@ -3,7 +3,7 @@ use Rattle.tmem_gate.specs.Changes.{outcome_of}
 use Rattle.tmem_journal.specs.Stands.{position_in}
 use Rattle.tmem_journal.proofs.FormattedStands.{on_ok}
 use Rattle.tmem_journal.proofs.Logged.{other_one}
-use Rattle.tmem_journal.proofs.Renewed.{after_writing, not_written, while_writing, sure_emptied, after_emptying, while_emptying, copy_within, renewed_within, settled}
+use Rattle.tmem_journal.proofs.Renewed.{after_writing, not_written, while_writing, sure_emptied, after_emptying, while_emptying, copy_within, renewed_within, settled, pages_aside, pages_in_front, pages_written}
 use Rattle.tmem_journal.proofs.renewing.renew.Goals as goal
 
 pub returns-in_err-write_spare-clause-elsewhere : goal.returns-in_err-write_spare-clause-elsewhere
@@ -64,3 +64,19 @@ returns-clause-closed g c = c.empty.ensures.closed c.in_ok-write_spare.ensures.d
 
 pub returns-clause-durable : goal.returns-clause-durable
 returns-clause-durable g c = c.empty.ensures.durable c.in_ok-write_spare.ensures.durable
+
+pub returns-clause-written : goal.returns-clause-written
+returns-clause-written g c =
+    let layout = c.args.layout in
+    let p = position_in c.args.copy c.args.log.now in
+    on_ok (λ synced. pages_in_front layout.vars (1 - c.args.copy) 0 0 _ c.args.state.now.values (other_one c.args.copy) _ _ c.empty.ensures.uses.model c.empty.ensures.closes.elsewhere (pages_written layout.vars p c.args.state.now (g.D.Disk.view c.args.disk.now) (g.D.Disk.view c.write_spare.new.disk) c.in_ok-write_spare.ensures.puts.stands))
+    c.empty.result (c.empty.ensures.durable c.in_ok-write_spare.ensures.durable)
+
+pub returns-in_err-write_spare-clause-aside : goal.returns-in_err-write_spare-clause-aside
+returns-in_err-write_spare-clause-aside g c = λ set values. pages_aside c.args.layout.vars c.args.copy set values c.requires.one _ _ c.write_spare.ensures.uses.model c.write_spare.ensures.puts.elsewhere
+
+pub returns-clause-aside : goal.returns-clause-aside
+returns-clause-aside g c = λ set values holds.
+    let vars = c.args.layout.vars in
+    pages_in_front vars c.args.copy set 0 _ values c.requires.one _ _ c.empty.ensures.uses.model c.empty.ensures.closes.elsewhere
+    (pages_aside vars c.args.copy set values c.requires.one _ _ c.write_spare.ensures.uses.model c.write_spare.ensures.puts.elsewhere holds)

@@ -1,7 +1,8 @@
-use Rattle.std.proofs.Common.{◌+◌, ◌-◌, ◌<◌, ◌^◌, sym, ap, subst, arith}
+use Rattle.std.proofs.Common.{ℕ, ◌≡◌, ◌+◌, ◌-◌, ◌<◌, ◌^◌, sym, ap, subst, arith}
 use Rattle.std.proofs.Math.Logic.{∥∥₁_map}
 use Rattle.tmem_disk.specs.Disk.{LeavesOnly}
-use Rattle.tmem_image.specs.Image.{IsGeneration}
+use Rattle.tmem_image.specs.Image.{IsGeneration, other_copy}
+use Rattle.tmem_image.specs.Pages.{HoldsOthers, pages_place}
 use Rattle.tmem_redolog.specs.declared.log.Log.{Log}
 use Rattle.tmem_journal.specs.Stands.{position_in, StandsFor}
 use Rattle.tmem_journal.proofs.Renewed.{state_either}
@@ -42,3 +43,9 @@ invariant_of-self-in-Err-clause-few g c = omega (arith, ap (λ (l : Log). l.used
 
 pub invariant_of-self-in-Err-clause-stands : goal.invariant_of-self-in-Err-clause-stands
 invariant_of-self-in-Err-clause-stands g c = state_either _ c.renew.ensures.stands
+
+pub invariant_of-self-clause-spare_pages : goal.invariant_of-self-clause-spare_pages
+invariant_of-self-clause-spare_pages g c = λ running.
+    let j = c.args.self.now in
+    let back : j.copy ≡ other_copy (1 - j.copy) = omega (arith, j.one) in
+    subst (λ (copy : ℕ). LeavesOnly (g.D.Disk.view c.renew.new.disk) (HoldsOthers (pages_place j.layout.vars copy) j.layout.vars j.changed.chosen j.state.values)) back (c.renew.ensures.aside j.changed.chosen j.state.values (j.chosen_pages running))

@@ -1,11 +1,15 @@
-use Rattle.std.proofs.Common.{length, arith, refl, sym, ◌∙◌, ap, subst}
+use Rattle.std.proofs.Common.{ℕ, ℤ, ◌<◌, List, length, arith, refl, sym, ◌∙◌, ap, subst}
+use Rattle.std.specs.Prelude.{All}
 use Rattle.tmem_disk.specs.Disk.{LeavesOnly}
 use Rattle.tmem_record.specs.State.{State, fold}
+use Rattle.tmem_record.specs.declared.effect.Effect.{Effect}
 use Rattle.tmem_record.proofs.Laws.{count-fold, length-values-fold}
+use Rattle.tmem_image.specs.Image.{other_copy}
 use Rattle.tmem_redolog.specs.Appends.{placed}
 use Rattle.tmem_redolog.specs.declared.log.Log.{Log}
 use Rattle.tmem_journal.specs.Stands.{Position, position_in, next_slot, StandsFor}
-use Rattle.tmem_journal.proofs.Logged.{position_at}
+use Rattle.tmem_journal.proofs.Logged.{position_at, other_one}
+use Rattle.tmem_journal.proofs.Renewed.{pages_folded}
 use Rattle.tmem_journal.proofs.Unique.{same_position}
 use Rattle.tmem_journal.proofs.Flushed.{full_is_not, sure_either, sure_ok, sure_err, moments_ok, moments_err}
 use Rattle.tmem_journal.proofs.journal.Journal.flush.Goals as goal
@@ -76,3 +80,20 @@ returns-in-Err-clause-any_moment g c =
     let p = placed j.layout j.log c.count-first.result c.args.batch.now in
     let not_full = full_is_not c.in-Err.fault j.log.used j.layout.slots c.if-self-2.false c.in-Err.ensures.full in
     moments_err old new p j.copy j.state (sym c.count-first.ensures) c.requires.room c.append.ensures.uses.model (j.sure c.if-self.false) _ _ c.in-Err.fault c.in-Err.ensures.errors not_full (ap (fold j.state) c.in_doubt.ensures) c.in-Err.ensures.puts.any_moment
+
+pub pages_changed-pages-requires : goal.pages_changed-pages-requires
+pages_changed-pages-requires g c =
+    subst (λ (es : List Effect). All (λ (e : Effect). All (λ (w : ℕ × ℤ). w.0 < 1024) e.writes) es) (sym c.effects-effects.ensures.effects)
+    (λ i d below j e less. omega (arith, c.requires.within i d below j e less, c.args.self.now.layout.fits.vars_fit))
+
+pub invariant_of-self-in-Ok-clause-chosen_pages : goal.invariant_of-self-in-Ok-clause-chosen_pages
+invariant_of-self-in-Ok-clause-chosen_pages g c = λ running.
+    let j = c.args.self.now in
+    pages_folded j.layout.vars j.copy j.log.used j.changed.chosen _ 4096 j.state c.effects-effects.result.now _ j.one c.pages_changed-pages.ensures (sym c.accept_all.ensures)
+    _ _ c.append.ensures.uses.model c.append.ensures.puts.elsewhere (j.chosen_pages running)
+
+pub invariant_of-self-in-Ok-clause-spare_pages : goal.invariant_of-self-in-Ok-clause-spare_pages
+invariant_of-self-in-Ok-clause-spare_pages g c = λ running.
+    let j = c.args.self.now in
+    pages_folded j.layout.vars (other_copy j.copy) j.log.used j.changed.spare _ 4096 j.state c.effects-effects.result.now _ (other_one j.copy) c.pages_changed-pages.ensures (sym c.accept_all.ensures)
+    _ _ c.append.ensures.uses.model c.append.ensures.puts.elsewhere (j.spare_pages running)

@@ -3,6 +3,9 @@ use Rattle.std.proofs.lemmas.Bool.{false≢true}
 use Rattle.tmem_disk.specs.declared.fault.Fault.{Fault}
 use Rattle.tmem_disk.proofs.Laws.{seen-left, LeavesOnly-synced}
 use Rattle.tmem_record.specs.Layout.{IsLayout}
+use Rattle.tmem_image.specs.Image.{other_copy}
+use Rattle.tmem_image.specs.Pages.{pages_place}
+use Rattle.tmem_image.proofs.Laws.{HoldsOthers-all}
 use Rattle.tmem_journal.specs.Calls.{FitsOn}
 use Rattle.tmem_journal.specs.Refusals.{IsRefusedBy}
 use Rattle.tmem_journal.specs.Stands.{position_in}
@@ -85,3 +88,13 @@ pub returns-in-Err-recover-clause-memory : goal.returns-in-Err-recover-clause-me
 returns-in-Err-recover-clause-memory g c =
     let P : Fault → Type 0 = λ f. (g.D.Disk.view c.recover.new.disk).keeps_model → IsRefusedBy c.in-Ok.layout.vars c.in-Ok.layout.slots (g.D.Disk.view c.args.disk).seen f in
     λ is. absurd (not_wanted c.in-Err-recover.fault P c.in-Err-recover.ensures.refused is)
+
+pub invariant_of-result-clause-chosen_pages : goal.invariant_of-result-clause-chosen_pages
+invariant_of-result-clause-chosen_pages g c = λ _.
+    let layout = c.in-Ok.layout in
+    record { each = λ k content left. HoldsOthers-all (pages_place layout.vars c.in-Ok-recover.found.copy) layout.vars c.in-Ok-recover.found.state.values content layout.fits.vars_fit }
+
+pub invariant_of-result-clause-spare_pages : goal.invariant_of-result-clause-spare_pages
+invariant_of-result-clause-spare_pages g c = λ _.
+    let layout = c.in-Ok.layout in
+    record { each = λ k content left. HoldsOthers-all (pages_place layout.vars (other_copy c.in-Ok-recover.found.copy)) layout.vars c.in-Ok-recover.found.state.values content layout.fits.vars_fit }
