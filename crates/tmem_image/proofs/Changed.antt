@@ -1,10 +1,11 @@
 -- The pages of a copy that hold given values: where they are kept, and what they have to do with an image.
-use Rattle.std.proofs.Common.{◌≡◌, ◌<◌, ◌≤◌, ◌+◌, ◌*◌, ◌-◌, ◌/◌, ◌==◌, ℕ, zero, suc, ℤ, false, List, [], ◌∷◌, ◌++◌, length, take, drop, replicate, flat_map, set, bit_or, refl, sym, ◌∙◌, ap, subst, ⊎_elim, arith}
+use Rattle.std.proofs.Common.{◌≡◌, ◌<◌, ◌≤◌, ◌+◌, ◌*◌, ◌-◌, ◌/◌, ◌==◌, ℕ, zero, suc, ℤ, true, false, List, [], ◌∷◌, ◌++◌, length, take, drop, replicate, flat_map, set, bit_or, refl, sym, ◌∙◌, ap, subst, ⊎_elim, arith}
 use Rattle.std.specs.Prelude.{slice_range}
 use Rattle.std.proofs.lemmas.Bool.{cases_lt, eqb-false, false≢true}
 use Rattle.std.proofs.lemmas.List.{take-set-le, drop-set-lt, drop-set-add}
-use Rattle.tmem_disk.specs.Disk.{SameOutside, overwritten}
-use Rattle.tmem_disk.proofs.Laws.{SameOutside-overwritten, slice_range-before, slice_range-after, slice_range-overwritten}
+use Rattle.tmem_disk.specs.Disk.{DeviceView, IsDevice, SameOutside, Rewritten, LeavesOnly, AtEachMoment, Elapses, overwritten}
+use Rattle.tmem_disk.proofs.Laws.{SameOutside-overwritten, slice_range-before, slice_range-after, slice_range-overwritten, Rewritten-keeps, LeavesOnly-moment, AtEachMoment-trans, either_time}
+use Rattle.tmem_gate.specs.Calls.{WritesWithin}
 use Rattle.tmem_record.specs.Layout.{pages_of, image_place}
 use Rattle.tmem_record.specs.Spelling.{number_bytes, value_bytes}
 use Rattle.tmem_record.specs.StandsAt.{StandsAt}
@@ -59,6 +60,29 @@ module _ (at n place vars pages : ℕ) (values : List ℤ) (b c : List ℕ) (sam
   HoldsOthers-after above holds = record {
     each = λ page below kept. stands_after at n (place + 512 * page) (page_bytes values page) b c same (omega (arith, above)) (holds.each page below kept);
   }
+
+-- where a page is written that is in the set
+pub HoldsOthers-marked : (at vars pages page n : ℕ) (values : List ℤ) (b c : List ℕ) → has_page pages page ≡ true → n ≡ 512 → SameOutside (at + 512 * page) n b c → HoldsOthers at vars pages values b → HoldsOthers at vars pages values c
+HoldsOthers-marked at vars pages page n values b c marked long same holds = record {
+  each = λ other below kept. ⊎_elim
+      (λ before. stands_before (at + 512 * page) n (at + 512 * other) (page_bytes values other) b c same (omega (arith, before, length-page_bytes values other)) (holds.each other below kept))
+      (λ not_before.
+      let apart : other ≡ page → ⊥ = λ is. false≢true (sym kept ∙ ap (has_page pages) is ∙ marked) in
+      stands_after (at + 512 * page) n (at + 512 * other) (page_bytes values other) b c same (omega (arith, not_before, apart, long)) (holds.each other below kept))
+      (cases_lt other page);
+}
+
+-- what every crash leaves, and a write outside it keeps, holds at each moment
+module _ (P : List ℕ → Type 0) (old mid : DeviceView) (device : IsDevice mid) (first : AtEachMoment old mid P) (later : mid.keeps_model → old.moment ≤ mid.moment) where
+  pub moments_write : (at n : ℕ) (new : DeviceView) → (new.keeps_model → mid.keeps_model) → ((b c : List ℕ) → SameOutside at n b c → P b → P c) → WritesWithin at n mid new → AtEachMoment old new P
+  moments_write at n new model outside writes = AtEachMoment-trans old mid new P (Rewritten at n mid) model later first writes.time (λ k c from. Rewritten-keeps at n mid P c (model k) (LeavesOnly-moment old mid P device later first) outside from)
+
+  pub moments_both : (new : DeviceView) (R : List ℕ → Type 0) → (new.keeps_model → mid.keeps_model) → Elapses mid new R → AtEachMoment mid new P → AtEachMoment old new P
+  moments_both new R model time second = record { each = λ k c left. ⊎_elim (λ was. first.each (model k) c was) (λ is. second.each k c is) (either_time old mid new R model later time k c left) }
+
+-- before any call
+pub moments_none : (P : List ℕ → Type 0) (d : DeviceView) → IsDevice d → LeavesOnly d P → AtEachMoment d d P
+moments_none P d device holds = record { each = λ k c left. holds.each k c (device.only_now c k left) }
 
 -- where every page is in the set, nothing is said
 pub HoldsOthers-all : (at vars : ℕ) (values : List ℤ) (c : List ℕ) → vars ≤ 1024 → HoldsOthers at vars 65535 values c

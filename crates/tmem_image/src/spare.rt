@@ -1,6 +1,6 @@
 // An image, written to the copy that is not chosen.
 ghost use Rattle.std.specs.Prelude.{◌≡◌, ◌⊎◌, ◌≤◌, ◌<◌, ◌+◌, ◌-◌, ◌*◌, Some, length, take, IfErr, IfSome, IsErrOf, OnOk, OnErr};
-ghost use Rattle.tmem_disk.specs.Disk.{IsSynced, IsWriteOrSync, LeavesOnly};
+ghost use Rattle.tmem_disk.specs.Disk.{AtEachMoment, IsSynced, IsWriteOrSync, LeavesOnly};
 ghost use Rattle.tmem_gate.specs.Calls.{Uses, WritesWithin, IsReadOrWrite};
 ghost use Rattle.tmem_gate.specs.Changes.{Puts, outcome_of};
 ghost use Rattle.tmem_gate.specs.Gate.{StandsClosed};
@@ -55,6 +55,9 @@ pub fn write_spare<D: Disk>(
         (Without (placed layout copy generation state.now)) (With (placed layout copy generation state.now))
         (D.view disk.old) (D.view disk.new) (outcome_of result) }
     ensures durable { OnOk result (IsSynced (D.view disk.new)) }
+
+    // The other pages are not written: a crash at any moment leaves the state's values in them.
+    ensures kept { AtEachMoment (D.view disk.old) (D.view disk.new) (HoldsOthers (pages_place layout.vars copy) layout.vars pages state.now.values) }
 {
     let at = layout.image(copy);
     recall_values(state.values());
@@ -105,11 +108,12 @@ fn write_pages<D: Disk>(
 ) -> Result<(), Fault>
     requires room { at + 512 * pages_of layout.vars ≤ (D.view disk.old).capacity }
     requires sized { length values.now ≡ layout.vars }
-    requires others { (D.view disk.old).keeps_model → HoldsOthers at layout.vars changed values.now (D.view disk.old).seen }
+    requires others { LeavesOnly (D.view disk.old) (HoldsOthers at layout.vars changed values.now) }
     ensures uses { Uses (D.view disk.old) (D.view disk.new) result }
     ensures err { IfErr result (λ f. f ≡ Fault.Device) }
     ensures last { OnErr result ((D.view disk.new).last_fault ≡ Some DeviceFault.Write) }
     ensures elsewhere { WritesWithin at (512 * pages_of layout.vars) (D.view disk.old) (D.view disk.new) }
+    ensures kept { AtEachMoment (D.view disk.old) (D.view disk.new) (HoldsOthers at layout.vars changed values.now) }
     ensures stand { OnOk result ((D.view disk.new).keeps_model → StandsAt at (pages_body layout.vars values.now) (D.view disk.new).seen) }
 {
     let pages = layout.pages() as u16;

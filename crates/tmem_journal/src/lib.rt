@@ -1,8 +1,8 @@
 //! The journal: which state the bytes of a device stand for.
 //!
 //! `Stands` in `specs/` says which content stands for which state. `format` writes an empty store. A `Journal` owns a
-//! device and knows the state that it stands for: `open` recovers it, `flush` makes a batch durable, and `checkpoint` writes
-//! the state as a whole and empties the log. A stop (a crash: a power cut or a kill) at any moment of `flush` leaves the
+//! device and knows the state that it stands for: `open` recovers it, `flush` makes a batch durable, and `checkpoint` makes
+//! an image of the state and empties the log. A stop (a crash: a power cut or a kill) at any moment of `flush` leaves the
 //! state before the batch or the state after it, and at any moment of `open` and of `checkpoint` the state that was there.
 //!
 //! `recovery` finds the state, over `parts`, which finds block 0; images and the log are crates of their own. `renewing`

@@ -1,10 +1,10 @@
 use Rattle.std.proofs.Common.{◌≡◌, ◌≤◌, ◌<◌, ◌*◌, ◌+◌, ◌∙◌, ℕ, List, false, length, rules, refl, sym, ap, subst, arith}
-use Rattle.tmem_disk.proofs.Laws.{SameOutside-refl, SameOutside-trans, SameOutside-wider}
+use Rattle.tmem_disk.proofs.Laws.{seen-left, SameOutside-refl, SameOutside-trans, SameOutside-wider}
 use Rattle.tmem_record.specs.Layout.{pages_of}
 use Rattle.tmem_record.specs.StandsAt.{StandsAt}
 use Rattle.tmem_gate.proofs.Laws.{WritesWithin-refl, WritesWithin-wider, WritesWithin-trans}
-use Rattle.tmem_image.specs.Pages.{has_page}
-use Rattle.tmem_image.proofs.Changed.{page_written, page_kept}
+use Rattle.tmem_image.specs.Pages.{has_page, HoldsOthers}
+use Rattle.tmem_image.proofs.Changed.{page_written, page_kept, HoldsOthers-marked, moments_none, moments_write}
 use Rattle.tmem_image.proofs.Pages.{front_none, front_all, pages_front, length-page_bytes}
 use Rattle.tmem_image.proofs.spare.write_pages.Goals as goal
 use Rattle.tmem_image.proofs.spare.write_pages.Goals.{then-has_page+in_ok-write, else-has_page}
@@ -18,6 +18,7 @@ loop-page-init g c =
       failures = search rules;
       stand = λ k. subst (λ (l : List ℕ). StandsAt c.args.at l seen) (sym (front_none c.args.values.now)) (record { is = refl });
       ahead = λ k. SameOutside-refl c.args.at 0 seen;
+      kept = moments_none (HoldsOthers c.args.at c.args.layout.vars c.args.changed c.args.values.now) (g.D.Disk.view c.args.disk.now) (g.met.D.Disk.is_device c.args.disk.now) c.requires.others;
       elsewhere = WritesWithin-refl c.args.at (512 * pages_of c.args.layout.vars) (g.D.Disk.view c.args.disk.now) (g.met.D.Disk.is_device c.args.disk.now);
     }
 
@@ -47,6 +48,7 @@ loop-page-preserved g c =
     let so_far = c.loop-page.invariant in
     let below : page < pages_of vars = omega (arith, c.pages-pages.ensures) in
     let full : 64 * page ≤ length values = omega (arith, below, c.requires.sized) in
+    let at_first = seen-left (g.D.Disk.view c.args.disk.now) (HoldsOthers at vars c.args.changed values) (g.met.D.Disk.is_device c.args.disk.now) c.requires.others in
     elim c.if-has_page.branch [
       | then-has_page+in_ok-write w ↦
           let bytes = w.page_of-bytes.result in
@@ -65,6 +67,9 @@ loop-page-preserved g c =
                 SameOutside-trans at (512 * (page + 1)) before now new
                 (SameOutside-wider at (512 * page) at (512 * (page + 1)) before now (omega arith) (omega arith) (so_far.ahead (w.write.ensures.uses.model k)))
                 (SameOutside-wider place (length bytes) at (512 * (page + 1)) now new (omega arith) (omega (arith, long)) (w.write.ensures.elsewhere.seen k));
+            kept =
+                moments_write (HoldsOthers at vars c.args.changed values) _ _ (g.met.D.Disk.is_device c.loop-page.disk) so_far.kept so_far.elsewhere.time.later place (length bytes) _ w.write.ensures.uses.model
+                (λ a b. HoldsOthers-marked at vars c.args.changed page (length bytes) values a b (sym c.has_page.ensures ∙ w.if-has_page.true) long) w.write.ensures.elsewhere;
             elsewhere =
                 WritesWithin-trans at (512 * pages_of vars) _ _ _ w.write.ensures.uses.model so_far.elsewhere
                 (WritesWithin-wider place (length bytes) at (512 * pages_of vars) (omega arith) (within at page vars (length bytes) below long) _ _ w.write.ensures.elsewhere);
@@ -75,11 +80,23 @@ loop-page-preserved g c =
             capacity = so_far.capacity;
             model = so_far.model;
             failures = so_far.failures;
-            stand = λ k. page_kept at page values before now full (so_far.ahead k) ((c.requires.others (so_far.model k)).each page below no) (so_far.stand k);
+            stand = λ k. page_kept at page values before now full (so_far.ahead k) ((at_first (so_far.model k)).each page below no) (so_far.stand k);
             ahead = λ k. SameOutside-wider at (512 * page) at (512 * (page + 1)) before now (omega arith) (omega arith) (so_far.ahead k);
+            kept = so_far.kept;
             elsewhere = so_far.elsewhere;
           })
     ]
+
+pub returns-in_err-write-clause-kept : goal.returns-in_err-write-clause-kept
+returns-in_err-write-clause-kept g c =
+    let at = c.args.at in
+    let vars = c.args.layout.vars in
+    let values = c.args.values.now in
+    let bytes = c.page_of-bytes.result in
+    let long : length bytes ≡ 512 = ap length c.page_of-bytes.ensures.bytes ∙ length-page_bytes values c.loop-page.page in
+    let so_far = c.loop-page.invariant in
+    moments_write (HoldsOthers at vars c.args.changed values) _ _ (g.met.D.Disk.is_device c.loop-page.disk) so_far.kept so_far.elsewhere.time.later (at + 512 * c.loop-page.page) (length bytes) _ c.write.ensures.uses.model
+    (λ a b. HoldsOthers-marked at vars c.args.changed c.loop-page.page (length bytes) values a b (sym c.has_page.ensures ∙ c.if-has_page.true) long) c.write.ensures.elsewhere
 
 pub returns-clause-stand : goal.returns-clause-stand
 returns-clause-stand g c = λ k.

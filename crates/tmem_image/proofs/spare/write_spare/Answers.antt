@@ -1,13 +1,17 @@
-use Rattle.std.proofs.Common.{◌≡◌, ◌+◌, ◌∙◌, ℕ, ℤ, List, inl, sym, ap, subst, rules, arith}
+use Rattle.std.proofs.Common.{◌≡◌, ◌+◌, ◌*◌, ◌∙◌, ℕ, ℤ, List, length, inl, sym, ap, subst, rules, arith}
 use Rattle.std.specs.Prelude.{Err}
 use Rattle.std.proofs.lemmas.Result.{err_from_is_err_and}
 use Rattle.tmem_disk.specs.declared.fault.Fault.{Fault}
-use Rattle.tmem_disk.proofs.Laws.{seen-left}
+use Rattle.tmem_disk.specs.Disk.{DeviceView, IsDevice, LeavesOnly, AtEachMoment}
+use Rattle.tmem_disk.proofs.Laws.{LeavesOnly-moment}
+use Rattle.tmem_gate.specs.Calls.{WritesWithin}
 use Rattle.tmem_gate.specs.Changes.{outcome_of}
+use Rattle.tmem_record.specs.Layout.{pages_of, image_place}
 use Rattle.tmem_image.specs.Pages.{HoldsOthers, pages_place}
 use Rattle.tmem_image.specs.Spare.{placed}
 use Rattle.tmem_image.specs.Spelling.{IsImage}
-use Rattle.tmem_image.proofs.Changed.{HoldsOthers-after}
+use Rattle.tmem_image.proofs.Changed.{HoldsOthers-after, moments_none, moments_write, moments_both}
+use Rattle.tmem_image.proofs.Lengths.{length-header_body}
 use Rattle.tmem_image.proofs.Spared.{once_shut, once_paged, closed_once_paged, put_last, spared, paged, image_stands, is_begun}
 use Rattle.tmem_image.proofs.spare.write_spare.Goals as goal
 
@@ -61,15 +65,51 @@ returns-clause-gate_write_failed g c = λ unknown write.
       elsewhere = (returns-clause-puts g c).elsewhere.seen;
     }
 
+-- once the gate is closed
+module _ (vars copy at pages : ℕ) (place : at ≡ image_place vars copy) (values : List ℤ) (old shut : DeviceView) (device : IsDevice old) (after : IsDevice shut) (model : shut.keeps_model → old.keeps_model) (others : LeavesOnly old (HoldsOthers (pages_place vars copy) vars pages values)) (writes : WritesWithin at 1 old shut) where
+  abbrev Kept : List ℕ → Type 0
+  Kept = HoldsOthers (pages_place vars copy) vars pages values
+
+  kept_shut : AtEachMoment old shut Kept
+  kept_shut = moments_write Kept old old device (moments_none Kept old device others) (λ k. omega arith) at 1 shut model (λ b c same. HoldsOthers-after at 1 (pages_place vars copy) vars pages values b c same (omega (arith, place))) writes
+
+  behind : pages_place vars copy ≡ at + 2048
+  behind = omega (arith, place)
+
+  left_shut : (values' : List ℤ) → values ≡ values' → LeavesOnly shut (HoldsOthers (at + 2048) vars pages values')
+  left_shut values' same = subst (λ (zs : List ℤ). LeavesOnly shut (HoldsOthers (at + 2048) vars pages zs)) same
+      (subst (λ (k : ℕ). LeavesOnly shut (HoldsOthers k vars pages values)) behind (LeavesOnly-moment old shut Kept after writes.time.later kept_shut))
+
+  -- and then pages are written
+  module _ (values' : List ℤ) (same : values' ≡ values) (n : ℕ) (paged : DeviceView) (model_now : paged.keeps_model → shut.keeps_model) (paging : WritesWithin (at + 2048) n shut paged) (kept : AtEachMoment shut paged (HoldsOthers (at + 2048) vars pages values')) where
+    kept_paged : AtEachMoment old paged Kept
+    kept_paged = moments_both Kept old shut after kept_shut writes.time.later paged _ model_now paging.time
+        (subst (λ (zs : List ℤ). AtEachMoment shut paged (HoldsOthers (pages_place vars copy) vars pages zs)) same (subst (λ (k : ℕ). AtEachMoment shut paged (HoldsOthers k vars pages values')) (sym behind) kept))
+
+    -- and then the header
+    kept_put : IsDevice paged → (header : ℕ) → header ≡ 2047 → (new : DeviceView) → (new.keeps_model → paged.keeps_model) → WritesWithin at (1 + header) paged new → AtEachMoment old new Kept
+    kept_put device_now header long new model_then puts =
+        moments_write Kept old paged device_now kept_paged (λ k. let a = writes.time.later (model_now k) in let b = paging.time.later k in omega arith) at (1 + header) new model_then
+        (λ b c outside. HoldsOthers-after at (1 + header) (pages_place vars copy) vars pages values b c outside (omega (arith, place, long))) puts
+
 pub write_pages-requires-clause-others : goal.write_pages-requires-clause-others
-write_pages-requires-clause-others g c = λ k.
-    let old = g.D.Disk.view c.args.disk.now in
-    let mid = g.D.Disk.view c.shut.new.disk in
-    let vars = c.args.layout.vars in
-    let at = c.image-at.result in
-    let values = c.args.state.now.values in
-    let before = seen-left old _ (g.met.D.Disk.is_device c.args.disk.now) c.requires.others (c.shut.ensures.uses.model k) in
-    let same : pages_place vars c.args.copy ≡ at + 2048 = omega (arith, c.image-at.ensures) in
-    let here = subst (λ (place : ℕ). HoldsOthers place vars c.args.pages values old.seen) same before in
-    let kept = HoldsOthers-after at 1 (at + 2048) vars c.args.pages values old.seen mid.seen (c.shut.ensures.spares.within.seen k) (omega arith) here in
-    subst (λ (zs : List ℤ). HoldsOthers (at + 2048) vars c.args.pages zs mid.seen) (sym c.values-2.ensures) kept
+write_pages-requires-clause-others g c =
+    left_shut c.args.layout.vars c.args.copy c.image-at.result c.args.pages c.image-at.ensures c.args.state.now.values _ _ (g.met.D.Disk.is_device c.args.disk.now) (g.met.D.Disk.is_device c.shut.new.disk) c.shut.ensures.uses.model c.requires.others c.shut.ensures.spares.within
+    c.values-2.result.now (sym c.values-2.ensures)
+
+pub returns-in_err-shut-clause-kept : goal.returns-in_err-shut-clause-kept
+returns-in_err-shut-clause-kept g c =
+    kept_shut c.args.layout.vars c.args.copy c.image-at.result c.args.pages c.image-at.ensures c.args.state.now.values _ _ (g.met.D.Disk.is_device c.args.disk.now) (g.met.D.Disk.is_device c.shut.new.disk) c.shut.ensures.uses.model c.requires.others c.shut.ensures.spares.within
+
+pub returns-in_err-write_pages-clause-kept : goal.returns-in_err-write_pages-clause-kept
+returns-in_err-write_pages-clause-kept g c =
+    let it = c.write_pages.ensures in
+    kept_paged c.args.layout.vars c.args.copy c.image-at.result c.args.pages c.image-at.ensures c.args.state.now.values _ _ (g.met.D.Disk.is_device c.args.disk.now) (g.met.D.Disk.is_device c.shut.new.disk) c.shut.ensures.uses.model c.requires.others c.shut.ensures.spares.within
+    c.values-2.result.now c.values-2.ensures (512 * pages_of c.args.layout.vars) _ it.uses.model it.elsewhere it.kept
+
+pub returns-clause-kept : goal.returns-clause-kept
+returns-clause-kept g c =
+    let it = c.write_pages.ensures in
+    let long : length c.header_of.result ≡ 2047 = ap length c.header_of.ensures.bytes ∙ length-header_body c.args.generation c.args.state.now c.header_of.ensures.names in
+    kept_put c.args.layout.vars c.args.copy c.image-at.result c.args.pages c.image-at.ensures c.args.state.now.values _ _ (g.met.D.Disk.is_device c.args.disk.now) (g.met.D.Disk.is_device c.shut.new.disk) c.shut.ensures.uses.model c.requires.others c.shut.ensures.spares.within
+    c.values-2.result.now c.values-2.ensures (512 * pages_of c.args.layout.vars) _ it.uses.model it.elsewhere it.kept (g.met.D.Disk.is_device c.write_pages.new.disk) (length c.header_of.result) long _ c.put_cell.ensures.uses.model c.put_cell.ensures.puts.elsewhere
