@@ -3,5 +3,7 @@ mod acts;
 mod counting;
 mod disks;
 mod files;
+mod flushing;
 mod images;
 mod journals;
+mod pages;

@@ -2,13 +2,14 @@
 ghost use Rattle.std.specs.Prelude.{◌≡◌, length, IfOk};
 
 use super::counting::CountDisk;
+use super::flushing::{flush_both, flush_name, flush_to, flush_two, holds_run, is_run_flushed};
 use std::alloc::{AllocError, Global};
 use std::process::Abort;
 use std::test::Fail;
 use tmem_disk::{DeviceFault, Disk, Fault, Fill, Name, SimDisk};
-use tmem_image::{ImageRoom, ImageState, choose, load, write_spare};
+use tmem_image::{ALL_PAGES, ImageRoom, ImageState, choose, load, write_spare};
 use tmem_journal::{Journal, Layout, format};
-use tmem_record::{Batch, Effect, NameSet, State};
+use tmem_record::{NameSet, State};
 
 /// An act, with what it is answered, or a mark between acts. Those of a session are for a journal that is open, all others for a
 /// device.
@@ -49,6 +50,10 @@ pub(super) enum Act<'a> {
     CountsAnew,
     /// It was called so often since then: reads beyond those that were counted before, where they matter, writes and syncs.
     Made(Option<u64>, u64, u64),
+    /// Its writes since then had so many bytes together.
+    MadeBytes(u64),
+    /// These are all of its writes since then, each its place and how many bytes it had.
+    Wrote(&'a [(u64, usize)]),
     /// Is formatted for so many variables and slots.
     Formats(u16, u16, Result<(), &'a str>),
     /// The copy of the image that is chosen on a device of `IMAGE_VARS` variables.
@@ -62,10 +67,27 @@ pub(super) enum Act<'a> {
     Opens(u16, u16, Result<u64, &'a str>),
     /// In a session: a batch of one record is flushed, which writes a number to variable 0.
     Flushes(i64, Result<u64, &'a str>),
+    /// In a session: a batch of one record is flushed, which writes a number to a variable.
+    FlushesTo(u16, i64, Result<u64, &'a str>),
+    /// In a session: a batch of one record is flushed, which writes this number to each of two variables.
+    FlushesBoth(u16, u16, i64, Result<u64, &'a str>),
+    /// In a session: a batch of two records is flushed, each of which writes this number to one variable.
+    FlushesTwo(u16, u16, i64, Result<u64, &'a str>),
+    /// In a session: a batch of one record is flushed, which checks this name and writes nothing.
+    FlushesName(&'a str, Result<u64, &'a str>),
+    /// In a session: batches are flushed until there are so many, each over another variable, with a checkpoint whenever the log
+    /// is full.
+    FlushesRun(u16),
     /// In a session.
     Checkpoints(Result<(), &'a str>),
     /// In a session: so many transactions are durable, with this number in variable 0.
     Holds(u64, i64),
+    /// In a session: variables have these numbers.
+    HoldsAll(&'a [(u16, i64)]),
+    /// In a session: this name is registered.
+    HoldsName(&'a str),
+    /// In a session: each variable has what a run of so many batches leaves in it.
+    HoldsRun(u16),
     /// Whether a session was closed by a failure.
     IsClosed(bool),
     /// Ends a session.
@@ -199,11 +221,14 @@ fn is_so_of_session(
     act: &Act,
 ) -> Result<bool, Fault> {
     match act {
-        Act::Flushes(number, answer) => is_flushed(alloc, journal, *number, *answer),
         Act::Checkpoints(answer) => Ok(is_checkpointed(journal, *answer)),
         Act::Holds(count, number) => Ok(holds(journal, *count, *number)),
+        Act::HoldsAll(numbers) => Ok(holds_all(journal, numbers)),
+        Act::HoldsName(name) => Ok(journal.state().has(&Name::new(name)?)),
+        Act::HoldsRun(batches) => Ok(holds_run(journal, *batches)),
         Act::IsClosed(is_closed) => Ok(journal.is_closed() == *is_closed),
-        _ => Ok(false),
+        Act::FlushesRun(batches) => is_run_flushed(alloc, journal, *batches),
+        _ => is_flushed(alloc, journal, act),
     }
 }
 
@@ -215,21 +240,28 @@ fn holds(journal: &Journal<Device>, count: u64, number: i64) -> bool {
     journal.count() == count && journal.state().values().first() == Some(&number)
 }
 
-/// Whether a batch of one record, which writes a number to variable 0, is flushed so.
-fn is_flushed(
-    alloc: Global,
-    journal: &mut Journal<Device>,
-    number: i64,
-    answer: Result<u64, &str>,
-) -> Result<bool, Fault> {
-    let mut effect = Effect::new();
-    effect.writes.put(0, number);
-    let has_room = journal.state().has_room_for(effect.names.as_slice());
-    let mut batch = Batch::new(alloc)?;
-    if effect.is_empty() || !batch.push(&effect) || !has_room || journal.count() == u64::MAX {
-        return Ok(false);
-    }
-    Ok(is_same(journal.flush(&batch), answer))
+/// Whether a batch is flushed so.
+fn is_flushed(alloc: Global, journal: &mut Journal<Device>, act: &Act) -> Result<bool, Fault> {
+    let (had, answer) = match act {
+        Act::Flushes(number, answer) => (flush_to(alloc, journal, 0, *number), *answer),
+        Act::FlushesTo(var, number, answer) => (flush_to(alloc, journal, *var, *number), *answer),
+        Act::FlushesBoth(one, other, number, answer) => {
+            (flush_both(alloc, journal, *one, *other, *number), *answer)
+        }
+        Act::FlushesTwo(one, other, number, answer) => {
+            (flush_two(alloc, journal, *one, *other, *number), *answer)
+        }
+        Act::FlushesName(name, answer) => {
+            (flush_name(alloc, journal, &Name::new(name)?), *answer)
+        }
+        _ => return Ok(false),
+    };
+    Ok(is_same(had, answer))
+}
+
+fn holds_all(journal: &Journal<Device>, numbers: &[(u16, i64)]) -> bool {
+    let values = journal.state().values();
+    numbers.iter().all(|(var, number)| values.get(usize::from(*var)) == Some(number))
 }
 
 fn after_device(alloc: Global, mut disk: Device, act: &Act) -> Result<(Store, bool), Fault> {
@@ -347,6 +379,8 @@ fn is_so_of_counting(disk: &mut Device, act: &Act) -> bool {
             disk.count_anew();
             true
         }
+        Act::MadeBytes(bytes) => disk.calls.written == *bytes,
+        Act::Wrote(writes) => disk.wrote(writes),
         Act::Made(reads, writes, syncs) => {
             let more = disk.calls.reads.checked_sub(disk.before.reads);
             (disk.calls.writes, disk.calls.syncs) == (*writes, *syncs)
@@ -441,7 +475,10 @@ fn is_put(
     if copy > 1 || generation == 0 || disk.size() < layout.end() || disk.sync().is_err() {
         return Ok(false);
     }
-    Ok(is_same(write_spare(disk, layout, copy, generation, &state), answer))
+    Ok(is_same(
+        write_spare(disk, layout, copy, generation, &state, ALL_PAGES),
+        answer,
+    ))
 }
 
 /// Whether a copy is loaded so, and holds what it ought to.

@@ -1,4 +1,4 @@
-//! A device that counts its calls.
+//! A device that counts its calls, and keeps the places of its writes.
 use tmem_disk::{DeviceFault, Disk};
 
 /// How often each call was made.
@@ -7,6 +7,8 @@ pub(super) struct Calls {
     pub(super) reads: u64,
     pub(super) writes: u64,
     pub(super) syncs: u64,
+    /// How many bytes the writes had together.
+    pub(super) written: u64,
 }
 
 /// No call.
@@ -14,7 +16,11 @@ const NONE: Calls = Calls {
     reads: 0,
     writes: 0,
     syncs: 0,
+    written: 0,
 };
+
+/// How many writes are kept.
+const KEPT: usize = 32;
 
 /// A device round another, which counts the calls that it passes on.
 #[derive(Drop)]
@@ -23,6 +29,8 @@ pub(super) struct CountDisk<D: Disk> {
     pub(super) calls: Calls,
     /// What was counted before the last `count_anew`.
     pub(super) before: Calls,
+    // where each of the first writes that are counted began, and how many bytes it had
+    kept: [(u64, usize); KEPT],
 }
 
 impl<D: Disk> CountDisk<D> {
@@ -32,6 +40,7 @@ impl<D: Disk> CountDisk<D> {
             inner,
             calls: NONE,
             before: NONE,
+            kept: [(0, 0); KEPT],
         }
     }
 
@@ -39,6 +48,18 @@ impl<D: Disk> CountDisk<D> {
     pub(super) fn count_anew(&mut self) {
         self.before = self.calls;
         self.calls = NONE;
+    }
+
+    /// Whether these writes are counted, in this order: each a place and how many bytes were written from there on.
+    pub(super) fn wrote(&self, writes: &[(u64, usize)]) -> bool {
+        writes.len() as u64 == self.calls.writes && self.kept.get(..writes.len()) == Some(writes)
+    }
+}
+
+/// Keeps a write, if there is room for one of its number.
+fn keep(kept: &mut [(u64, usize)], number: u64, write: (u64, usize)) {
+    if let Some(place) = kept.get_mut(number as usize) {
+        *place = write;
     }
 }
 
@@ -57,7 +78,9 @@ impl<D: Disk> Disk for CountDisk<D> {
     }
 
     fn write_at(&mut self, at: u64, bytes: &[u8]) -> Result<(), DeviceFault> {
+        keep(&mut self.kept, self.calls.writes, (at, bytes.len()));
         self.calls.writes = self.calls.writes.saturating_add(1);
+        self.calls.written = self.calls.written.saturating_add(bytes.len() as u64);
         self.inner.write_at(at, bytes)
     }
 

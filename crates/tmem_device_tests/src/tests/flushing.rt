@@ -1,0 +1,159 @@
+//! Batches that tests flush.
+ghost use Rattle.std.specs.Bool.{OnTrue};
+ghost use Rattle.std.specs.Prelude.{◌≡◌, ◌<◌, [], ◌∷◌, All};
+ghost use Rattle.tmem_journal.specs.Held.{layout_of};
+
+use std::alloc::Global;
+use tmem_disk::{Disk, Fault, Name};
+use tmem_journal::Journal;
+use tmem_record::{Batch, Effect};
+
+/// Flushes one record that writes a number to a variable.
+pub(super) fn flush_to<D: Disk>(
+    alloc: Global,
+    journal: &mut Journal<D>,
+    var: u16,
+    number: i64,
+) -> Result<u64, Fault> {
+    flush(alloc, journal, &effect_to(var, number))
+}
+
+/// Flushes one record that writes a number to each of two variables.
+pub(super) fn flush_both<D: Disk>(
+    alloc: Global,
+    journal: &mut Journal<D>,
+    one: u16,
+    other: u16,
+    number: i64,
+) -> Result<u64, Fault> {
+    let mut effect = effect_to(one, number);
+    effect.writes.put(other, number);
+    flush(alloc, journal, &effect)
+}
+
+/// Flushes two records, each of which writes a number to one variable.
+pub(super) fn flush_two<D: Disk>(
+    alloc: Global,
+    journal: &mut Journal<D>,
+    one: u16,
+    other: u16,
+    number: i64,
+) -> Result<u64, Fault> {
+    let (first, second) = (effect_to(one, number), effect_to(other, number));
+    let mut batch = Batch::new(alloc)?;
+    let are_pushed = batch.push(&first) && batch.push(&second);
+    let are_within = is_within(journal, &first) && is_within(journal, &second);
+    if !are_pushed || !are_within || !journal.state().has_room_for(&[]) {
+        return Err(Fault::Full);
+    }
+    if journal.count() >= u64::MAX - 1 {
+        return Err(Fault::Full);
+    }
+    journal.flush(&batch)
+}
+
+/// Flushes one record that checks a name.
+pub(super) fn flush_name<D: Disk>(
+    alloc: Global,
+    journal: &mut Journal<D>,
+    name: &Name,
+) -> Result<u64, Fault> {
+    let mut effect = Effect::new();
+    effect.names.put(name);
+    flush(alloc, journal, &effect)
+}
+
+/// Flushes one record. `Full` where it is none that may be flushed.
+fn flush<D: Disk>(alloc: Global, journal: &mut Journal<D>, effect: &Effect) -> Result<u64, Fault> {
+    let has_room = journal.state().has_room_for(effect.names.as_slice());
+    let mut batch = Batch::new(alloc)?;
+    if effect.is_empty() || !batch.push(effect) || !has_room || journal.count() == u64::MAX {
+        return Err(Fault::Full);
+    }
+    if !is_within(journal, effect) {
+        return Err(Fault::Full);
+    }
+    journal.flush(&batch)
+}
+
+/// Whether an effect is over the variables of a journal.
+fn is_within<D: Disk>(journal: &Journal<D>, effect: &Effect) -> bool
+    ensures { OnTrue result (All (λ w. w.0 < (layout_of journal.now).vars) effect.now.writes) }
+{
+    let vars = journal.layout().vars;
+    effect.writes.as_slice().iter().all(|w| w.0 < vars)
+}
+
+/// An effect that writes a number to a variable.
+fn effect_to(var: u16, number: i64) -> Effect
+    ensures writes { result.writes ≡ (var, number) ∷ [] }
+    ensures names { result.names ≡ [] }
+{
+    let mut effect = Effect::new();
+    effect.writes.put(var, number);
+    effect
+}
+
+/// How many variables the run goes over.
+const RUN_VARS: u16 = 200;
+
+/// The variable that a batch of the run writes. The pages take turns, and each variable is met within 200 batches.
+fn run_var(batch: u16) -> u16 {
+    batch % RUN_VARS * 37 % RUN_VARS
+}
+
+/// What a batch of the run writes to its variable.
+fn run_number(batch: u16) -> i64 {
+    i64::from(batch) + 1
+}
+
+/// Whether batches are flushed until there are so many. Where the log is full, a checkpoint is made.
+pub(super) fn is_run_flushed<D: Disk>(
+    alloc: Global,
+    journal: &mut Journal<D>,
+    batches: u16,
+) -> Result<bool, Fault> {
+    for batch in 0..batches {
+        let is_new = journal.count() <= u64::from(batch);
+        if is_new && flush_of_run(alloc, journal, batch)? != u64::from(batch) + 1 {
+            return Ok(false);
+        }
+    }
+    Ok(true)
+}
+
+fn flush_of_run<D: Disk>(
+    alloc: Global,
+    journal: &mut Journal<D>,
+    batch: u16,
+) -> Result<u64, Fault> {
+    match flush_to(alloc, journal, run_var(batch), run_number(batch)) {
+        Err(Fault::LogFull) => {
+            journal.checkpoint()?;
+            flush_to(alloc, journal, run_var(batch), run_number(batch))
+        }
+        answer => answer,
+    }
+}
+
+/// Whether each variable has what a run of so many batches leaves in it.
+pub(super) fn holds_run<D: Disk>(journal: &Journal<D>, batches: u16) -> bool {
+    let values = journal.state().values();
+    for (var, value) in values.iter().enumerate() {
+        if *value != left_by_run(var, batches) {
+            return false;
+        }
+    }
+    true
+}
+
+/// What a run of so many batches leaves in a variable: what the last batch wrote that writes it.
+fn left_by_run(var: usize, batches: u16) -> i64 {
+    let mut left = 0;
+    for batch in 0..batches {
+        if usize::from(run_var(batch)) == var {
+            left = run_number(batch);
+        }
+    }
+    left
+}
