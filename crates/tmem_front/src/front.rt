@@ -286,7 +286,7 @@ impl<D: Disk + Drop, N: StoreNaming, T: Invariants + Drop, S: StoredSteps + Drop
         flushed
     }
 
-    /// Writes the durable state as a whole, and frees every slot of the log. Refused as a journal refuses it.
+    /// Makes an image of the durable state, and frees every slot of the log. Refused as a journal refuses it.
     pub fn checkpoint<R: Wait>(&self, rt: &R) -> Result<(), Fault>
         ensures refused { IfErr result IsCheckpointRefusal }
     {

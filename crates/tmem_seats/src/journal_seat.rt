@@ -174,7 +174,7 @@ impl<D: Disk, N: StoreNaming> JournalSeat<D, N> {
         core.is_shut()
     }
 
-    /// Writes the durable state as a whole, and frees every slot of the log. The history stays. Refused as a journal
+    /// Makes an image of the durable state, and frees every slot of the log. The history stays. Refused as a journal
     /// refuses a checkpoint.
     pub fn checkpoint(&mut self) -> Result<(), Fault>
         ensures side { (side_of self.new ≡ side_of self.old) × (batch_of self.new ≡ batch_of self.old) }
