@@ -197,6 +197,19 @@ static LARGE: &[Act<'static>] = &[
     Closes,
     Made(None, 44, 12),
     MadeBytes(23074),
+    // the next session knows nothing of the pages
+    Row,
+    Opens(1024, 64, Ok(0)),
+    Checkpoints(Ok(())),
+    Checkpoints(Ok(())),
+    Closes,
+    CountsAnew,
+    Opens(1024, 64, Ok(0)),
+    FlushesTo(1023, 1, Ok(1)),
+    Checkpoints(Ok(())),
+    Closes,
+    Made(None, 22, 7),
+    MadeBytes(10273),
 ];
 
 #[test]
