@@ -6,6 +6,7 @@ mod holds;
 mod limits;
 mod moves;
 mod no_closures;
+mod paces;
 mod passes;
 mod pool;
 mod room;

@@ -1,16 +1,18 @@
 //! Flushers: when each ends, what it has made durable by then, and how it makes room in a full log.
-use super::moves::Answer::{Committed, Done, Number, Refused, Value};
+use super::moves::Answer::{Committed, Done, Holds, Nothing, Number, Refused, Value};
 use super::moves::Move::{
-    AddDurably, Await, Checkpoint, Commit, CommitAndFlush, FaultOf, Fill, Flush, FlushWithRoom,
-    Look, Peek, RunFlusher, Shut, Sleep, TryCommit,
+    AddDurably, Await, AwaitHeld, Checkpoint, Commit, CommitAndFlush, Count, FaultOf, Fill, Flush,
+    FlushWithRoom, HoldTurns, Look, Peek, Release, RunFlusher, Shut, Sleep, TryCommit, ValuesAre,
 };
-use super::moves::{Refusal, Task};
+use super::moves::{Answer, Refusal, Task};
 use super::scenes::Line::{
-    After, All, Before, FailSync, FailWrite, First, Last, Scene, Second, Slots, SyncMillis, Third,
-    Vars,
+    After, All, Before, FailSync, FailWrite, First, Last, LastImage, Scene, Second, Slots,
+    SyncMillis, Third, Vars,
 };
 use super::scenes::{Line, play};
 use std::test::Fail;
+
+const SPENT: Answer = Refused(Refusal::Spent);
 
 const WRITE: Task = Task::Write(0, 1);
 
@@ -45,6 +47,44 @@ static SCENES: &[Line<'static>] = &[
     Before(Flush, Refused(Refusal::LogFull)),
     Before(Checkpoint, Done),
     Before(Flush, Number(3)),
+    Scene("a full log shuts no front"),
+    Slots(2),
+    Before(TryCommit(WRITE), Committed(0)),
+    Before(Flush, Number(1)),
+    Before(TryCommit(WRITE), Committed(1)),
+    Before(Flush, Number(2)),
+    Before(TryCommit(WRITE), Committed(2)),
+    Before(Flush, Refused(Refusal::LogFull)),
+    Before(TryCommit(WRITE), Committed(3)),
+    Before(FaultOf, Nothing),
+    Before(FlushWithRoom, Number(4)),
+    Scene("an image that can be followed by no other shuts no front"),
+    Slots(2),
+    LastImage,
+    Before(TryCommit(WRITE), Committed(0)),
+    Before(Flush, Number(1)),
+    Before(Checkpoint, SPENT),
+    Before(TryCommit(WRITE), Committed(1)),
+    Before(Flush, Number(2)),
+    Before(TryCommit(WRITE), Committed(2)),
+    Before(FlushWithRoom, SPENT),
+    // it does not try again
+    Before(RunFlusher(3), SPENT),
+    Before(TryCommit(WRITE), Committed(3)),
+    Before(FaultOf, Nothing),
+    Before(Look, Number(2)),
+    Scene("a front that is shut makes checkpoints"),
+    Slots(2),
+    Before(TryCommit(WRITE), Committed(0)),
+    Before(Flush, Number(1)),
+    Before(TryCommit(WRITE), Committed(1)),
+    Before(Flush, Number(2)),
+    Before(TryCommit(WRITE), Committed(2)),
+    Before(Shut, Done),
+    Before(Checkpoint, Done),
+    Before(Flush, Number(3)),
+    Before(ValuesAre([0, 1, 2], [1, 0, 0]), Holds(true)),
+    Before(Count, Number(3)),
     Scene("a flusher flushes again once there is room"),
     Slots(2),
     Before(TryCommit(WRITE), Committed(0)),
@@ -100,6 +140,15 @@ static SCENES: &[Line<'static>] = &[
     Last(Await(1999), Done),
     Last(Shut, Done),
     After(Peek(0), Value(2000)),
+    Scene("a pace that takes its time keeps no caller waiting"),
+    Before(HoldTurns(1), Done),
+    First(RunFlusher(1), Done),
+    Last(AwaitHeld(1), Done),
+    Last(TryCommit(WRITE), Committed(0)),
+    Last(Flush, Number(1)),
+    Last(TryCommit(WRITE), Committed(1)),
+    Last(Release, Done),
+    After(Look, Number(2)),
     Scene("a flusher that fails ends each wait"),
     FailSync(2),
     First(RunFlusher(u64::MAX), Refused(Refusal::Unknown)),

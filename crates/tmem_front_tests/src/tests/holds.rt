@@ -1,12 +1,13 @@
 //! What goes on while a thread is held in the middle of a call.
 use super::moves::Answer::{Committed, Done, Holds, Nothing, Number, Refused, Value};
 use super::moves::Move::{
-    Acquire, AddWithRoom, Attempt, Await, AwaitHeld, AwaitWithin, Checkpoint, Commit, CommitWithin,
-    Count, FaultOf, Flush, HasInvariant, HoldSteps, HoldSyncs, Look, LooksAtMost, NewPass, Peek,
-    Release, ReleasePass, Settle, Shut, Sleep, TryCommit, ValuesAre, Vouch,
+    Acquire, AcquireWithin, AddWithRoom, Attempt, Await, AwaitHeld, AwaitWithin, Checkpoint,
+    Commit, CommitDurable, CommitWithin, Count, FaultOf, Flush, FlushWithRoom, HasInvariant,
+    HoldSteps, HoldSyncs, Look, LooksAtMost, NewPass, Peek, Release, ReleasePass, Settle, Shut,
+    Sleep, TryCommit, ValuesAre, Vouch,
 };
 use super::moves::{Answer, Refusal, Task};
-use super::scenes::Line::{After, Before, First, Last, Scene, Second, Third};
+use super::scenes::Line::{After, Before, First, Last, Scene, Second, Slots, Third};
 use super::scenes::{Line, play};
 use std::test::Fail;
 
@@ -66,6 +67,35 @@ static SCENES: &[Line<'static>] = &[
     Last(Release, Done),
     // a checkpoint makes nothing durable that waits
     After(Look, Number(0)),
+    Scene("settle while the sync of a checkpoint that makes room is held"),
+    Slots(2),
+    Before(TryCommit(Task::Write(0, 1)), Committed(0)),
+    Before(Flush, Number(1)),
+    Before(TryCommit(Task::Write(0, 1)), Committed(1)),
+    Before(Flush, Number(2)),
+    Before(TryCommit(Task::Write(0, 1)), Committed(2)),
+    Before(HoldSyncs(1), Done),
+    First(FlushWithRoom, Number(3)),
+    Last(AwaitHeld(1), Done),
+    Last(TryCommit(Task::AddOne), Committed(3)),
+    Last(Commit(Task::Copy), Committed(4)),
+    Last(Look, Number(2)),
+    Last(Count, Number(5)),
+    Last(ReleasePass, Done),
+    Last(AcquireWithin(60_000), Done),
+    Last(Release, Done),
+    After(Look, Number(3)),
+    Scene("what is awaited is committed while a sync is held"),
+    Before(TryCommit(Task::Write(0, 1)), Committed(0)),
+    Before(HoldSyncs(1), Done),
+    First(Flush, Number(1)),
+    First(Flush, Number(2)),
+    Second(AwaitHeld(1), Done),
+    Second(CommitDurable(Task::Write(5, 1)), Committed(1)),
+    Last(AwaitHeld(1), Done),
+    Last(Sleep(200), Done),
+    Last(Peek(5), Value(1)),
+    Last(Release, Done),
     Scene("an attempt is made once where another commits meanwhile"),
     Before(TryCommit(Task::Write(0, 1)), Committed(0)),
     Before(HoldSteps(1), Done),
@@ -112,6 +142,22 @@ static SCENES: &[Line<'static>] = &[
     Before(HoldSteps(3), Done),
     First(Commit(Task::AddOne), Committed(3)),
     // waits for the lock, while the third addition is held under it
+    Second(AwaitHeld(3), Done),
+    Second(TryCommit(Task::Write(0, 9)), Committed(4)),
+    Last(AwaitHeld(1), Done),
+    Last(TryCommit(Task::Write(0, 5)), Committed(1)),
+    Last(Release, Done),
+    Last(AwaitHeld(2), Done),
+    Last(TryCommit(Task::Write(0, 7)), Committed(2)),
+    Last(Release, Done),
+    Last(AwaitHeld(3), Done),
+    Last(Sleep(500), Done),
+    Last(Release, Done),
+    After(Peek(0), Value(9)),
+    Scene("a transaction that waits for room and met two conflicts is evaluated alone"),
+    Before(TryCommit(Task::Write(0, 1)), Committed(0)),
+    Before(HoldSteps(3), Done),
+    First(AddWithRoom(1), Number(1)),
     Second(AwaitHeld(3), Done),
     Second(TryCommit(Task::Write(0, 9)), Committed(4)),
     Last(AwaitHeld(1), Done),

@@ -5,7 +5,9 @@ use super::moves::Move::{
     HoldSyncs, LooksAtMost, NeedsAtMost, NewPasses, Release, ReleasePass, Shut, Sleep, TryCommit,
 };
 use super::moves::{Answer, Refusal, Task};
-use super::scenes::Line::{After, Before, First, Last, Scene, Second, SkipSeconds, Third};
+use super::scenes::Line::{
+    After, Before, ClockReadings, First, Last, Scene, Second, SkipSeconds, Third,
+};
 use super::scenes::{Line, play};
 use std::test::Fail;
 
@@ -104,6 +106,23 @@ static SCENES: &[Line<'static>] = &[
     Last(Sleep(2000), Done),
     Last(TryCommit(Task::Write(2, 1)), Committed(0)),
     Last(Flush, Number(1)),
+    Scene("a wait with the longest limit is not over at once"),
+    First(CommitWithin(Task::NeedOne, u64::MAX), Saw(1, ONE)),
+    Second(AwaitWithin(0, u64::MAX), Done),
+    Last(Sleep(200), Done),
+    Last(LooksAtMost(4), Holds(true)),
+    Last(TryCommit(Task::Write(2, 1)), Committed(0)),
+    Last(Flush, Number(1)),
+    Scene("a clock that cannot be read ends a wait"),
+    ClockReadings(0),
+    First(AwaitWithin(0, LONG), Late),
+    Second(CommitWithin(Task::NeedOne, LONG), Retried),
+    Last(Sleep(1), Done),
+    Scene("a clock that cannot be read any more ends a wait"),
+    ClockReadings(1),
+    First(AwaitWithin(0, LONG), Late),
+    Second(CommitWithin(Task::NeedOne, LONG), Retried),
+    Last(Sleep(1), Done),
     Scene("a wait with a limit of years is not over after months"),
     SkipSeconds(MONTH),
     Before(NewPasses(26), Number(26)),

@@ -30,10 +30,14 @@ pub(super) enum Task {
     AddBehind(u16, i64, u16),
     /// Writes a number to each of 64 variables.
     WriteEach(i64),
+    /// Makes 31 choices, each in the first branch of the next one, that all retry, but for the last: it writes a 1 to variable 0.
+    Choose,
     /// Aborts with this code.
     Abort(u16),
     /// Reads a variable, and another one where that is less than 1, and retries until either is at least 1.
     NeedEither(u16, u16),
+    /// Reads a variable into register 0, and another one where that is 0, and retries where both are. It calls no step.
+    WaitForEither(u16, u16),
     /// Retries.
     Never,
     /// Registers the invariant.
@@ -58,7 +62,8 @@ pub(super) enum Move {
     PassOnWithin(u16, i64, u16, u64),
     /// Commits `AddOne` so often by `try_atomically`, again after each conflict. Answers how often it did.
     Add(u64),
-    /// `atomically_within`, for so many milliseconds.
+    /// `atomically_within`, for so many milliseconds, or with the longest limit of all where that is `u64::MAX`. So are the others
+    /// that have a limit.
     CommitWithin(Task, u64),
     /// Commits `AddOne` so often by `atomically_with_room`. Answers how often, or another answer.
     AddWithRoom(u64),
@@ -79,6 +84,8 @@ pub(super) enum Move {
     Count,
     /// Whether the invariant is registered.
     HasInvariant,
+    /// How many values the first so many variables have.
+    CountValues(u16),
     /// Whether these variables have these values at one moment.
     ValuesAre([u16; 3], [i64; 3]),
     Flush,
@@ -104,9 +111,10 @@ pub(super) enum Move {
     OtherPass,
     /// Lets so many milliseconds pass.
     Sleep(u64),
-    /// So many of the next syncs, or additions, are each held until one more is released.
+    /// So many of the next syncs, or additions, or turns of a pace, are each held until one more is released.
     HoldSyncs(u64),
     HoldSteps(u64),
+    HoldTurns(u64),
     /// Waits until so many were held, for ten seconds at the most.
     AwaitHeld(u64),
     /// Releases one. `Late` where one was held for ten seconds.
@@ -197,7 +205,9 @@ impl Task {
             Task::NeedOne => need_one(alloc, 2),
             Task::WriteBoth(var, other, number) => write_both(alloc, var, other, number),
             Task::NeedEither(var, other) => need_either(alloc, var, other),
+            Task::WaitForEither(var, other) => wait_for_either(alloc, var, other),
             Task::Never => Ok(Tx::Retry),
+            Task::Choose => choose(alloc),
             Task::Abort(code) => Ok(Tx::Abort { code }),
             Task::NeedLast(var) => need_last(alloc, var),
             Task::AddBehind(var, least, other) => add_behind(alloc, var, least, other),
@@ -268,6 +278,30 @@ fn write_both(alloc: Global, var: u16, other: u16, number: i64) -> Result<Tx, Al
 fn need_either(alloc: Global, var: u16, other: u16) -> Result<Tx, AllocError> {
     let (first, second) = (need_one(alloc, var)?, need_one(alloc, other)?);
     Ok(Tx::OrElse(Box::new(alloc, first)?, Box::new(alloc, second)?))
+}
+
+fn choose(alloc: Global) -> Result<Tx, AllocError> {
+    let mut tx = Tx::Retry;
+    for _ in 0..30 {
+        tx = Tx::OrElse(Box::new(alloc, tx)?, Box::new(alloc, Tx::Retry)?);
+    }
+    let last = write(alloc, 0, 1)?;
+    Ok(Tx::OrElse(Box::new(alloc, tx)?, Box::new(alloc, last)?))
+}
+
+fn wait_for_either(alloc: Global, var: u16, other: u16) -> Result<Tx, AllocError> {
+    let (first, second) = (wait_for(alloc, var)?, wait_for(alloc, other)?);
+    Ok(Tx::OrElse(Box::new(alloc, first)?, Box::new(alloc, second)?))
+}
+
+fn wait_for(alloc: Global, var: u16) -> Result<Tx, AllocError> {
+    let (then, other) = (Box::new(alloc, Tx::Skip)?, Box::new(alloc, Tx::Retry)?);
+    let when = Tx::When {
+        reg: 0,
+        then,
+        other,
+    };
+    Ok(Tx::Seq(vec![in alloc; Tx::Read { var, reg: 0 }, when]?))
 }
 
 fn need_one(alloc: Global, var: u16) -> Result<Tx, AllocError> {

@@ -1,11 +1,14 @@
 //! Passes that callers share.
 use super::moves::Answer::{Committed, Done, Holds, Late, Number, Refused, Value};
 use super::moves::Move::{
-    Acquire, AcquireWithin, AwaitHeld, Commit, Flush, HoldSteps, Look, LooksAtLeast, LooksAtMost,
-    NewPass, NewPasses, OtherPass, Peek, Release, ReleasePass, Seen, Shut, Sleep, TryCommit,
+    Acquire, AcquireWithin, AwaitHeld, Checkpoint, Close, Commit, Flush, HoldSteps, Look,
+    LooksAtLeast, LooksAtMost, NewPass, NewPasses, OtherPass, Peek, Release, ReleasePass, Seen,
+    Shut, Sleep, TryCommit,
 };
 use super::moves::{Answer, Refusal, Task};
-use super::scenes::Line::{After, Before, FailSync, First, Last, Scene, Second, SyncMillis, Third};
+use super::scenes::Line::{
+    After, Before, FailSync, First, FourMore, Last, Scene, Second, SkipSeconds, SyncMillis, Third,
+};
 use super::scenes::{Line, play};
 use std::test::Fail;
 
@@ -13,6 +16,8 @@ use std::test::Fail;
 const LONG: u64 = 60_000;
 
 const NO_SEAT: Answer = Refused(Refusal::NoSeat);
+
+const CLOSED: Answer = Refused(Refusal::Closed);
 
 static SCENES: &[Line<'static>] = &[
     Scene("a pass is lent again with what it knows"),
@@ -28,9 +33,33 @@ static SCENES: &[Line<'static>] = &[
     Before(NewPass, NO_SEAT),
     Before(Acquire, Done),
     Before(TryCommit(Task::Write(0, 2)), Committed(1)),
+    Scene("a pass that is lent again looks again"),
+    Before(ReleasePass, Done),
+    Before(Acquire, Done),
+    Before(TryCommit(Task::Write(0, 1)), Committed(0)),
+    Before(Flush, Number(1)),
+    Before(Look, Number(1)),
+    Before(ReleasePass, Done),
+    Before(Acquire, Done),
+    Before(TryCommit(Task::Write(0, 2)), Committed(1)),
+    Before(Flush, Number(2)),
+    Before(Look, Number(2)),
     Scene("no pass is lent where none is left"),
     Before(NewPasses(31), Number(31)),
     Before(Acquire, NO_SEAT),
+    // nobody can release one, so there is nothing to wait for
+    Before(AcquireWithin(0), NO_SEAT),
+    Before(AcquireWithin(LONG), NO_SEAT),
+    Scene("a pass that was never given out is lent within no time"),
+    Before(AcquireWithin(0), Done),
+    Before(TryCommit(Task::Write(0, 1)), Committed(0)),
+    Before(NewPasses(40), Number(30)),
+    // the one in hand is the last
+    Before(AcquireWithin(0), Late),
+    Before(Shut, Done),
+    Before(AcquireWithin(0), CLOSED),
+    Before(AcquireWithin(LONG), CLOSED),
+    Before(Acquire, CLOSED),
     Scene("a thread waits for a pass until one is released"),
     // with the one in hand and those that the threads take first, one is left for the pool
     Before(NewPasses(27), Number(27)),
@@ -85,6 +114,50 @@ static SCENES: &[Line<'static>] = &[
     Third(AcquireWithin(LONG), Refused(Refusal::Closed)),
     Last(Sleep(600), Done),
     Last(Shut, Done),
+    Scene("a close wakes each thread that waits for a pass"),
+    Before(NewPasses(26), Number(26)),
+    // the last one; it is never released
+    First(Acquire, Done),
+    Second(Sleep(300), Done),
+    Second(Acquire, CLOSED),
+    Third(Sleep(300), Done),
+    Third(AcquireWithin(LONG), CLOSED),
+    Last(Sleep(600), Done),
+    // nothing waits to be durable
+    Last(Close, Done),
+    Scene("a checkpoint ends no wait for a pass"),
+    Before(NewPasses(27), Number(27)),
+    First(Acquire, Done),
+    First(Sleep(1500), Done),
+    First(Checkpoint, Done),
+    First(Sleep(100), Done),
+    First(ReleasePass, Done),
+    Second(Sleep(300), Done),
+    Second(Acquire, Done),
+    Last(Sleep(1), Done),
+    Scene("a pass that is released as the time ends is lent"),
+    // ten seconds later at each reading: the time is over when it is read after the sleep
+    SkipSeconds(10),
+    Before(NewPasses(27), Number(27)),
+    First(Acquire, Done),
+    First(Sleep(1500), Done),
+    First(ReleasePass, Done),
+    Second(Sleep(300), Done),
+    Second(AcquireWithin(35_000), Done),
+    Last(Sleep(1), Done),
+    Scene("a release wakes one thread"),
+    // the last one
+    Before(NewPasses(24), Number(24)),
+    First(Acquire, Done),
+    First(Sleep(1500), Done),
+    First(ReleasePass, Done),
+    FourMore(Sleep(300), Done),
+    FourMore(Acquire, Done),
+    FourMore(Sleep(200), Done),
+    FourMore(ReleasePass, Done),
+    Last(Sleep(1), Done),
+    // each looked once before it slept, and found a pass when it was woken
+    After(LooksAtMost(6), Holds(true)),
     Scene("a fault wakes each thread that waits for a pass"),
     FailSync(2),
     Before(NewPasses(26), Number(26)),

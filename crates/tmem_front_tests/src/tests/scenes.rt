@@ -42,6 +42,8 @@ pub(super) enum Line<'a> {
     SyncMillis(u64),
     /// How many seconds later it is at each reading of the clock, for a wait that has a limit.
     SkipSeconds(u64),
+    /// How often the clock can be read in a wait that has a limit.
+    ClockReadings(u64),
     /// Its image is of the last generation, so that no checkpoint can be made.
     LastImage,
     /// What one thread does before the others start, and what that has to be answered.
@@ -117,6 +119,17 @@ fn skip_of(lines: &[Line]) -> Duration {
         }
     }
     skip
+}
+
+// How often it can be read.
+fn readings_of(lines: &[Line]) -> u64 {
+    let mut readings = u64::MAX;
+    for line in lines {
+        if let Line::ClockReadings(most) = *line {
+            readings = most;
+        }
+    }
+    readings
 }
 
 // What lines say of the device.
@@ -402,6 +415,7 @@ fn play_scene<R: Clock + Threads + Wait + Sync>(
         signals: &signals,
         lines,
         skip: skip_of(lines),
+        readings: readings_of(lines),
     };
     match open(&stage, device_of(lines)) {
         Ok(opened) => play_named::<Brand, _>(&stage, opened),

@@ -18,6 +18,7 @@ pub(super) struct Signals {
     // how many of the next ones are still to be held
     syncs: AtomicU64,
     steps: AtomicU64,
+    turns: AtomicU64,
     // how many were held, and how many of these may go on
     held: AtomicU64,
     released: AtomicU64,
@@ -33,6 +34,7 @@ impl Signals {
         Signals {
             syncs: AtomicU64::new(0),
             steps: AtomicU64::new(0),
+            turns: AtomicU64::new(0),
             held: AtomicU64::new(0),
             released: AtomicU64::new(0),
             gave_up: AtomicBool::new(false),
@@ -51,6 +53,11 @@ impl Signals {
     /// So many of the next additions are.
     pub(super) fn hold_steps(&self, times: u64) {
         self.steps.store(times, Ordering::SeqCst);
+    }
+
+    /// So many of the next turns of a pace are.
+    pub(super) fn hold_turns(&self, times: u64) {
+        self.turns.store(times, Ordering::SeqCst);
     }
 
     /// Waits until so many were held. Answers whether that came in time.
@@ -77,9 +84,20 @@ impl Signals {
     /// Called by an addition. It has no runtime, so it does not sleep.
     pub(super) fn meet_step(&self) {
         self.adds.fetch_add(1, Ordering::SeqCst);
-        if !is_one_left(&self.steps) {
-            return;
+        if is_one_left(&self.steps) {
+            self.hold();
         }
+    }
+
+    /// Called at each turn of a pace.
+    pub(super) fn meet_turn(&self) {
+        if is_one_left(&self.turns) {
+            self.hold();
+        }
+    }
+
+    // Lets others run until one more is released.
+    fn hold(&self) {
         let before = self.held.fetch_add(1, Ordering::SeqCst);
         for _ in 0..MOST_YIELDS {
             if self.released.load(Ordering::SeqCst) > before {

@@ -41,6 +41,8 @@ pub(super) struct Stage<'a, R> {
     pub(super) lines: &'a [Line<'a>],
     /// How much later it is at each reading of the clock, for a wait that has a limit.
     pub(super) skip: Duration,
+    /// How often it can be read in such a wait.
+    pub(super) readings: u64,
 }
 
 /// What one thread has in hand.
@@ -84,12 +86,14 @@ struct Kept<N: StoreNaming> {
 
 /// A pace of so many turns.
 #[derive(Drop)]
-struct Turns {
+struct Turns<'a> {
     left: u64,
+    signals: &'a Signals,
 }
 
-impl Pace for Turns {
+impl Pace for Turns<'_> {
     fn next(&mut self) -> bool {
+        self.signals.meet_turn();
         let is_one_left = self.left > 0;
         self.left = self.left.saturating_sub(1);
         is_one_left
@@ -167,6 +171,7 @@ impl<D: Disk + Drop, N: StoreNaming, T: Invariants + Drop, S: StoredSteps + Drop
             Move::Count => Answer::Number(self.front.count(stage.rt, pass)),
             Move::HasInvariant => Answer::Holds(self.front.has(stage.rt, pass, &always())),
             Move::ValuesAre(vars, want) => self.values_are(stage, pass, &vars, &want),
+            Move::CountValues(most) => Answer::number(self.count_values(stage, pass, most)),
             other => self.answer_alone(stage, other),
         }
     }
@@ -217,10 +222,10 @@ impl<D: Disk + Drop, N: StoreNaming, T: Invariants + Drop, S: StoredSteps + Drop
         task: Task,
         millis: u64,
     ) -> Answer {
-        let limit = Duration::from_millis(millis);
+        let limit = limit_of(millis);
         match self.plan(stage, task) {
             Ok(plan) => {
-                let rt = Skipping::new(stage.rt, stage.skip);
+                let rt = stage.clock();
                 Answer::to(self.front.atomically_within(&rt, pass, &plan, limit))
             }
             Err(fault) => Answer::refused(fault),
@@ -410,8 +415,8 @@ impl<D: Disk + Drop, N: StoreNaming, T: Invariants + Drop, S: StoredSteps + Drop
         place: &mut Option<Pass<N>>,
         millis: u64,
     ) -> Answer {
-        let rt = Skipping::new(stage.rt, stage.skip);
-        let limit = Duration::from_millis(millis);
+        let rt = stage.clock();
+        let limit = limit_of(millis);
         match self.front.acquire_pass_within(&rt, limit) {
             Ok(None) => Answer::Late,
             Ok(pass) => {
@@ -473,8 +478,8 @@ impl<D: Disk + Drop, N: StoreNaming, T: Invariants + Drop, S: StoredSteps + Drop
         number: u64,
         millis: u64,
     ) -> Answer {
-        let rt = Skipping::new(stage.rt, stage.skip);
-        let limit = Duration::from_millis(millis);
+        let rt = stage.clock();
+        let limit = limit_of(millis);
         Answer::awaited(self.front.await_durable_within(&rt, pass, number, limit))
     }
 
@@ -492,6 +497,21 @@ impl<D: Disk + Drop, N: StoreNaming, T: Invariants + Drop, S: StoredSteps + Drop
         }
     }
 
+    // How many values are answered of the first so many variables.
+    fn count_values<R: Wait>(
+        &self,
+        stage: &Stage<R>,
+        pass: &mut Pass<N>,
+        most: u16,
+    ) -> Result<u64, Fault> {
+        let mut vars = Vec::new(stage.alloc);
+        for var in 0..most {
+            vars.push(var)?;
+        }
+        let values = self.front.values(stage.rt, pass, &vars)?;
+        Ok(values.len() as u64)
+    }
+
     // The value of a variable, if a plan may read it.
     #[tactic(auto, using(crate::proofs::Reading::is_there))]
     fn peek<R: Wait>(&self, stage: &Stage<R>, var: u16) -> Answer {
@@ -502,13 +522,33 @@ impl<D: Disk + Drop, N: StoreNaming, T: Invariants + Drop, S: StoredSteps + Drop
     }
 
     fn run_flusher<R: Wait>(&self, stage: &Stage<R>, left: u64) -> Answer {
-        Answer::done(self.front.run_flusher(stage.rt, &mut Turns { left }))
+        let signals = stage.signals;
+        Answer::done(
+            self.front
+                .run_flusher(stage.rt, &mut Turns { left, signals }),
+        )
     }
 
     /// Shuts the front.
     pub(super) fn shut<R: Wait>(&self, stage: &Stage<R>) -> Answer {
         self.front.shut(stage.rt);
         Answer::Done
+    }
+}
+
+// A limit of so many milliseconds, or the longest one.
+fn limit_of(millis: u64) -> Duration {
+    if millis == u64::MAX {
+        Duration::MAX
+    } else {
+        Duration::from_millis(millis)
+    }
+}
+
+impl<'a, R> Stage<'a, R> {
+    // The clock of a wait that has a limit.
+    fn clock(&self) -> Skipping<'a, R> {
+        Skipping::new(self.rt, self.skip, self.readings)
     }
 }
 
@@ -523,6 +563,10 @@ impl<'a, R: Clock> Stage<'a, R> {
             }
             Move::HoldSteps(times) => {
                 self.signals.hold_steps(times);
+                Answer::Done
+            }
+            Move::HoldTurns(times) => {
+                self.signals.hold_turns(times);
                 Answer::Done
             }
             Move::AwaitHeld(times) => Answer::in_time(self.signals.await_held(self.rt, times)),

@@ -1,8 +1,8 @@
 //! What a store has at one moment.
 use super::moves::Answer::{Committed, Done, Holds, Number, Refused};
-use super::moves::Move::{Count, HasInvariant, Look, OtherPass, TryCommit, ValuesAre};
+use super::moves::Move::{Count, CountValues, HasInvariant, Look, OtherPass, TryCommit, ValuesAre};
 use super::moves::{Refusal, Task};
-use super::scenes::Line::{Before, Scene};
+use super::scenes::Line::{Before, Scene, Vars};
 use super::scenes::{Line, play};
 use std::test::Fail;
 
@@ -20,6 +20,10 @@ static SCENES: &[Line<'static>] = &[
     ),
     // nothing is durable yet
     Before(Look, Number(0)),
+    Scene("the values of none, and of each of as many variables as a store may have"),
+    Vars(1024),
+    Before(CountValues(0), Number(0)),
+    Before(CountValues(1024), Number(1024)),
     Scene("an invariant is there once it is registered"),
     Before(HasInvariant, Holds(false)),
     Before(TryCommit(Task::Register), Committed(0)),

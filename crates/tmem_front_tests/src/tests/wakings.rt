@@ -1,9 +1,9 @@
 //! Each thread that waits is woken, and rests until then.
 use super::moves::Answer::{Committed, Done, Holds, Number, Refused, Saw};
 use super::moves::Move::{
-    Acquire, Attempt, Await, Checkpoint, Commit, CommitWithin, Fill, Flush, Look, LooksAtLeast,
-    LooksAtMost, NeedsAtMost, NewPass, NewPasses, PassOn, PassOnWithin, ReleasePass, RunFlusher,
-    Settle, Shut, Sleep, TryCommit,
+    Acquire, Attempt, Await, Checkpoint, Commit, CommitAndFlush, CommitDurable, CommitWithin, Fill,
+    Flush, Look, LooksAtLeast, LooksAtMost, NeedsAtMost, NewPass, NewPasses, PassOn, PassOnWithin,
+    ReleasePass, RunFlusher, Settle, Shut, Sleep, TryCommit,
 };
 use super::moves::{Answer, Refusal, Task};
 use super::scenes::Line::{
@@ -89,6 +89,12 @@ static SCENES: &[Line<'static>] = &[
     Last(Attempt(Task::Write(0, 1)), Done),
     Last(Settle, Committed(0)),
     After(Look, Number(1)),
+    Scene("a registration wakes a flusher"),
+    Second(RunFlusher(1), Done),
+    Last(Sleep(50), Done),
+    // it writes to no variable
+    Last(TryCommit(Task::Register), Committed(0)),
+    After(Look, Number(1)),
     Scene("a commit wakes each thread that waits for one"),
     Before(TryCommit(Task::Write(0, 1)), Committed(0)),
     Before(Flush, Number(1)),
@@ -118,6 +124,42 @@ static SCENES: &[Line<'static>] = &[
     Last(LooksAtMost(3), Holds(true)),
     Last(NeedsAtMost(1), Holds(true)),
     Last(TryCommit(Task::Write(2, 1)), Committed(50)),
+    Scene("a commit wakes no thread that awaits a flush"),
+    First(Await(49), Done),
+    Last(Sleep(100), Done),
+    Last(Fill(50), Number(50)),
+    Last(Sleep(50), Done),
+    Last(LooksAtMost(2), Holds(true)),
+    Last(Flush, Number(50)),
+    Scene("a flush wakes no thread that retries"),
+    First(Commit(Task::NeedOne), Saw(21, ONE)),
+    Last(Sleep(100), Done),
+    Last(CommitAndFlush(20), Number(20)),
+    Last(Sleep(50), Done),
+    Last(LooksAtMost(3), Holds(true)),
+    Last(TryCommit(Task::Write(2, 1)), Committed(20)),
+    Scene("who awaits its own commit looks and sleeps"),
+    First(CommitDurable(Task::Write(0, 1)), Committed(0)),
+    Last(Sleep(100), Done),
+    Last(LooksAtLeast(1), Holds(true)),
+    Last(LooksAtMost(3), Holds(true)),
+    Last(Flush, Number(1)),
+    Scene("a short transaction that retries looks and sleeps"),
+    // neither calls a step
+    First(
+        Commit(Task::WaitForEither(1, 70)),
+        Saw(51, [1, 0, 0, 0, 0, 0, 0, 0, 0, 0, 0, 0, 0, 0, 0, 0]),
+    ),
+    Second(
+        CommitWithin(Task::WaitForEither(2, 70), LONG),
+        Saw(51, [1, 0, 0, 0, 0, 0, 0, 0, 0, 0, 0, 0, 0, 0, 0, 0]),
+    ),
+    Last(Sleep(100), Done),
+    Last(Fill(50), Number(50)),
+    Last(Sleep(50), Done),
+    Last(LooksAtLeast(2), Holds(true)),
+    Last(LooksAtMost(6), Holds(true)),
+    Last(TryCommit(Task::Write(70, 1)), Committed(50)),
     Scene("threads that wait look once"),
     First(Await(0), CLOSED),
     Second(Commit(Task::NeedOne), CLOSED),

@@ -1,0 +1,58 @@
+//! How the pace of a flusher lets callers in.
+use std::io;
+use std::process::Abort;
+use std::rt::Clock;
+use std::sync::atomic::{AtomicU64, Ordering};
+use std::test::Fail;
+use std::time::Duration;
+use tmem_front::{Gathering, Pace};
+
+/// How often a turn reads its clock at the most.
+const MOST_READINGS: u64 = 10_000;
+
+/// A clock that stands still. After twice as many readings it cannot be read any more, so that each turn ends.
+#[derive(Drop)]
+struct Still {
+    readings: AtomicU64,
+}
+
+impl Still {
+    fn new() -> Still {
+        let readings = AtomicU64::new(0);
+        Still { readings }
+    }
+
+    fn readings(&self) -> u64 {
+        self.readings.load(Ordering::SeqCst)
+    }
+}
+
+impl Clock for Still {
+    fn monotonic(&self) -> io::Result<Duration> {
+        let reading = self.readings.fetch_add(1, Ordering::SeqCst);
+        if reading < 2 * MOST_READINGS {
+            Ok(Duration::ZERO)
+        } else {
+            Err(io::Error::from(io::ErrorKind::Other))
+        }
+    }
+
+    fn since_1970(&self) -> io::Result<Duration> {
+        Ok(Duration::ZERO)
+    }
+}
+
+// How often the clock is read at a turn, after which the flusher goes on.
+fn readings_of_a_turn<R: Abort>(rt: &R, has_several: bool) -> u64 {
+    let clock = Still::new();
+    assert!(rt; Gathering::new(&clock, has_several).next());
+    clock.readings()
+}
+
+#[test]
+fn a_turn_lets_others_in_where_there_are_several(rt: HostRuntime) -> Result<(), Fail> {
+    assert!(&rt; readings_of_a_turn(&rt, false) == 0);
+    let several = readings_of_a_turn(&rt, true);
+    assert!(&rt; several >= 2 && several <= MOST_READINGS, "{several}");
+    Ok(())
+}
