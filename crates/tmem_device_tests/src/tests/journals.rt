@@ -200,7 +200,7 @@ static REFUSALS: &[Act<'static>] = &[
     Formats(4, 4, Err("geometry")),
     Formats(0, 4, Err("geometry")),
     Opens(4, 4, Err("geometry")),
-    // its gate, its magic, two versions, no variable, and a byte behind its numbers
+    // its gate, its magic, its version, no variable, and a byte behind its numbers
     Case("a damaged block is refused"),
     Makes(13824),
     Formats(4, 2, Ok(())),
@@ -210,9 +210,6 @@ static REFUSALS: &[Act<'static>] = &[
     Row,
     Writes(1, &[b't']),
     Opens(4, 2, Err("notformatted")),
-    Row,
-    Writes(5, &[2]),
-    Opens(4, 2, Err("damaged")),
     Row,
     Writes(5, &[7]),
     Opens(4, 2, Err("damaged")),
