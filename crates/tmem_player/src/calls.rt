@@ -26,6 +26,16 @@ impl Counts {
         self.steps.fetch_add(1, Ordering::SeqCst);
     }
 
+    /// How often stored steps were called since the last time, which stays so.
+    pub(crate) fn steps(&self) -> u64 {
+        self.steps.load(Ordering::SeqCst)
+    }
+
+    /// Goes back to so many calls of stored steps.
+    pub(crate) fn go_back(&self, steps: u64) {
+        self.steps.store(steps, Ordering::SeqCst);
+    }
+
     /// How often invariants were called since the last time.
     pub(crate) fn take_tests(&self) -> u64 {
         self.tests.swap(0, Ordering::SeqCst)

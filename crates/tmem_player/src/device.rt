@@ -7,8 +7,9 @@ use crate::printing::print_fault;
 use crate::row::{Numbers, Touch};
 use std::alloc::Global;
 use std::io::{self, Write};
+use std::mem;
 use tmem_disk::{DeviceFault, Disk, Fault, SimDisk};
-use tmem_world::format;
+use tmem_journal::{Journal, format};
 
 /// Does something to a device that needs no store.
 pub(crate) fn touch<W: Write>(
@@ -19,6 +20,7 @@ pub(crate) fn touch<W: Write>(
 ) -> Result<(), Failure> {
     match act {
         Touch::Format(numbers) => tell(out, "formatted", formatted(disk, numbers)),
+        Touch::Recover(numbers) => recover(alloc, disk, numbers, out),
         Touch::Restart => restart(disk, out),
         Touch::Bytes(at, count) => show(alloc, disk, at, count, out),
         Touch::Write(at, bytes) => overwrite(disk, at, &bytes, out),
@@ -54,6 +56,36 @@ fn arm(disk: &mut SimDisk, act: Touch) {
 
 fn formatted(disk: &mut SimDisk, numbers: Numbers) -> Result<(), Fault> {
     format(disk, numbers.vars, numbers.slots)
+}
+
+// Opens a journal, and prints how many transactions it found.
+fn recover<W: Write>(
+    alloc: Global,
+    disk: &mut SimDisk,
+    numbers: Numbers,
+    out: &mut W,
+) -> Result<(), Failure> {
+    match recovered(alloc, disk, numbers) {
+        Ok(count) => writeln!(out, "recovered {count}")?,
+        Err(fault) => print_fault(fault, out)?,
+    }
+    Ok(())
+}
+
+// How many transactions a journal finds. Until the device is handed back, one that holds nothing stands in its place.
+fn recovered(alloc: Global, disk: &mut SimDisk, numbers: Numbers) -> Result<u64, Fault> {
+    let held = mem::replace(disk, SimDisk::new(alloc, 0)?);
+    match Journal::open(alloc, held, numbers.vars, numbers.slots) {
+        Ok(journal) => {
+            let count = journal.count();
+            *disk = journal.into_disk();
+            Ok(count)
+        }
+        Err((fault, held)) => {
+            *disk = held;
+            Err(fault)
+        }
+    }
 }
 
 // Starts a device again, and says whether it was stopped.

@@ -1,8 +1,9 @@
-//! Evaluates a transaction from the start again and again, and by a cursor.
-ghost use Rattle.std.specs.Prelude.{◌≡◌};
+//! Evaluates a transaction from the start again and again, and by a cursor. A call that is refused is told, and made once more on
+//! the same state.
+ghost use Rattle.std.specs.Prelude.{◌≡◌, IfOk};
 ghost use Rattle.tmem_tree.specs.StepAnswers.{StepMeanings};
 ghost use Rattle.tmem_tree.specs.Plans.{FitsSteps};
-ghost use Rattle.tmem_tentative.specs.Cursors.{IsAt};
+ghost use Rattle.tmem_tentative.specs.Cursors.{IsAt, IsAnswer};
 
 use crate::calls::Calls;
 use crate::failure::Failure;
@@ -35,7 +36,7 @@ pub(crate) fn evaluate_twice<S: StoredSteps, W: Write>(
 }
 
 // The attempt that one way comes to, or none where what it read is not what it was given.
-type Trial = Result<Option<Attempt>, Fault>;
+type Trial = Option<Attempt>;
 
 // Evaluates a plan in both ways.
 fn evaluate_plan<S: StoredSteps, W: Write>(
@@ -49,9 +50,9 @@ fn evaluate_plan<S: StoredSteps, W: Write>(
     requires { FitsSteps (S.arities steps.now) plan.now }
 {
     let _ = calls.take_steps();
-    let plain = by_evaluate(alloc, plan, steps, values);
+    let plain = by_evaluate(alloc, plan, steps, values, calls, out)?;
     let by_plain = calls.take_steps();
-    let other = by_cursor(alloc, plan, steps, values);
+    let other = by_cursor(alloc, plan, steps, values, out)?;
     print_trials(&plain, &other, (by_plain, calls.take_steps()), out)
 }
 
@@ -62,7 +63,7 @@ fn print_trials<W: Write>(
     calls: (u64, u64),
     out: &mut W,
 ) -> Result<(), Failure> {
-    match both_ways(plain, other)? {
+    match both_ways(plain, other) {
         Some(attempt) => {
             print_attempt(attempt, out)?;
             writeln!(out, " calls={},{}", calls.0, calls.1)?;
@@ -73,11 +74,10 @@ fn print_trials<W: Write>(
 }
 
 // The attempt that both ways come to, or none where they differ.
-fn both_ways<'a>(plain: &'a Trial, other: &Trial) -> Result<Option<&'a Attempt>, Fault> {
+fn both_ways<'a>(plain: &'a Trial, other: &Trial) -> Option<&'a Attempt> {
     match (plain, other) {
-        (Err(fault), _) | (_, Err(fault)) => Err(*fault),
-        (Ok(Some(attempt)), Ok(Some(other))) if are_alike(attempt, other) => Ok(Some(attempt)),
-        _ => Ok(None),
+        (Some(attempt), Some(other)) if are_alike(attempt, other) => Some(attempt),
+        _ => None,
     }
 }
 
@@ -90,10 +90,24 @@ fn value_of(values: &[i64], var: u16) -> i64 {
 }
 
 // Evaluates a plan from the start, again after each variable that it needs. None where what it read is not what it was given.
-fn by_evaluate<S: StoredSteps>(alloc: Global, plan: &Plan, steps: &S, values: &[i64]) -> Trial
+fn by_evaluate<S: StoredSteps, W: Write>(
+    alloc: Global,
+    plan: &Plan,
+    steps: &S,
+    values: &[i64],
+    calls: &Calls,
+    out: &mut W,
+) -> Result<Trial, Failure>
     requires { FitsSteps (S.arities steps.now) plan.now }
 {
-    evaluated(alloc, plan, steps, values, &mut Reads::new(alloc))
+    let mut reads = Reads::new(alloc);
+    for _ in 0..MOST_TURNS {
+        match evaluated(alloc, plan, steps, &reads, calls, out)? {
+            Outcome::Need(var) => read(&mut reads, var, value_of(values, var), out)?,
+            Outcome::Ended(attempt) => return Ok(where_read(attempt, &reads)),
+        }
+    }
+    Ok(None)
 }
 
 // The attempt, if this is what it read.
@@ -105,39 +119,50 @@ fn where_read(attempt: Attempt, reads: &Reads) -> Option<Attempt> {
     }
 }
 
-// Evaluates a plan from the start, and gives it each variable that it needs.
-fn evaluated<S: StoredSteps>(
+// Evaluates a plan from the start. Where that is refused, its calls of steps are not counted.
+fn evaluated<S: StoredSteps, W: Write>(
     alloc: Global,
     plan: &Plan,
     steps: &S,
-    values: &[i64],
-    reads: &mut Reads,
-) -> Result<Option<Attempt>, Fault>
+    reads: &Reads,
+    calls: &Calls,
+    out: &mut W,
+) -> Result<Outcome, Failure>
     requires { FitsSteps (S.arities steps.now) plan.now }
 {
-    for _ in 0..MOST_TURNS {
-        match evaluate(alloc, plan, steps, reads)? {
-            Outcome::Need(var) => {
-                reads.insert(var, value_of(values, var))?;
-            }
-            Outcome::Ended(attempt) => return Ok(where_read(attempt, reads)),
+    let before = calls.steps();
+    match evaluate(alloc, plan, steps, reads) {
+        Ok(outcome) => Ok(outcome),
+        Err(fault) => {
+            print_fault(fault, out)?;
+            calls.go_back(before);
+            Ok(evaluate(alloc, plan, steps, reads)?)
         }
     }
-    Ok(None)
+}
+
+// Adds a value that was read.
+fn read<W: Write>(reads: &mut Reads, var: u16, value: i64, out: &mut W) -> Result<(), Failure> {
+    if reads.insert(var, value).is_err() {
+        print_fault(Fault::Memory, out)?;
+        reads.insert(var, value)?;
+    }
+    Ok(())
 }
 
 // Evaluates a plan by a cursor, which goes on after each variable that it needs.
-fn by_cursor<S: StoredSteps>(
+fn by_cursor<S: StoredSteps, W: Write>(
     alloc: Global,
     plan: &Plan,
     steps: &S,
     values: &[i64],
-) -> Result<Option<Attempt>, Fault>
+    out: &mut W,
+) -> Result<Trial, Failure>
     requires { FitsSteps (S.arities steps.now) plan.now }
 {
-    let mut cursor = Cursor::new(alloc, plan)?;
+    let mut cursor = new_cursor(alloc, plan, out)?;
     for _ in 0..MOST_TURNS {
-        match gone_on(&mut cursor, plan, steps, values)? {
+        match gone_on(&mut cursor, plan, steps, values, out)? {
             None => {}
             Some(attempt) => return Ok(Some(attempt)),
         }
@@ -145,23 +170,58 @@ fn by_cursor<S: StoredSteps>(
     Ok(None)
 }
 
+// A cursor at the start of a plan.
+fn new_cursor<W: Write>(alloc: Global, plan: &Plan, out: &mut W) -> Result<Cursor, Failure>
+    ensures { (m : StepMeanings) → IfOk result (IsAt m plan.now) }
+{
+    match Cursor::new(alloc, plan) {
+        Ok(cursor) => Ok(cursor),
+        Err(fault) => {
+            print_fault(fault, out)?;
+            Ok(Cursor::new(alloc, plan)?)
+        }
+    }
+}
+
 // Lets a cursor go on, and gives it the value that it needs, if it needs one.
-fn gone_on<S: StoredSteps>(
+fn gone_on<S: StoredSteps, W: Write>(
     cursor: &mut Cursor,
     plan: &Plan,
     steps: &S,
     values: &[i64],
-) -> Result<Option<Attempt>, Fault>
+    out: &mut W,
+) -> Result<Option<Attempt>, Failure>
     requires steps { FitsSteps (S.arities steps.now) plan.now }
     requires at { (m : StepMeanings) → S.is_stated steps.now m → IsAt m plan.now cursor.old }
     ensures { (m : StepMeanings) → S.is_stated steps.now m → IsAt m plan.now cursor.new }
 {
-    match cursor.resume(plan, steps)? {
+    match resumed(cursor, plan, steps, out)? {
         Outcome::Need(var) => {
             cursor.give(var, value_of(values, var));
             Ok(None)
         }
         Outcome::Ended(attempt) => Ok(Some(attempt)),
+    }
+}
+
+// Lets a cursor go on. Where that is refused, it calls no step a second time.
+fn resumed<S: StoredSteps, W: Write>(
+    cursor: &mut Cursor,
+    plan: &Plan,
+    steps: &S,
+    out: &mut W,
+) -> Result<Outcome, Failure>
+    requires steps { FitsSteps (S.arities steps.now) plan.now }
+    requires at { (m : StepMeanings) → S.is_stated steps.now m → IsAt m plan.now cursor.old }
+    ensures at { (m : StepMeanings) → S.is_stated steps.now m → IsAt m plan.now cursor.new }
+    ensures answer { IfOk result (IsAnswer cursor.new) }
+{
+    match cursor.resume(plan, steps) {
+        Ok(outcome) => Ok(outcome),
+        Err(fault) => {
+            print_fault(fault, out)?;
+            Ok(cursor.resume(plan, steps)?)
+        }
     }
 }
 

@@ -22,10 +22,12 @@
 //! | `{"write":[AT,[BYTE,..]]}`, `{"copy":[FROM,COUNT,TO]}` | writes bytes, and syncs: `written` or a fault |
 //! | `{"blank":SIZE}` | puts a device of zeros in its place; prints nothing |
 //! | `{"format":[VARS,SLOTS]}` | `formatted` or a fault |
-//! | `{"evaluate":[[VALUE,..],TX]}` | evaluates a transaction where variable 0, 1 and so on have these values, by `evaluate` from the start each time, and by a `Cursor`. Prints what it comes to, and how often each called a stored step; or `differ` |
+//! | `{"recover":[VARS,SLOTS]}` | opens a journal: `recovered COUNT` or a fault |
+//! | `{"evaluate":[[VALUE,..],TX]}` | evaluates a transaction where variable 0, 1 and so on have these values, by `evaluate` from the start each time, and by a `Cursor`. Prints what it comes to, and how often each called a stored step; or `differ`. A call that is refused memory is told by a line, and made once more |
 //!
 //! `tmem_player step < ROW` plays each event by `World::step`. `tmem_player play < ROW` hands each longest run of events to
-//! `World::play`. Both print the same. A bad row has status 3, and what was printed before it was found bad stays.
+//! `World::play`. Both print the same. A bad row has status 3, and what was printed before it was found bad stays. Where the
+//! list of a run is refused memory, one line says so, and the row goes on. Each line goes out by itself, but for those of a list.
 //!
 //! `reading` reads a row, and `draft` puts its entries together. `device` does what they do with the device, `handing` makes the
 //! closures that a world is opened with, `session` plays the events, and `evaluating` evaluates transactions.

@@ -42,6 +42,7 @@ fn play_acts<W: Write>(
     let Row { numbers: _, acts } = row;
     for act in acts {
         play_act(alloc, mode, disk, act, calls, out)?;
+        out.flush()?;
     }
     Ok(())
 }

@@ -208,6 +208,7 @@ fn touch_of(alloc: Global, key: &str, body: &Value) -> Result<Touch, FormError> 
 fn pair_touch_of(key: &str, first: &Value, second: &Value) -> Option<Touch> {
     match key {
         "format" => Some(Touch::Format(numbers_of(first, second)?)),
+        "recover" => Some(Touch::Recover(numbers_of(first, second)?)),
         "fail" => Some(Touch::Fail(call_of(first)?, second.as_u64()?)),
         "crash" if first.as_str() == Some("now") => Some(Touch::CrashNow(fill_of(second)?)),
         "bytes" => Some(Touch::Bytes(first.as_u64()?, second.as_u64()?)),

@@ -59,6 +59,8 @@ pub(crate) enum Touch {
     Write(u64, Vec<u8>),
     /// Reads so many bytes from one place on, writes them from another on, and syncs.
     Copy(u64, u64, u64),
+    /// Opens a journal on the device.
+    Recover(Numbers),
 }
 
 /// Which invariants a world is opened with.

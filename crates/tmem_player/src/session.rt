@@ -98,8 +98,10 @@ impl<T: Invariants + Drop, S: StoredSteps + Drop> Session<T, S> {
         requires { HoldsSession self.old.world }
     {
         writeln!(out, "opened {}", self.world.count())?;
+        out.flush()?;
         for part in parts {
             self.play_part(alloc, mode, part, calls, out)?;
+            out.flush()?;
         }
         Ok(())
     }
@@ -132,16 +134,21 @@ impl<T: Invariants + Drop, S: StoredSteps + Drop> Session<T, S> {
         for event in list {
             let reply = self.world.step(event);
             tell(reply, &mut self.registers, out)?;
+            out.flush()?;
         }
         Ok(())
     }
 
-    // Plays events as one list.
+    // Plays events as one list. Where the list as a whole is refused, one line says so.
     fn play_all<W: Write>(&mut self, events: Events, out: &mut W) -> Result<(), Failure> {
         let Events { list } = events;
-        let replies = self.world.play(list)?;
-        for reply in replies {
-            tell(reply, &mut self.registers, out)?;
+        match self.world.play(list) {
+            Ok(replies) => {
+                for reply in replies {
+                    tell(reply, &mut self.registers, out)?;
+                }
+            }
+            Err(fault) => print_fault(fault, out)?,
         }
         Ok(())
     }
