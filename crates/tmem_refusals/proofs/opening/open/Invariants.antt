@@ -1,0 +1,13 @@
+use Rattle.tmem_front.specs.Held.{found_of, spine_of}
+use Rattle.tmem_refusals.specs.Stored.{stored}
+use Rattle.tmem_refusals.proofs.opening.open.Given as goal
+
+-- the store that was just opened
+abbrev pub ghosts-with_front-N-Naming : goal.ghosts-with_front-N-Naming
+ghosts-with_front-N-Naming g a = record { name = spine_of a.opened }
+
+abbrev pub ghosts-with_front-N-ProgramNaming : goal.ghosts-with_front-N-ProgramNaming
+ghosts-with_front-N-ProgramNaming g a = record { program = stored }
+
+abbrev pub ghosts-with_front-N-StoreNaming : goal.ghosts-with_front-N-StoreNaming
+ghosts-with_front-N-StoreNaming g a = record { opening = found_of a.opened }

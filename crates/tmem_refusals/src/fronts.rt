@@ -1,0 +1,215 @@
+//! Settles transactions in a front, each call once more where it is refused.
+ghost use Rattle.std.specs.Prelude.{◌≡◌, length};
+ghost use Rattle.tmem_tree.specs.Plans.{FitsSteps, FitsVariables, FitsNames};
+
+use crate::tasks::{ENDING, Task};
+use std::alloc::Global;
+use std::rt::Clock;
+use std::sync::Wait;
+use std::time::Duration;
+use tmem_core::Settled;
+use tmem_disk::{Disk, Fault};
+use tmem_front::{Front, Pass, StoreNaming};
+use tmem_invariants::Invariants;
+use tmem_tree::{Plan, StoredSteps};
+
+/// A call that makes an attempt, or one with its settle.
+#[derive(Clone, Copy, Debug)]
+enum Call {
+    Attempt,
+    TryAtomically,
+    Atomically,
+    AtomicallyWithin,
+}
+
+/// Those that wait for nothing where a transaction retries.
+const AT_ONCE: &[Call] = &[Call::Attempt, Call::TryAtomically];
+
+/// Those that wait.
+const WAITING: &[Call] = &[Call::Atomically, Call::AtomicallyWithin];
+
+/// Settles each transaction by each call that ends, reads all values, makes durable what was committed, and shuts the front.
+pub(crate) fn settle_all<
+    N: StoreNaming,
+    D: Disk + Drop,
+    T: Invariants + Drop,
+    S: StoredSteps + Drop,
+    R: Clock + Print + Wait,
+>(rt: &R, alloc: Global, front: &Front<D, N, T, S>, looker: &mut Pass<N>) -> Result<(), Fault>
+    requires { length N.opening.values ≡ 4 }
+{
+    say_state(rt, front, looker);
+    for task in ENDING {
+        settle_by(rt, alloc, front, looker, AT_ONCE, *task)?;
+        settle_by(rt, alloc, front, looker, WAITING, *task)?;
+    }
+    settle_by(rt, alloc, front, looker, AT_ONCE, Task::Retries)?;
+    read_values(rt, front, looker)?;
+    end(rt, front, looker)
+}
+
+// Settles a transaction by some calls, each time by a pass that has no memory yet.
+fn settle_by<
+    N: StoreNaming,
+    D: Disk + Drop,
+    T: Invariants + Drop,
+    S: StoredSteps + Drop,
+    R: Clock + Print + Wait,
+>(
+    rt: &R,
+    alloc: Global,
+    front: &Front<D, N, T, S>,
+    looker: &mut Pass<N>,
+    calls: &[Call],
+    task: Task,
+) -> Result<(), Fault>
+    requires { length N.opening.values ≡ 4 }
+{
+    for call in calls {
+        let tx = task.tx(alloc)?;
+        let _ = println!(rt; "{task:?}");
+        let plan = front.plan(tx)?;
+        let mut pass = front.pass(rt)?;
+        let _ = println!(rt; "by {call:?}");
+        settle_twice(rt, front, looker, &mut pass, &plan, *call)?;
+    }
+    Ok(())
+}
+
+// Settles a plan, and once more where that is refused memory.
+fn settle_twice<
+    N: StoreNaming,
+    D: Disk + Drop,
+    T: Invariants + Drop,
+    S: StoredSteps + Drop,
+    R: Clock + Print + Wait,
+>(
+    rt: &R,
+    front: &Front<D, N, T, S>,
+    looker: &mut Pass<N>,
+    pass: &mut Pass<N>,
+    plan: &Plan,
+    call: Call,
+) -> Result<(), Fault>
+    requires vars { length N.opening.values ≡ 4 }
+    requires steps { FitsSteps (S.arities front.now.steps) plan.now }
+    requires variables { FitsVariables front.now.vars plan.now }
+    requires names { FitsNames N.program.names plan.now }
+{
+    let first = settled(rt, front, pass, plan, call);
+    say(rt, &first);
+    say_state(rt, front, looker);
+    if let Err(Fault::Memory) = first {
+        say(rt, &settled(rt, front, pass, plan, call));
+        say_state(rt, front, looker);
+    }
+    Ok(())
+}
+
+// What a plan is settled with by a call.
+fn settled<
+    D: Disk + Drop,
+    N: StoreNaming,
+    T: Invariants + Drop,
+    S: StoredSteps + Drop,
+    R: Clock + Wait,
+>(
+    rt: &R,
+    front: &Front<D, N, T, S>,
+    pass: &mut Pass<N>,
+    plan: &Plan,
+    call: Call,
+) -> Result<Settled, Fault>
+    requires steps { FitsSteps (S.arities front.now.steps) plan.now }
+    requires variables { FitsVariables front.now.vars plan.now }
+    requires names { FitsNames N.program.names plan.now }
+{
+    match call {
+        Call::Attempt => {
+            let attempt = front.attempt(rt, plan)?;
+            front.settle(rt, pass, &attempt)
+        }
+        Call::TryAtomically => front.try_atomically(rt, pass, plan),
+        Call::Atomically => front.atomically(rt, pass, plan),
+        Call::AtomicallyWithin => {
+            front.atomically_within(rt, pass, plan, Duration::from_secs(60))
+        }
+    }
+}
+
+// Prints how a call ended.
+fn say<R: Print>(rt: &R, settled: &Result<Settled, Fault>) {
+    let _ = match settled {
+        Ok(Settled::Committed { number, .. }) => println!(rt; "committed {number}"),
+        Ok(Settled::Seen { at, .. }) => println!(rt; "seen {at}"),
+        Ok(Settled::Retry) => println!(rt; "retry"),
+        Ok(Settled::Aborted(code)) => println!(rt; "aborted {code}"),
+        Ok(Settled::Refused(name)) => println!(rt; "refused {name}"),
+        Err(fault) => println!(rt; "{fault}"),
+    };
+}
+
+// Prints how many transactions are accepted and durable, and the values.
+fn say_state<
+    N: StoreNaming,
+    D: Disk + Drop,
+    T: Invariants + Drop,
+    S: StoredSteps + Drop,
+    R: Print + Wait,
+>(rt: &R, front: &Front<D, N, T, S>, looker: &mut Pass<N>)
+    requires { length N.opening.values ≡ 4 }
+{
+    let (count, durable) = (front.count(rt, looker), front.look(looker));
+    let (a, b) = (front.peek(rt, 0), front.peek(rt, 1));
+    let (c, d) = (front.peek(rt, 2), front.peek(rt, 3));
+    let _ = println!(rt; "state count={count} durable={durable} values={a},{b},{c},{d}");
+}
+
+// Reads all values at one moment, once more where that is refused.
+fn read_values<
+    N: StoreNaming,
+    D: Disk + Drop,
+    T: Invariants + Drop,
+    S: StoredSteps + Drop,
+    R: Print + Wait,
+>(rt: &R, front: &Front<D, N, T, S>, looker: &mut Pass<N>) -> Result<(), Fault>
+    requires { length N.opening.values ≡ 4 }
+{
+    let _ = println!(rt; "values");
+    let values = match front.values(rt, looker, &[0, 1, 2, 3]) {
+        Ok(values) => values,
+        Err(fault) => {
+            let _ = println!(rt; "{fault}");
+            say_state(rt, front, looker);
+            front.values(rt, looker, &[0, 1, 2, 3])?
+        }
+    };
+    if let [a, b, c, d] = values.as_slice() {
+        let _ = println!(rt; "values {a},{b},{c},{d}");
+    }
+    Ok(())
+}
+
+// Calls that ask for no memory, to the end.
+fn end<
+    N: StoreNaming,
+    D: Disk + Drop,
+    T: Invariants + Drop,
+    S: StoredSteps + Drop,
+    R: Print + Wait,
+>(rt: &R, front: &Front<D, N, T, S>, looker: &mut Pass<N>) -> Result<(), Fault>
+    requires { length N.opening.values ≡ 4 }
+{
+    let durable = front.flush_once(rt)?;
+    let _ = println!(rt; "durable {durable}");
+    front.checkpoint(rt)?;
+    let _ = println!(rt; "checkpointed");
+    let durable = front.flush_with_room(rt)?;
+    let _ = println!(rt; "durable {durable}");
+    let _pass = front.pass(rt)?;
+    let _ = println!(rt; "pass");
+    front.shut(rt);
+    let _ = println!(rt; "shut");
+    say_state(rt, front, looker);
+    Ok(())
+}

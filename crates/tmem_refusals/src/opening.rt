@@ -1,0 +1,93 @@
+//! Opens the front.
+ghost use Rattle.std.specs.Prelude.{◌≡◌, length};
+ghost use Rattle.tmem_builtins.specs.Invariants.{is_not_negative};
+ghost use Rattle.tmem_front.specs.Held.{found_of, spine_of, steps_of, table_of};
+ghost use Rattle.tmem_refusals.specs.Stored.{stored};
+
+use crate::fronts::settle_all;
+use crate::store::{SLOTS, VARS, content_of};
+use std::alloc::Global;
+use std::marker::Brand;
+use std::rt::Clock;
+use std::sync::Wait;
+use tmem_builtins::{names, nonneg, stored_steps};
+use tmem_disk::{Disk, Fault, SimDisk};
+use tmem_front::{OpenedFront, StoreNaming};
+use tmem_invariants::{Invariant, Invariants, Table};
+use tmem_tree::StoredSteps;
+
+/// Makes the invariant and its table, and opens the device with them. Where that is refused, it says so, and whether the device is as
+/// it was, and hands it back.
+pub(crate) fn open_once<R: Clock + Print + Wait>(
+    rt: &R,
+    alloc: Global,
+    mut disk: SimDisk,
+) -> Result<Option<SimDisk>, Fault> {
+    let before = content_of(alloc, &mut disk)?;
+    let test = Box::new(
+        alloc,
+        |values: &[i64]| -> bool
+            requires { length values.now ≡ 1 }
+            ensures { result ≡ is_not_negative values.now }
+        { nonneg(values) },
+    )?;
+    let invariant = Invariant::new(names()[0], vec![in alloc; 0]?, test)?;
+    let table = Table::of(alloc, vec![in alloc; invariant]?, VARS)?;
+    let _ = println!(rt; "closures");
+    let Some((fault, mut disk)) = open(rt, alloc, disk, table, stored_steps())? else {
+        return Ok(None);
+    };
+    let _ = println!(rt; "{fault}");
+    let after = content_of(alloc, &mut disk)?;
+    let word = if before == after {
+        "is as it was"
+    } else {
+        "was changed"
+    };
+    let _ = println!(rt; "the device {word}");
+    Ok(Some(disk))
+}
+
+// Opens a device, and settles transactions there. Answers why it was not opened, with the device.
+fn open<T: Invariants + Drop, S: StoredSteps + Drop, R: Clock + Print + Wait>(
+    rt: &R,
+    alloc: Global,
+    disk: SimDisk,
+    table: T,
+    steps: S,
+) -> Result<Option<(Fault, SimDisk)>, Fault>
+    requires vars { T.vars table ≡ 4 }
+    requires names { T.names table ≡ stored.names }
+    requires tests { T.is_stated table stored.tests }
+    requires steps { S.is_stated steps stored.steps }
+{
+    match OpenedFront::open(alloc, disk, VARS, SLOTS, table, steps) {
+        Ok(opened) => {
+            with_front::<Brand, _, T, S, R>(rt, alloc, opened)?;
+            Ok(None)
+        }
+        Err(refused) => Ok(Some(refused)),
+    }
+}
+
+// Gives the store its name in the types, and settles transactions there.
+fn with_front<
+    N: StoreNaming,
+    D: Disk + Drop,
+    T: Invariants + Drop,
+    S: StoredSteps + Drop,
+    R: Clock + Print + Wait,
+>(rt: &R, alloc: Global, opened: OpenedFront<D, T, S>) -> Result<(), Fault>
+    requires spine { spine_of opened ≡ N.name }
+    requires opening { found_of opened ≡ N.opening }
+    requires vars { length N.opening.values ≡ 4 }
+    requires program { N.program ≡ stored }
+    requires names { T.names (table_of opened) ≡ stored.names }
+    requires stated { T.is_stated (table_of opened) stored.tests }
+    requires steps { S.is_stated (steps_of opened) stored.steps }
+{
+    let front = opened.named::<N>();
+    let mut looker = front.pass(rt)?;
+    let _ = println!(rt; "opened {}", front.look(&mut looker));
+    settle_all(rt, alloc, &front, &mut looker)
+}

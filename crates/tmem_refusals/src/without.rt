@@ -1,0 +1,85 @@
+//! Calls that ask for no memory.
+ghost use Rattle.std.specs.Prelude.{◌≡◌, length};
+ghost use Rattle.tmem_builtins.specs.Invariants.{is_not_negative};
+
+use crate::store::{SLOTS, VARS, device};
+use std::alloc::Global;
+use tmem_builtins::nonneg;
+use tmem_disk::{Disk, Fault, Name, SimDisk};
+use tmem_gate::{close_gate, is_open, reads_open};
+use tmem_invariants::{Invariant, Invariants, Table};
+use tmem_record::{Batch, Effect, encode_batch};
+use tmem_world::format;
+
+/// Makes each of them, with a line before the first and one behind each. What they are given is made before.
+pub(crate) fn call_each<R: Print>(rt: &R, alloc: Global) -> Result<(), Fault> {
+    let mut disk = device(alloc)?;
+    let mut batch = Batch::new(alloc)?;
+    let mut bytes = vec![in alloc; 0u8; 4096]?;
+    let footprint = vec![in alloc; 0]?;
+    let test = Box::new(
+        alloc,
+        |values: &[i64]| -> bool
+            requires { length values.now ≡ 1 }
+            ensures { result ≡ is_not_negative values.now }
+        { nonneg(values) },
+    )?;
+    let _ = println!(rt; "device, batch, bytes, footprint and closure");
+    format(&mut disk, VARS, SLOTS)?;
+    let _ = println!(rt; "formatted");
+    call_gates(rt, &mut disk);
+    fill(rt, &mut batch, &mut bytes);
+    let name = Name::new("nonneg")?;
+    let _ = println!(rt; "name {name}");
+    let invariant = Invariant::new(name, footprint, test)?;
+    let _ = println!(rt; "invariant {}", invariant.name);
+    let table = Table::of(alloc, vec![in alloc; invariant]?, VARS)?;
+    let _ = println!(rt; "table");
+    call_tests(rt, &table);
+    Ok(())
+}
+
+// The calls of a gate, which block 0 has at its start: it is open, and then closed.
+fn call_gates<R: Print>(rt: &R, disk: &mut SimDisk) {
+    if disk.size() == 0 {
+        return;
+    }
+    let is_first = is_open(disk, 0) == Ok(true);
+    let is_closed = close_gate(disk, 0).is_ok();
+    let is_second = is_open(disk, 0) == Ok(true);
+    let reads = reads_open(&[0xA5], 0);
+    let _ = println!(rt;
+        "open {is_first}, closed {is_closed}, open {is_second}, reads open {reads}"
+    );
+}
+
+// Puts an effect into a batch, spells it, and forgets it.
+fn fill<R: Print>(rt: &R, batch: &mut Batch, bytes: &mut [u8])
+    requires { length bytes.old ≡ 4096 }
+{
+    let mut effect = Effect::new();
+    effect.writes.put(2, -1);
+    if effect.is_empty() {
+        return;
+    }
+    let is_put = batch.push(&effect);
+    let _ = println!(rt; "put {is_put}");
+    if batch.len() > 0 {
+        let count = encode_batch(batch, 1, 0, bytes);
+        let _ = println!(rt; "spelt {count}");
+    }
+    batch.clear();
+    let _ = println!(rt; "cleared {}", batch.len());
+}
+
+// The two tests of a table, where variable 0 is below 0.
+fn call_tests<T: Invariants, R: Print>(rt: &R, table: &T)
+    requires { T.vars table.now ≡ 4 }
+{
+    let values = [-1, 0, 0, 0];
+    let all = table.test_all(&values, 1, 0).is_some();
+    let _ = println!(rt; "tested {all}");
+    let touched = table.test_touched(&values, 1, 0, &[(0, -1)]).is_some();
+    let other = table.test_touched(&values, 1, 0, &[(1, 0)]).is_some();
+    let _ = println!(rt; "tested {touched}, and {other} where another was written");
+}
