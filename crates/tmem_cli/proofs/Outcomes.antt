@@ -1,6 +1,8 @@
 -- What became of a command line.
-use Rattle.std.proofs.Common.{◌≡◌, ℕ, List, [], ◌∷◌, Option, Some, None, Result, Ok, Err, refl, sym, inl, inr, subst, ◌∙◌, append-nil}
-use Rattle.std.specs.Prelude.{IfErr, OnOk, OnErr, MatchResult}
+use Rattle.std.proofs.Common.{◌≡◌, ◌≤◌, ℕ, List, [], ◌∷◌, Option, Some, None, Bor, Result, Ok, Err, refl, sym, inl, inr, subst, option_map, ◌∙◌, append-nil, arith}
+use Rattle.std.specs.Prelude.{IfErr, IsSome, OnOk, OnErr, MatchResult}
+use Rattle.std.proofs.lemmas.Bool.{false≢true}
+use Rattle.std.proofs.lemmas.Option.{none-some}
 use Rattle.std.specs.Io.KnownBytes.{Keeps}
 use Rattle.clap.specs.Kinds.{Kinds, IsAmong, HasKind}
 use Rattle.clap.specs.Values.{kind_of}
@@ -9,7 +11,6 @@ use Rattle.clap.specs.declared.error.kind.ErrorKind.{ErrorKind}
 use Rattle.tmem_record.specs.State.{State, first_state}
 use Rattle.tmem_world.specs.WorldModel.{WorldModel}
 use Rattle.tmem_journal.specs.Stands.{Position, first_position}
-use Rattle.tmem_file.specs.declared.disk.FileDisk.{FileDisk}
 use Rattle.tmem_script.specs.Errors.{IsUnread}
 use Rattle.tmem_script.specs.Statuses.{status_of}
 use Rattle.tmem_script.specs.declared.failure.Failure.{Failure}
@@ -17,6 +18,7 @@ use Rattle.tmem_script.specs.declared.failure.Failure.TheVariants.{Output}
 use Rattle.tmem_script.specs.declared.script.Entry.{Entry}
 use Rattle.tmem_script.specs.declared.script.ScriptError.{ScriptError}
 use Rattle.tmem_script.specs.declared.script.ScriptError.TheVariants.{Memory, Unreadable, NoScript}
+use Rattle.tmem_cli.specs.declared.play.Played.{Played}
 use Rattle.tmem_cli.specs.CommandLine.{IsRequest, HasRequest}
 use Rattle.tmem_cli.specs.Outcomes.{MayBeRead, IsNoScript, IsWhyNotRead, FailsWith}
 use Rattle.tmem_cli.specs.Printed.{PlaysFrom}
@@ -39,15 +41,14 @@ refused_text IsRead NoScript text is none = (text, is, none refl)
 pub PlaysFrom-keeps : (vars slots : ℕ) (found : State) (position : Position) (entries : List Entry) (end : WorldModel) (before mid after : Option (List ℕ)) → PlaysFrom vars slots found position entries end before mid → Keeps mid after → PlaysFrom vars slots found position entries end before after
 PlaysFrom-keeps vars slots found position entries end before mid after so kept = record { text = so.text; prints = so.prints; appends = Appends-keeps before mid after _ so.appends kept }
 
-pub PlaysWhere-keeps : (path : Option (List ℕ)) (device : Option FileDisk) (vars slots : ℕ) (entries : List Entry) (before mid after : Option (List ℕ)) → PlaysWhere path device vars slots entries before mid → Keeps mid after → PlaysWhere path device vars slots entries before after
+pub PlaysWhere-keeps : (path : Option (List ℕ)) (device : Option Played) (vars slots : ℕ) (entries : List Entry) (before mid after : Option (List ℕ)) → PlaysWhere path device vars slots entries before mid → Keeps mid after → PlaysWhere path device vars slots entries before after
 PlaysWhere-keeps None device vars slots entries before mid after so kept = (so.0, PlaysFrom-keeps vars slots (first_state vars) first_position entries so.0 before mid after so.1 kept)
 PlaysWhere-keeps (Some path) None vars slots entries before mid after so kept = absurd so
-PlaysWhere-keeps (Some path) (Some new) vars slots entries before mid after so kept = (
+PlaysWhere-keeps (Some path) (Some device) vars slots entries before mid after so kept = (
   so.0,
-  so.1,
   λ premise.
-      let it = (so.2 premise).1 in (
-        (so.2 premise).0,
+      let it = (so.1 premise).1 in (
+        (so.1 premise).0,
         record {
           found = it.found;
           position = it.position;
@@ -61,7 +62,7 @@ PlaysWhere-keeps (Some path) (Some new) vars slots entries before mid after so k
 )
 
 -- the same of words that ask for the same
-pub FailsWith-along : (status : ℕ) (left p q d e : Option (List ℕ)) (device : Option FileDisk) → p ≡ q → d ≡ e → FailsWith status (MayBeRead p left) d device → FailsWith status (MayBeRead q left) e device
+pub FailsWith-along : (status : ℕ) (left p q d e : Option (List ℕ)) (device : Option Played) → p ≡ q → d ≡ e → FailsWith status (MayBeRead p left) d device → FailsWith status (MayBeRead q left) e device
 FailsWith-along status left p q d e device path disk so =
     subst (λ (x : Option (List ℕ)). FailsWith status (MayBeRead q left) x device) disk (subst (λ (x : Option (List ℕ)). FailsWith status (MayBeRead x left) d device) path so)
 
@@ -86,14 +87,29 @@ err_of P (Ok x) so = tt
 err_of P (Err e) so = so
 
 -- a script that was played to its end, and then the output failed
-pub output_stops : (path : Option (List ℕ)) (device : Option FileDisk) (vars slots : ℕ) (entries : List Entry) (before after : Option (List ℕ)) → PlaysWhere path device vars slots entries before after → StopsWhere path device vars slots entries Output
+pub output_stops : (path : Option (List ℕ)) (device : Option Played) (vars slots : ℕ) (entries : List Entry) (before after : Option (List ℕ)) → PlaysWhere path device vars slots entries before after → StopsWhere path device vars slots entries Output
 output_stops None device vars slots entries before after so = inl refl
 output_stops (Some path) None vars slots entries before after so = absurd so
-output_stops (Some path) (Some new) vars slots entries before after so = (
+output_stops (Some path) (Some device) vars slots entries before after so = (
   so.0,
-  so.1,
-  inl (refl, λ h store premise. let it = (so.2 premise).1.stored h store in (entries, it.0, ([], sym (append-nil entries)), it.1)),
+  inl (refl, λ h store premise. let it = (so.1 premise).1.stored h store in (entries, it.0, ([], sym (append-nil entries)), it.1)),
 )
+
+-- with a path, a script that was played to its end hands a device back
+pub hands_back : (path : Option (Bor (List ℕ))) (device : Option Played) (vars slots : ℕ) (entries : List Entry) (before after : Option (List ℕ)) → IsSome path → PlaysWhere (option_map (λ (t : Bor (List ℕ)). t.now) path) device vars slots entries before after → device ≡ None → ⊥
+hands_back None device vars slots entries before after some so none = absurd (false≢true some)
+hands_back (Some path) None vars slots entries before after some so none = so
+hands_back (Some path) (Some device) vars slots entries before after some so none = absurd (none-some device (sym none))
+
+-- what holds after Err holds where the status is another than 0
+pub of_status : {T P : Type 0} (n : ℕ) (r : Result T Failure) → 1 ≤ n → MatchResult r (λ _. n ≡ 0) (λ f. n ≡ status_of f) → OnErr r P → P
+of_status n (Ok x) some is so = absurd (omega (arith, some, is))
+of_status n (Err f) some is so = so
+
+-- a text is there where its bytes are
+pub is_there : (path : Option (Bor (List ℕ))) (bytes : Option (List ℕ)) → option_map (λ (t : Bor (List ℕ)). t.now) path ≡ bytes → IsSome bytes → IsSome path
+is_there None bytes is some = subst IsSome (sym is) some
+is_there (Some path) bytes is some = refl
 
 -- a status other than 0 is that of a failure
 pub of_failure : {T : Type 0} (Q : Failure → Type 0) (n : ℕ) (r : Result T Failure) (k : ℕ) → (0 ≡ k → ⊥) → MatchResult r (λ _. n ≡ 0) (λ f. n ≡ status_of f) → IfErr r Q → n ≡ k → (f : Failure) × (status_of f ≡ k) × Q f
@@ -114,3 +130,7 @@ request_among kinds e has request = elim has [
   | inl memory ↦ absurd (subst IsRequest memory request)
   | inr is ↦ among (kind_of e) kinds is request
 ]
+
+-- and where none of them is, a refusal is no request
+pub no_request : (kinds : Kinds) (e : Error) → HasKind kinds e → kinds ≡ [] → ¬ IsRequest (kind_of e)
+no_request kinds e has none request = subst HasRequest none (request_among kinds e has request)

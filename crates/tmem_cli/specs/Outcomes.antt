@@ -20,6 +20,7 @@ use Rattle.tmem_file.specs.declared.disk.FileDisk.{FileDisk}
 use Rattle.tmem_threads.specs.declared.store.TheConstants.{VARS, SLOTS}
 use Rattle.tmem_threads.specs.declared.store.Totals.{Totals}
 use Rattle.tmem_threads.specs.declared.workers.Work.{Work}
+use Rattle.tmem_cli.specs.declared.play.Played.{Played}
 use Rattle.tmem_cli.specs.CommandLine.{AsksToPlay, AsksToCount, AsksToBench, AsksForHelp, IsWorkIn, path_in, disk_in}
 use Rattle.tmem_cli.specs.Printed.{line, totals_text}
 use Rattle.tmem_cli.specs.Stored.{IsMade, PlaysWhere, StopsPlaying}
@@ -31,7 +32,7 @@ MayBeRead None (Some bytes) text = text ≡ bytes
 MayBeRead (Some path) left text = ⊤
 
 -- the text is that of a script whose numbers are within the limits, and the script was played to its end
-pub record PlaysText (disk : Option Text) (device : Option FileDisk) (text : List ℕ) (before after : Option (List ℕ)) : Type 0 where
+pub record PlaysText (disk : Option Text) (device : Option Played) (text : List ℕ) (before after : Option (List ℕ)) : Type 0 where
   pub vars : ℕ
   pub slots : ℕ
   pub entries : List Entry
@@ -40,7 +41,7 @@ pub record PlaysText (disk : Option Text) (device : Option FileDisk) (text : Lis
   pub played : PlaysWhere disk device vars slots entries before after
 
 -- a text that may have been read was played
-abbrev pub PlaysRead : (List ℕ → Type 0) → Option Text → Option FileDisk → Option (List ℕ) → Option (List ℕ) → Type 0
+abbrev pub PlaysRead : (List ℕ → Type 0) → Option Text → Option Played → Option (List ℕ) → Option (List ℕ) → Type 0
 PlaysRead IsRead disk device before after = (text : List ℕ) × IsRead text × PlaysText disk device text before after
 
 -- the text is that of no script
@@ -48,7 +49,7 @@ abbrev pub IsNoScript : List ℕ → Type 0
 IsNoScript text = (vars slots : ℕ) (entries : List Entry) → ¬ IsScriptText vars slots entries text
 
 -- the text is that of a script, which was not played to its end for this reason
-abbrev pub StopsText : Option Text → Option FileDisk → List ℕ → Failure → Type 0
+abbrev pub StopsText : Option Text → Option Played → List ℕ → Failure → Type 0
 StopsText disk device text f =
     (vars : ℕ) × (slots : ℕ) × (entries : List Entry) × IsScriptText vars slots entries text × StopsPlaying disk device vars slots entries f
 
@@ -59,12 +60,12 @@ IsWhyNotRead IsRead error.Unreadable = ⊤
 IsWhyNotRead IsRead error.NoScript = (text : List ℕ) × IsRead text × IsNoScript text
 
 -- Why a script was not played to its end: it was not read, and there is no device; or it was stopped once it was read.
-abbrev pub IsWhyNotPlayed : (List ℕ → Type 0) → Option Text → Option FileDisk → Failure → Type 0
+abbrev pub IsWhyNotPlayed : (List ℕ → Type 0) → Option Text → Option Played → Failure → Type 0
 IsWhyNotPlayed IsRead disk device f =
     ((e : ScriptError) × (f ≡ failure.Script e) × IsWhyNotRead IsRead e × (device ≡ None)) ⊎ ((text : List ℕ) × IsRead text × StopsText disk device text f)
 
 -- a failure of this status is why
-abbrev pub FailsWith : ℕ → (List ℕ → Type 0) → Option Text → Option FileDisk → Type 0
+abbrev pub FailsWith : ℕ → (List ℕ → Type 0) → Option Text → Option Played → Type 0
 FailsWith status IsRead disk device = (f : Failure) × (status_of f ≡ status) × IsWhyNotPlayed IsRead disk device f
 
 -- With a path a file was made. (That the workers counted there is tested.)
@@ -102,19 +103,19 @@ failure_of bench.Clock = failure.Clock
 
 -- Status 0: help or the version was asked for; or a script was, and it was played to its end, where a path is given on the device
 -- that is handed back; or threads were, and they counted up; or the jobs of a service were, and they were timed.
-abbrev pub IsDone : List Text → Option (List ℕ) → Option FileDisk → Option (List ℕ) → Option (List ℕ) → Type 0
+abbrev pub IsDone : List Text → Option (List ℕ) → Option Played → Option (List ℕ) → Option (List ℕ) → Type 0
 IsDone words left device before after =
     AsksForHelp words
     ⊎ ((AsksToPlay words × PlaysRead (MayBeRead (path_in words) left) (disk_in words) device before after)
     ⊎ ((AsksToCount words × CountsAs words before after) ⊎ (AsksToBench words × TimesJobs before after)))
 
 -- Status 1: the same was asked for, and it failed on the way.
-abbrev pub IsStopped : List Text → Option (List ℕ) → Option FileDisk → Type 0
+abbrev pub IsStopped : List Text → Option (List ℕ) → Option Played → Type 0
 IsStopped words left device =
     AsksForHelp words
     ⊎ ((AsksToPlay words × FailsWith 1 (MayBeRead (path_in words) left) (disk_in words) device)
     ⊎ ((AsksToCount words × ((f : Failure) × (status_of f ≡ 1) × IsWhyNotCounted f)) ⊎ (AsksToBench words × ((f : Failure) × (status_of f ≡ 1) × IsWhyNotTimed f))))
 
 -- Status 3: a script was asked for, and there was none.
-abbrev pub HasNoScript : List Text → Option (List ℕ) → Option FileDisk → Type 0
+abbrev pub HasNoScript : List Text → Option (List ℕ) → Option Played → Type 0
 HasNoScript words left device = AsksToPlay words × FailsWith 3 (MayBeRead (path_in words) left) (disk_in words) device

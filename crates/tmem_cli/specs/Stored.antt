@@ -21,6 +21,7 @@ use Rattle.tmem_world.specs.Chain.{History, IsStore, no_history}
 use Rattle.tmem_cli.specs.Builtin.{builtin_program}
 use Rattle.tmem_cli.specs.Chains.{PlaysStore, StaysStore, LeavesStore}
 use Rattle.tmem_cli.specs.Printed.{PlaysFrom, PlaysScript, IsStop}
+use Rattle.tmem_cli.specs.declared.play.Played.{Played}
 
 -- The content of the device stood for a state before, and the script was played from there. A crash now leaves its serial
 -- order, cut at the durable number or at the doubtful one.
@@ -50,7 +51,7 @@ RefusesOver view vars slots old new f =
 abbrev pub StopsOver : {D : Type 0} → (D → DeviceView) → ℕ → ℕ → List Entry → D → D → Failure → Type 0
 StopsOver view vars slots entries old new f = (f ≡ failure.Output) × LeavesStore vars slots entries (view old) (view new)
 
--- A file that was made: of zeros, which were formatted before it got its name.
+-- A file that was made: of zeros, which were formatted and synced. (That it got its name is tested.)
 pub record IsMade (vars slots : ℕ) (made : FileDisk) : Type 0 where
   pub blank : FileDisk
   pub zeros : IsNewDevice (end_place vars slots) (view_of blank)
@@ -66,22 +67,23 @@ pub record IsMade (vars slots : ℕ) (made : FileDisk) : Type 0 where
 abbrev pub IsFoundOrMade : ℕ → ℕ → FileDisk → Type 0
 IsFoundOrMade vars slots disk = IsOpened (view_of disk) ⊎ IsMade vars slots disk
 
--- A script was played in memory on an empty store, or with a path on the store of a file, whose device this one became.
-abbrev pub PlaysWhere : Option (List ℕ) → Option FileDisk → ℕ → ℕ → List Entry → Option (List ℕ) → Option (List ℕ) → Type 0
+-- A script was played in memory on an empty store, or with a path on the store of a file, from how its device was found to what it
+-- became.
+abbrev pub PlaysWhere : Option (List ℕ) → Option Played → ℕ → ℕ → List Entry → Option (List ℕ) → Option (List ℕ) → Type 0
 PlaysWhere None left vars slots entries before after = PlaysScript vars slots entries before after
 PlaysWhere (Some path) None vars slots entries before after = ⊥
-PlaysWhere (Some path) (Some new) vars slots entries before after =
-    (disk : FileDisk) × IsFoundOrMade vars slots disk × PlaysOver view_of vars slots entries disk new before after
+PlaysWhere (Some path) (Some it) vars slots entries before after =
+    IsFoundOrMade vars slots it.found.value × PlaysOver view_of vars slots entries it.found.value it.left before after
 
 -- Why it was not played to its end: it was stopped; or, with a path, memory was refused or the device failed, and none is left;
--- or the device of the file became this one, and the output failed, or its opening was refused.
-abbrev pub StopsWhere : Option (List ℕ) → Option FileDisk → ℕ → ℕ → List Entry → Failure → Type 0
+-- or the device of the file is handed back as it was found and as it was left, and the output failed, or its opening was refused.
+abbrev pub StopsWhere : Option (List ℕ) → Option Played → ℕ → ℕ → List Entry → Failure → Type 0
 StopsWhere None left vars slots entries f = IsStop f
 StopsWhere (Some path) None vars slots entries f = (f ≡ failure.Refused fault.Memory) ⊎ (f ≡ failure.Refused fault.Device)
-StopsWhere (Some path) (Some new) vars slots entries f =
-    (disk : FileDisk) × IsFoundOrMade vars slots disk × (StopsOver view_of vars slots entries disk new f ⊎ RefusesOver view_of vars slots disk new f)
+StopsWhere (Some path) (Some it) vars slots entries f =
+    IsFoundOrMade vars slots it.found.value × (StopsOver view_of vars slots entries it.found.value it.left f ⊎ RefusesOver view_of vars slots it.found.value it.left f)
 
 -- Why a script that was read was not played to its end: its numbers are out of limits, and there is no device; or that.
-abbrev pub StopsPlaying : Option (List ℕ) → Option FileDisk → ℕ → ℕ → List Entry → Failure → Type 0
+abbrev pub StopsPlaying : Option (List ℕ) → Option Played → ℕ → ℕ → List Entry → Failure → Type 0
 StopsPlaying path left vars slots entries f =
     ((f ≡ failure.Refused fault.Geometry) × (¬ IsLayout vars slots) × (left ≡ None)) ⊎ (IsLayout vars slots × StopsWhere path left vars slots entries f)

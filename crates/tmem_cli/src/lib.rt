@@ -17,5 +17,5 @@ mod words;
 
 pub use args::reads_plainly;
 pub use chain::crash_leaves_run;
-pub use play::play_on;
+pub use play::{Played, play_on};
 pub use words::run_words;

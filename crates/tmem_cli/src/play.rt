@@ -1,5 +1,5 @@
 //! Plays a script on a device.
-ghost use Rattle.std.specs.Prelude.{◌≡◌, ◌⊎◌, [], ◌∷◌, None, IfErr, OnOk, OnErr, length, option_map};
+ghost use Rattle.std.specs.Prelude.{◌≡◌, ◌⊎◌, [], ◌∷◌, None, IfErr, IsSome, OnOk, OnErr, length, option_map};
 ghost use Rattle.std.specs.Io.KnownBytes.{Appends};
 ghost use Rattle.tmem_builtins.specs.Invariants.{is_not_negative, add_to_hundred, are_ordered};
 ghost use Rattle.tmem_record.specs.Layout.{IsLayout};
@@ -15,6 +15,7 @@ use crate::print::{print_line, print_state};
 use std::alloc::Global;
 use std::fs::{File, Files};
 use std::io::Write;
+use std::snapshot::Snapshot;
 use tmem_builtins::{nonneg, ordered, stored_steps, sum, table_of};
 use tmem_disk::{Disk, Fault};
 use tmem_file::FileDisk;
@@ -24,21 +25,31 @@ use tmem_script::{Entry, Failure, ReplyLine, Script};
 use tmem_tree::StoredSteps;
 use tmem_world::{Layout, Reply, World};
 
+/// The device of a file that a script was played on.
+#[derive(Drop)]
+pub struct Played {
+    /// The device as it was found or made, before the script was played: for clauses alone, it takes no memory.
+    pub found: Snapshot<FileDisk>,
+    /// The device that it became.
+    pub left: FileDisk,
+}
+
 /// Plays a script on a fresh device in memory, or on the device of the file at a path, and prints a line for the opening
 /// and one for each entry. A refused event is printed as its refusal, and the next is played. Refused by `Geometry`, before
-/// there is a device, where the script's numbers are out of limits. The device of a file is left in `device`.
+/// there is a device, where the script's numbers are out of limits. The device of a file is left in `device`, and how it was found.
 pub(crate) fn play<R: Files<File = File> + AllocGlobal, W: Write>(
     rt: &R,
     script: Script,
     path: Option<&str>,
     out: &mut W,
-    device: &mut Option<FileDisk>,
+    device: &mut Option<Played>,
 ) -> Result<(), Failure>
     requires { device.old ≡ None }
     ensures played { OnOk result (PlaysWhere (option_map (λ text. text.now) path.entry) device.new script.vars script.slots script.entries.items (W.contents out.old) (W.contents out.new)) }
     ensures fits { OnOk result (IsLayout script.vars script.slots) }
     ensures geometry { ¬ IsLayout script.vars script.slots → result ≡ Err (Refused Fault.Geometry) }
     ensures failed { IfErr result (StopsPlaying (option_map (λ text. text.now) path.entry) device.new script.vars script.slots script.entries.items) }
+    ensures withheld { IsSome path.entry → OnErr result (device.new ≡ None → out.new ≡ out.old) }
 {
     let alloc = rt.alloc();
     let layout = Layout::new(script.vars, script.slots)?;
@@ -67,11 +78,20 @@ pub(crate) fn play<R: Files<File = File> + AllocGlobal, W: Write>(
     let a_hundred = a_hundred.map_err(Fault::from)?;
     let in_order = in_order.map_err(Fault::from)?;
     let table = table_of(alloc, script.vars, at_least_zero, a_hundred, in_order)?;
-    play_with(rt, path, layout, script.entries, table, stored_steps(), out, device)
+    play_with(
+        rt,
+        path,
+        layout,
+        script.entries,
+        table,
+        stored_steps(),
+        out,
+        device,
+    )
 }
 
 /// Plays the entries of a script, under these invariants and with these stored steps, on a fresh device in memory or on the
-/// device of the file at a path, which is left in `device`.
+/// device of the file at a path, which is left in `device` with how it was found.
 fn play_with<
     R: Files<File = File> + AllocGlobal,
     T: Invariants + Drop,
@@ -85,7 +105,7 @@ fn play_with<
     table: T,
     steps: S,
     out: &mut W,
-    device: &mut Option<FileDisk>,
+    device: &mut Option<Played>,
 ) -> Result<(), Failure>
     requires none { device.old ≡ None }
     requires vars { T.vars table ≡ layout.vars }
@@ -93,6 +113,9 @@ fn play_with<
     requires meant { AreMeant S.StoredSteps T.Invariants steps table (builtin_program layout.vars) }
     ensures played { OnOk result (PlaysWhere (option_map (λ text. text.now) path.entry) device.new layout.vars layout.slots entries.items (W.contents out.old) (W.contents out.new)) }
     ensures failed { IfErr result (StopsWhere (option_map (λ text. text.now) path.entry) device.new layout.vars layout.slots entries.items) }
+
+    // Where a path is given and no device is handed back, nothing was printed.
+    ensures withheld { IsSome path.entry → OnErr result (device.new ≡ None → out.new ≡ out.old) }
 {
     // what opening finds on a device that was formatted in memory is the first state, and that is not refused
     stands_for_one();
@@ -104,8 +127,9 @@ fn play_with<
         }
         Some(path) => {
             let disk = device_in_file(rt, path, layout)?;
-            let (disk, outcome) = play_on(rt.alloc(), disk, layout, entries, table, steps, out);
-            *device = Some(disk);
+            let found = Snapshot::of(&disk);
+            let (left, outcome) = play_on(rt.alloc(), disk, layout, entries, table, steps, out);
+            *device = Some(Played { found, left });
             outcome
         }
     }

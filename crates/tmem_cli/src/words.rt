@@ -1,18 +1,18 @@
 //! What the program answers to the words of a command line.
-ghost use Rattle.std.specs.Prelude.{◌≡◌, ◌≤◌, None, ℕ, List, map, option_map, string_bytes, IfErr, IfOk, IfSome, IsSome, MatchResult, OnOk};
+ghost use Rattle.std.specs.Prelude.{◌≡◌, ◌≤◌, None, ℕ, List, map, option_map, string_bytes, IfErr, IfOk, IfSome, IsSome, MatchResult, OnErr, OnOk};
 ghost use Rattle.std.specs.Io.KnownBytes.{Keeps};
 ghost use Rattle.clap.specs.Values.{kind_of};
 ghost use Rattle.tmem_script.specs.Errors.{IsUnread};
 ghost use Rattle.tmem_script.specs.Scripts.{IsScriptText};
 ghost use Rattle.tmem_script.specs.Statuses.{status_of};
 ghost use Rattle.tmem_script.specs.declared.failure.Failure.TheVariants.{Output};
-ghost use Rattle.tmem_cli.specs.CommandLine.{AreRefused, AsksToPlay, IsRequest, path_in};
+ghost use Rattle.tmem_cli.specs.CommandLine.{AreRefused, AsksToPlay, IsRequest, disk_in, path_in};
 ghost use Rattle.tmem_cli.specs.Outcomes.{IsDone, IsStopped, HasNoScript, CountsUp, IsWhyNotCounted, IsWhyNotPlayed, IsWhyNotRead, IsWhyNotTimed, MayBeRead, PlaysRead, TimesJobs};
 
 use crate::args::{Asked, Counting, Paths, asked_of};
 use crate::bench::run_bench;
 use crate::count::count_on;
-use crate::play::play;
+use crate::play::{Played, play};
 use crate::print::{TotalsText, print_line};
 use clap::error::ErrorKind;
 use std::alloc::Global;
@@ -21,31 +21,31 @@ use std::io::{Read, Write};
 use std::rt::Clock;
 use std::sync::Wait;
 use std::thread::Threads;
-use tmem_file::FileDisk;
 use tmem_script::{Failure, Script, ScriptError, WordsError, report};
 
 /// Does what the words of a command line say, the program's name first, and answers the status: 0 where help or the
 /// version was printed, a script was played to its end, threads counted up, or jobs were timed; 1 where that failed on the
 /// way; 2 where the words were refused, or memory did not suffice to read them; 3 where there was no script to play. Beside it
-/// stands the device of the file that a script was played on.
+/// stands the device of the file that a script was played on, and how it was found.
 pub fn run_words<R: Read, W: Write, E: Write>(
     rt: &(impl Files<File = File> + AllocGlobal + Threads + Wait + Clock + Sync),
     words: Vec<String>,
     input: &mut R,
     out: &mut W,
     err: &mut E,
-) -> (u8, Option<FileDisk>)
+) -> (u8, Option<Played>)
     ensures done { result.0 ≡ 0 → IsDone (map string_bytes words.items) (R.remaining input.old) result.1 (W.contents out.old) (W.contents out.new) }
     ensures stopped { result.0 ≡ 1 → IsStopped (map string_bytes words.items) (R.remaining input.old) result.1 }
     ensures no_script { result.0 ≡ 3 → HasNoScript (map string_bytes words.items) (R.remaining input.old) result.1 }
     ensures refused { AreRefused (map string_bytes words.items) → result.0 ≡ 2 }
     ensures most { result.0 ≤ 3 }
 
-    // Nothing is told where all was done, and nothing is printed where the words were refused or there was no script. The
-    // input is left alone where no script was asked for, where the words were not read, and where they give the path of a
-    // script.
+    // Nothing is told where all was done. Nothing is printed where the words were refused or there was no script, and where a
+    // script was to be played on a file, that failed, and no device is handed back. The input is left alone where no script was
+    // asked for, where the words were not read, and where they give the path of a script.
     ensures untold { result.0 ≡ 0 → err.new ≡ err.old }
     ensures unprinted { 2 ≤ result.0 → out.new ≡ out.old }
+    ensures withheld { AsksToPlay (map string_bytes words.items) → IsSome (disk_in (map string_bytes words.items)) → 1 ≤ result.0 → result.1 ≡ None → out.new ≡ out.old }
     ensures unasked { ¬ AsksToPlay (map string_bytes words.items) → input.new ≡ input.old }
     ensures unread { result.0 ≡ 2 → input.new ≡ input.old }
     ensures other_file { IsSome (path_in (map string_bytes words.items)) → input.new ≡ input.old }
@@ -117,12 +117,13 @@ fn run<R: Read, W: Write>(
     paths: Paths,
     input: &mut R,
     out: &mut W,
-    device: &mut Option<FileDisk>,
+    device: &mut Option<Played>,
 ) -> Result<(), Failure>
     requires { device.old ≡ None }
     ensures played { OnOk result (PlaysRead (MayBeRead (option_map (λ text. text.now) paths.entry.script) (R.remaining input.old)) (option_map (λ text. text.now) paths.entry.disk) device.new (W.contents out.old) (W.contents out.new)) }
     ensures failed { IfErr result (IsWhyNotPlayed (MayBeRead (option_map (λ text. text.now) paths.entry.script) (R.remaining input.old)) (option_map (λ text. text.now) paths.entry.disk) device.new) }
     ensures unprinted { IfErr result (λ failure. status_of failure ≡ 3 → out.new ≡ out.old) }
+    ensures withheld { IsSome paths.entry.disk → OnErr result (device.new ≡ None → out.new ≡ out.old) }
     ensures other_file { IsSome paths.entry.script → input.new ≡ input.old }
 {
     let script = script_of(rt, paths.script, input)?;

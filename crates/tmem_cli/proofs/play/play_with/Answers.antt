@@ -1,9 +1,11 @@
-use Rattle.std.proofs.Common.{ℕ, List, Option, Some, option_map, Bor, arith, inl, inr, sym, ap, subst, ◌∙◌}
+use Rattle.std.proofs.Common.{◌⊎◌, ℕ, List, Option, Some, option_map, Bor, arith, inl, inr, sym, ap, subst, ◌∙◌}
 use Rattle.std.specs.Prelude.{OnOk, IfErr}
 use Rattle.std.proofs.lemmas.Result.{on_ok_weaker, IfErr-weaker}
 use Rattle.tmem_disk.specs.SimParts.{is_device_of, view_of as memory_of}
 use Rattle.tmem_script.specs.declared.failure.Failure.TheVariants.{Refused}
-use Rattle.tmem_cli.specs.Stored.{PlaysWhere, StopsWhere}
+use Rattle.tmem_file.specs.FileView.{view_of}
+use Rattle.tmem_file.specs.declared.disk.FileDisk.{FileDisk}
+use Rattle.tmem_cli.specs.Stored.{IsFoundOrMade, PlaysOver, StopsOver, RefusesOver, PlaysWhere, StopsWhere}
 use Rattle.tmem_cli.proofs.Stored.{PlaysScript-of, first_stops}
 use Rattle.tmem_cli.proofs.play.play_with.Goals as goal
 
@@ -36,13 +38,20 @@ returns-in_ok-disk-in-None-clause-failed g c =
 pub returns-in_ok-disk-in-Some-clause-played : goal.returns-in_ok-disk-in-Some-clause-played
 returns-in_ok-disk-in-Some-clause-played g c =
     let layout = c.args.layout in
-    subst (λ (p : Option (Bor (List ℕ))). OnOk c.play_on-disk.result.1 (PlaysWhere (option_map (λ (t : Bor (List ℕ)). t.now) p) (Some c.play_on-disk.result.0) layout.vars layout.slots c.args.entries.items (g.W.Write.contents c.args.out.now) (g.W.Write.contents c.play_on-disk.new.out))) (sym c.in-Some.is)
-    (on_ok_weaker c.play_on-disk.result.1 (λ it. (c.in_ok-disk-in-Some.disk, c.in_ok-disk-in-Some.ensures.device, it)) c.play_on-disk.ensures.played)
+    let went = c.play_on-left in
+    let before = g.W.Write.contents c.args.out.now in
+    let after = g.W.Write.contents went.new.out in
+    subst (λ (p : Option (Bor (List ℕ))). OnOk went.result.1 (PlaysWhere (option_map (λ (t : Bor (List ℕ)). t.now) p) (Some (record { found = c.of-found.result; left = went.result.0 })) layout.vars layout.slots c.args.entries.items before after)) (sym c.in-Some.is)
+    (on_ok_weaker went.result.1
+    (λ it. subst (λ (d : FileDisk). IsFoundOrMade layout.vars layout.slots d × PlaysOver view_of layout.vars layout.slots c.args.entries.items d went.result.0 before after) (sym c.of-found.ensures) (c.in_ok-disk-in-Some.ensures.device, it))
+    went.ensures.played)
 
 pub returns-in_ok-disk-in-Some-clause-failed : goal.returns-in_ok-disk-in-Some-clause-failed
 returns-in_ok-disk-in-Some-clause-failed g c =
     let layout = c.args.layout in
-    subst (λ (p : Option (Bor (List ℕ))). IfErr c.play_on-disk.result.1 (StopsWhere (option_map (λ (t : Bor (List ℕ)). t.now) p) (Some c.play_on-disk.result.0) layout.vars layout.slots c.args.entries.items)) (sym c.in-Some.is)
-    (IfErr-weaker c.play_on-disk.result.1 _ _
-    (λ failure why. (c.in_ok-disk-in-Some.disk, c.in_ok-disk-in-Some.ensures.device, why))
-    c.play_on-disk.ensures.failed)
+    let went = c.play_on-left in
+    subst (λ (p : Option (Bor (List ℕ))). IfErr went.result.1 (StopsWhere (option_map (λ (t : Bor (List ℕ)). t.now) p) (Some (record { found = c.of-found.result; left = went.result.0 })) layout.vars layout.slots c.args.entries.items)) (sym c.in-Some.is)
+    (IfErr-weaker went.result.1 _ _
+    (λ failure why. subst (λ (d : FileDisk). IsFoundOrMade layout.vars layout.slots d × (StopsOver view_of layout.vars layout.slots c.args.entries.items d went.result.0 failure ⊎ RefusesOver view_of layout.vars layout.slots d went.result.0 failure)) (sym c.of-found.ensures)
+    (c.in_ok-disk-in-Some.ensures.device, why))
+    went.ensures.failed)

@@ -1,7 +1,7 @@
 use Rattle.std.proofs.Common.{ℕ, List, option_map, Bor, sym, subst, inr}
 use Rattle.std.proofs.lemmas.Result.{IfErr-weaker}
 use Rattle.tmem_cli.specs.Stored.{StopsWhere}
-use Rattle.tmem_cli.proofs.Outcomes.{PlaysWhere-keeps, ok_of, output_stops}
+use Rattle.tmem_cli.proofs.Outcomes.{PlaysWhere-keeps, err_of, hands_back, ok_of, output_stops}
 use Rattle.tmem_cli.proofs.words.run.Goals as goal
 
 pub returns-clause-played : goal.returns-clause-played
@@ -39,3 +39,8 @@ returns-clause-failed g c =
       ),
     ))
     c.flush.ensures.failed
+
+pub returns-clause-withheld : goal.returns-clause-withheld
+returns-clause-withheld g c = λ some.
+    let script = c.in_ok-script.script in
+    err_of _ c.flush.result (λ none. absurd (hands_back c.args.paths.disk c.play.new.device script.vars script.slots script.entries.items _ _ some c.in_ok-play.ensures.played none))

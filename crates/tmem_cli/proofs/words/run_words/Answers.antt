@@ -2,7 +2,7 @@ use Rattle.std.proofs.Common.{◌≡◌, [], map, string_bytes, inl, inr, subst,
 use Rattle.clap.specs.Kinds.{HasKind}
 use Rattle.tmem_cli.specs.CommandLine.{IsAsked, why_not_done}
 use Rattle.tmem_cli.specs.declared.args.Asked.TheVariants.{Run}
-use Rattle.tmem_cli.proofs.Outcomes.{FailsWith-along, of_failure, request_among}
+use Rattle.tmem_cli.proofs.Outcomes.{FailsWith-along, is_there, no_request, of_failure, of_status, request_among}
 use Rattle.tmem_cli.proofs.words.run_words.Goals as goal
 
 pub returns-in-Ok-Run-clause-stopped : goal.returns-in-Ok-Run-clause-stopped
@@ -38,3 +38,15 @@ returns-clause-refused g c = λ refused.
     let same : c.as_slice.result.now ≡ c.args.words.items = c.as_slice.ensures.value in
     let has = subst (λ ws. HasKind (why_not_done (map string_bytes ws)) c.in-Err.refusal) same c.in-Err.ensures.refused in
     c.answer.ensures.refused (λ request. refused.1 (request_among (why_not_done (map string_bytes c.args.words.items)) c.in-Err.refusal has request))
+
+pub returns-in-Ok-Run-clause-withheld : goal.returns-in-Ok-Run-clause-withheld
+returns-in-Ok-Run-clause-withheld g c = λ asks some failed none.
+    let same : c.as_slice.result.now ≡ c.args.words.items = c.as_slice.ensures.value in
+    let asked : IsAsked (map string_bytes c.args.words.items) (Run c.in-Ok-Run.paths) = subst (λ ws. IsAsked (map string_bytes ws) (Run c.in-Ok-Run.paths)) same (rw c.in-Ok-Run.field-0-is at c.in-Ok-Run.ensures.asked) in
+    of_status c.conclude-status.result c.run.result failed c.conclude-status.ensures.status (c.run.ensures.withheld (is_there c.in-Ok-Run.paths.disk _ asked.2 some)) none
+
+pub returns-clause-withheld : goal.returns-clause-withheld
+returns-clause-withheld g c = λ asks some failed none.
+    let same : c.as_slice.result.now ≡ c.args.words.items = c.as_slice.ensures.value in
+    let has = subst (λ ws. HasKind (why_not_done (map string_bytes ws)) c.in-Err.refusal) same c.in-Err.ensures.refused in
+    c.answer.ensures.unprinted (c.answer.ensures.refused (no_request (why_not_done (map string_bytes c.args.words.items)) c.in-Err.refusal has asks.0))
