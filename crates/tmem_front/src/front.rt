@@ -28,7 +28,7 @@ use tmem_disk::{Cause, Disk, Fault, Name};
 use tmem_invariants::Invariants;
 use tmem_seats::{CoreSeat, Failure, JournalSeat, StoreNaming, with_registers};
 use tmem_spine::{Pass as SpinePass, Spine};
-use tmem_tentative::{Attempt, Cursor, Outcome, Progress};
+use tmem_tentative::{Attempt, Cursor, Progress};
 use tmem_tree::{Plan, StoredSteps, Tx};
 
 /// A store that threads share. A pass is used with its own front, and a plan or an attempt with the front that made it.
@@ -94,17 +94,9 @@ impl<D: Disk + Drop, N: StoreNaming, T: Invariants + Drop, S: StoredSteps + Drop
         ensures names { IfOk result (IsForNames N.program.names) }
         ensures memory { IfErr result (λ fault. fault ≡ Fault.Memory) }
     {
-        let mut cursor = Cursor::new(self.alloc, plan)?;
-        for _ in rt.forever() {
-            match cursor.resume(plan, &self.steps)? {
-                Outcome::Need(var) => {
-                    let value = self.peek(rt, var);
-                    cursor.give(var, value);
-                }
-                Outcome::Ended(attempt) => return Ok(attempt),
-            }
-        }
-        unreachable!()
+        let mut cursor = Cursor::idle(self.alloc);
+        self.evaluate(rt, &mut cursor, plan)?;
+        Ok(cursor.into_attempt())
     }
 
     /// Settles an attempt in one atomic step, after all that the pass knew. Refused as a core refuses it.

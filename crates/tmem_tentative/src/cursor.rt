@@ -128,8 +128,8 @@ impl Cursor {
         }
     }
 
-    /// What `evaluate` answers on the values that it was given. It goes on as `advance` does, and copies the attempt once it has
-    /// ended. Its only fault is want of memory, and it stands in the same evaluation on the same values then.
+    /// What `evaluate` answers on the values that it was given. It goes on as `advance` does, and first copies these values, for the
+    /// attempt that it may come to. Its only fault is want of memory, and it stays as it was then.
     pub fn resume<S: StoredSteps>(&mut self, plan: &Plan, steps: &S) -> Result<Outcome, Fault>
         requires steps { FitsSteps (S.arities steps.now) plan.now }
         requires at { (m : StepMeanings) → S.is_stated steps.now m → IsAt m plan.now self.old }
@@ -140,11 +140,18 @@ impl Cursor {
         ensures fits { IfOk result (IsFit (given self.new)) }
         ensures within { (vars : ℕ) → FitsVariables vars plan.now → IfOk result (IsWithin vars) }
         ensures named { (names : List (List ℕ)) → FitsNames names plan.now → IfOk result (IsNamed names) }
+        ensures same { IfErr result (λ _. IsAsBefore self.old self.new) }
         ensures fault { IfErr result (λ fault. fault ≡ Fault.Memory) }
     {
+        let reads = self.attempt.reads.clone()?;
         match self.advance(plan, steps)? {
             Progress::Need(var) => Ok(Outcome::Need(var)),
-            Progress::Ended => Ok(Outcome::Ended(copy_of(&self.attempt)?)),
+            Progress::Ended => Ok(Outcome::Ended(Attempt {
+                reads,
+                ending: self.attempt.ending,
+                registers: self.attempt.registers,
+                effect: self.attempt.effect.copy(),
+            })),
         }
     }
 
@@ -168,6 +175,15 @@ impl Cursor {
         ensures right { (m : StepMeanings) (plan : Tx) → IsAt m plan self.now → IsOutcome m plan (given self.now) (Outcome.Ended result.now) }
     {
         &self.attempt
+    }
+
+    /// The attempt of an evaluation that has ended, without a copy.
+    pub fn into_attempt(self) -> Attempt
+        requires { HasEnded self }
+        ensures attempt { result ≡ self.attempt }
+        ensures right { (m : StepMeanings) (plan : Tx) → IsAt m plan self → IsOutcome m plan (given self) (Outcome.Ended result) }
+    {
+        self.attempt
     }
 
     /// Whether it has ended.
@@ -233,19 +249,4 @@ fn make_room(saves: &mut Vec<Save>, plan: &Plan) -> Result<(), AllocError>
         }
     }
     Ok(())
-}
-
-// The same attempt once more.
-fn copy_of(attempt: &Attempt) -> Result<Attempt, AllocError>
-    ensures reads { IfOk result (λ copy. copy.reads.entries ≡ attempt.now.reads.entries) }
-    ensures ending { IfOk result (λ copy. copy.ending ≡ attempt.now.ending) }
-    ensures registers { IfOk result (λ copy. copy.registers ≡ attempt.now.registers) }
-    ensures effect { IfOk result (λ copy. copy.effect ≡ attempt.now.effect) }
-{
-    Ok(Attempt {
-        reads: attempt.reads.clone()?,
-        ending: attempt.ending,
-        registers: attempt.registers,
-        effect: attempt.effect.copy(),
-    })
 }
