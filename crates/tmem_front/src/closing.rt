@@ -17,8 +17,9 @@ impl<D: Disk + Drop, N: StoreNaming, T: Invariants + Drop, S: StoredSteps + Drop
     S,
 > {
     /// Closes the store in good order: later attempts are refused as `Closed`, and what waits is made durable, also where the store was
-    /// shut before or another close is at work. Then each call that waits goes on: whoever awaits a transaction that became durable is
-    /// answered so, and `Closed` otherwise. Refused with the first fault that the store had, or as a flush that makes room.
+    /// shut before or another close is at work. Whoever awaits a transaction goes on once it is durable, or at the end, by `Closed`. All
+    /// other waits end after the first flush, or at the end. Refused with the first fault that the store had, or as a flush that makes
+    /// room.
     pub fn close<R: Wait>(&self, rt: &R) -> Result<(), Fault>
         ensures refused { IfErr result IsFlusherRefusal }
     {

@@ -48,9 +48,10 @@ impl<D: Disk + Drop, N: StoreNaming, T: Invariants + Drop, S: StoredSteps + Drop
     T,
     S,
 > {
-    /// Attempts a plan of this front until it is settled: at once after a conflict, and after a retry once another transaction has
-    /// written a variable that it read. A short plan, and any other after two conflicts, is evaluated under the core's lock, where it
-    /// meets none: so a stored step must wait for nothing that a caller of the front may hold. Refused as a core refuses it, but for `Conflict`, and by `Memory`.
+    /// Attempts a plan of this front until it is settled: at once after a conflict, and after a retry once another transaction was
+    /// committed that may have written a variable which it read. A short plan, and any other after two conflicts, is evaluated under the
+    /// core's lock, where it meets none: so a stored step must wait for nothing that a caller of the front may hold. Refused as a core
+    /// refuses it, but for `Conflict`, and by `Memory`.
     pub fn atomically<R: Wait>(
         &self,
         rt: &R,
