@@ -303,9 +303,9 @@ impl<D: Disk> Journal<D> {
                 };
                 Ok(())
             }
-            Err(fault) => {
+            Err(refused) => {
                 self.is_closed = true;
-                Err(fault)
+                Err(refused)
             }
         }
     }

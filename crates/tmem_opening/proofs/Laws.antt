@@ -41,6 +41,14 @@ given_up t table vars slots old new uses fits mends position s stands sound = re
   early = λ tells. absurd tells;
 }
 
+-- and its device is handed back
+pub handed_back : {T D : Type 0} (t : Ghosts T) (table : T) (vars slots : ℕ) (old : DeviceView) (view : D → DeviceView) (back from : D) → back ≡ from → Uses {T = Unit {0}} old (view from) (Ok tt) → FitsOn vars slots old.capacity
+    → Mending vars slots old (view from) → (position : Position) (s : State) → ((view from).keeps_model → StandsFor vars slots position s old.seen) → ((m : Meanings) → t.is_stated table m → IsSound m (t.names table) s.names s.values)
+    → Mending vars slots old (view back) × OpeningRefused (IsProgramOf t table) vars slots old fault.Memory (view back)
+handed_back t table vars slots old view back from is uses fits mends position s stands sound =
+    subst (λ x. Mending vars slots old (view x) × OpeningRefused (IsProgramOf t table) vars slots old fault.Memory (view x)) (sym is)
+    (mends, given_up t table vars slots old (view from) uses fits mends position s stands sound)
+
 -- a refusal for more meanings is one for fewer
 pub refused_for_fewer : (More Fewer : Program → Type 0) (vars slots : ℕ) (old : DeviceView) (f : Fault) (new : DeviceView) → ((p : Program) → Fewer p → More p) → OpeningRefused More vars slots old f new → OpeningRefused Fewer vars slots old f new
 refused_for_fewer More Fewer vars slots old f new so it = record {

@@ -278,7 +278,7 @@ impl<N: StoreNaming, T: Invariants + Drop> CoreSeat<N, T> {
         self.has_waiting() || self.is_shut()
     }
 
-    /// The pass of this number sleeps until another transaction writes a variable that it has read.
+    /// The pass of this number sleeps until a commit may have written a variable that it has read.
     pub fn sleep(&mut self, number: u64, reads: &Reads)
         ensures { self.new ≡ self.old }
     {

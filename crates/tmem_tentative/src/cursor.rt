@@ -143,7 +143,7 @@ impl Cursor {
         ensures same { IfErr result (λ _. IsAsBefore self.old self.new) }
         ensures fault { IfErr result (λ fault. fault ≡ Fault.Memory) }
     {
-        let reads = self.attempt.reads.clone()?;
+        let reads = copy_of(&self.attempt.reads)?;
         match self.advance(plan, steps)? {
             Progress::Need(var) => Ok(Outcome::Need(var)),
             Progress::Ended => Ok(Outcome::Ended(Attempt {
@@ -249,4 +249,11 @@ fn make_room(saves: &mut Vec<Save>, plan: &Plan) -> Result<(), AllocError>
         }
     }
     Ok(())
+}
+
+// The same reads once more.
+fn copy_of(reads: &Reads) -> Result<Reads, AllocError>
+    ensures { IfOk result (λ copy. copy.entries ≡ reads.now.entries) }
+{
+    Ok(reads.clone()?)
 }

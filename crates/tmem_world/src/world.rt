@@ -187,7 +187,7 @@ impl<D: Disk + Drop, T: Invariants + Drop, S: StoredSteps + Drop> World<D, T, S>
     {
         match &self.held {
             Some(Held::With(session)) => session.core.count(),
-            _ => 0,
+            _ => unreachable!(),
         }
     }
 
@@ -199,7 +199,7 @@ impl<D: Disk + Drop, T: Invariants + Drop, S: StoredSteps + Drop> World<D, T, S>
     {
         match &self.held {
             Some(Held::With(session)) => session.core.peek(var),
-            _ => 0,
+            _ => unreachable!(),
         }
     }
 
@@ -210,7 +210,7 @@ impl<D: Disk + Drop, T: Invariants + Drop, S: StoredSteps + Drop> World<D, T, S>
     {
         match &self.held {
             Some(Held::With(session)) => session.core.has(name),
-            _ => false,
+            _ => unreachable!(),
         }
     }
 

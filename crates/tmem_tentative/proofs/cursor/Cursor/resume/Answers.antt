@@ -1,6 +1,7 @@
-use Rattle.std.proofs.Common.{◌≡◌, ◌<◌, true, All, sym, subst}
+use Rattle.std.proofs.Common.{◌≡◌, ◌<◌, true, All, refl, sym, ◌∙◌, subst}
 use Rattle.std.specs.Map.{keys_of}
 use Rattle.tmem_record.specs.Names.{has_name}
+use Rattle.tmem_tentative.specs.declared.attempt.Attempt.{Attempt}
 use Rattle.tmem_tentative.specs.declared.attempt.Outcome.TheVariants as outcome
 use Rattle.tmem_tentative.specs.declared.attempt.Progress.TheVariants.{Ended}
 use Rattle.tmem_tentative.specs.Cursors.{given, outcome_of, Answered}
@@ -14,24 +15,23 @@ pub returns-in-Need-clause-within : goal.returns-in-Need-clause-within
 returns-in-Need-clause-within g c = λ vars fits.
     subst (λ p. IsWithin vars (outcome_of c.advance.new.self p)) c.in-Need.is (c.in_ok-var.ensures.within vars fits)
 
-pub returns-in_ok-copy_of-in-Ended-clause-right : goal.returns-in_ok-copy_of-in-Ended-clause-right
-returns-in_ok-copy_of-in-Ended-clause-right g c = λ m stated.
+pub returns-in-Ended-clause-right : goal.returns-in-Ended-clause-right
+returns-in-Ended-clause-right g c = λ m stated.
     let plan = c.args.plan.now in
     let new = c.advance.new.self in
-    let copy = c.in_ok-copy_of-in-Ended.field-0 in
-    let same = c.in_ok-copy_of-in-Ended.ensures in
+    let reads = c.in_ok-reads.ensures ∙ sym c.advance.ensures.given in
     let ended = subst (λ p. Answered new p) c.in-Ended.is c.in_ok-var.ensures.answered in
-    made_right m plan (given new) (outcome.Ended copy)
-    (copy_made _ new.attempt copy same.reads same.ending same.registers same.effect (at_made m plan new Ended (c.advance.ensures.at m stated) ended))
+    let copy : Attempt = record { reads = c.in_ok-reads.reads; ending = new.attempt.ending; registers = new.attempt.registers; effect = c.copy.result } in
+    made_right m plan (given new) (outcome.Ended copy) (copy_made _ new.attempt copy reads refl refl c.copy.ensures (at_made m plan new Ended (c.advance.ensures.at m stated) ended))
 
-pub returns-in_ok-copy_of-in-Ended-clause-within : goal.returns-in_ok-copy_of-in-Ended-clause-within
-returns-in_ok-copy_of-in-Ended-clause-within g c = λ vars fits.
-    let same = c.in_ok-copy_of-in-Ended.ensures in
-    let is = subst (λ p. IsWithin vars (outcome_of c.advance.new.self p)) c.in-Ended.is (c.in_ok-var.ensures.within vars fits) in
-    (subst (λ es. All (λ var. var < vars) (keys_of es)) (sym same.reads) is.0, subst (λ e. All (λ var. var < vars) (keys_of e.writes)) (sym same.effect) is.1)
+pub returns-in-Ended-clause-within : goal.returns-in-Ended-clause-within
+returns-in-Ended-clause-within g c = λ vars fits.
+    let new = c.advance.new.self in
+    let reads = c.in_ok-reads.ensures ∙ sym c.advance.ensures.given in
+    let is = subst (λ p. IsWithin vars (outcome_of new p)) c.in-Ended.is (c.in_ok-var.ensures.within vars fits) in
+    (subst (λ es. All (λ var. var < vars) (keys_of es)) (sym reads) is.0, subst (λ e. All (λ var. var < vars) (keys_of e.writes)) (sym c.copy.ensures) is.1)
 
-pub returns-in_ok-copy_of-in-Ended-clause-named : goal.returns-in_ok-copy_of-in-Ended-clause-named
-returns-in_ok-copy_of-in-Ended-clause-named g c = λ names fits.
-    let same = c.in_ok-copy_of-in-Ended.ensures in
+pub returns-in-Ended-clause-named : goal.returns-in-Ended-clause-named
+returns-in-Ended-clause-named g c = λ names fits.
     let is = subst (λ p. IsNamed names (outcome_of c.advance.new.self p)) c.in-Ended.is (c.in_ok-var.ensures.named names fits) in
-    subst (λ e. All (λ name. has_name names name ≡ true) e.names) (sym same.effect) is
+    subst (λ e. All (λ name. has_name names name ≡ true) e.names) (sym c.copy.ensures) is

@@ -4,8 +4,8 @@ use Rattle.tmem_disk.specs.declared.fault.Fault.TheVariants.{Memory}
 use Rattle.tmem_core.specs.Program.{IsProgramOf}
 use Rattle.tmem_journal.specs.Held as journal
 use Rattle.tmem_opening.specs.Held.{found_of, position_of, device_of}
-use Rattle.tmem_opening.specs.Opening.{Mending, OpeningRefused}
-use Rattle.tmem_opening.proofs.Laws.{only_failed, given_up}
+use Rattle.tmem_opening.specs.Opening.{Mending}
+use Rattle.tmem_opening.proofs.Laws.{only_failed, handed_back}
 use Rattle.tmem_world.specs.Chain.{IsSafe}
 use Rattle.tmem_world.proofs.Chains.{state_is, sound_is, not_refused, opening_moments, refused_back, given_back, begins}
 use Rattle.tmem_world.proofs.Laws.{opens_chain}
@@ -23,17 +23,18 @@ returns-in-Err-clause-chain g c = λ program h means store keeps.
     (λ un. (un.3 program means.invariants).1 (sound_is c.stands_for_one.ensures program c.args.vars c.args.slots store.fits.layout h old store safe un.0 un.1 (un.2 keeps))))
     so.uses.capacity so.uses.model so.mends
 
+-- of a world that is given up
 pub returns-in-Err-empty_slots-clause-mends : goal.returns-in-Err-empty_slots-clause-mends
 returns-in-Err-empty_slots-clause-mends g c =
-    subst (λ x. Mending c.args.vars c.args.slots (g.D.Disk.view c.args.disk) (g.D.Disk.view x)) (sym c.into_disk.ensures) c.in-Ok.ensures.mends
+    let so = c.in-Ok.ensures in
+    let x = c.in-Ok.opening in
+    (handed_back g.T.Invariants c.args.table _ _ (g.D.Disk.view c.args.disk) g.D.Disk.view c.into_disk.result _ c.into_disk.ensures so.uses so.fits.2 so.mends (position_of x) (found_of x) so.found so.sound).0
 
 pub returns-in-Err-empty_slots-clause-refused : goal.returns-in-Err-empty_slots-clause-refused
 returns-in-Err-empty_slots-clause-refused g c =
     let so = c.in-Ok.ensures in
     let x = c.in-Ok.opening in
-    let old = g.D.Disk.view c.args.disk in
-    subst (λ y. OpeningRefused (IsProgramOf g.T.Invariants c.args.table) c.args.vars c.args.slots old Memory (g.D.Disk.view y)) (sym c.into_disk.ensures)
-    (given_up g.T.Invariants c.args.table c.args.vars c.args.slots old (device_of x) so.uses so.fits.2 so.mends (position_of x) (found_of x) so.found so.sound)
+    (handed_back g.T.Invariants c.args.table _ _ (g.D.Disk.view c.args.disk) g.D.Disk.view c.into_disk.result _ c.into_disk.ensures so.uses so.fits.2 so.mends (position_of x) (found_of x) so.found so.sound).1
 
 pub returns-in-Err-empty_slots-clause-chain : goal.returns-in-Err-empty_slots-clause-chain
 returns-in-Err-empty_slots-clause-chain g c = λ program h means store keeps.
