@@ -1,5 +1,5 @@
 -- What follows from a refusal.
-use Rattle.std.proofs.Common.{inl, inr, ⊎_elim, ℕ, Ok, refl, sym, subst}
+use Rattle.std.proofs.Common.{◌≡◌, inl, inr, ⊎_elim, ℕ, Ok, refl, sym, subst}
 use Rattle.tmem_disk.specs.Disk.{DeviceView}
 use Rattle.tmem_disk.specs.declared.fault.Fault.{Fault}
 use Rattle.tmem_disk.specs.declared.fault.Fault.TheVariants as fault
