@@ -186,10 +186,11 @@ class Opened:
 
 
 class Run:
-    """A session of the program on a content."""
+    """A session of the program on a content. Of each checkpoint, `images` has the numbers of pages that it writes and that it leaves
+    out. The content is made of the state alone: a page that was left out has to be as if it was written."""
 
     def __init__(self, content, layout):
-        self.content, self.layout = content, layout
+        self.content, self.layout, self.images = content, layout, []
         self.open()
 
     def open(self):
@@ -197,18 +198,29 @@ class Run:
         # the present state, and what waits to be durable
         self.count, self.names, self.values = self.stored.count, self.stored.names, list(self.stored.values)
         self.waiting, self.attempts = [], {}
+        # the pages of each copy that may differ from the durable state
+        self.differing = [{*range(self.layout.pages)} for _ in range(2)]
         return f"opened {self.count}"
+
+    def reopen(self):
+        self.stored = None
+        try:
+            return self.open()
+        except Refused as refused:
+            return str(refused)
 
     def play(self, entry):
         """Plays an entry, and answers its line."""
+        if entry == "reopen":
+            return self.reopen()
+        if self.stored is None:
+            return "fault 3 closed"
         if entry == "show":
             return f"state count={self.count} names={','.join(self.names)} values={','.join(map(str, self.values))}"
         if entry == "look":
             return f"look {self.stored.count}"
         if entry in ("flush", "checkpoint"):
             return getattr(self, entry)()
-        if entry == "reopen":
-            return self.open()
         ((key, body),) = entry.items()
         return getattr(self, key)(*(body if key == "begin" else [body]))
 
@@ -269,6 +281,8 @@ class Run:
         self.content[at : at + 1 + len(body)] = bytes([OPEN]) + body
         for writes, names in self.waiting[: len(records)]:
             stored.apply(writes, names)
+            for differing in self.differing:
+                differing.update(var // 64 for var, _ in writes)
         del self.waiting[: len(records)]
         stored.used += 1
         return f"durable {stored.count}"
@@ -281,6 +295,9 @@ class Run:
         at = layout.image(stored.copy)
         image = bytes([OPEN]) + header(stored.generation, stored.count, stored.names) + pages(layout, stored.values)
         self.content[at : at + layout.size] = image
+        written = len(self.differing[stored.copy])
+        self.images.append((written, layout.pages - written))
+        self.differing[stored.copy] = set()
         for k in range(layout.slots):
             if self.content[layout.slot(k)] == OPEN:
                 self.content[layout.slot(k)] = 0

@@ -41,11 +41,10 @@ def depth(text):
 
 
 def has_surrogate(value):
+    """Whether a value has half of a surrogate pair. (An object was looked at by `pairs`.)"""
     if isinstance(value, str):
-        return any("\ud800" <= it <= "\udfff" for it in value)
-    if isinstance(value, dict):
-        return any(has_surrogate(it) for pair in value.items() for it in pair)
-    return isinstance(value, list) and any(has_surrogate(it) for it in value)
+        return re.search("[\ud800-\udfff]", value) is not None
+    return isinstance(value, list) and any(map(has_surrogate, value))
 
 
 def pairs(found):
