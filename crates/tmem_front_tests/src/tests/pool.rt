@@ -203,7 +203,11 @@ static SCENES: &[Line<'static>] = &[
     Before(ReleasePass, Done),
     Before(Acquire, Done),
     Before(NewPasses(40), Number(30)),
-    // in these three, where the core's lock is held too long, two threads wait for each other for ever, and the test does not end
+];
+
+// Where the core's lock is held too long here, two threads wait for each other for ever, if they come to it in one order: then the
+// test does not end.
+static ORDERS: &[Line<'static>] = &[
     Scene("a shut lets go of the core before it takes the pool"),
     Before(TryCommit(Task::Write(0, 1)), Committed(0)),
     Before(HoldSteps(3), Done),
@@ -274,4 +278,13 @@ static SCENES: &[Line<'static>] = &[
 #[test]
 fn passes_are_shared(rt: HostRuntime) -> Result<(), Fail> {
     play(&rt, rt.alloc(), SCENES)
+}
+
+#[test]
+fn the_core_is_let_go_before_the_pool_is_taken(rt: HostRuntime) -> Result<(), Fail> {
+    // several times, since one play has one order
+    for _ in 0..4 {
+        play(&rt, rt.alloc(), ORDERS)?;
+    }
+    Ok(())
 }
