@@ -71,7 +71,7 @@ FailsWith status IsRead disk device = (f : Failure) × (status_of f ≡ status) 
 -- With a path a file was made. (That the workers counted there is tested.)
 abbrev pub IsMadeAt : Option Text → Type 0
 IsMadeAt None = ⊤
-IsMadeAt (Some path) = (made : FileDisk) × IsMade VARS SLOTS made
+IsMadeAt (Some path) = (blank : FileDisk) × (made : FileDisk) × IsMade VARS SLOTS blank made
 
 -- Workers counted up in a store that was opened in some state, and three totals were printed, of which the first is at
 -- most what the work allows.

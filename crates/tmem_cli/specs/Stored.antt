@@ -1,7 +1,8 @@
 -- What becomes of a script that is played on a device, and on that of a file.
 use Rattle.std.specs.Prelude.{◌≡◌, ◌⊎◌, ℕ, List, Option, Some, None}
 use Rattle.std.specs.Io.KnownBytes.{Appends}
-use Rattle.tmem_disk.specs.Disk.{DeviceView, LeavesOnly}
+use Rattle.std.specs.declared.snapshot.Snapshot.{Snapshot}
+use Rattle.tmem_disk.specs.Disk.{DeviceView, LeavesOnly, Elapses, Rewritten}
 use Rattle.tmem_disk.specs.Start.{IsNewDevice}
 use Rattle.tmem_disk.specs.declared.fault.Fault.{Fault}
 use Rattle.tmem_disk.specs.declared.fault.Fault.TheVariants as fault
@@ -51,11 +52,12 @@ RefusesOver view vars slots old new f =
 abbrev pub StopsOver : {D : Type 0} → (D → DeviceView) → ℕ → ℕ → List Entry → D → D → Failure → Type 0
 StopsOver view vars slots entries old new f = (f ≡ failure.Output) × LeavesStore vars slots entries (view old) (view new)
 
--- A file that was made: of zeros, which were formatted and synced. (That it got its name is tested.)
-pub record IsMade (vars slots : ℕ) (made : FileDisk) : Type 0 where
-  pub blank : FileDisk
+-- A file that was made of this one, which was zeros: they were formatted and synced. It came of them: what a crash since some moment
+-- before might have left of the zeros, it might have left of this one. (That it got its name is tested.)
+pub record IsMade (vars slots : ℕ) (blank made : FileDisk) : Type 0 where
   pub zeros : IsNewDevice (end_place vars slots) (view_of blank)
   pub formatted : FileDisk
+  pub written : Elapses (view_of blank) (view_of formatted) (Rewritten 0 (end_place vars slots) (view_of blank))
   pub capacity : (view_of formatted).capacity ≡ (view_of blank).capacity
   pub model : (view_of formatted).keeps_model → (view_of blank).keeps_model
   pub stands : LeavesOnly (view_of formatted) (StandsFor vars slots first_position (first_state vars))
@@ -63,9 +65,10 @@ pub record IsMade (vars slots : ℕ) (made : FileDisk) : Type 0 where
   -- so it is a store without a history
   pub store : IsStore (builtin_program vars) vars slots no_history (view_of made)
 
--- a file that was there and is as it was found, or one that was made
-abbrev pub IsFoundOrMade : ℕ → ℕ → FileDisk → Type 0
-IsFoundOrMade vars slots disk = IsOpened (view_of disk) ⊎ IsMade vars slots disk
+-- a file that was there and is as it was found, or one that was made of these zeros
+abbrev pub IsFoundOrMade : ℕ → ℕ → Option (Snapshot FileDisk) → FileDisk → Type 0
+IsFoundOrMade vars slots None disk = IsOpened (view_of disk)
+IsFoundOrMade vars slots (Some zeros) disk = IsMade vars slots zeros.value disk
 
 -- A script was played in memory on an empty store, or with a path on the store of a file, from how its device was found to what it
 -- became.
@@ -73,7 +76,7 @@ abbrev pub PlaysWhere : Option (List ℕ) → Option Played → ℕ → ℕ → 
 PlaysWhere None left vars slots entries before after = PlaysScript vars slots entries before after
 PlaysWhere (Some path) None vars slots entries before after = ⊥
 PlaysWhere (Some path) (Some it) vars slots entries before after =
-    IsFoundOrMade vars slots it.found.value × PlaysOver view_of vars slots entries it.found.value it.left before after
+    IsFoundOrMade vars slots it.zeros it.found.value × PlaysOver view_of vars slots entries it.found.value it.left before after
 
 -- Why it was not played to its end: it was stopped; or, with a path, memory was refused or the device failed, and none is left;
 -- or the device of the file is handed back as it was found and as it was left, and the output failed, or its opening was refused.
@@ -81,7 +84,7 @@ abbrev pub StopsWhere : Option (List ℕ) → Option Played → ℕ → ℕ → 
 StopsWhere None left vars slots entries f = IsStop f
 StopsWhere (Some path) None vars slots entries f = (f ≡ failure.Refused fault.Memory) ⊎ (f ≡ failure.Refused fault.Device)
 StopsWhere (Some path) (Some it) vars slots entries f =
-    IsFoundOrMade vars slots it.found.value × (StopsOver view_of vars slots entries it.found.value it.left f ⊎ RefusesOver view_of vars slots it.found.value it.left f)
+    IsFoundOrMade vars slots it.zeros it.found.value × (StopsOver view_of vars slots entries it.found.value it.left f ⊎ RefusesOver view_of vars slots it.found.value it.left f)
 
 -- Why a script that was read was not played to its end: its numbers are out of limits, and there is no device; or that.
 abbrev pub StopsPlaying : Option (List ℕ) → Option Played → ℕ → ℕ → List Entry → Failure → Type 0

@@ -25,6 +25,6 @@ pub(crate) fn count_on<R: Files<File = File> + AllocGlobal + Threads + Wait + Cl
     let layout = Layout::new(VARS, SLOTS)?;
     match path {
         None => count_up(rt, rt.alloc(), device_in_memory(rt.alloc(), layout)?, work),
-        Some(path) => count_up(rt, rt.alloc(), made_file(rt, path, layout)?, work),
+        Some(path) => count_up(rt, rt.alloc(), made_file(rt, path, layout)?.0, work),
     }
 }

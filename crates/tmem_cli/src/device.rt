@@ -10,6 +10,7 @@ ghost use Rattle.tmem_cli.specs.Stored.{IsMade, IsFoundOrMade};
 
 use std::alloc::Global;
 use std::fs::{self, File, Files};
+use std::snapshot::Snapshot;
 use tmem_disk::{Fault, SimDisk};
 use tmem_file::{FileDisk, NewFile};
 use tmem_world::{Layout, format, formatted_is_store};
@@ -26,37 +27,43 @@ pub(crate) fn device_in_memory(alloc: Global, layout: Layout) -> Result<SimDisk,
     Ok(disk)
 }
 
-/// The device of a file: opened as it is where the path is that of a file, and else made.
+/// The device of a file: opened as it is where the path is that of a file, and else made. Beside it stand the zeros that it was
+/// made of.
 pub(crate) fn device_in_file<R: Files<File = File> + AllocGlobal>(
     rt: &R,
     path: &str,
     layout: Layout,
-) -> Result<FileDisk, Fault>
-    ensures device { IfOk result (IsFoundOrMade layout.vars layout.slots) }
-    ensures failures { IfOk result (λ disk. (file_of disk).failures ≡ 0) }
+) -> Result<(FileDisk, Option<Snapshot<FileDisk>>), Fault>
+    ensures device { IfOk result (λ it. IsFoundOrMade layout.vars layout.slots it.1 it.0) }
+    ensures failures { IfOk result (λ it. (file_of it.0).failures ≡ 0) }
     ensures refused { IfErr result (λ fault. (fault ≡ Fault.Memory) ⊎ (fault ≡ Fault.Device)) }
 {
     match fs::exists(rt, path) {
-        Ok(true) => FileDisk::open(rt, path),
-        Ok(false) => made_file(rt, path, layout),
+        Ok(true) => Ok((FileDisk::open(rt, path)?, None)),
+        Ok(false) => {
+            let (disk, zeros) = made_file(rt, path, layout)?;
+            Ok((disk, Some(zeros)))
+        }
         Err(_) => Err(Fault::Device),
     }
 }
 
-/// A new file, which gets this path once it is formatted. Refused by `Device` where something has the path.
+/// A new file, which gets this path once it is formatted, and the zeros that it was made of. Refused by `Device` where something
+/// has the path.
 pub(crate) fn made_file<R: Files<File = File> + AllocGlobal>(
     rt: &R,
     path: &str,
     layout: Layout,
-) -> Result<FileDisk, Fault>
-    ensures made { IfOk result (IsMade layout.vars layout.slots) }
-    ensures failures { IfOk result (λ disk. (file_of disk).failures ≡ 0) }
+) -> Result<(FileDisk, Snapshot<FileDisk>), Fault>
+    ensures made { IfOk result (λ it. IsMade layout.vars layout.slots it.1.value it.0) }
+    ensures failures { IfOk result (λ it. (file_of it.0).failures ≡ 0) }
     ensures refused { IfErr result (λ fault. (fault ≡ Fault.Memory) ⊎ (fault ≡ Fault.Device)) }
 {
     formatted_is_store::<FileDisk>();
     let mut new = NewFile::create(rt, path, layout.end())?;
+    let zeros = Snapshot::of(&new.disk);
     match format(&mut new.disk, layout.vars, layout.slots) {
-        Ok(()) => new.place(rt),
+        Ok(()) => Ok((new.place(rt)?, zeros)),
         Err(fault) => {
             new.discard(rt);
             Err(fault)

@@ -28,6 +28,8 @@ use tmem_world::{Layout, Reply, World};
 /// The device of a file that a script was played on.
 #[derive(Drop)]
 pub struct Played {
+    /// Where a file was made, the zeros that it was made of: for clauses alone, as the next one is.
+    pub zeros: Option<Snapshot<FileDisk>>,
     /// The device as it was found or made, before the script was played: for clauses alone, it takes no memory.
     pub found: Snapshot<FileDisk>,
     /// The device that it became.
@@ -126,10 +128,10 @@ fn play_with<
             play_on(rt.alloc(), disk, layout, entries, table, steps, out).1
         }
         Some(path) => {
-            let disk = device_in_file(rt, path, layout)?;
+            let (disk, zeros) = device_in_file(rt, path, layout)?;
             let found = Snapshot::of(&disk);
             let (left, outcome) = play_on(rt.alloc(), disk, layout, entries, table, steps, out);
-            *device = Some(Played { found, left });
+            *device = Some(Played { zeros, found, left });
             outcome
         }
     }

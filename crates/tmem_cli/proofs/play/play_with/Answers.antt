@@ -39,19 +39,21 @@ pub returns-in_ok-disk-in-Some-clause-played : goal.returns-in_ok-disk-in-Some-c
 returns-in_ok-disk-in-Some-clause-played g c =
     let layout = c.args.layout in
     let went = c.play_on-left in
+    let zeros = c.in_ok-disk-in-Some.zeros in
     let before = g.W.Write.contents c.args.out.now in
     let after = g.W.Write.contents went.new.out in
-    subst (λ (p : Option (Bor (List ℕ))). OnOk went.result.1 (PlaysWhere (option_map (λ (t : Bor (List ℕ)). t.now) p) (Some (record { found = c.of-found.result; left = went.result.0 })) layout.vars layout.slots c.args.entries.items before after)) (sym c.in-Some.is)
+    subst (λ (p : Option (Bor (List ℕ))). OnOk went.result.1 (PlaysWhere (option_map (λ (t : Bor (List ℕ)). t.now) p) (Some (record { zeros = zeros; found = c.of-found.result; left = went.result.0 })) layout.vars layout.slots c.args.entries.items before after)) (sym c.in-Some.is)
     (on_ok_weaker went.result.1
-    (λ it. subst (λ (d : FileDisk). IsFoundOrMade layout.vars layout.slots d × PlaysOver view_of layout.vars layout.slots c.args.entries.items d went.result.0 before after) (sym c.of-found.ensures) (c.in_ok-disk-in-Some.ensures.device, it))
+    (λ it. subst (λ (d : FileDisk). IsFoundOrMade layout.vars layout.slots zeros d × PlaysOver view_of layout.vars layout.slots c.args.entries.items d went.result.0 before after) (sym c.of-found.ensures) (c.in_ok-disk-in-Some.ensures.device, it))
     went.ensures.played)
 
 pub returns-in_ok-disk-in-Some-clause-failed : goal.returns-in_ok-disk-in-Some-clause-failed
 returns-in_ok-disk-in-Some-clause-failed g c =
     let layout = c.args.layout in
     let went = c.play_on-left in
-    subst (λ (p : Option (Bor (List ℕ))). IfErr went.result.1 (StopsWhere (option_map (λ (t : Bor (List ℕ)). t.now) p) (Some (record { found = c.of-found.result; left = went.result.0 })) layout.vars layout.slots c.args.entries.items)) (sym c.in-Some.is)
+    let zeros = c.in_ok-disk-in-Some.zeros in
+    subst (λ (p : Option (Bor (List ℕ))). IfErr went.result.1 (StopsWhere (option_map (λ (t : Bor (List ℕ)). t.now) p) (Some (record { zeros = zeros; found = c.of-found.result; left = went.result.0 })) layout.vars layout.slots c.args.entries.items)) (sym c.in-Some.is)
     (IfErr-weaker went.result.1 _ _
-    (λ failure why. subst (λ (d : FileDisk). IsFoundOrMade layout.vars layout.slots d × (StopsOver view_of layout.vars layout.slots c.args.entries.items d went.result.0 failure ⊎ RefusesOver view_of layout.vars layout.slots d went.result.0 failure)) (sym c.of-found.ensures)
+    (λ failure why. subst (λ (d : FileDisk). IsFoundOrMade layout.vars layout.slots zeros d × (StopsOver view_of layout.vars layout.slots c.args.entries.items d went.result.0 failure ⊎ RefusesOver view_of layout.vars layout.slots d went.result.0 failure)) (sym c.of-found.ensures)
     (c.in_ok-disk-in-Some.ensures.device, why))
     went.ensures.failed)
