@@ -209,8 +209,8 @@ module _ {D T S : Type 0} {d t s : _} (w new : World D T S d t s) (vars slots : 
         record {
           found = n;
           position = opened.found.1;
-          failures = old.failures;
           prefix = opened.found.2;
+          stands = opened.found.4;
           replies = go.replies;
           rest = it.0;
           end = go.end;
@@ -225,8 +225,8 @@ module _ {D T S : Type 0} {d t s : _} (w new : World D T S d t s) (vars slots : 
                 (either_time old (view_of w) (view_of new) _ kept.model mends.elsewhere.time.later within.time k c left);
           };
           chain = λ earlier chain.
-              grows (builtin_setting vars slots) at (history_found n h) (events_of es) go.replies go.end go.reached (runs_of (builtin_setting vars slots) at (history_found n h) es go.replies it.0 go.end go.reached prints) vars slots earlier (just_opened (builtin_setting vars slots) n opened.found.1 old.failures) refl
-              (subst (λ (x : Setting). IsChainAt vars slots earlier (just_opened x n opened.found.1 old.failures) (history_found n h) at) set (opened.found.4 earlier chain));
+              grows (builtin_setting vars slots) at (history_found n h) (events_of es) go.replies go.end go.reached (runs_of (builtin_setting vars slots) at (history_found n h) es go.replies it.0 go.end go.reached prints) vars slots earlier (just_opened (builtin_setting vars slots) old.seen n opened.found.1 old.failures) refl
+              (subst (λ (x : Setting). IsChainAt vars slots earlier (just_opened x old.seen n opened.found.1 old.failures) (history_found n h) at) set (opened.found.5 earlier chain));
         },
         it.2,
       )

@@ -4,7 +4,7 @@ use Rattle.tmem_disk.specs.Disk.{DeviceView, AtEachMoment, IsSynced}
 use Rattle.tmem_event.specs.declared.event.Event.{Event}
 use Rattle.tmem_event.specs.declared.event.Reply.{Reply}
 use Rattle.tmem_event.specs.declared.event.Reply.TheVariants as reply
-use Rattle.tmem_journal.specs.Stands.{Position}
+use Rattle.tmem_journal.specs.Stands.{Position, StandsFor}
 use Rattle.tmem_script.specs.Lines.{line_of}
 use Rattle.tmem_script.specs.declared.script.Entry.{Entry}
 use Rattle.tmem_script.specs.declared.script.Entry.TheVariants as entry
@@ -76,20 +76,21 @@ PlaysFirstOn old entries new = (first : List Entry) × IsFirstOf first entries �
 pub record PlaysStore (vars slots : ℕ) (h : History) (entries : List Entry) (text : List ℕ) (old new : DeviceView) : Type 0 where
   pub found : ℕ
   pub position : Position
-  pub failures : ℕ
   pub prefix : IsSafePrefix (builtin_program vars) vars h found
+  -- at that position is what a read of the device gave
+  pub stands : StandsFor vars slots position (state_at (builtin_program vars) vars h found) old.seen
   pub replies : List Reply
   pub rest : List ℕ
   pub end : WorldModel
   pub reached : History
   pub printed : text ≡ line (line_of (reply.Opened found)) ++ rest
-  pub prints : PrintsOn (builtin_setting vars slots) (opening (state_at (builtin_program vars) vars h found) position failures) (history_found found h) entries replies rest end reached
+  pub prints : PrintsOn (builtin_setting vars slots) (opening (state_at (builtin_program vars) vars h found) position old.failures) (history_found found h) entries replies rest end reached
   pub store : IsStore (builtin_program vars) vars slots reached new
   pub any_moment : AtEachMoment old new (λ c. IsSafe (builtin_program vars) vars slots h c
-      ⊎ ∥ IsSafeAmong (builtin_setting vars slots) (opening (state_at (builtin_program vars) vars h found) position failures) (history_found found h) entries replies end reached c ∥₁)
+      ⊎ ∥ IsSafeAmong (builtin_setting vars slots) (opening (state_at (builtin_program vars) vars h found) position old.failures) (history_found found h) entries replies end reached c ∥₁)
   -- the run is the next session of each chain that led to the history
   pub chain : (earlier : List SessionRun) → IsChain vars slots earlier h
-      → IsChainAt vars slots earlier (record { set = builtin_setting vars slots; found = found; position = position; failures = failures; events = events_of entries; replies = replies }) reached end
+      → IsChainAt vars slots earlier (record { set = builtin_setting vars slots; content = old.seen; found = found; position = position; failures = old.failures; events = events_of entries; replies = replies }) reached end
 
 -- The session of an initial part of these entries is the last one of each chain that led to the history, and the device is a store
 -- with what they made of it.

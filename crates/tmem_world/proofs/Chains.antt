@@ -21,20 +21,44 @@ use Rattle.tmem_journal.specs.Refusals.{IsRefusedBy}
 use Rattle.tmem_journal.specs.Stands.{Position, StandsFor}
 use Rattle.tmem_opening.specs.Opening.{Mending, IsFailure}
 use Rattle.tmem_event.specs.declared.event.Event.{Event}
+use Rattle.tmem_event.specs.declared.event.Event.TheVariants as event
 use Rattle.tmem_event.specs.declared.event.Reply.{Reply}
+use Rattle.tmem_event.specs.declared.event.Reply.TheVariants as reply
+use Rattle.tmem_world.specs.declared.held.Held.{Held}
+use Rattle.tmem_world.specs.declared.held.Held.TheVariants.{With, Without}
 use Rattle.tmem_world.specs.declared.world.World.{World}
-use Rattle.tmem_world.specs.WorldModel.{opening}
+use Rattle.tmem_world.specs.AnyDevice.{Reopens}
+use Rattle.tmem_world.specs.WorldModel.{WorldModel, Open, Gone, opening, present}
 use Rattle.tmem_world.specs.EachPlayed.{IsAnswered}
-use Rattle.tmem_world.specs.Represents.{Represents, KeepsSetting, IsStep, EachMoment, StandsCut, setting_of}
-use Rattle.tmem_world.specs.Chain.{History, IsSafePrefix, IsSafe, IsStore, GoesOn, Carries, no_history, state_at, history_after, history_found, OpensStore, StepsOn}
-use Rattle.tmem_world.proofs.Laws.{rests_on, runs_on-one, grows, count_at}
+use Rattle.tmem_world.specs.Represents.{Represents, Means, HasSession, KeepsSetting, IsStep, EachMoment, StandsCut, setting_of, held_of, view_of}
+use Rattle.tmem_world.specs.Chain.{History, IsSafePrefix, IsSafe, IsStore, GoesOn, Carries, no_history, state_at, history_after, history_found, OpensStore, FindsIn, StepsOn}
+use Rattle.tmem_world.proofs.Laws.{means_stay, rests_on, runs_on-one, grows, count_at}
 use Rattle.tmem_world.proofs.Prefixes.{safe-prop, goes_on_from, mended_safe, point_safe, carries}
 use Rattle.tmem_world.proofs.Histories.{moves, goes_on_next}
 
+-- a session is at one position, with one present state
+same_place : {D T : Type 0} {d t : _} (program : Program) (h : Held D T d t) (m x : WorldModel) → HasSession program h m → HasSession program h x → x.session ≡ Open → (x.position ≡ m.position) × (present program x ≡ present program m)
+same_place program (With o) m x at now is = (sym now.position ∙ at.position, sym now.state ∙ at.state)
+same_place program (Without left) m x at now is = absurd (not_open (sym now ∙ is))
+  where
+    not_open : Gone ≡ Open → ⊥
+    not_open e = cc
+
+module _ {D T S : Type 0} {d t s : _} (w w' : World D T S d t s) (kept : KeepsSetting w w') (program : Program) (m : WorldModel) (at : Represents program w' m) (means : Means w' program) (keeps : (view_of w').keeps_model) where
+  -- what a Reopen found is at the position of what a read gave
+  finds_in : (e : Event) (r : Reply) → Reopens w e r w' → FindsIn (setting_of w program) (view_of w).seen e r m
+  finds_in event.Reopen (reply.Opened n) it =
+      let same = same_place program (held_of w') m (opening it.0 it.1 (view_of w).failures) at.session (it.3 program means).session refl in
+      subst (λ (p : Position). StandsFor w.layout.vars w.layout.slots p (present program m) (view_of w).seen) same.0
+      (subst (λ (x : State). StandsFor w.layout.vars w.layout.slots it.1 x (view_of w).seen) same.1
+      (subst (λ (l : Layout). StandsFor l.vars l.slots it.1 it.0 (view_of w).seen) kept.numbers (it.4 keeps)))
+  finds_in event.Reopen _ it = tt
+  finds_in _ r it = tt
+
 module _ {D T S : Type 0} {d t s : _} (w w' : World D T S d t s) (e : Event) (r : Reply) (kept : KeepsSetting w w') where
   -- by what an event is answered, and what a crash leaves in it
-  steps_on : IsStep w e r w' → EachMoment w w' → StepsOn w e r w'
-  steps_on step during = λ program stated h m has keeps.
+  steps_on : IsStep w e r w' → Reopens w e r w' → EachMoment w w' → StepsOn w e r w'
+  steps_on step again during = λ program stated h m has keeps.
       let now = step program stated m has.point (rests_on _ e keeps) in
       let m' = now.0 in
       let h' = history_after m e r m' h in
@@ -50,11 +74,12 @@ module _ {D T S : Type 0} {d t s : _} (w w' : World D T S d t s) (e : Event) (r 
               (λ (it : StandsCut program vars slots m' c). inr (point_safe program vars h' m' goes now.2.numbers slots c it)));
         },
         grows (setting_of w program) m h (e ∷ []) (r ∷ []) m' h' (runs_on-one (setting_of w program) m h e r m' now.1),
+        finds_in w w' kept program m' now.2 (means_stay w w' program kept stated) keeps e r again,
       )
 
 -- so the history goes on by an event that was answered so
 pub answered_on : {D T S : Type 0} {d t s : _} (w w' : World D T S d t s) (e e' : Event) (r : Reply) → e ≡ e' → IsAnswered w e' r w' → StepsOn w e r w'
-answered_on w w' e e' r is it = subst (λ (x : Event). StepsOn w x r w') (sym is) (steps_on w w' e' r it.kept it.step it.any_moment)
+answered_on w w' e e' r is it = subst (λ (x : Event). StepsOn w x r w') (sym is) (steps_on w w' e' r it.kept it.step it.reopened it.any_moment)
 
 -- A store is opened.
 module _ (one : StandsForOne) (program : Program) (vars slots : ℕ) (layout : IsLayout vars slots) (h : History) (old : DeviceView) (store : IsStore program vars slots h old) (safe : IsSafe program vars slots h old.seen) where

@@ -113,19 +113,19 @@ module _ (m : WorldModel) where
   settles program slot (Ended plan reads) here = settles_ended slot plan reads here (judged (is_closed m.session) (present program m) m.durable reads (verdict program plan (present program m)))
   settles program slot _ here = stays m _ _ _ _ refl (λ txs. refl) refl refl (omega arith) (omega arith)
 
-  reopens : (program : Program) → IsNumbered program m → (r : Reply) (m' : WorldModel) → AllowsReopen m r m' → Moves m event.Reopen r m'
-  reopens program numbers (reply.Opened n) m' is =
+  reopens : (set : Setting) → IsNumbered set.program m → (r : Reply) (m' : WorldModel) → AllowsReopen set m r m' → Moves m event.Reopen r m'
+  reopens set numbers (reply.Opened n) m' is =
       let from : m.durable ≤ n = ⊎_elim (λ (same : n ≡ m.durable). omega (arith, same)) (λ (same : n ≡ m.doubtful). omega (arith, same, numbers.durable)) is.0 in
-      subst (Moves m event.Reopen (reply.Opened n)) (sym is.1.2) (record {
+      subst (Moves m event.Reopen (reply.Opened n)) (sym is.1.3) (record {
         opened = refl;
         accepted = λ found count. take_behind found m.accepted n (n - m.opened.count) (omega (arith, count, numbers.opened, from));
         acknowledged = omega arith;
         durable = from;
       })
-  reopens program numbers (reply.Fault fault.Memory) m' is = stays m _ (reply.Fault fault.Memory) m' _ is (λ txs. refl) refl refl (omega arith) (omega arith)
-  reopens program numbers (reply.Fault fault.Device) m' is = stays m _ (reply.Fault fault.Device) m' _ is (λ txs. refl) refl refl (omega arith) (omega arith)
-  reopens program numbers (reply.Fault _) m' is = absurd is
-  reopens program numbers _ m' is = absurd is
+  reopens set numbers (reply.Fault fault.Memory) m' is = stays m _ (reply.Fault fault.Memory) m' _ is (λ txs. refl) refl refl (omega arith) (omega arith)
+  reopens set numbers (reply.Fault fault.Device) m' is = stays m _ (reply.Fault fault.Device) m' _ is (λ txs. refl) refl refl (omega arith) (omega arith)
+  reopens set numbers (reply.Fault _) m' is = absurd is
+  reopens set numbers _ m' is = absurd is
 
 -- so it is of each event
 pub moves : (set : Setting) (m : WorldModel) → IsNumbered set.program m → (e : Event) (r : Reply) (m' : WorldModel) → Allows set m e r m' → Moves m e r m'
@@ -136,7 +136,7 @@ moves set m numbers (event.Settle slot) r m' is =
 moves set m numbers event.Flush r m' is = in_session m _ m.session r m' _ (λ txs. refl) (flushes m set.program set.slots m.session r m') is
 moves set m numbers event.Checkpoint r m' is = in_session m _ m.session r m' _ (λ txs. refl) (checkpoints m m.session r m') is
 moves set m numbers event.Look r m' is = in_session m _ m.session r m' _ (λ txs. refl) (unmoved m _ r (reply.Looked m.durable) m' (λ txs. refl) (omega arith)) is
-moves set m numbers event.Reopen r m' is = reopens m set.program numbers r m' is
+moves set m numbers event.Reopen r m' is = reopens m set numbers r m' is
 
 -- the run goes on with the next history
 pub goes_on_next : (program : Program) (m : WorldModel) (e : Event) (r : Reply) (m' : WorldModel) → Moves m e r m' → (vars : ℕ) (h : History) → GoesOn program vars h m → GoesOn program vars (history_after m e r m' h) m'

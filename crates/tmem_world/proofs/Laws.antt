@@ -1,5 +1,5 @@
 -- Laws of the definitions that callers rest on: what a world keeps, and how a chain of sessions goes on.
-use Rattle.std.proofs.Common.{◌≡◌, ℕ, ◌+◌, ◌*◌, List, [], ◌∷◌, ◌++◌, take, refl, sym, ◌∙◌, ap, subst, arith}
+use Rattle.std.proofs.Common.{◌≡◌, ℕ, ◌+◌, ◌*◌, ◌<◌, ◌^◌, List, [], ◌∷◌, ◌++◌, take, refl, sym, ◌∙◌, ap, subst, arith}
 use Rattle.std.proofs.lemmas.List.{length-take-le}
 use Rattle.tmem_disk.specs.Disk.{DeviceView, IsDevice}
 use Rattle.tmem_core.specs.Program.{Program, IsProgramOf}
@@ -11,7 +11,7 @@ use Rattle.tmem_gate.proofs.Laws.{WritesWithin-refl, WritesWithin-trans}
 use Rattle.tmem_event.specs.declared.event.Event.{Event}
 use Rattle.tmem_event.specs.declared.event.Event.TheVariants as event
 use Rattle.tmem_event.specs.declared.event.Reply.{Reply}
-use Rattle.tmem_journal.specs.Stands.{Position}
+use Rattle.tmem_journal.specs.Stands.{Position, StandsFor}
 use Rattle.tmem_world.specs.declared.world.World.{World}
 use Rattle.tmem_world.specs.Represents.{Means, KeepsSetting, RestsOn, WritesInStore, setting_of}
 use Rattle.tmem_world.specs.Chain.{History, IsSafePrefix, RunsOn, SessionRun, IsChain, IsChainAt, GrowsChain, just_opened, state_at, history_found, history_after}
@@ -71,19 +71,27 @@ grows set m h es rs m' h' so = λ vars slots earlier s same at. (
   at.0,
   at.1,
   at.2,
-  (
-    at.3.0,
-    runs_on-append s.set (opening (state_at s.set.program s.set.vars at.0 s.found) s.position s.failures) (history_found s.found at.0) s.events s.replies m h at.3.1 es rs m' h'
-        (subst (λ (x : Setting). RunsOn x m h es rs m' h') (sym same) so),
-  ),
+  record {
+    safe = at.3.safe;
+    stands = at.3.stands;
+    counted = at.3.counted;
+    run = runs_on-append s.set (opening (state_at s.set.program s.set.vars at.0 s.found) s.position s.failures) (history_found s.found at.0) s.events s.replies m h at.3.run es rs m' h'
+        (subst (λ (x : Setting). RunsOn x m h es rs m' h') (sym same) so);
+  },
 )
 
 -- the session that found it is the next of each chain that led to the history
-pub opens_chain : (set : Setting) (h : History) (vars slots : ℕ) → set.vars ≡ vars → set.slots ≡ slots → (n : ℕ) (position : Position) (failures : ℕ) → IsSafePrefix set.program vars h n
-    → (earlier : List SessionRun) → IsChain vars slots earlier h → IsChainAt vars slots earlier (just_opened set n position failures) (history_found n h) (opening (state_at set.program vars h n) position failures)
-opens_chain set h vars slots same log n position failures safe earlier chain =
-    subst (λ (v : ℕ). IsSafePrefix set.program v h n → IsChain v slots earlier h → IsChainAt v slots earlier (just_opened set n position failures) (history_found n h) (opening (state_at set.program v h n) position failures)) same
-    (λ is there. (h, there, (refl, log), (is, (refl, refl)))) safe chain
+pub opens_chain : (set : Setting) (h : History) (vars slots : ℕ) → set.vars ≡ vars → set.slots ≡ slots → (n : ℕ) (position : Position) (content : List ℕ) (failures : ℕ) → IsSafePrefix set.program vars h n
+    → StandsFor vars slots position (state_at set.program vars h n) content → failures < 2 ^ 64
+    → (earlier : List SessionRun) → IsChain vars slots earlier h → IsChainAt vars slots earlier (just_opened set content n position failures) (history_found n h) (opening (state_at set.program vars h n) position failures)
+opens_chain set h vars slots same log n position content failures safe stands counted earlier chain =
+    subst (λ (v : ℕ). IsSafePrefix set.program v h n → StandsFor v slots position (state_at set.program v h n) content → IsChain v slots earlier h → IsChainAt v slots earlier (just_opened set content n position failures) (history_found n h) (opening (state_at set.program v h n) position failures)) same
+    (λ is found there. (
+      h,
+      there,
+      (refl, log),
+      record { safe = is; stands = subst (λ (k : ℕ). StandsFor set.vars k position (state_at set.program set.vars h n) content) (sym log) found; counted = counted; run = (refl, refl) },
+    )) safe stands chain
 
 -- a safe prefix is as long as the count of the state after it
 pub count_at : (program : Program) (vars : ℕ) (h : History) (n : ℕ) → IsSafePrefix program vars h n → (state_at program vars h n).count ≡ n

@@ -1,5 +1,5 @@
 -- The point of a run after the device was opened again.
-use Rattle.std.proofs.Common.{◌≡◌, ◌⊎◌, inl, inr, ⊎_elim, ℕ, ◌+◌, ◌-◌, ◌≤◌, ◌^◌, Bool, true, false, length, take, refl, sym, ◌∙◌, ap, subst, arith}
+use Rattle.std.proofs.Common.{◌≡◌, ◌⊎◌, inl, inr, ⊎_elim, ℕ, ◌+◌, ◌-◌, ◌≤◌, ◌^◌, Bool, true, false, List, length, take, refl, sym, ◌∙◌, ap, subst, arith}
 use Rattle.std.specs.Prelude.{All, Ok, None}
 use Rattle.std.proofs.Math.Logic.{∥∥₁_elim}
 use Rattle.std.proofs.Props.{props}
@@ -35,8 +35,8 @@ use Rattle.tmem_record.specs.declared.layout.Layout.{Layout}
 use Rattle.tmem_world.specs.Parts.{disk_in, layout_in, table_in, IsWith}
 use Rattle.tmem_world.specs.AnyDevice.{dropped_by}
 use Rattle.tmem_world.specs.EachPlayed.{IsAnswered}
-use Rattle.tmem_world.specs.WorldModel.{WorldModel, SessionStatus, no_transactions, Open, cut, AllowsReopen, KeepsPosition}
-use Rattle.tmem_world.specs.Represents.{Represents, Means, KeepsSetting, HasSession, held_of, held_table, device_of, view_of, session_of}
+use Rattle.tmem_world.specs.WorldModel.{Setting, WorldModel, SessionStatus, no_transactions, Open, cut, AllowsReopen, KeepsPosition}
+use Rattle.tmem_world.specs.Represents.{Represents, Means, KeepsSetting, HasSession, held_of, held_table, device_of, view_of, session_of, setting_of}
 use Rattle.tmem_world.proofs.DroppedPoints.{no_slots_held, gone}
 use Rattle.tmem_world.proofs.Points.{in_point, mending_moments}
 use Rattle.tmem_world.proofs.OpenedPoints.{begun, opens}
@@ -49,11 +49,11 @@ abbrev found_at : WorldModel → ℕ → Position → WorldModel
 found_at m n position = record m { accepted = take (n - m.opened.count) m.accepted; durable = n; doubtful = n; position = position; slots = no_transactions; session = Open }
 
 -- opening was refused by want of memory, or since a call of the device failed
-failed : (m : WorldModel) (f : Fault) → IsFailure f → AllowsReopen m (reply.Fault f) (dropped_by f m)
-failed m f which = ⊎_elim (same fault.Memory refl) (same fault.Device refl) which
+failed : (set : Setting) (m : WorldModel) (f : Fault) → IsFailure f → AllowsReopen set m (reply.Fault f) (dropped_by f m)
+failed set m f which = ⊎_elim (same fault.Memory refl) (same fault.Device refl) which
   where
-    same : (g : Fault) → AllowsReopen m (reply.Fault g) (dropped_by g m) → f ≡ g → AllowsReopen m (reply.Fault f) (dropped_by f m)
-    same g so is = subst (λ (x : Fault). AllowsReopen m (reply.Fault x) (dropped_by x m)) (sym is) so
+    same : (g : Fault) → AllowsReopen set m (reply.Fault g) (dropped_by g m) → f ≡ g → AllowsReopen set m (reply.Fault f) (dropped_by f m)
+    same g so is = subst (λ (x : Fault). AllowsReopen set m (reply.Fault x) (dropped_by x m)) (sym is) so
 
 module _ {D T S : Type 0} {d t z : _} (program : Program) (w w' : World D T S d t z) (m : WorldModel) (r : Represents program w m) (layout : w'.layout ≡ w.layout)
     (emptied : All (λ (s : Slot). s.plan ≡ None) w'.slots.items) (sized : length w'.slots.items ≡ 16) where
@@ -77,8 +77,9 @@ module _ {D T S : Type 0} {d t z : _} (program : Program) (w w' : World D T S d 
         (λ (one : s ≡ cut program m m.durable). absurd (differ (ap (λ (x : State). x.count) one ∙ count-cut program m.opened m.accepted m.durable r.numbers.each r.numbers.opened durable_within)))
         (λ other. other))
 
-  module _ (x : Opening D T d t) (o : core.Session D T d t) (some : held_of w' ≡ With o) (same : o.core ≡ x.core) (kept : o.journal ≡ x.journal) (failures : (opened_device x).failures ≡ (view_of w).failures) where
-    found_as : KeepsPosition m.session m.position (position_of x) → (n : ℕ) → (n ≡ m.durable) ⊎ (n ≡ m.doubtful) → m.opened.count ≤ n → n ≤ m.opened.count + length m.accepted → found_of x ≡ cut program m n → (m' : WorldModel) × AllowsReopen m (reply.Opened (found_of x).count) m' × Represents program w' m'
+  module _ (x : Opening D T d t) (o : core.Session D T d t) (some : held_of w' ≡ With o) (same : o.core ≡ x.core) (kept : o.journal ≡ x.journal) (failures : (opened_device x).failures ≡ (view_of w).failures)
+      (content : List ℕ) (read : StandsFor w.layout.vars w.layout.slots (position_of x) (found_of x) content) where
+    found_as : KeepsPosition m.session m.position (position_of x) → (n : ℕ) → (n ≡ m.durable) ⊎ (n ≡ m.doubtful) → m.opened.count ≤ n → n ≤ m.opened.count + length m.accepted → found_of x ≡ cut program m n → (m' : WorldModel) × AllowsReopen (setting_of w program) m (reply.Opened (found_of x).count) m' × Represents program w' m'
     found_as still n which low high is =
         let k = n - m.opened.count in
         let le : k ≤ length m.accepted = omega (arith, high) in
@@ -91,12 +92,16 @@ module _ {D T S : Type 0} {d t z : _} (program : Program) (w w' : World D T S d 
         let point : Represents program w' m' = in_point program w' m' o some (begun program x o same kept m' is counted (sym (none_waits program k m.opened m.accepted r.numbers.each)) here refl refl refl)
         (record { opened = low; durable = omega arith; doubtful = omega (arith, length-take-le k m.accepted le, low); each = committed-take program k m.opened m.accepted r.numbers.each; sound = sound_cut })
         (no_slots_held program w'.slots.items sized emptied) (ap (λ (j : owner.Journal D d). (journal.device_of j).failures) kept ∙ failures ∙ r.failures) in
-        subst (λ (i : ℕ). (m' : WorldModel) × AllowsReopen m (reply.Opened i) m' × Represents program w' m') (sym counted) (m', (which, (position_of x, still, refl)), point)
+        subst (λ (i : ℕ). (m' : WorldModel) × AllowsReopen (setting_of w program) m (reply.Opened i) m' × Represents program w' m') (sym counted) (
+          m',
+          (which, (position_of x, still, (content, subst (λ (s : State). StandsFor w.layout.vars w.layout.slots (position_of x) s content) is read), refl)),
+          point,
+        )
 
     -- opening found a state of the run
-    pub found : KeepsPosition m.session m.position (position_of x) → ∥ (found_of x ≡ cut program m m.durable) ⊎ (found_of x ≡ cut program m m.doubtful) ∥₁ → (n : ℕ) → n ≡ (found_of x).count → (m' : WorldModel) × AllowsReopen m (reply.Opened n) m' × Represents program w' m'
+    pub found : KeepsPosition m.session m.position (position_of x) → ∥ (found_of x ≡ cut program m m.durable) ⊎ (found_of x ≡ cut program m m.doubtful) ∥₁ → (n : ℕ) → n ≡ (found_of x).count → (m' : WorldModel) × AllowsReopen (setting_of w program) m (reply.Opened n) m' × Represents program w' m'
     found still either n is =
-        subst (λ (i : ℕ). (m' : WorldModel) × AllowsReopen m (reply.Opened i) m' × Represents program w' m') (sym is) (⊎_elim
+        subst (λ (i : ℕ). (m' : WorldModel) × AllowsReopen (setting_of w program) m (reply.Opened i) m' × Represents program w' m') (sym is) (⊎_elim
         (λ (one : (found_of x).count ≡ m.durable).
         found_as still m.durable (inl refl) r.numbers.opened durable_within (by_durable (found_of x) either one))
         (λ differ.
@@ -155,7 +160,7 @@ module _ {D T S : Type 0} {d t z : _} (w w' : World D T S d t z) (kept : KeepsSe
       let point : (program : Program) (m : WorldModel) → Represents program w m → Represents program w' (dropped_by f m) =
       λ program m r. gone program w w' m r kept.numbers emptied sized it.mends.stop it.uses.model none (failures_after f m.failures) (it.uses.failures ∙ ap (failures_after f) r.failures) in
       record {
-        step = λ program means m r keeps. (dropped_by f m, failed m f (finds_cut program m r means (view_of w').keeps_model (λ a b. IsFailure f) recovers keeps), point program m r);
+        step = λ program means m r keeps. (dropped_by f m, failed (setting_of w program) m f (finds_cut program m r means (view_of w').keeps_model (λ a b. IsFailure f) recovers keeps), point program m r);
         reopened = record { refused = it; session = none; slots = emptied; point = point };
         any_moment = mending_moments w w' kept.numbers it.uses.model it.mends.any_moment;
         elsewhere = log_within w.layout.vars w.layout.slots (view_of w) (view_of w') it.mends.elsewhere;
@@ -175,7 +180,7 @@ module _ {D T S : Type 0} {d t z : _} (w w' : World D T S d t z) (kept : KeepsSe
       let counted : n ≡ (found_of x).count = count ∙ ap (λ (c : Core T t). (state_of c).count) same in
       let small : w.layout.vars ≤ 2 ^ 16 = omega (arith, w.layout.fits.vars_fit) in
       record {
-        step = λ program means m r keeps. found program w w' m r kept.numbers emptied sized x o some same begun it.uses.failures
+        step = λ program means m r keeps. found program w w' m r kept.numbers emptied sized x o some same begun it.uses.failures (view_of w).seen (it.found (model keeps))
             (position_kept one program m w.layout.vars w.layout.slots small (position_of x) (found_of x) (held_of w) r.session device (it.uses.model (model keeps)) w.same_vars w.same_slots (it.found (model keeps)))
             (finds_cut program m r means (opened_device x).keeps_model (λ a b. ∥ (found_of x ≡ a) ⊎ (found_of x ≡ b) ∥₁) it.recovers (model keeps)) n counted;
         reopened = (

@@ -1,6 +1,6 @@
 -- Chains of sessions: a device is formatted, opened, played on, left by a crash or given back, opened again, and so on.
 -- What was accepted and acknowledged through all of that, and what a crash may leave of it.
-use Rattle.std.specs.Prelude.{◌≡◌, ◌≤◌, ℕ, max, List, [], ◌∷◌, ◌++◌, length, take, Result, Ok, Err, ◌⊎◌}
+use Rattle.std.specs.Prelude.{◌≡◌, ◌<◌, ◌≤◌, ◌^◌, ⊤, ℕ, max, List, [], ◌∷◌, ◌++◌, length, take, Result, Ok, Err, ◌⊎◌}
 use Rattle.tmem_disk.specs.Disk.{DeviceView, LeavesOnly, AtEachMoment, IsSynced}
 use Rattle.tmem_disk.specs.declared.fault.Fault.{Fault}
 use Rattle.tmem_disk.specs.declared.fault.Fault.TheVariants.{Memory, Device}
@@ -115,10 +115,11 @@ RunsOn set m h (e ∷ es) (r ∷ rs) m' h' = (x : WorldModel) × Allows set m e 
 RunsOn set m h [] (r ∷ rs) m' h' = ⊥
 RunsOn set m h (e ∷ es) [] m' h' = ⊥
 
--- One session of a chain: what it was opened with; how many transactions its opening found, at which position of the device, and how
--- many calls of that had failed by then; and its events with their replies.
+-- One session of a chain: what it was opened with; the content that a read of the device gave then; how many transactions its opening
+-- found in that, at which position of the device, and how many calls of that had failed by then; and its events with their replies.
 pub record SessionRun : Type 0 where
   pub set : Setting
+  pub content : List ℕ
   pub found : ℕ
   pub position : Position
   pub failures : ℕ
@@ -130,11 +131,14 @@ abbrev pub IsOver : ℕ → ℕ → Setting → Type 0
 IsOver vars slots set = (set.vars ≡ vars) × (set.slots ≡ slots)
 
 -- A session on a store with this history: it found the state after a prefix that is safe by its own program, and its replies are a
--- run of the model from there to this point, with the history that it reached.
-abbrev pub IsSessionOn : History → SessionRun → History → WorldModel → Type 0
-IsSessionOn before s h m =
-    IsSafePrefix s.set.program s.set.vars before s.found
-    × RunsOn s.set (opening (state_at s.set.program s.set.vars before s.found) s.position s.failures) (history_found s.found before) s.events s.replies m h
+-- run of the model from there to this point, with the history that it reached. The content that it found stands for that state, at
+-- the position where the run begins: so its log is full where a first flush is told so. And the failed calls are so many as a device
+-- counts.
+pub record IsSessionOn (before : History) (s : SessionRun) (h : History) (m : WorldModel) : Type 0 where
+  pub safe : IsSafePrefix s.set.program s.set.vars before s.found
+  pub stands : StandsFor s.set.vars s.set.slots s.position (state_at s.set.program s.set.vars before s.found) s.content
+  pub counted : s.failures < 2 ^ 64
+  pub run : RunsOn s.set (opening (state_at s.set.program s.set.vars before s.found) s.position s.failures) (history_found s.found before) s.events s.replies m h
 
 -- These sessions, the last one first, lead from a device that was formatted for so many variables and log slots to this history. Each
 -- has a program of its own.
@@ -147,8 +151,8 @@ abbrev pub IsChainAt : ℕ → ℕ → List SessionRun → SessionRun → Histor
 IsChainAt vars slots earlier s h m = (before : History) × IsChain vars slots earlier before × IsOver vars slots s.set × IsSessionOn before s h m
 
 -- a session that was just opened
-abbrev pub just_opened : Setting → ℕ → Position → ℕ → SessionRun
-just_opened set n position failures = record { set = set; found = n; position = position; failures = failures; events = []; replies = [] }
+abbrev pub just_opened : Setting → List ℕ → ℕ → Position → ℕ → SessionRun
+just_opened set content n position failures = record { set = set; content = content; found = n; position = position; failures = failures; events = []; replies = [] }
 
 -- the session with these events more
 abbrev pub gone_on : SessionRun → List Event → List Reply → SessionRun
@@ -159,28 +163,36 @@ abbrev pub GrowsChain : Setting → WorldModel → History → List Event → Li
 GrowsChain set m h es rs m' h' = (vars slots : ℕ) (earlier : List SessionRun) (s : SessionRun) → s.set ≡ set → IsChainAt vars slots earlier s h m → IsChainAt vars slots earlier (gone_on s es rs) h' m'
 
 -- Opening found the state after a prefix of the history that is safe to find: the durable transactions, or those that may be
--- durable in their place, with every acknowledged one, and the state is sound. A run begins there, the next session of any chain
--- that led to the history. Or memory or the device failed, and the device is still a store with the history.
-abbrev pub FindsPrefix : {D T S : Type 0} {d t s : _} → Program → ℕ → ℕ → History → ℕ → Result (World D T S d t s) (Fault × D) → Type 0
-FindsPrefix program vars slots h failures (Ok w) =
-    (n : ℕ) × (position : Position) × IsSafePrefix program vars h n × Carries program w (history_found n h) (opening (state_at program vars h n) position failures)
+-- durable in their place, with every acknowledged one, and the state is sound. A run begins there, at the position of what a read of
+-- the device gave: the next session of any chain that led to the history. Or memory or the device failed, and the device is still a
+-- store with the history.
+abbrev pub FindsPrefix : {D T S : Type 0} {d t s : _} → Program → ℕ → ℕ → History → DeviceView → Result (World D T S d t s) (Fault × D) → Type 0
+FindsPrefix program vars slots h old (Ok w) =
+    (n : ℕ) × (position : Position) × IsSafePrefix program vars h n × Carries program w (history_found n h) (opening (state_at program vars h n) position old.failures)
+    × StandsFor vars slots position (state_at program vars h n) old.seen
     × ((earlier : List SessionRun) → IsChain vars slots earlier h
-    → IsChainAt vars slots earlier (just_opened (setting_of w program) n position failures) (history_found n h) (opening (state_at program vars h n) position failures))
-FindsPrefix {d = d} program vars slots h failures (Err e) = ((e.0 ≡ Memory) ⊎ (e.0 ≡ Device)) × IsStore program vars slots h (d.view e.1)
+    → IsChainAt vars slots earlier (just_opened (setting_of w program) old.seen n position old.failures) (history_found n h) (opening (state_at program vars h n) position old.failures))
+FindsPrefix {d = d} program vars slots h old (Err e) = ((e.0 ≡ Memory) ⊎ (e.0 ≡ Device)) × IsStore program vars slots h (d.view e.1)
 
 -- A device that is a store with this history was opened, and a crash at any moment of that leaves what is safe for it.
 pub record OpensStore {D T S : Type 0} {d t s : _} (program : Program) (vars slots : ℕ) (h : History) (old : DeviceView) (result : Result (World D T S d t s) (Fault × D)) : Type 0 where
   pub any_moment : AtEachMoment old (device_after result) (IsSafe program vars slots h)
-  pub found : FindsPrefix program vars slots h old.failures result
+  pub found : FindsPrefix program vars slots h old result
 
--- A world that carries a history carries the next one after the event, at the next point of the run. A crash at any moment of the
--- event leaves what is safe for the history before it, or for the one after it.
+-- After Opened the position is that of this content, which stands for the state there.
+abbrev pub FindsIn : Setting → List ℕ → Event → Reply → WorldModel → Type 0
+FindsIn set content event.Reopen (reply.Opened n) m' = StandsFor set.vars set.slots m'.position (present set.program m') content
+FindsIn set content _ _ m' = ⊤
+
+-- A world that carries a history carries the next one after the event, at the next point of the run. What a Reopen finds is what a
+-- read of the device gave. A crash at any moment of the event leaves what is safe for the history before it, or for the one after it.
 abbrev pub StepsOn : {D T S : Type 0} {d t s : _} → World D T S d t s → Event → Reply → World D T S d t s → Type 0
 StepsOn old e r new =
     (program : Program) → Means old program → (h : History) (m : WorldModel) → Carries program old h m → (view_of new).keeps_model
     → (m' : WorldModel) × Allows (setting_of old program) m e r m' × Carries program new (history_after m e r m' h) m'
     × AtEachMoment (view_of old) (view_of new) (IsSafeIn program old.layout.vars old.layout.slots h (history_after m e r m' h))
     × GrowsChain (setting_of old program) m h (e ∷ []) (r ∷ []) m' (history_after m e r m' h)
+    × FindsIn (setting_of old program) (view_of old).seen e r m'
 
 -- these are the first of those
 abbrev pub IsFirstOf : {A : Type 0} → List A → List A → Type 0

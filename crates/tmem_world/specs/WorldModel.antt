@@ -8,7 +8,7 @@ use Rattle.tmem_record.specs.Writes.{look}
 use Rattle.tmem_record.specs.declared.effect.Effect.{Effect}
 use Rattle.tmem_tree.specs.declared.tx.Tx.{Tx}
 use Rattle.tmem_core.specs.Program.{Program}
-use Rattle.tmem_journal.specs.Stands.{Position, next_slot, next_image}
+use Rattle.tmem_journal.specs.Stands.{Position, StandsFor, next_slot, next_image}
 use Rattle.tmem_tree.specs.Plans.{BreaksNone, IsLeastBroken}
 use Rattle.tmem_tree.specs.Visited.{visited}
 use Rattle.tmem_tentative.specs.Right.{first_lacking, valued}
@@ -200,15 +200,19 @@ abbrev pub KeepsPosition : SessionStatus → Position → Position → Type 0
 KeepsPosition Open known position = position ≡ known
 KeepsPosition _ known position = ⊤
 
+-- the image and the log of a content, which make this state, are at that position
+abbrev pub IsReadOff : Setting → State → Position → Type 0
+IsReadOff set s position = (content : List ℕ) × StandsFor set.vars set.slots position s content
+
 -- Opening the device again finds the durable number or the doubtful one, and keeps the transactions below it. Which
--- image is chosen, and how many log slots are used, is read off the device.
-abbrev pub AllowsReopen : WorldModel → Reply → WorldModel → Type 0
-AllowsReopen m (reply.Opened n) m' =
+-- image is chosen, and how many log slots are used, is read off the content that is found.
+abbrev pub AllowsReopen : Setting → WorldModel → Reply → WorldModel → Type 0
+AllowsReopen set m (reply.Opened n) m' =
     ((n ≡ m.durable) ⊎ (n ≡ m.doubtful))
-    × ((position : Position) × KeepsPosition m.session m.position position × (m' ≡ record m { accepted = take (n - m.opened.count) m.accepted; durable = n; doubtful = n; position = position; slots = no_transactions; session = Open }))
-AllowsReopen m (reply.Fault fault.Memory) m' = m' ≡ dropped m
-AllowsReopen m (reply.Fault fault.Device) m' = m' ≡ record (dropped m) { failures = after_fault m.failures }
-AllowsReopen m _ m' = ⊥
+    × ((position : Position) × KeepsPosition m.session m.position position × IsReadOff set (cut set.program m n) position × (m' ≡ record m { accepted = take (n - m.opened.count) m.accepted; durable = n; doubtful = n; position = position; slots = no_transactions; session = Open }))
+AllowsReopen set m (reply.Fault fault.Memory) m' = m' ≡ dropped m
+AllowsReopen set m (reply.Fault fault.Device) m' = m' ≡ record (dropped m) { failures = after_fault m.failures }
+AllowsReopen set m _ m' = ⊥
 
 -- without a session every event but opening is refused
 abbrev pub InSession : SessionStatus → WorldModel → Reply → WorldModel → Type 0 → Type 0
@@ -223,7 +227,7 @@ Allows set m (event.Settle slot) r m' = InSession m.session m r m' ((r, m') ≡ 
 Allows set m event.Flush r m' = InSession m.session m r m' (AllowsFlush set.program set.slots m.session m r m')
 Allows set m event.Checkpoint r m' = InSession m.session m r m' (AllowsCheckpoint m.session m r m')
 Allows set m event.Look r m' = InSession m.session m r m' ((r ≡ reply.Looked m.durable) × (m' ≡ m))
-Allows set m event.Reopen r m' = AllowsReopen m r m'
+Allows set m event.Reopen r m' = AllowsReopen set m r m'
 
 -- These events may be answered so, one after another.
 abbrev pub Run : Setting → WorldModel → List Event → List Reply → WorldModel → Type 0

@@ -13,7 +13,7 @@ returns g c = λ vars slots h entries text old new left run by synced keeps.
     let view = g.D.Disk.view in
     let program = builtin_program vars in
     let set = builtin_setting vars slots in
-    let at = opening (state_at program vars h run.found) run.position run.failures in
+    let at = opening (state_at program vars h run.found) run.position (view old).failures in
     let store : (f : History) → IsSafe program vars slots f (view left).seen → IsStore program vars slots f (view left) =
     λ f safe. record {
       fits = subst (FitsOn vars slots) (sym by.capacity) run.store.fits;
@@ -22,14 +22,24 @@ returns g c = λ vars slots h entries text old new left run by synced keeps.
     ⊎_elim
     (λ before. ∣ inl (store h before) ∣₁)
     (λ among. ∥∥₁_map among (λ it. inr (
-      record { set = set; found = run.found; position = run.position; failures = run.failures; events = events_of it.first; replies = it.answers },
+      record { set = set; content = (view old).seen; found = run.found; position = run.position; failures = (view old).failures; events = events_of it.first; replies = it.answers },
       it.first,
       it.point,
       it.reached,
       (it.rest, it.entries),
       refl,
       refl,
-      (λ earlier chain. (h, chain, (refl, refl), (run.prefix, runs_of set at (history_found run.found h) it.first it.answers it.early it.point it.reached it.before))),
+      (λ earlier chain. (
+        h,
+        chain,
+        (refl, refl),
+        record {
+          safe = run.prefix;
+          stands = run.stands;
+          counted = (g.met.D.Disk.is_device old).failures_fit;
+          run = runs_of set at (history_found run.found h) it.first it.answers it.early it.point it.reached it.before;
+        },
+      )),
       store it.reached it.safe,
     )))
     (run.any_moment.each (by.model keeps) (view left).seen (by.left keeps (view left).seen ((g.met.D.Disk.is_device left).seen_may_stay keeps)))

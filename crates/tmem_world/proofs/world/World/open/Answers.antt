@@ -3,6 +3,7 @@ use Rattle.tmem_disk.specs.Disk.{AtEachMoment}
 use Rattle.tmem_disk.specs.declared.fault.Fault.TheVariants.{Memory}
 use Rattle.tmem_core.specs.Program.{IsProgramOf}
 use Rattle.tmem_journal.specs.Held as journal
+use Rattle.tmem_journal.specs.Stands.{StandsFor}
 use Rattle.tmem_opening.specs.Held.{found_of, position_of, device_of}
 use Rattle.tmem_opening.specs.Opening.{Mending}
 use Rattle.tmem_opening.proofs.Laws.{only_failed, handed_back}
@@ -82,6 +83,7 @@ returns-clause-chain g c = λ program h means store keeps.
     let point = opens program x c.begin-session.result.0 begun.core begun.journal _ refl c.in-Ok-empty_slots.ensures.len c.in-Ok-empty_slots.ensures.emptied old.failures so.uses.failures c.args.table so.sound means.invariants in
     let same = ap (λ l. l.vars) c.layout.ensures ∙ ap (λ j. (journal.layout_of j).vars) begun.journal ∙ so.fits.0 in
     let log = ap (λ l. l.slots) c.layout.ensures ∙ ap (λ j. (journal.layout_of j).slots) begun.journal ∙ so.fits.1 in
+    let stands = subst (λ s. StandsFor c.args.vars c.args.slots (position_of x) s old.seen) is.1 (so.found keeps') in
     record {
       any_moment = subst (λ j. AtEachMoment old (journal.device_of j) (IsSafe program c.args.vars c.args.slots h)) (sym begun.journal)
           (opening_moments program c.args.vars c.args.slots h old (device_of x) store so.uses.model so.mends.any_moment);
@@ -90,6 +92,8 @@ returns-clause-chain g c = λ program h means store keeps.
         position_of x,
         is.0,
         begins _ program h c.args.vars same (found_of x) (position_of x) old.failures is.0 is.1 point,
-        opens_chain (record { vars = c.layout.result.vars; slots = c.layout.result.slots; arities = g.S.StoredSteps.arities c.args.steps; program = program }) h c.args.vars c.args.slots same log (found_of x).count (position_of x) old.failures is.0,
+        stands,
+        opens_chain (record { vars = c.layout.result.vars; slots = c.layout.result.slots; arities = g.S.StoredSteps.arities c.args.steps; program = program }) h c.args.vars c.args.slots same log (found_of x).count (position_of x) old.seen old.failures is.0 stands
+            (g.met.D.Disk.is_device c.args.disk).failures_fit,
       );
     }
