@@ -7,13 +7,23 @@ import struct
 
 OPEN = 0xA5
 MOST = 2**64 - 1
-# Those that the program has, in its order: the name, how many variables they need, and what they say.
-TABLE = [
-    ("nonneg", 1, lambda values: values[0] >= 0),
-    ("sum", 2, lambda values: values[0] + values[1] == 100),
-    ("ordered", 4, lambda values: values[2] <= values[3]),
-]
+# Those that the program has, in its order: the variables that they are about, and what they say of their values.
+TABLE = {
+    "nonneg": ([0], lambda a: a >= 0),
+    "sum": ([0, 1], lambda a, b: a + b == 100),
+    "ordered": ([2, 3], lambda a, b: a <= b),
+}
 STEPS = {"add": lambda a, b: a + b, "sub": lambda a, b: a - b, "need": lambda a, b: a if a >= b else "retry"}
+
+
+def known(vars):
+    """The invariants of a store of so many variables."""
+    return [name for name, (over, _) in TABLE.items() if over[-1] < vars]
+
+
+def holds(name, value_of):
+    over, test = TABLE[name]
+    return test(*(value_of(var) for var in over))
 
 
 class Refused(Exception):
@@ -119,7 +129,7 @@ class Opened:
             if content[layout.slot(k)] == OPEN:
                 content[layout.slot(k)] = 0
         for name in sorted(self.names):
-            if name not in [it for it, need, _ in TABLE if need <= layout.vars]:
+            if name not in known(layout.vars):
                 raise Refused(f"fault 10 missing {name}")
         broken = self.broken(self.names, self.values)
         if broken:
@@ -182,7 +192,7 @@ class Opened:
 
     def broken(self, names, values):
         """The first of these invariants that is false."""
-        return next((it for it, _, test in TABLE if it in names and not test(values)), None)
+        return next((it for it in TABLE if it in names and not holds(it, values.__getitem__)), None)
 
 
 class Run:
@@ -305,18 +315,18 @@ class Run:
 
 
 class Left(Exception):
-    """The transaction was left: by retry, by an abort, or to read a variable."""
+    """The transaction was left: by retry, by an abort, by a check that is false, to read a variable, or to test an invariant."""
 
 
 class Attempt:
-    """One attempt: a transaction with the values that it has read."""
+    """One attempt: a transaction with the values that it has read, and the answers of its tests, in their order."""
 
     def __init__(self, tx):
-        self.tx, self.reads, self.ending = tx, {}, None
+        self.tx, self.reads, self.answers, self.ending = tx, {}, [], None
 
     def turn(self, values):
         if self.ending is None:
-            self.registers, self.writes, self.checks = [0] * 16, {}, []
+            self.registers, self.writes, self.checks, self.tested = [0] * 16, {}, [], 0
             try:
                 self.run(self.tx)
                 self.ending = "normal"
@@ -325,8 +335,29 @@ class Attempt:
                 if isinstance(why, int):
                     self.reads[why] = values[why]
                     return f"read {why} {values[why]}"
+                if isinstance(why, tuple):
+                    name, held = why
+                    self.answers.append(held)
+                    return f"probe {name} {'yes' if held else 'no'}"
                 self.ending = why
         return "ended"
+
+    def value(self, var):
+        if var in self.writes:
+            return self.writes[var]
+        if var not in self.reads:
+            raise Left(var)
+        return self.reads[var]
+
+    def check(self, name):
+        """Tests an invariant on the values so far, and proposes it. (A choice undoes neither its reads nor its answer.)"""
+        held = holds(name, self.value)
+        if self.tested == len(self.answers):
+            raise Left((name, held))
+        self.tested += 1
+        if not self.answers[self.tested - 1]:
+            raise Left(f"refused {name}")
+        self.checks += [] if name in self.checks else [name]
 
     def run(self, tx):
         key, body = (tx, None) if isinstance(tx, str) else next(iter(tx.items()))
@@ -336,10 +367,7 @@ class Attempt:
         elif key == "put":
             self.registers[body[0]] = body[1]
         elif key == "read":
-            var, register = body
-            if var not in self.writes and var not in self.reads:
-                raise Left(var)
-            self.registers[register] = self.writes[var] if var in self.writes else self.reads[var]
+            self.registers[body[1]] = self.value(body[0])
         elif key == "write":
             self.writes[body[0]] = self.registers[body[1]]
         elif key == "step":
@@ -365,8 +393,8 @@ class Attempt:
             raise Left("retry")
         elif key == "abort":
             raise Left(f"aborted {body}")
-        elif key == "check" and body not in self.checks:
-            self.checks.append(body)
+        elif key == "check":
+            self.check(body)
 
 
 def parts_of(tx):
@@ -385,7 +413,6 @@ def cause_of(tx, vars):
     of = lambda key: [it[key] for it in nodes if isinstance(it, dict) and key in it]
     registers = [it[0] for it in of("put") + of("when")] + [it[1] for it in of("read") + of("write")]
     registers += [it for name, args, out in of("step") for it in [*args, out]]
-    names = [it for it, need, _ in TABLE if need <= vars]
     broken = [
         depth > 32,
         len(nodes) > 512,
@@ -395,6 +422,6 @@ def cause_of(tx, vars):
         any(it[0] >= vars for it in of("read") + of("write")),
         False,
         any(len(args) != 2 for name, args, out in of("step")),
-        any(it not in names for it in of("check")),
+        any(it not in known(vars) for it in of("check")),
     ]
     return broken.index(True) + 1 if True in broken else None

@@ -1,7 +1,7 @@
 // What the bank does with its store.
 ghost use Rattle.std.specs.Prelude.{◌≡◌};
 ghost use Rattle.tmem_front.specs.Held.{found_of, spine_of, steps_of, table_of};
-ghost use Rattle.tmem_tree.specs.Plans.{FitsSteps, FitsVariables, FitsNames};
+ghost use Rattle.tmem_tree.specs.Plans.{FitsSteps, FitsVariables, FitsNames, FitsShapes};
 ghost use Rattle.tmem_bank.specs.Accounts.{bank};
 
 use crate::device::SLOTS;
@@ -128,9 +128,10 @@ fn settle_again<
     S: StoredSteps + Drop,
     R: Print + Wait,
 >(rt: &R, front: &Front<D, N, T, S>, pass: &mut Pass<N>, plan: &Plan) -> Result<(), Fault>
-    requires steps { FitsSteps (S.arities front.now.steps) plan.now }
+    requires steps { FitsSteps (S.arities front.now.steps) plan.now.tree }
     requires variables { FitsVariables front.now.vars plan.now }
-    requires names { FitsNames N.program.names plan.now }
+    requires names { FitsNames N.program.names plan.now.tree }
+    requires shapes { FitsShapes N.program.tests plan.now }
 {
     settle_and_say(rt, front, pass, plan)?;
     settle_and_say(rt, front, pass, plan)?;
@@ -146,9 +147,10 @@ fn settle_late<
     S: StoredSteps + Drop,
     R: Print + Wait,
 >(rt: &R, front: &Front<D, N, T, S>, pass: &mut Pass<N>, plan: &Plan) -> Result<(), Fault>
-    requires steps { FitsSteps (S.arities front.now.steps) plan.now }
+    requires steps { FitsSteps (S.arities front.now.steps) plan.now.tree }
     requires variables { FitsVariables front.now.vars plan.now }
-    requires names { FitsNames N.program.names plan.now }
+    requires names { FitsNames N.program.names plan.now.tree }
+    requires shapes { FitsShapes N.program.tests plan.now }
 {
     let late = front.attempt(rt, plan)?;
     let _ = println!(rt; "attempted");
@@ -182,9 +184,10 @@ fn settle_and_say<
     S: StoredSteps + Drop,
     R: Print + Wait,
 >(rt: &R, front: &Front<D, N, T, S>, pass: &mut Pass<N>, plan: &Plan) -> Result<(), Fault>
-    requires steps { FitsSteps (S.arities front.now.steps) plan.now }
+    requires steps { FitsSteps (S.arities front.now.steps) plan.now.tree }
     requires variables { FitsVariables front.now.vars plan.now }
-    requires names { FitsNames N.program.names plan.now }
+    requires names { FitsNames N.program.names plan.now.tree }
+    requires shapes { FitsShapes N.program.tests plan.now }
 {
     say(rt, &settle(rt, front, pass, plan)?);
     Ok(())
@@ -197,9 +200,10 @@ fn settle<N: StoreNaming, D: Disk + Drop, T: Invariants + Drop, S: StoredSteps +
     pass: &mut Pass<N>,
     plan: &Plan,
 ) -> Result<Settled, Fault>
-    requires steps { FitsSteps (S.arities front.now.steps) plan.now }
+    requires steps { FitsSteps (S.arities front.now.steps) plan.now.tree }
     requires variables { FitsVariables front.now.vars plan.now }
-    requires names { FitsNames N.program.names plan.now }
+    requires names { FitsNames N.program.names plan.now.tree }
+    requires shapes { FitsShapes N.program.tests plan.now }
 {
     front.atomically(rt, pass, plan)
 }

@@ -14,7 +14,7 @@ use tmem_disk::{Fault, Name};
 use tmem_invariants::Invariants;
 use tmem_record::{NameSet, State};
 use tmem_tentative::{Cursor, Progress};
-use tmem_tree::{MAX_NODES, Plan, StoredSteps};
+use tmem_tree::{MAX_TURNS, Plan, StoredSteps};
 
 // After so many transactions they are noted as durable, and the clock is read.
 const ROUND: u64 = 64;
@@ -59,9 +59,9 @@ fn settle_on<R: Clock, T: Invariants + Drop, S: StoredSteps>(
     vars: u16,
 ) -> Result<Figures, BenchError>
     requires sized { length (state_of core.old).values ≡ vars }
-    requires steps { FitsSteps (S.arities steps.now) plan.now }
+    requires steps { FitsSteps (S.arities steps.now) plan.now.tree }
     requires variables { FitsVariables vars plan.now }
-    requires names { FitsNames [] plan.now }
+    requires names { FitsNames [] plan.now.tree }
 {
     let mut had = Figures::zero();
     let start = now(rt)?;
@@ -99,9 +99,9 @@ fn settle_round<T: Invariants + Drop, S: StoredSteps>(
     vars: u16,
 ) -> Result<(), Fault>
     requires sized { length (state_of core.old).values ≡ vars }
-    requires steps { FitsSteps (S.arities steps.now) plan.now }
+    requires steps { FitsSteps (S.arities steps.now) plan.now.tree }
     requires variables { FitsVariables vars plan.now }
-    requires names { FitsNames [] plan.now }
+    requires names { FitsNames [] plan.now.tree }
     ensures { length (state_of core.new).values ≡ vars }
 {
     for _ in 0..ROUND {
@@ -120,15 +120,17 @@ fn settle<T: Invariants + Drop, S: StoredSteps>(
     vars: u16,
 ) -> Result<(), Fault>
     requires sized { length (state_of core.old).values ≡ vars }
-    requires steps { FitsSteps (S.arities steps.now) plan.now }
+    requires steps { FitsSteps (S.arities steps.now) plan.now.tree }
     requires variables { FitsVariables vars plan.now }
-    requires names { FitsNames [] plan.now }
+    requires names { FitsNames [] plan.now.tree }
     ensures { length (state_of core.new).values ≡ vars }
 {
     cursor.restart(plan)?;
-    for _ in 0..=MAX_NODES {
+    for _ in 0..=MAX_TURNS {
         match cursor.advance(plan, steps)? {
             Progress::Need(var) => cursor.give(var, core.peek(var)),
+            // it checks nothing
+            Progress::Probe => unreachable!(),
             Progress::Ended => {
                 core.decide(cursor.attempt())?;
                 return Ok(());

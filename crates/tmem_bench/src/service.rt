@@ -1,5 +1,5 @@
 // Threads that share a store.
-ghost use Rattle.tmem_tree.specs.Plans.{FitsSteps, FitsVariables, FitsNames};
+ghost use Rattle.tmem_tree.specs.Plans.{FitsSteps, FitsVariables, FitsNames, FitsShapes};
 
 use crate::error::{BenchError, now, since};
 use crate::figures::Figures;
@@ -171,9 +171,10 @@ fn settle_until<
     job: Job,
     start: Instant,
 ) -> Result<Figures, Fault>
-    requires steps { FitsSteps (S.arities front.now.steps) plan.now }
+    requires steps { FitsSteps (S.arities front.now.steps) plan.now.tree }
     requires variables { FitsVariables front.now.vars plan.now }
-    requires names { FitsNames N.program.names plan.now }
+    requires names { FitsNames N.program.names plan.now.tree }
+    requires shapes { FitsShapes N.program.tests plan.now }
 {
     let mut had = Figures::zero();
     for _ in rt.forever() {
@@ -200,9 +201,10 @@ fn settle_some<
     job: Job,
     had: &mut Figures,
 ) -> Result<(), Fault>
-    requires steps { FitsSteps (S.arities front.now.steps) plan.now }
+    requires steps { FitsSteps (S.arities front.now.steps) plan.now.tree }
     requires variables { FitsVariables front.now.vars plan.now }
-    requires names { FitsNames N.program.names plan.now }
+    requires names { FitsNames N.program.names plan.now.tree }
+    requires shapes { FitsShapes N.program.tests plan.now }
 {
     let mut last = None;
     for _ in 0..job.act.stride() {

@@ -5,6 +5,7 @@ use Rattle.tmem_tree.specs.declared.tx.Tx.{Tx}
 use Rattle.tmem_tree.specs.declared.step.StepAnswer.{StepAnswer}
 use Rattle.tmem_tree.specs.declared.step.StepAnswer.TheVariants.{Value, Retry, Abort}
 use Rattle.tmem_tree.specs.Run.{View, RunResult, Normal, Retried, Aborted, run, put, register, answered}
+use Rattle.tmem_invariants.specs.Meanings.{Meanings}
 use Rattle.tmem_builtins.specs.Builtins.{builtin_steps}
 use Rattle.tmem_builtins.specs.Transactions.{IsCall, scratched}
 
@@ -43,22 +44,22 @@ answered_number (Value y) view x n = ap Normal (put_number view x n y)
 answered_number Retry view x n = refl
 answered_number (Abort code) view x n = refl
 
-run_call : (index first second : ℕ) (tx : Tx) → IsCall index first second tx → (view : View) → run builtin_steps tx view ≡ answered (builtin_steps index (register view.registers first ∷ register view.registers second ∷ [])) view first
-run_call index first second tx call view =
-    ap (λ t. run builtin_steps t view) call.is ∙ ap (λ l. answered (builtin_steps index (map (register view.registers) l)) view first) call.on
+run_call : (index first second : ℕ) (tx : Tx) → IsCall index first second tx → (tests : Meanings) (view : View) → run builtin_steps tests tx view ≡ answered (builtin_steps index (register view.registers first ∷ register view.registers second ∷ [])) view first
+run_call index first second tx call tests view =
+    ap (λ t. run builtin_steps tests t view) call.is ∙ ap (λ l. answered (builtin_steps index (map (register view.registers) l)) view first) call.on
 
 -- a step of the value and the number
-pub call_value : (index : ℕ) (tx : Tx) → IsCall index 14 15 tx → (view : View) (x n : ℤ) → length view.registers ≡ 16 → run builtin_steps tx (scratched view x n) ≡ on_value (builtin_steps index (x ∷ n ∷ [])) (λ y. Normal (scratched view y n))
-call_value index tx call view x n full =
-    run_call index 14 15 tx call (scratched view x n)
+pub call_value : (index : ℕ) (tx : Tx) → IsCall index 14 15 tx → (tests : Meanings) (view : View) (x n : ℤ) → length view.registers ≡ 16 → run builtin_steps tests tx (scratched view x n) ≡ on_value (builtin_steps index (x ∷ n ∷ [])) (λ y. Normal (scratched view y n))
+call_value index tx call tests view x n full =
+    run_call index 14 15 tx call tests (scratched view x n)
     ∙ ap (λ l. answered (builtin_steps index (l ∷ register (scratched view x n).registers 15 ∷ [])) (scratched view x n) 14) (value_read view.registers x n full)
     ∙ ap (λ l. answered (builtin_steps index (x ∷ l ∷ [])) (scratched view x n) 14) (number_read view.registers x n full)
     ∙ answered_value (builtin_steps index (x ∷ n ∷ [])) view x n
 
 -- a step of the number and the value
-pub call_number : (index : ℕ) (tx : Tx) → IsCall index 15 14 tx → (view : View) (x n : ℤ) → length view.registers ≡ 16 → run builtin_steps tx (scratched view x n) ≡ on_value (builtin_steps index (n ∷ x ∷ [])) (λ y. Normal (scratched view x y))
-call_number index tx call view x n full =
-    run_call index 15 14 tx call (scratched view x n)
+pub call_number : (index : ℕ) (tx : Tx) → IsCall index 15 14 tx → (tests : Meanings) (view : View) (x n : ℤ) → length view.registers ≡ 16 → run builtin_steps tests tx (scratched view x n) ≡ on_value (builtin_steps index (n ∷ x ∷ [])) (λ y. Normal (scratched view x y))
+call_number index tx call tests view x n full =
+    run_call index 15 14 tx call tests (scratched view x n)
     ∙ ap (λ l. answered (builtin_steps index (l ∷ register (scratched view x n).registers 14 ∷ [])) (scratched view x n) 15) (number_read view.registers x n full)
     ∙ ap (λ l. answered (builtin_steps index (n ∷ l ∷ [])) (scratched view x n) 15) (value_read view.registers x n full)
     ∙ answered_number (builtin_steps index (n ∷ x ∷ [])) view x n

@@ -1,5 +1,5 @@
 -- What a Seq does, reads and counts, over the list of its trees.
-use Rattle.std.proofs.Common.{◌≡◌, ℕ, ◌+◌, ℤ, Bool, List, [], ◌∷◌, ◌++◌, SFits, w64, to_z, of_z, sum_by, refl, sym, ap, ◌∙◌, zero-add, rules}
+use Rattle.std.proofs.Common.{◌≡◌, ◌+◌, ℤ, Bool, List, [], ◌∷◌, ◌++◌, SFits, w64, to_z, of_z, sum_by, refl, sym, ap, ◌∙◌, zero-add, rules}
 use mathlib.Core.Path.{fun_ext}
 use Rattle.std.proofs.lemmas.Int.{to_z-of_z}
 use Rattle.std.proofs.lemmas.List.Sums.{sum_by-cons}
@@ -13,7 +13,8 @@ use Rattle.tmem_tree.specs.StepAnswers.{StepMeanings}
 use Rattle.tmem_tree.specs.Limits.{count}
 use Rattle.tmem_tree.proofs.Laws.{count_in, count-Seq}
 use Rattle.tmem_tree.specs.Run.{View, run, run_all, then_run}
-use Rattle.tmem_tree.specs.Visited.{visits, visits_all, then_visit}
+use Rattle.tmem_tree.specs.Visited.{Ask, asks, asks_all, then_ask}
+use Rattle.tmem_invariants.specs.Meanings.{Meanings}
 use Rattle.tmem_builtins.specs.Transactions.{is_put, run_in_turn}
 
 -- a number as it is passed to a function
@@ -24,24 +25,24 @@ put_passed {n = n} fits is = is ∙ ap (Put 15) (to_z-of_z w64 n fits)
 pub begins : {X : Type 0} {xs rest rest' : List X} {x y x' y' : X} → xs ≡ x ∷ y ∷ rest → x ≡ x' → y ≡ y' → rest ≡ rest' → xs ≡ x' ∷ y' ∷ rest'
 begins is first second others = cc
 
-module _ (steps : StepMeanings) where
-  run_all-items : {m : _} (txs : Row_of-Tx m) (view : View) → run_all steps txs view ≡ run_in_turn steps (items-the_row-Tx m txs) view
+module _ (steps : StepMeanings) (tests : Meanings) where
+  run_all-items : {m : _} (txs : Row_of-Tx m) (view : View) → run_all steps tests txs view ≡ run_in_turn steps tests (items-the_row-Tx m txs) view
   run_all-items end_of-Tx view = refl
-  run_all-items (more_of-Tx tx txs) view = ap (then_run (run steps tx view)) (fun_ext (run_all-items txs))
+  run_all-items (more_of-Tx tx txs) view = ap (then_run (run steps tests tx view)) (fun_ext (run_all-items txs))
 
-  pub run-Seq : (txs : Vec Tx Global) (view : View) → run steps (Seq txs) view ≡ run_in_turn steps txs.items view
+  pub run-Seq : (txs : Vec Tx Global) (view : View) → run steps tests (Seq txs) view ≡ run_in_turn steps tests txs.items view
   run-Seq txs view = search (rules, the_lemmas, run_all-items)
 
-  abbrev pub visits_in : List Tx → View → List ℕ
-  visits_in [] view = []
-  visits_in (tx ∷ txs) view = visits steps tx view ++ then_visit (run steps tx view) (visits_in txs)
+  abbrev pub asks_in : List Tx → View → List Ask
+  asks_in [] view = []
+  asks_in (tx ∷ txs) view = asks steps tests tx view ++ then_ask (run steps tests tx view) (asks_in txs)
 
-  visits_all-items : {m : _} (txs : Row_of-Tx m) (view : View) → visits_all steps txs view ≡ visits_in (items-the_row-Tx m txs) view
-  visits_all-items end_of-Tx view = refl
-  visits_all-items (more_of-Tx tx txs) view = ap (λ next. visits steps tx view ++ then_visit (run steps tx view) next) (fun_ext (visits_all-items txs))
+  asks_all-items : {m : _} (txs : Row_of-Tx m) (view : View) → asks_all steps tests txs view ≡ asks_in (items-the_row-Tx m txs) view
+  asks_all-items end_of-Tx view = refl
+  asks_all-items (more_of-Tx tx txs) view = ap (λ next. asks steps tests tx view ++ then_ask (run steps tests tx view) next) (fun_ext (asks_all-items txs))
 
-  pub visits-Seq : (txs : Vec Tx Global) (view : View) → visits steps (Seq txs) view ≡ visits_in txs.items view
-  visits-Seq txs view = search (rules, the_lemmas, visits_all-items)
+  pub asks-Seq : (txs : Vec Tx Global) (view : View) → asks steps tests (Seq txs) view ≡ asks_in txs.items view
+  asks-Seq txs view = search (rules, the_lemmas, asks_all-items)
 
 count_in-sum : (test : Tx → Bool) (txs : List Tx) → count_in test txs ≡ sum_by (count test) txs
 count_in-sum test [] = refl

@@ -4,25 +4,27 @@ use Rattle.std.specs.declared.vec.Vec.{Vec}
 use Rattle.std.specs.declared.alloc.Global.{Global}
 use Rattle.tmem_tree.specs.declared.tx.Tx.{Tx}
 use Rattle.tmem_tree.specs.declared.tx.Tx.TheVariants.{Put, Read, Step}
-use Rattle.tmem_tree.specs.Limits.{depth, count, is_node, is_write, is_check, has_bad_register}
-use Rattle.tmem_tree.specs.Plans.{FitsSteps, FitsVariables, FitsNames}
+use Rattle.tmem_tree.specs.Limits.{depth, count, is_node, is_write, is_check, has_bad_register, has_bad_variable}
+use Rattle.tmem_tree.specs.Plans.{FitsSteps, FitsNames}
 use Rattle.tmem_tree.specs.StepAnswers.{StepMeanings}
 use Rattle.tmem_tree.specs.Run.{View, RunResult, Normal, Retried, Aborted, run, put, write, then_run, or_else}
-use Rattle.tmem_tree.specs.Visited.{visits, else_visit}
+use Rattle.tmem_tree.specs.Visited.{Ask, asks, else_ask}
+use Rattle.tmem_invariants.specs.Meanings.{Meanings}
 use Rattle.tmem_builtins.specs.Builtins.{builtin_steps}
 use Rattle.tmem_builtins.specs.Steps.{is_i64}
 
--- from each view it ends so. (A view has 16 registers where a run begins, and no transaction changes their number.)
+-- from each view it ends so, whatever the invariants mean. (A view has 16 registers where a run begins, and no transaction changes
+-- their number.)
 abbrev pub RunsAs : Tx → (View → RunResult) → Type 0
-RunsAs tx ending = (view : View) → length view.registers ≡ 16 → run builtin_steps tx view ≡ ending view
+RunsAs tx ending = (tests : Meanings) (view : View) → length view.registers ≡ 16 → run builtin_steps tests tx view ≡ ending view
 
--- it reads what one Read of this variable does, and no more
+-- it asks for what one Read of this variable does, and no more
 abbrev pub ReadsOnly : ℕ → Tx → Type 0
-ReadsOnly var tx = (view : View) → visits builtin_steps tx view ≡ visits builtin_steps (Read var 14) view
+ReadsOnly var tx = (tests : Meanings) (view : View) → asks builtin_steps tests tx view ≡ asks builtin_steps tests (Read var 14) view
 
--- it reads no variable
+-- it reads no variable, and tests no invariant
 abbrev pub ReadsNone : Tx → Type 0
-ReadsNone tx = (view : View) → visits builtin_steps tx view ≡ []
+ReadsNone tx = (tests : Meanings) (view : View) → asks builtin_steps tests tx view ≡ []
 
 -- the last two registers take these numbers
 abbrev pub scratched : View → ℤ → ℤ → View
@@ -35,19 +37,19 @@ changed view var value number =
     if is_i64 value then Normal (write (scratched view value number) var value) else Aborted 65535
 
 -- one after another, up to the first that does not end normally
-abbrev pub run_in_turn : StepMeanings → List Tx → View → RunResult
-run_in_turn steps [] view = Normal view
-run_in_turn steps (tx ∷ txs) view = then_run (run steps tx view) (run_in_turn steps txs)
+abbrev pub run_in_turn : StepMeanings → Meanings → List Tx → View → RunResult
+run_in_turn steps tests [] view = Normal view
+run_in_turn steps tests (tx ∷ txs) view = then_run (run steps tests tx view) (run_in_turn steps tests txs)
 
 -- each from the same view, up to the first that does not retry. Where there is none, it retries
-abbrev pub run_first : StepMeanings → List Tx → View → RunResult
-run_first steps [] view = Retried
-run_first steps (tx ∷ txs) view = or_else (run steps tx view) (run_first steps txs view)
+abbrev pub run_first : StepMeanings → Meanings → List Tx → View → RunResult
+run_first steps tests [] view = Retried
+run_first steps tests (tx ∷ txs) view = or_else (run steps tests tx view) (run_first steps tests txs view)
 
--- what is read then
-abbrev pub first_visits : StepMeanings → List Tx → View → List ℕ
-first_visits steps [] view = []
-first_visits steps (tx ∷ txs) view = visits steps tx view ++ else_visit (run steps tx view) (first_visits steps txs view)
+-- what is asked then
+abbrev pub first_asks : StepMeanings → Meanings → List Tx → View → List Ask
+first_asks steps tests [] view = []
+first_asks steps tests (tx ∷ txs) view = asks steps tests tx view ++ else_ask (run steps tests tx view) (first_asks steps tests txs view)
 
 -- it puts a number of its own into a register
 abbrev pub is_put : Tx → Bool
@@ -62,7 +64,7 @@ pub record IsSized (nodes writes var : ℕ) (tx : Tx) : Type 0 where
   pub all_writes : count is_write tx ≡ writes
   pub checks : count is_check tx ≡ 0
   pub registers : count has_bad_register tx ≡ 0
-  pub variables : (vars : ℕ) → var < vars → FitsVariables vars tx
+  pub variables : (vars : ℕ) → var < vars → count (has_bad_variable vars) tx ≡ 0
   pub steps : FitsSteps (2 ∷ 2 ∷ 2 ∷ []) tx
   pub names : (known : List (List ℕ)) → FitsNames known tx
 

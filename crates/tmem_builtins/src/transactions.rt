@@ -17,8 +17,9 @@ ghost use Rattle.tmem_tree.specs.declared.tx.Tx.TheVariants.{Put, Read, Seq, Wri
 ghost use Rattle.tmem_tree.specs.Limits.{count};
 ghost use Rattle.tmem_tree.specs.Run.{View, Normal, Retried, or_else, put as with_register, run, write};
 ghost use Rattle.tmem_tree.specs.StepAnswers.{StepMeanings};
-ghost use Rattle.tmem_tree.specs.Visited.{else_visit, visits};
-ghost use Rattle.tmem_builtins.specs.Transactions.{IsCall, IsSized, ReadsNone, ReadsOnly, RunsAs, changed, first_visits, is_put, run_first, run_in_turn, scratched};
+ghost use Rattle.tmem_tree.specs.Visited.{asks, else_ask};
+ghost use Rattle.tmem_invariants.specs.Meanings.{Meanings};
+ghost use Rattle.tmem_builtins.specs.Transactions.{IsCall, IsSized, ReadsNone, ReadsOnly, RunsAs, changed, first_asks, is_put, run_first, run_in_turn, scratched};
 
 use std::alloc::{AllocError, Global};
 use tmem_tree::Tx;
@@ -121,7 +122,8 @@ pub fn take(alloc: Global, var: u16, amount: i64) -> Result<Tx, AllocError>
 /// One after another, up to the first that does not end normally: their `Tx::Seq`. Their steps may be of any table.
 pub fn all_of(parts: Vec<Tx>) -> Tx
     ensures is { result ≡ Seq parts }
-    ensures runs { (steps : StepMeanings) (view : View) → run steps result view ≡ run_in_turn steps parts.items view }
+    ensures runs { (steps : StepMeanings) (tests : Meanings) (view : View)
+        → run steps tests result view ≡ run_in_turn steps tests parts.items view }
     ensures numbers { count is_put result ≡ sum_by (count is_put) parts.items }
 {
     Tx::Seq(parts)
@@ -129,10 +131,10 @@ pub fn all_of(parts: Vec<Tx>) -> Tx
 
 /// The first, or where that retries, the second in its place. Their steps may be of any table.
 pub fn first_of(alloc: Global, first: Tx, second: Tx) -> Result<Tx, AllocError>
-    ensures runs { IfOk result (λ tx. (steps : StepMeanings) (view : View)
-        → run steps tx view ≡ or_else (run steps first view) (run steps second view)) }
-    ensures reads { IfOk result (λ tx. (steps : StepMeanings) (view : View)
-        → visits steps tx view ≡ visits steps first view ++ else_visit (run steps first view) (visits steps second view)) }
+    ensures runs { IfOk result (λ tx. (steps : StepMeanings) (tests : Meanings) (view : View)
+        → run steps tests tx view ≡ or_else (run steps tests first view) (run steps tests second view)) }
+    ensures reads { IfOk result (λ tx. (steps : StepMeanings) (tests : Meanings) (view : View)
+        → asks steps tests tx view ≡ asks steps tests first view ++ else_ask (run steps tests first view) (asks steps tests second view)) }
     ensures numbers { IfOk result (λ tx. count is_put tx ≡ count is_put first + count is_put second) }
 {
     let first = Box::new(alloc, first)?;
@@ -142,10 +144,10 @@ pub fn first_of(alloc: Global, first: Tx, second: Tx) -> Result<Tx, AllocError>
 
 /// The first of these that does not retry: each is taken where all before it retry. With none of them it retries.
 pub fn first_of_several(alloc: Global, mut alternatives: Vec<Tx>) -> Result<Tx, AllocError>
-    ensures runs { IfOk result (λ tx. (steps : StepMeanings) (view : View)
-        → run steps tx view ≡ run_first steps alternatives.items view) }
-    ensures reads { IfOk result (λ tx. (steps : StepMeanings) (view : View)
-        → visits steps tx view ≡ first_visits steps alternatives.items view) }
+    ensures runs { IfOk result (λ tx. (steps : StepMeanings) (tests : Meanings) (view : View)
+        → run steps tests tx view ≡ run_first steps tests alternatives.items view) }
+    ensures reads { IfOk result (λ tx. (steps : StepMeanings) (tests : Meanings) (view : View)
+        → asks steps tests tx view ≡ first_asks steps tests alternatives.items view) }
     ensures numbers { IfOk result (λ tx. count is_put tx ≡ sum_by (count is_put) alternatives.items) }
 {
     let Some(mut chosen) = alternatives.pop() else {

@@ -52,8 +52,8 @@ RefusesOver view vars slots old new f =
 abbrev pub StopsOver : {D : Type 0} → (D → DeviceView) → ℕ → ℕ → List Entry → D → D → Failure → Type 0
 StopsOver view vars slots entries old new f = (f ≡ failure.Output) × LeavesStore vars slots entries (view old) (view new)
 
--- A file that was made of this one, which was zeros: they were formatted and synced. It came of them: what a crash since some moment
--- before might have left of the zeros, it might have left of this one. (That it got its name is tested.)
+-- A file that was made of this one, which was zeros: they were formatted and synced. What a crash since some moment before might
+-- have left of the zeros, it might have left of this one. (That it got its name is tested.)
 pub record IsMade (vars slots : ℕ) (blank made : FileDisk) : Type 0 where
   pub zeros : IsNewDevice (end_place vars slots) (view_of blank)
   pub formatted : FileDisk

@@ -1,10 +1,12 @@
 pub mod Folded
 pub mod Known
 pub mod Laws
+pub mod SameRuns
 pub mod SerialLaws
 pub mod Opens
 pub mod Places
 pub mod Present
+pub mod Probed
 pub mod Windows
 pub mod Versions
 pub mod SettleAnswers

@@ -63,11 +63,12 @@ judges_ending p (run.Normal view) s durable a ends =
     (allows, subst (λ x. IfOk x (λ settled. accepted settled view.effect ≡ accepted (verdict_normal p s view.effect view.registers) view.effect)) (sym allows) (adds_allowed (verdict_normal p s view.effect view.registers) durable view.effect))))
 judges_ending p run.Retried s durable a ends = subst (λ x. JudgesRun p s durable a.effect (ending_answer p x s durable a.effect a.registers) run.Retried) (sym ends.0) (refl, refl)
 judges_ending p (run.Aborted code) s durable a ends = subst (λ x. JudgesRun p s durable a.effect (ending_answer p x s durable a.effect a.registers) (run.Aborted code)) (sym ends.0) (refl, refl)
+judges_ending p (run.Broken name) s durable a ends = subst (λ x. JudgesRun p s durable a.effect (ending_answer p x s durable a.effect a.registers) (run.Broken name)) (sym ends.0) (refl, refl)
 
 -- where no value that was read differs, the answer by the ending is the verdict's, and it accepts what the plan adds
-judges_attempt : (p : Program) (tx : Tx) (s : State) (durable : ℕ) (a : Attempt) → is_stale s a.reads.entries ≡ false → IsRight p.steps tx a
-    → JudgesRun p s durable a.effect (ending_answer p a.ending s durable a.effect a.registers) (run p.steps tx (start (map_of s)))
-judges_attempt p tx s durable a fresh right = judges_ending p (run p.steps tx (start (map_of s))) s durable a (right.ends (map_of s) (agrees s a.reads.entries fresh))
+judges_attempt : (p : Program) (tx : Tx) (s : State) (durable : ℕ) (a : Attempt) → is_stale s a.reads.entries ≡ false → IsRight p.steps p.tests tx a
+    → JudgesRun p s durable a.effect (ending_answer p a.ending s durable a.effect a.registers) (run p.steps p.tests tx (start (map_of s)))
+judges_attempt p tx s durable a fresh right = judges_ending p (run p.steps p.tests tx (start (map_of s))) s durable a (right.ends (map_of s) (agrees s a.reads.entries fresh))
 
 -- a decision is refused as its whole answer is
 pub refused_with : (decision : Result Decision Fault) (registers : List ℤ) → IfErr decision IsRefusal → IfErr (answer_of decision registers) IsRefusal

@@ -6,8 +6,9 @@ use Rattle.tmem_record.specs.Names.{has_name}
 use Rattle.tmem_record.specs.State.{State, is_empty, apply, fold}
 use Rattle.tmem_record.specs.declared.effect.Effect.{Effect}
 use Rattle.tmem_record.proofs.Laws.{has_name-with_names}
-use Rattle.tmem_tree.specs.Run.{RunResult, Normal, Retried, Aborted, run, start}
+use Rattle.tmem_tree.specs.Run.{RunResult, Normal, Retried, Aborted, Broken, run, start}
 use Rattle.tmem_tree.specs.StepAnswers.{StepMeanings}
+use Rattle.tmem_tree.specs.Visited.{asks}
 use Rattle.tmem_tree.specs.declared.tx.Tx.{Tx}
 use Rattle.tmem_tree.specs.declared.settled.Settled.{Settled}
 use Rattle.tmem_tree.specs.declared.settled.Settled.TheVariants.{Committed, Seen}
@@ -15,8 +16,9 @@ use Rattle.tmem_invariants.specs.Meanings.{IsSound, values_at, holds}
 use Rattle.tmem_invariants.proofs.Laws.{All-at_name, first_false-AllHold, holds_from_none}
 use Rattle.tmem_core.specs.Program.{Program}
 use Rattle.tmem_core.specs.Verdict.{map_of, first_broken, unless_broken, verdict_on, verdict, effect_on, effect_of, accepted, state_after, serial_state, serial_effects, IsCommitted, AreCommitted}
-use Rattle.tmem_core.specs.Versions.{MeansAs, Follows}
+use Rattle.tmem_core.specs.Versions.{MeansAs, Follows, names_tested}
 use Rattle.tmem_core.proofs.Known.{at_place}
+use Rattle.tmem_core.proofs.SameRuns.{AskAlike, first_alike, rest_alike, same_run}
 use Rattle.tmem_core.proofs.SerialLaws.{state_after-committed, serial_state-fold}
 
 -- names only grow
@@ -41,13 +43,13 @@ module _ (p q : Program) where
   holds_as values name is = is.test (values_at values (q.tests.footprint name)) ∙ ap (λ f. p.tests.test name (values_at values f)) is.footprint
 
   -- a sound state stays so
-  pub sound_after : (registered : List (List ℕ)) (values : List ℤ) → Follows p registered q → IsSound p.tests p.names registered values → IsSound q.tests q.names registered values
+  pub sound_after : (registered : List (List ℕ)) {tested : List (List ℕ)} (values : List ℤ) → Follows p registered tested q → IsSound p.tests p.names registered values → IsSound q.tests q.names registered values
   sound_after registered values follows sound = record {
     there = follows.there;
     hold = λ k d below. holds_as values (get_or registered k d) (follows.same k d below) ∙ sound.hold k d below;
   }
 
-  module _ (names : List (List ℕ)) (there : All (λ name. IsTrue (has_name p.names name)) names) (follows : Follows p names q) where
+  module _ (names : List (List ℕ)) (there : All (λ name. IsTrue (has_name p.names name)) names) {tested : List (List ℕ)} (follows : Follows p names tested q) where
     -- a name that was registered or proposed, and found true, is so
     holds_still : (s : State) (e : Effect) → ((name : List ℕ) → has_name (apply s e).names name ≡ true → has_name names name ≡ true) → first_broken p s e ≡ None
         → (name : List ℕ) → (has_name s.names name || has_name e.names name) ≡ true → holds q.tests (apply s e).values name ≡ true
@@ -69,18 +71,26 @@ module _ (p q : Program) where
         ap (λ b. unless_broken b answer) (none_broken_still s view.effect among none ∙ sym none)
     same_on s Retried is among = refl
     same_on s (Aborted code) is among = refl
+    same_on s (Broken name) is among = refl
 
-    same_verdict : (s : State) (tx : Tx) → IsCommitted (verdict p tx s) → ((name : List ℕ) → has_name (apply s (effect_of p tx s)).names name ≡ true → has_name names name ≡ true) → verdict q tx s ≡ verdict p tx s
-    same_verdict s tx is among = ap (λ (steps : StepMeanings). verdict_on q s (run steps tx (start (map_of s)))) follows.steps ∙ same_on s (run p.steps tx (start (map_of s))) is among
+    -- tests that mean the same make the same run
+    same_result : (s : State) (tx : Tx) → AskAlike p.tests q.tests (asks p.steps p.tests tx (start (map_of s))) → run q.steps q.tests tx (start (map_of s)) ≡ run p.steps p.tests tx (start (map_of s))
+    same_result s tx alike = ap (λ (steps : StepMeanings). run steps q.tests tx (start (map_of s))) follows.steps ∙ same_run p.steps p.tests q.tests tx (start (map_of s)) alike
+
+    same_verdict : (s : State) (tx : Tx) → IsCommitted (verdict p tx s) → ((name : List ℕ) → has_name (apply s (effect_of p tx s)).names name ≡ true → has_name names name ≡ true)
+        → run q.steps q.tests tx (start (map_of s)) ≡ run p.steps p.tests tx (start (map_of s)) → verdict q tx s ≡ verdict p tx s
+    same_verdict s tx is among same = ap (verdict_on q s) same ∙ same_on s (run p.steps p.tests tx (start (map_of s))) is among
 
     -- and the serial order is the same
-    pub same_order : (s : State) (txs : List Tx) → AreCommitted p s txs → ((name : List ℕ) → has_name (serial_state p s txs).names name ≡ true → has_name names name ≡ true) → AreCommitted q s txs × (serial_state q s txs ≡ serial_state p s txs)
-    same_order s [] are among = (tt, refl)
-    same_order s (tx ∷ txs) are among =
+    pub same_order : (s : State) (txs : List Tx) → AreCommitted p s txs → ((name : List ℕ) → has_name (serial_state p s txs).names name ≡ true → has_name names name ≡ true) → All (MeansAs p.tests q.tests) (names_tested p s txs)
+        → AreCommitted q s txs × (serial_state q s txs ≡ serial_state p s txs)
+    same_order s [] are among alike = (tt, refl)
+    same_order s (tx ∷ txs) are among alike =
         let next = state_after p s tx in
         let is = state_after-committed p s tx are.0 in
-        let verdicts = same_verdict s tx are.0 (λ name there. among name (kept p next txs name (subst (λ (x : State). has_name x.names name ≡ true) (sym is) there))) in
+        let run_same = same_result s tx (first_alike p.tests q.tests (asks p.steps p.tests tx (start (map_of s))) (names_tested p next txs) alike) in
+        let verdicts = same_verdict s tx are.0 (λ name there. among name (kept p next txs name (subst (λ (x : State). has_name x.names name ≡ true) (sym is) there))) run_same in
         let same : state_after q s tx ≡ next =
-        ap (λ v. fold s (accepted v (effect_of q tx s))) verdicts ∙ ap (λ (steps : StepMeanings). fold s (accepted (verdict p tx s) (effect_on (run steps tx (start (map_of s)))))) follows.steps in
-        let rest = same_order next txs are.1 among in
+        ap (λ v. fold s (accepted v (effect_of q tx s))) verdicts ∙ ap (λ (r : RunResult). fold s (accepted (verdict p tx s) (effect_on r))) run_same in
+        let rest = same_order next txs are.1 among (rest_alike p.tests q.tests (asks p.steps p.tests tx (start (map_of s))) (names_tested p next txs) alike) in
         ((subst IsCommitted (sym verdicts) are.0, subst (λ (x : State). AreCommitted q x txs) (sym same) rest.0), ap (λ (x : State). serial_state q x txs) same ∙ rest.1)

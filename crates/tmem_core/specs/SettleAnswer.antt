@@ -41,6 +41,7 @@ abbrev pub ending_answer : Program → ending.Ending → State → ℕ → Effec
 ending_answer p ended.Normal s durable e registers = normal_answer p s durable e registers
 ending_answer p ended.Retry s durable e registers = Ok Retry
 ending_answer p (ended.Abort code) s durable e registers = Ok (Aborted code)
+ending_answer p (ended.Broken name) s durable e registers = Ok (Refused name)
 
 -- the answer of a core that is shut or not, with this state, of which so many are known durable
 abbrev pub settle_answer : Program → Bool → State → ℕ → Attempt → Result Settled Fault

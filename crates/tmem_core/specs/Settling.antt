@@ -16,10 +16,10 @@ pub record Settles {T : Type 0} {t : _} (old new : Core T t) (a : Attempt) (sett
   -- The answer is by the values that the attempt read, and by its effect.
   pub answer : (p : Program) → IsProgramOf t (table_of old) p → settled ≡ settle_answer p (is_shut_of old) (state_of old) (durable_of old) a
   -- Of each plan that it is an attempt of, it is by the plan's verdict on the state.
-  pub verdict : (p : Program) (tx : Tx) → IsProgramOf t (table_of old) p → IsRight p.steps tx a
+  pub verdict : (p : Program) (tx : Tx) → IsProgramOf t (table_of old) p → IsRight p.steps p.tests tx a
       → settled ≡ judged (is_shut_of old) (state_of old) (durable_of old) a.reads.entries (verdict_of p tx (state_of old))
   -- What is accepted is what such a plan adds.
-  pub added : (p : Program) (tx : Tx) → IsProgramOf t (table_of old) p → IsRight p.steps tx a → IsAdded p tx (state_of old) a settled
+  pub added : (p : Program) (tx : Tx) → IsProgramOf t (table_of old) p → IsRight p.steps p.tests tx a → IsAdded p tx (state_of old) a settled
   -- These are all that may refuse it.
   pub refused : IfErr settled IsRefusal
   -- The core accepts the effect where the answer says so, and is as before otherwise.

@@ -35,11 +35,13 @@ abbrev pub verdict_on : Program → State → run.RunResult → Settled
 verdict_on p s (run.Normal view) = verdict_normal p s view.effect view.registers
 verdict_on p s run.Retried = Retry
 verdict_on p s (run.Aborted code) = Aborted code
+verdict_on p s (run.Broken name) = Refused name
 
 -- what a plan is answered on a state (Harris et al. 2005, section 3: one atomic step; Harris and Peyton Jones 2006: one
--- that would leave an invariant broken has no effect)
+-- that would leave an invariant broken has no effect). That one which checks an invariant where that is false has none either is
+-- this project's choice.
 abbrev pub verdict : Program → Tx → State → Settled
-verdict p tx s = verdict_on p s (run p.steps tx (start (map_of s)))
+verdict p tx s = verdict_on p s (run p.steps p.tests tx (start (map_of s)))
 
 -- what a run would change
 abbrev pub effect_on : run.RunResult → Effect
@@ -48,7 +50,7 @@ effect_on _ = no_effect
 
 -- the effect of a plan on a state
 abbrev pub effect_of : Program → Tx → State → Effect
-effect_of p tx s = effect_on (run p.steps tx (start (map_of s)))
+effect_of p tx s = effect_on (run p.steps p.tests tx (start (map_of s)))
 
 -- what an answer accepts: only Committed accepts the effect
 abbrev pub accepted : Settled → Effect → List Effect

@@ -1,5 +1,5 @@
 // The core.
-ghost use Rattle.std.specs.Prelude.{List, ℤ, ◌≡◌, ◌≢◌, ◌≤◌, ◌<◌, ◌↔◌, ◌+◌, ◌-◌, true, false, [], ◌++◌, length, drop, slice_get, Some, All, IsTrue, IfSome, IfNone, IfOk, IfErr};
+ghost use Rattle.std.specs.Prelude.{List, ℕ, ℤ, ◌≡◌, ◌≢◌, ◌≤◌, ◌<◌, ◌↔◌, ◌+◌, ◌-◌, true, false, [], ◌++◌, length, drop, slice_get, slice_index_or, Some, All, IsTrue, IfSome, IfNone, IfOk, IfErr};
 ghost use Rattle.std.specs.Map.{keys_of};
 ghost use Rattle.std.proofs.Props.{props};
 ghost use Rattle.tmem_record.specs.Names.{has_name, with_names, AreRegistered, AreRegistered-prop};
@@ -23,7 +23,7 @@ use std::snapshot::Snapshot;
 use tmem_disk::{Fault, Name};
 use tmem_invariants::{Invariants, places_of};
 use tmem_record::{BATCH_BYTES, Batch, Effect, MAX_RECORD_BYTES, MAX_RECORDS, MAX_WRITES, State};
-use tmem_tentative::{Attempt, Ending, Reads};
+use tmem_tentative::{Attempt, Ending, Probe, Reads};
 use tmem_tree::Settled;
 
 /// The present state, and the effects that are accepted and not known durable. Contracts speak of its parts by the words
@@ -135,6 +135,20 @@ impl<T: Invariants + Drop> Core<T> {
         self.state.value(var)
     }
 
+    /// Whether an invariant holds on these values, which a transaction sees at its point: also in a core that is shut. The present
+    /// values count for nothing. It takes no memory.
+    pub fn probe(&self, probe: &Probe) -> bool
+        requires named { has_name (T.names (table_of self.now)) probe.now.name ≡ true }
+        requires filled { (place : ℕ) → slice_get (T.names (table_of self.now)) place ≡ Some probe.now.name
+            → length probe.now.values ≡ length (slice_index_or (T.footprints (table_of self.now)) place []) }
+        ensures { (m : Meanings) → T.is_stated (table_of self.now) m → result ≡ m.test probe.now.name probe.now.values }
+    {
+        match self.table.place(&probe.name) {
+            Some(place) => self.table.answer(place, probe.values.as_slice()),
+            None => unreachable!(),
+        }
+    }
+
     /// How many transactions were accepted.
     pub fn count(&self) -> u64
         ensures { result ≡ (state_of self.now).count }
@@ -170,7 +184,8 @@ impl<T: Invariants + Drop> Core<T> {
         self.is_shut = true;
     }
 
-    /// Settles an attempt by the present state, and accepts its effect where it commits. Refused with `Closed` where the
+    /// Settles an attempt by the present state, and accepts its effect where it commits. One that checked an invariant where that
+    /// was false is answered `Refused` with its name. Refused with `Closed` where the
     /// core is shut; with `Conflict` where a value that was read is not the present one; with `Full` where as many as may
     /// wait do; with `Spent` where no greater count is left. Nothing changes then, nor where the answer is no `Committed`.
     pub fn settle(&mut self, attempt: &Attempt) -> Result<Settled, Fault>
@@ -200,6 +215,7 @@ impl<T: Invariants + Drop> Core<T> {
             Ending::Normal => self.settle_normal(&attempt.effect),
             Ending::Retry => Ok(Decision::Retry(self.state.count())),
             Ending::Abort(code) => Ok(Decision::Aborted(code)),
+            Ending::Broken(name) => Ok(Decision::Refused(name)),
         }
     }
 

@@ -2,8 +2,8 @@
 //!
 //! `Core::settle` answers an attempt by the present state: it compares the values that the attempt read, tests the
 //! invariants on the map that the effect would make, and accepts the effect or nothing. `Core::decide` does the same and leaves
-//! the registers out of the answer. The core is memory only: it knows no device and no thread, and only its making takes
-//! memory. It asks for `Invariants`, and names no closure.
+//! the registers out of the answer. `Core::probe` tests one invariant on the values that a transaction sees at its point. The core is
+//! memory only: it knows no device and no thread, and only its making takes memory. It asks for `Invariants`, and names no closure.
 #![tactic(auto)]
 
 mod core_state;

@@ -11,8 +11,8 @@ pub enum Event {
     /// Makes a plan of a transaction. The slot, below 16, holds it, whatever it held before.
     /// Refused with `Memory`, `Closed`, `BadPlan`.
     Begin { slot: u8, tx: Tx },
-    /// Evaluates the slot's plan on the values that it has read. Where it needs one more, that is read.
-    /// Refused with `Closed`, `Memory`.
+    /// Evaluates the slot's plan on the values that it has read and the answers that it was given. Where it needs one more
+    /// value, that is read; where it needs the answer to a test, that is made. Refused with `Closed`, `Memory`.
     Turn { slot: u8 },
     /// Settles the slot's attempt once it has ended. Refused with `Closed`, `Conflict`, `Full`, `Spent`; the slot keeps
     /// it then.
@@ -36,6 +36,8 @@ pub enum Reply {
     Begun,
     /// The plan needed this variable, and read its present value.
     Read { var: u16, value: i64 },
+    /// The plan tested this invariant at its point, and it was true or false there.
+    Probed { name: Name, held: bool },
     /// The plan has ended.
     Ended,
     /// The slot is empty, or what it holds has not ended.

@@ -59,7 +59,7 @@ pub settles_at_last : (start : ℕ) (opening : State) (program : Program) (tx : 
     → KnowsMore old mid → SettlesPlan start opening program tx mid answer new → SettlesAtLast start opening program tx old answer new
 settles_at_last start opening program tx old mid answer new more = ⊎_elim
     (λ (no : (answer ≡ Err fault.Memory) × (new ≡ mid)). inl (no.0, subst (λ v. KnowsMore old v) (sym no.1) more))
-    (λ (held : ∥ ((attempt : Attempt) × IsRight program.steps tx attempt × Settles start opening program attempt mid answer new) ∥₁).
+    (λ (held : ∥ ((attempt : Attempt) × IsRight program.steps program.tests tx attempt × Settles start opening program attempt mid answer new) ∥₁).
     inr (∥∥₁_map held (λ h. (h.0, h.1, settles_later start opening program h.0 old mid answer new more h.2))))
 
 -- a turn that is not the last
@@ -67,7 +67,7 @@ pub knows_more_at_last : (start : ℕ) (opening : State) (program : Program) (tx
     → ((effect : Effect) → accepted_by answer effect ≡ []) → SettlesAtLast start opening program tx old answer new → KnowsMore old new
 knows_more_at_last start opening program tx old answer new none = ⊎_elim
     (λ (no : (answer ≡ Err fault.Memory) × KnowsMore old new). no.1)
-    (λ (held : ∥ ((attempt : Attempt) × IsRight program.steps tx attempt × Settles start opening program attempt old answer new) ∥₁). record {
+    (λ (held : ∥ ((attempt : Attempt) × IsRight program.steps program.tests tx attempt × Settles start opening program attempt old answer new) ∥₁). record {
       same = ∥∥₁_elim held (hlevel props) (λ h. (knows_more start opening program h.0 old answer new (none h.0.effect) h.2).same);
       begins = ∥∥₁_elim held (hlevel props) (λ h. (knows_more start opening program h.0 old answer new (none h.0.effect) h.2).begins);
     })

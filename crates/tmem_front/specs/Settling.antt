@@ -29,7 +29,7 @@ pub record Settles (start : ℕ) (opening : State) (program : Program) (attempt 
   pub saw : count start old.seen ≤ durable
   pub number : (after opening before).count ≡ count start before
   pub answered : answer ≡ settle_answer program is_shut (after opening before) durable attempt
-  pub verdict : (tx : Tx) → IsRight program.steps tx attempt → answer ≡ judged is_shut (after opening before) durable attempt.reads.entries (verdict_of program tx (after opening before))
+  pub verdict : (tx : Tx) → IsRight program.steps program.tests tx attempt → answer ≡ judged is_shut (after opening before) durable attempt.reads.entries (verdict_of program tx (after opening before))
   pub pass : new ≡ record old {
     known = before ++ marked old.mark (accepted_by answer attempt.effect);
     own = old.own ++ numbered (count start before) (accepted_by answer attempt.effect);
@@ -39,7 +39,7 @@ pub record Settles (start : ℕ) (opening : State) (program : Program) (attempt 
 -- An attempt that is right for this plan is settled so, or there was no memory for one, and the pass stays as it was.
 abbrev pub SettlesPlan : ℕ → State → Program → Tx → PassView → Result Settled Fault → PassView → Type 0
 SettlesPlan start opening program tx old answer new =
-    ((answer ≡ Err fault.Memory) × (new ≡ old)) ⊎ ∥ ((attempt : Attempt) × IsRight program.steps tx attempt × Settles start opening program attempt old answer new) ∥₁
+    ((answer ≡ Err fault.Memory) × (new ≡ old)) ⊎ ∥ ((attempt : Attempt) × IsRight program.steps program.tests tx attempt × Settles start opening program attempt old answer new) ∥₁
 
 -- the pass knows at least what it knew, and the rest of it stays
 pub record KnowsMore (old new : PassView) : Type 0 where
@@ -49,7 +49,7 @@ pub record KnowsMore (old new : PassView) : Type 0 where
 -- The same of attempts that are made until one is settled: the pass may know more where there was no memory.
 abbrev pub SettlesAtLast : ℕ → State → Program → Tx → PassView → Result Settled Fault → PassView → Type 0
 SettlesAtLast start opening program tx old answer new =
-    ((answer ≡ Err fault.Memory) × KnowsMore old new) ⊎ ∥ ((attempt : Attempt) × IsRight program.steps tx attempt × Settles start opening program attempt old answer new) ∥₁
+    ((answer ≡ Err fault.Memory) × KnowsMore old new) ⊎ ∥ ((attempt : Attempt) × IsRight program.steps program.tests tx attempt × Settles start opening program attempt old answer new) ∥₁
 
 -- the pass saw and knows no less than before, and is the same in all else
 pub record SeesMore (old new : PassView) : Type 0 where

@@ -1,6 +1,6 @@
 // Transactions that are awaited.
 ghost use Rattle.std.specs.Prelude.{◌≡◌, ◌≢◌, ◌↔◌, ◌<◌, ℕ, Ok, Err, IfOk, IfErr, IfSome, IfNone, OnOk};
-ghost use Rattle.tmem_tree.specs.Plans.{FitsSteps, FitsVariables, FitsNames};
+ghost use Rattle.tmem_tree.specs.Plans.{FitsSteps, FitsVariables, FitsNames, FitsShapes};
 ghost use Rattle.tmem_spine.specs.History.{count};
 ghost use Rattle.tmem_front.specs.Settling.{IsWithin, SeesMore, SettlesDurably};
 
@@ -29,10 +29,11 @@ impl<D: Disk + Drop, N: StoreNaming, T: Invariants + Drop, S: StoredSteps + Drop
         pass: &mut Pass<N>,
         plan: &Plan,
     ) -> Result<Settled, Fault>
-        requires steps { FitsSteps (S.arities self.now.steps) plan.now }
+        requires steps { FitsSteps (S.arities self.now.steps) plan.now.tree }
         requires variables { FitsVariables self.now.vars plan.now }
-        requires names { FitsNames N.program.names plan.now }
-        ensures settled { ∥ SettlesDurably N.name.start N.opening N.program plan.now pass.old result pass.new ∥₁ }
+        requires names { FitsNames N.program.names plan.now.tree }
+        requires shapes { FitsShapes N.program.tests plan.now }
+        ensures settled { ∥ SettlesDurably N.name.start N.opening N.program plan.now.tree pass.old result pass.new ∥₁ }
         ensures no_conflict { result ≢ Err Fault.Conflict }
         ensures no_retry { result ≢ Ok Settled.Retry }
         ensures no_full { result ≢ Err Fault.Full }

@@ -8,7 +8,8 @@ ghost use Rattle.tmem_record.specs.Names.{has_name};
 ghost use Rattle.tmem_tentative.specs.Fits.{IsForVariables, IsForNames};
 ghost use Rattle.tmem_tentative.specs.Right.{IsRight};
 ghost use Rattle.tmem_tentative.specs.Cursors.{HasEnded, attempt_of};
-ghost use Rattle.tmem_tree.specs.Plans.{BreaksNone, IsLeastBroken, IsShort, FitsSteps, FitsVariables, FitsNames};
+ghost use Rattle.tmem_tree.specs.Plans.{BreaksNone, IsLeastBroken, IsShort, FitsSteps, FitsVariables, FitsNames, FitsShapes};
+ghost use Rattle.tmem_tree.specs.Shapes.{AreMeant, AreWithin, names_of};
 ghost use Rattle.tmem_tree.specs.StepAnswers.{StepMeanings};
 ghost use Rattle.tmem_spine.specs.History.{count, longer};
 ghost use Rattle.tmem_spine.specs.Views.{new_pass};
@@ -24,12 +25,12 @@ use crate::returned::Returned;
 use std::alloc::Global;
 use std::sync::{Mutex, MutexGuard, Wait};
 use tmem_core::{Decision, Settled};
-use tmem_disk::{Cause, Disk, Fault, Name};
+use tmem_disk::{Cause, Disk, Fault};
 use tmem_invariants::Invariants;
 use tmem_seats::{CoreSeat, Failure, JournalSeat, StoreNaming, with_registers};
 use tmem_spine::{Pass as SpinePass, Spine};
-use tmem_tentative::{Attempt, Cursor, Progress};
-use tmem_tree::{Plan, StoredSteps, Tx};
+use tmem_tentative::{Attempt, Cursor, Probe, Progress};
+use tmem_tree::{Plan, Shape, StoredSteps, Tx};
 
 /// A store that threads share. A pass is used with its own front, and a plan or an attempt with the front that made it.
 #[derive(Drop)]
@@ -37,8 +38,8 @@ pub struct Front<D: Disk, N: StoreNaming, T: Invariants, S: StoredSteps> {
     pub(crate) alloc: Global,
     pub(crate) vars: u16,
     pub(crate) steps: S,
-    // the names of the invariants, in the table's order
-    pub(crate) names: Vec<Name>,
+    // what a plan has to know of the invariants, in the table's order
+    pub(crate) shapes: Vec<Shape>,
     pub(crate) spine: Spine<N>,
     pub(crate) core: Mutex<CoreSeat<N, T>>,
     // what is waited for under the core's lock; all are told where the front is shut
@@ -52,7 +53,11 @@ pub struct Front<D: Disk, N: StoreNaming, T: Invariants, S: StoredSteps> {
     pub ghost over: { vars ≡ length N.opening.values },
 
     /// The names are the program's.
-    pub ghost named: { names.items ≡ N.program.names },
+    pub ghost named: { names_of shapes.items ≡ N.program.names },
+
+    /// Each has the footprint that the program means, over the variables that are there.
+    pub ghost meant: { AreMeant N.program.tests shapes.items },
+    pub ghost within: { AreWithin vars shapes.items },
 
     /// The steps answer what they mean.
     pub ghost stated: { ∥ S.is_stated steps N.program.steps ∥₁ },
@@ -83,13 +88,14 @@ impl<D: Disk + Drop, N: StoreNaming, T: Invariants + Drop, S: StoredSteps + Drop
         })
     }
 
-    /// An attempt at a plan of this front: it is evaluated, and each value that it needs is peeked at, until it has
-    /// ended. Refused by `Memory`.
+    /// An attempt at a plan of this front: it is evaluated, each value that it needs is peeked at, and what it checks is tested, until
+    /// it has ended. Refused by `Memory`.
     pub fn attempt<R: Wait>(&self, rt: &R, plan: &Plan) -> Result<Attempt, Fault>
-        requires steps { FitsSteps (S.arities self.now.steps) plan.now }
+        requires steps { FitsSteps (S.arities self.now.steps) plan.now.tree }
         requires variables { FitsVariables self.now.vars plan.now }
-        requires names { FitsNames N.program.names plan.now }
-        ensures right { (m : StepMeanings) → S.is_stated self.now.steps m → IfOk result (IsRight m plan.now) }
+        requires names { FitsNames N.program.names plan.now.tree }
+        requires shapes { FitsShapes N.program.tests plan.now }
+        ensures right { (m : StepMeanings) → S.is_stated self.now.steps m → IfOk result (IsRight m N.program.tests plan.now.tree) }
         ensures variables { IfOk result (IsForVariables (length N.opening.values)) }
         ensures names { IfOk result (IsForNames N.program.names) }
         ensures memory { IfErr result (λ fault. fault ≡ Fault.Memory) }
@@ -150,11 +156,12 @@ impl<D: Disk + Drop, N: StoreNaming, T: Invariants + Drop, S: StoredSteps + Drop
         pass: &mut Pass<N>,
         plan: &Plan,
     ) -> Result<Settled, Fault>
-        requires steps { FitsSteps (S.arities self.now.steps) plan.now }
+        requires steps { FitsSteps (S.arities self.now.steps) plan.now.tree }
         requires variables { FitsVariables self.now.vars plan.now }
-        requires names { FitsNames N.program.names plan.now }
-        ensures settled { SettlesPlan N.name.start N.opening N.program plan.now pass.old result pass.new }
-        ensures short { IsShort plan.now → result ≢ Err Fault.Conflict }
+        requires names { FitsNames N.program.names plan.now.tree }
+        requires shapes { FitsShapes N.program.tests plan.now }
+        ensures settled { SettlesPlan N.name.start N.opening N.program plan.now.tree pass.old result pass.new }
+        ensures short { IsShort plan.now.tree → result ≢ Err Fault.Conflict }
     {
         if plan.is_short() {
             return self.try_alone(rt, &mut pass.seat, &mut pass.cursor, plan);
@@ -171,10 +178,11 @@ impl<D: Disk + Drop, N: StoreNaming, T: Invariants + Drop, S: StoredSteps + Drop
         cursor: &mut Cursor,
         plan: &Plan,
     ) -> Result<Settled, Fault>
-        requires steps { FitsSteps (S.arities self.now.steps) plan.now }
+        requires steps { FitsSteps (S.arities self.now.steps) plan.now.tree }
         requires variables { FitsVariables self.now.vars plan.now }
-        requires names { FitsNames N.program.names plan.now }
-        ensures settled { SettlesPlan N.name.start N.opening N.program plan.now seat.old result seat.new }
+        requires names { FitsNames N.program.names plan.now.tree }
+        requires shapes { FitsShapes N.program.tests plan.now }
+        ensures settled { SettlesPlan N.name.start N.opening N.program plan.now.tree seat.old result seat.new }
         ensures no_conflict { result ≢ Err Fault.Conflict }
     {
         let core = self.core.lock(rt);
@@ -182,19 +190,20 @@ impl<D: Disk + Drop, N: StoreNaming, T: Invariants + Drop, S: StoredSteps + Drop
         self.settle_under(core, seat, cursor.attempt())
     }
 
-    // Evaluates a plan in place, from its start to its end. Each value that it needs is peeked at, and the lock is held
-    // for that alone.
+    // Evaluates a plan in place, from its start to its end. Each value that it needs is peeked at, and each of its tests is made, and
+    // the lock is held for that alone.
     pub(crate) fn evaluate<R: Wait>(
         &self,
         rt: &R,
         cursor: &mut Cursor,
         plan: &Plan,
     ) -> Result<(), Fault>
-        requires steps { FitsSteps (S.arities self.now.steps) plan.now }
+        requires steps { FitsSteps (S.arities self.now.steps) plan.now.tree }
         requires variables { FitsVariables self.now.vars plan.now }
-        requires names { FitsNames N.program.names plan.now }
+        requires names { FitsNames N.program.names plan.now.tree }
+        requires shapes { FitsShapes N.program.tests plan.now }
         ensures ended { IfOk result (λ _. HasEnded cursor.new) }
-        ensures right { (m : StepMeanings) → S.is_stated self.now.steps m → IfOk result (λ _. IsRight m plan.now (attempt_of cursor.new)) }
+        ensures right { (m : StepMeanings) → S.is_stated self.now.steps m → IfOk result (λ _. IsRight m N.program.tests plan.now.tree (attempt_of cursor.new)) }
         ensures variables { IfOk result (λ _. IsForVariables (length N.opening.values) (attempt_of cursor.new)) }
         ensures names { IfOk result (λ _. IsForNames N.program.names (attempt_of cursor.new)) }
         ensures memory { IfErr result (λ fault. fault ≡ Fault.Memory) }
@@ -205,6 +214,12 @@ impl<D: Disk + Drop, N: StoreNaming, T: Invariants + Drop, S: StoredSteps + Drop
                 Progress::Need(var) => {
                     let value = self.peek(rt, var);
                     cursor.give(var, value);
+                }
+                Progress::Probe => {
+                    // each name that it checks has a shape
+                    let _shapes = plan.shapes();
+                    let held = self.probe(rt, cursor.probe());
+                    cursor.answer(held);
                 }
                 Progress::Ended => return Ok(()),
             }
@@ -320,6 +335,15 @@ impl<D: Disk + Drop, N: StoreNaming, T: Invariants + Drop, S: StoredSteps + Drop
         self.core.lock(rt).peek(var)
     }
 
+    // Whether an invariant holds on these values, which a transaction sees at its point.
+    fn probe<R: Wait>(&self, rt: &R, probe: &Probe) -> bool
+        requires named { has_name N.program.names probe.now.name ≡ true }
+        requires filled { length probe.now.values ≡ length (N.program.tests.footprint probe.now.name) }
+        ensures { result ≡ N.program.tests.test probe.now.name probe.now.values }
+    {
+        self.core.lock(rt).probe(probe)
+    }
+
     /// How often calls that wait have looked at what they wait for. One that sleeps looks once each time that it is woken.
     pub fn looks<R: Wait>(&self, rt: &R) -> u64 {
         let looks = self.core.lock(rt).looks();
@@ -328,13 +352,14 @@ impl<D: Disk + Drop, N: StoreNaming, T: Invariants + Drop, S: StoredSteps + Drop
 
     /// The plan of a transaction. Refused with `BadPlan` and the least cause for which it is outside the limits.
     pub fn plan(&self, tx: Tx) -> Result<Plan, Fault>
-        ensures plan { IfOk result (λ plan. plan ≡ tx) }
+        ensures plan { IfOk result (λ plan. plan.tree ≡ tx) }
         ensures fine { IfOk result (λ _. BreaksNone (S.arities self.now.steps) self.now.vars N.program.names tx) }
-        ensures steps { IfOk result (FitsSteps (S.arities self.now.steps)) }
+        ensures steps { IfOk result (λ plan. FitsSteps (S.arities self.now.steps) plan.tree) }
         ensures variables { IfOk result (FitsVariables self.now.vars) }
-        ensures names { IfOk result (FitsNames N.program.names) }
+        ensures names { IfOk result (λ plan. FitsNames N.program.names plan.tree) }
+        ensures shapes { IfOk result (FitsShapes N.program.tests) }
         ensures least { IfErr result (λ fault. (cause : Cause) × (fault ≡ Fault.BadPlan cause) × IsLeastBroken (S.arities self.now.steps) self.now.vars N.program.names tx cause) }
     {
-        Plan::new(tx, &self.steps, self.vars, &self.names)
+        Plan::new(tx, &self.steps, self.vars, &self.shapes)
     }
 }

@@ -111,7 +111,7 @@ impl<D: Disk + Drop, T: Invariants + Drop, S: StoredSteps + Drop> OpenedFront<D,
             core,
             journal,
             batch,
-            names,
+            shapes,
         } = opening;
         let vars = journal.layout().vars;
         let (spine, core_side, journal_side) = spine.named::<N>();
@@ -119,7 +119,7 @@ impl<D: Disk + Drop, T: Invariants + Drop, S: StoredSteps + Drop> OpenedFront<D,
             alloc,
             vars,
             steps,
-            names,
+            shapes,
             spine,
             core: Mutex::new(CoreSeat::new(core, core_side)),
             conditions,

@@ -3,7 +3,7 @@ ghost use Rattle.std.specs.Prelude.{◌≡◌, ◌≢◌, ◌⊎◌, ◌<◌, �
 ghost use Rattle.tmem_record.specs.declared.effect.Effect.{Effect as EffectOf};
 ghost use Rattle.tmem_core.specs.SettleAnswer.{accepted_by, is_stale};
 ghost use Rattle.tmem_record.specs.Prefix.{IsPrefix};
-ghost use Rattle.tmem_tree.specs.Plans.{IsShort, FitsSteps, FitsVariables, FitsNames};
+ghost use Rattle.tmem_tree.specs.Plans.{IsShort, FitsSteps, FitsVariables, FitsNames, FitsShapes};
 ghost use Rattle.tmem_tentative.specs.Fits.{IsForVariables};
 ghost use Rattle.tmem_record.specs.Names.{has_name};
 ghost use Rattle.tmem_spine.specs.History.{count};
@@ -58,10 +58,11 @@ impl<D: Disk + Drop, N: StoreNaming, T: Invariants + Drop, S: StoredSteps + Drop
         pass: &mut Pass<N>,
         plan: &Plan,
     ) -> Result<Settled, Fault>
-        requires steps { FitsSteps (S.arities self.now.steps) plan.now }
+        requires steps { FitsSteps (S.arities self.now.steps) plan.now.tree }
         requires variables { FitsVariables self.now.vars plan.now }
-        requires names { FitsNames N.program.names plan.now }
-        ensures settled { SettlesAtLast N.name.start N.opening N.program plan.now pass.old result pass.new }
+        requires names { FitsNames N.program.names plan.now.tree }
+        requires shapes { FitsShapes N.program.tests plan.now }
+        ensures settled { SettlesAtLast N.name.start N.opening N.program plan.now.tree pass.old result pass.new }
         ensures no_conflict { result ≢ Err Fault.Conflict }
         ensures no_retry { result ≢ Ok Settled.Retry }
     {
@@ -76,10 +77,11 @@ impl<D: Disk + Drop, N: StoreNaming, T: Invariants + Drop, S: StoredSteps + Drop
         pass: &mut Pass<N>,
         plan: &Plan,
     ) -> Result<Settled, Fault>
-        requires steps { FitsSteps (S.arities self.now.steps) plan.now }
+        requires steps { FitsSteps (S.arities self.now.steps) plan.now.tree }
         requires variables { FitsVariables self.now.vars plan.now }
-        requires names { FitsNames N.program.names plan.now }
-        ensures settled { SettlesAtLast N.name.start N.opening N.program plan.now pass.old result pass.new }
+        requires names { FitsNames N.program.names plan.now.tree }
+        requires shapes { FitsShapes N.program.tests plan.now }
+        ensures settled { SettlesAtLast N.name.start N.opening N.program plan.now.tree pass.old result pass.new }
         ensures no_conflict { result ≢ Err Fault.Conflict }
         ensures no_retry { result ≢ Ok Settled.Retry }
         ensures no_full { result ≢ Err Fault.Full }
@@ -97,10 +99,11 @@ impl<D: Disk + Drop, N: StoreNaming, T: Invariants + Drop, S: StoredSteps + Drop
         plan: &Plan,
         waits_for_room: bool,
     ) -> Result<Settled, Fault>
-        requires steps { FitsSteps (S.arities self.now.steps) plan.now }
+        requires steps { FitsSteps (S.arities self.now.steps) plan.now.tree }
         requires variables { FitsVariables self.now.vars plan.now }
-        requires names { FitsNames N.program.names plan.now }
-        ensures settled { SettlesAtLast N.name.start N.opening N.program plan.now pass.old result pass.new }
+        requires names { FitsNames N.program.names plan.now.tree }
+        requires shapes { FitsShapes N.program.tests plan.now }
+        ensures settled { SettlesAtLast N.name.start N.opening N.program plan.now.tree pass.old result pass.new }
         ensures no_conflict { result ≢ Err Fault.Conflict }
         ensures no_retry { (P.ends patience.now → ⊥) → result ≢ Ok Settled.Retry }
         ensures no_full { (P.ends patience.now → ⊥) → waits_for_room ≡ true → result ≢ Err Fault.Full }
@@ -133,11 +136,12 @@ impl<D: Disk + Drop, N: StoreNaming, T: Invariants + Drop, S: StoredSteps + Drop
         plan: &Plan,
         how: Turn,
     ) -> Result<Settled, Fault>
-        requires steps { FitsSteps (S.arities self.now.steps) plan.now }
+        requires steps { FitsSteps (S.arities self.now.steps) plan.now.tree }
         requires variables { FitsVariables self.now.vars plan.now }
-        requires names { FitsNames N.program.names plan.now }
-        ensures settled { SettlesPlan N.name.start N.opening N.program plan.now seat.old result seat.new }
-        ensures short { IsShort plan.now → result ≢ Err Fault.Conflict }
+        requires names { FitsNames N.program.names plan.now.tree }
+        requires shapes { FitsShapes N.program.tests plan.now }
+        ensures settled { SettlesPlan N.name.start N.opening N.program plan.now.tree seat.old result seat.new }
+        ensures short { IsShort plan.now.tree → result ≢ Err Fault.Conflict }
     {
         if how.is_alone || plan.is_short() {
             return self.run_or_wait(rt, patience, seat, cursor, plan, how);
@@ -187,10 +191,11 @@ impl<D: Disk + Drop, N: StoreNaming, T: Invariants + Drop, S: StoredSteps + Drop
         plan: &Plan,
         how: Turn,
     ) -> Result<Settled, Fault>
-        requires steps { FitsSteps (S.arities self.now.steps) plan.now }
+        requires steps { FitsSteps (S.arities self.now.steps) plan.now.tree }
         requires variables { FitsVariables self.now.vars plan.now }
-        requires names { FitsNames N.program.names plan.now }
-        ensures settled { SettlesPlan N.name.start N.opening N.program plan.now seat.old result seat.new }
+        requires names { FitsNames N.program.names plan.now.tree }
+        requires shapes { FitsShapes N.program.tests plan.now }
+        ensures settled { SettlesPlan N.name.start N.opening N.program plan.now.tree seat.old result seat.new }
         ensures no_conflict { result ≢ Err Fault.Conflict }
     {
         let core = self.core.lock(rt);

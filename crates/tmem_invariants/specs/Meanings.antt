@@ -16,9 +16,13 @@ value_of values var = slice_index_or values var (pos 0)
 abbrev pub values_at : List ℤ → List ℕ → List ℤ
 values_at values footprint = map (value_of values) footprint
 
+-- whether the invariant of a name is true of a map of all variables
+abbrev pub holds_on : Meanings → (ℕ → ℤ) → List ℕ → Bool
+holds_on m values name = m.test name (map values (m.footprint name))
+
 -- whether the invariant of a name is true of a map
 abbrev pub holds : Meanings → List ℤ → List ℕ → Bool
-holds m values name = m.test name (values_at values (m.footprint name))
+holds m values name = holds_on m (value_of values) name
 
 -- each of these names is true of a map
 abbrev pub AllHold : Meanings → List (List ℕ) → List ℤ → Type 0

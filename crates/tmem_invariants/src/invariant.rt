@@ -70,6 +70,14 @@ impl Invariant {
         self.footprint.iter().all(|var| *var < vars)
     }
 
+    // What it answers on values of the footprint.
+    pub(crate) fn answer(&self, values: &[i64]) -> bool
+        requires { length values.now ≡ length self.now.footprint.items }
+        ensures { (m : Meanings) → ⟦<Invariant as Stated>⟧.is_stated self.now m → result ≡ m.test self.now.name values.now }
+    {
+        (self.test)(values)
+    }
+
     // Whether it is true of a map. The closure is handed the values of the footprint, and nothing else.
     pub(crate) fn holds(&self, values: &[i64]) -> bool
         requires { AreBelow (length values.now) self.now.footprint.items }

@@ -1,10 +1,10 @@
 // What the layers above ask of a table of invariants.
 
-ghost use Rattle.std.specs.Prelude.{◌≡◌, ◌↔◌, ◌||◌, ℕ, ℤ, ◌<◌, ◌≤◌, Some, List, [], ◌∷◌, length, slice_get, All, IsTrue, IsSome, IfSome};
+ghost use Rattle.std.specs.Prelude.{◌≡◌, ◌↔◌, ◌||◌, ℕ, ℤ, ◌<◌, ◌≤◌, Some, List, [], ◌∷◌, length, map, slice_get, slice_index_or, All, IsTrue, IsSome, IfSome};
 ghost use Rattle.std.specs.List.{list_any};
 ghost use Rattle.tmem_invariants.specs.Meanings.{Meanings, AllHold, DifferInWritten, first_false, touched};
 ghost use Rattle.tmem_invariants.specs.Places.{ArePlacesOf, has_place, stands_at};
-ghost use Rattle.tmem_invariants.specs.TableNames.{AreDistinct, first_missing, has_name, name_at};
+ghost use Rattle.tmem_invariants.specs.TableNames.{AreBelow, AreDistinct, first_missing, has_name, name_at};
 
 use crate::places::with_place;
 use tmem_disk::Name;
@@ -17,6 +17,9 @@ pub const MAX_INVARIANTS: usize = 64;
 pub trait Invariants {
     /// The names, in the table's order.
     ghost names: { Self → List (List ℕ) };
+
+    /// The footprints, in the table's order.
+    ghost footprints: { Self → List (List ℕ) };
 
     /// The number of variables.
     ghost vars: { Self → ℕ };
@@ -36,6 +39,17 @@ pub trait Invariants {
     fn name(&self, place: usize) -> Name
         requires { place < length (names self.now) }
         ensures { slice_get (names self.now) place ≡ Some result };
+
+    /// The footprint of the invariant at a place.
+    fn footprint(&self, place: usize) -> &[u16]
+        requires { place < length (names self.now) }
+        ensures { slice_get (footprints self.now) place ≡ Some result.now };
+
+    /// What the invariant at a place answers on values of its footprint, in the footprint's order.
+    fn answer(&self, place: usize, values: &[i64]) -> bool
+        requires there { place < length (names self.now) }
+        requires given { length values.now ≡ length (slice_index_or (footprints self.now) place []) }
+        ensures { (m : Meanings) (name : List ℕ) → is_stated self.now m → slice_get (names self.now) place ≡ Some name → result ≡ m.test name values.now };
 
     /// The place of a name, if it is there.
     fn place(&self, name: &Name) -> Option<usize>
@@ -84,6 +98,15 @@ pub trait Invariants {
 
     /// There are at most `MAX_INVARIANTS`.
     ghost few: { (tests : Self) → length (names tests) ≤ 64 };
+
+    /// What they are stated to mean is over these footprints.
+    ghost over: { (tests : Self) (m : Meanings) → is_stated tests m → map m.footprint (names tests) ≡ footprints tests };
+
+    /// Each variable of a footprint is below the number of variables.
+    ghost within: { (tests : Self) → All (AreBelow (vars tests)) (footprints tests) };
+
+    /// No footprint has more than `MAX_FOOTPRINT` variables.
+    ghost short: { (tests : Self) → All (λ footprint. length footprint ≤ 16) (footprints tests) };
 
     /// No name stands twice.
     ghost distinct: { (tests : Self) → AreDistinct (names tests) };

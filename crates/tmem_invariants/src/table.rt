@@ -138,6 +138,8 @@ fn test_places(entries: &[Invariant], values: &[i64], places: u64) -> Option<usi
 impl Invariants for Table {
     ghost names = { λ table. map (λ entry. entry.name) table.entries.items };
 
+    ghost footprints = { λ table. map (λ entry. entry.footprint.items) table.entries.items };
+
     ghost vars = { λ table. table.vars };
 
     ghost is_stated = { λ table m. All (λ entry. IsMeant m entry.name entry.footprint.items (Test.post entry.test)) table.entries.items };
@@ -152,6 +154,14 @@ impl Invariants for Table {
 
     fn name(&self, place: usize) -> Name {
         self.entries[place].name
+    }
+
+    fn footprint(&self, place: usize) -> &[u16] {
+        &self.entries[place].footprint
+    }
+
+    fn answer(&self, place: usize, values: &[i64]) -> bool {
+        self.entries[place].answer(values)
     }
 
     fn place(&self, name: &Name) -> Option<usize> {
@@ -189,6 +199,15 @@ impl Invariants for Table {
     ghost use Rattle.std.proofs.lemmas.List.{length-map};
 
     ghost few = { λ table. Prim.simp length-map table.few };
+
+    ghost use Rattle.std.proofs.lemmas.List.Elements.{All-map};
+    ghost use Rattle.tmem_invariants.specs.Shown.{map_by_name};
+
+    ghost over = { λ table m stated. map_by_name (λ entry. entry.name) (λ entry. entry.footprint.items) m.footprint table.entries.items (λ k d within. (stated k d within).over) };
+
+    ghost within = { λ table. All-map (AreBelow table.vars) (λ entry. entry.footprint.items) table.entries.items table.within };
+
+    ghost short = { λ table. All-map (λ footprint. length footprint ≤ 16) (λ entry. entry.footprint.items) table.entries.items (λ k d _. (slice_index_or table.entries.items k d).short) };
 
     ghost distinct = { λ table. table.distinct };
 

@@ -9,13 +9,15 @@ ghost use Rattle.tmem_core.specs.Program.{Program, IsProgramOf};
 ghost use Rattle.tmem_journal.specs.Calls.{FitsOn};
 ghost use Rattle.tmem_journal.specs.Held.{disk_of, doubtful_of, is_closed_of, state_of as durable_state};
 ghost use Rattle.tmem_journal.specs.Stands.{StandsFor, StandsForEither};
+ghost use Rattle.tmem_tree.specs.Shapes.{AreMeant, AreWithin, names_of};
 
 use std::alloc::{AllocError, Global};
 use tmem_core::Core;
-use tmem_disk::{Disk, Fault, Name};
+use tmem_disk::{Disk, Fault};
 use tmem_invariants::Invariants;
 use tmem_journal::Journal;
 use tmem_record::Batch;
+use tmem_tree::{Shape, shapes_of};
 
 /// A store that was opened: a core of the state that was found, with the table that was handed in, and the journal that goes
 /// on from there. Nothing waits, and nothing is doubtful.
@@ -25,15 +27,17 @@ pub struct Opening<D: Disk, T: Invariants> {
     pub journal: Journal<D>,
     /// What a flush hands to the journal.
     pub batch: Batch,
-    /// The names of the table's invariants, in its order.
-    pub names: Vec<Name>,
+    /// What a plan has to know of the table's invariants, in its order.
+    pub shapes: Vec<Shape>,
     pub ghost found: { state_of core ≡ durable_state journal },
     pub ghost waits: { waiting_of core ≡ [] },
     pub ghost known: { durable_of core ≡ (state_of core).count },
     pub ghost running: { is_shut_of core ≡ false },
     pub ghost open: { is_closed_of journal ≡ false },
     pub ghost sure: { doubtful_of journal ≡ durable_state journal },
-    pub ghost named: { T.names (core_table core) ≡ names.items },
+    pub ghost named: { names_of shapes.items ≡ T.names (core_table core) },
+    pub ghost meant: { (m : Meanings) → T.is_stated (core_table core) m → AreMeant m shapes.items },
+    pub ghost within: { AreWithin (length (state_of core).values) shapes.items },
 }
 
 impl<D: Disk + Drop, T: Invariants + Drop> Opening<D, T> {
@@ -90,11 +94,11 @@ impl<D: Disk + Drop, T: Invariants + Drop> Opening<D, T> {
             Err((fault, table)) => return Err((fault, journal.into_disk(), table)),
         };
         match made {
-            Ok((names, batch)) => Ok(Opening {
+            Ok((shapes, batch)) => Ok(Opening {
                 core,
                 journal,
                 batch,
-                names,
+                shapes,
             }),
             Err(_) => Err((Fault::Memory, journal.into_disk(), core.into_table())),
         }
@@ -110,21 +114,12 @@ impl<D: Disk + Drop, T: Invariants + Drop> Opening<D, T> {
 }
 
 // What takes memory beside the journal and the core.
-fn parts<T: Invariants>(alloc: Global, table: &T) -> Result<(Vec<Name>, Batch), AllocError>
-    ensures { IfOk result (λ made. made.0.items ≡ T.names table.now) }
+fn parts<T: Invariants>(alloc: Global, table: &T) -> Result<(Vec<Shape>, Batch), AllocError>
+    ensures named { IfOk result (λ made. names_of made.0.items ≡ T.names table.now) }
+    ensures meant { (m : Meanings) → T.is_stated table.now m → IfOk result (λ made. AreMeant m made.0.items) }
+    ensures within { IfOk result (λ made. AreWithin (T.vars table.now) made.0.items) }
 {
-    let names = names_of(alloc, table)?;
+    let shapes = shapes_of(alloc, table)?;
     let batch = Batch::new(alloc)?;
-    Ok((names, batch))
-}
-
-// The names of a table, in its order.
-fn names_of<T: Invariants>(alloc: Global, table: &T) -> Result<Vec<Name>, AllocError>
-    ensures { IfOk result (λ names. names.items ≡ T.names table.now) }
-{
-    let mut names = Vec::with_capacity(alloc, table.len())?;
-    for place in 0..table.len() {
-        names.push(table.name(place))?;
-    }
-    Ok(names)
+    Ok((shapes, batch))
 }

@@ -3,20 +3,20 @@
 ghost use Rattle.std.specs.Prelude.{◌≡◌, IfOk};
 ghost use Rattle.tmem_tree.specs.StepAnswers.{StepMeanings};
 ghost use Rattle.tmem_tree.specs.Plans.{FitsSteps};
-ghost use Rattle.tmem_tentative.specs.Cursors.{IsAt, IsAnswer};
+ghost use Rattle.tmem_tentative.specs.Cursors.{StandsIn, IsAnswer};
 
 use crate::calls::Calls;
 use crate::failure::Failure;
 use crate::printing::{print_fault, print_name, print_numbers, print_pair};
 use std::alloc::Global;
 use std::io::{self, Write};
-use tmem_builtins::names;
+use tmem_builtins::{names, nonneg, ordered, sum};
 use tmem_disk::{Fault, Name};
-use tmem_tentative::{Attempt, Cursor, Ending, Outcome, Reads, evaluate};
-use tmem_tree::{Plan, StoredSteps, Tx};
+use tmem_tentative::{Attempt, Cursor, Ending, Outcome, Probe, Reads, evaluate};
+use tmem_tree::{Footprint, MAX_CHECKS, Plan, Shape, StoredSteps, Tx};
 
-/// How often an evaluation is asked at most: once for each variable, and once more.
-const MOST_TURNS: u16 = 1025;
+/// How often an evaluation is asked at most: once for each variable and for each Check, and once more.
+const MOST_TURNS: u16 = 1033;
 
 /// Evaluates a transaction in both ways, where the variables have these values, and each further one 0. Prints what it comes
 /// to, and how often each way called a stored step; or that the two differ.
@@ -29,9 +29,42 @@ pub(crate) fn evaluate_twice<S: StoredSteps, W: Write>(
     calls: &Calls,
     out: &mut W,
 ) -> Result<(), Failure> {
-    match Plan::new(tx, steps, vars, &names()) {
+    match Plan::new(tx, steps, vars, &shapes()) {
         Ok(plan) => evaluate_plan(alloc, &plan, values, steps, calls, out),
         Err(fault) => Ok(print_fault(fault, out)?),
+    }
+}
+
+// The three invariants, each with its variables.
+fn shapes() -> [Shape; 3] {
+    let names = names();
+    [
+        Shape {
+            name: names[0],
+            footprint: Footprint::of(&[0]),
+        },
+        Shape {
+            name: names[1],
+            footprint: Footprint::of(&[2, 3]),
+        },
+        Shape {
+            name: names[2],
+            footprint: Footprint::of(&[0, 1]),
+        },
+    ]
+}
+
+// Whether the invariant of a test holds on the test's values.
+fn holds(probe: &Probe) -> bool {
+    let names = names();
+    let (first, second) = (names[0], names[1]);
+    let values = probe.values.as_slice();
+    if probe.name == first {
+        values.len() == 1 && nonneg(values)
+    } else if probe.name == second {
+        values.len() == 2 && ordered(values)
+    } else {
+        values.len() == 2 && sum(values)
     }
 }
 
@@ -47,7 +80,7 @@ fn evaluate_plan<S: StoredSteps, W: Write>(
     calls: &Calls,
     out: &mut W,
 ) -> Result<(), Failure>
-    requires { FitsSteps (S.arities steps.now) plan.now }
+    requires { FitsSteps (S.arities steps.now) plan.now.tree }
 {
     let _ = calls.take_steps();
     let plain = by_evaluate(alloc, plan, steps, values, calls, out)?;
@@ -89,7 +122,8 @@ fn value_of(values: &[i64], var: u16) -> i64 {
     }
 }
 
-// Evaluates a plan from the start, again after each variable that it needs. None where what it read is not what it was given.
+// Evaluates a plan from the start, again after each variable and each answer that it needs. None where what it read is not what
+// it was given.
 fn by_evaluate<S: StoredSteps, W: Write>(
     alloc: Global,
     plan: &Plan,
@@ -98,12 +132,22 @@ fn by_evaluate<S: StoredSteps, W: Write>(
     calls: &Calls,
     out: &mut W,
 ) -> Result<Trial, Failure>
-    requires { FitsSteps (S.arities steps.now) plan.now }
+    requires { FitsSteps (S.arities steps.now) plan.now.tree }
 {
     let mut reads = Reads::new(alloc);
+    let mut answers = [false; MAX_CHECKS];
+    let mut answered = 0;
     for _ in 0..MOST_TURNS {
-        match evaluated(alloc, plan, steps, &reads, calls, out)? {
+        let given = &answers[..answered];
+        match evaluated(alloc, plan, steps, &reads, given, calls, out)? {
             Outcome::Need(var) => read(&mut reads, var, value_of(values, var), out)?,
+            Outcome::Probe(probe) => {
+                if answered == MAX_CHECKS {
+                    return Ok(None);
+                }
+                answers[answered] = holds(&probe);
+                answered += 1;
+            }
             Outcome::Ended(attempt) => return Ok(where_read(attempt, &reads)),
         }
     }
@@ -125,18 +169,19 @@ fn evaluated<S: StoredSteps, W: Write>(
     plan: &Plan,
     steps: &S,
     reads: &Reads,
+    answers: &[bool],
     calls: &Calls,
     out: &mut W,
 ) -> Result<Outcome, Failure>
-    requires { FitsSteps (S.arities steps.now) plan.now }
+    requires { FitsSteps (S.arities steps.now) plan.now.tree }
 {
     let before = calls.steps();
-    match evaluate(alloc, plan, steps, reads) {
+    match evaluate(alloc, plan, steps, reads, answers) {
         Ok(outcome) => Ok(outcome),
         Err(fault) => {
             print_fault(fault, out)?;
             calls.go_back(before);
-            Ok(evaluate(alloc, plan, steps, reads)?)
+            Ok(evaluate(alloc, plan, steps, reads, answers)?)
         }
     }
 }
@@ -150,7 +195,7 @@ fn read<W: Write>(reads: &mut Reads, var: u16, value: i64, out: &mut W) -> Resul
     Ok(())
 }
 
-// Evaluates a plan by a cursor, which goes on after each variable that it needs.
+// Evaluates a plan by a cursor, which goes on after each variable and each answer that it needs.
 fn by_cursor<S: StoredSteps, W: Write>(
     alloc: Global,
     plan: &Plan,
@@ -158,7 +203,7 @@ fn by_cursor<S: StoredSteps, W: Write>(
     values: &[i64],
     out: &mut W,
 ) -> Result<Trial, Failure>
-    requires { FitsSteps (S.arities steps.now) plan.now }
+    requires { FitsSteps (S.arities steps.now) plan.now.tree }
 {
     let mut cursor = new_cursor(alloc, plan, out)?;
     for _ in 0..MOST_TURNS {
@@ -172,7 +217,7 @@ fn by_cursor<S: StoredSteps, W: Write>(
 
 // A cursor at the start of a plan.
 fn new_cursor<W: Write>(alloc: Global, plan: &Plan, out: &mut W) -> Result<Cursor, Failure>
-    ensures { (m : StepMeanings) → IfOk result (IsAt m plan.now) }
+    ensures { (m : StepMeanings) → IfOk result (StandsIn m plan.now) }
 {
     match Cursor::new(alloc, plan) {
         Ok(cursor) => Ok(cursor),
@@ -183,7 +228,7 @@ fn new_cursor<W: Write>(alloc: Global, plan: &Plan, out: &mut W) -> Result<Curso
     }
 }
 
-// Lets a cursor go on, and gives it the value that it needs, if it needs one.
+// Lets a cursor go on, and gives it the value or the answer that it needs, if it needs one.
 fn gone_on<S: StoredSteps, W: Write>(
     cursor: &mut Cursor,
     plan: &Plan,
@@ -191,13 +236,17 @@ fn gone_on<S: StoredSteps, W: Write>(
     values: &[i64],
     out: &mut W,
 ) -> Result<Option<Attempt>, Failure>
-    requires steps { FitsSteps (S.arities steps.now) plan.now }
-    requires at { (m : StepMeanings) → S.is_stated steps.now m → IsAt m plan.now cursor.old }
-    ensures { (m : StepMeanings) → S.is_stated steps.now m → IsAt m plan.now cursor.new }
+    requires steps { FitsSteps (S.arities steps.now) plan.now.tree }
+    requires stands { (m : StepMeanings) → S.is_stated steps.now m → StandsIn m plan.now cursor.old }
+    ensures { (m : StepMeanings) → S.is_stated steps.now m → StandsIn m plan.now cursor.new }
 {
     match resumed(cursor, plan, steps, out)? {
         Outcome::Need(var) => {
             cursor.give(var, value_of(values, var));
+            Ok(None)
+        }
+        Outcome::Probe(probe) => {
+            cursor.answer(holds(&probe));
             Ok(None)
         }
         Outcome::Ended(attempt) => Ok(Some(attempt)),
@@ -211,9 +260,9 @@ fn resumed<S: StoredSteps, W: Write>(
     steps: &S,
     out: &mut W,
 ) -> Result<Outcome, Failure>
-    requires steps { FitsSteps (S.arities steps.now) plan.now }
-    requires at { (m : StepMeanings) → S.is_stated steps.now m → IsAt m plan.now cursor.old }
-    ensures at { (m : StepMeanings) → S.is_stated steps.now m → IsAt m plan.now cursor.new }
+    requires steps { FitsSteps (S.arities steps.now) plan.now.tree }
+    requires stands { (m : StepMeanings) → S.is_stated steps.now m → StandsIn m plan.now cursor.old }
+    ensures stands { (m : StepMeanings) → S.is_stated steps.now m → StandsIn m plan.now cursor.new }
     ensures answer { IfOk result (IsAnswer cursor.new) }
 {
     match cursor.resume(plan, steps) {
@@ -261,6 +310,7 @@ fn print_ending<W: Write>(ending: Ending, out: &mut W) -> io::Result<()> {
         Ending::Normal => out.write_all(b"ended reads="),
         Ending::Retry => out.write_all(b"retry reads="),
         Ending::Abort(code) => write!(out, "aborted {code} reads="),
+        Ending::Broken(name) => write!(out, "broken {name} reads="),
     }
 }
 

@@ -1,6 +1,6 @@
 //! Settles transactions in a front, each call once more where it is refused.
 ghost use Rattle.std.specs.Prelude.{◌≡◌, length};
-ghost use Rattle.tmem_tree.specs.Plans.{FitsSteps, FitsVariables, FitsNames};
+ghost use Rattle.tmem_tree.specs.Plans.{FitsSteps, FitsVariables, FitsNames, FitsShapes};
 
 use crate::tasks::{ENDING, Task};
 use std::alloc::Global;
@@ -92,9 +92,10 @@ fn settle_twice<
     call: Call,
 ) -> Result<(), Fault>
     requires vars { length N.opening.values ≡ 4 }
-    requires steps { FitsSteps (S.arities front.now.steps) plan.now }
+    requires steps { FitsSteps (S.arities front.now.steps) plan.now.tree }
     requires variables { FitsVariables front.now.vars plan.now }
-    requires names { FitsNames N.program.names plan.now }
+    requires names { FitsNames N.program.names plan.now.tree }
+    requires shapes { FitsShapes N.program.tests plan.now }
 {
     let first = settled(rt, front, pass, plan, call);
     say(rt, &first);
@@ -120,9 +121,10 @@ fn settled<
     plan: &Plan,
     call: Call,
 ) -> Result<Settled, Fault>
-    requires steps { FitsSteps (S.arities front.now.steps) plan.now }
+    requires steps { FitsSteps (S.arities front.now.steps) plan.now.tree }
     requires variables { FitsVariables front.now.vars plan.now }
-    requires names { FitsNames N.program.names plan.now }
+    requires names { FitsNames N.program.names plan.now.tree }
+    requires shapes { FitsShapes N.program.tests plan.now }
 {
     match call {
         Call::Attempt => {

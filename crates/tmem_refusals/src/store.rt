@@ -38,12 +38,18 @@ fn with_transaction<T: Invariants + Drop, S: StoredSteps + Drop>(
     requires { T.vars table ≡ 4 }
 {
     match World::open(alloc, disk, VARS, SLOTS, table, steps) {
-        Ok(mut world) => {
-            put_seven(alloc, &mut world)?;
-            Ok(world.into_disk())
-        }
+        Ok(world) => left_by(alloc, world),
         Err((fault, _disk)) => Err(fault),
     }
+}
+
+// Puts the transaction into a world, and gives its device.
+fn left_by<D: Disk + Drop, T: Invariants + Drop, S: StoredSteps + Drop>(
+    alloc: Global,
+    mut world: World<D, T, S>,
+) -> Result<D, Fault> {
+    put_seven(alloc, &mut world)?;
+    Ok(world.into_disk())
 }
 
 // Commits the transaction, and makes it durable.

@@ -1,5 +1,5 @@
 -- The line that is printed for a reply.
-use Rattle.std.specs.Prelude.{ℕ, ℤ, List, [], ◌∷◌, ◌++◌, flat_map, codes}
+use Rattle.std.specs.Prelude.{ℕ, ℤ, true, false, List, [], ◌∷◌, ◌++◌, flat_map, codes}
 use Rattle.std.specs.Fmt.{decimal, signed_decimal}
 use Rattle.tmem_disk.specs.Fault.{text_of}
 use Rattle.tmem_tree.specs.declared.settled.Settled.{Settled}
@@ -24,6 +24,8 @@ settled_line (Refused name) = codes "refused " ++ name
 abbrev pub line_of : Reply → List ℕ
 line_of reply.Begun = codes "begun"
 line_of (reply.Read var value) = codes "read " ++ decimal var ++ codes " " ++ signed_decimal value
+line_of (reply.Probed name true) = codes "probe " ++ name ++ codes " yes"
+line_of (reply.Probed name false) = codes "probe " ++ name ++ codes " no"
 line_of reply.Ended = codes "ended"
 line_of reply.Idle = codes "idle"
 line_of (reply.Settled settled) = settled_line settled

@@ -17,6 +17,8 @@ impl fmt::Display for ReplyLine {
         match &self.0 {
             Reply::Begun => write!(f, "begun"),
             Reply::Read { var, value } => write!(f, "read {var} {value}"),
+            Reply::Probed { name, held: true } => write!(f, "probe {name} yes"),
+            Reply::Probed { name, held: false } => write!(f, "probe {name} no"),
             Reply::Ended => write!(f, "ended"),
             Reply::Idle => write!(f, "idle"),
             Reply::Settled(settled) => write_settled(f, settled),

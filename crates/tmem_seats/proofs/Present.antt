@@ -56,6 +56,7 @@ ending_no_conflict p ended.Normal s durable e registers =
     kept_or_not (first_broken p s e) (sound_answer s durable e registers) (empty_or_not (is_empty e) (s.count - durable == 256) (s.count == 18446744073709551615) (Seen s.count registers) (Committed s.count registers))
 ending_no_conflict p ended.Retry s durable e registers = λ is. cc
 ending_no_conflict p (ended.Abort code) s durable e registers = λ is. cc
+ending_no_conflict p (ended.Broken name) s durable e registers = λ is. cc
 
 -- an attempt on present values is told no conflict
 pub no_conflict : (p : Program) (shut : Bool) (s : State) (durable : ℕ) (a : Attempt) → is_stale s a.reads.entries ≡ false → settle_answer p shut s durable a ≢ Err fault.Conflict

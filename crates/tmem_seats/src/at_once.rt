@@ -4,7 +4,7 @@ ghost use Rattle.tmem_core.specs.SettleAnswer.{is_stale};
 ghost use Rattle.tmem_tentative.specs.Cursors.{HasEnded, attempt_of};
 ghost use Rattle.tmem_tentative.specs.Fits.{IsForVariables, IsForNames};
 ghost use Rattle.tmem_tentative.specs.Right.{IsRight};
-ghost use Rattle.tmem_tree.specs.Plans.{FitsSteps, FitsVariables, FitsNames};
+ghost use Rattle.tmem_tree.specs.Plans.{FitsSteps, FitsVariables, FitsNames, FitsShapes};
 ghost use Rattle.tmem_tree.specs.StepAnswers.{StepMeanings};
 ghost use Rattle.tmem_seats.specs.Histories.{after};
 
@@ -17,8 +17,8 @@ use tmem_tentative::{Cursor, Progress};
 use tmem_tree::{Plan, StoredSteps};
 
 impl<N: StoreNaming, T: Invariants + Drop> CoreSeat<N, T> {
-    /// Evaluates a plan in place, from its start to its end, on the present values: whoever settles the attempt under the same lock is
-    /// not told `Conflict`. Its only fault is want of memory.
+    /// Evaluates a plan in place, from its start to its end, on the present values, and tests what it checks: whoever settles the attempt
+    /// under the same lock is not told `Conflict`. Its only fault is want of memory.
     pub fn evaluate<R: Wait, S: StoredSteps>(
         &self,
         rt: &R,
@@ -26,11 +26,12 @@ impl<N: StoreNaming, T: Invariants + Drop> CoreSeat<N, T> {
         plan: &Plan,
         steps: &S,
     ) -> Result<(), Fault>
-        requires steps { FitsSteps (S.arities steps.now) plan.now }
+        requires steps { FitsSteps (S.arities steps.now) plan.now.tree }
         requires variables { FitsVariables (length N.opening.values) plan.now }
-        requires names { FitsNames N.program.names plan.now }
+        requires names { FitsNames N.program.names plan.now.tree }
+        requires shapes { FitsShapes N.program.tests plan.now }
         ensures ended { IfOk result (λ _. HasEnded cursor.new) }
-        ensures right { (m : StepMeanings) → S.is_stated steps.now m → IfOk result (λ _. IsRight m plan.now (attempt_of cursor.new)) }
+        ensures right { (m : StepMeanings) → S.is_stated steps.now m → IfOk result (λ _. IsRight m N.program.tests plan.now.tree (attempt_of cursor.new)) }
         ensures variables { IfOk result (λ _. IsForVariables (length N.opening.values) (attempt_of cursor.new)) }
         ensures names { IfOk result (λ _. IsForNames N.program.names (attempt_of cursor.new)) }
         ensures present { IfOk result (λ _. is_stale (after N.opening self.now.accepted) (attempt_of cursor.new).reads.entries ≡ false) }
@@ -42,6 +43,12 @@ impl<N: StoreNaming, T: Invariants + Drop> CoreSeat<N, T> {
                 Progress::Need(var) => {
                     let value = self.peek(var);
                     cursor.give(var, value);
+                }
+                Progress::Probe => {
+                    // each name that it checks has a shape
+                    let _shapes = plan.shapes();
+                    let held = self.probe(cursor.probe());
+                    cursor.answer(held);
                 }
                 Progress::Ended => return Ok(()),
             }

@@ -27,7 +27,7 @@ use tmem_disk::{Fault, Name};
 use tmem_invariants::Invariants;
 use tmem_record::{Batch, Effect};
 use tmem_spine::{CoreSide, JournalSide, Pass, Spine};
-use tmem_tentative::{Attempt, Reads};
+use tmem_tentative::{Attempt, Probe, Reads};
 
 /// The core, beside its seat. Contracts see what it accepted, how many are known durable, how many passes it gave out,
 /// whether it is shut, whether it then still waits for a flush, and how its device failed.
@@ -87,7 +87,7 @@ impl<N: StoreNaming, T: Invariants + Drop> CoreSeat<N, T> {
         requires names { All (λ name. IsTrue (has_name N.program.names name)) attempt.now.effect.names }
         ensures trimmed { (self.old.trimmed ≤ self.new.trimmed) × (count N.name.start pass.old.seen ≤ self.new.trimmed) }
         ensures answer { answer_of result attempt.now.registers ≡ settle_answer N.program self.old.is_shut (after N.opening self.old.accepted) self.new.trimmed attempt.now }
-        ensures verdict { (tx : TxOf) → IsRight N.program.steps tx attempt.now
+        ensures verdict { (tx : TxOf) → IsRight N.program.steps N.program.tests tx attempt.now
             → answer_of result attempt.now.registers ≡ judged self.old.is_shut (after N.opening self.old.accepted) self.new.trimmed attempt.now.reads.entries (verdict N.program tx (after N.opening self.old.accepted)) }
         ensures number { (after N.opening self.old.accepted).count ≡ count N.name.start self.old.accepted }
         ensures retries { RetriesAt (count N.name.start self.old.accepted) result }
@@ -117,7 +117,7 @@ impl<N: StoreNaming, T: Invariants + Drop> CoreSeat<N, T> {
         requires names { All (λ name. IsTrue (has_name N.program.names name)) attempt.now.effect.names }
         ensures trimmed { (self.old.trimmed ≤ self.new.trimmed) × (count N.name.start pass.old.seen ≤ self.new.trimmed) }
         ensures answer { result ≡ settle_answer N.program self.old.is_shut (after N.opening self.old.accepted) self.new.trimmed attempt.now }
-        ensures verdict { (tx : TxOf) → IsRight N.program.steps tx attempt.now
+        ensures verdict { (tx : TxOf) → IsRight N.program.steps N.program.tests tx attempt.now
             → result ≡ judged self.old.is_shut (after N.opening self.old.accepted) self.new.trimmed attempt.now.reads.entries (verdict N.program tx (after N.opening self.old.accepted)) }
         ensures number { (after N.opening self.old.accepted).count ≡ count N.name.start self.old.accepted }
         ensures accepted { self.new.accepted ≡ self.old.accepted ++ marked pass.old.mark (accepted_by result attempt.now.effect) }
@@ -175,6 +175,15 @@ impl<N: StoreNaming, T: Invariants + Drop> CoreSeat<N, T> {
         ensures sound { IsSoundState N.program (after N.opening self.now.accepted) }
     {
         self.core.peek(var)
+    }
+
+    /// Whether an invariant holds on these values, which a transaction sees at its point, by what the program's names mean.
+    pub fn probe(&self, probe: &Probe) -> bool
+        requires named { has_name N.program.names probe.now.name ≡ true }
+        requires filled { length probe.now.values ≡ length (N.program.tests.footprint probe.now.name) }
+        ensures { result ≡ N.program.tests.test probe.now.name probe.now.values }
+    {
+        self.core.probe(probe)
     }
 
     /// Pushes the present values of variables, in their order. Refused by `Memory`.

@@ -1,44 +1,66 @@
 -- What a cursor that stands in the evaluation of a plan answers, and where it stands then.
-use Rattle.std.proofs.Common.{◌≡◌, ℕ, ℤ, pos, Bool, true, false, List, [], Some, None, nat_eq, cond, length, ◌≤◌, arith, refl, sym, ap, ◌∙◌, subst}
+use Rattle.std.proofs.Common.{◌≡◌, ℕ, ℤ, pos, Bool, true, false, List, [], ◌∷◌, ◌++◌, Some, None, nat_eq, cond, length, ◌≤◌, append-nil, append_assoc, arith, refl, sym, ap, ◌∙◌, subst}
 use mathlib.Core.Logic.{∥∥₁_elim}
 use Rattle.std.proofs.lemmas.Bool.{eqb-true}
 use Rattle.indexmap.specs.IndexMap.{insert_entry}
+use Rattle.tmem_invariants.specs.Meanings.{Meanings}
 use Rattle.tmem_record.specs.State.{no_effect}
 use Rattle.tmem_record.specs.Writes.{look}
 use Rattle.tmem_tree.specs.Limits.{choices}
-use Rattle.tmem_tree.specs.Plans.{IsWithinLimits, FitsSteps}
+use Rattle.tmem_tree.specs.Plans.{PlanView, IsWithinLimits, FitsSteps, FitsNames}
 use Rattle.tmem_tree.specs.Run.{no_registers}
+use Rattle.tmem_tree.specs.Shapes.{footprint_in, names_of}
+use Rattle.tmem_tree.specs.declared.shape.Shape.{Shape}
 use Rattle.tmem_tree.specs.declared.tx.Tx.{Tx}
 use Rattle.tmem_tree.specs.StepAnswers.{StepMeanings}
+use Rattle.tmem_tree.specs.Visited.{Ask, Visit, Probe}
+use Rattle.tmem_tentative.specs.declared.attempt.Outcome.TheVariants as outcome
 use Rattle.tmem_tentative.specs.declared.attempt.Progress.{Progress}
-use Rattle.tmem_tentative.specs.declared.attempt.Progress.TheVariants.{Need, Ended}
+use Rattle.tmem_tentative.specs.declared.attempt.Progress.TheVariants as progress
 use Rattle.tmem_tentative.specs.declared.attempt.Attempt.{Attempt}
 use Rattle.tmem_tentative.specs.declared.attempt.Ending.{Ending}
-use Rattle.tmem_tentative.specs.declared.attempt.Ending.TheVariants.{Normal, Retry, Abort}
+use Rattle.tmem_tentative.specs.declared.attempt.Ending.TheVariants.{Normal, Retry, Abort, Broken}
+use Rattle.tmem_tentative.specs.declared.course.Course.{Course}
 use Rattle.tmem_tentative.specs.declared.cursor.Cursor.{Cursor}
-use Rattle.tmem_tentative.specs.declared.flow.Flow as code
-use Rattle.tmem_tentative.specs.declared.flow.Flow.TheVariants as flow
 use Rattle.tmem_tentative.specs.declared.save.Save.{Save}
 use Rattle.tmem_tentative.specs.declared.cursor.Stage.TheVariants.{Going}
-use Rattle.tmem_tentative.specs.Eval.{Goes, Needs, Retries, Aborts, eval}
+use Rattle.tmem_tentative.specs.Eval.{Taken, Goes, Retries, Leaves, Gives_up, Breaks, eval}
 use Rattle.tmem_tentative.specs.Ends.{start_state, ended_as, IsEndOf, IsMadeOf}
-use Rattle.tmem_tentative.specs.Logs.{run_state_of}
-use Rattle.tmem_tentative.specs.Places.{Covers, Place, LeadsTo, MayRunFrom, RunsTo, place_of, eval_from, WritesFit, NamesFit}
-use Rattle.tmem_tentative.specs.Cursors.{IsAt, IsAtStage, MayGoOn, StandsAt, Answered, HasEnded, given, outcome_of, place}
+use Rattle.tmem_tentative.specs.Logs.{AreOf, Out, Went, Stopped, Gave_way, Left, IsLeaving, left_for, run_state_of}
+use Rattle.tmem_tentative.specs.Places.{Covers, Place, LeadsTo, MayRunFrom, RunsTo, place_of, place_at, eval_from, with_more, read_behind, WritesFit, NamesFit}
+use Rattle.tmem_tentative.specs.Right.{HaveAnswered, IsOutcome}
+use Rattle.tmem_tentative.specs.Cursors.{IsAt, StandsIn, IsAtStage, MayGoOn, StandsAt, AsksFor, Answered, HasEnded, given, answers, unused, taken, outcome_of, place}
 use Rattle.tmem_tentative.specs.CursorFacts.{MayGoOn-prop}
 use Rattle.tmem_tentative.proofs.EvalSeen.{covers_refl}
-use Rattle.tmem_tentative.proofs.MadeOutcomes.{Answers, made_answers, need_lacks, end_made}
+use Rattle.tmem_tentative.proofs.MadeOutcomes.{FitsPlan, need_lacks, made_fits_plan, end_made}
 use Rattle.tmem_tentative.proofs.ReadEntries.{look-insert}
+use Rattle.tmem_tentative.proofs.RightOutcomes.{made_right}
 
 -- what was answered last is what the evaluation comes to
-pub at_made : (m : StepMeanings) (plan : Tx) (cursor : Cursor) (p : Progress) → IsAt m plan cursor → Answered cursor p → IsMadeOf (eval m (given cursor) plan start_state) (outcome_of cursor p)
-at_made m plan cursor (Need var) at is = let h = subst (λ s. IsAtStage m plan s cursor) is at in h.1
-at_made m plan cursor Ended at is = subst (λ s. IsAtStage m plan s cursor) is at
+pub at_made : (m : StepMeanings) (footprint : List ℕ → List ℕ) (plan : Tx) (cursor : Cursor) (p : Progress) → IsAtStage m footprint plan cursor.stage cursor → Answered cursor p
+    → IsMadeOf (eval m footprint (given cursor) plan (start_state (answers cursor))) (unused cursor) (outcome_of cursor p)
+at_made m footprint plan cursor (progress.Need var) at is =
+    let h = subst (λ s. IsAtStage m footprint plan s cursor) is at in h.1
+at_made m footprint plan cursor progress.Probe at is =
+    let h = subst (λ s. IsAtStage m footprint plan s cursor) is at in h.1
+at_made m footprint plan cursor progress.Ended at is = subst (λ s. IsAtStage m footprint plan s cursor) is at
 
--- so its answer is right, and fits the plan
-pub cursor_answers : {IsStated : StepMeanings → Type 0} (plan : Tx) (cursor : Cursor) (p : Progress) → ∥ ((m : StepMeanings) × IsStated m) ∥₁ → ((m : StepMeanings) → IsStated m → IsAt m plan cursor) → Answered cursor p → Answers IsStated (given cursor) plan (outcome_of cursor p)
-cursor_answers plan cursor p some at is =
-    made_answers _ some (given cursor) plan (outcome_of cursor p) (λ m stated. at_made m plan cursor p (at m stated) is)
+-- so it is right
+pub at_right : (m : StepMeanings) (tests : Meanings) (plan : Tx) (cursor : Cursor) (p : Progress) → IsAt m tests plan cursor → Answered cursor p → IsOutcome m tests plan (given cursor) (length (answers cursor)) (outcome_of cursor p)
+at_right m tests plan cursor p at is =
+    made_right m tests plan (given cursor) (answers cursor) (unused cursor) (outcome_of cursor p) at.answered (at_made m tests.footprint plan cursor p at.stands is)
+
+-- and it fits the plan
+pub stands_fit : {IsStated : StepMeanings → Type 0} (plan : PlanView) (cursor : Cursor) (p : Progress) → ∥ ((m : StepMeanings) × IsStated m) ∥₁ → ((m : StepMeanings) → IsStated m → StandsIn m plan cursor) → Answered cursor p → FitsPlan (given cursor) plan (outcome_of cursor p)
+stands_fit plan cursor p some stands is =
+    made_fits_plan some (given cursor) plan (answers cursor) (unused cursor) (outcome_of cursor p) (λ m stated. at_made m (footprint_in plan.shapes) plan.tree cursor p (stands m stated) is)
+
+-- with the same values and answers, where it stands too
+pub at_still : (m : StepMeanings) (tests : Meanings) (plan : Tx) (old new : Cursor) → IsAtStage m tests.footprint plan new.stage new → given new ≡ given old → answers new ≡ answers old → IsAt m tests plan old → IsAt m tests plan new
+at_still m tests plan old new stands same_given same_answers at = record {
+  stands = stands;
+  answered = subst (λ es. HaveAnswered m tests plan es (answers new)) (sym same_given) (subst (HaveAnswered m tests plan (given old)) (sym same_answers) at.answered);
+}
 
 -- reads that have a new value have the values before it
 covers_before : (reads seen : List (ℕ × ℤ)) (var : ℕ) (n : ℤ) → look seen var ≡ None → Covers reads (insert_entry nat_eq seen var n) → Covers reads seen
@@ -47,72 +69,131 @@ covers_before reads seen var n none covers = record { at = λ v x h. covers.at v
   on v true e x h = let no : look seen v ≡ None = ap (look seen) (eqb-true v var e) ∙ none in cc
   on v false e x h = h
 
--- once it is given the value that it needs
-pub given_stands : (m : StepMeanings) (plan : Tx) (p : Place) (seen : List (ℕ × ℤ)) (var : ℕ) (n : ℤ) → eval m seen plan start_state ≡ Needs var → StandsAt m plan p seen (insert_entry nat_eq seen var n) → StandsAt m plan p (insert_entry nat_eq seen var n) (insert_entry nat_eq seen var n)
-given_stands m plan p seen var n e stands reads c d =
-    stands reads (covers_before reads seen var n (need_lacks m seen plan var e) c) d
+module _ (m : StepMeanings) (footprint : List ℕ → List ℕ) (plan : Tx) (answers : List Bool) (p : Place) (seen : List (ℕ × ℤ)) where
+  -- one more value is one that it lacked
+  pub given_covers : (var : ℕ) (n : ℤ) → AsksFor m footprint plan seen answers (Visit var) → Covers (insert_entry nat_eq seen var n) seen
+  given_covers var n asks =
+      covers_before (insert_entry nat_eq seen var n) seen var n (need_lacks m footprint seen plan answers var asks) (covers_refl _)
+
+  -- once it is given the value that it needs
+  pub given_stands : (var : ℕ) (n : ℤ) (left : List Bool) → AsksFor m footprint plan seen answers (Visit var) → StandsAt m footprint plan answers p seen (record { reads = insert_entry nat_eq seen var n; left = left })
+      → StandsAt m footprint plan answers p (insert_entry nat_eq seen var n) (record { reads = insert_entry nat_eq seen var n; left = left })
+  given_stands var n left asks stands reads more c d =
+      stands reads more (covers_before reads seen var n (need_lacks m footprint seen plan answers var asks) c) d
+
+  -- once it is answered
+  pub answered_stands : (left : List Bool) (held : Bool) → left ≡ [] → StandsAt m footprint plan answers p seen (record { reads = seen; left = left }) → StandsAt m footprint plan (answers ++ held ∷ []) p seen (record { reads = seen; left = held ∷ [] })
+  answered_stands left held none stands reads more c d =
+      ap (λ all. eval m footprint reads plan (start_state all)) (append_assoc answers (held ∷ []) more)
+      ∙ stands reads (held ∷ more) c d
+      ∙ ap (λ l. eval_from m footprint reads plan p (record { reads = seen; left = l ++ held ∷ more })) none
 
 -- the reads stay
 end_reads : (old new : Attempt) (end : Ending) → IsEndOf old end new → new.reads.entries ≡ old.reads.entries
 end_reads old new Normal is = ap (λ (a : Attempt). a.reads.entries) is
 end_reads old new Retry is = ap (λ rs. rs.entries) is.0
 end_reads old new (Abort code) is = ap (λ rs. rs.entries) is.0
+end_reads old new (Broken name) is = ap (λ rs. rs.entries) is.0
 
 -- a run may go on from where the cursor stands
-pub may_run : {IsStated : StepMeanings → Type 0} {arities : List ℕ} (plan : Tx) (cursor : Cursor) → ∥ ((m : StepMeanings) × IsStated m) ∥₁ → IsWithinLimits plan → FitsSteps arities plan → cursor.stage ≡ Going → ((m : StepMeanings) → IsStated m → IsAt m plan cursor) → MayRunFrom arities plan (place cursor)
-may_run plan cursor some limits steps going at =
-    let may : MayGoOn plan (place cursor) = ∥∥₁_elim some (MayGoOn-prop plan (place cursor)) (λ p. (subst (λ s. IsAtStage p.0 plan s cursor) going (at p.0 p.1)).0) in
-    record { registers = limits.registers; steps = steps; deep = limits.shallow; enough = may.enough; writes = (0, may.writes); names = (0, may.names) }
+pub may_run : {IsStated : StepMeanings → Type 0} {arities : List ℕ} (plan : PlanView) (cursor : Cursor) → ∥ ((m : StepMeanings) × IsStated m) ∥₁ → IsWithinLimits plan.tree → FitsSteps arities plan.tree → FitsNames (names_of plan.shapes) plan.tree → cursor.stage ≡ Going
+    → ((m : StepMeanings) → IsStated m → StandsIn m plan cursor) → MayRunFrom arities (names_of plan.shapes) plan.tree (place cursor)
+may_run plan cursor some limits steps known going stands =
+    let may : MayGoOn plan.tree (place cursor) = ∥∥₁_elim some (MayGoOn-prop plan.tree (place cursor)) (λ p. (subst (λ s. IsAtStage p.0 (footprint_in plan.shapes) plan.tree s cursor) going (stands p.0 p.1)).0) in
+    record { registers = limits.registers; steps = steps; known = known; deep = limits.shallow; enough = may.enough; writes = (0, may.writes); names = (0, may.names) }
 
--- the flow of a run that has ended so
-abbrev pub flow_at : Ending → code.Flow
-flow_at Normal = flow.Normal
-flow_at Retry = flow.Retry
-flow_at (Abort code) = flow.Abort code
+-- how a run has come out that has ended so
+abbrev pub out_for : Ending → Out
+out_for Normal = Went
+out_for Retry = Gave_way
+out_for (Abort code) = Left (Gives_up code)
+out_for (Broken name) = Left (Breaks name)
 
-module _ {m : StepMeanings} {plan : Tx} {before : Place} {seen : List (ℕ × ℤ)} (stands : StandsAt m plan before seen seen) where
-  -- behind a run that needs a value
-  waits : {after : Place} {var : ℕ} → LeadsTo m seen plan before (flow.Need var) after → (eval m seen plan start_state ≡ Needs var) × ((n : ℤ) → StandsAt m plan after seen (insert_entry nat_eq seen var n))
-  waits {var = var} l = (stands seen (covers_refl seen) (covers_refl seen) ∙ l.needs var refl, λ n reads c d. stands reads c c ∙ l.goes_on reads n c d)
+pub leaving_out : (end : Ending) → IsLeaving end → Left (left_for end) ≡ out_for end
+leaving_out Normal is = absurd is
+leaving_out Retry is = absurd is
+leaving_out (Abort code) is = refl
+leaving_out (Broken name) is = refl
+
+module _ (m : StepMeanings) (footprint : List ℕ → List ℕ) (plan : Tx) (answers : List Bool) (before : Place) (seen : Taken) (stands : StandsAt m footprint plan answers before seen.reads seen) where
+  from_start : eval m footprint seen.reads plan (start_state answers) ≡ eval_from m footprint seen.reads plan before (with_more seen [])
+  from_start =
+      ap (λ all. eval m footprint seen.reads plan (start_state all)) (sym (append-nil answers)) ∙ stands seen.reads [] (covers_refl seen.reads) (covers_refl seen.reads)
+
+  -- behind a run that asks
+  stops : {ask : Ask} {after : Place} {left : List Bool} → LeadsTo m footprint seen plan before (Stopped ask) after left → AsksFor m footprint plan seen.reads answers ask
+  stops {ask} l = from_start ∙ l.asks ask refl
+
+  goes_on : {ask : Ask} {after : Place} {left : List Bool} → LeadsTo m footprint seen plan before (Stopped ask) after left → (n : ℤ) → StandsAt m footprint plan answers after seen.reads (record { reads = read_behind (Stopped ask) seen.reads n; left = left })
+  goes_on l n reads more c d = stands reads more c c ∙ l.goes_on reads n more c d
 
   -- behind one that has ended
-  ends : {path : List ℕ} {saves : List Save} (end : Ending) (old : Attempt) → seen ≡ old.reads.entries → LeadsTo m seen plan before (flow_at end) (place_of old path saves) → eval m seen plan start_state ≡ ended_as end (run_state_of old)
-  ends end old same l = stands seen (covers_refl seen) (covers_refl seen) ∙ on end l where
-    on : {path : List ℕ} {saves : List Save} (end : Ending) → LeadsTo m seen plan before (flow_at end) (place_of old path saves) → eval_from m seen plan before seen ≡ ended_as end (run_state_of old)
-    on Normal l = l.goes_on seen (pos 0) (covers_refl seen) (covers_refl seen) ∙ ap (λ es. Goes (record { registers = old.registers; effect = old.effect; seen = es })) same
-    on Retry l = l.goes_on seen (pos 0) (covers_refl seen) (covers_refl seen) ∙ ap (λ es. Retries es) same
-    on (Abort code) l = l.goes_on seen (pos 0) (covers_refl seen) (covers_refl seen) ∙ ap (λ es. Aborts code es) same
+  ends : {path : List ℕ} {saves : List Save} {left : List Bool} (end : Ending) (log : Attempt) → seen.reads ≡ log.reads.entries → LeadsTo m footprint seen plan before (out_for end) (place_of log path saves) left
+      → eval m footprint seen.reads plan (start_state answers) ≡ ended_as end (run_state_of log left)
+  ends {left = left} end log same l = from_start ∙ on end l where
+    both : ◌≡◌ {A = Taken} (record { reads = seen.reads; left = left ++ [] }) (record { reads = log.reads.entries; left = left })
+    both = ap (λ es. record { reads = es; left = left ++ [] }) same ∙ ap (λ l. record { reads = log.reads.entries; left = l }) (append-nil left)
 
-module _ (m : StepMeanings) (plan : Tx) (old : Cursor) (log : Attempt) (going : old.stage ≡ Going) (at : IsAt m plan old) (reads : log.reads ≡ old.attempt.reads) where
-  here : MayGoOn plan (place old) × StandsAt m plan (place old) (given old) (given old)
-  here = subst (λ s. IsAtStage m plan s old) going at
+    on : {path : List ℕ} {saves : List Save} (end : Ending) → LeadsTo m footprint seen plan before (out_for end) (place_of log path saves) left → eval_from m footprint seen.reads plan before (with_more seen []) ≡ ended_as end (run_state_of log left)
+    on Normal l = l.goes_on seen.reads (pos 0) [] (covers_refl seen.reads) (covers_refl seen.reads) ∙ ap (λ (t : Taken). Goes (record { registers = log.registers; effect = log.effect; seen = t })) both
+    on Retry l = l.goes_on seen.reads (pos 0) [] (covers_refl seen.reads) (covers_refl seen.reads) ∙ ap (λ (t : Taken). Retries t) both
+    on (Abort code) l = l.goes_on seen.reads (pos 0) [] (covers_refl seen.reads) (covers_refl seen.reads) ∙ ap (λ (t : Taken). Leaves (Gives_up code) t) both
+    on (Broken name) l = l.goes_on seen.reads (pos 0) [] (covers_refl seen.reads) (covers_refl seen.reads) ∙ ap (λ (t : Taken). Leaves (Breaks name) t) both
+
+module _ (m : StepMeanings) (footprint : List ℕ → List ℕ) (plan : Tx) (old : Cursor) (course : Course) (going : old.stage ≡ Going) (at : IsAtStage m footprint plan old.stage old) (reads : course.attempt.reads ≡ old.course.attempt.reads) where
+  here : MayGoOn plan (place old) × StandsAt m footprint plan (answers old) (place old) (given old) (taken old)
+  here = subst (λ s. IsAtStage m footprint plan s old) going at
+
+  module _ {IsStated : StepMeanings → Type 0} {shapes : List Shape} {saves : List Save} {left : List Bool} {ask : Ask} (long : length saves ≡ length old.saves.items) (run : RunsTo IsStated shapes (taken old) plan (place old) (Stopped ask) (place_at course saves) left) (leads : LeadsTo m footprint (taken old) plan (place old) (Stopped ask) (place_at course saves) left) where
+    may_still : MayGoOn plan (place_at course saves)
+    may_still = record { enough = omega (arith, here.0.enough, long); writes = run.writes 0 here.0.writes; names = run.names 0 here.0.names }
+
+    asks_still : AsksFor m footprint plan course.attempt.reads.entries (answers old) ask
+    asks_still = subst (λ rs. AsksFor m footprint plan rs.entries (answers old) ask) (sym reads) (stops m footprint plan (answers old) (place old) (taken old) here.1 leads)
+
+    stands_still : (n : ℤ) → StandsAt m footprint plan (answers old) (place_at course saves) course.attempt.reads.entries (record { reads = read_behind (Stopped ask) course.attempt.reads.entries n; left = left })
+    stands_still n = subst (λ rs. StandsAt m footprint plan (answers old) (place_at course saves) rs.entries (record { reads = read_behind (Stopped ask) rs.entries n; left = left })) (sym reads) (goes_on m footprint plan (answers old) (place old) (taken old) here.1 leads n)
 
   -- a cursor that has gone on to a value that it needs
-  pub waits_at : {IsStated : StepMeanings → Type 0} {path : List ℕ} {saves : List Save} {var : ℕ} → IsStated m → length saves ≡ length old.saves.items → RunsTo IsStated (given old) plan (place old) (flow.Need var) (place_of log path saves)
-      → MayGoOn plan (place_of log path saves) × (eval m log.reads.entries plan start_state ≡ Needs var) × ((n : ℤ) → StandsAt m plan (place_of log path saves) log.reads.entries (insert_entry nat_eq log.reads.entries var n))
-  waits_at {path = path} {saves = saves} {var = var} stated long run =
-      let w = waits here.1 (run.leads m stated) in
-      let facts = subst (λ r. (eval m r.entries plan start_state ≡ Needs var) × ((n : ℤ) → StandsAt m plan (place_of log path saves) r.entries (insert_entry nat_eq r.entries var n))) (sym reads) w in
-      (record { enough = omega (arith, here.0.enough, long); writes = run.writes 0 here.0.writes; names = run.names 0 here.0.names }, facts.0, facts.1)
+  pub waits_at : {IsStated : StepMeanings → Type 0} {shapes : List Shape} {saves : List Save} {left : List Bool} {var : ℕ} → IsStated m → AreOf shapes footprint → length saves ≡ length old.saves.items → RunsTo IsStated shapes (taken old) plan (place old) (Stopped (Visit var)) (place_at course saves) left
+      → MayGoOn plan (place_at course saves) × AsksFor m footprint plan course.attempt.reads.entries (answers old) (Visit var)
+      × ((n : ℤ) → StandsAt m footprint plan (answers old) (place_at course saves) course.attempt.reads.entries (record { reads = insert_entry nat_eq course.attempt.reads.entries var n; left = left }))
+  waits_at stated of long run =
+      let leads = run.leads m footprint stated of in
+      (may_still long run leads, asks_still long run leads, stands_still long run leads)
+
+  -- one that has gone on to a test
+  pub tests_at : {IsStated : StepMeanings → Type 0} {shapes : List Shape} {saves : List Save} {left : List Bool} {name : List ℕ} {values : List ℤ} → IsStated m → AreOf shapes footprint → length saves ≡ length old.saves.items → RunsTo IsStated shapes (taken old) plan (place old) (Stopped (Probe name values)) (place_at course saves) left
+      → MayGoOn plan (place_at course saves) × AsksFor m footprint plan course.attempt.reads.entries (answers old) (Probe name values)
+      × StandsAt m footprint plan (answers old) (place_at course saves) course.attempt.reads.entries (record { reads = course.attempt.reads.entries; left = left }) × (left ≡ [])
+  tests_at {name = name} {values = values} stated of long run =
+      let leads = run.leads m footprint stated of in
+      (may_still long run leads, asks_still long run leads, stands_still long run leads (pos 0), leads.spent name values refl)
 
   -- one that has gone on to an end
-  pub ended_at : {path : List ℕ} {saves : List Save} (end : Ending) (new : Cursor) → LeadsTo m (given old) plan (place old) (flow_at end) (place_of log path saves) → IsEndOf log end new.attempt → HasEnded new → IsAt m plan new
-  ended_at end new l is ended =
-      let same : given new ≡ given old = end_reads log new.attempt end is ∙ ap (λ rs. rs.entries) reads in
-      subst (λ s. IsAtStage m plan s new) (sym ended) (end_made (eval m (given new) plan start_state) log new.attempt end (ap (λ es. eval m es plan start_state) same ∙ ends here.1 end log (ap (λ rs. rs.entries) (sym reads)) l) is)
+  pub ended_at : {saves : List Save} {left : List Bool} (end : Ending) (new : Cursor) → LeadsTo m footprint (taken old) plan (place old) (out_for end) (place_at course saves) left → IsEndOf course.attempt end new.course.attempt → answers new ≡ answers old → unused new ≡ left → HasEnded new
+      → IsAtStage m footprint plan new.stage new
+  ended_at {left = left} end new l is same unused_is ended =
+      let given_is : given new ≡ given old = end_reads course.attempt new.course.attempt end is ∙ ap (λ rs. rs.entries) reads in
+      subst (λ s. IsAtStage m footprint plan s new) (sym ended)
+      (subst (λ left. IsMadeOf (eval m footprint (given new) plan (start_state (answers new))) left (outcome.Ended new.course.attempt)) (sym unused_is)
+      (end_made (eval m footprint (given new) plan (start_state (answers new))) left course.attempt new.course.attempt end
+      (ap (λ es. eval m footprint es plan (start_state (answers new))) given_is ∙ ap (λ all. eval m footprint (given old) plan (start_state all)) same ∙ ends m footprint plan (answers old) (place old) (taken old) here.1 end course.attempt (ap (λ rs. rs.entries) (sym reads)) l) is))
 
 -- at the start of a plan
-pub start_stands : (m : StepMeanings) (plan : Tx) (p : Place) (seen : List (ℕ × ℤ)) → p.path ≡ [] → p.registers ≡ no_registers → p.effect ≡ no_effect → seen ≡ [] → choices plan ≤ length p.saves → IsWithinLimits plan
-    → MayGoOn plan p × StandsAt m plan p seen seen
-start_stands m plan p seen path registers effect none enough limits = (
+pub start_stands : (m : StepMeanings) (footprint : List ℕ → List ℕ) (plan : Tx) (p : Place) (answers : List Bool) (seen : Taken) → p.path ≡ [] → p.registers ≡ no_registers → p.effect ≡ no_effect → answers ≡ [] → seen.reads ≡ [] → seen.left ≡ [] → choices plan ≤ length p.saves → IsWithinLimits plan
+    → MayGoOn plan p × StandsAt m footprint plan answers p seen.reads seen
+start_stands m footprint plan p answers seen path registers effect no_answers no_reads no_left enough limits = (
   record {
     enough = enough;
     writes = subst (λ l. WritesFit 0 l plan p.saves p.effect) (sym path) (subst (λ e. WritesFit 0 [] plan p.saves e) (sym effect) (omega (arith, limits.writes)));
     names = subst (λ l. NamesFit 0 l plan p.saves p.effect) (sym path) (subst (λ e. NamesFit 0 [] plan p.saves e) (sym effect) (omega (arith, limits.checks)));
   },
-  λ reads c d.
-      ap (λ r. eval_from m reads plan (record { path = []; saves = p.saves; registers = r; effect = no_effect }) []) (sym registers)
-      ∙ ap (λ e. eval_from m reads plan (record { path = []; saves = p.saves; registers = p.registers; effect = e }) []) (sym effect)
-      ∙ ap (λ l. eval_from m reads plan (record { path = l; saves = p.saves; registers = p.registers; effect = p.effect }) []) (sym path)
-      ∙ ap (eval_from m reads plan p) (sym none),
+  λ reads more c d.
+      ap (λ all. eval m footprint reads plan (start_state (all ++ more))) no_answers
+      ∙ ap (λ r. eval_from m footprint reads plan (record { path = []; saves = p.saves; registers = r; effect = no_effect }) (record { reads = []; left = more })) (sym registers)
+      ∙ ap (λ e. eval_from m footprint reads plan (record { path = []; saves = p.saves; registers = p.registers; effect = e }) (record { reads = []; left = more })) (sym effect)
+      ∙ ap (λ l. eval_from m footprint reads plan (record { path = l; saves = p.saves; registers = p.registers; effect = p.effect }) (record { reads = []; left = more })) (sym path)
+      ∙ ap (λ es. eval_from m footprint reads plan p (record { reads = es; left = more })) (sym no_reads)
+      ∙ ap (λ l. eval_from m footprint reads plan p (record { reads = seen.reads; left = l ++ more })) (sym no_left),
 )

@@ -9,10 +9,10 @@ use Rattle.tmem_tree.specs.declared.tx.Tx.TheVariants as tree
 use Rattle.tmem_tree.specs.declared.tx.Tx.TheBlock.{items-the_row-Tx}
 use Rattle.tmem_tree.specs.declared.tx.Tx.TheViews.{the_lemmas}
 use Rattle.tmem_tree.specs.Limits.{depth, count, count_all}
+use Rattle.tmem_tree.specs.Visited.{Ask}
 use Rattle.tmem_tree.proofs.Laws.{count_in, count-Seq}
-use Rattle.tmem_tentative.specs.declared.flow.Flow as code
-use Rattle.tmem_tentative.specs.declared.flow.Flow.TheVariants.{Normal, Need, Retry, Abort}
 use Rattle.tmem_tentative.specs.declared.save.Save.{Save}
+use Rattle.tmem_tentative.specs.Logs.{Out, Went, Stopped, Gave_way, Left}
 use Rattle.tmem_tentative.specs.Places.{HasRoom, AllHaveRoom, LeavesRoom, Enters, EntersChoice, IsLeaf, IsPathBehind, with_child}
 
 count_all-items : (test : Tx → Bool) {m : _} (txs : Row_of-Tx m) → count_all test txs ≡ count_in test (items-the_row-Tx m txs)
@@ -20,11 +20,11 @@ count_all-items test end_of-Tx = refl
 count_all-items test (more_of-Tx tx txs) = ap (λ n. count test tx + n) (count_all-items test txs)
 
 -- with the child before it, it is short enough for the tree around
-pub path_grows : (flow : code.Flow) (d e child : ℕ) (path : List ℕ) → IsPathBehind flow d path → d < e → IsPathBehind flow e (with_child flow child path)
-path_grows Normal d e child path h lt = h
-path_grows (Need var) d e child path h lt = omega arith
-path_grows Retry d e child path h lt = h
-path_grows (Abort code) d e child path h lt = h
+pub path_grows : (out : Out) (d e child : ℕ) (path : List ℕ) → IsPathBehind out d path → d < e → IsPathBehind out e (with_child out child path)
+path_grows Went d e child path h lt = h
+path_grows (Stopped ask) d e child path h lt = omega arith
+path_grows Gave_way d e child path h lt = h
+path_grows (Left how) d e child path h lt = h
 
 module _ (test : Tx → Bool) (limit : ℕ) (size : Effect → ℕ) where
   -- the first from a place inside it, and the others from their starts
@@ -73,16 +73,16 @@ module _ (test : Tx → Bool) (limit : ℕ) (size : Effect → ℕ) where
       omega (arith, e.0)
 
   -- behind a tree of a Seq that has not ended normally
-  pub seq_leaves : (rest k : ℕ) (txs : Vec Tx Global) (tx : Tx) (others : List Tx) (flow : code.Flow) (path : List ℕ) (saves : List Save) (effect : Effect) → drop k txs.items ≡ tx ∷ others → (flow ≡ Normal → ⊥)
-      → LeavesRoom test limit size (count_in test others + rest) flow path tx saves effect → LeavesRoom test limit size rest flow (with_child flow k path) (Seq txs) saves effect
-  seq_leaves rest k txs tx others Normal path saves effect here some h = absurd (some refl)
-  seq_leaves rest k txs tx others (Need var) path saves effect here some h =
+  pub seq_leaves : (rest k : ℕ) (txs : Vec Tx Global) (tx : Tx) (others : List Tx) (out : Out) (path : List ℕ) (saves : List Save) (effect : Effect) → drop k txs.items ≡ tx ∷ others → (out ≡ Went → ⊥)
+      → LeavesRoom test limit size (count_in test others + rest) out path tx saves effect → LeavesRoom test limit size rest out (with_child out k path) (Seq txs) saves effect
+  seq_leaves rest k txs tx others Went path saves effect here some h = absurd (some refl)
+  seq_leaves rest k txs tx others (Stopped ask) path saves effect here some h =
       subst (λ (T : Type 0). T) (sym (at-Seq rest k path txs saves (size effect))) (subst (λ ts. RoomAt rest ts path saves (size effect)) (sym here) h)
-  seq_leaves rest k txs tx others Retry path saves effect here some h = h
-  seq_leaves rest k txs tx others (Abort code) path saves effect here some h = h
+  seq_leaves rest k txs tx others Gave_way path saves effect here some h = h
+  seq_leaves rest k txs tx others (Left how) path saves effect here some h = h
 
   -- behind one that has
-  pub seq_next : (rest : ℕ) (tx : Tx) (others : List Tx) (path : List ℕ) (saves : List Save) (effect : Effect) → path ≡ [] → LeavesRoom test limit size (count_in test others + rest) Normal path tx saves effect → RoomIn rest others path saves (size effect)
+  pub seq_next : (rest : ℕ) (tx : Tx) (others : List Tx) (path : List ℕ) (saves : List Save) (effect : Effect) → path ≡ [] → LeavesRoom test limit size (count_in test others + rest) Went path tx saves effect → RoomIn rest others path saves (size effect)
   seq_next rest tx others path saves effect none h =
       subst (λ l. RoomIn rest others l saves (size effect)) (sym none) (start_in rest others saves (size effect) (omega (arith, h)))
 
@@ -125,38 +125,38 @@ module _ (test : Tx → Bool) (limit : ℕ) (size : Effect → ℕ) where
   first_room rest a b p q (suc i ∷ path) left save0 save saves inner some e n is h = let no : true ≡ false = e.0 in cc
 
   -- behind its first branch that has not retried
-  pub first_leaves : (rest : ℕ) (a b : Tx) (p q : _) (flow : code.Flow) (path : List ℕ) (save : Save) (inner : List Save) (effect : Effect) → (flow ≡ Retry → ⊥) → size save.effect + count test b + rest ≤ limit
-      → LeavesRoom test limit size rest flow path a inner effect → LeavesRoom test limit size rest flow (with_child flow 0 path) (OrElse' p a q b) (save ∷ inner) effect
-  first_leaves rest a b p q Normal path save inner effect some kept h = h
-  first_leaves rest a b p q (Need var) path save inner effect some kept h = (h, kept)
-  first_leaves rest a b p q Retry path save inner effect some kept h = absurd (some refl)
-  first_leaves rest a b p q (Abort code) path save inner effect some kept h = h
+  pub first_leaves : (rest : ℕ) (a b : Tx) (p q : _) (out : Out) (path : List ℕ) (save : Save) (inner : List Save) (effect : Effect) → (out ≡ Gave_way → ⊥) → size save.effect + count test b + rest ≤ limit
+      → LeavesRoom test limit size rest out path a inner effect → LeavesRoom test limit size rest out (with_child out 0 path) (OrElse' p a q b) (save ∷ inner) effect
+  first_leaves rest a b p q Went path save inner effect some kept h = h
+  first_leaves rest a b p q (Stopped ask) path save inner effect some kept h = (h, kept)
+  first_leaves rest a b p q Gave_way path save inner effect some kept h = absurd (some refl)
+  first_leaves rest a b p q (Left how) path save inner effect some kept h = h
 
   -- behind a child whose tree has that much room where the child has
-  pub child_leaves : (rest child : ℕ) (tx inside : Tx) (flow : code.Flow) (path : List ℕ) (saves : List Save) (effect : Effect)
+  pub child_leaves : (rest child : ℕ) (tx inside : Tx) (out : Out) (path : List ℕ) (saves : List Save) (effect : Effect)
       → ((path : List ℕ) (n : ℕ) → HasRoom test limit size rest path inside saves n → HasRoom test limit size rest (child ∷ path) tx saves n)
-      → LeavesRoom test limit size rest flow path inside saves effect → LeavesRoom test limit size rest flow (with_child flow child path) tx saves effect
-  child_leaves rest child tx inside Normal path saves effect same h = h
-  child_leaves rest child tx inside (Need var) path saves effect same h = same path (size effect) h
-  child_leaves rest child tx inside Retry path saves effect same h = h
-  child_leaves rest child tx inside (Abort code) path saves effect same h = h
+      → LeavesRoom test limit size rest out path inside saves effect → LeavesRoom test limit size rest out (with_child out child path) tx saves effect
+  child_leaves rest child tx inside Went path saves effect same h = h
+  child_leaves rest child tx inside (Stopped ask) path saves effect same h = same path (size effect) h
+  child_leaves rest child tx inside Gave_way path saves effect same h = h
+  child_leaves rest child tx inside (Left how) path saves effect same h = h
 
   -- behind a leaf
-  pub leaf_leaves : (rest : ℕ) (flow : code.Flow) (tx : Tx) (path : List ℕ) (saves : List Save) (before after : Effect) → path ≡ [] → size after ≤ size before + count test tx → ((n : ℕ) → flow ≡ Need n → after ≡ before)
-      → HasRoom test limit size rest path tx saves (size before) → LeavesRoom test limit size rest flow path tx saves after
-  leaf_leaves rest Normal tx path saves before after none more stays h =
+  pub leaf_leaves : (rest : ℕ) (out : Out) (tx : Tx) (path : List ℕ) (saves : List Save) (before after : Effect) → path ≡ [] → size after ≤ size before + count test tx → ((ask : Ask) → out ≡ Stopped ask → after ≡ before)
+      → HasRoom test limit size rest path tx saves (size before) → LeavesRoom test limit size rest out path tx saves after
+  leaf_leaves rest Went tx path saves before after none more stays h =
       let h' : size before + count test tx + rest ≤ limit = subst (λ l. HasRoom test limit size rest l tx saves (size before)) none h in omega arith
-  leaf_leaves rest (Need var) tx path saves before after none more stays h =
-      subst (λ e. HasRoom test limit size rest path tx saves (size e)) (sym (stays var refl)) h
-  leaf_leaves rest Retry tx path saves before after none more stays h = tt
-  leaf_leaves rest (Abort code) tx path saves before after none more stays h = tt
+  leaf_leaves rest (Stopped ask) tx path saves before after none more stays h =
+      subst (λ e. HasRoom test limit size rest path tx saves (size e)) (sym (stays ask refl)) h
+  leaf_leaves rest Gave_way tx path saves before after none more stays h = tt
+  leaf_leaves rest (Left how) tx path saves before after none more stays h = tt
 
 -- the path behind a leaf
-pub leaf_path : (flow : code.Flow) (d : ℕ) (path : List ℕ) → path ≡ [] → 0 < d → IsPathBehind flow d path
-leaf_path Normal d path none some = none
-leaf_path (Need var) d path none some = subst (λ l. length l < d) (sym none) some
-leaf_path Retry d path none some = none
-leaf_path (Abort code) d path none some = none
+pub leaf_path : (out : Out) (d : ℕ) (path : List ℕ) → path ≡ [] → 0 < d → IsPathBehind out d path
+leaf_path Went d path none some = none
+leaf_path (Stopped ask) d path none some = subst (λ l. length l < d) (sym none) some
+leaf_path Gave_way d path none some = none
+leaf_path (Left how) d path none some = none
 
 pub leaf_depth : (tx : Tx) → IsLeaf tx → 0 < depth tx
 leaf_depth (tree.Seq' shape txs) leaf = absurd leaf

@@ -1,10 +1,10 @@
 -- Entries by their variables: what was inserted, and the variables each once.
-use Rattle.std.proofs.Common.{◌≡◌, ℕ, ℤ, Bool, true, false, List, [], ◌∷◌, ◌++◌, Option, Some, None, nat_eq, cond, refl, sym, ap, ◌∙◌, append_assoc}
+use Rattle.std.proofs.Common.{◌≡◌, ℕ, ℤ, Bool, true, false, List, [], ◌∷◌, ◌++◌, Option, Some, nat_eq, cond, refl, sym, ap, ◌∙◌}
 use Rattle.std.proofs.lemmas.Bool.{eqb-true, eq-eqb}
 use Rattle.indexmap.specs.IndexMap.{insert_entry}
 use Rattle.tmem_record.specs.Writes.{look, with_write}
 use Rattle.tmem_tree.specs.Visited.{has, noted, each_once}
-use Rattle.tmem_tentative.specs.Right.{valued, if_there, first_lacking}
+use Rattle.tmem_tentative.specs.Right.{valued}
 
 -- not both: they are different variables
 swap_look : (a c : Bool) (x n : ℤ) (o : Option ℤ) → (a ≡ true → c ≡ true → ⊥) → cond a (Some x) (cond c (Some n) o) ≡ cond c (Some n) (cond a (Some x) o)
@@ -61,32 +61,3 @@ pub note-valued : (values : ℕ → ℤ) (seen vars : List ℕ) → note values 
 note-valued values seen [] = refl
 note-valued values seen (var ∷ vars) =
     ap (λ es. note values es vars) (insert-valued values seen var) ∙ note-valued values (noted seen var) vars
-
-module _ (reads : List (ℕ × ℤ)) where
-  -- one that is there is not lacking
-  lacking_there : (xs vars : List ℕ) (var : ℕ) (n : ℤ) → look reads var ≡ Some n → first_lacking reads (xs ++ vars) ≡ first_lacking reads (xs ++ var ∷ vars)
-  lacking_there [] vars var n is = sym (ap (λ o. if_there o var (first_lacking reads vars)) is)
-  lacking_there (x ∷ xs) vars var n is = ap (if_there (look reads x) x) (lacking_there xs vars var n is)
-
-  -- a second mention changes nothing
-  lacking_again : (xs vars : List ℕ) (var : ℕ) → has xs var ≡ true → first_lacking reads (xs ++ vars) ≡ first_lacking reads (xs ++ var ∷ vars)
-  lacking_again [] vars var there = cc
-  lacking_again (x ∷ xs) vars var there = on (look reads x) refl (nat_eq var x) refl there (lacking_again xs vars var) where
-    on : (o : Option ℤ) → look reads x ≡ o → (b : Bool) → nat_eq var x ≡ b → cond b true (has xs var) ≡ true → (has xs var ≡ true → first_lacking reads (xs ++ vars) ≡ first_lacking reads (xs ++ var ∷ vars)) → if_there o x (first_lacking reads (xs ++ vars)) ≡ if_there o x (first_lacking reads (xs ++ var ∷ vars))
-    on None is b e h ih = refl
-    on (Some n) is true e h ih = lacking_there xs vars var n (ap (look reads) (eqb-true var x e) ∙ is)
-    on (Some n) is false e h ih = ih h
-
-  lacking_once : (seen vars : List ℕ) → first_lacking reads (each_once seen vars) ≡ first_lacking reads (seen ++ vars)
-  lacking_once seen [] = ap (first_lacking reads) (sym (nil_right seen)) where
-    nil_right : (xs : List ℕ) → xs ++ [] ≡ xs
-    nil_right [] = refl
-    nil_right (x ∷ xs) = ap (λ l. x ∷ l) (nil_right xs)
-  lacking_once seen (var ∷ vars) = lacking_once (noted seen var) vars ∙ on (has seen var) refl where
-    on : (b : Bool) → has seen var ≡ b → first_lacking reads (cond b seen (seen ++ var ∷ []) ++ vars) ≡ first_lacking reads (seen ++ var ∷ vars)
-    on true there = lacking_again seen vars var there
-    on false there = ap (first_lacking reads) (append_assoc seen (var ∷ []) vars)
-
-  -- the first lacking variable is the same where each is mentioned once
-  pub first_lacking-each_once : (vars : List ℕ) → first_lacking reads (each_once [] vars) ≡ first_lacking reads vars
-  first_lacking-each_once vars = lacking_once [] vars

@@ -2,28 +2,40 @@
 use Rattle.std.specs.Prelude.{◌≡◌, ℕ, zero, suc, Bool, List, [], ◌∷◌, length}
 use Rattle.std.specs.Coded.{codes, Coded, Coded-set, ×_prop, le_prop}
 use Rattle.std.proofs.Props.{props}
+use mathlib.Core.Bool.{Bool-set}
+use Rattle.tmem_invariants.specs.Meanings.{Meanings}
 use Rattle.tmem_record.specs.declared.effect.Effect.{Effect}
 use Rattle.tmem_tree.specs.declared.tx.Tx.{Tx, Row_of-Tx, end_of-Tx, more_of-Tx}
 use Rattle.tmem_tree.specs.declared.tx.Tx.TheVariants.{Seq', When', OrElse'}
 use Rattle.tmem_tree.specs.Limits.{is_write, is_check}
+use Rattle.tmem_tree.specs.Plans.{PlanView}
+use Rattle.tmem_tree.specs.Shapes.{footprint_in}
 use Rattle.tmem_tree.specs.StepAnswers.{StepMeanings}
+use Rattle.tmem_tree.specs.Visited.{Ask, Visit, Probe}
 use Rattle.tmem_tentative.specs.declared.attempt.Attempt.{Attempt}
 use Rattle.tmem_tentative.specs.declared.attempt.Ending.{Ending}
 use Rattle.tmem_tentative.specs.declared.attempt.Ending.TheVariants as ending
 use Rattle.tmem_tentative.specs.declared.cursor.Cursor.{Cursor}
 use Rattle.tmem_tentative.specs.declared.cursor.Stage.{Stage}
-use Rattle.tmem_tentative.specs.declared.cursor.Stage.TheVariants.{Going, Waits, Ended}
+use Rattle.tmem_tentative.specs.declared.cursor.Stage.TheVariants.{Going, Waits, Tests, Ended}
 use Rattle.tmem_tentative.specs.declared.save.Save.{Save}
 use Rattle.tmem_tentative.specs.Eval.{Flow}
 use Rattle.tmem_tentative.specs.Fits.{IsBlankUnlessNormal}
 use Rattle.tmem_tentative.specs.Places.{Place, HasRoom, AllHaveRoom}
-use Rattle.tmem_tentative.specs.Cursors.{MayGoOn, IsAt, IsAtStage}
+use Rattle.tmem_tentative.specs.Cursors.{MayGoOn, StandsIn, IsAt, IsAtStage, attempt_of}
+use Rattle.tmem_tentative.specs.Right.{Gave}
 
 flow_coded : Coded Flow
 flow_coded = hlevel codes
 
 pub Flow-prop : (f g : Flow) → IsProp (f ≡ g)
 Flow-prop f g = Coded-set flow_coded f g
+
+answers_coded : Coded (List Bool)
+answers_coded = hlevel codes
+
+pub Answers-prop : (xs ys : List Bool) → IsProp (xs ≡ ys)
+Answers-prop xs ys = Coded-set answers_coded xs ys
 
 module _ (test : Tx → Bool) (limit : ℕ) (size : Effect → ℕ) where
   mutual
@@ -50,12 +62,25 @@ pub IsBlankUnlessNormal-prop : (e : Ending) (a : Attempt) → IsProp (IsBlankUnl
 IsBlankUnlessNormal-prop ending.Normal a = hlevel
 IsBlankUnlessNormal-prop ending.Retry a = hlevel props
 IsBlankUnlessNormal-prop (ending.Abort code) a = hlevel props
+IsBlankUnlessNormal-prop (ending.Broken name) a = hlevel props
 
-IsAtStage-prop : (m : StepMeanings) (plan : Tx) (stage : Stage) (cursor : Cursor) → IsProp (IsAtStage m plan stage cursor)
-IsAtStage-prop m plan Going cursor = hlevel (props, MayGoOn-prop, Flow-prop)
-IsAtStage-prop m plan (Waits var) cursor = hlevel (props, MayGoOn-prop, Flow-prop)
-IsAtStage-prop m plan Ended cursor = ×_prop (Flow-prop _ _) (IsBlankUnlessNormal-prop cursor.attempt.ending cursor.attempt)
+IsAtStage-prop : (m : StepMeanings) (footprint : List ℕ → List ℕ) (plan : Tx) (stage : Stage) (cursor : Cursor) → IsProp (IsAtStage m footprint plan stage cursor)
+IsAtStage-prop m footprint plan Going cursor = hlevel (props, MayGoOn-prop, Flow-prop)
+IsAtStage-prop m footprint plan (Waits var) cursor = hlevel (props, MayGoOn-prop, Flow-prop)
+IsAtStage-prop m footprint plan Tests cursor = hlevel (props, MayGoOn-prop, Flow-prop, Answers-prop)
+IsAtStage-prop m footprint plan Ended cursor =
+    ×_prop (Flow-prop _ _) (IsBlankUnlessNormal-prop (attempt_of cursor).ending (attempt_of cursor))
 
--- so a type may state it as a fact
-pub IsAt-prop : (m : StepMeanings) (plan : Tx) (cursor : Cursor) → IsProp (IsAt m plan cursor)
-IsAt-prop m plan cursor = IsAtStage-prop m plan cursor.stage cursor
+Gave-prop : (tests : Meanings) (answers : List Bool) (asks : List Ask) → IsProp (Gave tests answers asks)
+Gave-prop tests answers [] = hlevel
+Gave-prop tests answers (Visit var ∷ more) = Gave-prop tests answers more
+Gave-prop tests [] (Probe name values ∷ more) = hlevel
+Gave-prop tests (answer ∷ answers) (Probe name values ∷ more) =
+    ×_prop (Bool-set answer (tests.test name values)) (Gave-prop tests answers more)
+
+-- so a type may state them as facts
+pub StandsIn-prop : (m : StepMeanings) (plan : PlanView) (cursor : Cursor) → IsProp (StandsIn m plan cursor)
+StandsIn-prop m plan cursor = IsAtStage-prop m (footprint_in plan.shapes) plan.tree cursor.stage cursor
+
+pub IsAt-prop : (m : StepMeanings) (tests : Meanings) (plan : Tx) (cursor : Cursor) → IsProp (IsAt m tests plan cursor)
+IsAt-prop m tests plan cursor = hlevel (IsAtStage-prop, Gave-prop)

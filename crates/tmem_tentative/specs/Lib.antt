@@ -1,3 +1,4 @@
+pub mod Answers
 pub mod CursorFacts
 pub mod Cursors
 pub mod Ends

@@ -1,27 +1,77 @@
 -- The log as a state.
-use Rattle.std.specs.Prelude.{◌≡◌, ℕ, ◌+◌, ◌≤◌, List, length}
+use Rattle.std.specs.Prelude.{◌≡◌, ⊤, ℕ, ℤ, ◌+◌, ◌≤◌, Bool, true, List, length, Option, Some, None}
+use Rattle.tmem_record.specs.Names.{has_name}
 use Rattle.tmem_record.specs.declared.effect.Effect.{Effect}
 use Rattle.tmem_tree.specs.declared.tx.Tx.{Tx}
 use Rattle.tmem_tree.specs.Limits.{count, is_write, is_check, has_bad_register}
-use Rattle.tmem_tree.specs.Plans.{FitsSteps}
+use Rattle.tmem_tree.specs.Plans.{FitsSteps, FitsNames}
+use Rattle.tmem_tree.specs.Shapes.{names_of, footprint_in}
+use Rattle.tmem_tree.specs.Visited.{Ask, Visit, Probe}
+use Rattle.tmem_tree.specs.declared.shape.Shape.{Shape}
 use Rattle.tmem_tentative.specs.declared.attempt.Attempt.{Attempt}
+use Rattle.tmem_tentative.specs.declared.attempt.Ending.{Ending}
+use Rattle.tmem_tentative.specs.declared.attempt.Ending.TheVariants as ending
+use Rattle.tmem_tentative.specs.declared.attempt.Probe.{Probe as Asked}
 use Rattle.tmem_tentative.specs.declared.flow.Flow.{Flow}
-use Rattle.tmem_tentative.specs.declared.flow.Flow.TheVariants.{Normal, Need, Retry, Abort}
+use Rattle.tmem_tentative.specs.declared.flow.Flow.TheVariants.{Normal, Need, Test, Retry, Leave}
 use Rattle.tmem_tentative.specs.Eval as eval
-use Rattle.tmem_tentative.specs.Eval.{RunState, Goes, Needs, Retries, Aborts}
+use Rattle.tmem_tentative.specs.Eval.{RunState, Taken, Leaving, Gives_up, Breaks, Goes, Stops, Retries, Leaves, Looked, Lacks, Found}
 
-abbrev pub run_state_of : Attempt → RunState
-run_state_of log = record { registers = log.registers; effect = log.effect; seen = log.reads.entries }
+-- a log, with these answers left
+abbrev pub taken_of : Attempt → List Bool → Taken
+taken_of log left = record { reads = log.reads.entries; left = left }
 
-abbrev pub flow_of : Flow → RunState → eval.Flow
-flow_of Normal s = Goes s
-flow_of (Need var) s = Needs var
-flow_of Retry s = Retries s.seen
-flow_of (Abort code) s = Aborts code s.seen
+abbrev pub run_state_of : Attempt → List Bool → RunState
+run_state_of log left = record { registers = log.registers; effect = log.effect; seen = taken_of log left }
 
--- a run of this tree may go on, for steps that take so many arguments, where the effect has room for what it writes and checks
-pub record MayWalk (arities : List ℕ) (tx : Tx) (effect : Effect) : Type 0 where
+-- how a run has come out: it went to its end, it stopped where it asks, it gave way, or it was left for good
+pub data Out : Type 0 where
+  Went : Out
+  Stopped : (ask : Ask) → Out
+  Gave_way : Out
+  Left : (how : Leaving) → Out
+
+-- where such a run stands
+abbrev pub flow_at : Out → RunState → eval.Flow
+flow_at Went s = Goes s
+flow_at (Stopped ask) s = Stops ask
+flow_at Gave_way s = Retries s.seen
+flow_at (Left how) s = Leaves how s.seen
+
+-- why a run was left for good, as its log says; the log of any other run says nothing of that
+abbrev pub left_for : Ending → Leaving
+left_for (ending.Abort code) = Gives_up code
+left_for (ending.Broken name) = Breaks name
+left_for _ = Gives_up 0
+
+-- an ending that leaves a run for good
+abbrev pub IsLeaving : Ending → Type 0
+IsLeaving (ending.Abort code) = ⊤
+IsLeaving (ending.Broken name) = ⊤
+IsLeaving _ = ⊥
+
+-- how the code has come out, with this log and this test at hand
+abbrev pub out_of : Flow → Attempt → Asked → Out
+out_of Normal log probe = Went
+out_of (Need var) log probe = Stopped (Visit var)
+out_of Test log probe = Stopped (Probe probe.name probe.values)
+out_of Retry log probe = Gave_way
+out_of Leave log probe = Left (left_for log.ending)
+
+-- how a look at a footprint has come out: at a variable that is lacking, or with these values
+abbrev pub looked_at : Option ℕ → List ℤ → RunState → Looked
+looked_at (Some var) values s = Lacks var
+looked_at None values s = Found values s
+
+-- these are the footprints of the shapes, for each name that those have
+abbrev pub AreOf : List Shape → (List ℕ → List ℕ) → Type 0
+AreOf shapes footprint = (name : List ℕ) → has_name (names_of shapes) name ≡ true → footprint name ≡ footprint_in shapes name
+
+-- a run of this tree may go on, for steps that take so many arguments and for invariants of these names, where the effect has room
+-- for what it writes and checks
+pub record MayWalk (arities : List ℕ) (names : List (List ℕ)) (tx : Tx) (effect : Effect) : Type 0 where
   pub registers : count has_bad_register tx ≡ 0
   pub steps : FitsSteps arities tx
+  pub known : FitsNames names tx
   pub writes : length effect.writes + count is_write tx ≤ 64
-  pub names : length effect.names + count is_check tx ≤ 8
+  pub checks : length effect.names + count is_check tx ≤ 8

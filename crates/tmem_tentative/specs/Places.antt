@@ -1,5 +1,5 @@
 -- A place inside an evaluation, and the rest of the evaluation from there.
-use Rattle.std.specs.Prelude.{◌≡◌, ⊤, ℕ, zero, suc, ℤ, ◌+◌, ◌<◌, ◌≤◌, Bool, true, false, List, [], ◌∷◌, length, Option, Some, None, nat_eq, slice_set}
+use Rattle.std.specs.Prelude.{◌≡◌, ⊤, ℕ, zero, suc, ℤ, ◌+◌, ◌<◌, ◌≤◌, Bool, true, false, List, [], ◌∷◌, ◌++◌, length, Option, Some, None, nat_eq, option_to_list, slice_set}
 use Rattle.indexmap.specs.IndexMap.{insert_entry}
 use Rattle.tmem_tree.specs.declared.tx.Tx.{Tx, Row_of-Tx, end_of-Tx, more_of-Tx}
 use Rattle.tmem_tree.specs.declared.tx.Tx.TheVariants.{Seq', When', OrElse'}
@@ -7,34 +7,36 @@ use Rattle.tmem_tree.specs.StepAnswers.{StepMeanings}
 use Rattle.tmem_record.specs.Writes.{look}
 use Rattle.tmem_record.specs.declared.effect.Effect.{Effect}
 use Rattle.tmem_tree.specs.Limits.{depth, choices, count, count_all, is_write, is_check, has_bad_register}
-use Rattle.tmem_tree.specs.Plans.{FitsSteps}
+use Rattle.tmem_tree.specs.Plans.{FitsSteps, FitsNames}
+use Rattle.tmem_tree.specs.Visited.{Ask, Visit, Probe}
+use Rattle.tmem_tree.specs.declared.shape.Shape.{Shape}
 use Rattle.tmem_tentative.specs.declared.attempt.Attempt.{Attempt}
+use Rattle.tmem_tentative.specs.declared.course.Course.{Course}
 use Rattle.tmem_tentative.specs.declared.flow.Flow as code
-use Rattle.tmem_tentative.specs.declared.flow.Flow.TheVariants.{Normal, Need}
-use Rattle.tmem_tentative.specs.declared.flow.Flow.TheVariants as flow
 use Rattle.tmem_tentative.specs.declared.save.Save.{Save}
-use Rattle.tmem_tentative.specs.Eval.{RunState, Flow, Goes, Needs, Retries, Aborts, eval, eval_all, then_eval, else_eval, put}
+use Rattle.tmem_tentative.specs.Eval.{RunState, Taken, Flow, Stops, Goes, put, eval, eval_all, then_eval, else_eval}
+use Rattle.tmem_tentative.specs.Logs.{AreOf, Out, Went, Stopped, flow_at, out_of, taken_of}
 
 -- The path of a place has the child that is entered at each node, from the root on: of a Seq by its index, of a When and
 -- of a choice 0 for the first and 1 for the second. An empty path is the start of the tree. Each choice that stands in
 -- its first branch has a save, the outermost first.
-module _ (steps : StepMeanings) (reads : List (ℕ × ℤ)) where
+module _ (steps : StepMeanings) (footprint : List ℕ → List ℕ) (reads : List (ℕ × ℤ)) where
   abbrev mutual
     -- the rest of an evaluation
     pub eval_on : List ℕ → Tx → List Save → RunState → Flow
-    eval_on [] tx saves s = eval steps reads tx s
+    eval_on [] tx saves s = eval steps footprint reads tx s
     eval_on (i ∷ path) (Seq' shape txs) saves s = eval_all_on i path txs saves s
     eval_on (zero ∷ path) (When' reg p a q b) saves s = eval_on path a saves s
     eval_on (suc i ∷ path) (When' reg p a q b) saves s = eval_on path b saves s
     eval_on (zero ∷ path) (OrElse' p a q b) [] s = eval_on path a [] s
     eval_on (zero ∷ path) (OrElse' p a q b) (save ∷ saves) s =
-        else_eval (eval_on path a saves s) (λ seen. eval steps reads b (record { registers = save.registers; effect = save.effect; seen = seen }))
+        else_eval (eval_on path a saves s) (λ seen. eval steps footprint reads b (record { registers = save.registers; effect = save.effect; seen = seen }))
     eval_on (suc i ∷ path) (OrElse' p a q b) saves s = eval_on path b saves s
-    eval_on (i ∷ path) tx saves s = eval steps reads tx s
+    eval_on (i ∷ path) tx saves s = eval steps footprint reads tx s
 
     pub eval_all_on : {m : _} → ℕ → List ℕ → Row_of-Tx m → List Save → RunState → Flow
     eval_all_on i path end_of-Tx saves s = Goes s
-    eval_all_on zero path (more_of-Tx tx txs) saves s = then_eval (eval_on path tx saves s) (eval_all steps reads txs)
+    eval_all_on zero path (more_of-Tx tx txs) saves s = then_eval (eval_on path tx saves s) (eval_all steps footprint reads txs)
     eval_all_on (suc i) path (more_of-Tx tx txs) saves s = eval_all_on i path txs saves s
 
 -- for the nodes that pass a test, of which an effect may have so many, and how many it has
@@ -81,62 +83,77 @@ pub record Place : Type 0 where
 abbrev pub place_of : Attempt → List ℕ → List Save → Place
 place_of log path saves = record { path = path; saves = saves; registers = log.registers; effect = log.effect }
 
--- the rest of an evaluation from a place, where so much was seen
-abbrev pub eval_from : StepMeanings → List (ℕ × ℤ) → Tx → Place → List (ℕ × ℤ) → Flow
-eval_from steps reads tx p seen =
-    eval_on steps reads p.path tx p.saves (record { registers = p.registers; effect = p.effect; seen = seen })
+-- where a course stands, what it took so far, and how its run has come out
+abbrev pub place_at : Course → List Save → Place
+place_at course saves = place_of course.attempt course.path saves
 
--- what is seen behind a run: a value joins where one is needed
-abbrev pub seen_behind : code.Flow → List (ℕ × ℤ) → ℤ → List (ℕ × ℤ)
-seen_behind (Need var) seen n = insert_entry nat_eq seen var n
-seen_behind _ seen n = seen
+abbrev pub taken_at : Course → Taken
+taken_at course = taken_of course.attempt (option_to_list course.pending)
 
--- what is still to come behind a run, where so much was seen
-abbrev pub behind : StepMeanings → List (ℕ × ℤ) → Tx → code.Flow → Place → List (ℕ × ℤ) → Flow
-behind steps reads tx Normal p seen = Goes (record { registers = p.registers; effect = p.effect; seen = seen })
-behind steps reads tx (Need var) p seen = eval_from steps reads tx p seen
-behind steps reads tx flow.Retry p seen = Retries seen
-behind steps reads tx (flow.Abort code) p seen = Aborts code seen
+abbrev pub out_at : code.Flow → Course → Out
+out_at flow course = out_of flow course.attempt course.probe
 
--- A run from one place to another. On all reads that have what was seen, and the value that it needs, the evaluation from
--- the one place is that from the other, or has ended as the run has.
-pub record LeadsTo (steps : StepMeanings) (seen : List (ℕ × ℤ)) (tx : Tx) (before : Place) (flow : code.Flow) (after : Place) : Type 0 where
-  pub needs : (var : ℕ) → flow ≡ Need var → eval_from steps seen tx before seen ≡ Needs var
-  pub goes_on : (reads : List (ℕ × ℤ)) (n : ℤ) → Covers reads seen → Covers reads (seen_behind flow seen n)
-      → eval_from steps reads tx before seen ≡ behind steps reads tx flow after (seen_behind flow seen n)
+-- with these answers more
+abbrev pub with_more : Taken → List Bool → Taken
+with_more seen more = record { reads = seen.reads; left = seen.left ++ more }
+
+-- the rest of an evaluation from a place, where so much was taken
+abbrev pub eval_from : StepMeanings → (List ℕ → List ℕ) → List (ℕ × ℤ) → Tx → Place → Taken → Flow
+eval_from steps footprint reads tx p seen =
+    eval_on steps footprint reads p.path tx p.saves (record { registers = p.registers; effect = p.effect; seen = seen })
+
+-- what is read behind a run: a value joins where one is needed
+abbrev pub read_behind : Out → List (ℕ × ℤ) → ℤ → List (ℕ × ℤ)
+read_behind (Stopped (Visit var)) seen n = insert_entry nat_eq seen var n
+read_behind _ seen n = seen
+
+-- what is still to come behind a run, where so much was taken
+abbrev pub behind : StepMeanings → (List ℕ → List ℕ) → List (ℕ × ℤ) → Tx → Out → Place → Taken → Flow
+behind steps footprint reads tx (Stopped ask) p seen = eval_from steps footprint reads tx p seen
+behind steps footprint reads tx out p seen = flow_at out (record { registers = p.registers; effect = p.effect; seen = seen })
+
+-- A run from one place to another, which leaves these of the answers that it had: none where it stops at a test. On all reads that
+-- have what was read, and the value that it needs, and with any answers behind those, the evaluation from the one place is that from
+-- the other, or has ended as the run has.
+pub record LeadsTo (steps : StepMeanings) (footprint : List ℕ → List ℕ) (seen : Taken) (tx : Tx) (before : Place) (out : Out) (after : Place) (left : List Bool) : Type 0 where
+  pub asks : (ask : Ask) → out ≡ Stopped ask → eval_from steps footprint seen.reads tx before (with_more seen []) ≡ Stops ask
+  pub spent : (name : List ℕ) (values : List ℤ) → out ≡ Stopped (Probe name values) → left ≡ []
+  pub goes_on : (reads : List (ℕ × ℤ)) (n : ℤ) (more : List Bool) → Covers reads seen.reads → Covers reads (read_behind out seen.reads n)
+      → eval_from steps footprint reads tx before (with_more seen more) ≡ behind steps footprint reads tx out after (record { reads = read_behind out seen.reads n; left = left ++ more })
 
 -- the path behind a run: one that has ended leaves none, else it is no longer than the tree is deep
-abbrev pub IsPathBehind : code.Flow → ℕ → List ℕ → Type 0
-IsPathBehind (Need var) depth path = length path < depth
+abbrev pub IsPathBehind : Out → ℕ → List ℕ → Type 0
+IsPathBehind (Stopped ask) depth path = length path < depth
 IsPathBehind _ depth path = path ≡ []
 
 -- the room behind a run, for the nodes that pass a test
-abbrev pub LeavesRoom : (Tx → Bool) → ℕ → (Effect → ℕ) → ℕ → code.Flow → List ℕ → Tx → List Save → Effect → Type 0
-LeavesRoom test limit size rest Normal path tx saves effect = size effect + rest ≤ limit
-LeavesRoom test limit size rest (Need var) path tx saves effect = HasRoom test limit size rest path tx saves (size effect)
+abbrev pub LeavesRoom : (Tx → Bool) → ℕ → (Effect → ℕ) → ℕ → Out → List ℕ → Tx → List Save → Effect → Type 0
+LeavesRoom test limit size rest Went path tx saves effect = size effect + rest ≤ limit
+LeavesRoom test limit size rest (Stopped ask) path tx saves effect = HasRoom test limit size rest path tx saves (size effect)
 LeavesRoom test limit size rest _ path tx saves effect = ⊤
 
--- A run of this tree may go on from here, for steps that take so many arguments: it is no deeper than a plan, there is a
--- save for each of its choices, and with so many behind it there is room for what it writes and checks.
-pub record MayRunFrom (arities : List ℕ) (tx : Tx) (p : Place) : Type 0 where
+-- A run of this tree may go on from here, for steps that take so many arguments and invariants of these names: it is no deeper
+-- than a plan, there is a save for each of its choices, and with so many behind it there is room for what it writes and checks.
+pub record MayRunFrom (arities : List ℕ) (invariants : List (List ℕ)) (tx : Tx) (p : Place) : Type 0 where
   pub registers : count has_bad_register tx ≡ 0
   pub steps : FitsSteps arities tx
+  pub known : FitsNames invariants tx
   pub deep : depth tx ≤ 32
   pub enough : choices tx ≤ length p.saves
   pub writes : (rest : ℕ) × WritesFit rest p.path tx p.saves p.effect
   pub names : (rest : ℕ) × NamesFit rest p.path tx p.saves p.effect
 
--- a run from one place to another, where so much was seen: the path and the room behind it, and what it leads to under each
--- meaning that is stated of the steps
-pub record RunsTo (IsStated : StepMeanings → Type 0) (seen : List (ℕ × ℤ)) (tx : Tx) (before : Place) (flow : code.Flow) (after : Place) : Type 0 where
-  pub path : IsPathBehind flow (depth tx) after.path
-  pub writes : (rest : ℕ) → WritesFit rest before.path tx before.saves before.effect → LeavesRoom is_write 64 (λ e. length e.writes) rest flow after.path tx after.saves after.effect
-  pub names : (rest : ℕ) → NamesFit rest before.path tx before.saves before.effect → LeavesRoom is_check 8 (λ e. length e.names) rest flow after.path tx after.saves after.effect
-  pub leads : (m : StepMeanings) → IsStated m → LeadsTo m seen tx before flow after
+-- a run from one place to another, where so much was taken: the path and the room behind it, and what it leads to under each
+-- meaning that is stated of the steps, with the footprints of these shapes
+pub record RunsTo (IsStated : StepMeanings → Type 0) (shapes : List Shape) (seen : Taken) (tx : Tx) (before : Place) (out : Out) (after : Place) (left : List Bool) : Type 0 where
+  pub path : IsPathBehind out (depth tx) after.path
+  pub writes : (rest : ℕ) → WritesFit rest before.path tx before.saves before.effect → LeavesRoom is_write 64 (λ e. length e.writes) rest out after.path tx after.saves after.effect
+  pub names : (rest : ℕ) → NamesFit rest before.path tx before.saves before.effect → LeavesRoom is_check 8 (λ e. length e.names) rest out after.path tx after.saves after.effect
+  pub leads : (m : StepMeanings) (footprint : List ℕ → List ℕ) → IsStated m → AreOf shapes footprint → LeadsTo m footprint seen tx before out after left
 
 -- the path with the child that leads to the place, where the run goes on
-abbrev pub with_child : code.Flow → ℕ → List ℕ → List ℕ
-with_child (Need var) child path = child ∷ path
+abbrev pub with_child : Out → ℕ → List ℕ → List ℕ
+with_child (Stopped ask) child path = child ∷ path
 with_child _ child path = path
 
 -- the child that is entered: the first of the path, or at the start of the tree this one
@@ -157,8 +174,8 @@ IsLeaf (When' reg p a q b) = ⊥
 IsLeaf (OrElse' p a q b) = ⊥
 IsLeaf _ = ⊤
 
--- its own write, or else what was seen
+-- a Read of its own write, or else of what was given
 abbrev pub read_seen : Option ℤ → Option ℤ → RunState → ℕ → ℕ → Flow
 read_seen (Some n) value s var reg = Goes (put s reg n)
 read_seen None (Some n) s var reg = Goes (put s reg n)
-read_seen None None s var reg = Needs var
+read_seen None None s var reg = Stops (Visit var)

@@ -1,36 +1,43 @@
 // One evaluation, from the start.
 
-ghost use Rattle.std.specs.Prelude.{◌≡◌, ℕ, List, IfOk, IfErr};
+ghost use Rattle.std.specs.Prelude.{◌≡◌, ℕ, Bool, List, length, IfOk, IfErr};
+ghost use Rattle.tmem_invariants.specs.Meanings.{Meanings};
 ghost use Rattle.tmem_tree.specs.StepAnswers.{StepMeanings};
-ghost use Rattle.tmem_tree.specs.Plans.{FitsSteps, FitsVariables, FitsNames};
-ghost use Rattle.tmem_tentative.specs.Right.{IsOutcome};
-ghost use Rattle.tmem_tentative.specs.Logs.{run_state_of, flow_of};
+ghost use Rattle.tmem_tree.specs.Plans.{FitsSteps, FitsVariables, FitsNames, FitsShapes};
+ghost use Rattle.tmem_tree.specs.Shapes.{footprint_in};
+ghost use Rattle.tmem_tentative.specs.Right.{IsOutcome, HaveAnswered};
+ghost use Rattle.tmem_tentative.specs.Logs.{IsLeaving, run_state_of, flow_at, out_of};
 ghost use Rattle.tmem_tentative.specs.Ends.{IsEndOf, IsMadeOf};
-ghost use Rattle.tmem_tentative.specs.Fits.{IsFit, IsWithin, IsNamed};
+ghost use Rattle.tmem_tentative.specs.Fits.{IsFit, IsWithin, IsNamed, IsFilled};
 
-use crate::attempt::{Attempt, Ending, Outcome, Reads};
+use crate::attempt::{Attempt, Ending, Outcome, Probe, Reads};
 use crate::flow::Flow;
-use crate::walk::walk;
+use crate::walk::{Given, Tests, walk};
 use std::alloc::Global;
 use tmem_disk::Fault;
 use tmem_record::Effect;
 use tmem_tree::{Plan, REGISTERS, StoredSteps};
 
-/// Runs a plan, for these steps, as far as the reads allow. A Read gives the transaction's own latest write where there is
-/// one, else the value in `reads`, else the answer is the variable. Its only fault is want of memory.
+/// Runs a plan, for these steps, as far as the reads and the answers allow. A Read, and a Check for each variable of its footprint,
+/// takes the transaction's own latest write where there is one, else the value in `reads`, else the answer is the variable. A Check
+/// then takes the next of `answers`, which are those to the tests that it asked for so far, in order; where there is none left, the
+/// answer is the test. Its only fault is want of memory.
 pub fn evaluate<S: StoredSteps>(
     alloc: Global,
     plan: &Plan,
     steps: &S,
     reads: &Reads,
+    answers: &[bool],
 ) -> Result<Outcome, Fault>
-    requires { FitsSteps (S.arities steps.now) plan.now }
-    ensures right { (m : StepMeanings) → S.is_stated steps.now m → IfOk result (IsOutcome m plan.now reads.now.entries) }
+    requires { FitsSteps (S.arities steps.now) plan.now.tree }
+    ensures right { (m : StepMeanings) (tests : Meanings) → S.is_stated steps.now m → FitsShapes tests plan.now → HaveAnswered m tests plan.now.tree reads.now.entries answers.now
+        → IfOk result (IsOutcome m tests plan.now.tree reads.now.entries (length answers.now)) }
 
     // What holds of each answer, whatever the steps mean.
     ensures fits { IfOk result (IsFit reads.now.entries) }
     ensures within { (vars : ℕ) → FitsVariables vars plan.now → IfOk result (IsWithin vars) }
-    ensures named { (names : List (List ℕ)) → FitsNames names plan.now → IfOk result (IsNamed names) }
+    ensures named { (names : List (List ℕ)) → FitsNames names plan.now.tree → IfOk result (IsNamed names) }
+    ensures filled { IfOk result (IsFilled (footprint_in plan.now.shapes)) }
     ensures fault { IfErr result (λ fault. fault ≡ Fault.Memory) }
 {
     let mut attempt = Attempt {
@@ -39,29 +46,33 @@ pub fn evaluate<S: StoredSteps>(
         registers: [0; REGISTERS],
         effect: Effect::new(),
     };
-    let flow = walk(alloc, plan.tree(), steps, reads, &mut attempt)?;
-    Ok(outcome(flow, attempt))
+    let given = Given {
+        shapes: plan.shapes(),
+        reads,
+        answers,
+    };
+    let mut tests = Tests {
+        used: 0,
+        probe: Probe::placeholder(),
+    };
+    let flow = walk(alloc, plan.tree(), steps, &given, &mut attempt, &mut tests)?;
+    Ok(outcome(flow, attempt, tests.probe))
 }
 
 // What a run comes to that can go no further.
-fn outcome(flow: Flow, mut attempt: Attempt) -> Outcome
-    ensures { IsMadeOf (flow_of flow (run_state_of attempt)) result }
+fn outcome(flow: Flow, mut attempt: Attempt, probe: Probe) -> Outcome
+    requires { flow ≡ Flow.Leave → IsLeaving attempt.ending }
+    ensures { (left : List Bool) → IsMadeOf (flow_at (out_of flow attempt probe) (run_state_of attempt left)) left result }
 {
-    match flow {
-        Flow::Need(var) => Outcome::Need(var),
-        Flow::Normal => {
-            end(&mut attempt, Ending::Normal);
-            Outcome::Ended(attempt)
-        }
-        Flow::Retry => {
-            end(&mut attempt, Ending::Retry);
-            Outcome::Ended(attempt)
-        }
-        Flow::Abort(code) => {
-            end(&mut attempt, Ending::Abort(code));
-            Outcome::Ended(attempt)
-        }
-    }
+    let ending = match flow {
+        Flow::Need(var) => return Outcome::Need(var),
+        Flow::Test => return Outcome::Probe(probe),
+        Flow::Normal => Ending::Normal,
+        Flow::Retry => Ending::Retry,
+        Flow::Leave => attempt.ending,
+    };
+    end(&mut attempt, ending);
+    Outcome::Ended(attempt)
 }
 
 /// Makes an attempt of a run that has ended: unless it ended normally, its registers and its effect are let go.

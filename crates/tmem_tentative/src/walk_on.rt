@@ -1,77 +1,85 @@
 // A run that goes on from a place inside its tree.
 
-ghost use Rattle.std.specs.Prelude.{◌≡◌, ◌↔◌, ℕ, ◌+◌, ◌<◌, ◌≤◌, List, [], length, drop, IsTrue, if◌then◌else◌};
+ghost use Rattle.std.specs.Prelude.{◌≡◌, ◌↔◌, ℕ, ℤ, ◌+◌, ◌<◌, ◌≤◌, Bool, true, List, [], None, length, drop, option_to_list, IsTrue, if◌then◌else◌};
 ghost use Rattle.std.specs.List.{list_any};
 ghost use Rattle.tmem_tree.specs.StepAnswers.{StepMeanings};
 ghost use Rattle.tmem_record.specs.Writes.{look};
 ghost use Rattle.tmem_record.specs.declared.effect.Effect.{Effect};
 ghost use Rattle.tmem_tree.specs.Limits.{count, is_write, is_check};
+ghost use Rattle.tmem_record.specs.Names.{has_name};
 ghost use Rattle.tmem_tree.specs.Run.{register, is_zero};
+ghost use Rattle.tmem_tree.specs.Shapes.{footprint_in, names_of};
+ghost use Rattle.tmem_tree.specs.Visited.{Ask};
+ghost use Rattle.tmem_tentative.specs.declared.attempt.Probe.{Probe as Asked};
 ghost use Rattle.tmem_tentative.specs.declared.save.Save.{Save};
-ghost use Rattle.tmem_tentative.specs.Logs.{MayWalk, run_state_of, flow_of};
-ghost use Rattle.tmem_tentative.specs.Places.{MayRunFrom, RunsTo, IsPathBehind, LeadsTo, place_of, with_child, Enters, EntersChoice, IsLeaf, read_seen};
+ghost use Rattle.tmem_tentative.specs.Eval.{looked, seen_of};
+ghost use Rattle.tmem_tentative.specs.Logs.{MayWalk, AreOf, IsLeaving, Stopped, run_state_of, flow_at, out_of, looked_at};
+ghost use Rattle.tmem_tentative.specs.Places.{MayRunFrom, RunsTo, IsPathBehind, LeadsTo, place_of, place_at, taken_at, out_at, with_child, Enters, EntersChoice, IsLeaf, read_seen};
 
-use crate::attempt::{Attempt, Reads};
+use crate::attempt::{Attempt, Ending, Reads, Values};
+use crate::course::Course;
 use crate::flow::Flow;
 use crate::path::Path;
 use crate::save::Save;
-use crate::walk::call;
-use tmem_tree::{StoredSteps, Tx};
+use crate::walk::{call, settle};
+use tmem_disk::Name;
+use tmem_tree::{Plan, StoredSteps, Tx, footprint_of};
 
-/// Goes on with a run from its place in the tree, as far as its reads allow. Where they lack a value, the path leads to the
-/// Read that wants it, and else there is none. It takes no memory: each choice that is entered takes one of the saves.
+/// Goes on with a run from its place in a tree of a plan, as far as its reads and its answer allow. Where it asks, the path leads to
+/// the Read or the Check that does, and else there is none. It takes no memory: each choice that is entered takes one of the saves.
 #[cycle(walk_on)]
 pub(crate) fn walk_on<S: StoredSteps>(
     tx: &Tx,
+    plan: &Plan,
     steps: &S,
-    log: &mut Attempt,
-    path: &mut Path,
+    course: &mut Course,
     saves: &mut [Save],
 ) -> Flow
-    requires { MayRunFrom (S.arities steps.now) tx.now (place_of log.old path.old saves.old) }
-    ensures reads { log.new.reads ≡ log.old.reads }
-    ensures runs { RunsTo (S.is_stated steps.now) log.old.reads.entries tx.now (place_of log.old path.old saves.old) result (place_of log.new path.new saves.new) }
+    requires { MayRunFrom (S.arities steps.now) (names_of plan.now.shapes) tx.now (place_at course.old saves.old) }
+    ensures reads { course.new.attempt.reads ≡ course.old.attempt.reads }
+    ensures leaves { result ≡ Flow.Leave → IsLeaving course.new.attempt.ending }
+    ensures runs { RunsTo (S.is_stated steps.now) plan.now.shapes (taken_at course.old) tx.now (place_at course.old saves.old) (out_at result course.new) (place_at course.new saves.new) (option_to_list course.new.pending) }
 {
     match tx {
         Tx::Seq(txs) => {
-            let from = enter(path, 0);
+            let from = enter(&mut course.path, 0);
             for (i, t) in rest_of(txs, from).iter().enumerate() {
-                let flow = walk_part(t, steps, log, path, saves);
+                let flow = walk_part(t, plan, steps, course, saves);
                 if flow != Flow::Normal {
-                    note(path, flow, from + i);
+                    note(course, flow, from + i);
                     return flow;
                 }
             }
             Flow::Normal
         }
         Tx::When { reg, then, other } => {
-            if enter(path, branch_of(log, *reg)) == 0 {
-                let flow = walk_on(then, steps, log, path, saves);
-                note(path, flow, 0);
+            if enter(&mut course.path, branch_of(&course.attempt, *reg)) == 0 {
+                let flow = walk_on(then, plan, steps, course, saves);
+                note(course, flow, 0);
                 flow
             } else {
-                let flow = walk_on(other, steps, log, path, saves);
-                note(path, flow, 1);
+                let flow = walk_on(other, plan, steps, course, saves);
+                note(course, flow, 1);
                 flow
             }
         }
         Tx::OrElse(first, second) => {
-            if !enter_choice(log, path, saves) {
-                let flow = walk_on(second, steps, log, path, saves);
-                note(path, flow, 1);
+            if !enter_choice(&course.attempt, &mut course.path, saves) {
+                let flow = walk_on(second, plan, steps, course, saves);
+                note(course, flow, 1);
                 return flow;
             }
-            let flow = walk_on(first, steps, log, path, &mut saves[1..]);
+            let flow = walk_on(first, plan, steps, course, &mut saves[1..]);
             if flow != Flow::Retry {
-                note(path, flow, 0);
+                note(course, flow, 0);
                 return flow;
             }
-            go_back(log, &saves[0]);
-            let flow = walk_on(second, steps, log, path, saves);
-            note(path, flow, 1);
+            go_back(&mut course.attempt, &saves[0]);
+            let flow = walk_on(second, plan, steps, course, saves);
+            note(course, flow, 1);
             flow
         }
-        _ => act(tx, steps, log),
+        _ => act(tx, plan, steps, course),
     }
 }
 
@@ -89,19 +97,20 @@ fn rest_of(txs: &[Tx], from: usize) -> &[Tx]
 #[inline(always)]
 fn walk_part<S: StoredSteps>(
     tx: &Tx,
+    plan: &Plan,
     steps: &S,
-    log: &mut Attempt,
-    path: &mut Path,
+    course: &mut Course,
     saves: &mut [Save],
 ) -> Flow
-    requires { MayRunFrom (S.arities steps.now) tx.now (place_of log.old path.old saves.old) }
-    ensures reads { log.new.reads ≡ log.old.reads }
-    ensures runs { RunsTo (S.is_stated steps.now) log.old.reads.entries tx.now (place_of log.old path.old saves.old) result (place_of log.new path.new saves.new) }
+    requires { MayRunFrom (S.arities steps.now) (names_of plan.now.shapes) tx.now (place_at course.old saves.old) }
+    ensures reads { course.new.attempt.reads ≡ course.old.attempt.reads }
+    ensures leaves { result ≡ Flow.Leave → IsLeaving course.new.attempt.ending }
+    ensures runs { RunsTo (S.is_stated steps.now) plan.now.shapes (taken_at course.old) tx.now (place_at course.old saves.old) (out_at result course.new) (place_at course.new saves.new) (option_to_list course.new.pending) }
 {
     if is_leaf(tx) {
-        act(tx, steps, log)
+        act(tx, plan, steps, course)
     } else {
-        walk_on(tx, steps, log, path, saves)
+        walk_on(tx, plan, steps, course, saves)
     }
 }
 
@@ -132,12 +141,12 @@ fn branch_of(log: &Attempt, reg: u8) -> usize
 }
 
 // Notes the child that leads to the place where the run goes on.
-fn note(path: &mut Path, flow: Flow, child: usize)
-    requires { IsPathBehind flow 32 path.old }
-    ensures { path.new ≡ with_child flow child path.old }
+fn note(course: &mut Course, flow: Flow, child: usize)
+    requires { IsPathBehind (out_at flow course.old) 32 course.old.path }
+    ensures { course.new ≡ record course.old { path = with_child (out_at flow course.old) child course.old.path } }
 {
-    if let Flow::Need(_) = flow {
-        path.push(child);
+    if let Flow::Need(_) | Flow::Test = flow {
+        course.path.push(child);
     }
 }
 
@@ -176,34 +185,41 @@ fn go_back(log: &mut Attempt, save: &Save)
 
 // Runs a leaf of the tree.
 #[inline(always)]
-fn act<S: StoredSteps>(tx: &Tx, steps: &S, log: &mut Attempt) -> Flow
+fn act<S: StoredSteps>(tx: &Tx, plan: &Plan, steps: &S, course: &mut Course) -> Flow
     requires leaf { IsLeaf tx.now }
-    requires may { MayWalk (S.arities steps.now) tx.now log.old.effect }
+    requires may { MayWalk (S.arities steps.now) (names_of plan.now.shapes) tx.now course.old.attempt.effect }
     ensures leaf { IsLeaf tx.now }
-    ensures reads { log.new.reads ≡ log.old.reads }
-    ensures room { length log.new.effect.writes ≤ length log.old.effect.writes + count is_write tx.now }
-    ensures names { length log.new.effect.names ≤ length log.old.effect.names + count is_check tx.now }
-    ensures stays { (n : ℕ) → result ≡ Flow.Need n → log.new ≡ log.old }
-    ensures leads { (m : StepMeanings) → S.is_stated steps.now m → (saves : List Save) → LeadsTo m log.old.reads.entries tx.now (place_of log.old [] saves) result (place_of log.new [] saves) }
+    ensures reads { course.new.attempt.reads ≡ course.old.attempt.reads }
+    ensures path { course.new.path ≡ course.old.path }
+    ensures room { length course.new.attempt.effect.writes ≤ length course.old.attempt.effect.writes + count is_write tx.now }
+    ensures names { length course.new.attempt.effect.names ≤ length course.old.attempt.effect.names + count is_check tx.now }
+    ensures stays { (ask : Ask) → out_at result course.new ≡ Stopped ask → course.new.attempt.effect ≡ course.old.attempt.effect }
+    ensures leaves { result ≡ Flow.Leave → IsLeaving course.new.attempt.ending }
+    ensures leads { (m : StepMeanings) (footprint : List ℕ → List ℕ) → S.is_stated steps.now m → AreOf plan.now.shapes footprint → (saves : List Save)
+        → LeadsTo m footprint (taken_at course.old) tx.now (place_of course.old.attempt [] saves) (out_at result course.new) (place_of course.new.attempt [] saves) (option_to_list course.new.pending) }
 {
     match tx {
         Tx::Skip | Tx::Seq(_) | Tx::When { .. } | Tx::OrElse(..) => Flow::Normal,
         Tx::Put { reg, number } => {
-            log.registers[*reg as usize] = *number;
+            course.attempt.registers[*reg as usize] = *number;
             Flow::Normal
         }
-        Tx::Read { var, reg } => read(log, *var, *reg),
+        Tx::Read { var, reg } => read(&mut course.attempt, *var, *reg),
         Tx::Write { var, reg } => {
-            log.effect.writes.put(*var, log.registers[*reg as usize]);
+            course
+                .attempt
+                .effect
+                .writes
+                .put(*var, course.attempt.registers[*reg as usize]);
             Flow::Normal
         }
-        Tx::Step { index, args, out } => call(steps, log, *index, args, *out),
+        Tx::Step { index, args, out } => call(steps, &mut course.attempt, *index, args, *out),
         Tx::Retry => Flow::Retry,
-        Tx::Abort { code } => Flow::Abort(*code),
-        Tx::Check { name } => {
-            log.effect.names.put(name);
-            Flow::Normal
+        Tx::Abort { code } => {
+            course.attempt.ending = Ending::Abort(*code);
+            Flow::Leave
         }
+        Tx::Check { name } => check(name, plan, course),
     }
 }
 
@@ -212,8 +228,9 @@ fn read(log: &mut Attempt, var: u16, reg: u8) -> Flow
     requires { reg < 16 }
     ensures effect { log.new.effect ≡ log.old.effect }
     ensures reads { log.new.reads ≡ log.old.reads }
-    ensures stays { (n : ℕ) → result ≡ Flow.Need n → log.new ≡ log.old }
-    ensures flow { flow_of result (run_state_of log.new) ≡ read_seen (look log.old.effect.writes var) (look log.old.reads.entries var) (run_state_of log.old) var reg }
+    ensures stays { (ask : Ask) (probe : Asked) → out_of result log.new probe ≡ Stopped ask → log.new ≡ log.old }
+    ensures leaves_none { result ≡ Flow.Leave → ⊥ }
+    ensures flow { (left : List Bool) (probe : Asked) → flow_at (out_of result log.new probe) (run_state_of log.new left) ≡ read_seen (look log.old.effect.writes var) (look log.old.reads.entries var) (run_state_of log.old left) var reg }
 {
     if let Some(number) = log.effect.writes.get(var) {
         log.registers[reg as usize] = number;
@@ -238,4 +255,54 @@ fn value_read(reads: &Reads, var: u16) -> Option<i64>
         return Some(*value);
     }
     reads.get(&var).copied()
+}
+
+// A Check of one invariant, in a frame of its own: few runs have one. Its footprint is looked at anew at each call, until its test is
+// answered.
+#[inline(never)]
+fn check(name: &Name, plan: &Plan, course: &mut Course) -> Flow
+    requires known { has_name (names_of plan.now.shapes) name.now ≡ true }
+    requires room { length course.old.attempt.effect.names < 8 }
+    ensures reads { course.new.attempt.reads ≡ course.old.attempt.reads }
+    ensures path { course.new.path ≡ course.old.path }
+    ensures writes { course.new.attempt.effect.writes ≡ course.old.attempt.effect.writes }
+    ensures names { length course.new.attempt.effect.names ≤ length course.old.attempt.effect.names + 1 }
+    ensures stays { (ask : Ask) → out_at result course.new ≡ Stopped ask → course.new.attempt ≡ course.old.attempt }
+    ensures leaves { result ≡ Flow.Leave → IsLeaving course.new.attempt.ending }
+    ensures leads { (m : StepMeanings) (footprint : List ℕ → List ℕ) (saves : List Save) → footprint name.now ≡ footprint_in plan.now.shapes name.now
+        → LeadsTo m footprint (taken_at course.old) (Tx.Check name.now) (place_of course.old.attempt [] saves) (out_at result course.new) (place_of course.new.attempt [] saves) (option_to_list course.new.pending) }
+{
+    course.probe.name = *name;
+    let vars = footprint_of(plan.shapes(), name);
+    if let Some(lacking) = look_all(&course.attempt, vars, &mut course.probe.values) {
+        return Flow::Need(lacking);
+    }
+    let held = course.pending.take();
+    settle(held, &mut course.attempt, &course.probe)
+}
+
+// Puts the values of a footprint into a list, as the transaction sees them: its own write of a variable, or else the value that was
+// given. Or it answers the first variable that is neither written nor given.
+fn look_all(log: &Attempt, vars: &[u16], into: &mut Values) -> Option<u16>
+    requires { length vars.now ≤ 16 }
+    ensures { (left : List Bool) → looked log.now.reads.entries vars.now (run_state_of log.now left) ≡ looked_at result into.new (run_state_of log.now left) }
+{
+    into.clear();
+    for var in vars {
+        match value_seen(log, *var) {
+            Some(value) => into.push(value),
+            None => return Some(*var),
+        }
+    }
+    None
+}
+
+// What the transaction sees of one variable.
+fn value_seen(log: &Attempt, var: u16) -> Option<i64>
+    ensures { result ≡ seen_of (look log.now.effect.writes var) (look log.now.reads.entries var) }
+{
+    match log.effect.writes.get(var) {
+        Some(number) => Some(number),
+        None => value_read(&log.reads, var),
+    }
 }

@@ -11,7 +11,7 @@ mod versions;
 use std::alloc::Global;
 use tmem_disk::{Fault, SimDisk};
 use tmem_invariants::Invariants;
-use tmem_tree::{MAX_NODES, StoredSteps, Tx};
+use tmem_tree::{MAX_TURNS, StoredSteps, Tx};
 use tmem_world::{Event, Layout, Reply, Settled, World, format};
 
 /// What is answered to a transaction that was accepted, and left this number in register 0 alone.
@@ -62,7 +62,7 @@ fn commit<T: Invariants + Drop, S: StoredSteps + Drop>(
     tx: Tx,
 ) -> Reply {
     world.step(Event::Begin { slot: 0, tx });
-    for _ in 0..=MAX_NODES {
+    for _ in 0..=MAX_TURNS {
         let reply = world.step(Event::Turn { slot: 0 });
         if matches!(reply, Reply::Ended) {
             return world.step(Event::Settle { slot: 0 });

@@ -67,6 +67,7 @@ of_ending p ended.Normal s durable e registers =
     of_broken (first_broken p s e) s.count (sound_answer s durable e registers) (of_sound (is_empty e) (s.count - durable == 256) (s.count == 18446744073709551615) s.count registers)
 of_ending p ended.Retry s durable e registers = no_number s.count Retry refl
 of_ending p (ended.Abort code) s durable e registers = no_number s.count (Aborted code) refl
+of_ending p (ended.Broken name) s durable e registers = no_number s.count (Refused name) refl
 
 of_open : (stale : Bool) (n : ℕ) (r : Result Settled Fault) → Numbers n r → Numbers n (if stale then Err fault.Conflict else r)
 of_open true n r numbers = no_err n fault.Conflict

@@ -8,7 +8,7 @@ ghost use Rattle.tmem_world.specs.Represents.{numbers_of, HoldsSession};
 use std::alloc::Global;
 use tmem_disk::{Disk, Fault, Name, SimDisk};
 use tmem_invariants::{Invariant, Invariants, Table};
-use tmem_tree::{Steps, StoredSteps, Tx};
+use tmem_tree::{MAX_TURNS, Steps, StoredSteps, Tx};
 use tmem_world::{Event, Layout, Reply, Settled, World, format};
 
 fn main(rt: HostRuntime) -> Result<(), Fault> {
@@ -90,7 +90,7 @@ fn write(alloc: Global, var: u16, number: i64) -> Result<Tx, Fault> {
     Ok(Tx::Seq(vec![in alloc; Tx::Put { reg: 0, number }, Tx::Write { var, reg: 0 }]?))
 }
 
-/// Begins a transaction that reads nothing, evaluates it and settles it. Answers whether it was accepted.
+/// Begins a transaction, evaluates it to its end and settles it. Answers whether it was accepted.
 fn commit<D: Disk + Drop, T: Invariants + Drop, S: StoredSteps + Drop>(
     world: &mut World<D, T, S>,
     tx: Tx,
@@ -98,7 +98,12 @@ fn commit<D: Disk + Drop, T: Invariants + Drop, S: StoredSteps + Drop>(
     ensures { numbers_of world.new ≡ numbers_of world.old }
 {
     world.step(Event::Begin { slot: 0, tx });
-    world.step(Event::Turn { slot: 0 });
+    for _ in 0..=MAX_TURNS {
+        let reply = world.step(Event::Turn { slot: 0 });
+        if matches!(reply, Reply::Ended) {
+            break;
+        }
+    }
     let settled = world.step(Event::Settle { slot: 0 });
     matches!(settled, Reply::Settled(Settled::Committed { .. }))
 }

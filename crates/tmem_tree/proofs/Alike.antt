@@ -5,6 +5,7 @@ use Rattle.std.proofs.lemmas.Bool.Decides.{nat_tests}
 use Rattle.tmem_tree.specs.declared.tx.Tx.{Tx, Row_of-Tx, end_of-Tx, more_of-Tx}
 use Rattle.tmem_tree.specs.declared.tx.Tx.TheVariants.{Seq', Put, When', OrElse'}
 use Rattle.tmem_tree.specs.Limits.{depth, depth_of_all, choices, choices_of_all, one_if, count, count_all, is_put, is_node, is_write, is_check, is_step, has_bad_register, has_bad_variable, has_bad_step, has_bad_arguments, has_unknown_name}
+use Rattle.tmem_tree.specs.declared.shape.Shape.{Shape}
 use Rattle.tmem_tree.specs.Plans.{IsWithinLimits, FitsSteps, FitsVariables, FitsNames, IsShort}
 use Rattle.tmem_tree.specs.Numbers.{with_number, with_number_in}
 
@@ -126,8 +127,11 @@ module _ {old new : Tx} (same : IsAlike old new) where
     given = same.counts _ (looks-has_bad_arguments arities) ∙ fits.given;
   }
 
-  pub variables_kept : (vars : ℕ) → FitsVariables vars old → FitsVariables vars new
-  variables_kept vars fits = same.counts _ (looks-has_bad_variable vars) ∙ fits
+  pub variables_kept : (vars : ℕ) (shapes : List Shape) → FitsVariables vars (record { tree = old; shapes = shapes }) → FitsVariables vars (record { tree = new; shapes = shapes })
+  variables_kept vars shapes fits = record {
+    named = same.counts _ (looks-has_bad_variable vars) ∙ fits.named;
+    footprints = fits.footprints;
+  }
 
   pub names_kept : (names : List (List ℕ)) → FitsNames names old → FitsNames names new
   names_kept names fits = same.counts _ (looks-has_unknown_name names) ∙ fits

@@ -3,3 +3,5 @@ mod Plans
 mod Alike
 mod Among
 mod Numbered
+mod Found
+mod Known

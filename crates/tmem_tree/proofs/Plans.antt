@@ -4,7 +4,7 @@ use Rattle.tmem_disk.specs.declared.fault.Cause.TheVariants.{TooDeep, TooManyNod
 use Rattle.tmem_tree.specs.declared.tx.Tx.{Tx, Row_of-Tx, end_of-Tx, more_of-Tx}
 use Rattle.tmem_tree.specs.declared.tx.Tx.TheVariants.{Skip, Seq', Put, Read, Write, Step, When', OrElse', Retry, Abort, Check}
 use Rattle.tmem_tree.specs.Limits.{depth, one_if, count, count_all, is_node, is_write, is_check, has_bad_register, has_bad_variable, has_bad_step, has_bad_arguments, has_unknown_name}
-use Rattle.tmem_tree.specs.Plans.{BreaksNone, IsWithinLimits, FitsSteps, FitsVariables, FitsNames, is_bad}
+use Rattle.tmem_tree.specs.Plans.{BreaksNone, IsWithinLimits, FitsSteps, FitsNames, is_bad}
 
 either : (a b : Bool) → (one_if a ≤ one_if (a || b)) × (one_if b ≤ one_if (a || b)) × (one_if (a || b) ≤ one_if a + one_if b)
 either true true = (omega arith, omega arith, omega arith)
@@ -101,8 +101,8 @@ within_limits arities vars names tx none = record {
 pub fits_steps : (arities : List ℕ) (vars : ℕ) (names : List (List ℕ)) (tx : Tx) → BreaksNone arities vars names tx → FitsSteps arities tx
 fits_steps arities vars names tx none = record { there = none_at _ (none BadStep); given = none_at _ (none BadArguments) }
 
-pub fits_variables : (arities : List ℕ) (vars : ℕ) (names : List (List ℕ)) (tx : Tx) → BreaksNone arities vars names tx → FitsVariables vars tx
-fits_variables arities vars names tx none = none_at _ (none BadVariable)
+pub none_beyond : (arities : List ℕ) (vars : ℕ) (names : List (List ℕ)) (tx : Tx) → BreaksNone arities vars names tx → count (has_bad_variable vars) tx ≡ 0
+none_beyond arities vars names tx none = none_at _ (none BadVariable)
 
 pub fits_names : (arities : List ℕ) (vars : ℕ) (names : List (List ℕ)) (tx : Tx) → BreaksNone arities vars names tx → FitsNames names tx
 fits_names arities vars names tx none = none_at _ (none UnknownName)

@@ -1,10 +1,13 @@
 -- Which transactions are plans.
-use Rattle.std.specs.Prelude.{◌≡◌, ℕ, ◌<◌, ◌≤◌, Bool, false, ◌||◌, List}
+use Rattle.std.specs.Prelude.{◌≡◌, ◌↔◌, ℕ, ◌<◌, ◌≤◌, Bool, false, ◌||◌, List, IsTrue}
 use Rattle.tmem_disk.specs.declared.fault.Cause.{Cause}
 use Rattle.tmem_disk.specs.declared.fault.Cause.TheVariants.{TooDeep, TooManyNodes, TooManyWrites, TooManyChecks, BadRegister, BadVariable, BadStep, BadArguments, UnknownName}
 use Rattle.tmem_disk.specs.Fault.{number_of}
 use Rattle.tmem_tree.specs.declared.tx.Tx.{Tx}
-use Rattle.tmem_tree.specs.Limits.{depth, count, is_node, is_write, is_check, is_step, has_bad_register, has_bad_variable, has_bad_step, has_bad_arguments, has_unknown_name}
+use Rattle.tmem_invariants.specs.Meanings.{Meanings}
+use Rattle.tmem_tree.specs.declared.shape.Shape.{Shape}
+use Rattle.tmem_tree.specs.Shapes.{AreMeant, AreWithin, names_of}
+use Rattle.tmem_tree.specs.Limits.{depth, choices, count, is_node, is_write, is_check, is_step, has_bad_register, has_bad_variable, has_bad_step, has_bad_arguments, has_unknown_name}
 
 -- the nodes that a limit counts
 abbrev pub is_counted : Cause → List ℕ → ℕ → List (List ℕ) → Tx → Bool
@@ -58,9 +61,19 @@ pub record FitsSteps (arities : List ℕ) (tx : Tx) : Type 0 where
   pub there : count (has_bad_step arities) tx ≡ 0
   pub given : count (has_bad_arguments arities) tx ≡ 0
 
--- each variable that it names is one of so many
-abbrev pub FitsVariables : ℕ → Tx → Type 0
-FitsVariables vars tx = count (has_bad_variable vars) tx ≡ 0
+-- what contracts see of a plan: its tree, and the footprints of the invariants that it checks
+pub record PlanView : Type 0 where
+  pub tree : Tx
+  pub shapes : List Shape
+
+-- each variable that it names, and each of a footprint, is one of so many
+pub record FitsVariables (vars : ℕ) (plan : PlanView) : Type 0 where
+  pub named : count (has_bad_variable vars) plan.tree ≡ 0
+  pub footprints : AreWithin vars plan.shapes
+
+-- the footprints are those that are meant
+abbrev pub FitsShapes : Meanings → PlanView → Type 0
+FitsShapes tests plan = AreMeant tests plan.shapes
 
 -- each name that it checks is one of these
 abbrev pub FitsNames : List (List ℕ) → Tx → Type 0
@@ -69,3 +82,11 @@ FitsNames names tx = count (has_unknown_name names) tx ≡ 0
 -- it calls no stored step and has at most 64 nodes
 abbrev pub IsShort : Tx → Type 0
 IsShort tx = (count is_step tx ≡ 0) × (count is_node tx ≤ 64)
+
+-- what a plan keeps beside its tree is so: the shapes of the invariants that it checks, how many of its choices may stand in their
+-- first branch at once, and whether it is short
+pub record IsPlan (tx : Tx) (shapes : List Shape) (open_choices : ℕ) (is_short : Bool) : Type 0 where
+  pub limits : IsWithinLimits tx
+  pub known : FitsNames (names_of shapes) tx
+  pub choices : open_choices ≡ choices tx
+  pub short : IsTrue is_short ↔ IsShort tx

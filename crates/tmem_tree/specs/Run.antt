@@ -1,14 +1,16 @@
 -- What a transaction does, without any log: `run`. It is the meaning that Harris et al. 2005 (Composable Memory
 -- Transactions, section 3) give to sequences, to `retry`, to `orElse` and, with an abort for an exception that nobody
--- catches, to exceptions, on a map and 16 registers in place of a heap and bound variables. A check proposes an invariant
--- by its name and goes on. That an invariant may be broken inside a transaction is said in Harris and Peyton Jones 2006
--- (Transactional Memory with Data Invariants); that a proposed one is tested at the end alone is this project's choice.
+-- catches, to exceptions, on a map and 16 registers in place of a heap and bound variables. A check tests its invariant on the
+-- map so far, and proposes it by its name: one that is false there ends the run. That an invariant may be broken inside a
+-- transaction is said in Harris and Peyton Jones 2006 (Transactional Memory with Data Invariants); that a check tests at its
+-- point, and the end of the transaction once more, is this project's choice.
 use Rattle.std.specs.Prelude.{ℕ, zero, ℤ, pos, Bool, true, false, List, map, nat_eq, slice_index_or, slice_set, replicate, if◌then◌else◌}
 use Rattle.tmem_tree.specs.declared.tx.Tx.{Tx, Row_of-Tx, end_of-Tx, more_of-Tx}
 use Rattle.tmem_tree.specs.declared.tx.Tx.TheVariants.{Skip, Seq', Put, Read, Write, Step, When', OrElse', Retry, Abort, Check}
 use Rattle.tmem_tree.specs.declared.step.StepAnswer.{StepAnswer}
 use Rattle.tmem_tree.specs.declared.step.StepAnswer.TheVariants as answer
 use Rattle.tmem_tree.specs.StepAnswers.{StepMeanings}
+use Rattle.tmem_invariants.specs.Meanings.{Meanings, holds_on}
 use Rattle.tmem_record.specs.State.{no_effect}
 use Rattle.tmem_record.specs.Names.{with_name}
 use Rattle.tmem_record.specs.Writes.{with_write}
@@ -25,6 +27,7 @@ pub data RunResult : Type 0 where
   Normal : (view : View) → RunResult
   Retried : RunResult
   Aborted : (code : ℕ) → RunResult
+  Broken : (name : List ℕ) → RunResult
 
 abbrev pub no_registers : List ℤ
 no_registers = replicate 16 (pos 0)
@@ -65,12 +68,14 @@ abbrev pub then_run : RunResult → (View → RunResult) → RunResult
 then_run (Normal view) next = next view
 then_run Retried next = Retried
 then_run (Aborted code) next = Aborted code
+then_run (Broken name) next = Broken name
 
 -- the second in place of the first where that retried
 abbrev pub or_else : RunResult → RunResult → RunResult
 or_else (Normal view) second = Normal view
 or_else Retried second = second
 or_else (Aborted code) second = Aborted code
+or_else (Broken name) second = Broken name
 
 -- a value goes to the register
 abbrev pub answered : StepAnswer → View → ℕ → RunResult
@@ -78,7 +83,12 @@ answered (answer.Value n) view out = Normal (put view out n)
 answered answer.Retry view out = Retried
 answered (answer.Abort code) view out = Aborted code
 
-module _ (steps : StepMeanings) where
+-- an invariant that holds is proposed
+abbrev pub checked : Bool → View → List ℕ → RunResult
+checked true view name = Normal (check view name)
+checked false view name = Broken name
+
+module _ (steps : StepMeanings) (tests : Meanings) where
   abbrev mutual
     pub run : Tx → View → RunResult
     run Skip view = Normal view
@@ -92,7 +102,7 @@ module _ (steps : StepMeanings) where
     run (OrElse' p a q b) view = or_else (run a view) (run b view)
     run Retry view = Retried
     run (Abort code) view = Aborted code
-    run (Check name) view = Normal (check view name)
+    run (Check name) view = checked (holds_on tests view.values name) view name
 
     -- one after another, up to the first that does not end normally
     pub run_all : {m : _} → Row_of-Tx m → View → RunResult

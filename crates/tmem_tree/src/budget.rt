@@ -3,11 +3,12 @@
 ghost use Rattle.std.specs.Prelude.{◌≡◌, ◌+◌, ◌≤◌, IfSome, IsNone};
 ghost use Rattle.tmem_tree.specs.Limits.{one_if, depth, count, is_node, is_write, is_check};
 ghost use Rattle.tmem_tree.specs.Plans.{is_bad};
+ghost use Rattle.tmem_tree.specs.Shapes.{names_of};
 
 use crate::limits::{MAX_NODES, MAX_WRITES, has_bad_part};
+use crate::shape::Shape;
 use crate::steps::StoredSteps;
 use crate::tx::Tx;
-use tmem_disk::Name;
 use tmem_record::MAX_CHECKS;
 
 /// How many nodes, writes and checks may still come.
@@ -31,7 +32,7 @@ pub(crate) fn pay<S: StoredSteps>(
     tx: &Tx,
     steps: &S,
     vars: u16,
-    names: &[Name],
+    shapes: &[Shape],
     most: u32,
     budget: Budget,
 ) -> Option<Budget>
@@ -39,28 +40,28 @@ pub(crate) fn pay<S: StoredSteps>(
     ensures nodes { IfSome result (λ left. left.nodes + count is_node tx.now ≡ budget.nodes) }
     ensures writes { IfSome result (λ left. left.writes + count is_write tx.now ≡ budget.writes) }
     ensures checks { IfSome result (λ left. left.checks + count is_check tx.now ≡ budget.checks) }
-    ensures good { IfSome result (λ left. count (is_bad (S.arities steps.now) vars names.now) tx.now ≡ 0) }
+    ensures good { IfSome result (λ left. count (is_bad (S.arities steps.now) vars (names_of shapes.now)) tx.now ≡ 0) }
     ensures lacking { IsNone result → depth tx.now ≤ most → count is_node tx.now ≤ budget.nodes → count is_write tx.now ≤ budget.writes
-        → count is_check tx.now ≤ budget.checks → count (is_bad (S.arities steps.now) vars names.now) tx.now ≡ 0 → ⊥ }
+        → count is_check tx.now ≤ budget.checks → count (is_bad (S.arities steps.now) vars (names_of shapes.now)) tx.now ≡ 0 → ⊥ }
 {
-    if most == 0 || has_bad_part(tx, steps, vars, names) {
+    if most == 0 || has_bad_part(tx, steps, vars, shapes) {
         return None;
     }
     let mut left = without(tx, budget)?;
     match tx {
         Tx::Seq(txs) => {
             for t in txs {
-                left = pay(t, steps, vars, names, most - 1, left)?;
+                left = pay(t, steps, vars, shapes, most - 1, left)?;
             }
             Some(left)
         }
         Tx::When { then, other, .. } => {
-            let left = pay(then, steps, vars, names, most - 1, left)?;
-            pay(other, steps, vars, names, most - 1, left)
+            let left = pay(then, steps, vars, shapes, most - 1, left)?;
+            pay(other, steps, vars, shapes, most - 1, left)
         }
         Tx::OrElse(first, second) => {
-            let left = pay(first, steps, vars, names, most - 1, left)?;
-            pay(second, steps, vars, names, most - 1, left)
+            let left = pay(first, steps, vars, shapes, most - 1, left)?;
+            pay(second, steps, vars, shapes, most - 1, left)
         }
         _ => Some(left),
     }

@@ -1,8 +1,9 @@
 //! Transactions as trees, and the stored steps that they call.
 //!
-//! `Run` in `specs/` says what a transaction does to a map, and `Visited` which variables it reads of the map. A `Plan` is
-//! a transaction within the limits, so that whoever runs it needs no test of its own. `Steps` keeps each stored step with
-//! the meaning that its maker stated; the layers above ask for `StoredSteps`, and name no closure.
+//! `Run` in `specs/` says what a transaction does to a map, and `Visited` which variables it reads of the map and which
+//! invariants it tests. A `Plan` is a transaction within the limits, with the names and footprints of the invariants that it
+//! checks, so that whoever runs it looks at no limit again. `Steps` keeps each stored step with the meaning that its maker stated;
+//! the layers above ask for `StoredSteps`, and name no closure.
 #![tactic(auto)]
 
 mod budget;
@@ -11,14 +12,17 @@ mod limits;
 mod numbers;
 mod plan;
 mod settled;
+mod shape;
+mod shapes;
 mod short;
 mod step;
 mod steps;
 mod tx;
 
-pub use limits::{MAX_DEPTH, MAX_NODES, MAX_WRITES, REGISTERS};
+pub use limits::{MAX_DEPTH, MAX_NODES, MAX_TURNS, MAX_WRITES, REGISTERS};
 pub use plan::Plan;
 pub use settled::Settled;
+pub use shape::{Footprint, Shape, footprint_of, shapes_of};
 pub use short::MAX_SHORT;
 pub use step::{MAX_ARGUMENTS, Step, StepAnswer, StepEntry};
 pub use steps::{MAX_STEPS, Steps, StoredSteps};

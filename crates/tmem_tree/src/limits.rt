@@ -4,10 +4,14 @@ ghost use Rattle.std.specs.Prelude.{◌≡◌, ℕ, ◌+◌, ◌-◌, ◌≤◌,
 ghost use Rattle.std.specs.List.{list_any};
 ghost use Rattle.tmem_tree.specs.Limits.{depth, count, is_no_register, has_bad_register, has_bad_variable, has_bad_step, has_bad_arguments, has_unknown_name};
 ghost use Rattle.tmem_tree.specs.Plans.{is_bad, is_counted};
+ghost use Rattle.tmem_tree.specs.Shapes.{names_of};
 
+use crate::shape::{Shape, find};
 use crate::steps::StoredSteps;
 use crate::tx::Tx;
-use tmem_disk::{Cause, Name};
+use tmem_disk::Cause;
+use tmem_invariants::MAX_FOOTPRINT;
+use tmem_record::MAX_CHECKS;
 
 /// How many registers a transaction has.
 pub const REGISTERS: usize = 16;
@@ -20,6 +24,10 @@ pub const MAX_NODES: u32 = 512;
 
 /// The most `Write` nodes.
 pub const MAX_WRITES: u32 = 64;
+
+/// An evaluation that is never refused memory takes no more turns: each but the last reads a variable, for a `Read` or for a
+/// `Check`, or asks for the test of a `Check`.
+pub const MAX_TURNS: u32 = MAX_NODES + (MAX_CHECKS * (MAX_FOOTPRINT + 1)) as u32;
 
 /// Whether a tree is no deeper than `most`. Looks no deeper than that.
 pub(crate) fn is_within_depth(tx: &Tx, most: u32) -> bool
@@ -53,38 +61,38 @@ pub(crate) fn spend<S: StoredSteps>(
     cause: Cause,
     steps: &S,
     vars: u16,
-    names: &[Name],
+    shapes: &[Shape],
     budget: u32,
 ) -> Option<u32>
-    ensures enough { IfSome result (λ left. left + count (is_counted cause (S.arities steps.now) vars names.now) tx.now ≡ budget) }
-    ensures lacking { IsNone result → budget < count (is_counted cause (S.arities steps.now) vars names.now) tx.now }
+    ensures enough { IfSome result (λ left. left + count (is_counted cause (S.arities steps.now) vars (names_of shapes.now)) tx.now ≡ budget) }
+    ensures lacking { IsNone result → budget < count (is_counted cause (S.arities steps.now) vars (names_of shapes.now)) tx.now }
 {
     let mut left = budget;
-    if is_counted(tx, cause, steps, vars, names) {
+    if is_counted(tx, cause, steps, vars, shapes) {
         left = left.checked_sub(1)?;
     }
     match tx {
         Tx::Seq(txs) => {
             for t in txs {
-                left = spend(t, cause, steps, vars, names, left)?;
+                left = spend(t, cause, steps, vars, shapes, left)?;
             }
             Some(left)
         }
         Tx::When { then, other, .. } => {
-            let left = spend(then, cause, steps, vars, names, left)?;
-            spend(other, cause, steps, vars, names, left)
+            let left = spend(then, cause, steps, vars, shapes, left)?;
+            spend(other, cause, steps, vars, shapes, left)
         }
         Tx::OrElse(first, second) => {
-            let left = spend(first, cause, steps, vars, names, left)?;
-            spend(second, cause, steps, vars, names, left)
+            let left = spend(first, cause, steps, vars, shapes, left)?;
+            spend(second, cause, steps, vars, shapes, left)
         }
         _ => Some(left),
     }
 }
 
 // Whether a limit counts this node.
-fn is_counted<S: StoredSteps>(tx: &Tx, cause: Cause, steps: &S, vars: u16, names: &[Name]) -> bool
-    ensures { result ≡ is_counted cause (S.arities steps.now) vars names.now tx.now }
+fn is_counted<S: StoredSteps>(tx: &Tx, cause: Cause, steps: &S, vars: u16, shapes: &[Shape]) -> bool
+    ensures { result ≡ is_counted cause (S.arities steps.now) vars (names_of shapes.now) tx.now }
 {
     match cause {
         Cause::TooDeep => false,
@@ -95,20 +103,20 @@ fn is_counted<S: StoredSteps>(tx: &Tx, cause: Cause, steps: &S, vars: u16, names
         Cause::BadVariable => has_bad_variable(tx, vars),
         Cause::BadStep => has_bad_step(tx, steps),
         Cause::BadArguments => has_bad_arguments(tx, steps),
-        Cause::UnknownName => has_unknown_name(tx, names),
+        Cause::UnknownName => has_unknown_name(tx, shapes),
     }
 }
 
 /// Whether a node names a register, a variable, a step or a name that is not there, or hands a step another number of
 /// arguments than it takes.
-pub(crate) fn has_bad_part<S: StoredSteps>(tx: &Tx, steps: &S, vars: u16, names: &[Name]) -> bool
-    ensures { result ≡ is_bad (S.arities steps.now) vars names.now tx.now }
+pub(crate) fn has_bad_part<S: StoredSteps>(tx: &Tx, steps: &S, vars: u16, shapes: &[Shape]) -> bool
+    ensures { result ≡ is_bad (S.arities steps.now) vars (names_of shapes.now) tx.now }
 {
     has_bad_register(tx)
         || has_bad_variable(tx, vars)
         || has_bad_step(tx, steps)
         || has_bad_arguments(tx, steps)
-        || has_unknown_name(tx, names)
+        || has_unknown_name(tx, shapes)
 }
 
 fn has_bad_register(tx: &Tx) -> bool
@@ -159,11 +167,11 @@ fn has_bad_arguments<S: StoredSteps>(tx: &Tx, steps: &S) -> bool
     }
 }
 
-fn has_unknown_name(tx: &Tx, names: &[Name]) -> bool
-    ensures { result ≡ has_unknown_name names.now tx.now }
+fn has_unknown_name(tx: &Tx, shapes: &[Shape]) -> bool
+    ensures { result ≡ has_unknown_name (names_of shapes.now) tx.now }
 {
     match tx {
-        Tx::Check { name } => !names.contains(name),
+        Tx::Check { name } => find(shapes, name).is_none(),
         _ => false,
     }
 }

@@ -1,25 +1,31 @@
 // A transaction within the limits.
 
-ghost use Rattle.std.specs.Prelude.{◌≡◌, ℕ, ◌<◌, List, ◌↔◌, IsTrue, IsFalse, IfOk, IfErr, slice_set};
+ghost use Rattle.std.specs.Prelude.{◌≡◌, ℕ, ◌<◌, List, ◌↔◌, IsTrue, IsFalse, IfOk, IfErr, slice_set, All};
+ghost use Rattle.std.specs.List.{Contains};
+ghost use Rattle.tmem_invariants.specs.Meanings.{Meanings};
 ghost use Rattle.tmem_tree.specs.Limits.{choices, count, is_put};
-ghost use Rattle.tmem_tree.specs.Plans.{BreaksNone, IsLeastBroken, IsWithinLimits, FitsSteps, FitsVariables, FitsNames, IsShort};
+ghost use Rattle.tmem_tree.specs.Plans.{BreaksNone, IsLeastBroken, IsWithinLimits, FitsSteps, FitsVariables, FitsNames, FitsShapes, IsShort};
+ghost use Rattle.tmem_tree.specs.Shapes.{AreMeant, AreWithin, names_of};
 ghost use Rattle.tmem_tree.specs.Numbers.{numbers, with_number};
 
 use crate::budget::{WHOLE, pay};
 use crate::choices::count_choices;
 use crate::limits::{MAX_DEPTH, MAX_NODES, MAX_WRITES, is_within_depth, spend};
 use crate::numbers::change_number;
+use crate::shape::Shape;
+use crate::shapes::{Shapes, collect};
 use crate::short::is_short;
 use crate::steps::StoredSteps;
 use crate::tx::Tx;
 use std::marker::Model;
-use tmem_disk::{Cause, Fault, Name};
+use tmem_disk::{Cause, Fault};
 use tmem_record::MAX_CHECKS;
 
-/// A transaction that breaks no limit. Contracts see it as its tree.
+/// A transaction that breaks no limit. Contracts see it as its tree, and the footprints of the invariants that it checks.
 #[derive(Drop)]
 pub struct Plan {
     tx: Tx,
+    shapes: Shapes,
     // how many of its choices may stand in their first branch at once
     open_choices: usize,
     // whether it calls no stored step and has few nodes
@@ -27,66 +33,92 @@ pub struct Plan {
 }
 
 impl Model for Plan {
-    ghost use Rattle.tmem_tree.specs.declared.tx.Tx.{Tx};
     ghost use Rattle.tmem_tree.specs.contracts.tx.Tx as tree;
+    ghost use Rattle.tmem_tree.specs.Plans.{PlanView, IsPlan};
     ghost use Rattle.std.specs.Coded.{codes};
 
-    ghost Value = { Tx };
+    ghost Value = { PlanView };
 
     ghost coded = { Prim.hlevel (codes, tree.the_row.coded) };
 
-    ghost use Rattle.std.specs.Prelude.{◌≡◌, ◌↔◌, IsTrue};
-    ghost use Rattle.tmem_tree.specs.Limits.{choices};
-    ghost use Rattle.tmem_tree.specs.Plans.{IsWithinLimits, IsShort};
+    ghost view = { λ plan. record { tree = plan.tx; shapes = plan.shapes } };
 
-    ghost view = { λ plan. plan.tx };
-
-    ghost invariant = { λ plan. IsWithinLimits plan.tx × (plan.open_choices ≡ choices plan.tx) × (IsTrue plan.is_short ↔ IsShort plan.tx) };
+    ghost invariant = { λ plan. IsPlan plan.tx plan.shapes plan.open_choices plan.is_short };
 }
 
 impl Plan {
-    /// The plan, for these steps, so many variables and the invariants of these names. Refused with the least cause by
-    /// number whose limit is broken.
-    #[tactic(auto, using(crate::proofs::Plans::fits_steps, crate::proofs::Plans::fits_variables, crate::proofs::Plans::fits_names))]
-    pub fn new<S: StoredSteps>(tx: Tx, steps: &S, vars: u16, names: &[Name]) -> Result<Plan, Fault>
-        ensures plan { IfOk result (λ plan. plan ≡ tx) }
-        ensures fine { IfOk result (λ _. BreaksNone (S.arities steps.now) vars names.now tx) }
+    /// The plan, for these steps, so many variables and the invariants of these shapes. Refused with the least cause by
+    /// number whose limit is broken. It takes no memory.
+    #[tactic(auto, using(crate::proofs::Plans::fits_steps, crate::proofs::Plans::fits_names))]
+    pub fn new<S: StoredSteps>(
+        tx: Tx,
+        steps: &S,
+        vars: u16,
+        shapes: &[Shape],
+    ) -> Result<Plan, Fault>
+        ensures plan { IfOk result (λ plan. plan.tree ≡ tx) }
+        ensures fine { IfOk result (λ _. BreaksNone (S.arities steps.now) vars (names_of shapes.now) tx) }
         ensures steps { IfOk result (λ _. FitsSteps (S.arities steps.now) tx) }
-        ensures variables { IfOk result (λ _. FitsVariables vars tx) }
-        ensures names { IfOk result (λ _. FitsNames names.now tx) }
-        ensures least { IfErr result (λ fault. (cause : Cause) × (fault ≡ Fault.BadPlan cause) × IsLeastBroken (S.arities steps.now) vars names.now tx cause) }
+        ensures variables { AreWithin vars shapes.now → IfOk result (FitsVariables vars) }
+        ensures names { IfOk result (λ _. FitsNames (names_of shapes.now) tx) }
+        ensures known { IfOk result (λ plan. FitsNames (names_of plan.shapes) tx) }
+        ensures among { IfOk result (λ plan. All (Contains shapes.now) plan.shapes) }
+        ensures shapes { (tests : Meanings) → AreMeant tests shapes.now → IfOk result (FitsShapes tests) }
+        ensures least { IfErr result (λ fault. (cause : Cause) × (fault ≡ Fault.BadPlan cause) × IsLeastBroken (S.arities steps.now) vars (names_of shapes.now) tx cause) }
     {
-        if breaks_none(&tx, steps, vars, names) {
-            let open_choices = count_choices(&tx);
-            let is_short = is_short(&tx);
-            return Ok(Plan {
-                tx,
-                open_choices,
-                is_short,
-            });
+        if breaks_none(&tx, steps, vars, shapes) {
+            return Ok(Plan::of(tx, shapes));
         }
-        Err(Fault::BadPlan(least_broken(&tx, steps, vars, names)))
+        Err(Fault::BadPlan(least_broken(&tx, steps, vars, shapes)))
+    }
+
+    // The plan of a transaction that breaks no limit.
+    fn of(tx: Tx, shapes: &[Shape]) -> Plan
+        requires limits { IsWithinLimits tx }
+        requires names { FitsNames (names_of shapes.now) tx }
+        ensures plan { result.tree ≡ tx }
+        ensures known { FitsNames (names_of result.shapes) tx }
+        ensures among { All (Contains shapes.now) result.shapes }
+    {
+        let open_choices = count_choices(&tx);
+        let is_short = is_short(&tx);
+        let mut checked = Shapes::new();
+        collect(&tx, shapes, &mut checked);
+        Plan {
+            tx,
+            shapes: checked,
+            open_choices,
+            is_short,
+        }
     }
 
     /// The transaction.
     pub fn tree(&self) -> &Tx
-        ensures tree { result.now ≡ self.now }
-        ensures limits { IsWithinLimits self.now }
+        ensures tree { result.now ≡ self.now.tree }
+        ensures limits { IsWithinLimits self.now.tree }
     {
         &self.tx
     }
 
+    /// The footprints of the invariants that it checks.
+    pub fn shapes(&self) -> &[Shape]
+        ensures shapes { result.now ≡ self.now.shapes }
+        ensures known { FitsNames (names_of self.now.shapes) self.now.tree }
+    {
+        self.shapes.as_slice()
+    }
+
     /// How many of its choices may stand in their first branch at once.
     pub fn choices(&self) -> usize
-        ensures choices { result ≡ choices self.now }
-        ensures limits { IsWithinLimits self.now }
+        ensures choices { result ≡ choices self.now.tree }
+        ensures limits { IsWithinLimits self.now.tree }
     {
         self.open_choices
     }
 
     /// Whether it calls no stored step and has at most `MAX_SHORT` nodes.
     pub fn is_short(&self) -> bool
-        ensures { IsTrue result ↔ IsShort self.now }
+        ensures { IsTrue result ↔ IsShort self.now.tree }
     {
         self.is_short
     }
@@ -96,55 +128,56 @@ impl Plan {
     /// there is no such place. Allocates nothing.
     #[tactic(auto, using(crate::proofs::Numbered::numbers_changed, crate::proofs::Alike::unchanged_past))]
     pub fn set_number(&mut self, place: usize, number: i64) -> bool
-        ensures tree { self.new ≡ with_number place number self.old }
-        ensures numbers { numbers self.new ≡ slice_set (numbers self.old) place number }
-        ensures found { IsTrue result ↔ (place < count is_put self.old) }
+        ensures tree { self.new.tree ≡ with_number place number self.old.tree }
+        ensures shapes { self.new.shapes ≡ self.old.shapes }
+        ensures numbers { numbers self.new.tree ≡ slice_set (numbers self.old.tree) place number }
+        ensures found { IsTrue result ↔ (place < count is_put self.old.tree) }
         ensures unchanged { IsFalse result → self.new ≡ self.old }
-        ensures steps { (arities : List ℕ) → FitsSteps arities self.old → FitsSteps arities self.new }
+        ensures steps { (arities : List ℕ) → FitsSteps arities self.old.tree → FitsSteps arities self.new.tree }
         ensures variables { (vars : ℕ) → FitsVariables vars self.old → FitsVariables vars self.new }
-        ensures names { (names : List (List ℕ)) → FitsNames names self.old → FitsNames names self.new }
-        ensures short { IsShort self.new ↔ IsShort self.old }
-        ensures choices { choices self.new ≡ choices self.old }
+        ensures names { (names : List (List ℕ)) → FitsNames names self.old.tree → FitsNames names self.new.tree }
+        ensures short { IsShort self.new.tree ↔ IsShort self.old.tree }
+        ensures choices { choices self.new.tree ≡ choices self.old.tree }
     {
         change_number(&mut self.tx, place, number).is_none()
     }
 }
 
 // Whether no limit is broken.
-fn breaks_none<S: StoredSteps>(tx: &Tx, steps: &S, vars: u16, names: &[Name]) -> bool
-    ensures { IsTrue result ↔ BreaksNone (S.arities steps.now) vars names.now tx.now }
+fn breaks_none<S: StoredSteps>(tx: &Tx, steps: &S, vars: u16, shapes: &[Shape]) -> bool
+    ensures { IsTrue result ↔ BreaksNone (S.arities steps.now) vars (names_of shapes.now) tx.now }
 {
-    pay(tx, steps, vars, names, MAX_DEPTH, WHOLE).is_some()
+    pay(tx, steps, vars, shapes, MAX_DEPTH, WHOLE).is_some()
 }
 
 // The least limit that is broken, where one is.
-fn least_broken<S: StoredSteps>(tx: &Tx, steps: &S, vars: u16, names: &[Name]) -> Cause
-    requires { ¬ BreaksNone (S.arities steps.now) vars names.now tx.now }
-    ensures { IsLeastBroken (S.arities steps.now) vars names.now tx.now result }
+fn least_broken<S: StoredSteps>(tx: &Tx, steps: &S, vars: u16, shapes: &[Shape]) -> Cause
+    requires { ¬ BreaksNone (S.arities steps.now) vars (names_of shapes.now) tx.now }
+    ensures { IsLeastBroken (S.arities steps.now) vars (names_of shapes.now) tx.now result }
 {
     let checks = MAX_CHECKS as u32;
     if !is_within_depth(tx, MAX_DEPTH) {
         return Cause::TooDeep;
     }
-    if spend(tx, Cause::TooManyNodes, steps, vars, names, MAX_NODES).is_none() {
+    if spend(tx, Cause::TooManyNodes, steps, vars, shapes, MAX_NODES).is_none() {
         return Cause::TooManyNodes;
     }
-    if spend(tx, Cause::TooManyWrites, steps, vars, names, MAX_WRITES).is_none() {
+    if spend(tx, Cause::TooManyWrites, steps, vars, shapes, MAX_WRITES).is_none() {
         return Cause::TooManyWrites;
     }
-    if spend(tx, Cause::TooManyChecks, steps, vars, names, checks).is_none() {
+    if spend(tx, Cause::TooManyChecks, steps, vars, shapes, checks).is_none() {
         return Cause::TooManyChecks;
     }
-    if spend(tx, Cause::BadRegister, steps, vars, names, 0).is_none() {
+    if spend(tx, Cause::BadRegister, steps, vars, shapes, 0).is_none() {
         return Cause::BadRegister;
     }
-    if spend(tx, Cause::BadVariable, steps, vars, names, 0).is_none() {
+    if spend(tx, Cause::BadVariable, steps, vars, shapes, 0).is_none() {
         return Cause::BadVariable;
     }
-    if spend(tx, Cause::BadStep, steps, vars, names, 0).is_none() {
+    if spend(tx, Cause::BadStep, steps, vars, shapes, 0).is_none() {
         return Cause::BadStep;
     }
-    if spend(tx, Cause::BadArguments, steps, vars, names, 0).is_none() {
+    if spend(tx, Cause::BadArguments, steps, vars, shapes, 0).is_none() {
         return Cause::BadArguments;
     }
     Cause::UnknownName

@@ -20,6 +20,7 @@ pub enum Settled {
     Retry,
     /// It gave up, with this code.
     Aborted(u16),
-    /// This invariant would be false: the first in the table's order of those that are registered or checked.
+    /// This invariant was false where it was checked; or it would be: the first in the table's order of those that are registered or
+    /// checked.
     Refused(Name),
 }

@@ -45,7 +45,8 @@ pub enum Tx {
     Abort {
         code: u16,
     },
-    /// Proposes an invariant: it must hold at the end of this transaction, and of every later one.
+    /// Tests an invariant on the values so far: where it is false, the transaction ends as broken. Else proposes it: it must
+    /// hold at the end of this transaction, and of every later one.
     Check {
         name: Name,
     },

@@ -8,10 +8,9 @@ use Rattle.tmem_record.specs.State.{State, first_state}
 use Rattle.tmem_tree.specs.declared.tx.Tx.{Tx}
 use Rattle.tmem_tree.specs.declared.settled.Settled.{Settled}
 use Rattle.tmem_tree.specs.declared.settled.Settled.TheVariants.{Committed}
-use Rattle.tmem_tree.specs.Visited.{visited}
-use Rattle.tmem_tentative.specs.Right.{first_lacking}
+use Rattle.tmem_tree.specs.Visited.{Ask, Visit, Probe}
 use Rattle.tmem_core.specs.Program.{Program}
-use Rattle.tmem_core.specs.Verdict.{map_of, verdict, serial_state}
+use Rattle.tmem_core.specs.Verdict.{verdict, serial_state}
 use Rattle.tmem_core.specs.SettleAnswer.{judged}
 use Rattle.tmem_core.proofs.Laws.{serial_state-append}
 use Rattle.tmem_event.specs.declared.event.Event.{Event}
@@ -19,7 +18,7 @@ use Rattle.tmem_event.specs.declared.event.Event.TheVariants as event
 use Rattle.tmem_event.specs.declared.event.Reply.{Reply}
 use Rattle.tmem_event.specs.declared.event.Reply.TheVariants as reply
 use Rattle.tmem_world.specs.Replies.{reply_of, acknowledged}
-use Rattle.tmem_world.specs.WorldModel.{WorldModel, SlotModel, NoTransaction, Begun, Ended, SessionStatus, Open, Gone, Setting, present, slot_at, overridden, goes_on, AllowsBegin, AllowsTurn, is_closed, settled_by, settle_result, AllowsFlushOfSome, AllowsFlush, AllowsNextImage, AllowsCheckpoint, AllowsReopen, InSession, Allows}
+use Rattle.tmem_world.specs.WorldModel.{WorldModel, SlotModel, NoTransaction, Begun, Ended, SessionStatus, Open, Gone, Setting, present, slot_at, goes_on, open_in, AllowsBegin, AllowsTurn, is_closed, settled_by, settle_result, AllowsFlushOfSome, AllowsFlush, AllowsNextImage, AllowsCheckpoint, AllowsReopen, InSession, Allows}
 use Rattle.tmem_world.specs.Represents.{IsNumbered}
 use Rattle.tmem_world.specs.Chain.{History, GoesOn, ended_plan, accepted_after, history_after}
 use Rattle.tmem_world.proofs.Prefixes.{count_found, take_behind}
@@ -57,16 +56,16 @@ module _ (m : WorldModel) where
   begins set slot tx (reply.Fault f) m' is = stays m _ (reply.Fault f) m' m is.1 (λ txs. refl) refl refl (omega arith) (omega arith)
   begins set slot tx _ m' is = absurd is
 
-  goes : (need : Option ℕ) (program : Program) (slot : ℕ) (plan : Tx) (reads : List (ℕ × ℤ)) → Moves m (event.Turn slot) (goes_on need program m slot plan reads).0 (goes_on need program m slot plan reads).1
-  goes (Some var) program slot plan reads = stays m _ _ _ _ refl (λ txs. refl) refl refl (omega arith) (omega arith)
-  goes None program slot plan reads = stays m _ _ _ _ refl (λ txs. refl) refl refl (omega arith) (omega arith)
+  goes : (next : Option Ask) (program : Program) (slot : ℕ) (plan : Tx) (reads : List (ℕ × ℤ)) (answered : ℕ) → Moves m (event.Turn slot) (goes_on next program m slot plan reads answered).0 (goes_on next program m slot plan reads answered).1
+  goes (Some (Visit var)) program slot plan reads answered = stays m _ _ _ _ refl (λ txs. refl) refl refl (omega arith) (omega arith)
+  goes (Some (Probe name values)) program slot plan reads answered = stays m _ _ _ _ refl (λ txs. refl) refl refl (omega arith) (omega arith)
+  goes None program slot plan reads answered = stays m _ _ _ _ refl (λ txs. refl) refl refl (omega arith) (omega arith)
 
   turns : (program : Program) (a : SlotModel) (slot : ℕ) (r : Reply) (m' : WorldModel) → AllowsTurn program a m slot r m' → Moves m (event.Turn slot) r m'
   turns program NoTransaction slot r m' is = unmoved m _ r reply.Idle m' (λ txs. refl) (omega arith) is
   turns program (Ended plan reads) slot r m' is = unmoved m _ r reply.Ended m' (λ txs. refl) (omega arith) is
-  turns program (Begun plan reads) slot r m' is =
-      let need = first_lacking reads (visited program.steps plan (overridden reads (map_of (present program m)))) in
-      ⊎_elim (λ now. subst (λ (x : Reply × WorldModel). Moves m (event.Turn slot) x.0 x.1) (sym now) (goes need program slot plan reads)) (unmoved m _ r (reply.Fault fault.Memory) m' (λ txs. refl) (omega arith)) is
+  turns program (Begun plan reads answered) slot r m' is =
+      ⊎_elim (λ now. subst (λ (x : Reply × WorldModel). Moves m (event.Turn slot) x.0 x.1) (sym now) (goes (open_in program m plan reads answered) program slot plan reads answered)) (unmoved m _ r (reply.Fault fault.Memory) m' (λ txs. refl) (omega arith)) is
 
   -- what holds of both holds of the one that is chosen
   chosen : (b : Bool) (P Q R : Type 0) → (P → R) → (Q → R) → MatchBool b P Q → R

@@ -8,8 +8,11 @@ use Rattle.tmem_disk.specs.Disk.{IsDevice, LeavesOnly, AtEachMoment}
 use Rattle.tmem_core.specs.Program.{Program, IsProgramOf}
 use Rattle.tmem_core.specs.Held.{state_of, waiting_of, is_shut_of, table_of}
 use Rattle.tmem_core.specs.Verdict.{serial_effects}
+use Rattle.tmem_disk.specs.declared.fault.Fault.TheVariants as fault
 use Rattle.tmem_event.specs.declared.event.Event.{Event}
+use Rattle.tmem_event.specs.declared.event.Event.TheVariants as event
 use Rattle.tmem_event.specs.declared.event.Reply.{Reply}
+use Rattle.tmem_event.specs.declared.event.Reply.TheVariants as reply
 use Rattle.tmem_world.specs.declared.slot.Slot.{Slot}
 use Rattle.tmem_world.specs.declared.session.Session as core
 use Rattle.tmem_world.specs.declared.held.Held.{Held}
@@ -45,6 +48,11 @@ pub held_is : {A : Type 0} (o : Option A) (here : IsSome o) (x : A) → o ≡ So
 held_is (Some y) here x is = cc
 held_is None here x is = cc
 
+-- and the other way round
+pub held_as : {A : Type 0} (o : Option A) (here : IsSome o) (x : A) → what o here ≡ x → o ≡ Some x
+held_as (Some y) here x is = ap Some is
+held_as None here x is = absurd (false≢true here)
+
 -- what is there does not depend on how that is known
 pub what_is_there : {A : Type 0} (o : Option A) (here here' : IsSome o) → what o here' ≡ what o here
 what_is_there (Some x) here here' = refl
@@ -62,6 +70,16 @@ in_session program (With o) m r m' allowed has some it = by_state (is_shut_of o.
     by_state : (b : Bool) → m.session ≡ session_of b → InSession m.session m r m' allowed
     by_state true is = subst (λ (z : SessionStatus). InSession z m r m' allowed) (sym is) it
     by_state false is = subst (λ (z : SessionStatus). InSession z m r m' allowed) (sym is) it
+
+-- where there is none, it is refused
+closed_session : {D T : Type 0} {d t : _} (program : Program) (h : Held D T d t) (m : WorldModel) (allowed : Type 0) → (IsWith h → ⊥) → HasSession program h m → InSession m.session m (reply.Fault fault.Closed) m allowed
+closed_session program (With o) m allowed none has = absurd (none tt)
+closed_session program (Without left) m allowed none is = subst (λ (z : SessionStatus). InSession z m (reply.Fault fault.Closed) m allowed) (sym is) (refl, refl)
+
+-- a session that stands
+pub session_of_it : {D T : Type 0} {d t : _} (h : Held D T d t) → IsWith h → (o : core.Session D T d t) × (h ≡ With o)
+session_of_it (With o) it = (o, refl)
+session_of_it (Without left) it = absurd it
 
 -- a world with a session holds one
 pub is_with : {D T : Type 0} {d t : _} (h : Held D T d t) (o : core.Session D T d t) → h ≡ With o → IsWith h
@@ -225,6 +243,13 @@ pub slots_answered : {D T S : Type 0} {d t s : _} (w w' : World D T S d t s) (e 
     → IsStep w e r w' → Reopens w e r w' → ((n : ℕ) → failures_by r n ≡ n) → IsFailedCall e r (view_of w').last_fault → IsAnswered w e r w'
 slots_answered {D} {T} {d = d} {t = t} w w' e r layout steps same device step again failures which =
     still_answered w w' e r layout steps (ap (λ (h : Held D T d t). table_in h) (held_stays w w' same)) (device_stays w w' same) device step again failures which
+
+-- Settle is refused without a session
+pub settles_without : {D T S : Type 0} {d t s : _} (w w' : World D T S d t s) (slot : ℕ) → (IsWith (held_of w) → ⊥) → w'.layout ≡ w.layout → w'.steps ≡ w.steps → w'.held ≡ w.held → w'.slots.items ≡ w.slots.items → IsDevice (view_of w)
+    → IsAnswered w (event.Settle slot) (reply.Fault fault.Closed) w'
+settles_without w w' slot none layout steps same slots device =
+    slots_answered w w' (event.Settle slot) (reply.Fault fault.Closed) layout steps same device
+    (λ program means m r keeps. (m, closed_session program (held_of w) m _ none r.session, same_point w w' same program m r slots layout)) tt (λ n. refl) tt
 
 pub AllZip-at : {A B : Type 0} (R : A → B → Type 0) (xs : List A) (ys : List B) (k : ℕ) (d : A) (e : B) → AllZip R xs ys → k < length xs → R (get_or xs k d) (get_or ys k e)
 AllZip-at R [] ys k d e each below = absurd (omega arith)

@@ -12,7 +12,7 @@ use Rattle.tmem_tree.specs.declared.settled.Settled.TheVariants.{Committed, Seen
 use Rattle.tmem_invariants.specs.Meanings.{IsSound}
 use Rattle.tmem_core.specs.Program.{Program}
 use Rattle.tmem_core.specs.Verdict.{serial_state, state_after, IsCommitted, AreCommitted}
-use Rattle.tmem_core.specs.Versions.{Follows}
+use Rattle.tmem_core.specs.Versions.{Follows, names_tested}
 use Rattle.tmem_core.proofs.Laws.{serial_state-append, count-committed, sound_after, same_order}
 use Rattle.tmem_journal.specs.Calls.{FitsOn}
 use Rattle.tmem_journal.specs.Mended.{Mends, MendedBy}
@@ -143,9 +143,9 @@ module _ {D T S : Type 0} {d t s : _} (w : World D T S d t s) where
   }
 
 -- what is a safe prefix of one program's is one of the next one's, and the state after it is the same
-module _ (old new : Program) (vars : ℕ) (h : History) (n : ℕ) (safe : IsSafePrefix old vars h n) (follows : Follows old (state_at old vars h n).names new) where
+module _ (old new : Program) (vars : ℕ) (h : History) (n : ℕ) (safe : IsSafePrefix old vars h n) (follows : Follows old (state_at old vars h n).names (names_tested old (first_state vars) (take n h.accepted)) new) where
   both : AreCommitted new (first_state vars) (take n h.accepted) × (state_at new vars h n ≡ state_at old vars h n)
-  both = same_order old new (state_at old vars h n).names safe.sound.there follows (first_state vars) (take n h.accepted) safe.each (λ name is. is)
+  both = same_order old new (state_at old vars h n).names safe.sound.there follows (first_state vars) (take n h.accepted) safe.each (λ name is. is) follows.asked
 
   prefix_following : IsSafePrefix new vars h n
   prefix_following = record {

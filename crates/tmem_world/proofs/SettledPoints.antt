@@ -9,6 +9,7 @@ use Rattle.tmem_disk.specs.declared.fault.Fault.TheVariants as fault
 use Rattle.tmem_record.specs.State.{State, fold}
 use Rattle.tmem_record.specs.declared.effect.Effect.{Effect}
 use Rattle.tmem_tree.specs.declared.tx.Tx.{Tx}
+use Rattle.tmem_tree.specs.Plans.{PlanView}
 use Rattle.tmem_core.specs.Program.{Program, IsProgramOf}
 use Rattle.tmem_tentative.specs.Cursors.{IsAt, given, attempt_of}
 use Rattle.tmem_tree.specs.declared.settled.Settled.{Settled}
@@ -30,6 +31,7 @@ use Rattle.tmem_world.specs.SettleSlot.{Settles, SettlesEnded}
 use Rattle.tmem_world.specs.Replies.{reply_of}
 use Rattle.tmem_world.specs.WorldModel.{WorldModel, SlotModel, NoTransaction, Begun, Ended, is_closed, settle_result, settled_by, present, cut, holding}
 use Rattle.tmem_world.specs.Represents.{Evaluates, SlotIs, SessionIs, Represents, held_of, session_of}
+use Rattle.tmem_world.proofs.HeldSlots.{is_there}
 use Rattle.tmem_world.proofs.Serial.{waiting-append}
 use Rattle.tmem_world.proofs.Points.{AllZip-set, in_point, session_at, failures_at}
 
@@ -152,9 +154,9 @@ module _ (program : Program) where
         is ∙ ap (λ b. J b (state_of o.core) (durable_of o.core) had) shut ∙ ap (λ s. J (is_closed m.session) s (durable_of o.core) had) was.state
         ∙ ap (λ n. J (is_closed m.session) (present program m) n had) was.number ∙ ap (J (is_closed m.session) (present program m) m.durable) same
 
-    by_answer : (s s' : Slot) (plan : Tx) (x : Result Settled Fault) (y : Reply) → IsAt program.steps plan s.cursor → s ≡ get_or w.slots.items k s → w'.slots.items ≡ slice_set w.slots.items k s' → SettlesEnded o s x y o' s' → Represents program w' (settled_by x m k plan)
+    by_answer : (s s' : Slot) (plan : Tx) (x : Result Settled Fault) (y : Reply) → IsAt program.steps program.tests plan s.cursor → s ≡ get_or w.slots.items k s → w'.slots.items ≡ slice_set w.slots.items k s' → SettlesEnded o s x y o' s' → Represents program w' (settled_by x m k plan)
     by_answer s s' plan (Ok (Committed n rs)) y at held slots it =
-        let right = it.right program.steps plan at in
+        let right = it.right program.steps program.tests plan at in
         let committed : IsCommitted (verdict program plan (present program m)) =
         judged-committed (is_closed m.session) (present program m) m.durable (given s.cursor) (verdict program plan (present program m)) n rs (is_answer plan (Ok (Committed n rs)) (given s.cursor) (given s.cursor) refl (it.core.verdict program plan means right)) in
         let more = more_accepted plan (attempt_of s.cursor).effect (it.core.added program plan means right) it.core.view in
@@ -162,11 +164,11 @@ module _ (program : Program) where
     by_answer s s' plan (Ok _) y at held slots it = unaccepted (slice_set m.slots k NoTransaction) (slots_empty s' (ap (λ (z : Slot). z.plan) it.slot) slots) it.core.view
     by_answer s s' plan (Err f) y at held slots it = unaccepted m.slots (slots_stay s s' held it.slot slots) it.core.view
 
-    by_ended : (s s' : Slot) (plan : Tx) (reads : List (ℕ × ℤ)) (x : Result Settled Fault) (y : Reply) → Evaluates program.steps s plan reads → s ≡ get_or w.slots.items k s → w'.slots.items ≡ slice_set w.slots.items k s' → SettlesEnded o s x y o' s'
+    by_ended : (s s' : Slot) (plan : Tx) (reads : List (ℕ × ℤ)) (x : Result Settled Fault) (y : Reply) → Evaluates program s plan reads → s ≡ get_or w.slots.items k s → w'.slots.items ≡ slice_set w.slots.items k s' → SettlesEnded o s x y o' s'
         → (m' : WorldModel) × ((y, m') ≡ settle_result program (Ended plan reads) m k) × Represents program w' m'
     by_ended s s' plan reads x y is held slots it =
         let now = settled_by x m k plan in
-        let whole : x ≡ judged (is_closed m.session) (present program m) m.durable reads (verdict program plan (present program m)) = is_answer plan x (given s.cursor) reads is.given (it.core.verdict program plan means (it.right program.steps plan is.at)) in
+        let whole : x ≡ judged (is_closed m.session) (present program m) m.durable reads (verdict program plan (present program m)) = is_answer plan x (given s.cursor) reads is.given (it.core.verdict program plan means (it.right program.steps program.tests plan is.at)) in
         (now, ap (λ (z : Reply). (z, now)) it.reply ∙ ap (λ (z : Result Settled Fault). (reply_of z, settled_by z m k plan)) whole, by_answer s s' plan x y is.at held slots it)
 
     -- the point of the run after a slot was settled
@@ -174,12 +176,12 @@ module _ (program : Program) where
     settles s s' NoTransaction x held slots is it =
         ⊎_elim
         (λ none. (m, ap (λ (y : Reply). (y, m)) none.1.0, idles s s' held none.1.2 slots none.1.1))
-        (λ some. absurd (false≢true (subst (λ (o : Option Tx). IsSome o) is some.0.0))) it
-    settles s s' (Begun tx rs) x held slots is it =
+        (λ some. absurd (false≢true (subst (λ (o : Option PlanView). IsSome o) is some.0.0))) it
+    settles s s' (Begun tx rs answered) x held slots is it =
         ⊎_elim
         (λ none. (m, ap (λ (y : Reply). (y, m)) none.1.0, idles s s' held none.1.2 slots none.1.1))
-        (λ some. absurd (is.1 some.0.1)) it
+        (λ some. absurd (is.2 some.0.1)) it
     settles s s' (Ended tx rs) x held slots is it =
         ⊎_elim
-        (λ none. absurd (none.0 (subst (λ (o : Option Tx). IsSome o) (sym is.0.plan) refl, is.1)))
+        (λ none. absurd (none.0 (is_there s.plan tx is.0.plan, is.1)))
         (λ some. by_ended s s' tx rs some.1.0 x is.0 held slots some.1.1) it

@@ -10,7 +10,7 @@ use Rattle.tmem_tree.specs.declared.settled.Settled.TheVariants.{Committed}
 use Rattle.tmem_invariants.specs.Meanings.{IsSound}
 use Rattle.tmem_core.specs.Program.{Program}
 use Rattle.tmem_core.specs.Verdict.{serial_state, AreCommitted}
-use Rattle.tmem_core.specs.Versions.{Follows}
+use Rattle.tmem_core.specs.Versions.{Follows, names_tested}
 use Rattle.tmem_journal.specs.Calls.{FitsOn}
 use Rattle.tmem_journal.specs.Stands.{Position, StandsFor}
 use Rattle.tmem_event.specs.declared.event.Event.{Event}
@@ -132,8 +132,8 @@ IsOver vars slots set = (set.vars ≡ vars) × (set.slots ≡ slots)
 
 -- A session on a store with this history: it found the state after a prefix that is safe by its own program, and its replies are a
 -- run of the model from there to this point, with the history that it reached. The content that it found stands for that state, at
--- the position where the run begins: so its log is full where a first flush is told so. And the failed calls are so many as a device
--- counts.
+-- the position where the run begins: a first flush is told that the log is full only where that content has a full log. The number of
+-- failed calls fits the device's count.
 pub record IsSessionOn (before : History) (s : SessionRun) (h : History) (m : WorldModel) : Type 0 where
   pub safe : IsSafePrefix s.set.program s.set.vars before s.found
   pub stands : StandsFor s.set.vars s.set.slots s.position (state_at s.set.program s.set.vars before s.found) s.content
@@ -229,9 +229,9 @@ FormattedIsStore {D} view =
     → LeavesOnly (view disk) (StandsFor vars slots position (first_state vars)) → IsStore program vars slots no_history (view disk)
 
 -- The new program may follow on the old one over a store with this history: over what is registered after each prefix that may be
--- found.
+-- found, and what the transactions of that prefix tested.
 abbrev pub MayFollow : Program → ℕ → History → Program → Type 0
-MayFollow old vars h new = (n : ℕ) → IsSafePrefix old vars h n → Follows old (state_at old vars h n).names new
+MayFollow old vars h new = (n : ℕ) → IsSafePrefix old vars h n → Follows old (state_at old vars h n).names (names_tested old (first_state vars) (take n h.accepted)) new
 
 -- A store of a program is one of each that may follow on it, with the same history.
 abbrev pub FollowingKeepsStore : {D : Type 0} → (D → DeviceView) → Type 0

@@ -1,5 +1,5 @@
 -- When a world is at a point of a run.
-use Rattle.std.specs.Prelude.{Some, None, Result, Ok, Err, ◌≡◌, ◌<◌, ◌≤◌, ◌⊎◌, ⊤, ◌+◌, ◌-◌, ◌*◌, ℕ, ℤ, Bool, true, false, List, length, drop}
+use Rattle.std.specs.Prelude.{Some, None, option_map, Result, Ok, Err, ◌≡◌, ◌<◌, ◌≤◌, ◌⊎◌, ⊤, ◌+◌, ◌-◌, ◌*◌, ℕ, ℤ, Bool, true, false, List, length, drop}
 use Rattle.std.specs.List.{AllZip}
 use Rattle.tmem_invariants.specs.Meanings.{IsSound}
 use Rattle.tmem_disk.specs.Disk.{DeviceView, LeavesOnly, AtEachMoment}
@@ -10,8 +10,7 @@ use Rattle.tmem_gate.specs.Calls.{WritesWithin}
 use Rattle.tmem_opening.specs.Opening.{IsFailure}
 use Rattle.tmem_world.specs.Parts.{what, disk_in, table_in, IsWith}
 use Rattle.tmem_core.specs.Program.{Program, IsProgramOf}
-use Rattle.tmem_tentative.specs.Cursors.{IsAt, HasEnded, given}
-use Rattle.tmem_tree.specs.StepAnswers.{StepMeanings}
+use Rattle.tmem_tentative.specs.Cursors.{IsAt, HasEnded, given, answers}
 use Rattle.tmem_tree.specs.declared.steps.StoredSteps as steps
 use Rattle.tmem_invariants.specs.declared.named.Invariants as invariants
 use Rattle.tmem_tree.specs.declared.tx.Tx.{Tx}
@@ -83,17 +82,17 @@ pub record KeepsSetting {D T S : Type 0} {d t s : _} (old new : World D T S d t 
   pub table : held_table new ≡ held_table old
   pub model : (view_of new).keeps_model → (view_of old).keeps_model
 
--- the slot's cursor stands in the evaluation of this plan, where these values were read
-pub record Evaluates (steps : StepMeanings) (s : Slot) (tx : Tx) (values : List (ℕ × ℤ)) : Type 0 where
-  pub plan : s.plan ≡ Some tx
-  pub at : IsAt steps tx s.cursor
+-- the slot's cursor stands in the evaluation of this plan, where these values were read, and the program's tests gave its answers
+pub record Evaluates (program : Program) (s : Slot) (tx : Tx) (values : List (ℕ × ℤ)) : Type 0 where
+  pub plan : option_map (λ plan. plan.tree) s.plan ≡ Some tx
+  pub at : IsAt program.steps program.tests tx s.cursor
   pub given : given s.cursor ≡ values
 
 -- the slot holds this attempt
 abbrev pub SlotIs : Program → Slot → SlotModel → Type 0
 SlotIs program s NoTransaction = s.plan ≡ None
-SlotIs program s (Begun tx values) = Evaluates program.steps s tx values × (¬ HasEnded s.cursor)
-SlotIs program s (Ended tx values) = Evaluates program.steps s tx values × HasEnded s.cursor
+SlotIs program s (Begun tx values answered) = Evaluates program s tx values × (length (answers s.cursor) ≡ answered) × (¬ HasEnded s.cursor)
+SlotIs program s (Ended tx values) = Evaluates program s tx values × HasEnded s.cursor
 
 abbrev pub session_of : Bool → SessionStatus
 session_of true = Closed

@@ -1,6 +1,7 @@
 -- What settling a slot does to a session.
 use Rattle.std.specs.Prelude.{◌≡◌, ◌⊎◌, Result, Ok, Err}
 use Rattle.tmem_disk.specs.declared.fault.Fault.{Fault}
+use Rattle.tmem_invariants.specs.Meanings.{Meanings}
 use Rattle.tmem_tree.specs.StepAnswers.{StepMeanings}
 use Rattle.tmem_tree.specs.declared.tx.Tx.{Tx}
 use Rattle.tmem_tree.specs.declared.settled.Settled.{Settled}
@@ -27,7 +28,7 @@ SettlesNothing old s r new after = (r ≡ reply.Idle) × (new ≡ old) × (after
 -- whose evaluation the cursor stands.
 pub record SettlesEnded {D T : Type 0} {d t : _} (old : Session D T d t) (s : Slot) (answer : Result Settled Fault) (r : Reply) (new : Session D T d t) (after : Slot) : Type 0 where
   pub core : core.Settles old.core new.core (attempt_of s.cursor) answer
-  pub right : (m : StepMeanings) (tx : Tx) → IsAt m tx s.cursor → IsRight m tx (attempt_of s.cursor)
+  pub right : (m : StepMeanings) (tests : Meanings) (tx : Tx) → IsAt m tests tx s.cursor → IsRight m tests tx (attempt_of s.cursor)
   pub reply : r ≡ reply_of answer
   pub slot : after ≡ slot_after answer s
 

@@ -10,8 +10,9 @@ use Rattle.tmem_tree.specs.declared.tx.Tx.{Tx}
 use Rattle.tmem_core.specs.Program.{Program}
 use Rattle.tmem_journal.specs.Stands.{Position, StandsFor, next_slot, next_image}
 use Rattle.tmem_tree.specs.Plans.{BreaksNone, IsLeastBroken}
-use Rattle.tmem_tree.specs.Visited.{visited}
-use Rattle.tmem_tentative.specs.Right.{first_lacking, valued}
+use Rattle.tmem_tree.specs.Run.{start}
+use Rattle.tmem_tree.specs.Visited.{Ask, Visit, Probe, asks, visited}
+use Rattle.tmem_tentative.specs.Right.{first_open, valued}
 use Rattle.tmem_tree.specs.declared.settled.Settled.{Settled}
 use Rattle.tmem_tree.specs.declared.settled.Settled.TheVariants.{Committed}
 use Rattle.tmem_core.specs.Verdict.{map_of, verdict, serial_state, serial_effects}
@@ -32,10 +33,11 @@ pub record Setting : Type 0 where
   pub arities : List ℕ
   pub program : Program
 
--- one caller's attempt: a plan with the values that it has read so far, or one that has ended with all that it read
+-- one caller's attempt: a plan with the values that it has read so far and the number of its tests that were answered, or one that
+-- has ended with all that it read
 pub data SlotModel : Type 0 where
   NoTransaction : SlotModel
-  Begun : (plan : Tx) → (reads : List (ℕ × ℤ)) → SlotModel
+  Begun : (plan : Tx) → (reads : List (ℕ × ℤ)) → (answered : ℕ) → SlotModel
   Ended : (plan : Tx) → (reads : List (ℕ × ℤ)) → SlotModel
 
 pub data SessionStatus : Type 0 where
@@ -101,7 +103,7 @@ IsPlanFault set tx (fault.BadPlan cause) = IsLeastBroken set.arities set.vars se
 IsPlanFault set tx _ = ⊥
 
 abbrev pub AllowsBegin : Setting → WorldModel → ℕ → Tx → Reply → WorldModel → Type 0
-AllowsBegin set m slot tx reply.Begun m' = BreaksNone set.arities set.vars set.program.names tx × (m' ≡ holding m slot (Begun tx []))
+AllowsBegin set m slot tx reply.Begun m' = BreaksNone set.arities set.vars set.program.names tx × (m' ≡ holding m slot (Begun tx [] 0))
 AllowsBegin set m slot tx (reply.Fault f) m' = IsPlanFault set tx f × (m' ≡ m)
 AllowsBegin set m slot tx _ m' = ⊥
 
@@ -113,21 +115,29 @@ value_or None other = other
 abbrev pub overridden : List (ℕ × ℤ) → (ℕ → ℤ) → ℕ → ℤ
 overridden reads values var = value_or (look reads var) (values var)
 
--- A plan that visits a variable which its reads lack reads the present value of the first of these; one that lacks none has ended.
-abbrev pub goes_on : Option ℕ → Program → WorldModel → ℕ → Tx → List (ℕ × ℤ) → Reply × WorldModel
-goes_on (Some var) program m slot plan reads =
+-- A plan goes on with the first that is open: it reads the present value of a variable, or an invariant is tested on the values that
+-- the plan has for it there. A plan of which nothing is open has ended.
+abbrev pub goes_on : Option Ask → Program → WorldModel → ℕ → Tx → List (ℕ × ℤ) → ℕ → Reply × WorldModel
+goes_on (Some (Visit var)) program m slot plan reads answered =
     let value = map_of (present program m) var in
-    (reply.Read var value, holding m slot (Begun plan (reads ++ (var, value) ∷ [])))
-goes_on None program m slot plan reads =
+    (reply.Read var value, holding m slot (Begun plan (reads ++ (var, value) ∷ []) answered))
+goes_on (Some (Probe name values)) program m slot plan reads answered =
+    (reply.Probed name (program.tests.test name values), holding m slot (Begun plan reads (answered + 1)))
+goes_on None program m slot plan reads answered =
     let values = overridden reads (map_of (present program m)) in
-    (reply.Ended, holding m slot (Ended plan (valued values (visited program.steps plan values))))
+    (reply.Ended, holding m slot (Ended plan (valued values (visited program.steps program.tests plan values))))
+
+-- what is open in a plan's run on the present map overridden by its reads
+abbrev pub open_in : Program → WorldModel → Tx → List (ℕ × ℤ) → ℕ → Option Ask
+open_in program m plan reads answered =
+    first_open reads answered (asks program.steps program.tests plan (start (overridden reads (map_of (present program m)))))
 
 -- a begun plan is run on the present map overridden by its reads; one that has ended stays so
 abbrev pub AllowsTurn : Program → SlotModel → WorldModel → ℕ → Reply → WorldModel → Type 0
 AllowsTurn program NoTransaction m slot r m' = (r ≡ reply.Idle) × (m' ≡ m)
 AllowsTurn program (Ended plan reads) m slot r m' = (r ≡ reply.Ended) × (m' ≡ m)
-AllowsTurn program (Begun plan reads) m slot r m' =
-    ((r, m') ≡ goes_on (first_lacking reads (visited program.steps plan (overridden reads (map_of (present program m))))) program m slot plan reads)
+AllowsTurn program (Begun plan reads answered) m slot r m' =
+    ((r, m') ≡ goes_on (open_in program m plan reads answered) program m slot plan reads answered)
     ⊎ ((r ≡ reply.Fault fault.Memory) × (m' ≡ m))
 
 abbrev pub is_closed : SessionStatus → Bool
@@ -143,7 +153,7 @@ settled_by (Err f) m slot plan = m
 -- A plan that has ended is answered by its verdict on the present state, while the values that it read are the present ones.
 abbrev pub settle_result : Program → SlotModel → WorldModel → ℕ → Reply × WorldModel
 settle_result program NoTransaction m slot = (reply.Idle, m)
-settle_result program (Begun plan reads) m slot = (reply.Idle, m)
+settle_result program (Begun plan reads answered) m slot = (reply.Idle, m)
 settle_result program (Ended plan reads) m slot =
     let answer = judged (is_closed m.session) (present program m) m.durable reads (verdict program plan (present program m)) in
     (reply_of answer, settled_by answer m slot plan)

@@ -8,12 +8,13 @@ ghost use Rattle.tmem_record.specs.Layout.{image_place, image_size, slot_place};
 
 use crate::slot::Slot;
 use tmem_core::Core;
-use tmem_disk::{DeviceFault, Disk, Fault, Name};
+use tmem_disk::{DeviceFault, Disk, Fault};
 use tmem_event::Reply;
 use tmem_invariants::Invariants;
 use tmem_journal::Journal;
 use tmem_opening::Opening;
 use tmem_record::Batch;
+use tmem_tree::Shape;
 
 /// What a world keeps from an opening to the next one, or to a crash. The core is shut once the journal is closed.
 #[derive(Drop)]
@@ -28,24 +29,24 @@ pub(crate) struct Session<D: Disk, T: Invariants> {
 }
 
 impl<D: Disk, T: Invariants + Drop> Session<D, T> {
-    /// Begins a session where a store was opened. The names of its table are handed on.
-    pub(crate) fn begin(opening: Opening<D, T>) -> (Session<D, T>, Vec<Name>)
+    /// Begins a session where a store was opened. The shapes of its table's invariants are handed on.
+    pub(crate) fn begin(opening: Opening<D, T>) -> (Session<D, T>, Vec<Shape>)
         ensures core { result.0.core ≡ opening.core }
         ensures journal { result.0.journal ≡ opening.journal }
-        ensures names { result.1 ≡ opening.names }
+        ensures shapes { result.1 ≡ opening.shapes }
     {
         let Opening {
             core,
             journal,
             batch,
-            names,
+            shapes,
         } = opening;
         let session = Session {
             core,
             journal,
             batch,
         };
-        (session, names)
+        (session, shapes)
     }
 
     ghost use Rattle.tmem_world.specs.Sessions.{Flushes, Checkpoints, CallsDevice};

@@ -1,9 +1,13 @@
 // One of the places where a world keeps an attempt.
-ghost use Rattle.std.specs.Prelude.{◌≡◌, ◌↔◌, ℕ, Some, None, [], length, IsTrue, OnOk, IfErr};
+ghost use Rattle.std.specs.Prelude.{◌≡◌, ◌↔◌, ℕ, List, Some, None, [], length, IsTrue, OnOk, IfErr};
+ghost use Rattle.tmem_invariants.specs.Meanings.{Meanings};
 ghost use Rattle.tmem_tree.specs.declared.tx.Tx.{Tx};
+ghost use Rattle.tmem_tree.specs.declared.shape.Shape.{Shape};
+ghost use Rattle.tmem_tree.specs.Plans.{PlanView};
+ghost use Rattle.tmem_tree.specs.Shapes.{AreMeant, names_of};
 ghost use Rattle.tmem_tree.specs.StepAnswers.{StepMeanings};
 ghost use Rattle.tmem_core.specs.Held.{state_of, table_of};
-ghost use Rattle.tmem_tentative.specs.Cursors.{IsAt, HasEnded, IsAsBefore, given};
+ghost use Rattle.tmem_tentative.specs.Cursors.{StandsIn, IsAt, HasEnded, IsAsBefore, given, answers};
 ghost use Rattle.tmem_world.specs.Slots.{HoldsEnded, FitsSlot, TurnsBegun};
 ghost use Rattle.tmem_world.specs.Replies.{failures_by};
 
@@ -37,32 +41,38 @@ impl Slot {
     /// Begins a plan in place of what the slot held. Its only fault is want of memory, and the slot holds what it held then.
     pub(crate) fn begin(&mut self, plan: Plan) -> Result<(), Fault>
         ensures plan { OnOk result (self.new.plan ≡ Some plan) }
-        ensures at { OnOk result ((m : StepMeanings) → IsAt m plan self.new.cursor) }
+        ensures stands { OnOk result ((m : StepMeanings) → StandsIn m plan self.new.cursor) }
+        ensures at { OnOk result ((m : StepMeanings) (tests : Meanings) → IsAt m tests plan.tree self.new.cursor) }
         ensures given { OnOk result (given self.new.cursor ≡ []) }
+        ensures answers { OnOk result (answers self.new.cursor ≡ []) }
         ensures going { OnOk result (¬ HasEnded self.new.cursor) }
         ensures same { IfErr result (λ fault. (fault ≡ Fault.Memory) × (self.new.plan ≡ self.old.plan) × IsAsBefore self.old.cursor self.new.cursor) }
-        ensures stays { (m : StepMeanings) (held : Tx) → IsAt m held self.old.cursor → IfErr result (λ _. IsAt m held self.new.cursor) }
+        ensures stays { (m : StepMeanings) (held : PlanView) → StandsIn m held self.old.cursor → IfErr result (λ _. StandsIn m held self.new.cursor) }
+        ensures stays_at { (m : StepMeanings) (tests : Meanings) (held : Tx) → IsAt m tests held self.old.cursor → IfErr result (λ _. IsAt m tests held self.new.cursor) }
     {
         self.cursor.restart(&plan)?;
         self.plan = Some(plan);
         Ok(())
     }
 
-    /// Goes on with the plan's evaluation as far as the values allow that it has read. Where it needs one more, it reads the
-    /// present value.
+    /// Goes on with the plan's evaluation as far as the values and the answers allow that it has. Where it needs one more value, it
+    /// reads the present one; where it needs the answer to a test, the core makes it.
     pub(crate) fn turn<S: StoredSteps, T: Invariants + Drop>(
         &mut self,
         steps: &S,
         core: &Core<T>,
     ) -> Reply
-        requires { FitsSlot (length (state_of core.now).values) (S.arities steps.now) (S.is_stated steps.now) (T.names (table_of core.now)) self.old }
+        requires { FitsSlot (length (state_of core.now).values) (S.arities steps.now) (S.is_stated steps.now) (T.names (table_of core.now)) (T.is_stated (table_of core.now)) self.old }
         ensures idle { self.old.plan ≡ None → (result ≡ Reply.Idle) × (self.new ≡ self.old) }
         ensures ended { HoldsEnded self.old → (result ≡ Reply.Ended) × (self.new ≡ self.old) }
-        ensures begun { (plan : Tx) → self.old.plan ≡ Some plan → ¬ HasEnded self.old.cursor
-            → TurnsBegun (S.is_stated steps.now) (state_of core.now) plan self.old.cursor result self.new.cursor }
+        ensures begun { (plan : PlanView) → self.old.plan ≡ Some plan → ¬ HasEnded self.old.cursor
+            → TurnsBegun (S.is_stated steps.now) (T.is_stated (table_of core.now)) (state_of core.now) plan.tree self.old.cursor result self.new.cursor }
+        ensures at { (plan : PlanView) (m : StepMeanings) (tests : Meanings) → self.old.plan ≡ Some plan → S.is_stated steps.now m → T.is_stated (table_of core.now) tests
+            → IsAt m tests plan.tree self.old.cursor → IsAt m tests plan.tree self.new.cursor }
         ensures plan { self.new.plan ≡ self.old.plan }
         ensures failures { (n : ℕ) → failures_by result n ≡ n }
-        ensures fits { FitsSlot (length (state_of core.now).values) (S.arities steps.now) (S.is_stated steps.now) (T.names (table_of core.now)) self.new }
+        ensures fits { (shapes : List Shape) → FitsSlot (length (state_of core.now).values) (S.arities steps.now) (S.is_stated steps.now) (names_of shapes) (λ tests. AreMeant tests shapes) self.old
+            → FitsSlot (length (state_of core.now).values) (S.arities steps.now) (S.is_stated steps.now) (names_of shapes) (λ tests. AreMeant tests shapes) self.new }
     {
         let Some(plan) = &self.plan else {
             return Reply::Idle;
@@ -75,6 +85,13 @@ impl Slot {
                 let value = core.peek(var);
                 self.cursor.give(var, value);
                 Reply::Read { var, value }
+            }
+            Ok(Progress::Probe) => {
+                let probe = self.cursor.probe();
+                let name = probe.name;
+                let held = core.probe(probe);
+                self.cursor.answer(held);
+                Reply::Probed { name, held }
             }
             Ok(Progress::Ended) => Reply::Ended,
             Err(fault) => Reply::Fault(fault),

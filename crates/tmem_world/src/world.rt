@@ -4,7 +4,8 @@ ghost use Rattle.std.proofs.Props.{props};
 ghost use Rattle.tmem_disk.specs.Disk.{LeavesOnly};
 ghost use Rattle.tmem_record.specs.State.{State};
 ghost use Rattle.tmem_record.specs.Names.{has_name};
-ghost use Rattle.tmem_invariants.specs.Meanings.{IsSound};
+ghost use Rattle.tmem_invariants.specs.Meanings.{Meanings, IsSound};
+ghost use Rattle.tmem_tree.specs.Shapes.{AreMeant as HaveFootprints, AreWithin, names_of};
 ghost use Rattle.tmem_core.specs.Program.{Program, IsProgramOf};
 ghost use Rattle.tmem_gate.specs.Calls.{Uses};
 ghost use Rattle.tmem_journal.specs.Stands.{Position, StandsFor, StandsForEither};
@@ -25,7 +26,7 @@ use tmem_event::{ATTEMPTS, Event, Reply};
 use tmem_invariants::Invariants;
 use tmem_journal::{Layout, refused_stands_for_none, stands_for_one};
 use tmem_opening::Opening;
-use tmem_tree::{Plan, StoredSteps, Tx};
+use tmem_tree::{Plan, Shape, StoredSteps, Tx};
 
 /// Durable transactional memory for one thread: it plays events over the present state and a device.
 #[derive(Drop)]
@@ -33,8 +34,8 @@ pub struct World<D: Disk, T: Invariants, S: StoredSteps> {
     alloc: Global,
     layout: Layout,
     steps: S,
-    // the names of the table's invariants, in its order
-    names: Vec<Name>,
+    // what a plan has to know of the table's invariants, in its order
+    shapes: Vec<Shape>,
     // a session, or what is left without one: it is away only while the device is opened again
     held: Option<Held<D, T>>,
     slots: Vec<Slot>,
@@ -42,8 +43,10 @@ pub struct World<D: Disk, T: Invariants, S: StoredSteps> {
     ghost here: { IsSome held },
     ghost same_vars: { (layout_in (what held here)).vars ≡ layout.vars },
     ghost same_slots: { (layout_in (what held here)).slots ≡ layout.slots },
-    ghost named: { T.names (table_in (what held here)) ≡ names.items },
-    ghost fit: { All (FitsSlot layout.vars (S.arities steps) (S.is_stated steps) names.items) slots.items } by { Prim.hlevel (props, FitsSlot-prop) },
+    ghost named: { names_of shapes.items ≡ T.names (table_in (what held here)) },
+    ghost meant: { (tests : Meanings) → T.is_stated (table_in (what held here)) tests → HaveFootprints tests shapes.items },
+    ghost within: { AreWithin layout.vars shapes.items },
+    ghost fit: { All (FitsSlot layout.vars (S.arities steps) (S.is_stated steps) (names_of shapes.items) (λ tests. HaveFootprints tests shapes.items)) slots.items } by { Prim.hlevel (props, FitsSlot-prop) },
 }
 
 impl<D: Disk + Drop, T: Invariants + Drop, S: StoredSteps + Drop> World<D, T, S> {
@@ -108,12 +111,12 @@ impl<D: Disk + Drop, T: Invariants + Drop, S: StoredSteps + Drop> World<D, T, S>
             Ok(slots) => slots,
             Err(_) => return Err((Fault::Memory, opening.into_disk())),
         };
-        let (session, names) = Session::begin(opening);
+        let (session, shapes) = Session::begin(opening);
         Ok(World {
             alloc,
             layout: session.journal.layout(),
             steps,
-            names,
+            shapes,
             held: Some(Held::With(session)),
             slots,
         })
@@ -230,7 +233,7 @@ impl<D: Disk + Drop, T: Invariants + Drop, S: StoredSteps + Drop> World<D, T, S>
         if !self.is_open() {
             return Reply::Fault(Fault::Closed);
         }
-        let plan = match Plan::new(tx, &self.steps, self.layout.vars, &self.names) {
+        let plan = match Plan::new(tx, &self.steps, self.layout.vars, &self.shapes) {
             Ok(plan) => plan,
             Err(fault) => return Reply::Fault(fault),
         };
@@ -240,7 +243,7 @@ impl<D: Disk + Drop, T: Invariants + Drop, S: StoredSteps + Drop> World<D, T, S>
         }
     }
 
-    // Goes on with a plan as far as the values allow that it has read.
+    // Goes on with a plan as far as the values and the answers allow that it has.
     fn turn(&mut self, slot: u8) -> Reply
         requires { slot < 16 }
         ensures { IsAnswered self.old (Event.Turn slot) result self.new }

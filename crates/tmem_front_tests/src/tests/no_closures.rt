@@ -27,6 +27,8 @@ pub(super) struct AlwaysTrue {
 impl Invariants for AlwaysTrue {
     ghost names = { λ _. codes "always" ∷ [] };
 
+    ghost footprints = { λ _. [] ∷ [] };
+
     ghost vars = { λ table. table.vars };
 
     ghost is_stated = { λ _ m. (m.footprint (codes "always") ≡ []) × ((values : List ℤ) → m.test (codes "always") values ≡ true) };
@@ -41,6 +43,14 @@ impl Invariants for AlwaysTrue {
 
     fn name(&self, _place: usize) -> Name {
         always()
+    }
+
+    fn footprint(&self, _place: usize) -> &[u16] {
+        &[]
+    }
+
+    fn answer(&self, _place: usize, _values: &[i64]) -> bool {
+        true
     }
 
     fn place(&self, name: &Name) -> Option<usize> {
@@ -78,10 +88,18 @@ impl Invariants for AlwaysTrue {
         None
     }
 
-    ghost use Rattle.std.proofs.Common.{lit≤, refl};
+    ghost use Rattle.std.proofs.Common.{◌<◌, ◌≤◌, length, ap, lit≤, refl};
+    ghost use Rattle.std.proofs.lemmas.List.Elements.{All-cons, All-nil};
+    ghost use Rattle.tmem_invariants.specs.TableNames.{AreBelow};
     ghost use Rattle.tmem_front_tests.specs.Examples.{all_true, alone};
 
     ghost few = { λ _. lit≤ tt };
+
+    ghost over = { λ _ m stated. ap (λ footprint. footprint ∷ []) stated.0 };
+
+    ghost within = { λ table. All-cons (AreBelow table.vars) [] [] (All-nil (λ var. var < table.vars)) (All-nil (AreBelow table.vars)) };
+
+    ghost short = { λ _. All-cons (λ footprint. length footprint ≤ 16) [] [] (lit≤ tt) (All-nil (λ footprint. length footprint ≤ 16)) };
 
     ghost distinct = { λ _. alone (codes "always") };
 

@@ -1,7 +1,7 @@
 //! A front that the threads of a scene share, and how each move is played on it.
 ghost use Rattle.std.specs.Prelude.{◌≡◌, ◌<◌, length, IfOk};
 ghost use Rattle.tmem_tentative.specs.Fits.{IsForVariables, IsForNames};
-ghost use Rattle.tmem_tree.specs.Plans.{FitsSteps, FitsVariables, FitsNames};
+ghost use Rattle.tmem_tree.specs.Plans.{FitsSteps, FitsVariables, FitsNames, FitsShapes};
 
 use super::moves::{Answer, Move, Refusal, Task};
 use super::no_closures::always;
@@ -199,9 +199,10 @@ impl<D: Disk + Drop, N: StoreNaming, T: Invariants + Drop, S: StoredSteps + Drop
 
     // The plan of a task.
     fn plan<R>(&self, stage: &Stage<R>, task: Task) -> Result<Plan, Fault>
-        ensures steps { IfOk result (FitsSteps (S.arities self.now.front.now.steps)) }
+        ensures steps { IfOk result (λ plan. FitsSteps (S.arities self.now.front.now.steps) plan.tree) }
         ensures variables { IfOk result (FitsVariables self.now.front.now.vars) }
-        ensures names { IfOk result (FitsNames N.program.names) }
+        ensures names { IfOk result (λ plan. FitsNames N.program.names plan.tree) }
+        ensures shapes { IfOk result (FitsShapes N.program.tests) }
     {
         self.front.plan(task.tx(stage.alloc)?)
     }
@@ -255,9 +256,10 @@ impl<D: Disk + Drop, N: StoreNaming, T: Invariants + Drop, S: StoredSteps + Drop
         kept: &mut Option<Kept<N>>,
         plan: &Plan,
     ) -> Result<(), Fault>
-        requires steps { FitsSteps (S.arities self.now.front.now.steps) plan.now }
+        requires steps { FitsSteps (S.arities self.now.front.now.steps) plan.now.tree }
         requires variables { FitsVariables self.now.front.now.vars plan.now }
-        requires names { FitsNames N.program.names plan.now }
+        requires names { FitsNames N.program.names plan.now.tree }
+        requires shapes { FitsShapes N.program.tests plan.now }
     {
         let attempt = self.front.attempt(stage.rt, plan)?;
         *kept = Some(Kept {

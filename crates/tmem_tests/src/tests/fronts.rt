@@ -3,7 +3,7 @@ ghost use Rattle.std.specs.Prelude.{◌≡◌, length};
 ghost use Rattle.tmem_builtins.specs.Invariants.{is_not_negative};
 ghost use Rattle.tmem_front.specs.Held.{found_of, spine_of, steps_of, table_of};
 ghost use Rattle.tmem_tests.specs.Examples.{checked};
-ghost use Rattle.tmem_tree.specs.Plans.{FitsSteps, FitsVariables, FitsNames};
+ghost use Rattle.tmem_tree.specs.Plans.{FitsSteps, FitsVariables, FitsNames, FitsShapes};
 
 use super::{formatted, write};
 use std::alloc::{AllocError, Global};
@@ -173,9 +173,10 @@ fn settled<
     plan: &Plan,
     call: Call,
 ) -> Result<Settled, Fault>
-    requires steps { FitsSteps (S.arities front.now.steps) plan.now }
+    requires steps { FitsSteps (S.arities front.now.steps) plan.now.tree }
     requires variables { FitsVariables front.now.vars plan.now }
-    requires names { FitsNames N.program.names plan.now }
+    requires names { FitsNames N.program.names plan.now.tree }
+    requires shapes { FitsShapes N.program.tests plan.now }
 {
     match call {
         Call::AttemptAndSettle => attempt_and_settle(rt, front, pass, plan),
@@ -196,9 +197,10 @@ fn attempt_and_settle<
     S: StoredSteps + Drop,
     R: Clock + Wait,
 >(rt: &R, front: &Front<D, N, T, S>, pass: &mut Pass<N>, plan: &Plan) -> Result<Settled, Fault>
-    requires steps { FitsSteps (S.arities front.now.steps) plan.now }
+    requires steps { FitsSteps (S.arities front.now.steps) plan.now.tree }
     requires variables { FitsVariables front.now.vars plan.now }
-    requires names { FitsNames N.program.names plan.now }
+    requires names { FitsNames N.program.names plan.now.tree }
+    requires shapes { FitsShapes N.program.tests plan.now }
 {
     let attempt = front.attempt(rt, plan)?;
     front.settle(rt, pass, &attempt)

@@ -101,11 +101,22 @@ fn play_on<T: Invariants + Drop, S: StoredSteps + Drop>(
 ) -> Result<SimDisk, Fault>
     requires { T.vars table ≡ VARS }
 {
+    let mut world = open_world(alloc, disk, table, steps)?;
+    play(rt, alloc, &mut world, session)?;
+    Ok(world.into_disk())
+}
+
+// Opens the store as a world.
+fn open_world<T: Invariants + Drop, S: StoredSteps + Drop>(
+    alloc: Global,
+    disk: SimDisk,
+    table: T,
+    steps: S,
+) -> Result<World<SimDisk, T, S>, Fault>
+    requires { T.vars table ≡ VARS }
+{
     match World::open(alloc, disk, VARS, SLOTS, table, steps) {
-        Ok(mut world) => {
-            play(rt, alloc, &mut world, session)?;
-            Ok(world.into_disk())
-        }
+        Ok(world) => Ok(world),
         Err((fault, _disk)) => Err(fault),
     }
 }

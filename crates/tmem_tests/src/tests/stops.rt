@@ -166,18 +166,29 @@ fn ran_over<T: Invariants + Drop, S: StoredSteps + Drop>(
 ) -> Result<(Vec<Reply>, SimDisk), Fault>
     requires { T.vars table ≡ 4 }
 {
-    let mut had = Vec::new(alloc);
     match World::open(alloc, disk, 4, 2, table, steps) {
-        Ok(mut world) => {
-            had.push(Reply::Opened(world.count()))?;
-            run(alloc, &mut world, &mut had)?;
-            Ok((had, world.into_disk()))
+        Ok(world) => {
+            let count = world.count();
+            ran_on(alloc, world, count)
         }
         Err((fault, disk)) => {
+            let mut had = Vec::new(alloc);
             had.push(Reply::Fault(fault))?;
             Ok((had, disk))
         }
     }
+}
+
+/// The same on a world whose opening found so many transactions.
+fn ran_on<T: Invariants + Drop, S: StoredSteps + Drop>(
+    alloc: Global,
+    mut world: World<SimDisk, T, S>,
+    found: u64,
+) -> Result<(Vec<Reply>, SimDisk), Fault> {
+    let mut had = Vec::new(alloc);
+    had.push(Reply::Opened(found))?;
+    run(alloc, &mut world, &mut had)?;
+    Ok((had, world.into_disk()))
 }
 
 /// The run behind its opening.

@@ -118,9 +118,18 @@ fn go_on_with<T: Invariants + Drop, S: StoredSteps + Drop>(
     requires { T.vars table ≡ 4 }
 {
     match World::open(alloc, disk, 4, 4, table, steps) {
-        Ok(mut world) => go_on(rt, alloc, &mut world),
+        Ok(world) => go_on_in(rt, alloc, world),
         Err((fault, _disk)) => Err(fault),
     }
+}
+
+/// Plays it in a world that was opened.
+fn go_on_in<T: Invariants + Drop, S: StoredSteps + Drop>(
+    rt: &impl Abort,
+    alloc: Global,
+    mut world: World<SimDisk, T, S>,
+) -> Result<(), Fault> {
+    go_on(rt, alloc, &mut world)
 }
 
 /// The first version, on a new device that it hands back.

@@ -1,4 +1,4 @@
-use Rattle.std.proofs.Common.{◌≡◌, ◌<◌, [], ℕ, List, true, sym, subst}
+use Rattle.std.proofs.Common.{◌≡◌, ◌<◌, [], ℕ, List, true, false, sym, subst}
 use Rattle.std.proofs.lemmas.List.Elements.{All-weaker}
 use Rattle.tmem_record.specs.Names.{has_name}
 use Rattle.tmem_tentative.specs.Cursors.{outcome_of}
@@ -10,6 +10,12 @@ peek-requires g c =
     let vars = c.args.vars in
     let within = subst (λ p. IsWithin vars (outcome_of c.advance.new.self p)) c.in-Need.is (c.in_ok-var.ensures.within vars c.requires.variables) in
     subst (λ (n : ℕ). c.in-Need.var < n) (sym c.loop.invariant.0) within
+
+-- no name is one of none, so it asks for no test
+pub unreachable-requires : goal.unreachable-requires
+unreachable-requires g c =
+    let no : false ≡ true = subst (λ p. IsNamed [] (outcome_of c.advance.new.self p)) c.in-Probe.is (c.in_ok-var.ensures.named [] c.requires.names) in
+    cc
 
 pub decide-requires-clause-variables : goal.decide-requires-clause-variables
 decide-requires-clause-variables g c =

@@ -1,10 +1,10 @@
-use Rattle.std.proofs.Common.{◌≡◌, drop}
-use Rattle.tmem_tentative.specs.Places.{place_of}
+use Rattle.std.proofs.Common.{◌≡◌, drop, option_to_list}
+use Rattle.tmem_tentative.specs.Places.{place_at, taken_at}
 use Rattle.tmem_tentative.proofs.PlaceSeq.{IsLeft}
 use Rattle.tmem_tentative.proofs.walk_on.+walk_on.Given as goal
 
 abbrev pub invariant-walk_on-loop-i : goal.invariant-walk_on-loop-i
 invariant-walk_on-loop-i g l = record {
-  reads : l.log.reads ≡ l.fn.log.reads;
-  left : IsLeft (g.S.StoredSteps.is_stated l.steps) l.fn.log.reads.entries l.tx (place_of l.fn.log l.fn.path l.fn.saves) (drop l.i l.t-items) (place_of l.log l.path l.saves);
+  reads : l.course.attempt.reads ≡ l.fn.course.attempt.reads;
+  left : IsLeft (g.S.StoredSteps.is_stated l.steps) l.plan.shapes (taken_at l.fn.course) l.tx (place_at l.fn.course l.fn.saves) (drop l.i l.t-items) (place_at l.course l.saves) (option_to_list l.course.pending);
 }

@@ -1,12 +1,27 @@
-use Rattle.std.proofs.Common.{arith, ap}
-use Rattle.tmem_tentative.specs.Logs.{run_state_of}
+use Rattle.std.proofs.Common.{sym, ap, ◌∙◌, map, arith, option_to_list}
+use Rattle.tmem_tree.specs.Run.{register}
+use Rattle.tmem_tree.specs.declared.tx.Tx.TheVariants.{Step}
+use Rattle.tmem_tentative.specs.Eval.{answered}
+use Rattle.tmem_tentative.specs.Logs.{out_of, run_state_of}
 use Rattle.tmem_tentative.proofs.EvalFits.{length-write}
-use Rattle.tmem_tentative.proofs.PlaceRuns.{read_leads}
+use Rattle.tmem_tentative.proofs.PlaceLeaves.{leaf_leads, read_leads, out_is_stopped}
 use Rattle.tmem_tentative.proofs.walk_on.act.Goals as goal
 
 pub returns-in-Read-clause-leads : goal.returns-in-Read-clause-leads
-returns-in-Read-clause-leads g c = λ m stated saves.
-    rw c.in-Read.is (read_leads m c.in-Read.var c.in-Read.reg (run_state_of c.args.log.now) saves c.read.result (run_state_of c.read.new.log) c.read.ensures.flow (λ n is. ap run_state_of (c.read.ensures.stays n is)))
+returns-in-Read-clause-leads g c = λ m footprint stated of saves.
+    let old = c.args.course.now in
+    let log = c.read.new.log in
+    rw c.in-Read.is (read_leads m footprint c.in-Read.var c.in-Read.reg old.attempt saves (option_to_list old.pending) (out_of c.read.result log old.probe) log c.read.ensures.reads (λ ask is. c.read.ensures.stays ask old.probe is) (λ left. c.read.ensures.flow left old.probe))
 
 pub returns-in-Write-clause-room : goal.returns-in-Write-clause-room
 returns-in-Write-clause-room g c = grind (arith, length-write)
+
+pub returns-in-Step-clause-leads : goal.returns-in-Step-clause-leads
+returns-in-Step-clause-leads g c = λ m footprint stated of saves.
+    let old = c.args.course.now in
+    let log = c.call.new.log in
+    let index = c.in-Step.index in
+    let out = c.in-Step.out in
+    rw c.in-Step.is (leaf_leads m footprint (Step index c.in-Step.args out) old.attempt log saves (option_to_list old.pending) (out_of c.call.result log old.probe)
+    (λ ask is. c.call.ensures.tests_none (out_is_stopped c.call.result log old.probe ask is c.call.ensures.needs_none)) c.call.ensures.reads
+    (λ reads left covers. sym (c.call.ensures.flow m stated left old.probe ∙ ap (λ items. answered (m index (map (register old.attempt.registers) items)) (run_state_of old.attempt left) out) c.deref.ensures.value)))

@@ -1,13 +1,14 @@
 use Rattle.std.proofs.Common.{◌≡◌, ◌+◌, ◌≤◌, drop}
 use Rattle.std.specs.Prelude.{◌↔◌}
 use Rattle.tmem_tree.specs.Limits.{depth, count, is_node, is_write, is_check}
+use Rattle.tmem_tree.specs.Shapes.{names_of}
 use Rattle.tmem_tree.specs.Plans.{is_bad}
 use Rattle.tmem_tree.proofs.Laws.{depth_in, count_in}
 use Rattle.tmem_tree.proofs.budget.+pay.Given as goal
 
 abbrev pub invariant-loop-t : goal.invariant-loop-t
 invariant-loop-t g l =
-    let bad = is_bad (g.S.StoredSteps.arities l.steps) l.vars l.names in
+    let bad = is_bad (g.S.StoredSteps.arities l.steps) l.vars (names_of l.shapes) in
     let rest = drop l.t-index l.t-items in
     record {
       shallow : (depth l.tx ≤ l.most) ↔ (depth_in rest + 1 ≤ l.most);

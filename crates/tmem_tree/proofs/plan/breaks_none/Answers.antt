@@ -3,6 +3,7 @@ use Rattle.std.specs.Prelude.{◌↔◌, IfSome, IsNone}
 use Rattle.tmem_tree.specs.declared.tx.Tx.{Tx}
 use Rattle.tmem_tree.specs.declared.budget.Budget.{Budget}
 use Rattle.tmem_tree.specs.Limits.{depth, count, is_node, is_write, is_check}
+use Rattle.tmem_tree.specs.Shapes.{names_of}
 use Rattle.tmem_tree.specs.Plans.{BreaksNone, is_bad}
 use Rattle.tmem_tree.proofs.Plans.{breaks_none, are_within}
 use Rattle.tmem_tree.proofs.plan.breaks_none.Goals as goal
@@ -26,4 +27,4 @@ told arities vars names tx None shallow nodes writes checks good lacking = (
 pub returns : goal.returns
 returns g c =
     let e = c.pay.ensures in
-    rw c.is_some.ensures (told (g.S.StoredSteps.arities c.args.steps.now) c.args.vars c.args.names.now c.args.tx.now c.pay.result e.shallow e.nodes e.writes e.checks e.good e.lacking)
+    rw c.is_some.ensures (told (g.S.StoredSteps.arities c.args.steps.now) c.args.vars (names_of c.args.shapes.now) c.args.tx.now c.pay.result e.shallow e.nodes e.writes e.checks e.good e.lacking)

@@ -14,3 +14,7 @@ returns-in-Retry-clause-settles g c =
 pub returns-in-Abort-clause-settles : goal.returns-in-Abort-clause-settles
 returns-in-Abort-clause-settles g c =
     settles c.args.self.now c.args.self.now c.args.attempt.now _ c.if-self.false (sym c.is_stale.ensures ∙ c.if-is_stale.false) (λ p are. rw c.in-Abort.is) tt (accepting-none _)
+
+pub returns-in-Broken-clause-settles : goal.returns-in-Broken-clause-settles
+returns-in-Broken-clause-settles g c =
+    settles c.args.self.now c.args.self.now c.args.attempt.now _ c.if-self.false (sym c.is_stale.ensures ∙ c.if-is_stale.false) (λ p are. rw c.in-Broken.is) tt (accepting-none _)

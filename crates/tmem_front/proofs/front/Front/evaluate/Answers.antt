@@ -1,13 +1,35 @@
-use Rattle.std.proofs.Common.{◌<◌, ℕ, subst}
-use Rattle.tmem_tentative.specs.Cursors.{outcome_of, attempt_of}
-use Rattle.tmem_tentative.specs.Fits.{IsForVariables, IsWithin, IsNamed}
+use Rattle.std.proofs.Common.{◌≡◌, ◌<◌, ℕ, true, length, ap, subst, ◌∙◌}
+use Rattle.tmem_disk.specs.Name.{has_name}
+use Rattle.tmem_tree.specs.Shapes.{names_of, footprint_in}
+use Rattle.tmem_tentative.specs.Cursors.{outcome_of, attempt_of, probe_of}
+use Rattle.tmem_tentative.specs.Fits.{IsForVariables, IsWithin, IsNamed, IsFilled}
+use Rattle.tmem_tree.proofs.Laws.{footprint_in-AreMeant}
 use Rattle.tmem_front.proofs.front.Front.evaluate.Goals as goal
+
+pub loop-init : goal.loop-init
+loop-init g c = record {
+  stands = λ m stated. c.in_ok-restart.ensures.stands m;
+  at = λ m stated. c.in_ok-restart.ensures.at m g.N.ProgramNaming.program.tests;
+}
 
 pub peek-value-requires : goal.peek-value-requires
 peek-value-requires g c =
     let front = c.args.self.now in
     let within = subst (λ p. IsWithin front.vars (outcome_of c.advance.new.self p)) c.in-Need.is (c.in_ok-var.ensures.within front.vars c.requires.variables) in
     subst (λ (k : ℕ). c.in-Need.var < k) front.over within
+
+pub probe-held-requires-clause-named : goal.probe-held-requires-clause-named
+probe-held-requires-clause-named g c =
+    let names = g.N.ProgramNaming.program.names in
+    rw c.probe.ensures (subst (λ p. IsNamed names (outcome_of c.advance.new.self p)) c.in-Probe.is (c.in_ok-var.ensures.named names c.requires.names))
+
+pub probe-held-requires-clause-filled : goal.probe-held-requires-clause-filled
+probe-held-requires-clause-filled g c =
+    let shapes = c.args.plan.now.shapes in
+    let probe = probe_of c.advance.new.self in
+    let named : has_name (names_of shapes) probe.name ≡ true = subst (λ p. IsNamed (names_of shapes) (outcome_of c.advance.new.self p)) c.in-Probe.is (c.in_ok-var.ensures.named (names_of shapes) c.shapes-shapes.ensures.known) in
+    let filled : length probe.values ≡ length (footprint_in shapes probe.name) = subst (λ p. IsFilled (footprint_in shapes) (outcome_of c.advance.new.self p)) c.in-Probe.is c.in_ok-var.ensures.filled in
+    rw c.probe.ensures (filled ∙ ap length (footprint_in-AreMeant g.N.ProgramNaming.program.tests shapes probe.name c.requires.shapes named))
 
 pub returns-in-Ended-clause-variables : goal.returns-in-Ended-clause-variables
 returns-in-Ended-clause-variables g c =

@@ -9,9 +9,9 @@ loop-init g c = subst (λ (v : PassView). KnowsMore c.args.pass.now v) (sym c.pa
 
 pub loop-preserved : goal.loop-preserved
 loop-preserved g c =
-    let turn = settles_at_last g.N.Naming.name.start g.N.StoreNaming.opening g.N.ProgramNaming.program c.args.plan.now c.args.pass.now _ _ _ c.loop.invariant c.take_turn-answer.ensures.settled in
-    knows_more_at_last g.N.Naming.name.start g.N.StoreNaming.opening g.N.ProgramNaming.program c.args.plan.now c.args.pass.now _ _ (λ effect. c.is_last.ensures.again effect c.if-is_last.false) turn
+    let turn = settles_at_last g.N.Naming.name.start g.N.StoreNaming.opening g.N.ProgramNaming.program c.args.plan.now.tree c.args.pass.now _ _ _ c.loop.invariant c.take_turn-answer.ensures.settled in
+    knows_more_at_last g.N.Naming.name.start g.N.StoreNaming.opening g.N.ProgramNaming.program c.args.plan.now.tree c.args.pass.now _ _ (λ effect. c.is_last.ensures.again effect c.if-is_last.false) turn
 
 pub returns-then-is_last-clause-settled : goal.returns-then-is_last-clause-settled
 returns-then-is_last-clause-settled g c =
-    settles_at_last g.N.Naming.name.start g.N.StoreNaming.opening g.N.ProgramNaming.program c.args.plan.now c.args.pass.now _ _ _ c.loop.invariant c.take_turn-answer.ensures.settled
+    settles_at_last g.N.Naming.name.start g.N.StoreNaming.opening g.N.ProgramNaming.program c.args.plan.now.tree c.args.pass.now _ _ _ c.loop.invariant c.take_turn-answer.ensures.settled

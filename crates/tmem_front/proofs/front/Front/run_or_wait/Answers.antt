@@ -12,6 +12,6 @@ returns-clause-settled g c =
     let p = g.N.ProgramNaming.program in
     inr (∥∥₁_map c.args.self.now.stated (λ s. (
       c.attempt.result.now,
-      subst (λ a. IsRight p.steps c.args.plan.now a) (sym c.attempt.ensures.attempt) (c.in_ok-evaluate.ensures.right p.steps s),
+      subst (λ a. IsRight p.steps p.tests c.args.plan.now.tree a) (sym c.attempt.ensures.attempt) (c.in_ok-evaluate.ensures.right p.steps s),
       c.settle_or_wait.ensures.settled,
     )))

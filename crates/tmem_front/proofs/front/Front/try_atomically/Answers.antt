@@ -11,10 +11,10 @@ returns-clause-settled g c =
     let settled = subst (λ (v : PassView). Settles g.N.Naming.name.start g.N.StoreNaming.opening p c.attempt.result.now v c.settle_under.result c.settle_under.new.seat) c.pass.view_is c.settle_under.ensures.settled in
     inr (∥∥₁_map c.args.self.now.stated (λ s. (
       c.attempt.result.now,
-      subst (λ a. IsRight p.steps c.args.plan.now a) (sym c.attempt.ensures.attempt) (c.in_ok-evaluate.ensures.right p.steps s),
+      subst (λ a. IsRight p.steps p.tests c.args.plan.now.tree a) (sym c.attempt.ensures.attempt) (c.in_ok-evaluate.ensures.right p.steps s),
       settled,
     )))
 
 pub returns-then-is_short-clause-settled : goal.returns-then-is_short-clause-settled
 returns-then-is_short-clause-settled g c =
-    subst (λ (v : PassView). SettlesPlan g.N.Naming.name.start g.N.StoreNaming.opening g.N.ProgramNaming.program c.args.plan.now v c.try_alone.result c.try_alone.new.seat) c.pass.view_is c.try_alone.ensures.settled
+    subst (λ (v : PassView). SettlesPlan g.N.Naming.name.start g.N.StoreNaming.opening g.N.ProgramNaming.program c.args.plan.now.tree v c.try_alone.result c.try_alone.new.seat) c.pass.view_is c.try_alone.ensures.settled

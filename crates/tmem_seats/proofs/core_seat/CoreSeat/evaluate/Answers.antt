@@ -1,24 +1,49 @@
-use Rattle.std.proofs.Common.{ℤ, Some, length, ap, sym, ◌∙◌, subst, rules, w64}
+use Rattle.std.proofs.Common.{◌≡◌, ℤ, true, Some, length, refl, ap, sym, ◌∙◌, subst, rules, w64}
 use Rattle.std.proofs.Math.Facts.{to_z-of_z}
+use Rattle.tmem_disk.specs.Name.{has_name}
 use Rattle.tmem_core.specs.SettleAnswer.{is_stale}
-use Rattle.tmem_tentative.specs.Cursors.{outcome_of}
-use Rattle.tmem_tentative.specs.Fits.{IsWithin, IsNamed}
+use Rattle.tmem_tree.specs.Shapes.{names_of, footprint_in}
+use Rattle.tmem_tentative.specs.Cursors.{outcome_of, probe_of}
+use Rattle.tmem_tentative.specs.Fits.{IsWithin, IsNamed, IsFilled}
 use Rattle.tmem_seats.specs.Histories.{after}
+use Rattle.tmem_tree.proofs.Laws.{footprint_in-AreMeant}
 use Rattle.tmem_seats.proofs.Present.{present_more}
 use Rattle.tmem_seats.proofs.core_seat.CoreSeat.evaluate.Goals as goal
+
+pub loop-init : goal.loop-init
+loop-init g c = record {
+  stands = λ m stated. c.in_ok-restart.ensures.stands m;
+  at = λ m stated. c.in_ok-restart.ensures.at m g.N.ProgramNaming.program.tests;
+  present = ap (λ l. is_stale (after g.N.StoreNaming.opening c.args.self.now.accepted) l) c.in_ok-restart.ensures.given;
+}
 
 pub peek-value-requires : goal.peek-value-requires
 peek-value-requires g c =
     subst (λ p. IsWithin (length g.N.StoreNaming.opening.values) (outcome_of c.advance.new.self p)) c.in-Need.is (c.in_ok-var.ensures.within (length g.N.StoreNaming.opening.values) c.requires.variables)
 
-pub loop-preserved : goal.loop-preserved
-loop-preserved g c = (
-  (λ m stated. c.give.ensures.at m c.args.plan.now (c.advance.ensures.at m stated)),
-  (let s = after g.N.StoreNaming.opening c.args.self.now.accepted in
-      let fresh = ap (λ l. is_stale s l) c.advance.ensures.given ∙ c.loop.invariant.1 in
+pub loop-preserved-in-Need : goal.loop-preserved-in-Need
+loop-preserved-in-Need g c = record {
+  stands = λ m stated. c.give.ensures.stands m c.args.plan.now (c.advance.ensures.stands m stated);
+  at = λ m stated. c.give.ensures.at m g.N.ProgramNaming.program.tests c.args.plan.now.tree (c.advance.ensures.at m g.N.ProgramNaming.program.tests stated c.requires.shapes (c.loop.invariant.at m stated));
+  present =
+      let s = after g.N.StoreNaming.opening c.args.self.now.accepted in
+      let fresh = ap (λ l. is_stale s l) c.advance.ensures.given ∙ c.loop.invariant.present in
       ap (λ l. is_stale s l) c.give.ensures.given ∙ present_more s _ _ _ fresh
-      (c.peek-value.ensures.value ∙ ap (λ (n : ℤ). Some n) (sym (to_z-of_z {w = w64} {z = c.peek-value.result} (search (rules, c.peek-value.type_inv)))))),
-)
+      (c.peek-value.ensures.value ∙ ap (λ (n : ℤ). Some n) (sym (to_z-of_z {w = w64} {z = c.peek-value.result} (search (rules, c.peek-value.type_inv)))));
+}
+
+pub probe-held-requires-clause-named : goal.probe-held-requires-clause-named
+probe-held-requires-clause-named g c =
+    let names = g.N.ProgramNaming.program.names in
+    rw c.probe.ensures (subst (λ p. IsNamed names (outcome_of c.advance.new.self p)) c.in-Probe.is (c.in_ok-var.ensures.named names c.requires.names))
+
+pub probe-held-requires-clause-filled : goal.probe-held-requires-clause-filled
+probe-held-requires-clause-filled g c =
+    let shapes = c.args.plan.now.shapes in
+    let probe = probe_of c.advance.new.self in
+    let named : has_name (names_of shapes) probe.name ≡ true = subst (λ p. IsNamed (names_of shapes) (outcome_of c.advance.new.self p)) c.in-Probe.is (c.in_ok-var.ensures.named (names_of shapes) c.shapes-shapes.ensures.known) in
+    let filled : length probe.values ≡ length (footprint_in shapes probe.name) = subst (λ p. IsFilled (footprint_in shapes) (outcome_of c.advance.new.self p)) c.in-Probe.is c.in_ok-var.ensures.filled in
+    rw c.probe.ensures (filled ∙ ap length (footprint_in-AreMeant g.N.ProgramNaming.program.tests shapes probe.name c.requires.shapes named))
 
 pub returns-in-Ended-clause-variables : goal.returns-in-Ended-clause-variables
 returns-in-Ended-clause-variables g c =

@@ -1,22 +1,99 @@
-use Rattle.std.proofs.Common.{refl, subst, rules}
+use Rattle.std.proofs.Common.{◌≡◌, ℕ, List, refl, rules}
+use Rattle.tmem_invariants.specs.Meanings.{Meanings}
+use Rattle.tmem_tree.specs.Plans.{FitsShapes}
+use Rattle.tmem_tree.specs.Shapes.{footprint_in}
 use Rattle.tmem_tree.specs.StepAnswers.{StepMeanings}
-use Rattle.tmem_tentative.specs.declared.attempt.Progress.TheVariants.{Need, Ended}
-use Rattle.tmem_tentative.specs.Cursors.{IsAt}
-use Rattle.tmem_tentative.proofs.CursorStands.{cursor_answers}
+use Rattle.tmem_tentative.specs.declared.attempt.Progress.TheVariants.{Need, Probe, Ended}
+use Rattle.tmem_tentative.specs.Cursors.{IsAt, StandsIn, IsAtStage, given, answers}
+use Rattle.tmem_tentative.specs.Logs.{AreOf}
+use Rattle.tmem_tentative.proofs.CursorKept.{stays}
+use Rattle.tmem_tentative.proofs.CursorStands.{at_right, at_still, stands_fit}
+use Rattle.tmem_tentative.proofs.ShapeFootprints.{meant_of, own_of}
 use Rattle.tmem_tentative.proofs.cursor.Cursor.advance.Goals as goal
 
 pub returns-in_ok-reserve-in-Going : goal.returns-in_ok-reserve-in-Going
 returns-in_ok-reserve-in-Going g c =
-    let at : (m : StepMeanings) → g.S.StoredSteps.is_stated c.args.steps.now m → IsAt m c.args.plan.now c.go_on.new.self = λ m stated. subst (λ x. IsAt m x c.go_on.new.self) c.tree-tree.ensures.tree (c.go_on.ensures.at m stated) in
-    let a = cursor_answers c.args.plan.now c.go_on.new.self c.go_on.result (g.met.S.StoredSteps.has_meanings c.args.steps.now) at c.go_on.ensures.answered in
-    record { at = at; given = search rules; answered = c.go_on.ensures.answered; right = a.right; fits = a.plan.fits c.tree-tree.ensures.limits.writes c.tree-tree.ensures.limits.checks; within = a.plan.within; named = a.plan.named; same = tt; fault = tt }
+    let old = c.args.self.now in
+    let plan = c.args.plan.now in
+    let new = c.go_on.new.self in
+    let goes : (m : StepMeanings) (footprint : List ℕ → List ℕ) → g.S.StoredSteps.is_stated c.args.steps.now m → AreOf plan.shapes footprint → IsAtStage m footprint plan.tree old.stage old → IsAtStage m footprint plan.tree new.stage new = λ m footprint stated of at.
+    c.go_on.ensures.stands m footprint stated of
+    (stays old _ (record { stage = refl; given = c.in_ok-reserve-in-Going.ensures.entries; answers = refl; unused = refl; probe = refl; place = refl; ending = refl }) m footprint plan.tree at) in
+    let stands : (m : StepMeanings) → g.S.StoredSteps.is_stated c.args.steps.now m → StandsIn m plan new = λ m stated.
+    goes m (footprint_in plan.shapes) stated (own_of plan.shapes) (c.requires.stands m stated) in
+    let same_given : given new ≡ given old = search rules in
+    let same_answers : answers new ≡ answers old = search rules in
+    let at : (m : StepMeanings) (tests : Meanings) → g.S.StoredSteps.is_stated c.args.steps.now m → FitsShapes tests plan → IsAt m tests plan.tree old → IsAt m tests plan.tree new = λ m tests stated fits at.
+    at_still m tests plan.tree old new (goes m tests.footprint stated (meant_of tests plan.shapes fits) at.stands) same_given same_answers at in
+    let fit = stands_fit plan new c.go_on.result (g.met.S.StoredSteps.has_meanings c.args.steps.now) stands c.go_on.ensures.answered in
+    record {
+      stands = stands;
+      at = at;
+      given = same_given;
+      answers = same_answers;
+      answered = c.go_on.ensures.answered;
+      right = λ m tests stated fits old_at. at_right m tests plan.tree new c.go_on.result (at m tests stated fits old_at) c.go_on.ensures.answered;
+      fits = fit.fits c.tree-tree.ensures.limits.writes c.tree-tree.ensures.limits.checks;
+      within = fit.within;
+      named = fit.named;
+      filled = fit.filled;
+      same = tt;
+      fault = tt;
+    }
 
 pub returns-in-Waits : goal.returns-in-Waits
 returns-in-Waits g c =
-    let a = cursor_answers c.args.plan.now c.args.self.now (Need c.in-Waits.var) (g.met.S.StoredSteps.has_meanings c.args.steps.now) c.requires.at c.in-Waits.is in
-    record { at = c.requires.at; given = refl; answered = c.in-Waits.is; right = a.right; fits = a.plan.fits c.tree-tree.ensures.limits.writes c.tree-tree.ensures.limits.checks; within = a.plan.within; named = a.plan.named; same = tt; fault = tt }
+    let cursor = c.args.self.now in
+    let fit = stands_fit c.args.plan.now cursor (Need c.in-Waits.var) (g.met.S.StoredSteps.has_meanings c.args.steps.now) c.requires.stands c.in-Waits.is in
+    record {
+      stands = c.requires.stands;
+      at = λ m tests stated fits at. at;
+      given = refl;
+      answers = refl;
+      answered = c.in-Waits.is;
+      right = λ m tests stated fits at. at_right m tests c.args.plan.now.tree cursor (Need c.in-Waits.var) at c.in-Waits.is;
+      fits = fit.fits c.tree-tree.ensures.limits.writes c.tree-tree.ensures.limits.checks;
+      within = fit.within;
+      named = fit.named;
+      filled = fit.filled;
+      same = tt;
+      fault = tt;
+    }
+
+pub returns-in-Tests : goal.returns-in-Tests
+returns-in-Tests g c =
+    let cursor = c.args.self.now in
+    let fit = stands_fit c.args.plan.now cursor Probe (g.met.S.StoredSteps.has_meanings c.args.steps.now) c.requires.stands c.in-Tests.is in
+    record {
+      stands = c.requires.stands;
+      at = λ m tests stated fits at. at;
+      given = refl;
+      answers = refl;
+      answered = c.in-Tests.is;
+      right = λ m tests stated fits at. at_right m tests c.args.plan.now.tree cursor Probe at c.in-Tests.is;
+      fits = fit.fits c.tree-tree.ensures.limits.writes c.tree-tree.ensures.limits.checks;
+      within = fit.within;
+      named = fit.named;
+      filled = fit.filled;
+      same = tt;
+      fault = tt;
+    }
 
 pub returns-in-Ended : goal.returns-in-Ended
 returns-in-Ended g c =
-    let a = cursor_answers c.args.plan.now c.args.self.now Ended (g.met.S.StoredSteps.has_meanings c.args.steps.now) c.requires.at c.in-Ended.is in
-    record { at = c.requires.at; given = refl; answered = c.in-Ended.is; right = a.right; fits = a.plan.fits c.tree-tree.ensures.limits.writes c.tree-tree.ensures.limits.checks; within = a.plan.within; named = a.plan.named; same = tt; fault = tt }
+    let cursor = c.args.self.now in
+    let fit = stands_fit c.args.plan.now cursor Ended (g.met.S.StoredSteps.has_meanings c.args.steps.now) c.requires.stands c.in-Ended.is in
+    record {
+      stands = c.requires.stands;
+      at = λ m tests stated fits at. at;
+      given = refl;
+      answers = refl;
+      answered = c.in-Ended.is;
+      right = λ m tests stated fits at. at_right m tests c.args.plan.now.tree cursor Ended at c.in-Ended.is;
+      fits = fit.fits c.tree-tree.ensures.limits.writes c.tree-tree.ensures.limits.checks;
+      within = fit.within;
+      named = fit.named;
+      filled = fit.filled;
+      same = tt;
+      fault = tt;
+    }

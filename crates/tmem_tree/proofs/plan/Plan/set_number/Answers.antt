@@ -5,17 +5,20 @@ use Rattle.tmem_tree.proofs.plan.Plan.set_number.Goals as goal
 pub invariant_of-self : goal.invariant_of-self
 invariant_of-self c =
     let same = alike_by _ _ c.self.inside.tx _ c.change_number.ensures.tree in
-    let was = c.self.invariant in (
-      limits_kept same was.0,
-      was.1 ∙ sym same.choices,
-      (λ yes. (short_kept same).1 (was.2.0 yes), λ short. was.2.1 ((short_kept same).0 short)),
-    )
+    let was = c.self.invariant in
+    record {
+      limits = limits_kept same was.limits;
+      known = names_kept same _ was.known;
+      choices = was.choices ∙ sym same.choices;
+      short = (λ yes. (short_kept same).1 (was.short.0 yes), λ short. was.short.1 ((short_kept same).0 short));
+    }
 
 pub returns-clause-steps : goal.returns-clause-steps
 returns-clause-steps c = rw (← c.self.view_is) (steps_kept (alike_by _ _ c.self.inside.tx _ c.change_number.ensures.tree))
 
 pub returns-clause-variables : goal.returns-clause-variables
-returns-clause-variables c = rw (← c.self.view_is) (variables_kept (alike_by _ _ c.self.inside.tx _ c.change_number.ensures.tree))
+returns-clause-variables c =
+    rw (← c.self.view_is) (λ vars. variables_kept (alike_by _ _ c.self.inside.tx _ c.change_number.ensures.tree) vars c.self.inside.shapes)
 
 pub returns-clause-names : goal.returns-clause-names
 returns-clause-names c = rw (← c.self.view_is) (names_kept (alike_by _ _ c.self.inside.tx _ c.change_number.ensures.tree))

@@ -1,9 +1,11 @@
 use Rattle.std.proofs.Common.{◌<◌, length, rules, refl, [], List, ℕ, sym, ◌∙◌, ap, subst, length-set, arith}
-use Rattle.std.specs.Prelude.{Some}
+use Rattle.std.specs.Prelude.{Some, option_map}
 use Rattle.std.proofs.lemmas.List.Elements.{All-set}
 use Rattle.tmem_disk.specs.declared.fault.Fault.{Fault}
+use Rattle.tmem_invariants.specs.Meanings.{Meanings}
 use Rattle.tmem_tree.specs.declared.tx.Tx.{Tx}
-use Rattle.tmem_tree.specs.Plans.{BreaksNone, IsLeastBroken, FitsSteps, FitsVariables, FitsNames}
+use Rattle.tmem_tree.specs.Plans.{PlanView, BreaksNone, IsLeastBroken, FitsSteps, FitsNames}
+use Rattle.tmem_tree.specs.Shapes.{AreMeant, AreWithin, names_of}
 use Rattle.tmem_tentative.specs.Cursors.{IsAt}
 use Rattle.tmem_world.specs.Slots.{FitsSlot}
 use Rattle.tmem_world.specs.WorldModel.{holding, slot_at, Begun, IsPlanFault}
@@ -22,9 +24,10 @@ returns-in-Ok-begin g c =
     let is = c.in-Ok.ensures.plan in
     slots_answered w _ _ _ refl refl refl (g.met.D.Disk.is_device (device_of w))
     (λ program means m r keeps. (
-      holding m c.args.slot (Begun c.args.tx []),
-      in_session program (held_of w) m _ _ _ r.session (search rules) (subst (λ (ns : List (List ℕ)). BreaksNone (g.S.StoredSteps.arities w.steps) w.layout.vars ns c.args.tx) (c.deref.ensures.value ∙ sym (means.invariants.names ∙ w.named)) c.in-Ok.ensures.fine, refl),
-      with_slot program w _ m c.args.slot new (Begun c.args.tx []) r (record { plan = so.plan ∙ ap Some is; at = subst (λ (p : Tx). IsAt program.steps p new.cursor) is (so.at program.steps); given = so.given }, so.going) refl refl refl,
+      holding m c.args.slot (Begun c.args.tx [] 0),
+      in_session program (held_of w) m _ _ _ r.session (search rules) (subst (λ (ns : List (List ℕ)). BreaksNone (g.S.StoredSteps.arities w.steps) w.layout.vars ns c.args.tx) (ap names_of c.deref.ensures.value ∙ w.named ∙ sym means.invariants.names) c.in-Ok.ensures.fine, refl),
+      with_slot program w _ m c.args.slot new (Begun c.args.tx [] 0) r
+          (record { plan = ap (option_map (λ (p : PlanView). p.tree)) so.plan ∙ ap Some is; at = subst (λ (p : Tx). IsAt program.steps program.tests p new.cursor) is (so.at program.steps program.tests); given = so.given }, ap length so.answers, so.going) refl refl refl,
     )) tt (λ n. refl) tt
 
 pub returns-in-Err-begin : goal.returns-in-Err-begin
@@ -36,11 +39,11 @@ returns-in-Err-begin g c =
     let so = c.in-Err-begin.ensures in
     slots_answered w _ _ _ refl refl refl (g.met.D.Disk.is_device (device_of w))
     (λ program means m r keeps.
-    let fine = subst (λ (ns : List (List ℕ)). BreaksNone (g.S.StoredSteps.arities w.steps) w.layout.vars ns c.args.tx) (c.deref.ensures.value ∙ sym (means.invariants.names ∙ w.named)) c.in-Ok.ensures.fine in
+    let fine = subst (λ (ns : List (List ℕ)). BreaksNone (g.S.StoredSteps.arities w.steps) w.layout.vars ns c.args.tx) (ap names_of c.deref.ensures.value ∙ w.named ∙ sym means.invariants.names) c.in-Ok.ensures.fine in
     let may : IsPlanFault (setting_of w program) c.args.tx c.in-Err-begin.fault = subst (λ (f : Fault). IsPlanFault (setting_of w program) c.args.tx f) (sym so.same.0) fine in (
       holding m c.args.slot (slot_at m c.args.slot),
       in_session program (held_of w) m _ _ _ r.session (search rules) (may, same_attempt m c.args.slot),
-      with_slot program w _ m c.args.slot new (slot_at m c.args.slot) r (held_again program (slot_at m c.args.slot) old new so.same.1 so.same.2 so.stays (slot_holds program _ m c.args.slot old r below c.index_mut.ensures.value)) refl refl refl,
+      with_slot program w _ m c.args.slot new (slot_at m c.args.slot) r (held_again program (slot_at m c.args.slot) old new so.same.1 so.same.2 so.stays_at (slot_holds program _ m c.args.slot old r below c.index_mut.ensures.value)) refl refl refl,
     )) tt (λ n. ap (λ (f : Fault). failures_by (reply.Fault f) n) so.same.0) tt
 
 pub returns-in-Err : goal.returns-in-Err
@@ -49,7 +52,7 @@ returns-in-Err g c =
     let least = c.in-Err.ensures.least in
     slots_answered w _ _ _ refl refl refl (g.met.D.Disk.is_device (device_of w))
     (λ program means m r keeps.
-    let so = subst (λ (ns : List (List ℕ)). IsLeastBroken (g.S.StoredSteps.arities w.steps) w.layout.vars ns c.args.tx least.0) (c.deref.ensures.value ∙ sym (means.invariants.names ∙ w.named)) least.2 in
+    let so = subst (λ (ns : List (List ℕ)). IsLeastBroken (g.S.StoredSteps.arities w.steps) w.layout.vars ns c.args.tx least.0) (ap names_of c.deref.ensures.value ∙ w.named ∙ sym means.invariants.names) least.2 in
     (m, in_session program (held_of w) m _ _ _ r.session (search rules) (rw least.1 so, refl), same_point _ _ refl program m r refl refl)) tt (λ n. ap (λ (f : Fault). failures_by (reply.Fault f) n) least.1) tt
 
 pub invariant_of-self-2 : goal.invariant_of-self-2
@@ -57,17 +60,23 @@ invariant_of-self-2 g c =
     let w = c.args.self.now in
     let arities = g.S.StoredSteps.arities w.steps in
     let stated = g.S.StoredSteps.is_stated w.steps in
+    let known = names_of w.shapes.items in
+    let tested : Meanings → Type 0 = λ tests. AreMeant tests w.shapes.items in
     let so = c.in-Ok.ensures in
     let is = so.plan in
     let now = c.begin.ensures in
-    let named = subst (λ (ns : List (List ℕ)). FitsNames ns c.args.tx) c.deref.ensures.value so.names in
-    let held : FitsSlot w.layout.vars arities stated w.names.items c.index_mut.result.now = subst (FitsSlot w.layout.vars arities stated w.names.items) (sym c.index_mut.ensures.value) (w.fit c.args.slot c.index_mut.result.now (omega (arith, w.sized))) in
-    let fits = begun_fits w.layout.vars arities stated w.names.items c.in-Ok.plan c.index_mut.result.now c.begin.new.self c.begin.result (subst (FitsVariables w.layout.vars) (sym is) so.variables) (subst (FitsSteps arities) (sym is) so.steps) (subst (FitsNames w.names.items) (sym is) named) now.plan now.at now.going now.same now.stays held in
+    let named = subst (λ (ns : List (List ℕ)). FitsNames ns c.args.tx) (ap names_of c.deref.ensures.value) so.names in
+    let shapes = λ (tests : Meanings) (asked : tested tests). so.shapes tests (subst (AreMeant tests) (sym c.deref.ensures.value) asked) in
+    let variables = so.variables (subst (AreWithin w.layout.vars) (sym c.deref.ensures.value) w.within) in
+    let held : FitsSlot w.layout.vars arities stated known tested c.index_mut.result.now = subst (FitsSlot w.layout.vars arities stated known tested) (sym c.index_mut.ensures.value) (w.fit c.args.slot c.index_mut.result.now (omega (arith, w.sized))) in
+    let fits = begun_fits w.layout.vars arities stated known tested c.in-Ok.plan c.index_mut.result.now c.begin.new.self c.begin.result variables (subst (FitsSteps arities) (sym is) so.steps) (subst (FitsNames known) (sym is) named) (subst (FitsNames (names_of c.in-Ok.plan.shapes)) (sym is) so.known) shapes now.plan now.stands now.going now.same now.stays held in
     record {
       sized = length-set w.slots.items c.args.slot c.begin.new.self ∙ w.sized;
       here = w.here;
       same_vars = w.same_vars;
       same_slots = w.same_slots;
       named = w.named;
-      fit = All-set (FitsSlot w.layout.vars arities stated w.names.items) w.slots.items c.args.slot c.begin.new.self fits w.fit;
+      meant = w.meant;
+      within = w.within;
+      fit = All-set (FitsSlot w.layout.vars arities stated known tested) w.slots.items c.args.slot c.begin.new.self fits w.fit;
     }

@@ -1,0 +1,16 @@
+-- Tests that a table can be asked.
+use Rattle.std.proofs.Common.{◌≡◌, ℕ, zero, suc, List, [], ◌∷◌, length, map, Some, refl, sym, ap, ◌∙◌}
+use Rattle.std.specs.Prelude.{slice_get, slice_index_or}
+use Rattle.tmem_invariants.specs.Meanings.{Meanings}
+
+-- what a list of footprints has at the place of a name
+footprint_at : (f : List ℕ → List ℕ) (names : List (List ℕ)) (place : ℕ) (name : List ℕ) → slice_get names place ≡ Some name → slice_index_or (map f names) place [] ≡ f name
+footprint_at f [] place name is = cc
+footprint_at f (n ∷ names) zero name is = let same : n ≡ name = cc in ap f same
+footprint_at f (n ∷ names) (suc place) name is = footprint_at f names place name is
+
+-- as many values as the footprint that is meant has variables are as many as the one at the name's place has
+pub filled_by : (m : Meanings) (names footprints : List (List ℕ)) (name : List ℕ) (n : ℕ) → map m.footprint names ≡ footprints → n ≡ length (m.footprint name)
+    → (place : ℕ) → slice_get names place ≡ Some name → n ≡ length (slice_index_or footprints place [])
+filled_by m names footprints name n over filled place there =
+    filled ∙ ap length (sym (footprint_at m.footprint names place name there) ∙ ap (λ (fs : List (List ℕ)). slice_index_or fs place []) over)

@@ -1,0 +1,17 @@
+use Rattle.std.proofs.Common.{◌≡◌, ℕ, length, ap, sym, subst, ◌∙◌, rules}
+use Rattle.tmem_record.specs.State.{State}
+use Rattle.tmem_tree.specs.Shapes.{AreWithin}
+use Rattle.tmem_core.specs.Held.{state_of}
+use Rattle.tmem_front.proofs.opened.OpenedFront.named.Goals as goal
+
+pub invariant_of-result-clause-named : goal.invariant_of-result-clause-named
+invariant_of-result-clause-named g c = c.args.self.opening.named ∙ c.requires.names
+
+pub invariant_of-result-clause-meant : goal.invariant_of-result-clause-meant
+invariant_of-result-clause-meant g c = c.args.self.opening.meant g.N.ProgramNaming.program.tests c.requires.stated
+
+pub invariant_of-result-clause-within : goal.invariant_of-result-clause-within
+invariant_of-result-clause-within g c =
+    let over : c.layout-vars.result.vars ≡ length g.N.StoreNaming.opening.values = search rules in
+    let found : length (state_of c.args.self.opening.core).values ≡ length g.N.StoreNaming.opening.values = ap (λ (s : State). length s.values) c.requires.opening in
+    subst (λ (n : ℕ). AreWithin n c.args.self.opening.shapes.items) (found ∙ sym over) c.args.self.opening.within

@@ -1,0 +1,43 @@
+use Rattle.std.proofs.Common.{◌≡◌, ℕ, ◌+◌, ◌∷◌, [], ◌++◌, List, Some, length, map, take, ap, sym, subst, ◌∙◌, arith}
+use Rattle.std.specs.Prelude.{slice_get}
+use Rattle.std.proofs.Props.{props}
+use Rattle.std.proofs.lemmas.List.{length-map, map-append, take_all, take_more}
+use Rattle.std.proofs.lemmas.List.Elements.{All-push}
+use Rattle.std.proofs.lemmas.Option.{get_or_from_slice_get, slice_get_within}
+use mathlib.Core.Logic.{∥∥₁_elim}
+use Rattle.tmem_invariants.specs.Meanings.{Meanings}
+use Rattle.tmem_invariants.specs.TableNames.{AreBelow}
+use Rattle.tmem_tree.specs.declared.shape.Shape.{Shape}
+use Rattle.tmem_tree.specs.Shapes.{AreMeant, AreWithin}
+use Rattle.tmem_tree.proofs.shape.shapes_of.Goals as goal
+
+-- what is shown of one more
+shown_more : {X : Type 0} (show : Shape → X) (was now : List Shape) (shape : Shape) (all : List X) (place : ℕ) → now ≡ was ++ shape ∷ [] → map show was ≡ take place all → slice_get all place ≡ Some (show shape) → map show now ≡ take (place + 1) all
+shown_more show was now shape all place is so_far here =
+    ap (map show) is
+    ∙ map-append show was (shape ∷ [])
+    ∙ ap (λ xs. xs ++ show shape ∷ []) so_far
+    ∙ ap (λ x. take place all ++ x ∷ []) (sym (get_or_from_slice_get all place (show shape) (show shape) here))
+    ∙ sym (take_more all place (show shape) (slice_get_within all place (show shape) here))
+
+pub loop-place-preserved : goal.loop-place-preserved
+loop-place-preserved g c =
+    let t = g.T.Invariants in
+    let was = c.loop-place.shapes.items in
+    let shape = c.shape_at.result in
+    let now = c.in_ok-push.ensures.items in
+    record {
+      names = shown_more (λ (s : Shape). s.name) was _ shape (t.names c.args.table.now) c.loop-place.place now c.loop-place.invariant.names c.shape_at.ensures.name;
+      footprints = shown_more (λ (s : Shape). s.footprint) was _ shape (t.footprints c.args.table.now) c.loop-place.place now c.loop-place.invariant.footprints c.shape_at.ensures.footprint;
+      meant = λ tests stated. subst (AreMeant tests) (sym now) (All-push (λ (s : Shape). s.footprint ≡ tests.footprint s.name) was shape (c.loop-place.invariant.meant tests stated) (c.shape_at.ensures.meant tests stated));
+      within = subst (AreWithin (t.vars c.args.table.now)) (sym now) (All-push (λ (s : Shape). AreBelow (t.vars c.args.table.now) s.footprint) was shape c.loop-place.invariant.within c.shape_at.ensures.within);
+    }
+
+-- there are as many footprints as names, since there are meanings
+pub returns-clause-footprints : goal.returns-clause-footprints
+returns-clause-footprints g c =
+    let t = g.T.Invariants in
+    let table = c.args.table.now in
+    let as_many : length (t.footprints table) ≡ length (t.names table) = ∥∥₁_elim (g.met.T.Invariants.has_meanings table) (hlevel props) (λ (stated : (m : Meanings) × t.is_stated table m). ap length (sym (g.met.T.Invariants.over table stated.0 stated.1)) ∙ length-map (t.names table) stated.0.footprint) in
+    c.loop-place.invariant.footprints
+    ∙ take_all c.loop-place.place (t.footprints table) (omega (arith, as_many, c.len-place-end.ensures))

@@ -1,0 +1,25 @@
+use Rattle.std.proofs.Common.{◌≡◌, not, Some, option_map, All, Contains, sym, ap, subst, ◌∙◌}
+use Rattle.std.proofs.lemmas.List.Elements.{All-push}
+use Rattle.tmem_tree.specs.Shapes.{shape_in}
+use Rattle.tmem_tree.proofs.Found.{IsSome-shown, is_some-shown, is_some-shape_in, found_shape, has_name-pushed}
+use Rattle.tmem_tree.proofs.shapes.add.Goals as goal
+
+pub unwrap-requires : goal.unwrap-requires
+unwrap-requires c =
+    IsSome-shown _ c.find-then-is_none.result _ c.find-then-is_none.ensures (is_some-shape_in c.args.shapes.now c.args.name.now ∙ c.requires.known)
+
+pub returns-then-is_none-clause-known : goal.returns-then-is_none-clause-known
+returns-then-is_none-clause-known c =
+    let at : shape_in c.args.shapes.now c.args.name.now ≡ Some c.unwrap.result.now = sym c.find-then-is_none.ensures ∙ ap (option_map (λ shape. shape.now)) c.unwrap.ensures in
+    let found = found_shape c.args.shapes.now c.args.name.now c.unwrap.result.now at in
+    rw c.push.ensures (has_name-pushed c.args.into.now c.unwrap.result.now c.args.name.now found.1)
+
+pub returns-then-is_none-clause-among : goal.returns-then-is_none-clause-among
+returns-then-is_none-clause-among c all =
+    let at : shape_in c.args.shapes.now c.args.name.now ≡ Some c.unwrap.result.now = sym c.find-then-is_none.ensures ∙ ap (option_map (λ shape. shape.now)) c.unwrap.ensures in
+    let found = found_shape c.args.shapes.now c.args.name.now c.unwrap.result.now at in
+    subst (All (Contains c.args.shapes.now)) (sym c.push.ensures) (All-push (Contains c.args.shapes.now) c.args.into.now c.unwrap.result.now all found.0)
+
+pub returns-else-is_none-clause-known : goal.returns-else-is_none-clause-known
+returns-else-is_none-clause-known c =
+    rw (← c.as_slice.ensures) (sym (is_some-shape_in c.as_slice.result.now c.args.name.now) ∙ sym (is_some-shown _ c.find.result _ c.find.ensures) ∙ c.is_none.ensures ∙ ap not c.if-is_none.false)
