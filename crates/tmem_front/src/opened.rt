@@ -1,14 +1,9 @@
 // A store that was opened, before it has a name in the types.
-ghost use Rattle.std.specs.Prelude.{◌≡◌, length, IfOk, IfErr};
-ghost use Rattle.tmem_disk.specs.Disk.{LeavesOnly};
-ghost use Rattle.tmem_gate.specs.Calls.{Uses};
-ghost use Rattle.tmem_record.specs.State.{State};
-ghost use Rattle.tmem_invariants.specs.Meanings.{Meanings, IsSound};
-ghost use Rattle.tmem_core.specs.Program.{Program, IsProgramOf};
-ghost use Rattle.tmem_journal.specs.Calls.{FitsOn, fault_alone};
-ghost use Rattle.tmem_journal.specs.Stands.{StandsFor, StandsForEither};
+ghost use Rattle.std.specs.Prelude.{◌≡◌, IfOk, IfErr};
+ghost use Rattle.tmem_core.specs.Program.{IsProgramOf};
+ghost use Rattle.tmem_journal.specs.Calls.{FitsOn};
 ghost use Rattle.tmem_opening.specs.Held.{found_of as opened_at};
-ghost use Rattle.tmem_opening.specs.Opening.{Mending, OpeningRefused};
+ghost use Rattle.tmem_opening.specs.Opening.{IsOpened, OpeningRefused, RecoversEither, without_device};
 
 use crate::conditions::Conditions;
 use crate::front::Front;
@@ -38,7 +33,7 @@ pub struct OpenedFront<D: Disk, T: Invariants, S: StoredSteps> {
 }
 
 impl<D: Disk + Drop, T: Invariants + Drop, S: StoredSteps + Drop> OpenedFront<D, T, S> {
-    ghost use Rattle.tmem_front.specs.Held.{found_of, position_of, layout_of, device_of, spine_of, table_of, steps_of, device_after, FindsEither};
+    ghost use Rattle.tmem_front.specs.Held.{opening_of, found_of, spine_of, table_of, steps_of, device_after, FoundIs};
 
     /// Opens a device of these numbers: finds what its content stands for, with these invariants and stored steps. Refused as
     /// `tmem_opening::Opening::open`, also for want of memory of its own: where the state that was found is sound. The device is
@@ -53,24 +48,11 @@ impl<D: Disk + Drop, T: Invariants + Drop, S: StoredSteps + Drop> OpenedFront<D,
     ) -> Result<OpenedFront<D, T, S>, (Fault, D)>
         requires { T.vars table ≡ vars }
 
-        // The state that the content stands for is found, and no invariant that is registered in it is false there.
-        ensures found { IfOk result (λ o. (device_of o).keeps_model → StandsFor vars slots (position_of o) (found_of o) (D.view disk).seen) }
-        ensures sound { (m : Meanings) → T.is_stated table m → IfOk result (λ o. IsSound m (T.names table) (found_of o).names (found_of o).values) }
-        ensures values { IfOk result (λ o. length (found_of o).values ≡ vars) }
-        ensures leaves { IfOk result (λ o. LeavesOnly (device_of o) (StandsFor vars slots (position_of o) (found_of o))) }
+        // It is opened as `Opening::open` says, and refused so.
+        ensures opened { IfOk result (λ o. IsOpened vars slots table (D.view disk) (opening_of o)) }
         ensures steps { IfOk result (λ o. steps_of o ≡ steps) }
-        ensures table { IfOk result (λ o. table_of o ≡ table) }
-        ensures fits { IfOk result (λ o. ((layout_of o).vars ≡ vars) × ((layout_of o).slots ≡ slots) × FitsOn vars slots (D.view disk).capacity) }
-        ensures uses { Uses (D.view disk) (device_after result) (fault_alone result) }
-        ensures mends { Mending vars slots (D.view disk) (device_after result) }
         ensures refused { IfErr result (λ e. OpeningRefused (IsProgramOf T.Invariants table) vars slots (D.view disk) e.0 (D.view e.1)) }
-
-        // Where every crash left one of two states, and both are sound, one of them is found, unless memory or the
-        // device fails.
-        ensures recovers { (program : Program) (a b : State) → IsProgramOf T.Invariants table program
-            → IsSound program.tests program.names a.names a.values → IsSound program.tests program.names b.names b.values
-            → FitsOn vars slots (D.view disk).capacity → LeavesOnly (D.view disk) (StandsForEither vars slots a b)
-            → (device_after result).keeps_model → FindsEither result a b }
+        ensures recovers { RecoversEither FoundIs (IsProgramOf T.Invariants table) vars slots (D.view disk) (device_after result) (without_device result) }
 
         // Where the numbers do not fit the device, no call of it is made: the one that was handed in is handed back.
         ensures untouched { ¬ FitsOn vars slots (D.view disk).capacity → IfErr result (λ e. e.1 ≡ disk) }

@@ -34,7 +34,7 @@ abbrev pub device_after : {D T : Type 0} {d t : _} → Result (Opening D T d t) 
 device_after (Ok o) = device_of o
 device_after {d = d} (Err e) = d.view e.1
 
--- its answer, without what it hands out
-abbrev pub answer_alone : {D T : Type 0} {d t : _} → Result (Opening D T d t) (Fault × D × T) → Result (Unit {0}) Fault
-answer_alone (Ok o) = Ok tt
+-- its answer, without what a refusal hands back
+abbrev pub answer_alone : {D T : Type 0} {d t : _} → Result (Opening D T d t) (Fault × D × T) → Result (Opening D T d t) Fault
+answer_alone (Ok o) = Ok o
 answer_alone (Err e) = Err e.0

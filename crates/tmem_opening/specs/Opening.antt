@@ -1,20 +1,20 @@
 -- What opening a store finds, why it is refused, and what it does to the device.
-use Rattle.std.specs.Prelude.{◌≡◌, ◌⊎◌, ⊤, ℕ, ◌*◌, Some, Result, Ok, Err}
+use Rattle.std.specs.Prelude.{◌≡◌, ◌⊎◌, ⊤, ℕ, ◌*◌, length, Some, Result, Ok, Err}
 use Rattle.tmem_disk.specs.Disk.{DeviceView, LeavesOnly, AtEachMoment, SameDevice}
 use Rattle.tmem_disk.specs.declared.fault.Fault.{Fault}
 use Rattle.tmem_disk.specs.declared.fault.Fault.TheVariants.{Memory, Device, NotFormatted, Damaged, Geometry, Missing, Broken}
 use Rattle.tmem_gate.specs.Calls.{Uses, LooksOnly, WritesWithin}
 use Rattle.tmem_record.specs.State.{State}
 use Rattle.tmem_record.specs.Layout.{slot_place}
-use Rattle.tmem_invariants.specs.Meanings.{IsSound}
+use Rattle.tmem_invariants.specs.Meanings.{Meanings, IsSound}
 use Rattle.tmem_core.specs.Opening.{opening_fault}
 use Rattle.tmem_core.specs.Program.{Program}
 use Rattle.tmem_journal.specs.Calls.{FitsOn}
 use Rattle.tmem_journal.specs.Mended.{Mends, MendedBy, ClosedFrom}
 use Rattle.tmem_journal.specs.Refusals.{IsWhy, IsRefusedBy}
-use Rattle.tmem_journal.specs.Stands.{Position, StandsFor}
+use Rattle.tmem_journal.specs.Stands.{Position, StandsFor, StandsForEither}
 use Rattle.tmem_opening.specs.declared.opening.Opening.{Opening}
-use Rattle.tmem_opening.specs.Held.{found_of}
+use Rattle.tmem_opening.specs.Held.{found_of, position_of, layout_of, device_of, table_of}
 
 -- nothing was written, where the gates behind the log read closed
 abbrev pub LooksWhereClosed : ℕ → ℕ → DeviceView → DeviceView → Type 0
@@ -76,7 +76,36 @@ pub record OpeningRefused (AreTheirs : Program → Type 0) (vars slots : ℕ) (o
 abbrev pub IsFailure : Fault → Type 0
 IsFailure f = (f ≡ Memory) ⊎ (f ≡ Device)
 
--- one of two states is found, or memory or the device failed
-abbrev pub FindsEither : {D T : Type 0} {d t : _} → Result (Opening D T d t) (Fault × D × T) → State → State → Type 0
-FindsEither (Ok o) a b = ∥ (found_of o ≡ a) ⊎ (found_of o ≡ b) ∥₁
-FindsEither (Err e) a b = IsFailure e.0
+-- What opening a device of these numbers found, with this table, and what it did to the device.
+pub record IsOpened {D T : Type 0} {d t : _} (vars slots : ℕ) (table : T) (old : DeviceView) (o : Opening D T d t) : Type 0 where
+  -- the state that the content stands for, in which no invariant that is registered is false
+  pub found : (device_of o).keeps_model → StandsFor vars slots (position_of o) (found_of o) old.seen
+  pub sound : (m : Meanings) → t.is_stated table m → IsSound m (t.names table) (found_of o).names (found_of o).values
+  pub leaves : LeavesOnly (device_of o) (StandsFor vars slots (position_of o) (found_of o))
+  pub values : length (found_of o).values ≡ vars
+  pub fits : ((layout_of o).vars ≡ vars) × ((layout_of o).slots ≡ slots) × FitsOn vars slots old.capacity
+  pub holds : table_of o ≡ table
+  pub uses : Uses {T = Unit {0}} old (device_of o) (Ok tt)
+  pub mends : Mending vars slots old (device_of o)
+
+-- such is the state that was found, whatever the closures mean
+abbrev pub FoundIs : {D T : Type 0} {d t : _} → Program → Opening D T d t → (State → Type 0) → Type 0
+FoundIs p o Such = Such (found_of o)
+
+-- an answer, without the device that a refusal hands back
+abbrev pub without_device : {A D : Type 0} → Result A (Fault × D) → Result A Fault
+without_device (Ok x) = Ok x
+without_device (Err e) = Err e.0
+
+-- What was opened begins at one of two states; or memory or the device failed. `At` says of what was opened that it begins at such
+-- a state.
+abbrev pub FindsEither : {A : Type 0} → (A → (State → Type 0) → Type 0) → Result A Fault → State → State → Type 0
+FindsEither At (Ok x) a b = At x (λ s. ∥ (s ≡ a) ⊎ (s ≡ b) ∥₁)
+FindsEither At (Err f) a b = IsFailure f
+
+-- Where every crash left one of two states, and both are sound by what closures like these mean, one of them is found, unless memory
+-- or the device fails.
+abbrev pub RecoversEither : {A : Type 0} → (Program → A → (State → Type 0) → Type 0) → (Program → Type 0) → ℕ → ℕ → DeviceView → DeviceView → Result A Fault → Type 0
+RecoversEither At AreTheirs vars slots old new answer =
+    (p : Program) (a b : State) → AreTheirs p → IsSound p.tests p.names a.names a.values → IsSound p.tests p.names b.names b.values
+    → FitsOn vars slots old.capacity → LeavesOnly old (StandsForEither vars slots a b) → new.keeps_model → FindsEither (At p) answer a b

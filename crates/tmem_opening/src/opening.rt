@@ -1,14 +1,10 @@
 // A store that was opened.
 ghost use Rattle.std.specs.Prelude.{◌≡◌, [], false, length, IfOk, IfErr};
-ghost use Rattle.tmem_disk.specs.Disk.{LeavesOnly};
-ghost use Rattle.tmem_gate.specs.Calls.{Uses};
-ghost use Rattle.tmem_record.specs.State.{State};
-ghost use Rattle.tmem_invariants.specs.Meanings.{Meanings, IsSound};
+ghost use Rattle.tmem_invariants.specs.Meanings.{Meanings};
 ghost use Rattle.tmem_core.specs.Held.{state_of, waiting_of, durable_of, is_shut_of, table_of as core_table};
-ghost use Rattle.tmem_core.specs.Program.{Program, IsProgramOf};
+ghost use Rattle.tmem_core.specs.Program.{IsProgramOf};
 ghost use Rattle.tmem_journal.specs.Calls.{FitsOn};
 ghost use Rattle.tmem_journal.specs.Held.{disk_of, doubtful_of, is_closed_of, state_of as durable_state};
-ghost use Rattle.tmem_journal.specs.Stands.{StandsFor, StandsForEither};
 ghost use Rattle.tmem_tree.specs.Shapes.{AreMeant, AreWithin, names_of};
 
 use std::alloc::{AllocError, Global};
@@ -41,8 +37,8 @@ pub struct Opening<D: Disk, T: Invariants> {
 }
 
 impl<D: Disk + Drop, T: Invariants + Drop> Opening<D, T> {
-    ghost use Rattle.tmem_opening.specs.Held.{device_of, device_after, answer_alone, found_of, position_of, layout_of, table_of};
-    ghost use Rattle.tmem_opening.specs.Opening.{Mending, OpeningRefused, FindsEither};
+    ghost use Rattle.tmem_opening.specs.Held.{device_after, answer_alone};
+    ghost use Rattle.tmem_opening.specs.Opening.{IsOpened, FoundIs, OpeningRefused, RecoversEither};
 
     /// Opens a device of these numbers: finds what its content stands for, with these invariants. Refused by `Geometry` where
     /// the numbers are out of limits, the device is smaller than their layout, or it was formatted for others; by
@@ -62,23 +58,13 @@ impl<D: Disk + Drop, T: Invariants + Drop> Opening<D, T> {
         requires { T.vars table ≡ vars }
 
         // The state that the content stands for is found, and no invariant that is registered in it is false there.
-        ensures found { IfOk result (λ o. (device_of o).keeps_model → StandsFor vars slots (position_of o) (found_of o) (D.view disk).seen) }
-        ensures sound { (m : Meanings) → T.is_stated table m → IfOk result (λ o. IsSound m (T.names table) (found_of o).names (found_of o).values) }
-        ensures leaves { IfOk result (λ o. LeavesOnly (device_of o) (StandsFor vars slots (position_of o) (found_of o))) }
-        ensures values { IfOk result (λ o. length (found_of o).values ≡ vars) }
-        ensures fits { IfOk result (λ o. ((layout_of o).vars ≡ vars) × ((layout_of o).slots ≡ slots) × FitsOn vars slots (D.view disk).capacity) }
-        ensures table { IfOk result (λ o. table_of o ≡ table) }
-        ensures back { IfErr result (λ e. e.2 ≡ table) }
-        ensures uses { Uses (D.view disk) (device_after result) (answer_alone result) }
-        ensures mends { Mending vars slots (D.view disk) (device_after result) }
+        ensures opened { IfOk result (λ o. IsOpened vars slots table (D.view disk) o) }
         ensures refused { IfErr result (λ e. OpeningRefused (IsProgramOf T.Invariants table) vars slots (D.view disk) e.0 (D.view e.1)) }
+        ensures back { IfErr result (λ e. e.2 ≡ table) }
 
         // Where every crash left one of two states, and both are sound, one of them is found, unless memory or the device
         // fails.
-        ensures recovers { (p : Program) (a b : State) → IsProgramOf T.Invariants table p
-            → IsSound p.tests p.names a.names a.values → IsSound p.tests p.names b.names b.values
-            → FitsOn vars slots (D.view disk).capacity → LeavesOnly (D.view disk) (StandsForEither vars slots a b)
-            → (device_after result).keeps_model → FindsEither result a b }
+        ensures recovers { RecoversEither FoundIs (IsProgramOf T.Invariants table) vars slots (D.view disk) (device_after result) (answer_alone result) }
 
         // Where the numbers do not fit the device, no call of it is made: the one that was handed in is handed back.
         ensures untouched { ¬ FitsOn vars slots (D.view disk).capacity → IfErr result (λ e. e.1 ≡ disk) }

@@ -1,3 +1,4 @@
+pub mod Deciding
 pub mod Flushing
 pub mod Held
 pub mod Histories

@@ -5,15 +5,12 @@ ghost use Rattle.tmem_record.specs.Names.{has_name};
 ghost use Rattle.tmem_tentative.specs.declared.attempt.Attempt.{Attempt as AttemptOf};
 ghost use Rattle.tmem_tentative.specs.Fits.{IsForVariables};
 ghost use Rattle.tmem_core.specs.Held.{state_of, waiting_of, durable_of, is_shut_of, table_of};
-ghost use Rattle.tmem_core.specs.SettleAnswer.{settle_answer, judged, accepted_by};
 ghost use Rattle.tmem_core.specs.Decisions.{answer_of, taken_by, RetriesAt};
 ghost use Rattle.tmem_core.specs.Program.{IsProgramOf};
-ghost use Rattle.tmem_core.specs.Verdict.{verdict};
-ghost use Rattle.tmem_tentative.specs.Right.{IsRight};
-ghost use Rattle.tmem_tree.specs.declared.tx.Tx.{Tx as TxOf};
 ghost use Rattle.tmem_spine.specs.History.{count};
 ghost use Rattle.tmem_spine.specs.Views.{new_core, new_pass};
 ghost use Rattle.tmem_spine.specs.declared.spine.TheConstants.{MOST_PASSES};
+ghost use Rattle.tmem_seats.specs.Deciding.{Decides};
 ghost use Rattle.tmem_seats.specs.Flushing.{GoesOn, TakesOldest};
 ghost use Rattle.tmem_seats.specs.Histories.{after, marked, numbered, IsSoundState};
 ghost use Rattle.tmem_seats.specs.Seats.{HasMoreOrShut, HasFlushedOrEnded, HasRoomOrShut, HasWorkOrShut, first_failure};
@@ -85,17 +82,8 @@ impl<N: StoreNaming, T: Invariants + Drop> CoreSeat<N, T> {
     ) -> Result<Decision, Fault>
         requires variables { IsForVariables (length N.opening.values) attempt.now }
         requires names { All (λ name. IsTrue (has_name N.program.names name)) attempt.now.effect.names }
-        ensures trimmed { (self.old.trimmed ≤ self.new.trimmed) × (count N.name.start pass.old.seen ≤ self.new.trimmed) }
-        ensures answer { answer_of result attempt.now.registers ≡ settle_answer N.program self.old.is_shut (after N.opening self.old.accepted) self.new.trimmed attempt.now }
-        ensures verdict { (tx : TxOf) → IsRight N.program.steps N.program.tests tx attempt.now
-            → answer_of result attempt.now.registers ≡ judged self.old.is_shut (after N.opening self.old.accepted) self.new.trimmed attempt.now.reads.entries (verdict N.program tx (after N.opening self.old.accepted)) }
-        ensures number { (after N.opening self.old.accepted).count ≡ count N.name.start self.old.accepted }
+        ensures decided { Decides N.name.start N.opening N.program attempt.now self.old pass.old (answer_of result attempt.now.registers) self.new pass.new }
         ensures retries { RetriesAt (count N.name.start self.old.accepted) result }
-        ensures accepted { self.new.accepted ≡ self.old.accepted ++ marked pass.old.mark (taken_by result attempt.now) }
-        ensures pass { pass.new ≡ record pass.old { known = self.new.accepted; own = pass.old.own ++ numbered (count N.name.start self.old.accepted) (taken_by result attempt.now) } }
-        ensures begins { IsPrefix pass.old.known self.old.accepted }
-        ensures sound { IsSoundState N.program (after N.opening self.new.accepted) }
-        ensures rest { self.new ≡ record self.old { accepted = self.new.accepted; trimmed = self.new.trimmed } }
     {
         let durable = spine.trim(&mut self.side, pass);
         self.core.note_durable(durable);
@@ -115,16 +103,7 @@ impl<N: StoreNaming, T: Invariants + Drop> CoreSeat<N, T> {
     ) -> Result<Settled, Fault>
         requires variables { IsForVariables (length N.opening.values) attempt.now }
         requires names { All (λ name. IsTrue (has_name N.program.names name)) attempt.now.effect.names }
-        ensures trimmed { (self.old.trimmed ≤ self.new.trimmed) × (count N.name.start pass.old.seen ≤ self.new.trimmed) }
-        ensures answer { result ≡ settle_answer N.program self.old.is_shut (after N.opening self.old.accepted) self.new.trimmed attempt.now }
-        ensures verdict { (tx : TxOf) → IsRight N.program.steps N.program.tests tx attempt.now
-            → result ≡ judged self.old.is_shut (after N.opening self.old.accepted) self.new.trimmed attempt.now.reads.entries (verdict N.program tx (after N.opening self.old.accepted)) }
-        ensures number { (after N.opening self.old.accepted).count ≡ count N.name.start self.old.accepted }
-        ensures accepted { self.new.accepted ≡ self.old.accepted ++ marked pass.old.mark (accepted_by result attempt.now.effect) }
-        ensures pass { pass.new ≡ record pass.old { known = self.new.accepted; own = pass.old.own ++ numbered (count N.name.start self.old.accepted) (accepted_by result attempt.now.effect) } }
-        ensures begins { IsPrefix pass.old.known self.old.accepted }
-        ensures sound { IsSoundState N.program (after N.opening self.new.accepted) }
-        ensures rest { self.new ≡ record self.old { accepted = self.new.accepted; trimmed = self.new.trimmed } }
+        ensures { Decides N.name.start N.opening N.program attempt.now self.old pass.old result self.new pass.new }
     {
         let decision = self.decide(spine, pass, attempt);
         with_registers(decision, attempt)

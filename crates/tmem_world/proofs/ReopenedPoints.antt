@@ -1,11 +1,11 @@
 -- The point of a run after the device was opened again.
 use Rattle.std.proofs.Common.{◌≡◌, ◌⊎◌, inl, inr, ⊎_elim, ℕ, ◌+◌, ◌-◌, ◌≤◌, ◌^◌, Bool, true, false, List, length, take, refl, sym, ◌∙◌, ap, subst, arith}
-use Rattle.std.specs.Prelude.{All, Ok, None}
+use Rattle.std.specs.Prelude.{All, Result, Ok, Err, None}
 use Rattle.std.proofs.Math.Logic.{∥∥₁_elim}
 use Rattle.std.proofs.Props.{props}
 use Rattle.std.proofs.lemmas.Bool.{cases_eq}
 use Rattle.std.proofs.lemmas.List.{length-take-le, take-take}
-use Rattle.tmem_disk.specs.Disk.{DeviceView, IsDevice, LeavesOnly}
+use Rattle.tmem_disk.specs.Disk.{DeviceView, IsDevice}
 use Rattle.tmem_disk.specs.declared.fault.Fault.{Fault}
 use Rattle.tmem_disk.specs.declared.fault.Fault.TheVariants as fault
 use Rattle.tmem_event.specs.declared.event.Event.TheVariants as event
@@ -16,20 +16,18 @@ use Rattle.tmem_world.specs.declared.held.Held.{Held}
 use Rattle.tmem_world.specs.declared.held.Held.TheVariants.{With, Without}
 use Rattle.tmem_world.specs.declared.world.World.{World}
 use Rattle.tmem_record.specs.State.{State}
-use Rattle.tmem_invariants.specs.Meanings.{Meanings, IsSound}
-use Rattle.tmem_invariants.specs.declared.named.Invariants as invariants
+use Rattle.tmem_invariants.specs.Meanings.{IsSound}
 use Rattle.tmem_core.specs.Program.{Program, IsProgramOf}
 use Rattle.tmem_core.specs.Held.{state_of, is_shut_of}
 use Rattle.tmem_core.specs.declared.core_state.Core.{Core}
 use Rattle.tmem_core.specs.Verdict.{serial_state}
-use Rattle.tmem_gate.specs.Calls.{Uses, failures_after}
-use Rattle.tmem_journal.specs.Calls.{FitsOn}
-use Rattle.tmem_journal.specs.Stands.{Position, StandsFor, StandsForEither}
+use Rattle.tmem_gate.specs.Calls.{failures_after}
+use Rattle.tmem_journal.specs.Stands.{Position, StandsFor}
 use Rattle.tmem_journal.specs.Laws.{StandsForOne}
 use Rattle.tmem_journal.specs.Held as journal
 use Rattle.tmem_journal.specs.declared.journal.Journal as owner
 use Rattle.tmem_opening.specs.Held.{found_of, position_of, device_of as opened_device}
-use Rattle.tmem_opening.specs.Opening.{Mending, OpeningRefused, IsFailure}
+use Rattle.tmem_opening.specs.Opening.{Mending, OpeningRefused, IsFailure, IsOpened, FoundIs, FindsEither, RecoversEither}
 use Rattle.tmem_opening.specs.declared.opening.Opening.{Opening}
 use Rattle.tmem_record.specs.declared.layout.Layout.{Layout}
 use Rattle.tmem_world.specs.Parts.{disk_in, layout_in, table_in, IsWith}
@@ -127,19 +125,6 @@ module _ {D T : Type 0} {d t : _} (one : StandsForOne) (program : Program) (m : 
       subst (λ (x : SessionStatus). KeepsPosition x m.position p) (sym has.status) (position_by (is_shut_of o.core) o refl device keeps over log stands has.position)
   position_kept (Without left) has device keeps over log stands = subst (λ (x : SessionStatus). KeepsPosition x m.position p) (sym has) tt
 
--- what holds of two sound states, one of which every crash left on a device
-abbrev pub OfEither : {T : Type 0} → invariants.Ghosts T → T → ℕ → ℕ → DeviceView → Type 0 → (State → State → Type 0) → Type 0
-OfEither t table vars slots old premise finds = (p : Program) (a b : State) → IsProgramOf t table p → IsSound p.tests p.names a.names a.values → IsSound p.tests p.names b.names b.values
-    → FitsOn vars slots old.capacity → LeavesOnly old (StandsForEither vars slots a b) → premise → finds a b
-
--- What an opening found on a device, with a table.
-pub record Finds {D T : Type 0} {d t : _} (x : Opening D T d t) (vars slots : ℕ) (table : T) (old : DeviceView) : Type 0 where
-  pub uses : Uses {T = Unit {0}} old (opened_device x) (Ok tt)
-  pub mends : Mending vars slots old (opened_device x)
-  pub found : (opened_device x).keeps_model → StandsFor vars slots (position_of x) (found_of x) old.seen
-  pub sound : (tests : Meanings) → t.is_stated table tests → IsSound tests (t.names table) (found_of x).names (found_of x).values
-  pub recovers : OfEither t table vars slots old (opened_device x).keeps_model (λ a b. ∥ (found_of x ≡ a) ⊎ (found_of x ≡ b) ∥₁)
-
 -- what is so of the device and the table that were taken out of a world is so of those that it held
 pub taken : {D T S : Type 0} {d t z : _} (w : World D T S d t z) (h : Held D T d t) (disk : D) (table : T) → held_of w ≡ h → disk ≡ disk_in h → table ≡ table_in h → (P : D → T → Type 0) → P disk table → P (device_of w) (held_table w)
 taken {D} {T} {d = d} {t = t} w h disk table held is same P it =
@@ -148,19 +133,19 @@ taken {D} {T} {d = d} {t = t} w h disk table held is same P it =
 -- A world was opened again.
 module _ {D T S : Type 0} {d t z : _} (w w' : World D T S d t z) (kept : KeepsSetting w w') (emptied : All (λ (s : Slot). s.plan ≡ None) w'.slots.items) (sized : length w'.slots.items ≡ 16) where
   -- an opening finds the order cut at the durable number, or at the doubtful one, or fails
-  finds_cut : (program : Program) (m : WorldModel) → Represents program w m → Means w program → (premise : Type 0) (finds : State → State → Type 0) → OfEither t (held_table w) w.layout.vars w.layout.slots (view_of w) premise finds
-      → premise → finds (cut program m m.durable) (cut program m m.doubtful)
-  finds_cut program m r means premise finds either keeps = either program (cut program m m.durable) (cut program m m.doubtful) means.invariants
+  finds_cut : (program : Program) (m : WorldModel) → Represents program w m → Means w program → (new : DeviceView) (answer : Result (Opening D T d t) Fault)
+      → RecoversEither FoundIs (IsProgramOf t (held_table w)) w.layout.vars w.layout.slots (view_of w) new answer → new.keeps_model → FindsEither (FoundIs program) answer (cut program m m.durable) (cut program m m.doubtful)
+  finds_cut program m r means new answer either keeps = either program (cut program m m.durable) (cut program m m.doubtful) means.invariants
       (r.numbers.sound m.durable r.numbers.opened (omega (arith, r.numbers.durable, r.numbers.doubtful))) (r.numbers.sound m.doubtful (omega (arith, r.numbers.opened, r.numbers.durable)) r.numbers.doubtful) (fits_in w) r.device keeps
 
   -- the opening was refused
   pub refused_answered : (f : Fault) → (IsWith (held_of w') → ⊥) → OpeningRefused (IsProgramOf t (held_table w)) w.layout.vars w.layout.slots (view_of w) f (view_of w')
-      → OfEither t (held_table w) w.layout.vars w.layout.slots (view_of w) (view_of w').keeps_model (λ a b. IsFailure f) → IsAnswered w event.Reopen (reply.Fault f) w'
+      → RecoversEither {A = Opening D T d t} FoundIs (IsProgramOf t (held_table w)) w.layout.vars w.layout.slots (view_of w) (view_of w') (Err f) → IsAnswered w event.Reopen (reply.Fault f) w'
   refused_answered f none it recovers =
       let point : (program : Program) (m : WorldModel) → Represents program w m → Represents program w' (dropped_by f m) =
       λ program m r. gone program w w' m r kept.numbers emptied sized it.mends.stop it.uses.model none (failures_after f m.failures) (it.uses.failures ∙ ap (failures_after f) r.failures) in
       record {
-        step = λ program means m r keeps. (dropped_by f m, failed (setting_of w program) m f (finds_cut program m r means (view_of w').keeps_model (λ a b. IsFailure f) recovers keeps), point program m r);
+        step = λ program means m r keeps. (dropped_by f m, failed (setting_of w program) m f (finds_cut program m r means (view_of w') (Err f) recovers keeps), point program m r);
         reopened = record { refused = it; session = none; slots = emptied; point = point };
         any_moment = mending_moments w w' kept.numbers it.uses.model it.mends.any_moment;
         elsewhere = log_within w.layout.vars w.layout.slots (view_of w) (view_of w') it.mends.elsewhere;
@@ -171,9 +156,10 @@ module _ {D T S : Type 0} {d t z : _} (w w' : World D T S d t z) (kept : KeepsSe
       }
 
   -- a session was begun
-  pub found_answered : (x : Opening D T d t) → Finds x w.layout.vars w.layout.slots (held_table w) (view_of w) → (o : core.Session D T d t) → held_of w' ≡ With o → o.core ≡ x.core → o.journal ≡ x.journal → (n : ℕ) → n ≡ (state_of o.core).count
+  pub found_answered : (x : Opening D T d t) → IsOpened w.layout.vars w.layout.slots (held_table w) (view_of w) x
+      → RecoversEither FoundIs (IsProgramOf t (held_table w)) w.layout.vars w.layout.slots (view_of w) (opened_device x) (Ok x) → (o : core.Session D T d t) → held_of w' ≡ With o → o.core ≡ x.core → o.journal ≡ x.journal → (n : ℕ) → n ≡ (state_of o.core).count
       → StandsForOne → IsDevice (view_of w) → IsAnswered w event.Reopen (reply.Opened n) w'
-  found_answered x it o some same begun n count one device =
+  found_answered x it either o some same begun n count one device =
       let now : view_of w' ≡ opened_device x = ap (λ (y : Held D T d t). d.view (disk_in y)) some ∙ ap (λ (y : owner.Journal D d). journal.device_of y) begun in
       let model : (view_of w').keeps_model → (opened_device x).keeps_model = subst (λ (v : DeviceView). v.keeps_model → (opened_device x).keeps_model) (sym now) (λ k. k) in
       let mends = subst (Mending w.layout.vars w.layout.slots (view_of w)) (sym now) it.mends in
@@ -182,7 +168,7 @@ module _ {D T S : Type 0} {d t z : _} (w w' : World D T S d t z) (kept : KeepsSe
       record {
         step = λ program means m r keeps. found program w w' m r kept.numbers emptied sized x o some same begun it.uses.failures (view_of w).seen (it.found (model keeps))
             (position_kept one program m w.layout.vars w.layout.slots small (position_of x) (found_of x) (held_of w) r.session device (it.uses.model (model keeps)) w.same_vars w.same_slots (it.found (model keeps)))
-            (finds_cut program m r means (opened_device x).keeps_model (λ a b. ∥ (found_of x ≡ a) ⊎ (found_of x ≡ b) ∥₁) it.recovers (model keeps)) n counted;
+            (finds_cut program m r means (opened_device x) (Ok x) either (model keeps)) n counted;
         reopened = (
           found_of x,
           position_of x,

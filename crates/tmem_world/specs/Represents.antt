@@ -7,7 +7,6 @@ use Rattle.tmem_disk.specs.declared.fault.Fault.{Fault}
 use Rattle.tmem_record.specs.State.{State}
 use Rattle.tmem_record.specs.Layout.{image_place, image_size}
 use Rattle.tmem_gate.specs.Calls.{WritesWithin}
-use Rattle.tmem_opening.specs.Opening.{IsFailure}
 use Rattle.tmem_world.specs.Parts.{what, disk_in, table_in, IsWith}
 use Rattle.tmem_core.specs.Program.{Program, IsProgramOf}
 use Rattle.tmem_tentative.specs.Cursors.{IsAt, HasEnded, given, answers}
@@ -175,7 +174,6 @@ abbrev pub device_after : {D T S : Type 0} {d t s : _} → Result (World D T S d
 device_after (Ok w) = view_of w
 device_after {d = d} (Err e) = d.view e.1
 
--- Opening found one of two states, and a run begins there; or memory or the device failed.
-abbrev pub OpensEither : {D T S : Type 0} {d t s : _} → Program → Result (World D T S d t s) (Fault × D) → ℕ → State → State → Type 0
-OpensEither program (Ok w) failures a b = (found : State) × (position : Position) × ∥ (found ≡ a) ⊎ (found ≡ b) ∥₁ × Represents program w (opening found position failures)
-OpensEither program (Err e) failures a b = IsFailure e.0
+-- a run begins at such a state, where so many calls have failed
+abbrev pub BeginsAt : {D T S : Type 0} {d t s : _} → ℕ → Program → World D T S d t s → (State → Type 0) → Type 0
+BeginsAt failures program w Such = (found : State) × (position : Position) × Such found × Represents program w (opening found position failures)

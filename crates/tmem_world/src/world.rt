@@ -1,16 +1,15 @@
 // One thread plays a list of events over a core and a journal.
 ghost use Rattle.std.specs.Prelude.{◌≡◌, ◌<◌, ◌⊎◌, ◌↔◌, ℕ, true, false, Some, None, [], length, All, IsTrue, IsSome, IfOk, IfErr, OnOk, replicate, slice_index_or, pos};
 ghost use Rattle.std.proofs.Props.{props};
-ghost use Rattle.tmem_disk.specs.Disk.{LeavesOnly};
 ghost use Rattle.tmem_record.specs.State.{State};
 ghost use Rattle.tmem_record.specs.Names.{has_name};
-ghost use Rattle.tmem_invariants.specs.Meanings.{Meanings, IsSound};
+ghost use Rattle.tmem_invariants.specs.Meanings.{Meanings};
 ghost use Rattle.tmem_tree.specs.Shapes.{AreMeant as HaveFootprints, AreWithin, names_of};
 ghost use Rattle.tmem_core.specs.Program.{Program, IsProgramOf};
 ghost use Rattle.tmem_gate.specs.Calls.{Uses};
-ghost use Rattle.tmem_journal.specs.Stands.{Position, StandsFor, StandsForEither};
+ghost use Rattle.tmem_journal.specs.Stands.{Position, StandsFor};
 ghost use Rattle.tmem_journal.specs.Calls.{FitsOn, fault_alone};
-ghost use Rattle.tmem_opening.specs.Opening.{Mending, OpeningRefused};
+ghost use Rattle.tmem_opening.specs.Opening.{Mending, OpeningRefused, RecoversEither, without_device};
 ghost use Rattle.tmem_world.specs.Parts.{what, layout_in, table_in};
 ghost use Rattle.tmem_world.specs.Slots.{FitsSlot};
 ghost use Rattle.tmem_world.specs.Facts.{FitsSlot-prop};
@@ -50,7 +49,7 @@ pub struct World<D: Disk, T: Invariants, S: StoredSteps> {
 }
 
 impl<D: Disk + Drop, T: Invariants + Drop, S: StoredSteps + Drop> World<D, T, S> {
-    ghost use Rattle.tmem_world.specs.Represents.{Represents, AreMeant, Means, IsStep, Plays, EachMoment, WritesInStore, HoldsSession, OpensEither, KeepsSetting, numbers_of, device_of, view_of, device_after, steps_of, held_table, durable_number};
+    ghost use Rattle.tmem_world.specs.Represents.{Represents, AreMeant, Means, IsStep, Plays, EachMoment, WritesInStore, HoldsSession, BeginsAt, KeepsSetting, numbers_of, device_of, view_of, device_after, steps_of, held_table, durable_number};
     ghost use Rattle.tmem_world.specs.AnyDevice.{Reopens, PlaysOnAnyDevice};
     ghost use Rattle.tmem_world.specs.Replies.{failures_by, failures_by_all, CallsNoDevice, IsFailedCall};
     ghost use Rattle.tmem_world.specs.Chain.{History, IsStore, OpensStore, StepsOn, PlaysOn};
@@ -83,10 +82,7 @@ impl<D: Disk + Drop, T: Invariants + Drop, S: StoredSteps + Drop> World<D, T, S>
 
         // Where every crash left one of two states, and both are sound, one of them is found, unless memory or the device
         // fails.
-        ensures recovers { (program : Program) (a b : State) → AreMeant S.StoredSteps T.Invariants steps table program
-            → IsSound program.tests program.names a.names a.values → IsSound program.tests program.names b.names b.values
-            → FitsOn vars slots (D.view disk).capacity → LeavesOnly (D.view disk) (StandsForEither vars slots a b)
-            → (device_after result).keeps_model → OpensEither program result (D.view disk).failures a b }
+        ensures recovers { RecoversEither (BeginsAt (D.view disk).failures) (AreMeant S.StoredSteps T.Invariants steps table) vars slots (D.view disk) (device_after result) (without_device result) }
 
         // Gates behind the log may be closed, and nothing else is written, whatever the answer.
         ensures mends { Mending vars slots (D.view disk) (device_after result) }

@@ -1,4 +1,4 @@
-use Rattle.std.proofs.Common.{◌≡◌, Some, sym, subst}
+use Rattle.std.proofs.Common.{◌≡◌, Some, sym, subst, rules}
 use Rattle.tmem_disk.specs.Disk.{SameDevice}
 use Rattle.tmem_disk.specs.declared.fault.Fault.TheVariants as fault
 use Rattle.tmem_record.specs.State.{State}
@@ -20,13 +20,18 @@ returns-in-Err-clause-refused g c =
     journal_refused _ c.args.vars c.args.slots old new c.in-Err.fault mends so.uses so.refused so.refused_looks
     (λ is. subst (λ x. SameDevice old (g.D.Disk.view x)) (sym (so.memory is)) (same old))
 
-pub returns-in-Err-clause-mends : goal.returns-in-Err-clause-mends
-returns-in-Err-clause-mends g c = (returns-in-Err-clause-refused g c).mends
-
-pub returns-in-Ok-made-clause-mends : goal.returns-in-Ok-made-clause-mends
-returns-in-Ok-made-clause-mends g c =
-    let opened = c.in-Ok.ensures in
-    mending c.args.vars c.args.slots (g.D.Disk.view c.args.disk) (journal.device_of c.in-Ok.journal) (g.met.D.Disk.is_device (journal.disk_of c.in-Ok.journal)) opened.seen opened.any_moment opened.elsewhere opened.looks
+pub returns-in-Ok-made-clause-opened : goal.returns-in-Ok-made-clause-opened
+returns-in-Ok-made-clause-opened g c =
+    let opened = c.in-Ok.ensures in record {
+      found = search rules;
+      sound = search rules;
+      leaves = search rules;
+      values = search rules;
+      fits = search rules;
+      holds = search rules;
+      uses = search rules;
+      mends = mending c.args.vars c.args.slots (g.D.Disk.view c.args.disk) (journal.device_of c.in-Ok.journal) (g.met.D.Disk.is_device (journal.disk_of c.in-Ok.journal)) opened.seen opened.any_moment opened.elsewhere opened.looks;
+    }
 
 pub returns-in-Err-made-clause-refused : goal.returns-in-Err-made-clause-refused
 returns-in-Err-made-clause-refused g c =
@@ -37,9 +42,6 @@ returns-in-Err-made-clause-refused g c =
     subst (λ x. OpeningRefused (IsProgramOf g.T.Invariants c.args.table) c.args.vars c.args.slots old fault.Memory (g.D.Disk.view x)) (sym c.into_disk-in-Err-made.ensures)
     (given_up g.T.Invariants c.args.table c.args.vars c.args.slots old (journal.device_of j) opened.uses opened.fits.2 mends (journal.position_of j) (journal.state_of j) opened.found
     (λ m stated. subst (λ (x : State). IsSound m (g.T.Invariants.names c.args.table) x.names x.values) c.state.ensures (c.in-Ok-new.ensures.sound m stated)))
-
-pub returns-in-Err-made-clause-mends : goal.returns-in-Err-made-clause-mends
-returns-in-Err-made-clause-mends g c = (returns-in-Err-made-clause-refused g c).mends
 
 pub returns-in-Err-new-clause-refused : goal.returns-in-Err-new-clause-refused
 returns-in-Err-new-clause-refused g c =
@@ -59,9 +61,6 @@ returns-in-Err-new-clause-refused g c =
     (λ is p are.
     subst (λ (x : State). IsSound p.tests p.names x.names x.values) c.state.ensures
     (subst (λ ns. IsSound p.tests ns c.state.result.now.names c.state.result.now.values) (sym are.names) (so.memory p.tests are.tests is))))
-
-pub returns-in-Err-new-clause-mends : goal.returns-in-Err-new-clause-mends
-returns-in-Err-new-clause-mends g c = (returns-in-Err-new-clause-refused g c).mends
 
 pub returns-in-Err-new-clause-recovers : goal.returns-in-Err-new-clause-recovers
 returns-in-Err-new-clause-recovers g c = λ p a b are sound_a sound_b fits left keeps.

@@ -1,4 +1,4 @@
-use Rattle.std.proofs.Common.{◌≡◌, ℕ, ◌+◌, ◌++◌, Bool, Result, length, sym, ap, ◌∙◌, subst, arith}
+use Rattle.std.proofs.Common.{◌≡◌, ℕ, ◌+◌, ◌++◌, Bool, Result, length, sym, ap, ◌∙◌, subst, arith, rules}
 use Rattle.tmem_disk.specs.declared.fault.Fault.{Fault}
 use Rattle.tmem_record.specs.State.{State}
 use Rattle.tmem_record.proofs.Laws.{count-fold, IsPrefix-self}
@@ -40,27 +40,27 @@ invariant_of-self g c =
     (c.decide-decision.ensures.settles.view ∙ ap (accepting (taken_by d a)) c.note_durable.ensures) c.trim-durable.ensures.least.0 c.trim-durable.ensures.most
     (c.enter.ensures.side ∙ ap (λ (v : CoreView). record v { accepted = v.accepted ++ marked c.trim-durable.new.pass.mark (taken_by d a) }) c.trim-durable.ensures.core)
 
-pub returns-clause-sound : goal.returns-clause-sound
-returns-clause-sound g c = (invariant_of-self g c).sound c.enter.new.side.accepted (IsPrefix-self c.enter.new.side.accepted)
-
 -- what is answered by the core that learned how many are durable, by what its seat showed before
 as_seen : (g : _) (c : goal.After-enter g) (F : Bool → State → ℕ → Result Settled Fault) → F (is_shut_of c.note_durable.new.self) (state_of c.note_durable.new.self) (durable_of c.note_durable.new.self)
     ≡ F c.args.self.now.is_shut (after g.N.StoreNaming.opening c.args.self.now.accepted) c.enter.new.side.trimmed
 as_seen g c F =
-    let n = c.trim-durable.result in
-    ap (λ (v : core.CoreView _). F v.is_shut v.state v.durable) c.note_durable.ensures ∙ ap (λ (s : State). F (is_shut_of c.self.inside.core) s n) c.self.invariant.state
-    ∙ ap (λ (v : CoreSeatView). F v.is_shut (after g.N.StoreNaming.opening v.accepted) n) c.self.view_is
+    ap (λ (v : core.CoreView _). F v.is_shut v.state v.durable) c.note_durable.ensures ∙ ap (λ (s : State). F (is_shut_of c.self.inside.core) s c.trim-durable.result) c.self.invariant.state
+    ∙ ap (λ (v : CoreSeatView). F v.is_shut (after g.N.StoreNaming.opening v.accepted) c.trim-durable.result) c.self.view_is
     ∙ sym (ap (λ (v : CoreView). F c.args.self.now.is_shut (after g.N.StoreNaming.opening c.args.self.now.accepted) v.trimmed) (c.enter.ensures.side ∙ ap (λ (v : CoreView). record v { accepted = v.accepted ++ marked c.trim-durable.new.pass.mark (taken_by c.decide-decision.result c.args.attempt.now) }) c.trim-durable.ensures.core))
 
 its_program : (g : _) (c : goal.After-enter g) → IsProgramOf g.T.Invariants (table_of c.note_durable.new.self) g.N.ProgramNaming.program
 its_program g c = subst (λ x. IsProgramOf g.T.Invariants x g.N.ProgramNaming.program) (sym (ap (λ (v : core.CoreView _). v.table) c.note_durable.ensures)) c.self.invariant.table
 
-pub returns-clause-answer : goal.returns-clause-answer
-returns-clause-answer g c =
-    let p = g.N.ProgramNaming.program in
-    c.decide-decision.ensures.settles.answer p (its_program g c) ∙ as_seen g c (λ shut s n. settle_answer p shut s n c.args.attempt.now)
-
-pub returns-clause-verdict : goal.returns-clause-verdict
-returns-clause-verdict g c = λ tx right.
-    let p = g.N.ProgramNaming.program in
-    c.decide-decision.ensures.settles.verdict p tx (its_program g c) right ∙ as_seen g c (λ shut s n. judged shut s n c.args.attempt.now.reads.entries (verdict p tx s))
+pub returns-clause-decided : goal.returns-clause-decided
+returns-clause-decided g c =
+    let p = g.N.ProgramNaming.program in record {
+      trimmed = search rules;
+      answered = c.decide-decision.ensures.settles.answer p (its_program g c) ∙ as_seen g c (λ shut s n. settle_answer p shut s n c.args.attempt.now);
+      verdict = λ tx right. c.decide-decision.ensures.settles.verdict p tx (its_program g c) right ∙ as_seen g c (λ shut s n. judged shut s n c.args.attempt.now.reads.entries (verdict p tx s));
+      number = count-after g.N.StoreNaming.opening g.N.Naming.name.start c.args.self.now.accepted c.self.invariant.starts;
+      accepted = search rules;
+      knows = search rules;
+      begins = search rules;
+      sound = (invariant_of-self g c).sound c.enter.new.side.accepted (IsPrefix-self c.enter.new.side.accepted);
+      rest = search rules;
+    }

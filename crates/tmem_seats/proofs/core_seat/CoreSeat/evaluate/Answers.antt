@@ -1,4 +1,4 @@
-use Rattle.std.proofs.Common.{◌≡◌, ℤ, true, Some, length, refl, ap, sym, ◌∙◌, subst, rules, w64}
+use Rattle.std.proofs.Common.{◌≡◌, ℤ, true, Some, length, ap, sym, ◌∙◌, subst, rules, w64}
 use Rattle.std.proofs.Math.Facts.{to_z-of_z}
 use Rattle.tmem_disk.specs.Name.{has_name}
 use Rattle.tmem_core.specs.SettleAnswer.{is_stale}

@@ -16,10 +16,10 @@ use Rattle.tmem_world.proofs.world.World.open.Goals as goal
 pub returns-in-Err-clause-chain : goal.returns-in-Err-clause-chain
 returns-in-Err-clause-chain g c = λ program h means store keeps.
     let old = g.D.Disk.view c.args.disk in
-    let so = c.in-Err.ensures in
+    let so = c.in-Err.ensures.refused in
     let safe = store.device.each (so.uses.model keeps) old.seen ((g.met.D.Disk.is_device c.args.disk).seen_may_stay (so.uses.model keeps)) in
     refused_back _ c.in-Err.fault c.in-Err.disk refl program c.args.vars c.args.slots h old store
-    (only_failed so.refused
+    (only_failed so
     (λ f by. not_refused c.stands_for_one.ensures program c.args.vars c.args.slots store.fits.layout h old store safe c.refused_stands_for_none.ensures f (by keeps store.fits))
     (λ un. (un.3 program means.invariants).1 (sound_is c.stands_for_one.ensures program c.args.vars c.args.slots store.fits.layout h old store safe un.0 un.1 (un.2 keeps))))
     so.uses.capacity so.uses.model so.mends
@@ -27,55 +27,55 @@ returns-in-Err-clause-chain g c = λ program h means store keeps.
 -- of a world that is given up
 pub returns-in-Err-empty_slots-clause-mends : goal.returns-in-Err-empty_slots-clause-mends
 returns-in-Err-empty_slots-clause-mends g c =
-    let so = c.in-Ok.ensures in
+    let so = c.in-Ok.ensures.opened in
     let x = c.in-Ok.opening in
     (handed_back g.T.Invariants c.args.table _ _ (g.D.Disk.view c.args.disk) g.D.Disk.view c.into_disk.result _ c.into_disk.ensures so.uses so.fits.2 so.mends (position_of x) (found_of x) so.found so.sound).0
 
 pub returns-in-Err-empty_slots-clause-refused : goal.returns-in-Err-empty_slots-clause-refused
 returns-in-Err-empty_slots-clause-refused g c =
-    let so = c.in-Ok.ensures in
+    let so = c.in-Ok.ensures.opened in
     let x = c.in-Ok.opening in
     (handed_back g.T.Invariants c.args.table _ _ (g.D.Disk.view c.args.disk) g.D.Disk.view c.into_disk.result _ c.into_disk.ensures so.uses so.fits.2 so.mends (position_of x) (found_of x) so.found so.sound).1
 
 pub returns-in-Err-empty_slots-clause-chain : goal.returns-in-Err-empty_slots-clause-chain
 returns-in-Err-empty_slots-clause-chain g c = λ program h means store keeps.
-    let so = c.in-Ok.ensures in
+    let so = c.in-Ok.ensures.opened in
     given_back _ Memory c.into_disk.result refl program c.args.vars c.args.slots h (g.D.Disk.view c.args.disk) store c.in-Ok.opening.journal c.into_disk.ensures refl so.uses so.mends
 
 pub returns-clause-found : goal.returns-clause-found
 returns-clause-found g c =
     let x = c.in-Ok.opening in
-    let so = c.in-Ok.ensures in
+    let so = c.in-Ok.ensures.opened in
     let begun = c.begin-session.ensures in (
       found_of x,
       position_of x,
       λ program means.
           opens program x c.begin-session.result.0 begun.core begun.journal _ refl c.in-Ok-empty_slots.ensures.len c.in-Ok-empty_slots.ensures.emptied (g.D.Disk.view c.args.disk).failures so.uses.failures
-          c.args.table so.sound (subst (λ k. IsProgramOf g.T.Invariants k program) (ap (λ k. k.table) begun.core ∙ so.table) means.invariants),
+          c.args.table so.sound (subst (λ k. IsProgramOf g.T.Invariants k program) (ap (λ k. k.table) begun.core ∙ so.holds) means.invariants),
       λ k. so.found (subst (λ j. (journal.device_of j).keeps_model) begun.journal k),
     )
 
 pub returns-clause-recovers : goal.returns-clause-recovers
 returns-clause-recovers g c = λ program a b means sound_a sound_b fits left keeps.
     let x = c.in-Ok.opening in
-    let so = c.in-Ok.ensures in
+    let so = c.in-Ok.ensures.opened in
     let begun = c.begin-session.ensures in (
       found_of x,
       position_of x,
-      so.recovers program a b means.invariants sound_a sound_b fits left (subst (λ j. (journal.device_of j).keeps_model) begun.journal keeps),
+      c.in-Ok.ensures.recovers program a b means.invariants sound_a sound_b fits left (subst (λ j. (journal.device_of j).keeps_model) begun.journal keeps),
       opens program x c.begin-session.result.0 begun.core begun.journal _ refl c.in-Ok-empty_slots.ensures.len c.in-Ok-empty_slots.ensures.emptied (g.D.Disk.view c.args.disk).failures so.uses.failures
           c.args.table so.sound means.invariants,
     )
 
 pub returns-clause-mends : goal.returns-clause-mends
 returns-clause-mends g c =
-    subst (λ j. Mending c.args.vars c.args.slots (g.D.Disk.view c.args.disk) (journal.device_of j)) (sym c.begin-session.ensures.journal) c.in-Ok.ensures.mends
+    subst (λ j. Mending c.args.vars c.args.slots (g.D.Disk.view c.args.disk) (journal.device_of j)) (sym c.begin-session.ensures.journal) c.in-Ok.ensures.opened.mends
 
 pub returns-clause-chain : goal.returns-clause-chain
 returns-clause-chain g c = λ program h means store keeps.
     let old = g.D.Disk.view c.args.disk in
     let x = c.in-Ok.opening in
-    let so = c.in-Ok.ensures in
+    let so = c.in-Ok.ensures.opened in
     let begun = c.begin-session.ensures in
     let keeps' = subst (λ j. (journal.device_of j).keeps_model) begun.journal keeps in
     let safe = store.device.each (so.uses.model keeps') old.seen ((g.met.D.Disk.is_device c.args.disk).seen_may_stay (so.uses.model keeps')) in

@@ -1,10 +1,12 @@
-use Rattle.std.proofs.Common.{◌≡◌, refl, sym, ◌∙◌, ap, subst}
+use Rattle.std.proofs.Common.{◌≡◌, Ok, Err, refl, sym, ◌∙◌, ap, subst}
 use Rattle.tmem_core.specs.Program.{IsProgramOf}
 use Rattle.tmem_journal.specs.Held as journal
-use Rattle.tmem_opening.specs.Opening.{OpeningRefused, IsFailure}
+use Rattle.tmem_opening.specs.Held.{device_of as opened_device}
+use Rattle.tmem_opening.specs.Opening.{FoundIs, IsOpened, OpeningRefused, RecoversEither}
+use Rattle.tmem_opening.specs.declared.opening.Opening.{Opening}
 use Rattle.tmem_world.specs.Represents.{KeepsSetting, device_of}
 use Rattle.tmem_world.proofs.Points.{held_is}
-use Rattle.tmem_world.proofs.ReopenedPoints.{OfEither, Finds, taken, refused_answered, found_answered}
+use Rattle.tmem_world.proofs.ReopenedPoints.{taken, refused_answered, found_answered}
 use Rattle.tmem_world.proofs.world.World.reopen.Goals as goal
 
 pub returns-in-Err : goal.returns-in-Err
@@ -16,21 +18,22 @@ returns-in-Err g c =
     let new = g.D.Disk.view c.in-Err.disk in
     let it = was (λ x y. OpeningRefused (IsProgramOf g.T.Invariants y) w.layout.vars w.layout.slots (g.D.Disk.view x) c.in-Err.fault new) so.refused in
     refused_answered w _ (record { numbers = refl; steps = refl; table = was (λ x y. c.in-Err.table ≡ y) so.back; model = it.uses.model }) c.clear.ensures.emptied (c.clear.ensures.len ∙ w.sized) c.in-Err.fault (λ none. none) it
-    (was (λ x y. OfEither g.T.Invariants y w.layout.vars w.layout.slots (g.D.Disk.view x) new.keeps_model (λ a b. IsFailure c.in-Err.fault)) so.recovers)
+    (was (λ x y. RecoversEither {A = Opening g.row.D.Denot g.row.T.Denot g.D.Disk g.T.Invariants} FoundIs (IsProgramOf g.T.Invariants y) w.layout.vars w.layout.slots (g.D.Disk.view x) new (Err c.in-Err.fault)) so.recovers)
 
 pub returns-in-Ok : goal.returns-in-Ok
 returns-in-Ok g c =
     let w = c.args.self.now in
     let parts = c.into_parts-disk.ensures in
     let x = c.in-Ok.opening in
-    let so = c.in-Ok.ensures in
+    let so = c.in-Ok.ensures.opened in
     let begun = c.begin-session.ensures in
     let was = taken w c.unwrap.result c.into_parts-disk.result.0 c.into_parts-disk.result.1 (held_is w.held w.here c.unwrap.result (sym c.take.ensures.value ∙ c.unwrap.ensures)) parts.disk parts.table in
-    let it = was (λ disk table. Finds x w.layout.vars w.layout.slots table (g.D.Disk.view disk)) (record { uses = so.uses; mends = so.mends; found = so.found; sound = so.sound; recovers = so.recovers }) in
+    let it = was (λ disk table. IsOpened w.layout.vars w.layout.slots table (g.D.Disk.view disk) x) so in
+    let either = was (λ disk table. RecoversEither FoundIs (IsProgramOf g.T.Invariants table) w.layout.vars w.layout.slots (g.D.Disk.view disk) (opened_device x) (Ok x)) c.in-Ok.ensures.recovers in
     let kept : KeepsSetting w _ = record {
       numbers = refl;
       steps = refl;
-      table = ap (λ k. k.table) begun.core ∙ was (λ disk table. x.core.table ≡ table) so.table;
+      table = ap (λ k. k.table) begun.core ∙ it.holds;
       model = λ k. it.uses.model (subst (λ j. (journal.device_of j).keeps_model) begun.journal k);
     } in
-    found_answered w _ kept c.clear.ensures.emptied (c.clear.ensures.len ∙ w.sized) x it c.begin-session.result.0 refl begun.core begun.journal c.count-count.result c.count-count.ensures c.stands_for_one.ensures (g.met.D.Disk.is_device (device_of w))
+    found_answered w _ kept c.clear.ensures.emptied (c.clear.ensures.len ∙ w.sized) x it either c.begin-session.result.0 refl begun.core begun.journal c.count-count.result c.count-count.ensures c.stands_for_one.ensures (g.met.D.Disk.is_device (device_of w))
