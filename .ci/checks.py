@@ -43,6 +43,23 @@ def listed(*patterns):
     return [name for name in names if os.path.isfile(name)]
 
 
+class KeptStore:
+    """A store that is kept as text: `numbers` of variables and of log slots, `size` in bytes, and `parts`, each a place and the bytes
+    from there on. Every other byte is 0. Below comments, the first line of the file has the three numbers, and each further line a part,
+    whose bytes are in hexadecimal."""
+
+    def __init__(self, path):
+        lines = [line.split() for line in text(path).decode().splitlines() if not line.startswith("#")]
+        *self.numbers, self.size = map(int, lines[0])
+        self.parts = [(int(place), bytes.fromhex(part)) for place, part in lines[1:]]
+
+    def content(self):
+        content = bytearray(self.size)
+        for place, part in self.parts:
+            content[place : place + len(part)] = part
+        return bytes(content)
+
+
 def run(words, given=b"", room=None, **env):
     """Runs a program on an input: its status, its output, and what it says on the error stream."""
     try:

@@ -7,3 +7,4 @@ mod flushing;
 mod images;
 mod journals;
 mod pages;
+mod version_1;

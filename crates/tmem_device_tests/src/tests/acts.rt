@@ -21,10 +21,14 @@ pub(super) enum Act<'a> {
     Row,
     /// A new device of so many zeros, in the place of any other.
     Makes(u64),
+    /// A new device of so many bytes, in the place of any other: these at these places, and zeros elsewhere. It is synced.
+    MakesWith(u64, &'a [(u64, &'a [u8])]),
     /// It holds so many bytes.
     Size(u64),
     /// A read from a place on gives these bytes.
     Reads(u64, &'a [u8]),
+    /// It holds these bytes at these places, and zeros elsewhere.
+    HoldsBytes(&'a [(u64, &'a [u8])]),
     /// A read of so many bytes from a place on fails.
     ReadFails(u64, usize),
     /// These bytes are written from a place on.
@@ -84,8 +88,8 @@ pub(super) enum Act<'a> {
     Holds(u64, i64),
     /// In a session: variables have these numbers.
     HoldsAll(&'a [(u16, i64)]),
-    /// In a session: this name is registered.
-    HoldsName(&'a str),
+    /// In a session: these names are registered, in this order, and no others.
+    HoldsNames(&'a [&'a str]),
     /// In a session: each variable has what a run of so many batches leaves in it.
     HoldsRun(u16),
     /// Whether a session was closed by a failure.
@@ -195,6 +199,20 @@ fn made(alloc: Global, size: u64) -> Result<Device, Fault> {
     Ok(CountDisk::new(SimDisk::new(alloc, size)?))
 }
 
+/// A device of so many bytes, these at these places and zeros elsewhere, that is synced.
+fn made_with(alloc: Global, size: u64, parts: &[(u64, &[u8])]) -> Result<Device, Fault> {
+    let mut disk = made(alloc, size)?;
+    for (at, bytes) in parts {
+        if write(&mut disk, *at, bytes) != Some(Ok(())) {
+            return Err(Fault::Device);
+        }
+    }
+    match disk.sync() {
+        Ok(()) => Ok(disk),
+        Err(_) => Err(Fault::Device),
+    }
+}
+
 /// The store after an act, and whether it is answered so.
 fn after(alloc: Global, store: Store, act: &Act) -> Result<(Store, bool), Fault> {
     match store {
@@ -224,7 +242,7 @@ fn is_so_of_session(
         Act::Checkpoints(answer) => Ok(is_checkpointed(journal, *answer)),
         Act::Holds(count, number) => Ok(holds(journal, *count, *number)),
         Act::HoldsAll(numbers) => Ok(holds_all(journal, numbers)),
-        Act::HoldsName(name) => Ok(journal.state().has(&Name::new(name)?)),
+        Act::HoldsNames(names) => Ok(holds_names(journal, names)),
         Act::HoldsRun(batches) => Ok(holds_run(journal, *batches)),
         Act::IsClosed(is_closed) => Ok(journal.is_closed() == *is_closed),
         Act::FlushesRun(batches) => is_run_flushed(alloc, journal, *batches),
@@ -264,9 +282,19 @@ fn holds_all(journal: &Journal<Device>, numbers: &[(u16, i64)]) -> bool {
     numbers.iter().all(|(var, number)| values.get(usize::from(*var)) == Some(number))
 }
 
+fn holds_names(journal: &Journal<Device>, names: &[&str]) -> bool {
+    let had = journal.state().names();
+    had.len() == names.len()
+        && had
+            .iter()
+            .zip(names)
+            .all(|(name, letters)| name.as_str() == *letters)
+}
+
 fn after_device(alloc: Global, mut disk: Device, act: &Act) -> Result<(Store, bool), Fault> {
     match act {
         Act::Makes(size) => Ok((Store::Closed(made(alloc, *size)?), true)),
+        Act::MakesWith(size, parts) => Ok((Store::Closed(made_with(alloc, *size, parts)?), true)),
         Act::Opens(vars, slots, answer) => Ok(opened(alloc, disk, *vars, *slots, *answer)),
         _ => {
             let is_so = is_so_of_device(alloc, &mut disk, act)?;
@@ -278,10 +306,31 @@ fn after_device(alloc: Global, mut disk: Device, act: &Act) -> Result<(Store, bo
 fn is_so_of_device(alloc: Global, disk: &mut Device, act: &Act) -> Result<bool, Fault> {
     Ok(
         is_so_of_any(alloc, disk, act)?
+            || is_content(alloc, disk, act)?
             || is_so_of_counting(disk, act)
             || is_so_of_power(&mut disk.inner, act)
             || is_so_of_images(alloc, disk, act)?,
     )
+}
+
+/// Whether its whole content is so.
+fn is_content(alloc: Global, disk: &mut Device, act: &Act) -> Result<bool, Fault> {
+    match act {
+        Act::HoldsBytes(parts) => {
+            let mut wanted = made_with(alloc, disk.size(), parts)?;
+            Ok(content(alloc, disk)? == content(alloc, &mut wanted)?)
+        }
+        _ => Ok(false),
+    }
+}
+
+/// All bytes of a device.
+fn content(alloc: Global, disk: &mut Device) -> Result<Vec<u8>, Fault> {
+    let mut bytes = vec![in alloc; 0; disk.size() as usize]?;
+    match read(disk, 0, &mut bytes) {
+        Some(Ok(())) => Ok(bytes),
+        _ => Err(Fault::Device),
+    }
 }
 
 /// The session of a device, or the device that is handed back, and whether opening it is answered so.

@@ -5,7 +5,7 @@
 //! has 30 bytes.
 use super::acts::Act::{
     Case, Checkpoints, Closes, CountsAnew, FlushesBoth, FlushesName, FlushesRun, FlushesTo,
-    FlushesTwo, Formats, HoldsAll, HoldsName, HoldsRun, Made, MadeBytes, Makes, Opens, Row, Wrote,
+    FlushesTwo, Formats, HoldsAll, HoldsNames, HoldsRun, Made, MadeBytes, Makes, Opens, Row, Wrote,
 };
 use super::acts::{Act, play};
 use std::test::Fail;
@@ -95,7 +95,7 @@ static PAGES: &[Act<'static>] = &[
         (512, 1),
     ]),
     Opens(128, 2, Ok(1)),
-    HoldsName("ab"),
+    HoldsNames(&["ab"]),
     // slot 1 begins at 10752
     Case("a batch that the log does not take marks no page"),
     Makes(14848),
