@@ -44,20 +44,37 @@ def listed(*patterns):
 
 
 class KeptStore:
-    """A store that is kept as text: `numbers` of variables and of log slots, `size` in bytes, and `parts`, each a place and the bytes
-    from there on. Every other byte is 0. Below comments, the first line of the file has the three numbers, and each further line a part,
-    whose bytes are in hexadecimal."""
+    """A store that is kept as text: `numbers` of variables and of log slots, its `parts`, each a place and the bytes from there on, its
+    `content`, which has 0 elsewhere, and the content `after` an opening. Below comments, the first line of the file has the numbers and
+    the size in bytes, and each further line a part, whose bytes are in hexadecimal. Beside it, with `.after`, are the parts that an
+    opening changes."""
 
     def __init__(self, path):
-        lines = [line.split() for line in text(path).decode().splitlines() if not line.startswith("#")]
-        *self.numbers, self.size = map(int, lines[0])
-        self.parts = [(int(place), bytes.fromhex(part)) for place, part in lines[1:]]
+        (*self.numbers, size), *parts = (line.split() for line in text(path).decode().splitlines() if not line.startswith("#"))
+        self.numbers = [*map(int, self.numbers)]
+        self.parts = [(int(place), bytes.fromhex(part)) for place, part in parts]
+        self.content = self.with_parts(bytes(int(size)), self.parts)
+        changed = (line.split() for line in text(f"{path}.after").decode().splitlines())
+        self.after = self.with_parts(self.content, [(int(place), bytes.fromhex(part)) for place, part in changed])
 
-    def content(self):
-        content = bytearray(self.size)
-        for place, part in self.parts:
+    @staticmethod
+    def with_parts(content, parts):
+        content = bytearray(content)
+        for place, part in parts:
             content[place : place + len(part)] = part
         return bytes(content)
+
+
+def by_version_1(content, vars, slots):
+    """What a program that knows version 1 alone answers to a content, by the plain model of fuzz/: how many transactions it opens, or a
+    fault."""
+    sys.path.append("fuzz")
+    from model import Layout, Opened, Refused
+
+    try:
+        return f"opened {Opened(bytearray(content), Layout(vars, slots), 1).count}"
+    except Refused as refused:
+        return str(refused)
 
 
 def run(words, given=b"", room=None, **env):

@@ -1,4 +1,4 @@
-"""A plain model of the program: the bytes of docs/FORMAT.md, and the scripts of docs/SCRIPT.md.
+"""A plain model of the program: the bytes of docs/FORMAT.md, in both versions, and the scripts of docs/SCRIPT.md.
 
 Which refusal comes first is from docs/API.md and docs/MODEL.md. It keeps the whole content of a device as bytes, and reads it anew at each opening. Memory
 and the device never fail here."""
@@ -6,6 +6,9 @@ import re
 import struct
 
 OPEN = 0xA5
+# The version of the format that is written; and what the last byte of an image's header is in each version.
+NEWEST = 2
+MARKS = {1: 0, 2: 2}
 MOST = 2**64 - 1
 # Those that the program has, in its order: the variables that they are about, and what they say of their values.
 TABLE = {
@@ -47,26 +50,27 @@ class Layout:
         return 1 <= self.vars <= 1024 and 2 <= self.slots <= 64
 
 
-def block(layout):
-    return (bytes([OPEN]) + b"TMEM\1" + struct.pack("<HH", layout.vars, layout.slots)).ljust(512, b"\0")
+def block(layout, version=NEWEST):
+    return (bytes([OPEN]) + b"TMEM" + struct.pack("<BHH", version, layout.vars, layout.slots)).ljust(512, b"\0")
 
 
 def spelled(names):
     return b"".join(bytes([len(it)]) + it.encode() for it in names)
 
 
-def header(generation, count, names):
+def header(generation, count, names, version=NEWEST):
     """An image's header behind its gate."""
-    return (struct.pack("<QQB", generation, count, len(names)) + spelled(names)).ljust(2047, b"\0")
+    return (struct.pack("<QQB", generation, count, len(names)) + spelled(names)).ljust(2046, b"\0") + bytes([MARKS[version]])
 
 
 def pages(layout, values):
     return struct.pack(f"<{layout.vars}q", *values).ljust(512 * layout.pages, b"\0")
 
 
-def record(writes, names):
+def record(writes, names, retired=(), version=NEWEST):
     found = bytes([len(writes)]) + b"".join(struct.pack("<Hq", var, value) for var, value in writes)
-    return found + bytes([len(names)]) + spelled(names)
+    found += bytes([len(names)]) + spelled(names)
+    return found if version == 1 else found + bytes([len(retired)]) + spelled(retired)
 
 
 def batch(generation, first, records):
@@ -104,6 +108,11 @@ class Reader:
         return found
 
 
+def after(registered, names, retired):
+    """The registered names after an effect that checks some and retires others."""
+    return sorted({*registered} - {*retired} | {*names})
+
+
 def damaged_unless(condition):
     if not condition:
         raise Refused("fault 9 damaged")
@@ -111,23 +120,26 @@ def damaged_unless(condition):
 
 class Opened:
     """What an opening finds on a content: the chosen copy, its generation, how many slots are used, the count, the names and the
-    values. It closes stale gates in the content, also where a name of the state is missing or an invariant is false."""
+    values. It closes stale gates in the content, and writes an image of version 2 where the chosen one is of version 1, also where a
+    name of the state is missing or an invariant is false. With `newest` 1 it is an opening by a program that knows version 1 alone."""
 
-    def __init__(self, content, layout):
+    def __init__(self, content, layout, newest=NEWEST):
         self.content, self.layout = content, layout
         if not layout.is_allowed() or len(content) < layout.end:
             raise Refused("fault 17 geometry")
         if content[:5] != bytes([OPEN]) + b"TMEM":
             raise Refused("fault 8 notformatted")
         theirs = Layout(*struct.unpack_from("<HH", content, 6))
-        damaged_unless(theirs.is_allowed() and content[:512] == block(theirs))
+        damaged_unless(theirs.is_allowed() and 1 <= content[5] <= newest and content[:512] == block(theirs, content[5]))
         if (theirs.vars, theirs.slots) != (layout.vars, layout.slots):
             raise Refused("fault 17 geometry")
-        self.read_image()
+        self.read_image(newest)
         self.read_log()
         for k in range(self.used, layout.slots):
             if content[layout.slot(k)] == OPEN:
                 content[layout.slot(k)] = 0
+        if self.version < newest:
+            self.next_image()
         for name in sorted(self.names):
             if name not in known(layout.vars):
                 raise Refused(f"fault 10 missing {name}")
@@ -139,7 +151,7 @@ class Opened:
         """The generation in a cell, if its gate is open."""
         return struct.unpack_from("<Q", self.content, place + 1)[0] if self.content[place] == OPEN else None
 
-    def read_image(self):
+    def read_image(self, newest):
         layout = self.layout
         found = [self.generation_at(layout.image(copy)) for copy in (0, 1)]
         damaged_unless(found[0] != found[1])
@@ -147,7 +159,10 @@ class Opened:
         self.generation = found[self.copy]
         damaged_unless(self.generation >= 1)
         at = layout.image(self.copy)
-        reader = Reader(self.content[at + 9 : at + 2048])
+        found = [version for version, mark in MARKS.items() if mark == self.content[at + 2047]]
+        damaged_unless(found and self.content[5] <= found[0] <= newest)
+        self.version = found[0]
+        reader = Reader(self.content[at + 9 : at + 2047])
         self.count = reader.number("<Q")
         count = reader.number("<B")
         damaged_unless(count <= 64)
@@ -155,7 +170,7 @@ class Opened:
         damaged_unless(all(a < b for a, b in zip(self.names, self.names[1:])))
         self.values = list(struct.unpack_from(f"<{layout.vars}q", self.content, at + 2048))
         # (an image has one encoding, so what is not spelled is 0)
-        damaged_unless(self.content[at + 1 : at + 2048] == header(self.generation, self.count, self.names))
+        damaged_unless(self.content[at + 1 : at + 2048] == header(self.generation, self.count, self.names, self.version))
         damaged_unless(self.content[at + 2048 : at + layout.size] == pages(layout, self.values))
 
     def read_log(self):
@@ -177,18 +192,38 @@ class Opened:
             damaged_unless(count <= 64)
             writes = [(reader.number("<H"), reader.number("<q")) for _ in range(count)]
             damaged_unless(len({var for var, _ in writes}) == count and all(var < self.layout.vars for var, _ in writes))
-            count = reader.number("<B")
-            damaged_unless(count <= 8)
-            names = reader.names(count)
-            damaged_unless(len({*names}) == count and (writes or names))
-            self.apply(writes, names)
-        damaged_unless(self.count <= MOST and len(self.names) <= 64)
+            names = self.some_names(reader)
+            retired = self.some_names(reader) if self.version == 2 else []
+            damaged_unless((writes or names or retired) and not {*names} & {*retired})
+            self.apply(writes, names, retired)
+            damaged_unless(self.count <= MOST and len(self.names) <= 64)
 
-    def apply(self, writes, names):
+    def some_names(self, reader):
+        """The names of a record that it checks, or those that it retires."""
+        count = reader.number("<B")
+        damaged_unless(count <= 8)
+        names = reader.names(count)
+        damaged_unless(len({*names}) == count)
+        return names
+
+    def apply(self, writes, names, retired):
         self.count += 1
-        self.names = sorted({*self.names, *names})
+        self.names = after(self.names, names, retired)
         for var, value in writes:
             self.values[var] = value
+
+    def next_image(self):
+        """Writes the state as the next image, of the newest version, into the copy that is not chosen, and closes the log."""
+        if self.generation == MOST:
+            raise Refused("fault 15 spent")
+        layout = self.layout
+        self.generation, self.copy, self.used, self.version = self.generation + 1, 1 - self.copy, 0, NEWEST
+        at = layout.image(self.copy)
+        image = bytes([OPEN]) + header(self.generation, self.count, self.names) + pages(layout, self.values)
+        self.content[at : at + layout.size] = image
+        for k in range(layout.slots):
+            if self.content[layout.slot(k)] == OPEN:
+                self.content[layout.slot(k)] = 0
 
     def broken(self, names, values):
         """The first of these invariants that is false."""
@@ -260,20 +295,21 @@ class Run:
     def settled(self, attempt):
         if attempt.ending != "normal":
             return attempt.ending
-        if not attempt.writes and not attempt.checks:
+        if not attempt.writes and not attempt.checks and not attempt.retired:
             return f"seen {self.count} {','.join(map(str, attempt.registers))}"
         values = list(self.values)
         for var, value in attempt.writes.items():
             values[var] = value
-        broken = self.stored.broken({*self.names, *attempt.checks}, values)
+        names = after(self.names, attempt.checks, attempt.retired)
+        broken = self.stored.broken(names, values)
         if broken:
             return f"refused {broken}"
         if len(self.waiting) == 256:
             return "fault 5 full"
         if self.count == MOST:
             return "fault 15 spent"
-        self.waiting.append((list(attempt.writes.items()), attempt.checks))
-        self.values, self.names = values, sorted({*self.names, *attempt.checks})
+        self.waiting.append((list(attempt.writes.items()), attempt.checks, attempt.retired))
+        self.values, self.names = values, names
         self.count += 1
         return f"committed {self.count - 1}"
 
@@ -284,13 +320,13 @@ class Run:
         if stored.used == layout.slots:
             return "fault 6 logfull"
         records = []
-        while len(records) < min(64, len(self.waiting)) and len(b"".join(records)) + 778 <= 4077:
+        while len(records) < min(64, len(self.waiting)) and len(b"".join(records)) + 915 <= 4077:
             records.append(record(*self.waiting[len(records)]))
         body = batch(stored.generation, stored.count, records)
         at = layout.slot(stored.used)
         self.content[at : at + 1 + len(body)] = bytes([OPEN]) + body
-        for writes, names in self.waiting[: len(records)]:
-            stored.apply(writes, names)
+        for writes, names, retired in self.waiting[: len(records)]:
+            stored.apply(writes, names, retired)
             for differing in self.differing:
                 differing.update(var // 64 for var, _ in writes)
         del self.waiting[: len(records)]
@@ -299,18 +335,13 @@ class Run:
 
     def checkpoint(self):
         stored, layout = self.stored, self.layout
-        if stored.generation == MOST:
-            return "fault 15 spent"
-        stored.generation, stored.copy, stored.used = stored.generation + 1, 1 - stored.copy, 0
-        at = layout.image(stored.copy)
-        image = bytes([OPEN]) + header(stored.generation, stored.count, stored.names) + pages(layout, stored.values)
-        self.content[at : at + layout.size] = image
+        try:
+            stored.next_image()
+        except Refused as refused:
+            return str(refused)
         written = len(self.differing[stored.copy])
         self.images.append((written, layout.pages - written))
         self.differing[stored.copy] = set()
-        for k in range(layout.slots):
-            if self.content[layout.slot(k)] == OPEN:
-                self.content[layout.slot(k)] = 0
         return "checkpointed"
 
 
@@ -326,7 +357,7 @@ class Attempt:
 
     def turn(self, values):
         if self.ending is None:
-            self.registers, self.writes, self.checks, self.tested = [0] * 16, {}, [], 0
+            self.registers, self.writes, self.checks, self.retired, self.tested = [0] * 16, {}, [], [], 0
             try:
                 self.run(self.tx)
                 self.ending = "normal"
@@ -358,6 +389,12 @@ class Attempt:
         if not self.answers[self.tested - 1]:
             raise Left(f"refused {name}")
         self.checks += [] if name in self.checks else [name]
+        self.retired = [it for it in self.retired if it != name]
+
+    def retire(self, name):
+        """Proposes that an invariant is tested no more from the end of the transaction on."""
+        self.retired += [] if name in self.retired else [name]
+        self.checks = [it for it in self.checks if it != name]
 
     def run(self, tx):
         key, body = (tx, None) if isinstance(tx, str) else next(iter(tx.items()))
@@ -381,13 +418,13 @@ class Attempt:
         elif key == "when":
             self.run(body[1] if self.registers[body[0]] != 0 else body[2])
         elif key == "orelse":
-            kept = list(self.registers), dict(self.writes), list(self.checks)
+            kept = list(self.registers), dict(self.writes), list(self.checks), list(self.retired)
             try:
                 self.run(body[0])
             except Left as left:
                 if left.args[0] != "retry":
                     raise
-                self.registers, self.writes, self.checks = kept
+                self.registers, self.writes, self.checks, self.retired = kept
                 self.run(body[1])
         elif key == "retry":
             raise Left("retry")
@@ -395,6 +432,8 @@ class Attempt:
             raise Left(f"aborted {body}")
         elif key == "check":
             self.check(body)
+        elif key == "retire":
+            self.retire(body)
 
 
 def parts_of(tx):
@@ -422,6 +461,7 @@ def cause_of(tx, vars):
         any(it[0] >= vars for it in of("read") + of("write")),
         False,
         any(len(args) != 2 for name, args, out in of("step")),
-        any(it not in known(vars) for it in of("check")),
+        any(it not in known(vars) for it in of("check") + of("retire")),
+        len(of("retire")) > 8,
     ]
     return broken.index(True) + 1 if True in broken else None

@@ -131,4 +131,4 @@ def check_tx(value):
     elif key == "abort":
         natural(body, 65535)
     else:
-        want(key == "check" and isinstance(body, str) and re.fullmatch("[a-z]{1,16}", body))
+        want(key in ("check", "retire") and isinstance(body, str) and re.fullmatch("[a-z]{1,16}", body))

@@ -6,7 +6,7 @@ use Rattle.std.specs.declared.alloc.Global.{Global}
 use Rattle.std.proofs.lemmas.Bool.Decides.{nat_tests}
 use Rattle.tmem_tree.specs.declared.tx.Tx.{Tx}
 use Rattle.tmem_tree.specs.declared.tx.Tx.TheVariants.{Seq, Put, Read, Write}
-use Rattle.tmem_tree.specs.Limits.{depth, one_if, count, is_node, is_write, is_check, is_no_register, has_bad_register, has_bad_variable, has_bad_step, has_bad_arguments, has_unknown_name}
+use Rattle.tmem_tree.specs.Limits.{depth, one_if, count, is_node, is_write, is_check, is_retire, is_no_register, has_bad_register, has_bad_variable, has_bad_step, has_bad_arguments, has_unknown_name}
 use Rattle.tmem_tree.proofs.Laws.{depth_in, depth-Seq, count_in, count-Seq}
 use Rattle.tmem_builtins.specs.Transactions.{IsCall, IsSized}
 
@@ -20,6 +20,7 @@ pub record IsOne (writes var : ℕ) (tx : Tx) : Type 0 where
   pub all_nodes : count is_node tx ≡ 1
   pub all_writes : count is_write tx ≡ writes
   pub checks : count is_check tx ≡ 0
+  pub retires : count is_retire tx ≡ 0
   pub registers : count has_bad_register tx ≡ 0
   pub variables : (vars : ℕ) → var < vars → count (has_bad_variable vars) tx ≡ 0
   pub there : count (has_bad_step arities) tx ≡ 0
@@ -32,6 +33,7 @@ pub record AreSized (levels nodes writes var : ℕ) (txs : List Tx) : Type 0 whe
   pub all_nodes : count_in is_node txs ≡ nodes
   pub all_writes : count_in is_write txs ≡ writes
   pub checks : count_in is_check txs ≡ 0
+  pub retires : count_in is_retire txs ≡ 0
   pub registers : count_in has_bad_register txs ≡ 0
   pub variables : (vars : ℕ) → var < vars → count_in (has_bad_variable vars) txs ≡ 0
   pub there : count_in (has_bad_step arities) txs ≡ 0
@@ -44,6 +46,7 @@ none_sized var = record {
   all_nodes = refl;
   all_writes = refl;
   checks = refl;
+  retires = refl;
   registers = refl;
   variables = λ vars there. refl;
   there = refl;
@@ -60,6 +63,7 @@ with_one {more = more} {txs = txs} one rest = record {
   all_nodes = ap (λ n. n + count_in is_node txs) one.all_nodes ∙ ap (λ n. 1 + n) rest.all_nodes;
   all_writes = ap (λ n. n + count_in is_write txs) one.all_writes ∙ ap (λ n. more + n) rest.all_writes;
   checks = sum_of_none _ _ one.checks rest.checks;
+  retires = sum_of_none _ _ one.retires rest.retires;
   registers = sum_of_none _ _ one.registers rest.registers;
   variables = λ vars inside. sum_of_none _ _ (one.variables vars inside) (rest.variables vars inside);
   there = sum_of_none _ _ one.there rest.there;
@@ -76,6 +80,7 @@ read_one var = record {
   all_nodes = refl;
   all_writes = refl;
   checks = refl;
+  retires = refl;
   registers = refl;
   variables = λ vars within. inside vars var within;
   there = refl;
@@ -89,6 +94,7 @@ put_one var n = record {
   all_nodes = refl;
   all_writes = refl;
   checks = refl;
+  retires = refl;
   registers = refl;
   variables = λ vars within. refl;
   there = refl;
@@ -106,6 +112,7 @@ write_one var reg fine = record {
   all_nodes = refl;
   all_writes = refl;
   checks = refl;
+  retires = refl;
   registers = ap one_if fine;
   variables = λ vars within. inside vars var within;
   there = refl;
@@ -126,6 +133,7 @@ call_one var index first second tx call step fine_first fine_second =
       all_nodes = ap (count is_node) call.is;
       all_writes = ap (count is_write) call.is;
       checks = ap (count is_check) call.is;
+      retires = ap (count is_retire) call.is;
       registers = ap (count has_bad_register) call.is ∙ ap (λ l. one_if (is_no_register first || list_any is_no_register l)) call.on ∙ rw (fine_first, fine_second) refl;
       variables = λ vars within. ap (count (has_bad_variable vars)) call.is;
       there = ap (count (has_bad_step arities)) call.is ∙ ap one_if step.there;
@@ -151,6 +159,7 @@ seq_sized {all = all} txs items sized = record {
   all_nodes = count-Seq is_node txs ∙ ap (λ l. 1 + count_in is_node l) items ∙ ap (λ n. 1 + n) sized.all_nodes;
   all_writes = count-Seq is_write txs ∙ ap (λ l. 0 + count_in is_write l) items ∙ zero-add (count_in is_write all) ∙ sized.all_writes;
   checks = count-Seq is_check txs ∙ ap (λ l. 0 + count_in is_check l) items ∙ ap (λ n. 0 + n) sized.checks;
+  retires = count-Seq is_retire txs ∙ ap (λ l. 0 + count_in is_retire l) items ∙ ap (λ n. 0 + n) sized.retires;
   registers = count-Seq has_bad_register txs ∙ ap (λ l. 0 + count_in has_bad_register l) items ∙ ap (λ n. 0 + n) sized.registers;
   variables = λ vars within. count-Seq (has_bad_variable vars) txs ∙ ap (λ l. 0 + count_in (has_bad_variable vars) l) items ∙ ap (λ n. 0 + n) (sized.variables vars within);
   steps = record {

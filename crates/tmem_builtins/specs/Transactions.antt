@@ -4,7 +4,7 @@ use Rattle.std.specs.declared.vec.Vec.{Vec}
 use Rattle.std.specs.declared.alloc.Global.{Global}
 use Rattle.tmem_tree.specs.declared.tx.Tx.{Tx}
 use Rattle.tmem_tree.specs.declared.tx.Tx.TheVariants.{Put, Read, Step}
-use Rattle.tmem_tree.specs.Limits.{depth, count, is_node, is_write, is_check, has_bad_register, has_bad_variable}
+use Rattle.tmem_tree.specs.Limits.{depth, count, is_node, is_write, is_check, is_retire, has_bad_register, has_bad_variable}
 use Rattle.tmem_tree.specs.Plans.{FitsSteps, FitsNames}
 use Rattle.tmem_tree.specs.StepAnswers.{StepMeanings}
 use Rattle.tmem_tree.specs.Run.{View, RunResult, Normal, Retried, Aborted, run, put, write, then_run, or_else}
@@ -56,13 +56,14 @@ abbrev pub is_put : Tx → Bool
 is_put (Put reg number) = true
 is_put _ = false
 
--- what it adds to the limits of a plan: two levels, so many nodes and writes, no check and no register past the last. And it
--- fits the three steps of scripts, and each store that has this variable
+-- what it adds to the limits of a plan: two levels, so many nodes and writes, no check, no retirement and no register past the
+-- last. And it fits the three steps of scripts, and each store that has this variable
 pub record IsSized (nodes writes var : ℕ) (tx : Tx) : Type 0 where
   pub levels : depth tx ≡ 2
   pub all_nodes : count is_node tx ≡ nodes
   pub all_writes : count is_write tx ≡ writes
   pub checks : count is_check tx ≡ 0
+  pub retires : count is_retire tx ≡ 0
   pub registers : count has_bad_register tx ≡ 0
   pub variables : (vars : ℕ) → var < vars → count (has_bad_variable vars) tx ≡ 0
   pub steps : FitsSteps (2 ∷ 2 ∷ 2 ∷ []) tx

@@ -8,7 +8,8 @@ use Rattle.tmem_script.specs.Lines.{line_of}
 use Rattle.tmem_script.specs.declared.script.Entry.{Entry}
 use Rattle.tmem_world.specs.declared.world.World.{World}
 use Rattle.tmem_world.specs.WorldModel.{Setting, WorldModel, opening}
-use Rattle.tmem_journal.specs.Stands.{Position, StandsFor}
+use Rattle.tmem_journal.specs.Mended.{IsFoundAt}
+use Rattle.tmem_journal.specs.Stands.{Position}
 use Rattle.tmem_world.specs.Represents.{Represents, AreMeant, Means, KeepsSetting, StandsCut, setting_of, numbers_of, steps_of, held_table, view_of}
 use Rattle.tmem_world.specs.Chain.{History, IsStore}
 use Rattle.tmem_world.proofs.Laws.{means_stay, setting_stays}
@@ -60,7 +61,7 @@ module _ {D T S : Type 0} {d t s : _} (w : World D T S d t s) (vars slots : ℕ)
 
 -- and a script was played on its device
 module _ {D T S : Type 0} {d t s : _} (old : DeviceView) (w new : World D T S d t s) (vars slots : ℕ) (over : (numbers_of new).vars ≡ vars) (log : (numbers_of new).slots ≡ slots) (means : Means w (builtin_program vars)) (set : setting_of w (builtin_program vars) ≡ builtin_setting vars slots) where
-  pub PlaysOn-of : (count : ℕ) (position : Position) (found : State) (before between after : Option (List ℕ)) (es : List Entry) → StandsFor vars slots position found old.seen → Represents (builtin_program vars) w (opening found position 0) → count ≡ found.count
+  pub PlaysOn-of : (count : ℕ) (position : Position) (found : State) (before between after : Option (List ℕ)) (es : List Entry) → IsFoundAt vars slots old.seen found position → Represents (builtin_program vars) w (opening found position 0) → count ≡ found.count
       → Appends before between (line (line_of (Opened count))) → PlaysEntries w between es new after → (view_of new).keeps_model → ((h : History) → IsStore (builtin_program vars) vars slots h old → (text : List ℕ) × PlaysStore vars slots h es text old (view_of new) × Appends before after text)
       → PlaysOn vars slots es old (view_of new) before after
   PlaysOn-of count position found before between after es stands at is opened so premise stored =

@@ -210,7 +210,7 @@ module _ {D T S : Type 0} {d t s : _} (w new : World D T S d t s) (vars slots : 
           found = n;
           position = opened.found.1;
           prefix = opened.found.2;
-          stands = opened.found.4;
+          stands = opened.found.4.was;
           replies = go.replies;
           rest = it.0;
           end = go.end;
@@ -222,7 +222,7 @@ module _ {D T S : Type 0} {d t s : _} (w new : World D T S d t s) (vars slots : 
             each = λ k c left. ⊎_elim
                 (λ was. inl (opened.any_moment.each (kept.model k) c was))
                 (λ is. inr (among.each k c is))
-                (either_time old (view_of w) (view_of new) _ kept.model mends.elsewhere.time.later within.time k c left);
+                (either_time old (view_of w) (view_of new) _ kept.model mends.recovers.elsewhere.time.later within.time k c left);
           };
           chain = λ earlier chain.
               grows (builtin_setting vars slots) at (history_found n h) (events_of es) go.replies go.end go.reached (runs_of (builtin_setting vars slots) at (history_found n h) es go.replies it.0 go.end go.reached prints) vars slots earlier (just_opened (builtin_setting vars slots) old.seen n opened.found.1 old.failures) refl

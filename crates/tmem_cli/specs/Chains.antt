@@ -4,7 +4,8 @@ use Rattle.tmem_disk.specs.Disk.{DeviceView, AtEachMoment, IsSynced}
 use Rattle.tmem_event.specs.declared.event.Event.{Event}
 use Rattle.tmem_event.specs.declared.event.Reply.{Reply}
 use Rattle.tmem_event.specs.declared.event.Reply.TheVariants as reply
-use Rattle.tmem_journal.specs.Stands.{Position, StandsFor}
+use Rattle.tmem_journal.specs.Mended.{IsFoundAt}
+use Rattle.tmem_journal.specs.Stands.{Position}
 use Rattle.tmem_script.specs.Lines.{line_of}
 use Rattle.tmem_script.specs.declared.script.Entry.{Entry}
 use Rattle.tmem_script.specs.declared.script.Entry.TheVariants as entry
@@ -77,8 +78,8 @@ pub record PlaysStore (vars slots : ℕ) (h : History) (entries : List Entry) (t
   pub found : ℕ
   pub position : Position
   pub prefix : IsSafePrefix (builtin_program vars) vars h found
-  -- at that position is what a read of the device gave
-  pub stands : StandsFor vars slots position (state_at (builtin_program vars) vars h found) old.seen
+  -- at that position is what a read of the device gave, or behind the next image, if that was of version 1
+  pub stands : IsFoundAt vars slots old.seen (state_at (builtin_program vars) vars h found) position
   pub replies : List Reply
   pub rest : List ℕ
   pub end : WorldModel

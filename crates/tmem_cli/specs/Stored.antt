@@ -8,6 +8,7 @@ use Rattle.tmem_disk.specs.declared.fault.Fault.{Fault}
 use Rattle.tmem_disk.specs.declared.fault.Fault.TheVariants as fault
 use Rattle.tmem_record.specs.State.{State, first_state}
 use Rattle.tmem_record.specs.Layout.{IsLayout, end_place}
+use Rattle.tmem_journal.specs.Mended.{IsFoundAt}
 use Rattle.tmem_journal.specs.Stands.{Position, first_position, StandsFor}
 use Rattle.tmem_file.specs.FileView.{view_of}
 use Rattle.tmem_file.specs.Opening.{IsOpened, IsPlaced}
@@ -24,12 +25,12 @@ use Rattle.tmem_cli.specs.Chains.{PlaysStore, StaysStore, LeavesStore}
 use Rattle.tmem_cli.specs.Printed.{PlaysFrom, PlaysScript, IsStop}
 use Rattle.tmem_cli.specs.declared.play.Played.{Played}
 
--- The content of the device stood for a state before, and the script was played from there. A crash now leaves its serial
--- order, cut at the durable number or at the doubtful one.
+-- The content of the device stood for a state before, and the script was played from there: from the position where it stood, or from
+-- behind the next image, if it was of version 1. A crash now leaves its serial order, cut at the durable number or at the doubtful one.
 pub record PlaysOn (vars slots : ℕ) (entries : List Entry) (old new : DeviceView) (before after : Option (List ℕ)) : Type 0 where
   pub found : State
   pub position : Position
-  pub stands : StandsFor vars slots position found old.seen
+  pub stands : IsFoundAt vars slots old.seen found position
   pub end : WorldModel
   pub played : PlaysFrom vars slots found position entries end before after
   pub left : LeavesOnly new (StandsCut (builtin_program vars) vars slots end)

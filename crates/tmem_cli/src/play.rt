@@ -20,7 +20,7 @@ use tmem_builtins::{nonneg, ordered, stored_steps, sum, table_of};
 use tmem_disk::{Disk, Fault};
 use tmem_file::FileDisk;
 use tmem_invariants::Invariants;
-use tmem_journal::{refused_stands_for_none, stands_for_one};
+use tmem_journal::{refused_stands_for_none, spent_stands_at_last, stands_for_one};
 use tmem_script::{Entry, Failure, ReplyLine, Script};
 use tmem_tree::StoredSteps;
 use tmem_world::{Layout, Reply, World};
@@ -119,9 +119,10 @@ fn play_with<
     // Where a path is given and no device is handed back, nothing was printed.
     ensures withheld { IsSome path.entry → OnErr result (device.new ≡ None → out.new ≡ out.old) }
 {
-    // what opening finds on a device that was formatted in memory is the first state, and that is not refused
+    // what opening finds on a device that was formatted in memory is the first state, of version 2, and that is not refused
     stands_for_one();
     refused_stands_for_none();
+    spent_stands_at_last();
     match path {
         None => {
             let disk = device_in_memory(rt.alloc(), layout)?;

@@ -1,23 +1,24 @@
 -- A state as the fold of what was accepted, of which the last ones wait.
-use Rattle.std.proofs.Common.{◌≡◌, ℕ, ◌+◌, ◌-◌, List, [], ◌∷◌, ◌++◌, length, drop, refl, sym, ap, ◌∙◌, arith}
+use Rattle.std.proofs.Common.{◌≡◌, ℕ, ◌+◌, ◌-◌, List, [], ◌∷◌, ◌++◌, length, drop, refl, sym, ap, ◌∙◌, subst, arith}
 use Rattle.std.proofs.lemmas.List.{drop-append-le, drop-drop}
 use Rattle.std.proofs.Math.Seq.{drop-nil}
 use mathlib.Core.Logic.{∥∥₁_map}
-use Rattle.tmem_record.specs.State.{State, apply}
+use Rattle.tmem_record.specs.State.{State, apply, IsWithin}
 use Rattle.tmem_record.specs.declared.effect.Effect.{Effect}
-use Rattle.tmem_record.proofs.Laws.{fold-push, count-fold}
+use Rattle.tmem_record.proofs.Laws.{fold-push, count-fold, StaysWithin-push}
 use Rattle.tmem_core.specs.History.{IsFolded}
 
 -- nothing was accepted
-pub folded-none : (s : State) → ∥ IsFolded s [] s.count [] s ∥₁
-folded-none s = ∣ record { folds = refl; late = omega arith; waits = drop-nil (s.count - s.count) } ∣₁
+pub folded-none : (s : State) → IsWithin s → ∥ IsFolded s [] s.count [] s ∥₁
+folded-none s within = ∣ record { folds = refl; within = within; late = omega arith; waits = drop-nil (s.count - s.count) } ∣₁
 
 module _ (opened : State) (all : List Effect) (durable : ℕ) (waiting : List Effect) (s : State) (is : ∥ IsFolded opened all durable waiting s ∥₁) where
-  -- one effect more
-  pub folded-push : (e : Effect) → s.count ≡ durable + length waiting → ∥ IsFolded opened (all ++ e ∷ []) durable (waiting ++ e ∷ []) (apply s e) ∥₁
-  folded-push e counted =
+  -- one effect more, within the limits
+  pub folded-push : (e : Effect) → s.count ≡ durable + length waiting → IsWithin (apply s e) → ∥ IsFolded opened (all ++ e ∷ []) durable (waiting ++ e ∷ []) (apply s e) ∥₁
+  folded-push e counted within =
       ∥∥₁_map is (λ f. record {
         folds = fold-push opened all e ∙ ap (λ t. apply t e) f.folds;
+        within = StaysWithin-push opened all e f.within (subst (λ (t : State). IsWithin (apply t e)) (sym f.folds) within);
         late = f.late;
         waits = drop-append-le (durable - opened.count) all (e ∷ []) (omega (arith, ap State.count f.folds, count-fold opened all, counted, f.late))
             ∙ ap (λ es. es ++ e ∷ []) f.waits;
@@ -28,6 +29,7 @@ module _ (opened : State) (all : List Effect) (durable : ℕ) (waiting : List Ef
   folded-drop k =
       ∥∥₁_map is (λ f. record {
         folds = f.folds;
+        within = f.within;
         late = omega (arith, f.late);
         waits =
             let far : durable + k - opened.count ≡ durable - opened.count + k = omega (arith, f.late) in

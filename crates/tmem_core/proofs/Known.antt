@@ -1,5 +1,5 @@
 -- Names that are all in a table.
-use Rattle.std.proofs.Common.{◌≡◌, ℕ, ◌≤◌, ◌<◌, ◌||◌, ℤ, Bool, true, false, bytes_eq, List, length, get_or, All, IsTrue, None, refl, sym, ap, ◌∙◌, subst, arith}
+use Rattle.std.proofs.Common.{◌≡◌, ℕ, ◌≤◌, ◌<◌, ◌||◌, ℤ, Bool, true, false, bytes_eq, bit_or, List, length, get_or, All, IsTrue, None, refl, sym, ap, ◌∙◌, subst, arith}
 use Rattle.std.proofs.Math.Bool.{or_comm}
 use Rattle.std.proofs.lemmas.Cmp.{nat_list_eq_equiv}
 use Rattle.std.specs.Set.{is_member}
@@ -8,10 +8,13 @@ use Rattle.std.proofs.lemmas.List.Folds.{Any-from_list_any, list_any_at}
 use Rattle.std.proofs.lemmas.Map.Keys.{IsDistinct-from_apart}
 use Rattle.std.proofs.lemmas.Map.Made.{length-le_from_is_member}
 use Rattle.std.proofs.lemmas.Slice.Eq.{bytes_eq-Decides}
-use Rattle.tmem_record.specs.Names.{AreAscending, has_name, with_names}
-use Rattle.tmem_record.proofs.Laws.{AreAscending-with_names, has_name-with_names, AreDistinct-ascending}
-use Rattle.tmem_invariants.specs.Meanings.{Meanings, AllHold, first_false}
-use Rattle.tmem_invariants.proofs.Laws.{All-at_name, Contains-from_has_name, IsSound-from_none}
+use Rattle.tmem_record.specs.Names.{AreAscending, has_name, with_names, without_names}
+use Rattle.tmem_record.specs.State.{State, apply}
+use Rattle.tmem_record.specs.declared.effect.Effect.{Effect}
+use Rattle.tmem_record.proofs.Laws.{All-without_names, AreAscending-apply, has_name-with_names, AreDistinct-ascending}
+use Rattle.tmem_invariants.specs.Meanings.{Meanings, AllHold, first_false, holds}
+use Rattle.tmem_invariants.specs.Places.{ArePlacesOf}
+use Rattle.tmem_invariants.proofs.Laws.{All-at_name, ArePlacesOf-join, at_place, Contains-from_has_name, IsSound-from_none}
 
 -- each of these names is among others
 abbrev pub AreAmong : List (List ℕ) → List (List ℕ) → Type 0
@@ -33,10 +36,6 @@ few-AreAmong names ns up among =
         let there = Contains-from_has_name names name (subst (λ n. has_name names n ≡ true) same (among found.0 found.1 found.2)) in
         list_any_at (bytes_eq name) names there.0 name there.1 (ap (bytes_eq name) there.2 ∙ (bytes_eq-Decides name name).1 refl)
 
--- what a list has at a place is among it
-pub at_place : (ns : List (List ℕ)) → All (λ name. IsTrue (has_name ns name)) ns
-at_place ns k d below = list_any_at (λ n. bytes_eq n (get_or ns k d)) ns k d below ((bytes_eq-Decides (get_or ns k d) (get_or ns k d)).1 refl)
-
 -- each of the names with more added is one of them, or was added
 asked : (ns ms : List (List ℕ)) → All (λ name. IsTrue (has_name ns name || has_name ms name)) (with_names ns ms)
 asked ns ms k d below =
@@ -53,12 +52,31 @@ AreAmong-with_names names ns ms first second k d below =
     by name true is or = All-at_name (λ n. IsTrue (has_name names n)) ns name first is
     by name false is or = All-at_name (λ n. IsTrue (has_name names n)) ms name second or
 
--- and as few as the table's
-pub few-with_names : (names ns ms : List (List ℕ)) → AreAscending ns → AreAmong names ns → AreAmong names ms → length names ≤ 64 → length (with_names ns ms) ≤ 64
-few-with_names names ns ms up first second few =
-    omega (arith, few, few-AreAmong names (with_names ns ms) (AreAscending-with_names ns ms up) (AreAmong-with_names names ns ms first second))
+-- what held of the registered names holds of those that an effect does not retire
+pub AllHold-kept : (m : Meanings) (s : State) (e : Effect) (values : List ℤ) → AllHold m s.names values → AllHold m (without_names s.names e.retired) values
+AllHold-kept m s e values held = All-without_names (λ name. IsTrue (holds m values name)) s.names e.retired held
 
--- and all true, where none that is registered or proposed was found false
-pub AllHold-with_names : (m : Meanings) (names ns ms : List (List ℕ)) (values : List ℤ) → AreAmong names ns → AreAmong names ms → first_false m names ns ms values ≡ None → AllHold m (with_names ns ms) values
-AllHold-with_names m names ns ms values first second none =
-    (IsSound-from_none m names ns ms (with_names ns ms) values (AreAmong-with_names names ns ms first second) (asked ns ms) none).hold
+module _ (names : List (List ℕ)) (s : State) (e : Effect) where
+  abbrev kept : List (List ℕ)
+  kept = without_names s.names e.retired
+
+  module _ (first : AreAmong names s.names) (second : AreAmong names e.names) where
+    among_kept : AreAmong names kept
+    among_kept = All-without_names (λ name. IsTrue (has_name names name)) s.names e.retired first
+
+    -- so are the names that an effect leaves registered
+    pub AreAmong-apply : AreAmong names (apply s e).names
+    AreAmong-apply = AreAmong-with_names names kept e.names among_kept second
+
+    -- and all true, where none that is kept or proposed was found false
+    pub AllHold-apply : (m : Meanings) → first_false m names kept e.names (apply s e).values ≡ None → AllHold m (apply s e).names (apply s e).values
+    AllHold-apply m none = (IsSound-from_none m names kept e.names (apply s e).names (apply s e).values AreAmong-apply (asked kept e.names) none).hold
+
+  -- and as few as the table's
+  pub few-apply : AreAscending s.names → AreAmong names s.names → AreAmong names e.names → length names ≤ 64 → length (apply s e).names ≤ 64
+  few-apply up first second few = omega (arith, few, few-AreAmong names (apply s e).names (AreAscending-apply s e up) (AreAmong-apply first second))
+
+  -- their places are those of what is kept and of what is proposed
+  pub places-apply : (a b : ℕ) → ArePlacesOf kept names a → ArePlacesOf e.names names b → ArePlacesOf (apply s e).names names (bit_or a b)
+  places-apply a b are_kept are_proposed =
+      ArePlacesOf-join kept e.names (apply s e).names names a b (λ name. has_name-with_names kept e.names name ∙ or_comm (has_name e.names name) (has_name kept name)) are_kept are_proposed

@@ -7,9 +7,9 @@ use Rattle.tmem_disk.specs.declared.fault.Fault.TheVariants.{Missing, Broken}
 use Rattle.tmem_record.specs.State.{State}
 use Rattle.tmem_invariants.specs.Meanings.{Meanings, IsSound, first_false}
 use Rattle.tmem_invariants.specs.TableNames.{first_missing, has_name}
-use Rattle.tmem_invariants.proofs.Laws.{All-there, IsSound-from_none, first_false-AllHold}
+use Rattle.tmem_invariants.proofs.Laws.{All-there, at_place, IsSound-from_none, first_false-AllHold}
 use Rattle.tmem_core.specs.Opening.{fault_against}
-use Rattle.tmem_core.proofs.Known.{AreAmong, at_place}
+use Rattle.tmem_core.proofs.Known.{AreAmong}
 
 -- none is missing of names that are all among others
 missing_none : (names ns : List (List ℕ)) → AreAmong names ns → first_missing names ns ≡ None

@@ -1,7 +1,15 @@
 -- Tests that a table can be asked.
-use Rattle.std.proofs.Common.{◌≡◌, ℕ, zero, suc, List, [], ◌∷◌, length, map, Some, refl, sym, ap, ◌∙◌}
+use Rattle.std.proofs.Common.{◌≡◌, ℕ, zero, suc, true, List, [], ◌∷◌, length, map, Some, sym, ap, ◌∙◌}
+use Rattle.std.proofs.lemmas.Option.{get_or_from_slice_get, slice_get_within}
 use Rattle.std.specs.Prelude.{slice_get, slice_index_or}
 use Rattle.tmem_invariants.specs.Meanings.{Meanings}
+use Rattle.tmem_invariants.specs.TableNames.{has_name}
+use Rattle.tmem_invariants.proofs.Laws.{has_name-from_Contains}
+
+-- a name that stands at a place is one of them
+pub has_name-at : (names : List (List ℕ)) (place : ℕ) (name : List ℕ) → slice_get names place ≡ Some name → has_name names name ≡ true
+has_name-at names place name at =
+    has_name-from_Contains names name (place, slice_get_within names place name at, get_or_from_slice_get names place name name at)
 
 -- what a list of footprints has at the place of a name
 footprint_at : (f : List ℕ → List ℕ) (names : List (List ℕ)) (place : ℕ) (name : List ℕ) → slice_get names place ≡ Some name → slice_index_or (map f names) place [] ≡ f name

@@ -2,9 +2,8 @@
 use Rattle.std.proofs.Common.{◌≡◌, ℕ, ℤ, Bool, true, false, ◌++◌, List, [], ◌∷◌, map, if◌then◌else◌, All, refl, ap, ◌∙◌}
 use Rattle.std.specs.Prelude.{⊤}
 use Rattle.std.proofs.lemmas.List.Elements.{All-head, All-tail}
-use Rattle.tmem_record.specs.Writes.{look}
 use Rattle.tmem_tree.specs.declared.tx.Tx.{Tx, Row_of-Tx, end_of-Tx, more_of-Tx}
-use Rattle.tmem_tree.specs.declared.tx.Tx.TheVariants.{Skip, Seq', Put, Read, Write, Step, When', OrElse', Retry, Abort, Check}
+use Rattle.tmem_tree.specs.declared.tx.Tx.TheVariants.{Skip, Seq', Put, Read, Write, Step, When', OrElse', Retry, Abort, Check, Retire}
 use Rattle.tmem_tree.specs.Run.{View, RunResult, Normal, Retried, Aborted, Broken, run, run_all, then_run, or_else, checked, is_zero, register}
 use Rattle.tmem_tree.specs.StepAnswers.{StepMeanings}
 use Rattle.tmem_tree.specs.Visited.{Ask, Visit, Probe, asks, asks_all, unwritten, then_ask, else_ask, probes_in}
@@ -80,6 +79,7 @@ module _ (steps : StepMeanings) (p q : Meanings) where
     same_run (Check name) view alike =
         let parts = both_alike p q (unwritten view.effect.writes (p.footprint name)) (Probe name (map view.values (p.footprint name)) ∷ []) alike in
         ap (λ (b : Bool). checked b view name) (test_alike p q view.values name parts.1.0)
+    same_run (Retire name) view alike = refl
 
     same_run_all : {m : _} (txs : Row_of-Tx m) (view : View) → AskAlike p q (asks_all steps p txs view) → run_all steps q txs view ≡ run_all steps p txs view
     same_run_all end_of-Tx view alike = refl

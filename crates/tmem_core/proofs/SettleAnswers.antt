@@ -19,7 +19,7 @@ use Rattle.tmem_core.specs.declared.decision.Decision.{Decision}
 use Rattle.tmem_core.specs.declared.core_state.Core.{Core}
 use Rattle.tmem_invariants.specs.declared.named.Invariants.{Ghosts}
 use Rattle.tmem_core.specs.Verdict.{map_of, first_broken, unless_broken, verdict, verdict_on, verdict_normal, effect_on, accepted}
-use Rattle.tmem_core.specs.SettleAnswer.{is_stale, sound_answer, unless_refused, normal_answer, ending_answer, allowed, judged, IsAdded, IsRefusal, accepted_by}
+use Rattle.tmem_core.specs.SettleAnswer.{is_stale, sound_answer, unless_refused, normal_answer, ending_answer, allowed, judged, IsAdded, IsRefusal, TellsOneOf, accepted_by}
 use Rattle.tmem_core.proofs.Present.{agrees}
 
 -- the verdict on an effect that breaks no invariant
@@ -75,6 +75,15 @@ pub refused_with : (decision : Result Decision Fault) (registers : List ℤ) →
 refused_with (Ok decision) registers refused = tt
 refused_with (Err f) registers refused = refused
 
+-- the answer to an effect that breaks no invariant tells no name
+pub sound_tells : (names : List (List ℕ)) (s : State) (durable : ℕ) (e : Effect) (registers : List ℤ) → IfOk (sound_answer s durable e registers) (TellsOneOf names)
+sound_tells names s durable e registers = on (is_empty e) (s.count - durable == 256) (s.count == 18446744073709551615) where
+  on : (empty full spent : Bool) → IfOk (cond empty (Ok (Seen s.count registers)) (cond full (Err fault.Full) (cond spent (Err fault.Spent) (Ok (Committed s.count registers))))) (TellsOneOf names)
+  on true full spent = tt
+  on false true spent = tt
+  on false false true = tt
+  on false false false = tt
+
 -- to accept nothing changes nothing
 pub accepting-none : {T : Type 0} (v : CoreView T) → v ≡ accepting [] v
 accepting-none v = rw (append-nil v.history, append-nil v.waiting)
@@ -83,14 +92,15 @@ module _ {T : Type 0} {t : Ghosts T} (old new : Core T t) (a : Attempt) where
   -- an attempt is settled by its ending, where the core runs and no value that was read differs
   pub settles : (x : Result Settled Fault) → is_shut_of old ≡ false → is_stale (state_of old) a.reads.entries ≡ false
       → ((p : Program) → IsProgramOf t (table_of old) p → x ≡ ending_answer p a.ending (state_of old) (durable_of old) a.effect a.registers)
-      → IfErr x IsRefusal → view_of new ≡ accepting (accepted_by x a.effect) (view_of old) → Settles old new a x
-  settles x runs fresh by_ending refused view = record {
+      → IfOk x (TellsOneOf (t.names (table_of old))) → IfErr x IsRefusal → view_of new ≡ accepting (accepted_by x a.effect) (view_of old) → Settles old new a x
+  settles x runs fresh by_ending named refused view = record {
     answer = λ p are. by_ending p are ∙ sym (running (λ b. cond b (Err fault.Closed) (cond (is_stale (state_of old) a.reads.entries) (Err fault.Conflict) (by_its_ending p)))
         ∙ ap (λ b. cond b (Err fault.Conflict) (by_its_ending p)) fresh);
     verdict = λ p tx are right. by_ending p are ∙ (judges_attempt p tx (state_of old) (durable_of old) a fresh right).0
         ∙ sym (running (λ b. judged b (state_of old) (durable_of old) a.reads.entries (verdict p tx (state_of old)))
         ∙ ap (λ b. cond b (Err fault.Conflict) (allowed (verdict p tx (state_of old)) (durable_of old))) fresh);
     added = λ p tx are right. subst (IsAdded p tx (state_of old) a) (sym (by_ending p are)) (judges_attempt p tx (state_of old) (durable_of old) a fresh right).1;
+    named = named;
     refused = refused;
     view = view;
   } where

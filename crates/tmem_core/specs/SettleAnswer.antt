@@ -1,9 +1,10 @@
 -- What settling an attempt answers, and what it accepts.
-use Rattle.std.specs.Prelude.{◌≡◌, ◌-◌, ℕ, ℤ, Bool, not, ◌==◌, List, [], Option, Some, None, Result, Ok, Err, IfOk, if◌then◌else◌}
+use Rattle.std.specs.Prelude.{◌≡◌, ⊤, ◌-◌, ℕ, ℤ, Bool, true, not, ◌==◌, List, [], Option, Some, None, Result, Ok, Err, IfOk, if◌then◌else◌}
 use Rattle.std.specs.List.{list_any}
 use Rattle.std.specs.Ordering.{int_eq}
 use Rattle.tmem_disk.specs.declared.fault.Fault.{Fault}
 use Rattle.tmem_disk.specs.declared.fault.Fault.TheVariants as fault
+use Rattle.tmem_record.specs.Names.{has_name}
 use Rattle.tmem_record.specs.State.{State, is_empty}
 use Rattle.tmem_record.specs.declared.effect.Effect.{Effect}
 use Rattle.tmem_tree.specs.declared.tx.Tx.{Tx}
@@ -49,6 +50,11 @@ settle_answer p shut s durable a =
     if shut then Err fault.Closed
     else if is_stale s a.reads.entries then Err fault.Conflict
     else ending_answer p a.ending s durable a.effect a.registers
+
+-- where the answer tells the name of an invariant, that is one of these
+abbrev pub TellsOneOf : List (List ℕ) → Settled → Type 0
+TellsOneOf names (Refused name) = has_name names name ≡ true
+TellsOneOf names _ = ⊤
 
 -- what an attempt can be refused for
 abbrev pub IsRefusal : Fault → Type 0

@@ -1,18 +1,19 @@
 -- What settling an attempt does to a core, and what it answers.
-use Rattle.std.specs.Prelude.{◌≡◌, Result, IfErr}
+use Rattle.std.specs.Prelude.{◌≡◌, Result, IfOk, IfErr}
 use Rattle.tmem_disk.specs.declared.fault.Fault.{Fault}
 use Rattle.tmem_tree.specs.declared.tx.Tx.{Tx}
 use Rattle.tmem_tree.specs.declared.settled.Settled.{Settled}
+use Rattle.tmem_invariants.specs.declared.named.Invariants.{Ghosts}
 use Rattle.tmem_tentative.specs.Right.{IsRight}
 use Rattle.tmem_tentative.specs.declared.attempt.Attempt.{Attempt}
 use Rattle.tmem_core.specs.declared.core_state.Core.{Core}
 use Rattle.tmem_core.specs.Held.{view_of, state_of, durable_of, is_shut_of, table_of, accepting}
 use Rattle.tmem_core.specs.Program.{Program, IsProgramOf}
-use Rattle.tmem_core.specs.SettleAnswer.{settle_answer, judged, IsRefusal, IsAdded, accepted_by}
+use Rattle.tmem_core.specs.SettleAnswer.{settle_answer, judged, IsRefusal, IsAdded, TellsOneOf, accepted_by}
 use Rattle.tmem_core.specs.Verdict.{verdict as verdict_of}
 
 -- A core settles an attempt, and answers so.
-pub record Settles {T : Type 0} {t : _} (old new : Core T t) (a : Attempt) (settled : Result Settled Fault) : Type 0 where
+pub record Settles {T : Type 0} {t : Ghosts T} (old new : Core T t) (a : Attempt) (settled : Result Settled Fault) : Type 0 where
   -- The answer is by the values that the attempt read, and by its effect.
   pub answer : (p : Program) → IsProgramOf t (table_of old) p → settled ≡ settle_answer p (is_shut_of old) (state_of old) (durable_of old) a
   -- Of each plan that it is an attempt of, it is by the plan's verdict on the state.
@@ -20,6 +21,8 @@ pub record Settles {T : Type 0} {t : _} (old new : Core T t) (a : Attempt) (sett
       → settled ≡ judged (is_shut_of old) (state_of old) (durable_of old) a.reads.entries (verdict_of p tx (state_of old))
   -- What is accepted is what such a plan adds.
   pub added : (p : Program) (tx : Tx) → IsProgramOf t (table_of old) p → IsRight p.steps p.tests tx a → IsAdded p tx (state_of old) a settled
+  -- A name that it tells is one of the table's.
+  pub named : IfOk settled (TellsOneOf (t.names (table_of old)))
   -- These are all that may refuse it.
   pub refused : IfErr settled IsRefusal
   -- The core accepts the effect where the answer says so, and is as before otherwise.

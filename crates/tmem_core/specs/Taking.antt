@@ -4,10 +4,10 @@ use Rattle.tmem_record.specs.Batch.{records_length}
 use Rattle.tmem_record.specs.Prefix.{IsPrefix}
 use Rattle.tmem_record.specs.declared.effect.Effect.{Effect}
 
--- a batch of these effects has room for any other: it has fewer than 64, and of its 4077 bytes there are 778 left, the most
+-- a batch of these effects has room for any other: it has fewer than 64, and of its 4077 bytes there are 915 left, the most
 -- that a record has
 abbrev pub HasRoom : List Effect → Type 0
-HasRoom es = (length es < 64) × (records_length es + 778 ≤ 4077)
+HasRoom es = (length es < 64) × (records_length es + 915 ≤ 4077)
 
 -- what is taken of the effects that wait: the first ones. Each is taken exactly where a batch of those before it has room
 -- for any other

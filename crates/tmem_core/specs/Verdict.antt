@@ -1,5 +1,6 @@
 -- What a plan is answered on a state, and the serial order of the plans that are accepted.
 use Rattle.std.specs.Prelude.{ℕ, ℤ, pos, List, [], ◌∷◌, ◌++◌, Option, Some, None, slice_index_or, if◌then◌else◌}
+use Rattle.tmem_record.specs.Names.{without_names}
 use Rattle.tmem_record.specs.State.{State, no_effect, is_empty, apply, fold}
 use Rattle.tmem_record.specs.declared.effect.Effect.{Effect}
 use Rattle.tmem_tree.specs.declared.tx.Tx.{Tx}
@@ -14,10 +15,10 @@ use Rattle.tmem_core.specs.Program.{Program}
 abbrev pub map_of : State → ℕ → ℤ
 map_of s var = slice_index_or s.values var (pos 0)
 
--- the first name, in the table's order, that is registered or that the effect proposes, and is false of the map that the
--- effect makes
+-- the first name, in the table's order, that is registered and that the effect does not retire, or that it proposes, and that
+-- is false of the map that the effect makes
 abbrev pub first_broken : Program → State → Effect → Option (List ℕ)
-first_broken p s e = first_false p.tests p.names s.names e.names (apply s e).values
+first_broken p s e = first_false p.tests p.names (without_names s.names e.retired) e.names (apply s e).values
 
 -- refused with a broken name, if there is one
 abbrev pub unless_broken : Option (List ℕ) → Settled → Settled

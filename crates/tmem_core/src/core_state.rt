@@ -1,13 +1,13 @@
 // The core.
-ghost use Rattle.std.specs.Prelude.{List, ℕ, ℤ, ◌≡◌, ◌≢◌, ◌≤◌, ◌<◌, ◌↔◌, ◌+◌, ◌-◌, true, false, [], ◌++◌, length, drop, slice_get, slice_index_or, Some, All, IsTrue, IfSome, IfNone, IfOk, IfErr};
+ghost use Rattle.std.specs.Prelude.{List, ℕ, ℤ, ◌≡◌, ◌≢◌, ◌≤◌, ◌<◌, ◌^◌, ◌↔◌, ◌+◌, ◌-◌, true, false, [], ◌++◌, length, drop, slice_get, slice_index_or, Some, All, IsTrue, IfSome, IfNone, IfOk, IfErr};
 ghost use Rattle.std.specs.Map.{keys_of};
 ghost use Rattle.std.proofs.Props.{props};
-ghost use Rattle.tmem_record.specs.Names.{has_name, with_names, AreRegistered, AreRegistered-prop};
+ghost use Rattle.tmem_record.specs.Names.{has_name, without_names, AreApart, AreRegistered, AreRegistered-prop};
 ghost use Rattle.tmem_record.specs.State.{apply};
 ghost use Rattle.tmem_record.specs.declared.name_set.TheConstants.{MAX_NAMES};
 ghost use Rattle.tmem_invariants.specs.Meanings.{Meanings, AllHold, IsSound, first_false};
 ghost use Rattle.tmem_invariants.specs.Places.{ArePlacesOf};
-ghost use Rattle.tmem_tentative.specs.Fits.{IsForVariables};
+ghost use Rattle.tmem_tentative.specs.Fits.{IsForVariables, IsForNames};
 ghost use Rattle.tmem_core.specs.Opening.{fault_against, IsOpeningRefusal};
 ghost use Rattle.tmem_core.specs.SettleAnswer.{is_stale};
 ghost use Rattle.tmem_record.specs.Loggable.{IsLoggable, IsLoggable-prop};
@@ -59,9 +59,12 @@ pub struct Core<T: Invariants> {
     /// What is accepted is durable or waits.
     pub ghost counted: { state.count ≡ durable + length waiting },
 
-    /// The state is what all that it accepted makes of the state that it was made of, and those behind the durable number
-    /// wait.
+    /// The state is what all that it accepted makes of the state that it was made of, within the limits after each of these, and
+    /// those behind the durable number wait.
     pub ghost folded: { ∥ IsFolded opened.value (effects_of history) durable waiting state ∥₁ },
+
+    /// The count has 64 bits.
+    pub ghost countable: { state.count < 2 ^ 64 },
 
     /// At most `MAX_WAITING` wait.
     pub ghost few: { length waiting ≤ 256 },
@@ -77,7 +80,7 @@ impl<T: Invariants + Drop> Core<T> {
     ghost use Rattle.tmem_core.specs.Held.{view_of, state_of, waiting_of, durable_of, is_shut_of, table_of, new_view, accepting, knowing};
     ghost use Rattle.tmem_core.specs.Opening.{opening_fault};
     ghost use Rattle.tmem_core.specs.Program.{Program, IsProgramOf};
-    ghost use Rattle.tmem_core.specs.SettleAnswer.{normal_answer, sound_answer, accepted_by, IsRefusal};
+    ghost use Rattle.tmem_core.specs.SettleAnswer.{normal_answer, sound_answer, accepted_by, IsRefusal, TellsOneOf};
     ghost use Rattle.tmem_core.specs.Decisions.{answer_of, RetriesAt};
     ghost use Rattle.tmem_core.specs.Settling.{Settles};
 
@@ -185,12 +188,12 @@ impl<T: Invariants + Drop> Core<T> {
     }
 
     /// Settles an attempt by the present state, and accepts its effect where it commits. One that checked an invariant where that
-    /// was false is answered `Refused` with its name. Refused with `Closed` where the
-    /// core is shut; with `Conflict` where a value that was read is not the present one; with `Full` where as many as may
-    /// wait do; with `Spent` where no greater count is left. Nothing changes then, nor where the answer is no `Committed`.
+    /// was false is answered `Refused` with its name. An invariant that it retires is not tested at its end. Refused with `Closed`
+    /// where the core is shut; with `Conflict` where a value that was read is not the present one; with `Full` where as many as
+    /// may wait do; with `Spent` where no greater count is left. Nothing changes then, nor where the answer is no `Committed`.
     pub fn settle(&mut self, attempt: &Attempt) -> Result<Settled, Fault>
         requires variables { IsForVariables (length (state_of self.old).values) attempt.now }
-        requires names { All (λ name. IsTrue (has_name (T.names (table_of self.old)) name)) attempt.now.effect.names }
+        requires names { IsForNames (T.names (table_of self.old)) attempt.now }
         ensures { Settles self.old self.new attempt.now result }
     {
         let decision = self.decide(attempt)?;
@@ -201,7 +204,7 @@ impl<T: Invariants + Drop> Core<T> {
     /// attempt, and are not copied.
     pub fn decide(&mut self, attempt: &Attempt) -> Result<Decision, Fault>
         requires variables { IsForVariables (length (state_of self.old).values) attempt.now }
-        requires names { All (λ name. IsTrue (has_name (T.names (table_of self.old)) name)) attempt.now.effect.names }
+        requires names { IsForNames (T.names (table_of self.old)) attempt.now }
         ensures settles { Settles self.old self.new attempt.now (answer_of result attempt.now.registers) }
         ensures retries { RetriesAt (state_of self.old).count result }
     {
@@ -223,40 +226,58 @@ impl<T: Invariants + Drop> Core<T> {
     fn settle_normal(&mut self, effect: &Effect) -> Result<Decision, Fault>
         requires variables { All (λ var. var < length (state_of self.old).values) (keys_of effect.now.writes) }
         requires names { All (λ name. IsTrue (has_name (T.names (table_of self.old)) name)) effect.now.names }
+        requires apart { AreApart effect.now.names effect.now.retired }
         ensures answer { (p : Program) → IsProgramOf T.Invariants (table_of self.old) p
             → (registers : List ℤ) → answer_of result registers ≡ normal_answer p (state_of self.old) (durable_of self.old) effect.now registers }
+        ensures named { (registers : List ℤ) → IfOk (answer_of result registers) (TellsOneOf (T.names (table_of self.old))) }
         ensures refused { IfErr result IsRefusal }
         ensures retries { RetriesAt (state_of self.old).count result }
         ensures view { (registers : List ℤ) → view_of self.new ≡ accepting (accepted_by (answer_of result registers) effect.now) (view_of self.old) }
     {
+        let kept = self.places_kept(effect);
         let proposed = places_of(&self.table, effect.names.as_slice());
-        match self.first_broken(effect, proposed) {
+        match self.first_broken(effect, kept, proposed) {
             Some(name) => Ok(Decision::Refused(name)),
-            None => self.accept(effect, proposed),
+            None => self.accept(effect, kept | proposed),
         }
     }
 
-    // The first name, in the table's order, that is false of the map that an effect would make, whose names have these
-    // places. It is written into the present values for the test alone.
-    fn first_broken(&mut self, effect: &Effect, proposed: u64) -> Option<Name>
+    // The places of the registered names that an effect does not retire. (Most retire none.)
+    fn places_kept(&self, effect: &Effect) -> u64
+        ensures { ArePlacesOf (without_names (state_of self.now).names effect.now.retired) (T.names (table_of self.now)) result }
+    {
+        let retired = effect.retired.as_slice();
+        if retired.is_empty() {
+            return self.places;
+        }
+        self.places & !places_of(&self.table, retired)
+    }
+
+    // The first name, in the table's order, that is false of the map that an effect would make, of the registered ones that it
+    // does not retire and of those that it proposes: they have these places. The effect is written into the present values for the
+    // test alone.
+    fn first_broken(&mut self, effect: &Effect, kept: u64, proposed: u64) -> Option<Name>
         requires variables { All (λ var. var < length (state_of self.old).values) (keys_of effect.now.writes) }
+        requires kept { ArePlacesOf (without_names (state_of self.old).names effect.now.retired) (T.names (table_of self.old)) kept }
         requires proposed { ArePlacesOf effect.now.names (T.names (table_of self.old)) proposed }
         ensures first { (m : Meanings) → T.is_stated (table_of self.old) m
-            → result ≡ first_false m (T.names (table_of self.old)) (state_of self.old).names effect.now.names (apply (state_of self.old) effect.now).values }
+            → result ≡ first_false m (T.names (table_of self.old)) (without_names (state_of self.old).names effect.now.retired) effect.now.names (apply (state_of self.old) effect.now).values }
+        ensures named { IfSome result (λ name. has_name (T.names (table_of self.old)) name ≡ true) }
         ensures view { view_of self.new ≡ view_of self.old }
     {
-        let (registered, state, olds) = (self.places, &mut self.state, &mut self.olds);
-        match first_false(&self.table, registered, proposed, state, olds, effect) {
+        let (state, olds) = (&mut self.state, &mut self.olds);
+        match first_false(&self.table, kept, proposed, state, olds, effect) {
             Some(place) => Some(self.table.name(place)),
             None => None,
         }
     }
 
-    // Settles an effect of which every invariant stays true, and whose names have these places.
-    fn accept(&mut self, effect: &Effect, proposed: u64) -> Result<Decision, Fault>
+    // Settles an effect of which every invariant stays true, where the registered names then have these places.
+    fn accept(&mut self, effect: &Effect, places: u64) -> Result<Decision, Fault>
         requires variables { All (λ var. var < length (state_of self.old).values) (keys_of effect.now.writes) }
-        requires proposed { ArePlacesOf effect.now.names (T.names (table_of self.old)) proposed }
-        requires room { length (with_names (state_of self.old).names effect.now.names) ≤ MAX_NAMES }
+        requires apart { AreApart effect.now.names effect.now.retired }
+        requires places { ArePlacesOf (apply (state_of self.old) effect.now).names (T.names (table_of self.old)) places }
+        requires room { length (apply (state_of self.old) effect.now).names ≤ MAX_NAMES }
         requires known { All (λ name. IsTrue (has_name (T.names (table_of self.old)) name)) (apply (state_of self.old) effect.now).names }
         requires sound { (m : Meanings) → T.is_stated (table_of self.old) m → AllHold m (apply (state_of self.old) effect.now).names (apply (state_of self.old) effect.now).values }
         ensures answer { (registers : List ℤ) → answer_of result registers ≡ sound_answer (state_of self.old) (durable_of self.old) effect.now registers }
@@ -275,7 +296,7 @@ impl<T: Invariants + Drop> Core<T> {
             return Err(Fault::Spent);
         }
         self.state.accept(effect);
-        self.places |= proposed;
+        self.places = places;
         self.waiting.push(effect);
         self.history = History::with(&self.history, effect);
         Ok(Decision::Committed(number))

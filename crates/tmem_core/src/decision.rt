@@ -16,8 +16,8 @@ pub enum Decision {
     Retry(u64),
     /// It gave up, with this code.
     Aborted(u16),
-    /// This invariant was false where it was checked; or it would be: the first in the table's order of those that are registered or
-    /// checked.
+    /// This invariant was false where it was checked; or it would be: the first in the table's order of those that are checked, or that
+    /// are registered and not retired by it.
     Refused(Name),
 }
 

@@ -1,5 +1,6 @@
 // What an effect would break, found on the present values themselves.
 ghost use Rattle.std.specs.Prelude.{◌≡◌, ◌≤◌, ◌<◌, pos, List, ℤ, length, take, map, slice_index_or, All, IfSome};
+ghost use Rattle.tmem_record.specs.Names.{without_names};
 ghost use Rattle.tmem_record.specs.State.{written};
 ghost use Rattle.tmem_invariants.specs.Meanings.{Meanings, AllHold, first_false, value_of};
 ghost use Rattle.tmem_invariants.specs.Places.{ArePlacesOf};
@@ -8,13 +9,13 @@ ghost use Rattle.tmem_invariants.specs.TableNames.{name_at};
 use tmem_invariants::Invariants;
 use tmem_record::{Effect, MAX_WRITES, State};
 
-/// The place, in the table's order, of the first name that is registered or that an effect proposes, and is false of the
-/// map that the effect would make: both are given as the sets of their places. Where it proposes none, and no registered
-/// one is over a variable that it writes, nothing is tested. Otherwise the effect is written into the state, and the old
-/// values, which stand in a buffer meanwhile, are put back after the test.
+/// The place, in the table's order, of the first name that is false of the map that an effect would make, of the registered
+/// names that it does not retire and of those that it proposes: both are given as the sets of their places. Where it proposes
+/// none, and none of the others is over a variable that it writes, nothing is tested. Otherwise the effect is written into the
+/// state, and the old values, which stand in a buffer meanwhile, are put back after the test.
 pub(crate) fn first_false<T: Invariants>(
     table: &T,
-    registered: u64,
+    kept: u64,
     proposed: u64,
     state: &mut State,
     olds: &mut [(u16, i64); MAX_WRITES],
@@ -22,20 +23,20 @@ pub(crate) fn first_false<T: Invariants>(
 ) -> Option<usize>
     requires vars { T.vars table.now ≡ length state.old.values }
     requires variables { All (λ w. w.0 < length state.old.values) effect.now.writes }
-    requires registered { ArePlacesOf state.old.names (T.names table.now) registered }
+    requires kept { ArePlacesOf (without_names state.old.names effect.now.retired) (T.names table.now) kept }
     requires proposed { ArePlacesOf effect.now.names (T.names table.now) proposed }
     ensures within { IfSome result (λ place. place < length (T.names table.now)) }
     ensures first { (m : Meanings) → T.is_stated table.now m → AllHold m state.old.names state.old.values
-        → name_at (T.names table.now) result ≡ first_false m (T.names table.now) state.old.names effect.now.names (written state.old.values effect.now.writes) }
+        → name_at (T.names table.now) result ≡ first_false m (T.names table.now) (without_names state.old.names effect.now.retired) effect.now.names (written state.old.values effect.now.writes) }
     ensures state { state.new ≡ state.old }
 {
     let writes = effect.writes.as_slice();
-    if proposed == 0 && !table.is_touched(registered, writes) {
+    if proposed == 0 && !table.is_touched(kept, writes) {
         return None;
     }
     save(state.values(), writes, olds);
     state.overwrite(writes);
-    let place = table.test_touched(state.values(), registered, proposed, writes);
+    let place = table.test_touched(state.values(), kept, proposed, writes);
     state.overwrite(&olds[..writes.len()]);
     place
 }

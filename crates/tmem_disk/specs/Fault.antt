@@ -2,7 +2,7 @@
 use Rattle.std.specs.Prelude.{ℕ, List, ◌++◌, codes}
 use Rattle.std.specs.Fmt.{decimal}
 use Rattle.tmem_disk.specs.declared.fault.Cause.{Cause}
-use Rattle.tmem_disk.specs.declared.fault.Cause.TheVariants.{TooDeep, TooManyNodes, TooManyWrites, TooManyChecks, BadRegister, BadVariable, BadStep, BadArguments, UnknownName}
+use Rattle.tmem_disk.specs.declared.fault.Cause.TheVariants.{TooDeep, TooManyNodes, TooManyWrites, TooManyChecks, BadRegister, BadVariable, BadStep, BadArguments, UnknownName, TooManyRetires}
 use Rattle.tmem_disk.specs.declared.fault.Fault.{Fault}
 use Rattle.tmem_disk.specs.declared.fault.Fault.TheVariants as fault
 
@@ -17,6 +17,7 @@ number_of BadVariable = 6
 number_of BadStep = 7
 number_of BadArguments = 8
 number_of UnknownName = 9
+number_of TooManyRetires = 10
 
 -- what is printed for a refusal: its number, its word, and what it names
 abbrev pub text_of : Fault → List ℕ

@@ -117,10 +117,12 @@ pub enum Cause {
     BadArguments,
     /// No invariant of this name was handed in.
     UnknownName,
+    /// It retires more than 8 names.
+    TooManyRetires,
 }
 
 impl Cause {
-    // The number that is printed, 1 to 9 in the order of the variants.
+    // The number that is printed, 1 to 10 in the order of the variants.
     fn number(self) -> u8
         ensures { result ≡ number_of self }
     {
@@ -134,6 +136,7 @@ impl Cause {
             Cause::BadStep => 7,
             Cause::BadArguments => 8,
             Cause::UnknownName => 9,
+            Cause::TooManyRetires => 10,
         }
     }
 }

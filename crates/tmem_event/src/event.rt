@@ -25,7 +25,7 @@ pub enum Event {
     /// Asks how many accepted transactions are known durable. Refused with `Closed`.
     Look,
     /// Drops the session and all slots, and opens the same device again. Refused with `Memory`, `Device`,
-    /// `NotFormatted`, `Damaged`, `Geometry`, `Missing`, `Broken`, and then no session stands.
+    /// `NotFormatted`, `Damaged`, `Geometry`, `Spent`, `Missing`, `Broken`, and then no session stands.
     Reopen,
 }
 

@@ -13,8 +13,8 @@ use Rattle.tmem_tree.specs.declared.tx.Tx.{Tx}
 use Rattle.tmem_tree.specs.declared.tx.Tx.TheFolds.{map-Tx, fold_out-Tx, fold-roll-Tx, every_here-Tx, every_held-Tx, every_made-Tx}
 use Rattle.tmem_tree.specs.declared.tx.Tx.TheOpen.{Tx-F}
 use Rattle.tmem_tree.specs.declared.tx.Tx.TheOpen as level
-use Rattle.tmem_tree.specs.declared.tx.Tx.TheVariants.{Skip, Seq, Put, Read, Write, Step, When, OrElse, Retry, Abort, Check}
-use Rattle.tmem_tree.specs.declared.tx.Tx.TheViews.{out-Tx, roll-Tx, rolls-Skip, rolls-Seq, rolls-Put, rolls-Read, rolls-Write, rolls-Step, rolls-When, rolls-OrElse, rolls-Retry, rolls-Abort, rolls-Check}
+use Rattle.tmem_tree.specs.declared.tx.Tx.TheVariants.{Skip, Seq, Put, Read, Write, Step, When, OrElse, Retry, Abort, Check, Retire}
+use Rattle.tmem_tree.specs.declared.tx.Tx.TheViews.{out-Tx, roll-Tx, rolls-Skip, rolls-Seq, rolls-Put, rolls-Read, rolls-Write, rolls-Step, rolls-When, rolls-OrElse, rolls-Retry, rolls-Abort, rolls-Check, rolls-Retire}
 use Rattle.tmem_forms.proofs.Laws.{NoTx, key_of, apart, width}
 use Rattle.tmem_forms.specs.TxForms.{natural, integer, array_of, tagged, level_form, tx_form, IsByte, IsShort, LevelInRange, TxInRange, IsTx}
 
@@ -35,6 +35,7 @@ HeldInRange (level.OrElse first second) = TxInRange first.value × TxInRange sec
 HeldInRange level.Retry = Unit {0}
 HeldInRange (level.Abort code) = Unit {0}
 HeldInRange (level.Check name) = Unit {0}
+HeldInRange (level.Retire name) = Unit {0}
 
 -- this value is the form of this level
 record IsLevel (x : Tx-F Tx) (d : Data) : Type 0 where
@@ -58,6 +59,7 @@ held_of (level.OrElse first second) = (first.value.1, second.value.1)
 held_of level.Retry = tt
 held_of (level.Abort code) = tt
 held_of (level.Check name) = tt
+held_of (level.Retire name) = tt
 
 level_of : (tx : Tx) (d : Data) → IsTx tx d → IsLevel (out-Tx tx) d
 level_of tx d is =
@@ -96,6 +98,7 @@ ranged_level (level.OrElse first second) held = (level.OrElse (ranged_box first 
 ranged_level level.Retry held = (level.Retry, refl)
 ranged_level (level.Abort code) held = (level.Abort code, refl)
 ranged_level (level.Check name) held = (level.Check name, refl)
+ranged_level (level.Retire name) held = (level.Retire name, refl)
 
 tx_of_level : (x : Tx-F Tx) → LevelInRange x → HeldInRange x → IsTx (roll-Tx x) (level_form (map-Tx Tx Data tx_form x))
 tx_of_level x here held =
@@ -137,6 +140,9 @@ IsTx-Abort code fits = subst (λ tx. IsTx tx (tagged (codes "abort") (natural co
 
 pub IsTx-Check : (name : List ℕ) → IsName name → IsTx (Check name) (tagged (codes "check") (string name))
 IsTx-Check name is = subst (λ tx. IsTx tx (tagged (codes "check") (string name))) (rolls-Check name) (tx_of_level (level.Check name) is tt)
+
+pub IsTx-Retire : (name : List ℕ) → IsName name → IsTx (Retire name) (tagged (codes "retire") (string name))
+IsTx-Retire name is = subst (λ tx. IsTx tx (tagged (codes "retire") (string name))) (rolls-Retire name) (tx_of_level (level.Retire name) is tt)
 
 -- ---- what a value has to be for a transaction
 
@@ -243,6 +249,14 @@ no_check_level body none _ is = apart (codes "check") _ refl (ap key_of is.form)
 pub no_check : (key : List ℕ) (body : Data) → key ≡ codes "check" → NoCheck body → NoTx (tagged key body)
 no_check key body is none tx form = no_check_level body none (out-Tx tx) (level_of tx _ (subst (λ k. IsTx tx (tagged k body)) is form))
 
+-- retire
+no_retire_level : (body : Data) → NoCheck body → (x : Tx-F Tx) → IsLevel x (tagged (codes "retire") body) → ⊥
+no_retire_level body none (level.Retire name) is = let form = is.form in none name is.here cc
+no_retire_level body none _ is = apart (codes "retire") _ refl (ap key_of is.form)
+
+pub no_retire : (key : List ℕ) (body : Data) → key ≡ codes "retire" → NoCheck body → NoTx (tagged key body)
+no_retire key body is none tx form = no_retire_level body none (out-Tx tx) (level_of tx _ (subst (λ k. IsTx tx (tagged k body)) is form))
+
 level_width : (x : Tx-F Tx) → width (level_form (map-Tx Tx Data tx_form x)) ≡ 1
 level_width level.Skip = refl
 level_width (level.Seq txs) = refl
@@ -255,6 +269,7 @@ level_width (level.OrElse first second) = refl
 level_width level.Retry = refl
 level_width (level.Abort code) = refl
 level_width (level.Check name) = refl
+level_width (level.Retire name) = refl
 
 pub no_tx_of_members : (m : BTreeMap (String Global) Value) → ¬ (length m.entries ≡ 1) → NoTx (view (Object m))
 no_tx_of_members m many tx is =

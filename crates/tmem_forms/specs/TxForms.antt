@@ -41,6 +41,7 @@ level_form (level.OrElse first second) = tagged (codes "orelse") (array_of (firs
 level_form level.Retry = string (codes "retry")
 level_form (level.Abort code) = tagged (codes "abort") (natural code)
 level_form (level.Check name) = tagged (codes "check") (string name)
+level_form (level.Retire name) = tagged (codes "retire") (string name)
 
 -- the form of a transaction
 abbrev pub tx_form : Tx → Data
@@ -67,6 +68,7 @@ LevelInRange (level.OrElse first second) = Unit {0}
 LevelInRange level.Retry = Unit {0}
 LevelInRange (level.Abort code) = IsShort code
 LevelInRange (level.Check name) = IsName name
+LevelInRange (level.Retire name) = IsName name
 
 -- each level of a transaction is in range
 abbrev pub TxInRange : Tx → Type 0

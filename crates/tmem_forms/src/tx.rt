@@ -146,6 +146,10 @@ fn leaf_of(alloc: Global, key: &str, body: &Value) -> Result<Tx, FormError>
             let name = name_of(body)?;
             Ok(Tx::Check { name })
         }
+        "retire" => {
+            let name = name_of(body)?;
+            Ok(Tx::Retire { name })
+        }
         _ => Err(FormError::NoForm),
     }
 }

@@ -1,5 +1,5 @@
 // The two locks, and the spine beside them.
-ghost use Rattle.std.specs.Prelude.{◌≡◌, ◌≢◌, ◌≤◌, ◌<◌, ◌↔◌, true, false, Err, length, All, IsTrue, IfOk, IfErr};
+ghost use Rattle.std.specs.Prelude.{◌≡◌, ◌≢◌, ◌≤◌, ◌<◌, ◌↔◌, true, false, Err, length, IsTrue, IfOk, IfErr};
 ghost use Rattle.std.specs.Sync.Mutex.{mutex_guard_value};
 ghost use Rattle.tmem_journal.specs.Held.{is_closed_of};
 ghost use Rattle.tmem_seats.specs.Flushing.{GoesOn, IsFlushRefusal, IsCheckpointRefusal, IsFlusherRefusal};
@@ -113,7 +113,7 @@ impl<D: Disk + Drop, N: StoreNaming, T: Invariants + Drop, S: StoredSteps + Drop
         attempt: &Attempt,
     ) -> Result<Settled, Fault>
         requires variables { IsForVariables (length N.opening.values) attempt.now }
-        requires names { All (λ name. IsTrue (has_name N.program.names name)) attempt.now.effect.names }
+        requires names { IsForNames N.program.names attempt.now }
         ensures settled { Settles N.name.start N.opening N.program attempt.now pass.old result pass.new }
     {
         self.settle_under(self.core.lock(rt), &mut pass.seat, attempt)
@@ -127,7 +127,7 @@ impl<D: Disk + Drop, N: StoreNaming, T: Invariants + Drop, S: StoredSteps + Drop
         attempt: &Attempt,
     ) -> Result<Settled, Fault>
         requires variables { IsForVariables (length N.opening.values) attempt.now }
-        requires names { All (λ name. IsTrue (has_name N.program.names name)) attempt.now.effect.names }
+        requires names { IsForNames N.program.names attempt.now }
         ensures settled { Settles N.name.start N.opening N.program attempt.now seat.old result seat.new }
         ensures present { is_stale (after N.opening (mutex_guard_value core.entry).accepted) attempt.now.reads.entries ≡ false → result ≢ Err Fault.Conflict }
     {
@@ -216,8 +216,6 @@ impl<D: Disk + Drop, N: StoreNaming, T: Invariants + Drop, S: StoredSteps + Drop
                     cursor.give(var, value);
                 }
                 Progress::Probe => {
-                    // each name that it checks has a shape
-                    let _shapes = plan.shapes();
                     let held = self.probe(rt, cursor.probe());
                     cursor.answer(held);
                 }

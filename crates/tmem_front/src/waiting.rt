@@ -1,11 +1,10 @@
 // The calls that wait for other threads.
-ghost use Rattle.std.specs.Prelude.{◌≡◌, ◌≢◌, ◌⊎◌, ◌<◌, ◌≤◌, true, false, [], Ok, Err, IfOk, IfErr, OnOk, length, All, IsTrue};
+ghost use Rattle.std.specs.Prelude.{◌≡◌, ◌≢◌, ◌⊎◌, ◌<◌, ◌≤◌, true, false, [], Ok, Err, IfOk, IfErr, OnOk, length, IsTrue};
 ghost use Rattle.tmem_record.specs.declared.effect.Effect.{Effect as EffectOf};
 ghost use Rattle.tmem_core.specs.SettleAnswer.{accepted_by, is_stale};
 ghost use Rattle.tmem_record.specs.Prefix.{IsPrefix};
 ghost use Rattle.tmem_tree.specs.Plans.{IsShort, FitsSteps, FitsVariables, FitsNames, FitsShapes};
-ghost use Rattle.tmem_tentative.specs.Fits.{IsForVariables};
-ghost use Rattle.tmem_record.specs.Names.{has_name};
+ghost use Rattle.tmem_tentative.specs.Fits.{IsForVariables, IsForNames};
 ghost use Rattle.tmem_spine.specs.History.{count};
 ghost use Rattle.std.specs.Sync.Mutex.{mutex_guard_value};
 ghost use Rattle.tmem_seats.specs.Flushing.{IsFlusherRefusal};
@@ -164,7 +163,7 @@ impl<D: Disk + Drop, N: StoreNaming, T: Invariants + Drop, S: StoredSteps + Drop
         how: Turn,
     ) -> Result<Settled, Fault>
         requires variables { IsForVariables (length N.opening.values) attempt.now }
-        requires names { All (λ name. IsTrue (has_name N.program.names name)) attempt.now.effect.names }
+        requires names { IsForNames N.program.names attempt.now }
         ensures settled { Settles N.name.start N.opening N.program attempt.now seat.old result seat.new }
         ensures present { is_stale (after N.opening (mutex_guard_value core.entry).accepted) attempt.now.reads.entries ≡ false → result ≢ Err Fault.Conflict }
     {

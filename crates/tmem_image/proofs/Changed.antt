@@ -9,6 +9,8 @@ use Rattle.tmem_gate.specs.Calls.{WritesWithin}
 use Rattle.tmem_record.specs.Layout.{pages_of, image_place}
 use Rattle.tmem_record.specs.Spelling.{number_bytes, value_bytes}
 use Rattle.tmem_record.specs.StandsAt.{StandsAt}
+use Rattle.tmem_record.specs.Versions.{mark_of}
+use Rattle.tmem_record.specs.declared.version.Version.{Version}
 use Rattle.tmem_record.specs.State.{State, apply, fold, written}
 use Rattle.tmem_record.specs.declared.effect.Effect.{Effect}
 use Rattle.tmem_record.proofs.Laws.{between_is, first_part, second_part, both_parts, moved, length-number_bytes}
@@ -145,23 +147,25 @@ page_stands at vars page zs c long below stands =
     (second_part at (pages_front zs page) (page_bytes zs page) c (subst (λ (l : List ℕ). StandsAt at l c) (front_more zs page full) front))
 
 -- the pages of an image stand behind its header
-pages_behind : (at vars generation : ℕ) (s : State) (c : List ℕ) → length (names_body s.names) ≡ 2031 → StandsAt at (image_body vars generation s) c → StandsAt (at + 2047) (pages_body vars s.values) c
+pages_behind : (v : Version) (at vars generation : ℕ) (s : State) (c : List ℕ) → length (names_body s.names) ≡ 2030 → StandsAt at (image_body v vars generation s) c → StandsAt (at + 2047) (pages_body vars s.values) c
 unfolding image_body
-pages_behind at vars generation s c long stands =
+pages_behind v at vars generation s c long stands =
     let pages : List ℕ = pages_body vars s.values in
     let names : List ℕ = names_body s.names in
     let count : List ℕ = number_bytes 8 s.count in
     let first : List ℕ = number_bytes 8 generation in
-    let one = second_part at first (count ++ (names ++ pages)) c stands in
-    let two = second_part (at + length first) count (names ++ pages) c one in
-    let three = second_part (at + length first + length count) names pages c two in
-    moved (at + length first + length count + length names) (at + 2047) pages c (omega (arith, length-number_bytes 8 generation, length-number_bytes 8 s.count, long)) three
+    let mark : List ℕ = mark_of v ∷ [] in
+    let one = second_part at first (count ++ (names ++ (mark ++ pages))) c stands in
+    let two = second_part (at + length first) count (names ++ (mark ++ pages)) c one in
+    let three = second_part (at + length first + length count) names (mark ++ pages) c two in
+    let four = second_part (at + length first + length count + length names) mark pages c three in
+    moved (at + length first + length count + length names + 1) (at + 2047) pages c (omega (arith, length-number_bytes 8 generation, length-number_bytes 8 s.count, long)) four
 
 -- an image holds each page of its values
-pub HoldsOthers-image : (vars copy generation pages : ℕ) (s : State) (c : List ℕ) → HoldsImage vars copy generation s c → HoldsOthers (pages_place vars copy) vars pages s.values c
-HoldsOthers-image vars copy generation pages s c holds = record {
+pub HoldsOthers-image : (v : Version) (vars copy generation pages : ℕ) (s : State) (c : List ℕ) → HoldsImage v vars copy generation s c → HoldsOthers (pages_place vars copy) vars pages s.values c
+HoldsOthers-image v vars copy generation pages s c holds = record {
   each = λ page below kept.
       page_stands (pages_place vars copy) vars page s.values c holds.fits.values below
       (moved (image_place vars copy + 1 + 2047) (pages_place vars copy) (pages_body vars s.values) c (omega arith)
-      (pages_behind (image_place vars copy + 1) vars generation s c (length-names_body s.names holds.fits.names) (body_stands (image_place vars copy) (image_body vars generation s) c holds.cell.body)));
+      (pages_behind v (image_place vars copy + 1) vars generation s c (length-names_body s.names holds.fits.names) (body_stands (image_place vars copy) (image_body v vars generation s) c holds.cell.body)));
 }

@@ -1,11 +1,13 @@
 -- What the cell of a copy says of the image that it holds.
-use Rattle.std.proofs.Common.{◌+◌, ◌<◌, ◌++◌, ℕ, List, length, sym, ◌∙◌}
+use Rattle.std.proofs.Common.{◌+◌, ◌<◌, ◌∷◌, ◌++◌, ℕ, List, length, sym, ◌∙◌}
 use Rattle.tmem_gate.specs.Gate.{HasBody, IsOpenOver}
 use Rattle.tmem_record.specs.Layout.{image_place}
 use Rattle.tmem_record.specs.Spelling.{number_bytes}
 use Rattle.tmem_record.specs.Stale.{IsStale}
 use Rattle.tmem_record.specs.StandsAt.{StandsAt}
 use Rattle.tmem_record.specs.State.{State}
+use Rattle.tmem_record.specs.Versions.{mark_of}
+use Rattle.tmem_record.specs.declared.version.Version.{Version}
 use Rattle.tmem_record.proofs.Laws.{between_is, first_part}
 use Rattle.tmem_image.specs.Spelling.{names_body, pages_body, image_body}
 use Rattle.tmem_image.specs.Image.{HoldsImage}
@@ -26,15 +28,15 @@ front_of_body : (at : ℕ) (a b c : List ℕ) → IsOpenOver at (a ++ b) c → I
 front_of_body at a b c cell = record { gate = cell.gate; body = body_from at a c (first_part (at + 1) a b c (body_stands at (a ++ b) c cell.body)) }
 
 -- the generation stands in front of an image
-pub front_of_image : (vars generation at : ℕ) (s : State) (c : List ℕ) → IsOpenOver at (image_body vars generation s) c → IsOpenOver at (number_bytes 8 generation) c
+pub front_of_image : (v : Version) (vars generation at : ℕ) (s : State) (c : List ℕ) → IsOpenOver at (image_body v vars generation s) c → IsOpenOver at (number_bytes 8 generation) c
 unfolding image_body
-front_of_image vars generation at s c cell = front_of_body at (number_bytes 8 generation) (number_bytes 8 s.count ++ (names_body s.names ++ pages_body vars s.values)) c cell
+front_of_image v vars generation at s c cell = front_of_body at (number_bytes 8 generation) (number_bytes 8 s.count ++ (names_body s.names ++ (mark_of v ∷ pages_body vars s.values))) c cell
 
 -- a copy that holds an image is stale only for a generation above the image's
-pub lesser_of : (vars copy generation later : ℕ) (s : State) (c : List ℕ) → HoldsImage vars copy generation s c → IsStale later (image_place vars copy) c → generation < later
-lesser_of vars copy generation later s c holds stale = below_stale generation later (image_place vars copy) c holds.number.fits (front_of_image vars generation (image_place vars copy) s c holds.cell) stale
+pub lesser_of : (v : Version) (vars copy generation later : ℕ) (s : State) (c : List ℕ) → HoldsImage v vars copy generation s c → IsStale later (image_place vars copy) c → generation < later
+lesser_of v vars copy generation later s c holds stale = below_stale generation later (image_place vars copy) c holds.number.fits (front_of_image v vars generation (image_place vars copy) s c holds.cell) stale
 
 pub one_image : OneImage
-one_image vars copy g h s t c one other =
-    let long = length-image_body vars g s one.fits.names one.fits.values ∙ sym (length-image_body vars h t other.fits.names other.fits.values) in
-    one_state vars g h s t one.number.fits other.number.fits one.fits other.fits (one_body (image_place vars copy) (image_body vars g s) (image_body vars h t) c long one.cell other.cell)
+one_image v w vars copy g h s t c one other =
+    let long = length-image_body v vars g s one.fits.names one.fits.values ∙ sym (length-image_body w vars h t other.fits.names other.fits.values) in
+    one_state v w vars g h s t one.number.fits other.number.fits one.fits other.fits (one_body (image_place vars copy) (image_body v vars g s) (image_body w vars h t) c long one.cell other.cell)

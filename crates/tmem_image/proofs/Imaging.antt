@@ -1,11 +1,15 @@
 -- An image and its parts.
-use Rattle.std.proofs.Common.{◌≡◌, ◌+◌, ◌*◌, ◌-◌, ◌<◌, ◌^◌, ℕ, ℤ, List, ◌++◌, length, take, drop, replicate, refl, sym, ◌∙◌, ap, arith, append_assoc}
+use Rattle.std.proofs.Common.{◌≡◌, ◌+◌, ◌*◌, ◌-◌, ◌<◌, ◌^◌, ℕ, ℤ, List, [], ◌∷◌, ◌++◌, length, take, drop, replicate, get_or, refl, sym, ◌∙◌, ap, arith, append_assoc}
 use Rattle.std.specs.Prelude.{FitsSigned}
+use Rattle.std.proofs.lemmas.List.{drop_more}
 use Rattle.std.specs.Int.{w64}
 use Rattle.tmem_record.specs.Names.{AreRegistered}
 use Rattle.tmem_record.specs.Spelling.{number_bytes, value_bytes, names_bytes}
 use Rattle.tmem_record.specs.State.{State}
 use Rattle.tmem_record.specs.StandsAt.{StandsAt, zero_bytes, values_bytes}
+use Rattle.tmem_record.specs.Versions.{mark_of}
+use Rattle.tmem_record.specs.declared.version.Version.{Version}
+use Rattle.tmem_record.specs.declared.version.Version.TheVariants.{One, Two}
 use Rattle.tmem_record.specs.Layout.{pages_of, image_size}
 use Rattle.tmem_record.proofs.Laws.{length-number_bytes, same_parts, delimits_number, delimits_value, delimits_registered, delimits_all, cut, glue, from_whole, whole_from, length-values_bytes}
 use Rattle.tmem_image.specs.Spelling.{names_body, pages_body, image_body, AreValues, IsImage}
@@ -15,70 +19,90 @@ use Rattle.tmem_image.proofs.Lengths.{length-names_body, length-image_body}
 abbrev rest_of : ℕ → List ℕ
 rest_of vars = zero_bytes (512 * pages_of vars - 8 * vars)
 
-abbrev behind_names : ℕ → State → List ℕ
-behind_names vars s = values_bytes s.values ++ rest_of vars
+abbrev behind_mark : ℕ → State → List ℕ
+behind_mark vars s = values_bytes s.values ++ rest_of vars
 
-abbrev behind_count : ℕ → State → List ℕ
-behind_count vars s = names_body s.names ++ behind_names vars s
+abbrev behind_names : Version → ℕ → State → List ℕ
+behind_names v vars s = (mark_of v ∷ []) ++ behind_mark vars s
 
-abbrev behind_generation : ℕ → State → List ℕ
-behind_generation vars s = number_bytes 8 s.count ++ behind_count vars s
+abbrev behind_count : Version → ℕ → State → List ℕ
+behind_count v vars s = names_body s.names ++ behind_names v vars s
 
-image_parts : (vars generation : ℕ) (s : State) → image_body vars generation s ≡ number_bytes 8 generation ++ behind_generation vars s
+abbrev behind_generation : Version → ℕ → State → List ℕ
+behind_generation v vars s = number_bytes 8 s.count ++ behind_count v vars s
+
+image_parts : (v : Version) (vars generation : ℕ) (s : State) → image_body v vars generation s ≡ number_bytes 8 generation ++ behind_generation v vars s
 unfolding image_body pages_body zero_bytes values_bytes
-image_parts vars generation s = refl
+image_parts v vars generation s = refl
 
 -- where an image's parts stand
-pub record IsSplit (vars generation : ℕ) (s : State) (bytes : List ℕ) : Type 0 where
+pub record IsSplit (v : Version) (vars generation : ℕ) (s : State) (bytes : List ℕ) : Type 0 where
   pub first : StandsAt 0 (number_bytes 8 generation) bytes
   pub count : StandsAt 8 (number_bytes 8 s.count) bytes
   pub names : StandsAt 16 (names_body s.names) bytes
+  pub mark : StandsAt 2046 (mark_of v ∷ []) bytes
   pub values : StandsAt 2047 (values_bytes s.values) bytes
   pub padded : IsPadded vars bytes
 
-module _ (vars generation : ℕ) (s : State) (registered : AreRegistered s.names) (long : length s.values ≡ vars) (bytes : List ℕ) where
+module _ (v : Version) (vars generation : ℕ) (s : State) (registered : AreRegistered s.names) (long : length s.values ≡ vars) (bytes : List ℕ) where
   after_generation : 0 + length (number_bytes 8 generation) ≡ 8
   after_generation = omega (arith, length-number_bytes 8 generation)
 
   after_count : 8 + length (number_bytes 8 s.count) ≡ 16
   after_count = omega (arith, length-number_bytes 8 s.count)
 
-  after_names : 16 + length (names_body s.names) ≡ 2047
+  after_names : 16 + length (names_body s.names) ≡ 2046
   after_names = omega (arith, length-names_body s.names registered)
 
   after_values : 2047 + length (values_bytes s.values) ≡ 2047 + 8 * vars
   after_values = omega (arith, length-values_bytes s.values)
 
-  pub split_image : bytes ≡ image_body vars generation s → IsSplit vars generation s bytes
+  pub split_image : bytes ≡ image_body v vars generation s → IsSplit v vars generation s bytes
   split_image same =
-      let whole = from_whole (number_bytes 8 generation ++ behind_generation vars s) bytes (same ∙ image_parts vars generation s) in
-      let at_8 = cut 0 8 (number_bytes 8 generation) (behind_generation vars s) bytes after_generation whole in
-      let at_16 = cut 8 16 (number_bytes 8 s.count) (behind_count vars s) bytes after_count at_8.1 in
-      let at_2047 = cut 16 2047 (names_body s.names) (behind_names vars s) bytes after_names at_16.1 in
+      let whole = from_whole (number_bytes 8 generation ++ behind_generation v vars s) bytes (same ∙ image_parts v vars generation s) in
+      let at_8 = cut 0 8 (number_bytes 8 generation) (behind_generation v vars s) bytes after_generation whole in
+      let at_16 = cut 8 16 (number_bytes 8 s.count) (behind_count v vars s) bytes after_count at_8.1 in
+      let at_2046 = cut 16 2046 (names_body s.names) (behind_names v vars s) bytes after_names at_16.1 in
+      let at_2047 = cut 2046 2047 (mark_of v ∷ []) (behind_mark vars s) bytes refl at_2046.1 in
       let last = cut 2047 (2047 + 8 * vars) (values_bytes s.values) (rest_of vars) bytes after_values at_2047.1 in
-      record { first = at_8.0; count = at_16.0; names = at_2047.0; values = last.0; padded = last.1 }
+      record { first = at_8.0; count = at_16.0; names = at_2046.0; mark = at_2047.0; values = last.0; padded = last.1 }
 
-  pub join_image : length bytes + 1 ≡ image_size vars → IsSplit vars generation s bytes → bytes ≡ image_body vars generation s
+  pub join_image : length bytes + 1 ≡ image_size vars → IsSplit v vars generation s bytes → bytes ≡ image_body v vars generation s
   join_image size parts =
       let from_values = glue 2047 (2047 + 8 * vars) (values_bytes s.values) (rest_of vars) bytes after_values parts.values parts.padded in
-      let from_names = glue 16 2047 (names_body s.names) (behind_names vars s) bytes after_names parts.names from_values in
-      let from_count = glue 8 16 (number_bytes 8 s.count) (behind_count vars s) bytes after_count parts.count from_names in
-      let whole = glue 0 8 (number_bytes 8 generation) (behind_generation vars s) bytes after_generation parts.first from_count in
-      let all : length bytes ≡ length (number_bytes 8 generation ++ behind_generation vars s) = omega (arith, size, length-image_body vars generation s registered long, ap length (image_parts vars generation s)) in
-      whole_from (number_bytes 8 generation ++ behind_generation vars s) bytes all whole ∙ sym (image_parts vars generation s)
+      let from_mark = glue 2046 2047 (mark_of v ∷ []) (behind_mark vars s) bytes refl parts.mark from_values in
+      let from_names = glue 16 2046 (names_body s.names) (behind_names v vars s) bytes after_names parts.names from_mark in
+      let from_count = glue 8 16 (number_bytes 8 s.count) (behind_count v vars s) bytes after_count parts.count from_names in
+      let whole = glue 0 8 (number_bytes 8 generation) (behind_generation v vars s) bytes after_generation parts.first from_count in
+      let all : length bytes ≡ length (number_bytes 8 generation ++ behind_generation v vars s) = omega (arith, size, length-image_body v vars generation s registered long, ap length (image_parts v vars generation s)) in
+      whole_from (number_bytes 8 generation ++ behind_generation v vars s) bytes all whole ∙ sym (image_parts v vars generation s)
+
+-- the mark, as one of the bytes
+pub mark_stands : (mark : ℕ) (bytes : List ℕ) → 2046 < length bytes → get_or bytes 2046 0 ≡ mark → StandsAt 2046 (mark ∷ []) bytes
+mark_stands mark bytes room is = record { is = ap (take 1) (drop_more bytes 2046 0 room) ∙ ap (λ (m : ℕ). m ∷ []) is }
+
+pub mark_there : (mark : ℕ) (bytes : List ℕ) → 2046 < length bytes → StandsAt 2046 (mark ∷ []) bytes → get_or bytes 2046 0 ≡ mark
+mark_there mark bytes room stands = ap (λ (l : List ℕ). get_or l 0 0) (sym (ap (take 1) (drop_more bytes 2046 0 room)) ∙ stands.is)
+
+-- each version has a mark of its own
+pub one_mark : (v w : Version) → mark_of v ≡ mark_of w → v ≡ w
+one_mark One One same = refl
+one_mark One Two same = cc
+one_mark Two One same = cc
+one_mark Two Two same = refl
 
 -- the part of the header that has the names
-pub names_stand : (names : List (List ℕ)) (bytes part : List ℕ) → AreRegistered names → part ≡ take 2031 (drop 16 bytes) → part ≡ names_body names → StandsAt 16 (names_body names) bytes
+pub names_stand : (names : List (List ℕ)) (bytes part : List ℕ) → AreRegistered names → part ≡ take 2030 (drop 16 bytes) → part ≡ names_body names → StandsAt 16 (names_body names) bytes
 names_stand names bytes part registered is same = record { is = ap (λ (n : ℕ). take n (drop 16 bytes)) (length-names_body names registered) ∙ sym is ∙ same }
 
-pub names_part : (names : List (List ℕ)) (bytes part : List ℕ) → AreRegistered names → part ≡ take 2031 (drop 16 bytes) → StandsAt 16 (names_body names) bytes → part ≡ names_body names
+pub names_part : (names : List (List ℕ)) (bytes part : List ℕ) → AreRegistered names → part ≡ take 2030 (drop 16 bytes) → StandsAt 16 (names_body names) bytes → part ≡ names_body names
 names_part names bytes part registered is stands = is ∙ ap (λ (n : ℕ). take n (drop 16 bytes)) (sym (length-names_body names registered)) ∙ stands.is
 
--- names and pages of the same bytes
+-- names, and what follows them, of the same bytes
 same_names : (ms ns : List (List ℕ)) (r s : List ℕ) → AreRegistered ms → AreRegistered ns → names_body ms ++ r ≡ names_body ns ++ s → (ms ≡ ns) × (r ≡ s)
 unfolding names_body
 same_names ms ns r s are are' same =
-    let rest : List (List ℕ) → List ℕ = λ names. replicate (2031 - length (names_bytes names)) 0 in
+    let rest : List (List ℕ) → List ℕ = λ names. replicate (2030 - length (names_bytes names)) 0 in
     let grouped = sym (append_assoc (names_bytes ms) (rest ms) r) ∙ same ∙ append_assoc (names_bytes ns) (rest ns) s in
     let names = delimits_registered ms ns (rest ms ++ r) (rest ns ++ s) are are' grouped in
     (names.0, (same_parts (rest ms) (rest ns) r s (ap (λ (l : List (List ℕ)). length (rest l)) names.0) names.1).1)
@@ -89,15 +113,19 @@ same_pages vars xs ys long fits fits' same =
     let rest : List ℕ = replicate (512 * pages_of vars - 8 * vars) 0 in
     (delimits_all (FitsSigned w64) value_bytes delimits_value xs ys rest rest long fits fits' same).0
 
--- an image has one generation and one state
-pub one_state : (vars g h : ℕ) (s t : State) → g < 2 ^ 64 → h < 2 ^ 64 → IsImage vars s → IsImage vars t → image_body vars g s ≡ image_body vars h t → (g ≡ h) × (s ≡ t)
+-- an image has one version, one generation and one state
+pub one_state : (v w : Version) (vars g h : ℕ) (s t : State) → g < 2 ^ 64 → h < 2 ^ 64 → IsImage vars s → IsImage vars t → image_body v vars g s ≡ image_body w vars h t → (v ≡ w) × (g ≡ h) × (s ≡ t)
 unfolding image_body
-one_state vars g h s t fits_g fits_h fits fits' same =
-    let generation = delimits_number 8 g h (number_bytes 8 s.count ++ (names_body s.names ++ pages_body vars s.values)) (number_bytes 8 t.count ++ (names_body t.names ++ pages_body vars t.values)) (omega (arith, fits_g)) (omega (arith, fits_h)) same in
-    let count = delimits_number 8 s.count t.count (names_body s.names ++ pages_body vars s.values) (names_body t.names ++ pages_body vars t.values) fits.count fits'.count generation.1 in
-    let names = same_names s.names t.names (pages_body vars s.values) (pages_body vars t.values) fits.names fits'.names count.1 in
-    let values = same_pages vars s.values t.values (fits.values ∙ sym fits'.values) fits.numbers fits'.numbers names.1 in
-    (generation.0, ap (λ (k : ℕ). made k s.names s.values) count.0 ∙ ap (λ (l : List (List ℕ)). made t.count l s.values) names.0 ∙ ap (made t.count t.names) values)
+one_state v w vars g h s t fits_g fits_h fits fits' same =
+    let generation = delimits_number 8 g h (number_bytes 8 s.count ++ (names_body s.names ++ marked v s)) (number_bytes 8 t.count ++ (names_body t.names ++ marked w t)) (omega (arith, fits_g)) (omega (arith, fits_h)) same in
+    let count = delimits_number 8 s.count t.count (names_body s.names ++ marked v s) (names_body t.names ++ marked w t) fits.count fits'.count generation.1 in
+    let names = same_names s.names t.names (marked v s) (marked w t) fits.names fits'.names count.1 in
+    let mark = one_mark v w (ap (λ (l : List ℕ). get_or l 0 0) names.1) in
+    let values = same_pages vars s.values t.values (fits.values ∙ sym fits'.values) fits.numbers fits'.numbers (ap (drop 1) names.1) in
+    (mark, generation.0, ap (λ (k : ℕ). made k s.names s.values) count.0 ∙ ap (λ (l : List (List ℕ)). made t.count l s.values) names.0 ∙ ap (made t.count t.names) values)
   where
+    marked : Version → State → List ℕ
+    marked x u = mark_of x ∷ pages_body vars u.values
+
     made : ℕ → List (List ℕ) → List ℤ → State
     made m ns xs = record { count = m; names = ns; values = xs }

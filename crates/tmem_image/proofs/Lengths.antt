@@ -7,6 +7,8 @@ use Rattle.tmem_disk.specs.Name.{IsName}
 use Rattle.tmem_record.specs.Layout.{pages_of}
 use Rattle.tmem_record.specs.Names.{AreRegistered}
 use Rattle.tmem_record.specs.State.{State}
+use Rattle.tmem_record.specs.Versions.{mark_of}
+use Rattle.tmem_record.specs.declared.version.Version.{Version}
 use Rattle.tmem_record.specs.Spelling.{number_bytes, value_bytes, name_bytes, names_bytes}
 use Rattle.tmem_record.proofs.Laws.{length-number_bytes, length-value_bytes, length-flat}
 use Rattle.tmem_image.specs.Spelling.{names_body, pages_body, image_body, header_body}
@@ -31,11 +33,11 @@ pub length-names_bytes-le : (names : List (List ℕ)) → All IsName names → l
 unfolding names_bytes
 length-names_bytes-le names each = omega (arith, length-each_name-le names each)
 
--- the names end before the header does
-pub length-names_body : (names : List (List ℕ)) → AreRegistered names → length (names_body names) ≡ 2031
+-- the names end before the mark
+pub length-names_body : (names : List (List ℕ)) → AreRegistered names → length (names_body names) ≡ 2030
 unfolding names_body
 length-names_body names are =
-    joined (names_bytes names) (replicate (2031 - length (names_bytes names)) 0) (length (names_bytes names)) (2031 - length (names_bytes names)) refl (zeros (2031 - length (names_bytes names)))
+    joined (names_bytes names) (replicate (2030 - length (names_bytes names)) 0) (length (names_bytes names)) (2030 - length (names_bytes names)) refl (zeros (2030 - length (names_bytes names)))
     ∙ omega (arith, length-names_bytes-le names are.names, are.few)
 
 pub length-pages_body : (vars : ℕ) (values : List ℤ) → length values ≡ vars → length (pages_body vars values) ≡ 512 * pages_of vars
@@ -44,21 +46,27 @@ length-pages_body vars values all =
     joined (flat_map value_bytes values) (replicate (512 * pages_of vars - 8 * vars) 0) (8 * vars) (512 * pages_of vars - 8 * vars) (length-flat value_bytes 8 length-value_bytes values ∙ ap (λ (k : ℕ). 8 * k) all) (zeros (512 * pages_of vars - 8 * vars))
     ∙ omega arith
 
-pub length-image_body : (vars generation : ℕ) (s : State) → AreRegistered s.names → length s.values ≡ vars → length (image_body vars generation s) ≡ 2047 + 512 * pages_of vars
+pub length-image_body : (v : Version) (vars generation : ℕ) (s : State) → AreRegistered s.names → length s.values ≡ vars → length (image_body v vars generation s) ≡ 2047 + 512 * pages_of vars
 unfolding image_body
-length-image_body vars generation s registered all =
-    joined (number_bytes 8 generation) behind_8 8 (8 + (2031 + 512 * pages_of vars)) (length-number_bytes 8 generation)
-    (joined (number_bytes 8 s.count) behind_16 8 (2031 + 512 * pages_of vars) (length-number_bytes 8 s.count)
-    (joined (names_body s.names) (pages_body vars s.values) 2031 (512 * pages_of vars) (length-names_body s.names registered) (length-pages_body vars s.values all)))
+length-image_body v vars generation s registered all =
+    joined (number_bytes 8 generation) behind_8 8 (8 + (2030 + (1 + 512 * pages_of vars))) (length-number_bytes 8 generation)
+    (joined (number_bytes 8 s.count) behind_16 8 (2030 + (1 + 512 * pages_of vars)) (length-number_bytes 8 s.count)
+    (joined (names_body s.names) marked 2030 (1 + 512 * pages_of vars) (length-names_body s.names registered)
+    (joined (mark_of v ∷ []) (pages_body vars s.values) 1 (512 * pages_of vars) refl (length-pages_body vars s.values all))))
     ∙ omega arith
   where
+    marked : List ℕ
+    marked = mark_of v ∷ pages_body vars s.values
+
     behind_16 : List ℕ
-    behind_16 = names_body s.names ++ pages_body vars s.values
+    behind_16 = names_body s.names ++ marked
 
     behind_8 : List ℕ
     behind_8 = number_bytes 8 s.count ++ behind_16
 
-pub length-header_body : (generation : ℕ) (s : State) → AreRegistered s.names → length (header_body generation s) ≡ 2047
+pub length-header_body : (v : Version) (generation : ℕ) (s : State) → AreRegistered s.names → length (header_body v generation s) ≡ 2047
 unfolding header_body
-length-header_body generation s registered =
-    joined (number_bytes 8 generation) (number_bytes 8 s.count ++ names_body s.names) 8 2039 (length-number_bytes 8 generation) (joined (number_bytes 8 s.count) (names_body s.names) 8 2031 (length-number_bytes 8 s.count) (length-names_body s.names registered))
+length-header_body v generation s registered =
+    joined (number_bytes 8 generation) (number_bytes 8 s.count ++ (names_body s.names ++ mark_of v ∷ [])) 8 2039 (length-number_bytes 8 generation)
+    (joined (number_bytes 8 s.count) (names_body s.names ++ mark_of v ∷ []) 8 2031 (length-number_bytes 8 s.count)
+    (joined (names_body s.names) (mark_of v ∷ []) 2030 1 (length-names_body s.names registered) refl))

@@ -8,6 +8,7 @@ use Rattle.tmem_gate.specs.Calls.{IsWhyNone}
 use Rattle.tmem_gate.specs.Gate.{IsOpenAt}
 use Rattle.tmem_record.specs.Layout.{image_place, image_size}
 use Rattle.tmem_record.specs.State.{State}
+use Rattle.tmem_record.specs.declared.version.Version.{Version}
 use Rattle.tmem_record.proofs.Laws.{gate_open, part_read}
 use Rattle.tmem_image.specs.Image.{IsGeneration, HoldsImage}
 use Rattle.tmem_image.specs.Spelling.{image_body, IsImage}
@@ -39,20 +40,20 @@ module _ (vars copy size : ℕ) (c bytes : List ℕ) (long : size ≡ image_size
   body_read : take (size - 1) (drop 1 bytes) ≡ slice_range c (image_place vars copy + 1) (image_place vars copy + 1 + (size - 1))
   body_read = part_read c bytes (image_place vars copy) size read 1 (size - 1) (omega (arith, long))
 
-  length_of : (generation : ℕ) (s : State) → IsImage vars s → length (image_body vars generation s) ≡ size - 1
-  length_of generation s fits = omega (arith, long, length-image_body vars generation s fits.names fits.values)
+  length_of : (v : Version) (generation : ℕ) (s : State) → IsImage vars s → length (image_body v vars generation s) ≡ size - 1
+  length_of v generation s fits = omega (arith, long, length-image_body v vars generation s fits.names fits.values)
 
   -- the image that was found in it
-  pub image_found : (generation : ℕ) (s : State) → IsOpenAt 0 bytes → IsGeneration generation → IsImage vars s → take (size - 1) (drop 1 bytes) ≡ image_body vars generation s → HoldsImage vars copy generation s c
-  image_found generation s opened number fits same = record {
+  pub image_found : (v : Version) (generation : ℕ) (s : State) → IsOpenAt 0 bytes → IsGeneration generation → IsImage vars s → take (size - 1) (drop 1 bytes) ≡ image_body v vars generation s → HoldsImage v vars copy generation s c
+  image_found v generation s opened number fits same = record {
     number = number;
     fits = fits;
     cell = record {
       gate = gate_open c bytes (image_place vars copy) size read 0 (image_place vars copy) (omega arith) (omega (arith, long)) opened;
-      body = ap (λ (n : ℕ). slice_range c (image_place vars copy + 1) (image_place vars copy + 1 + n)) (length_of generation s fits) ∙ sym body_read ∙ same;
+      body = ap (λ (n : ℕ). slice_range c (image_place vars copy + 1) (image_place vars copy + 1 + n)) (length_of v generation s fits) ∙ sym body_read ∙ same;
     };
   }
 
   -- an image that it holds was read
-  pub image_there : (generation : ℕ) (s : State) → HoldsImage vars copy generation s c → take (size - 1) (drop 1 bytes) ≡ image_body vars generation s
-  image_there generation s holds = body_read ∙ ap (λ (n : ℕ). slice_range c (image_place vars copy + 1) (image_place vars copy + 1 + n)) (sym (length_of generation s holds.fits)) ∙ holds.cell.body
+  pub image_there : (v : Version) (generation : ℕ) (s : State) → HoldsImage v vars copy generation s c → take (size - 1) (drop 1 bytes) ≡ image_body v vars generation s
+  image_there v generation s holds = body_read ∙ ap (λ (n : ℕ). slice_range c (image_place vars copy + 1) (image_place vars copy + 1 + n)) (sym (length_of v generation s holds.fits)) ∙ holds.cell.body

@@ -1,5 +1,5 @@
 -- What a crash leaves of the spare copy, while an image is written to it.
-use Rattle.std.proofs.Common.{◌≡◌, ◌⊎◌, inl, inr, ⊎_elim, ℕ, ℤ, ◌+◌, ◌-◌, ◌*◌, ◌≤◌, List, ◌++◌, length, take, drop, refl, sym, ◌∙◌, ap, subst, arith, append_assoc}
+use Rattle.std.proofs.Common.{◌≡◌, ◌⊎◌, inl, inr, ⊎_elim, ℕ, ℤ, ◌+◌, ◌-◌, ◌*◌, ◌≤◌, List, [], ◌∷◌, ◌++◌, length, take, drop, refl, sym, ◌∙◌, ap, subst, arith, append_assoc}
 use Rattle.std.specs.Prelude.{Result, Ok, Err, IfErr, slice_range}
 use Rattle.tmem_disk.specs.Disk.{DeviceView, IsDevice, LeavesOnly, Elapses, Rewritten, SameOutside}
 use Rattle.tmem_disk.specs.declared.fault.Fault.{Fault}
@@ -13,11 +13,15 @@ use Rattle.tmem_gate.proofs.Laws.{gate_cases, whole_after, closed_before, by_loo
 use Rattle.tmem_record.specs.Stale.{IsStale}
 use Rattle.tmem_record.specs.State.{State}
 use Rattle.tmem_record.specs.Layout.{pages_of, image_place, image_size}
+use Rattle.tmem_record.specs.Spelling.{number_bytes}
 use Rattle.tmem_record.specs.StandsAt.{StandsAt}
 use Rattle.tmem_record.proofs.Laws.{both_parts, between_is}
 use Rattle.tmem_record.specs.Names.{AreRegistered}
+use Rattle.tmem_record.specs.Versions.{mark_of}
+use Rattle.tmem_record.specs.declared.version.Version.{Version}
+use Rattle.tmem_record.specs.declared.version.Version.TheVariants.{Two}
 use Rattle.tmem_image.proofs.Lengths.{length-header_body, length-pages_body}
-use Rattle.tmem_image.specs.Spelling.{header_body, pages_body, image_body, IsImage}
+use Rattle.tmem_image.specs.Spelling.{names_body, header_body, pages_body, image_body, IsImage}
 use Rattle.tmem_image.specs.Image.{IsGeneration}
 use Rattle.tmem_image.specs.Spare.{Placed, IsSettled, Left, Spares, Without, With}
 
@@ -115,24 +119,27 @@ parts_stand at header pages c first second =
 pub record IsPaged (p : Placed) (header : List ℕ) (d : DeviceView) : Type 0 where
   pub long : length header ≡ 2047
   pub pages_long : length (pages_body p.vars p.state.values) ≡ 512 * pages_of p.vars
-  pub whole : header ++ pages_body p.vars p.state.values ≡ image_body p.vars p.generation p.state
+  pub whole : header ++ pages_body p.vars p.state.values ≡ image_body Two p.vars p.generation p.state
   pub stand : d.keeps_model → slice_range d.seen (image_place p.vars p.copy + 1 + length header) (image_place p.vars p.copy + 1 + length header + length (pages_body p.vars p.state.values)) ≡ pages_body p.vars p.state.values
 
-parts_of_image : (vars generation : ℕ) (s : State) → header_body generation s ++ pages_body vars s.values ≡ image_body vars generation s
+parts_of_image : (v : Version) (vars generation : ℕ) (s : State) → header_body v generation s ++ pages_body vars s.values ≡ image_body v vars generation s
 unfolding header_body image_body
-parts_of_image vars generation s = simp append_assoc
+parts_of_image v vars generation s = grouped (number_bytes 8 generation) (number_bytes 8 s.count) (names_body s.names) (mark_of v ∷ []) (pages_body vars s.values)
+  where
+    grouped : (a b n m p : List ℕ) → (a ++ (b ++ (n ++ m))) ++ p ≡ a ++ (b ++ (n ++ (m ++ p)))
+    grouped a b n m p = simp append_assoc
 
 -- once they stand there
-pub paged : (p : Placed) (at : ℕ) → at ≡ image_place p.vars p.copy → (header : List ℕ) → header ≡ header_body p.generation p.state → AreRegistered p.state.names → length p.state.values ≡ p.vars → (d : DeviceView) → (values : List ℤ) → values ≡ p.state.values
+pub paged : (p : Placed) (at : ℕ) → at ≡ image_place p.vars p.copy → (header : List ℕ) → header ≡ header_body Two p.generation p.state → AreRegistered p.state.names → length p.state.values ≡ p.vars → (d : DeviceView) → (values : List ℤ) → values ≡ p.state.values
     → (d.keeps_model → StandsAt (at + 2048) (pages_body p.vars values) d.seen) → IsPaged p header d
 paged p at place header is names sized d values same stand =
     let pages = pages_body p.vars p.state.values in
-    let long : length header ≡ 2047 = ap length is ∙ length-header_body p.generation p.state names in
+    let long : length header ≡ 2047 = ap length is ∙ length-header_body Two p.generation p.state names in
     let behind : image_place p.vars p.copy + 1 + length header ≡ at + 2048 = omega (arith, place, long) in
     record {
       long = long;
       pages_long = length-pages_body p.vars p.state.values sized;
-      whole = ap (λ (l : List ℕ). l ++ pages) is ∙ parts_of_image p.vars p.generation p.state;
+      whole = ap (λ (l : List ℕ). l ++ pages) is ∙ parts_of_image Two p.vars p.generation p.state;
       stand = λ k.
           let there : StandsAt (at + 2048) pages d.seen = subst (λ (zs : List ℤ). StandsAt (at + 2048) (pages_body p.vars zs) d.seen) same (stand k) in
           ap (λ (n : ℕ). slice_range d.seen n (n + length pages)) behind ∙ between_is (at + 2048) (length pages) d.seen ∙ there.is;
@@ -140,7 +147,7 @@ paged p at place header is names sized d values same stand =
 
 -- with its header the image stands there
 pub image_stands : (p : Placed) (header : List ℕ) (d : DeviceView) → IsPaged p header d → d.keeps_model → (c : List ℕ) → HasBody (image_place p.vars p.copy) header c → SameOutside (image_place p.vars p.copy) (1 + length header) d.seen c
-    → HasBody (image_place p.vars p.copy) (image_body p.vars p.generation p.state) c
+    → HasBody (image_place p.vars p.copy) (image_body Two p.vars p.generation p.state) c
 image_stands p header d it k c has same =
     let at = image_place p.vars p.copy in
     let pages = pages_body p.vars p.state.values in

@@ -5,6 +5,7 @@ use Rattle.tmem_record.specs.Stale.{IsStale}
 use Rattle.tmem_record.specs.State.{State}
 use Rattle.tmem_record.specs.Spelling.{number_bytes}
 use Rattle.tmem_record.specs.Layout.{image_place}
+use Rattle.tmem_record.specs.declared.version.Version.{Version}
 use Rattle.tmem_image.specs.Spelling.{image_body, IsImage}
 
 -- a number that a generation of images may have
@@ -12,11 +13,11 @@ pub record IsGeneration (generation : ℕ) : Type 0 where
   pub some : 1 ≤ generation
   pub fits : generation < 2 ^ 64
 
--- this copy is open over the image of that generation and state
-pub record HoldsImage (vars copy generation : ℕ) (s : State) (c : List ℕ) : Type 0 where
+-- this copy is open over the image of that version, generation and state
+pub record HoldsImage (v : Version) (vars copy generation : ℕ) (s : State) (c : List ℕ) : Type 0 where
   pub number : IsGeneration generation
   pub fits : IsImage vars s
-  pub cell : IsOpenOver (image_place vars copy) (image_body vars generation s) c
+  pub cell : IsOpenOver (image_place vars copy) (image_body v vars generation s) c
 
 -- the other one of two copies
 abbrev pub other_copy : ℕ → ℕ

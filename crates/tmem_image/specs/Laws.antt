@@ -1,11 +1,12 @@
 -- What holds of every content, whatever wrote it.
 use Rattle.std.specs.Prelude.{◌≡◌, ℕ, List}
 use Rattle.tmem_record.specs.State.{State}
+use Rattle.tmem_record.specs.declared.version.Version.{Version}
 use Rattle.tmem_image.specs.Image.{HoldsImage, ChoosesCopy}
 
--- a copy holds one image at the most
+-- a copy holds one image at the most, and that of one version
 abbrev pub OneImage : Type 0
-OneImage = (vars copy generation generation' : ℕ) (s s' : State) (c : List ℕ) → HoldsImage vars copy generation s c → HoldsImage vars copy generation' s' c → (generation ≡ generation') × (s ≡ s')
+OneImage = (v v' : Version) (vars copy generation generation' : ℕ) (s s' : State) (c : List ℕ) → HoldsImage v vars copy generation s c → HoldsImage v' vars copy generation' s' c → (v ≡ v') × (generation ≡ generation') × (s ≡ s')
 
 -- one copy is chosen at the most
 abbrev pub OneChoice : Type 0

@@ -7,6 +7,7 @@ use Rattle.tmem_record.specs.Stale.{IsStale}
 use Rattle.tmem_record.specs.State.{State}
 use Rattle.tmem_record.specs.Layout.{image_place, image_size}
 use Rattle.tmem_record.specs.declared.layout.Layout.{Layout}
+use Rattle.tmem_record.specs.declared.version.Version.TheVariants.{Two}
 use Rattle.tmem_image.specs.Image.{HoldsImage}
 use Rattle.tmem_image.specs.Spelling.{image_body}
 
@@ -40,13 +41,13 @@ pub record Spares (at n : ℕ) (old new : DeviceView) : Type 0 where
 abbrev pub Without : Placed → List ℕ → List ℕ → Type 0
 Without p b c = Left (image_place p.vars p.copy) (image_size p.vars) b c
 
--- nothing outside the copy changes, and the copy holds the image
+-- nothing outside the copy changes, and the copy holds the image, of version 2
 pub record With (p : Placed) (b c : List ℕ) : Type 0 where
   pub elsewhere : SameOutside (image_place p.vars p.copy) (image_size p.vars) b c
-  pub image : HoldsImage p.vars p.copy p.generation p.state c
+  pub image : HoldsImage Two p.vars p.copy p.generation p.state c
 
--- Where the write of the gate that opens the image failed: the whole image stands behind that gate, and a read gives outside
--- the copy what it gave before.
+-- Where the write of the gate that opens the image failed: the whole image, of version 2, stands behind that gate, and a
+-- read gives outside the copy what it gave before.
 pub record AwaitsGate (p : Placed) (old new : DeviceView) : Type 0 where
-  pub body : new.keeps_model → HasBody (image_place p.vars p.copy) (image_body p.vars p.generation p.state) new.seen
+  pub body : new.keeps_model → HasBody (image_place p.vars p.copy) (image_body Two p.vars p.generation p.state) new.seen
   pub elsewhere : SameSeenOutside (image_place p.vars p.copy) (image_size p.vars) old new

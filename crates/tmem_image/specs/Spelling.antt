@@ -1,26 +1,28 @@
 -- The bytes that stand behind the gate of an image copy: a header, and pages.
-use Rattle.std.specs.Prelude.{◌≡◌, ◌<◌, ℕ, ◌*◌, ◌-◌, ◌^◌, ℤ, List, ◌++◌, length, take, drop, flat_map, replicate, All, FitsSigned}
+use Rattle.std.specs.Prelude.{◌≡◌, ◌<◌, ℕ, ◌*◌, ◌-◌, ◌^◌, ℤ, List, [], ◌∷◌, ◌++◌, length, take, drop, flat_map, replicate, All, FitsSigned}
 use Rattle.std.specs.Int.{w64}
 use Rattle.tmem_record.specs.Names.{AreRegistered}
 use Rattle.tmem_record.specs.Spelling.{number_bytes, value_bytes, names_bytes}
 use Rattle.tmem_record.specs.State.{State}
 use Rattle.tmem_record.specs.Layout.{pages_of}
+use Rattle.tmem_record.specs.Versions.{mark_of}
+use Rattle.tmem_record.specs.declared.version.Version.{Version}
 
--- how many names, each of them, and 0 up to the pages
+-- how many names, each of them, and 0 up to the mark of the version
 unfoldable pub names_body : List (List ℕ) → List ℕ
-names_body names = names_bytes names ++ replicate (2031 - length (names_bytes names)) 0
+names_body names = names_bytes names ++ replicate (2030 - length (names_bytes names)) 0
 
 -- the values of all pages, and 0 for variables that do not exist
 unfoldable pub pages_body : ℕ → List ℤ → List ℕ
 pages_body vars values = flat_map value_bytes values ++ replicate (512 * pages_of vars - 8 * vars) 0
 
--- the generation, the count, the names, and the pages
-unfoldable pub image_body : ℕ → ℕ → State → List ℕ
-image_body vars generation s = number_bytes 8 generation ++ (number_bytes 8 s.count ++ (names_body s.names ++ pages_body vars s.values))
+-- the generation, the count, the names, the mark of the version, and the pages
+unfoldable pub image_body : Version → ℕ → ℕ → State → List ℕ
+image_body v vars generation s = number_bytes 8 generation ++ (number_bytes 8 s.count ++ (names_body s.names ++ (mark_of v ∷ pages_body vars s.values)))
 
 -- what stands in front of the pages
-unfoldable pub header_body : ℕ → State → List ℕ
-header_body generation s = number_bytes 8 generation ++ (number_bytes 8 s.count ++ names_body s.names)
+unfoldable pub header_body : Version → ℕ → State → List ℕ
+header_body v generation s = number_bytes 8 generation ++ (number_bytes 8 s.count ++ (names_body s.names ++ mark_of v ∷ []))
 
 -- the values of one page: 64, or as many as are left
 abbrev pub page_values : List ℤ → ℕ → List ℤ

@@ -2,6 +2,7 @@
 ghost use Rattle.std.specs.Prelude.{◌≡◌, ◌⊎◌, ◌≤◌, ◌+◌, ℕ, List, Some, IfOk, IfErr, IfSome, IfNone, OnErr, IsErrOf};
 ghost use Rattle.tmem_gate.specs.Calls.{Uses, LooksOnly, IsWhyNone};
 ghost use Rattle.tmem_record.specs.State.{State as StateOf};
+ghost use Rattle.tmem_record.specs.declared.version.Version.{Version as VersionOf};
 ghost use Rattle.tmem_record.specs.Layout.{image_place, end_place};
 ghost use Rattle.tmem_image.specs.Spelling.{IsImage};
 ghost use Rattle.tmem_image.specs.Image.{IsGeneration, HoldsImage, ChoosesCopy, HasHead};
@@ -35,8 +36,8 @@ pub fn choose<D: Disk>(disk: &mut D, layout: Layout) -> Result<u8, Fault>
     greater(first, second).ok_or(Fault::Damaged)
 }
 
-/// Reads the image of a copy, by one read, into the room that is given. `Damaged` where the copy holds none; and `Device`
-/// where the read failed. It takes no memory.
+/// Reads the image of a copy, of either version, by one read, into the room that is given. `Damaged` where the copy holds
+/// none; and `Device` where the read failed. It takes no memory.
 pub fn load<D: Disk>(
     disk: &mut D,
     layout: Layout,
@@ -50,10 +51,10 @@ pub fn load<D: Disk>(
     ensures looks { LooksOnly (D.view disk.old) (D.view disk.new) }
     ensures number { IfOk result (λ image. IsGeneration image.generation) }
     ensures fits { IfOk result (λ image. IsImage layout.vars image.state) }
-    ensures found { (D.view disk.new).keeps_model → IfOk result (λ image. HoldsImage layout.vars copy image.generation image.state (D.view disk.old).seen) }
+    ensures found { (D.view disk.new).keeps_model → IfOk result (λ image. HoldsImage image.version layout.vars copy image.generation image.state (D.view disk.old).seen) }
     ensures read_failed { IsErrOf result Fault.Device → (D.view disk.new).last_fault ≡ Some DeviceFault.Read }
-    ensures refused { IfErr result (IsWhyNone ((D.view disk.new).keeps_model → (generation : ℕ) (s : StateOf) →
-        HoldsImage layout.vars copy generation s (D.view disk.old).seen → ⊥)) }
+    ensures refused { IfErr result (IsWhyNone ((D.view disk.new).keeps_model → (v : VersionOf) (generation : ℕ) (s : StateOf) →
+        HoldsImage v layout.vars copy generation s (D.view disk.old).seen → ⊥)) }
 {
     let ImageRoom {
         bytes,

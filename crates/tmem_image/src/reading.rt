@@ -3,6 +3,7 @@ ghost use Rattle.std.specs.Bool.{OnTrue, OnFalse};
 ghost use Rattle.std.specs.Prelude.{◌≡◌, ◌≤◌, ◌+◌, ◌*◌, ◌↔◌, ℕ, List, [], length, vec_capacity, IfSome, IfNone, IsTrue};
 ghost use Rattle.tmem_record.specs.Names.{AreRegistered};
 ghost use Rattle.tmem_record.specs.State.{State as StateOf};
+ghost use Rattle.tmem_record.specs.declared.version.Version.{Version as VersionOf};
 ghost use Rattle.tmem_record.specs.StandsAt.{StandsAt, values_bytes};
 ghost use Rattle.tmem_record.specs.Layout.{image_size};
 ghost use Rattle.tmem_image.specs.Spelling.{names_body, image_body, AreValues, IsImage};
@@ -10,10 +11,13 @@ ghost use Rattle.tmem_image.specs.Image.{IsGeneration};
 ghost use Rattle.tmem_image.specs.Framed.{IsPadded};
 
 use tmem_record::bytes::{is_blank, is_zero, number_at, value_at};
-use tmem_record::{NameSet, State, read_name_set};
+use tmem_record::{NameSet, State, Version, read_name_set};
 
 /// An image's header without its gate.
 pub(crate) const HEADER_ROOM: usize = 2047;
+
+/// Where in it the mark of the version stands: in the last byte.
+pub(crate) const MARK_AT: usize = 2046;
 
 // How many of its bytes stand in front of the names.
 const NAMES_AT: usize = 16;
@@ -21,6 +25,8 @@ const NAMES_AT: usize = 16;
 /// An image that was read.
 #[derive(Drop)]
 pub struct ImageState {
+    /// The version of the format that it is spelled in. The log over it is spelled in the same.
+    pub version: Version,
     /// Its generation.
     pub generation: u64,
     /// Its state.
@@ -36,10 +42,10 @@ fn is_padded(bytes: &[u8], vars: u16) -> bool
     is_blank(bytes, end, bytes.len() - end)
 }
 
-// Reads the names of an image, from their number on to the end of the header, into an empty set, and answers whether they
-// stand there.
+// Reads the names of an image, from their number on to the mark of the version, into an empty set, and answers whether
+// they stand there.
 fn read_names(bytes: &[u8], names: &mut NameSet) -> bool
-    requires long { length bytes.now ≡ 2031 }
+    requires long { length bytes.now ≡ 2030 }
     requires empty { names.old ≡ [] }
     ensures found { OnTrue result (bytes.now ≡ names_body names.new) }
     ensures are_registered { OnTrue result (AreRegistered names.new) }
@@ -65,7 +71,8 @@ fn read_values(bytes: &[u8], from: usize, count: u16, values: &mut Vec<i64>)
     }
 }
 
-/// Reads an image from all of the bytes behind its gate, into an empty set of names and an empty list of values with room.
+/// Reads an image of either version from all of the bytes behind its gate, into an empty set of names and an empty list of
+/// values with room.
 pub(crate) fn read_image(
     bytes: &[u8],
     vars: u16,
@@ -78,8 +85,8 @@ pub(crate) fn read_image(
     requires room { vars ≤ vec_capacity values }
     ensures number { IfSome result (λ image. IsGeneration image.generation) }
     ensures fits { IfSome result (λ image. IsImage vars image.state) }
-    ensures found { IfSome result (λ image. bytes.now ≡ image_body vars image.generation image.state) }
-    ensures none { IfNone result ((generation : ℕ) (s : StateOf) → IsGeneration generation → IsImage vars s → bytes.now ≡ image_body vars generation s → ⊥) }
+    ensures found { IfSome result (λ image. bytes.now ≡ image_body image.version vars image.generation image.state) }
+    ensures none { IfNone result ((v : VersionOf) (generation : ℕ) (s : StateOf) → IsGeneration generation → IsImage vars s → bytes.now ≡ image_body v vars generation s → ⊥) }
 {
     if !is_padded(bytes, vars) {
         return None;
@@ -88,11 +95,16 @@ pub(crate) fn read_image(
     if generation == 0 {
         return None;
     }
-    if !read_names(&bytes[NAMES_AT..HEADER_ROOM], &mut names) {
+    if !read_names(&bytes[NAMES_AT..MARK_AT], &mut names) {
         return None;
     }
+    let version = Version::of_mark(bytes[MARK_AT])?;
     let count = number_at(bytes, 8);
     read_values(bytes, HEADER_ROOM, vars, &mut values);
     let state = State::of(count, names, values);
-    Some(ImageState { generation, state })
+    Some(ImageState {
+        version,
+        generation,
+        state,
+    })
 }

@@ -21,13 +21,13 @@ use tmem_record::{Layout, State};
 // How long a header is, with its gate.
 const HEADER_SIZE: u64 = 2048;
 
-/// Writes an image of this generation and state to a copy: closes its gate where it reads open, and syncs; writes these
-/// pages, then the header without its gate, and syncs; opens the gate, and syncs. `Device` where a read failed, or a write
-/// of anything but the gate that is opened: no crash leaves the image. `Unknown` where a sync or the write of that gate
-/// failed: a crash leaves the image or not; where it was that write, the whole image stands behind the gate. Nothing
-/// outside the copy is written. Every crash leaves the gate of the copy as a read gives it, and the image is of as many values
-/// as the layout has variables. Each page that is not written holds the state's values already, after every crash. Bit `p` of
-/// `pages` stands for page `p`, and bits behind the last page count for nothing.
+/// Writes an image of this generation and state to a copy, in version 2 of the format: closes its gate where it reads open,
+/// and syncs; writes these pages, then the header without its gate, and syncs; opens the gate, and syncs. `Device` where a
+/// read failed, or a write of anything but the gate that is opened: no crash leaves the image. `Unknown` where a sync or the
+/// write of that gate failed: a crash leaves the image or not; where it was that write, the whole image stands behind the
+/// gate. Nothing outside the copy is written. Every crash leaves the gate of the copy as a read gives it, and the image is of
+/// as many values as the layout has variables. Each page that is not written holds the state's values already, after every
+/// crash. Bit `p` of `pages` stands for page `p`, and bits behind the last page count for nothing.
 pub fn write_spare<D: Disk>(
     disk: &mut D,
     layout: Layout,

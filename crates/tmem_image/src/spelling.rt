@@ -2,11 +2,12 @@
 ghost use Rattle.std.specs.Prelude.{◌≡◌, ◌<◌, ◌≤◌, ◌+◌, ◌*◌, ◌^◌, ◌++◌, length, take, drop, flat_map};
 ghost use Rattle.tmem_record.specs.Names.{AreRegistered};
 ghost use Rattle.tmem_record.specs.Spelling.{value_bytes};
+ghost use Rattle.tmem_record.specs.declared.version.Version.TheVariants.{Two};
 ghost use Rattle.tmem_image.specs.Spelling.{header_body, page_bytes, page_values, AreValues};
 
-use crate::reading::HEADER_ROOM;
+use crate::reading::{HEADER_ROOM, MARK_AT};
 use tmem_record::bytes::put;
-use tmem_record::{State, write_names};
+use tmem_record::{State, Version, write_names};
 
 /// How long a page is.
 pub(crate) const PAGE_SIZE: usize = 512;
@@ -14,13 +15,14 @@ pub(crate) const PAGE_SIZE: usize = 512;
 /// How many values a page has.
 pub(crate) const PAGE_VALUES: usize = 64;
 
-/// Spells a header without its gate.
+/// Spells a header of version 2 without its gate.
 pub(crate) fn header_of(generation: u64, state: &State) -> [u8; HEADER_ROOM]
-    ensures bytes { result ≡ header_body generation state.now }
+    ensures bytes { result ≡ header_body Two generation state.now }
     ensures names { AreRegistered state.now.names }
     ensures countable { state.now.count < 2 ^ 64 }
 {
     let mut bytes = [0; HEADER_ROOM];
+    put(&mut bytes, MARK_AT, &[Version::Two.mark()]);
     let mut at = put(&mut bytes, 0, &generation.to_le_bytes());
     at = put(&mut bytes, at, &state.count().to_le_bytes());
     write_names(&mut bytes, at, state.names());

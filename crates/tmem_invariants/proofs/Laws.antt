@@ -1,17 +1,19 @@
 -- The laws of names in a table and of sound states, on which the crates above rest too.
-use Rattle.std.proofs.Common.{◌≡◌, ℕ, ◌<◌, ℤ, bit_or, length, Bool, true, false, not, cond, ◌||◌, ◌&&◌, List, [], ◌∷◌, All, Option, Some, None, find, get_or, IsTrue, refl, sym, ap, ◌∙◌}
+use Rattle.std.proofs.Common.{◌≡◌, ℕ, ◌^◌, ◌<◌, ℤ, w64, bit_and, bit_or, length, Bool, true, false, not, cond, ◌||◌, ◌&&◌, List, [], ◌∷◌, All, Option, Some, None, find, get_or, IsTrue, refl, sym, ap, ◌∙◌}
 use Rattle.std.specs.Prelude.{slice_get}
+use Rattle.std.specs.Int.{bit_not}
 use Rattle.std.specs.List.{list_any}
 use Rattle.std.specs.Option.{option_map_or}
+use Rattle.std.proofs.Math.Bool.{and_comm}
 use Rattle.std.proofs.lemmas.Bool.{false_from_ne_true}
 use Rattle.std.proofs.lemmas.List.Folds.{list_any_at, list_any_none}
 use Rattle.std.proofs.lemmas.Option.{slice_get-get_or}
 use Rattle.tmem_invariants.specs.Meanings.{Meanings, AllHold, DifferInWritten, IsSound, fails, first_false, holds, touched}
 use Rattle.tmem_invariants.specs.Places.{ArePlacesOf, has_place, stands_at}
 use Rattle.tmem_invariants.specs.TableNames.{first_missing, has_name, lacks}
-pub use Rattle.tmem_invariants.proofs.Among.{All-at_name, Contains-from_has_name, has_name-from_Contains}
+pub use Rattle.tmem_invariants.proofs.Among.{All-at_name, at_place, Contains-from_has_name, has_name-from_Contains}
 use Rattle.tmem_invariants.proofs.NamePlaces.{stands_at-none}
-use Rattle.tmem_invariants.proofs.PlaceSets.{has_place-or, has_place-zero}
+use Rattle.tmem_invariants.proofs.PlaceSets.{has_place-or, has_place-without, has_place-zero}
 use Rattle.tmem_invariants.proofs.Scans.{find_none}
 use Rattle.tmem_invariants.proofs.TouchedInvariants.{first_false-touched}
 
@@ -60,19 +62,28 @@ IsSound-from_none m names registered proposed kept values there asked none = rec
   hold = λ k d within. holds_from_none m names registered proposed values none (get_or kept k d) (there k d within) (asked k d within);
 }
 
--- no name is found false where all of them hold
+-- no name is found false where each of the table's that is registered or proposed holds
+pub first_false-none : (m : Meanings) (names registered proposed : List (List ℕ)) (values : List ℤ) → ((name : List ℕ) → has_name names name ≡ true → (has_name registered name || has_name proposed name) ≡ true → holds m values name ≡ true) → first_false m names registered proposed values ≡ None
+first_false-none m names registered proposed values each =
+    find_none (fails m registered proposed values) names (list_any_none (fails m registered proposed values) names passes)
+  where
+    asked : (a held : Bool) → (a ≡ true → held ≡ true) → (a && not held) ≡ false
+    asked true held holds_then = ap not (holds_then refl)
+    asked false held holds_then = refl
+
+    passes : (k : ℕ) (d : List ℕ) → k < length names → fails m registered proposed values (get_or names k d) ≡ false
+    passes k d within =
+        let name = get_or names k d in
+        asked (has_name registered name || has_name proposed name) (holds m values name) (each name (at_place names k d within))
+
+-- nor where all of them hold
 pub first_false-AllHold : (m : Meanings) (names registered proposed : List (List ℕ)) (values : List ℤ) → AllHold m registered values → AllHold m proposed values → first_false m names registered proposed values ≡ None
 first_false-AllHold m names registered proposed values registered_hold proposed_hold =
-    find_none (fails m registered proposed values) names (list_any_none (fails m registered proposed values) names (λ k d within. passes (get_or names k d)))
+    first_false-none m names registered proposed values (λ name there. either name (has_name registered name) refl)
   where
-    asked : (a b held : Bool) → (a ≡ true → held ≡ true) → (b ≡ true → held ≡ true) → ((a || b) && not held) ≡ false
-    asked true b held first second = ap not (first refl)
-    asked false true held first second = ap not (second refl)
-    asked false false held first second = refl
-
-    passes : (name : List ℕ) → fails m registered proposed values name ≡ false
-    passes name =
-        asked (has_name registered name) (has_name proposed name) (holds m values name) (All-at_name (λ other. IsTrue (holds m values other)) registered name registered_hold) (All-at_name (λ other. IsTrue (holds m values other)) proposed name proposed_hold)
+    either : (name : List ℕ) (b : Bool) → has_name registered name ≡ b → (b || has_name proposed name) ≡ true → holds m values name ≡ true
+    either name true is asked = All-at_name (λ other. IsTrue (holds m values other)) registered name registered_hold is
+    either name false is asked = All-at_name (λ other. IsTrue (holds m values other)) proposed name proposed_hold asked
 
 -- no names have no places
 pub ArePlacesOf-none : (names : List (List ℕ)) → ArePlacesOf [] names 0
@@ -89,6 +100,24 @@ ArePlacesOf-join first more both names a b either are_first are_more place =
     on : (o : Option (List ℕ)) → option_map_or (has_name both) o false ≡ (option_map_or (has_name first) o false || option_map_or (has_name more) o false)
     on None = refl
     on (Some name) = either name
+
+-- the places of names without some of them are those of the names that are left
+pub ArePlacesOf-without : (held gone left names : List (List ℕ)) (a b : ℕ) → a < 2 ^ 64 → b < 2 ^ 64 → ((name : List ℕ) → has_name left name ≡ (not (has_name gone name) && has_name held name))
+    → ArePlacesOf held names a → ArePlacesOf gone names b → ArePlacesOf left names (bit_and a (bit_not w64 b))
+ArePlacesOf-without held gone left names a b fits_a fits_b apart are_held are_gone place =
+    has_place-without a b place fits_a fits_b
+    ∙ ap (λ x. x && not (has_place b place)) (are_held place)
+    ∙ ap (λ x. stands_at held names place && not x) (are_gone place)
+    ∙ sym (on (slice_get names place))
+  where
+    on : (o : Option (List ℕ)) → option_map_or (has_name left) o false ≡ (option_map_or (has_name held) o false && not (option_map_or (has_name gone) o false))
+    on None = refl
+    on (Some name) = apart name ∙ and_comm (not (has_name gone name)) (has_name held name)
+
+-- what holds of names holds of fewer
+pub AllHold-fewer : (m : Meanings) (names fewer : List (List ℕ)) (values : List ℤ) → All (λ name. IsTrue (has_name names name)) fewer → AllHold m names values → AllHold m fewer values
+AllHold-fewer m names fewer values among held k d within =
+    All-at_name (λ name. IsTrue (holds m values name)) names (get_or fewer k d) held (among k d within)
 
 -- where writes touch no registered name, and none is proposed, none is found false after them
 pub first_false-untouched : (m : Meanings) (names held asked : List (List ℕ)) (written : List (ℕ × ℤ)) (before after : List ℤ) → DifferInWritten written before after → AllHold m held before → ArePlacesOf asked names 0 → list_any (has_name (touched m written held)) names ≡ false → first_false m names held asked after ≡ None

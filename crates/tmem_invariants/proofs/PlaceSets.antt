@@ -1,10 +1,10 @@
 -- The laws of sets of places.
-use Rattle.std.proofs.Common.{◌≡◌, ◌≢◌, ℕ, ◌*◌, ◌%◌, ◌^◌, ◌<◌, ◌≤◌, ◌==◌, max, min, Bool, true, false, not, ◌||◌, ◌&&◌, bit_and, bit_or, refl, sym, ap, ◌∙◌, subst, inl, inr, arith, w64}
+use Rattle.std.proofs.Common.{◌≡◌, ◌≢◌, ℕ, ◌*◌, ◌-◌, ◌%◌, ◌^◌, ◌<◌, ◌≤◌, ◌==◌, max, min, Bool, true, false, not, ◌||◌, ◌&&◌, bit_and, bit_or, refl, sym, ap, ◌∙◌, subst, inl, inr, arith, w64}
 use Rattle.std.specs.Int.{bit_at, bit_not, trailing_zeros}
 use Rattle.std.proofs.lemmas.Bool.{cases_lt, eqb-true, eqb-false}
 use Rattle.std.proofs.lemmas.Bool.Decides.{nat_tests}
 use Rattle.std.proofs.lemmas.Nat.{and_le_l}
-use Rattle.std.proofs.lemmas.Nat.Bits.{bit_at-lt, bit_at-zero, bit_at_and, bit_at_or, bit_at_above, bit_at_set_same, bit_at_set_other, bit_at_clear_same, bit_at_clear_other, bit_at-trailing_zeros}
+use Rattle.std.proofs.lemmas.Nat.Bits.{bit_at-lt, bit_at-zero, bit_at_and, bit_at_or, bit_at_above, bit_at_not, bit_at_set_same, bit_at_set_other, bit_at_clear_same, bit_at_clear_other, bit_at-trailing_zeros}
 use Rattle.tmem_invariants.specs.Places.{has_place}
 
 -- a bit that is 1 is a place, and one that is 0 is none
@@ -45,6 +45,18 @@ pub has_place-and : (a b place : ℕ) → has_place (bit_and a b) place ≡ (has
 unfolding has_place
 has_place-and a b place =
     ap (λ n. n == 1) (bit_at_and a b place) ∙ min_is_one (bit_at a place) (bit_at b place) (bit_at-lt a place) (bit_at-lt b place)
+
+-- what is in the first and not in the second
+pub has_place-without : (a b place : ℕ) → a < 2 ^ 64 → b < 2 ^ 64 → has_place (bit_and a (bit_not w64 b)) place ≡ (has_place a place && not (has_place b place))
+unfolding has_place
+has_place-without a b place fits_a fits_b = has_place-and a (bit_not w64 b) place ∙ elim (cases_lt place 64) [
+  | inl low ↦ ap (λ n. bit_at a place == 1 && n == 1) (bit_at_not w64 b place fits_b low) ∙ ap (λ c. bit_at a place == 1 && c) (is_none (bit_at b place) (bit_at-lt b place))
+  | inr high ↦
+      let none : (bit_at a place == 1) ≡ false = ap (λ n. n == 1) (bit_at_above a 64 place fits_a high) in
+      ap (λ c. c && bit_at (bit_not w64 b) place == 1) none ∙ sym (ap (λ c. c && not (bit_at b place == 1)) none)
+] where
+  is_none : (x : ℕ) → x < 2 → (1 - x == 1) ≡ not (x == 1)
+  is_none x below = grind (arith, nat_tests)
 
 pub or_not : (b c : Bool) → c ≡ false → (b || c) ≡ b
 or_not true c is = refl

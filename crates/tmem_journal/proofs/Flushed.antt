@@ -1,20 +1,21 @@
 -- What a crash leaves of a journal's device, while a batch is made durable; and what opening finds of it.
-use Rattle.std.proofs.Common.{◌≡◌, ◌⊎◌, inl, inr, ⊎_elim, ℕ, ◌≤◌, ◌^◌, List, length, refl, sym, ap, subst}
+use Rattle.std.proofs.Common.{◌≡◌, ◌≢◌, ◌⊎◌, inl, inr, ⊎_elim, ℕ, ◌≤◌, ◌^◌, List, refl, sym, ap, subst}
 use Rattle.std.specs.Prelude.{Err, IsErrOf, ◌↔◌}
 use Rattle.std.proofs.Math.Logic.{∥∥₁_map, ∥∥₁_elim, ∥∥₁_prop}
 use Rattle.std.proofs.Props.{props}
 use Rattle.tmem_disk.specs.Disk.{DeviceView, LeavesOnly, AtEachMoment}
 use Rattle.tmem_disk.specs.declared.fault.Fault.{Fault}
-use Rattle.tmem_disk.specs.declared.fault.Fault.TheVariants.{Memory, Device, Unknown, LogFull, NotFormatted, Damaged, Geometry}
+use Rattle.tmem_disk.specs.declared.fault.Fault.TheVariants.{Memory, Device, Unknown, LogFull, NotFormatted, Damaged, Geometry, Spent}
 use Rattle.tmem_gate.specs.Calls.{MadeBy}
 use Rattle.tmem_gate.specs.Changes.{Either, Becomes, Meanwhile, outcome_of}
-use Rattle.tmem_record.specs.State.{State, fold}
+use Rattle.tmem_record.specs.State.{State, fold, StaysWithin}
 use Rattle.tmem_record.specs.Layout.{IsLayout}
 use Rattle.tmem_redolog.specs.Appends.{Placed, Without, With, IsAppendFault}
 use Rattle.tmem_journal.specs.Stands.{Position, next_slot, HoldsState, StandsFor, StandsForEither}
 use Rattle.tmem_journal.specs.Calls.{doubted}
-use Rattle.tmem_journal.specs.Refusals.{IsRefusedBy, IsWhyRead, IsWhy}
-use Rattle.tmem_journal.proofs.Logged.{position_at, state_without, state_with}
+use Rattle.tmem_journal.specs.Journals.{IsOpeningFailure}
+use Rattle.tmem_journal.specs.Refusals.{IsRefusedBy, IsWhyRead, IsWhyFound, IsWhy}
+use Rattle.tmem_journal.proofs.Logged.{before_slot, state_without, state_with}
 use Rattle.tmem_journal.proofs.Unique.{one_state_at_most}
 use Rattle.tmem_journal.proofs.Refused.{none_where_refused}
 
@@ -27,24 +28,24 @@ pub full_is_not : (f : Fault) (used slots : ℕ) → (used ≡ slots → ⊥) �
 full_is_not f used slots other full is = other (full.0 (ap (λ (e : Fault). Err e) is))
 
 -- a batch that goes into the first slot behind the log, where every crash left this state before
-module _ (old new : DeviceView) (p : Placed) (copy : ℕ) (s : State) (count : s.count ≡ p.first) (room : length (fold s p.batch).names ≤ 64)
-    (model : new.keeps_model → old.keeps_model) (sure : LeavesOnly old (StandsFor p.vars p.slots (position_at copy p) s)) where
+module _ (old new : DeviceView) (p : Placed) (copy : ℕ) (s : State) (count : s.count ≡ p.first) (within : StaysWithin s p.batch)
+    (model : new.keeps_model → old.keeps_model) (sure : LeavesOnly old (StandsFor p.vars p.slots (before_slot copy p) s)) where
   abbrev here : Position
-  here = position_at copy p
+  here = before_slot copy p
 
   abbrev there : Position
-  there = next_slot (position_at copy p)
+  there = next_slot (before_slot copy p)
 
   without : old.keeps_model → (c : List ℕ) → MadeBy (Without p) old c → StandsFor p.vars p.slots here s c
-  without k c from = ∥∥₁_map (sure.each k from.0 from.1) (λ held. state_without p copy s count room from.0 c held from.2)
+  without k c from = ∥∥₁_map (sure.each k from.0 from.1) (λ held. state_without p copy s count within from.0 c held from.2)
 
   with : old.keeps_model → (c : List ℕ) → MadeBy (With p) old c → StandsFor p.vars p.slots there (fold s p.batch) c
-  with k c from = ∥∥₁_map (sure.each k from.0 from.1) (λ held. state_with p copy s count room from.0 c held from.2)
+  with k c from = ∥∥₁_map (sure.each k from.0 from.1) (λ held. state_with p copy s count within from.0 c held from.2)
 
   either : old.keeps_model → (t : State) → t ≡ fold s p.batch → (c : List ℕ) → MadeBy (Either (Without p) (With p)) old c → StandsForEither p.vars p.slots s t c
   either k t is c from = ∥∥₁_map (sure.each k from.0 from.1) (λ held. ⊎_elim
-      (λ no. (here, inl (state_without p copy s count room from.0 c held no)))
-      (λ yes. (there, inr (subst (λ (x : State). HoldsState p.vars p.slots there x c) (sym is) (state_with p copy s count room from.0 c held yes)))) from.2)
+      (λ no. (here, inl (state_without p copy s count within from.0 c held no)))
+      (λ yes. (there, inr (subst (λ (x : State). HoldsState p.vars p.slots there x c) (sym is) (state_with p copy s count within from.0 c held yes)))) from.2)
 
   -- once it is durable
   pub sure_ok : (t : State) → t ≡ fold s p.batch → LeavesOnly new (MadeBy (With p) old) → LeavesOnly new (StandsFor p.vars p.slots there t)
@@ -63,8 +64,8 @@ module _ (old new : DeviceView) (p : Placed) (copy : ℕ) (s : State) (count : s
     each = λ k c left.
         let from = during.each k c left in
         ∥∥₁_map (sure.each (model k) from.0 from.1) (λ held. ⊎_elim
-        (λ no. inl ∣ (here, inl (state_without p copy s count room from.0 c held no)) ∣₁)
-        (λ yes. inr ∣ (there, inl (subst (λ (x : State). HoldsState p.vars p.slots there x c) (sym is) (state_with p copy s count room from.0 c held yes))) ∣₁) from.2);
+        (λ no. inl ∣ (here, inl (state_without p copy s count within from.0 c held no)) ∣₁)
+        (λ yes. inr ∣ (there, inl (subst (λ (x : State). HoldsState p.vars p.slots there x c) (sym is) (state_with p copy s count within from.0 c held yes))) ∣₁) from.2);
   }
 
   pub moments_err : (t t' : State) (f : Fault) → IsAppendFault f → (f ≡ LogFull → ⊥) → t ≡ fold s (doubted f p.batch) → AtEachMoment old new (Meanwhile (Without p) (With p) old (outcome_of (Err f))) → AtEachMoment old new (λ c. ∥ StandsForEither p.vars p.slots s t' c ⊎ StandsForEither p.vars p.slots s t c ∥₁)
@@ -80,26 +81,36 @@ module _ (vars slots : ℕ) (few : vars ≤ 2 ^ 16) where
       (λ (one : HoldsState vars slots e.0 s c). inl (one_state_at_most vars slots few c p e.0 n s held one).1)
       (λ (two : HoldsState vars slots e.0 t c). inr (one_state_at_most vars slots few c p e.0 n t held two).1) e.1))
 
--- and it is refused by nothing
-pub none_refused : (vars slots : ℕ) (f : Fault) (s t : State) (c : List ℕ) → IsLayout vars slots → StandsForEither vars slots s t c → IsRefusedBy vars slots c f → ⊥
-none_refused vars slots f s t c layout either by = ∥∥₁_elim either (hlevel props) (λ e. ⊎_elim (λ one. none_where_refused vars slots layout c f by e.0 s one) (λ two. none_where_refused vars slots layout c f by e.0 t two) e.1)
+-- and it is refused by nothing but Spent
+pub none_refused : (vars slots : ℕ) (f : Fault) (s t : State) (c : List ℕ) → IsLayout vars slots → f ≢ Spent → StandsForEither vars slots s t c → IsRefusedBy vars slots c f → ⊥
+none_refused vars slots f s t c layout other either by = ∥∥₁_elim either (hlevel props) (λ e. ⊎_elim (λ one. none_where_refused vars slots layout c f other by e.0 s one) (λ two. none_where_refused vars slots layout c f other by e.0 t two) e.1)
 
 -- why it was not opened then
-pub wanting : (f : Fault) (P : Fault → Type 0) → ((g : Fault) → P g → ⊥) → IsWhyRead P f → (f ≡ Memory) ⊎ (f ≡ Device)
-wanting Device P none why = inr refl
-wanting NotFormatted P none why = absurd (none NotFormatted why)
-wanting Damaged P none why = absurd (none Damaged why)
-wanting Geometry P none why = absurd (none Geometry why)
+pub wanting : (f : Fault) (P : Fault → Type 0) → ((g : Fault) → g ≢ Spent → P g → ⊥) → IsWhyFound P f → IsOpeningFailure f
+wanting Device P none why = inr (inl refl)
+wanting Spent P none why = inr (inr refl)
+wanting NotFormatted P none why = absurd (none NotFormatted (λ is. cc) why)
+wanting Damaged P none why = absurd (none Damaged (λ is. cc) why)
+wanting Geometry P none why = absurd (none Geometry (λ is. cc) why)
 wanting _ P none why = absurd why
 
 -- memory was not wanted there
-pub not_wanted : (f : Fault) (P : Fault → Type 0) → IsWhyRead P f → f ≡ Memory → ⊥
-not_wanted f P why is = subst (IsWhyRead P) is why
+pub not_wanted : (f : Fault) (P : Fault → Type 0) → IsWhyFound P f → f ≡ Memory → ⊥
+not_wanted f P why is = subst (IsWhyFound P) is why
 
 -- why it was not opened, said under more premises
-pub why_fits : (f : Fault) (P Q : Fault → Type 0) → ((g : Fault) → P g → Q g) → IsWhyRead P f → IsWhy Q f
+pub why_fits : (f : Fault) (P Q : Fault → Type 0) → ((g : Fault) → P g → Q g) → IsWhyFound P f → IsWhy Q f
 why_fits Device P Q more why = tt
+why_fits Spent P Q more why = more Spent why
 why_fits NotFormatted P Q more why = more NotFormatted why
 why_fits Damaged P Q more why = more Damaged why
 why_fits Geometry P Q more why = more Geometry why
 why_fits _ P Q more why = absurd why
+
+-- why no state was found is why none was recovered
+pub found_why : (f : Fault) (P : Fault → Type 0) → IsWhyRead P f → IsWhyFound P f
+found_why Device P why = why
+found_why NotFormatted P why = why
+found_why Damaged P why = why
+found_why Geometry P why = why
+found_why _ P why = absurd why

@@ -1,6 +1,6 @@
 -- The formatted content: how it is written, and what it stands for.
-use Rattle.std.proofs.Common.{◌≡◌, inl, ◌<◌, ◌≤◌, ◌+◌, ◌*◌, ◌-◌, ℕ, zero, suc, pos, Option, Some, List, [], ◌++◌, length, take, drop, replicate, flat_map, refl, sym, ◌∙◌, ap, subst, arith, append_assoc, length-append, rules}
-use Rattle.std.specs.Prelude.{slice_get, FitsSigned, Result, Ok, Err, OnOk}
+use Rattle.std.proofs.Common.{◌≡◌, inl, ◌<◌, ◌≤◌, ◌+◌, ◌*◌, ◌-◌, ℕ, zero, suc, pos, Option, Some, List, [], ◌∷◌, ◌++◌, length, take, drop, replicate, flat_map, refl, sym, ◌∙◌, ap, subst, arith, append_assoc, length-append, rules}
+use Rattle.std.specs.Prelude.{slice_get, FitsSigned, Result, Ok, Err, OnOk, IfOk}
 use Rattle.std.specs.Int.{w64}
 use Rattle.std.proofs.lemmas.List.{take_at, drop_at, drop-drop, length-replicate, replicate-append-replicate}
 use Rattle.std.proofs.lemmas.List.Elements.{All-replicate}
@@ -10,14 +10,16 @@ use Rattle.tmem_gate.specs.Gate.{IsClosed, IsOpenOver}
 use Rattle.tmem_gate.proofs.Laws.{closed_before}
 use Rattle.tmem_record.specs.State.{first_state}
 use Rattle.tmem_record.specs.Spelling.{number_bytes, value_bytes, names_bytes}
+use Rattle.tmem_record.specs.Versions.{mark_of}
+use Rattle.tmem_record.specs.declared.version.Version.TheVariants.{Two}
 use Rattle.tmem_record.specs.Layout.{IsLayout, pages_of, image_place, slot_place, end_place}
 use Rattle.tmem_redolog.specs.Log.{HoldsLog}
 use Rattle.tmem_redolog.proofs.Laws.{no_batches}
 use Rattle.tmem_image.specs.Image.{other_copy}
 use Rattle.tmem_image.specs.Spelling.{names_body, pages_body, image_body, IsImage}
-use Rattle.tmem_image.proofs.Laws.{length-image_body}
+use Rattle.tmem_image.proofs.Laws.{joined, length-image_body}
 use Rattle.tmem_journal.specs.BlockSpelling.{block_body}
-use Rattle.tmem_journal.specs.Formatted.{open_cell, formatted}
+use Rattle.tmem_journal.specs.Formatted.{open_cell, header_bytes, formatted}
 use Rattle.tmem_journal.specs.Stands.{first_position, HoldsState, StandsFor}
 use Rattle.tmem_journal.proofs.Lengths.{length-block_body}
 use Rattle.tmem_journal.proofs.Overwriting.{two_parts}
@@ -40,23 +42,23 @@ zero_values (suc n) =
     ap (λ (l : List ℕ). replicate 8 0 ++ l) (zero_values n) ∙ replicate-append-replicate 8 (8 * n) 0 ∙ ap (λ (k : ℕ). replicate k 0) (sym e)
 
 -- no names are zeros
-zero_names : names_body [] ≡ replicate 2031 0
+zero_names : names_body [] ≡ replicate 2030 0
 unfolding names_body names_bytes
-zero_names = replicate-append-replicate 1 2030 0
+zero_names = replicate-append-replicate 1 2029 0
 
-zero_header : (n : ℕ) → names_body [] ++ replicate n 0 ≡ replicate (2031 + n) 0
-zero_header n = ap (λ (l : List ℕ). l ++ replicate n 0) zero_names ∙ replicate-append-replicate 2031 n 0
-
--- the first image is its generation, and zeros
-pub first_image : (vars : ℕ) → image_body vars 1 (first_state vars) ≡ little_bytes 8 1 ++ replicate (2039 + 512 * pages_of vars) 0
+-- the first image is its header, and zeros
+pub first_image : (vars : ℕ) → image_body Two vars 1 (first_state vars) ≡ header_bytes ++ replicate (512 * pages_of vars) 0
 unfolding image_body pages_body number_bytes
 first_image vars =
     let room : 8 * vars ≤ 512 * pages_of vars = omega arith in
     let whole : 8 * vars + (512 * pages_of vars - 8 * vars) ≡ 512 * pages_of vars = omega arith in
     let pages = ap (λ (l : List ℕ). l ++ replicate (512 * pages_of vars - 8 * vars) 0) (zero_values vars) ∙ replicate-append-replicate (8 * vars) (512 * pages_of vars - 8 * vars) 0 ∙ ap (λ (k : ℕ). replicate k 0) whole in
-    let header = ap (λ (l : List ℕ). names_body [] ++ l) pages ∙ zero_header (512 * pages_of vars) in
-    let total : 8 + (2031 + 512 * pages_of vars) ≡ 2039 + 512 * pages_of vars = omega arith in
-    ap (λ (l : List ℕ). little_bytes 8 1 ++ l) (ap (λ (l : List ℕ). replicate 8 0 ++ l) header ∙ replicate-append-replicate 8 (2031 + 512 * pages_of vars) 0 ∙ ap (λ (k : ℕ). replicate k 0) total)
+    let behind : List ℕ = mark_of Two ∷ replicate (512 * pages_of vars) 0 in
+    let header : replicate 8 0 ++ (names_body [] ++ behind) ≡ (replicate 2038 0 ++ mark_of Two ∷ []) ++ replicate (512 * pages_of vars) 0 =
+    ap (λ (l : List ℕ). replicate 8 0 ++ (l ++ behind)) zero_names ∙ sym (append_assoc (replicate 8 0) (replicate 2030 0) behind) ∙ ap (λ (l : List ℕ). l ++ behind) (replicate-append-replicate 8 2030 0)
+    ∙ sym (append_assoc (replicate 2038 0) (mark_of Two ∷ []) (replicate (512 * pages_of vars) 0)) in
+    ap (λ (l : List ℕ). little_bytes 8 1 ++ l) (ap (λ (l : List ℕ). replicate 8 0 ++ (names_body [] ++ mark_of Two ∷ l)) pages ∙ header)
+    ∙ sym (append_assoc (little_bytes 8 1) (replicate 2038 0 ++ mark_of Two ∷ []) (replicate (512 * pages_of vars) 0))
 
 -- a place that holds 0 is a closed gate
 pub closed_at_zero : (at : ℕ) (c : List ℕ) → slice_get c at ≡ Some 0 → IsClosed at c
@@ -103,10 +105,10 @@ closed_at front rest n i from to = closed_at_zero i (front ++ (replicate n 0 ++ 
 -- the formatted content stands for the first state, whatever follows it
 module _ (vars slots : ℕ) (rest : List ℕ) where
   abbrev first_cell : List ℕ
-  first_cell = open_cell (block_body vars slots)
+  first_cell = open_cell (block_body Two vars slots)
 
   abbrev second_cell : List ℕ
-  second_cell = open_cell (image_body vars 1 (first_state vars))
+  second_cell = open_cell (image_body Two vars 1 (first_state vars))
 
   abbrev blank : ℕ
   blank = end_place vars slots - image_place vars 1
@@ -119,10 +121,10 @@ module _ (vars slots : ℕ) (rest : List ℕ) where
   content_is = append_assoc first_cell (second_cell ++ replicate blank 0) rest ∙ ap (λ (l : List ℕ). first_cell ++ l) (append_assoc second_cell (replicate blank 0) rest)
 
   first_long : length first_cell ≡ 512
-  first_long = omega (arith, length-block_body vars slots)
+  first_long = omega (arith, length-block_body Two vars slots)
 
   second_long : length second_cell ≡ 2048 + 512 * pages_of vars
-  second_long = omega (arith, length-image_body vars 1 (first_state vars) AreRegistered-nil (length-replicate vars (pos 0)))
+  second_long = omega (arith, length-image_body Two vars 1 (first_state vars) AreRegistered-nil (length-replicate vars (pos 0)))
 
   -- from image copy 1 on
   closed_behind : (i : ℕ) → image_place vars 1 ≤ i → i < end_place vars slots → IsClosed i content
@@ -131,20 +133,22 @@ module _ (vars slots : ℕ) (rest : List ℕ) where
       subst (λ (l : List ℕ). IsClosed i l) (append_assoc first_cell second_cell (replicate blank 0 ++ rest)) (closed_at (first_cell ++ second_cell) rest blank i (omega (arith, front)) (omega (arith, front)))
 
   -- each slot is closed, so the log is empty
-  first_log : HoldsLog vars slots 1 (first_state vars) [] content
-  first_log = no_batches vars slots 1 (first_state vars) content (omega arith) (record { count = omega arith; names = omega arith }) (λ k below. inl (closed_behind (slot_place vars k) (omega arith) (omega (arith, below))))
+  first_log : HoldsLog Two vars slots 1 (first_state vars) [] content
+  first_log = no_batches Two vars slots 1 (first_state vars) content (omega arith) (record { count = omega arith; names = omega arith }) (λ k below. inl (closed_behind (slot_place vars k) (omega arith) (omega (arith, below))))
 
   pub formatted_stands : IsLayout vars slots → HoldsState vars slots first_position (first_state vars) (formatted vars slots ++ rest)
   formatted_stands layout = subst (λ (l : List ℕ). HoldsState vars slots first_position (first_state vars) l) (sym content_is) (record {
     image = first_state vars;
     batches = [];
     holds = record {
-      block = cell_at [] (block_body vars slots) (second_cell ++ (replicate blank 0 ++ rest)) 0 refl;
+      block_version = Two;
+      allowed = omega arith;
+      block = cell_at [] (block_body Two vars slots) (second_cell ++ (replicate blank 0 ++ rest)) 0 refl;
       one = omega arith;
       chosen = record {
         number = record { some = omega arith; fits = omega arith };
         fits = first_fits vars;
-        cell = cell_at first_cell (image_body vars 1 (first_state vars)) (replicate blank 0 ++ rest) (image_place vars 0) (first_long ∙ omega arith);
+        cell = cell_at first_cell (image_body Two vars 1 (first_state vars)) (replicate blank 0 ++ rest) (image_place vars 0) (first_long ∙ omega arith);
       };
       other = inl (closed_behind (image_place vars (other_copy 0)) (omega arith) (omega (arith, layout.some_slots)));
       log = first_log;
@@ -154,27 +158,31 @@ module _ (vars slots : ℕ) (rest : List ℕ) where
   })
 
 -- it is the two cells that are put, and zeros
-formatted_is : (vars slots : ℕ) → 1 ≤ slots → (rest : List ℕ) → formatted vars slots ++ rest ≡ open_cell (block_body vars slots) ++ (open_cell (little_bytes 8 1) ++ (replicate (end_place vars slots - (512 + 9)) 0 ++ rest))
+formatted_is : (vars slots : ℕ) → 1 ≤ slots → (rest : List ℕ) → formatted vars slots ++ rest ≡ open_cell (block_body Two vars slots) ++ (open_cell header_bytes ++ (replicate (end_place vars slots - (512 + 2048)) 0 ++ rest))
 formatted_is vars slots some rest =
-    let left : ℕ = 2039 + 512 * pages_of vars in
+    let left : ℕ = 512 * pages_of vars in
     let blank : ℕ = end_place vars slots - image_place vars 1 in
-    let generation : List ℕ = open_cell (little_bytes 8 1) in
-    let all : left + blank ≡ end_place vars slots - (512 + 9) = omega arith in
+    let header : List ℕ = open_cell header_bytes in
+    let all : left + blank ≡ end_place vars slots - (512 + 2048) = omega arith in
     content_is vars slots rest
-    ∙ ap (λ (l : List ℕ). open_cell (block_body vars slots) ++ (open_cell l ++ (replicate blank 0 ++ rest))) (first_image vars)
-    ∙ ap (λ (l : List ℕ). open_cell (block_body vars slots) ++ l) (append_assoc generation (replicate left 0) (replicate blank 0 ++ rest)
-    ∙ ap (λ (l : List ℕ). generation ++ l) (sym (append_assoc (replicate left 0) (replicate blank 0) rest) ∙ ap (λ (l : List ℕ). l ++ rest) (replicate-append-replicate left blank 0 ∙ ap (λ (k : ℕ). replicate k 0) all)))
+    ∙ ap (λ (l : List ℕ). open_cell (block_body Two vars slots) ++ (open_cell l ++ (replicate blank 0 ++ rest))) (first_image vars)
+    ∙ ap (λ (l : List ℕ). open_cell (block_body Two vars slots) ++ l) (append_assoc header (replicate left 0) (replicate blank 0 ++ rest)
+    ∙ ap (λ (l : List ℕ). header ++ l) (sym (append_assoc (replicate left 0) (replicate blank 0) rest) ∙ ap (λ (l : List ℕ). l ++ rest) (replicate-append-replicate left blank 0 ∙ ap (λ (k : ℕ). replicate k 0) all)))
 
--- zeros, over which an image's generation was put and then block 0
-pub all_written : (vars slots e at : ℕ) (gen numbers old zeroed with_image whole : List ℕ) → 1 ≤ slots → e ≡ end_place vars slots → at ≡ 512 → gen ≡ little_bytes 8 1 → numbers ≡ block_body vars slots
-    → zeroed ≡ replicate e 0 ++ drop e old → with_image ≡ overwritten zeroed at (open_cell gen) → whole ≡ overwritten with_image 0 (open_cell numbers) → whole ≡ formatted vars slots ++ drop (end_place vars slots) old
-all_written vars slots e at gen numbers old zeroed with_image whole some end place generation block zeros image_is block_is =
-    let first : length (open_cell numbers) ≡ 512 = omega (arith, ap length block, length-block_body vars slots) in
-    let second : length (open_cell gen) ≡ 9 = omega (arith, ap length generation, length-little_bytes 8 1) in
-    two_parts e 512 9 (open_cell numbers) (open_cell gen) (drop e old) zeroed with_image whole first second (omega (arith, end)) zeros (image_is ∙ ap (λ (k : ℕ). overwritten zeroed k (open_cell gen)) place) block_is
-    ∙ ap (λ (l : List ℕ). open_cell l ++ (open_cell gen ++ (replicate (e - (512 + 9)) 0 ++ drop e old))) block
-    ∙ ap (λ (l : List ℕ). open_cell (block_body vars slots) ++ (open_cell l ++ (replicate (e - (512 + 9)) 0 ++ drop e old))) generation
-    ∙ ap (λ (k : ℕ). open_cell (block_body vars slots) ++ (open_cell (little_bytes 8 1) ++ (replicate (k - (512 + 9)) 0 ++ drop k old))) end
+-- how long the header is
+pub length-header_bytes : length header_bytes ≡ 2047
+length-header_bytes = joined (little_bytes 8 1) (replicate 2038 0 ++ mark_of Two ∷ []) 8 2039 (length-little_bytes 8 1) (joined (replicate 2038 0) (mark_of Two ∷ []) 2038 1 (length-replicate {A = ℕ} 2038 0) refl)
+
+-- zeros, over which an image's header was put and then block 0
+pub all_written : (vars slots e at : ℕ) (header numbers old zeroed with_image whole : List ℕ) → 1 ≤ slots → e ≡ end_place vars slots → at ≡ 512 → header ≡ header_bytes → numbers ≡ block_body Two vars slots
+    → zeroed ≡ replicate e 0 ++ drop e old → with_image ≡ overwritten zeroed at (open_cell header) → whole ≡ overwritten with_image 0 (open_cell numbers) → whole ≡ formatted vars slots ++ drop (end_place vars slots) old
+all_written vars slots e at header numbers old zeroed with_image whole some end place spelled block zeros image_is block_is =
+    let first : length (open_cell numbers) ≡ 512 = omega (arith, ap length block, length-block_body Two vars slots) in
+    let second : length (open_cell header) ≡ 2048 = omega (arith, ap length spelled, length-header_bytes) in
+    two_parts e 512 2048 (open_cell numbers) (open_cell header) (drop e old) zeroed with_image whole first second (omega (arith, end)) zeros (image_is ∙ ap (λ (k : ℕ). overwritten zeroed k (open_cell header)) place) block_is
+    ∙ ap (λ (l : List ℕ). open_cell l ++ (open_cell header ++ (replicate (e - (512 + 2048)) 0 ++ drop e old))) block
+    ∙ ap (λ (l : List ℕ). open_cell (block_body Two vars slots) ++ (open_cell l ++ (replicate (e - (512 + 2048)) 0 ++ drop e old))) spelled
+    ∙ ap (λ (k : ℕ). open_cell (block_body Two vars slots) ++ (open_cell header_bytes ++ (replicate (k - (512 + 2048)) 0 ++ drop k old))) end
     ∙ sym (formatted_is vars slots some (drop (end_place vars slots) old))
 
 -- a stop leaves what a read gives, and that stands for the first state
@@ -185,6 +193,10 @@ formatted_device vars slots layout d rest reads synced = leaves_seen synced (λ 
 pub on_ok : {T E A B : Type 0} → (A → B) → (r : Result T E) → OnOk r A → OnOk r B
 on_ok f (Ok x) a = f a
 on_ok f (Err e) a = tt
+
+pub if_ok : {T E : Type 0} (A B : T → Type 0) → ((x : T) → A x → B x) → (r : Result T E) → IfOk r A → IfOk r B
+if_ok A B f (Ok x) a = f x a
+if_ok A B f (Err e) a = tt
 
 pub on_ok_2 : {T E A B C : Type 0} → (A → B → C) → (r : Result T E) → OnOk r A → OnOk r B → OnOk r C
 on_ok_2 f (Ok x) a b = f a b

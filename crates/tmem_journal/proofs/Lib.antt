@@ -4,8 +4,10 @@ pub mod Flushed
 pub mod FormattedStands
 pub mod Lengths
 pub mod Logged
+pub mod Migrated
 pub mod Overwriting
 pub mod Recovering
+pub mod Recovers
 pub mod Recovered
 pub mod Refused
 pub mod Renewed

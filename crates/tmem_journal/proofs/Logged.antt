@@ -9,8 +9,10 @@ use Rattle.tmem_gate.proofs.Laws.{closed_before, open_before}
 use Rattle.tmem_record.specs.Layout.{image_place, image_size, slot_place}
 use Rattle.tmem_record.specs.Spelling.{number_bytes}
 use Rattle.tmem_record.specs.Stale.{IsStale}
-use Rattle.tmem_record.specs.State.{State, fold}
+use Rattle.tmem_record.specs.State.{State, fold, StaysWithin}
 use Rattle.tmem_record.specs.declared.effect.Effect.{Effect}
+use Rattle.tmem_record.specs.declared.version.Version.{Version}
+use Rattle.tmem_record.specs.declared.version.Version.TheVariants.{Two}
 use Rattle.tmem_record.proofs.Laws.{length-number_bytes}
 use Rattle.tmem_image.specs.Image.{HoldsImage, other_copy}
 use Rattle.tmem_image.specs.Spelling.{image_body}
@@ -49,24 +51,26 @@ stale_before at n p generation b c same fits (inl closed) = inl (closed_before a
 stale_before at n p generation b c same fits (inr it) = inr (it.0, it.1, open_before at n p (number_bytes 8 it.0) b c same (omega (arith, fits, length-number_bytes 8 it.0)) it.2)
 
 -- and so does an image
-pub image_before : (vars copy at n generation : ℕ) (image : State) (b c : List ℕ) → SameOutside at n b c → image_place vars copy + image_size vars ≤ at → HoldsImage vars copy generation image b → HoldsImage vars copy generation image c
-image_before vars copy at n generation image b c same fits holds = record {
+pub image_before : (version : Version) (vars copy at n generation : ℕ) (image : State) (b c : List ℕ) → SameOutside at n b c → image_place vars copy + image_size vars ≤ at → HoldsImage version vars copy generation image b → HoldsImage version vars copy generation image c
+image_before version vars copy at n generation image b c same fits holds = record {
   number = holds.number;
   fits = holds.fits;
-  cell = open_before at n (image_place vars copy) (image_body vars generation image) b c same
-      (fits_below (image_place vars copy) (image_size vars) (length (image_body vars generation image)) at at fits (omega arith) (omega (arith, length-image_body vars generation image holds.fits.names holds.fits.values))) holds.cell;
+  cell = open_before at n (image_place vars copy) (image_body version vars generation image) b c same
+      (fits_below (image_place vars copy) (image_size vars) (length (image_body version vars generation image)) at at fits (omega arith) (omega (arith, length-image_body version vars generation image holds.fits.names holds.fits.values))) holds.cell;
 }
 
 -- what is written in the slots changes neither block 0 nor the images
-pub in_slots : (vars slots at n copy generation : ℕ) (image : State) (batches others : List (List Effect)) (b c : List ℕ) → SameOutside at n b c → slot_place vars 0 ≤ at → Holds vars slots copy generation image batches b → HoldsLog vars slots generation image others c
-    → Holds vars slots copy generation image others c
-in_slots vars slots at n copy generation image batches others b c same behind holds log =
+pub in_slots : (version : Version) (vars slots at n copy generation : ℕ) (image : State) (batches others : List (List Effect)) (b c : List ℕ) → SameOutside at n b c → slot_place vars 0 ≤ at → Holds version vars slots copy generation image batches b
+    → HoldsLog version vars slots generation image others c → Holds version vars slots copy generation image others c
+in_slots version vars slots at n copy generation image batches others b c same behind holds log =
     let here = copy_below vars copy holds.one in
     let there = copy_below vars (other_copy copy) (other_one copy) in
     record {
-      block = open_before at n 0 (block_body vars slots) b c same (omega (arith, behind, length-block_body vars slots)) holds.block;
+      block_version = holds.block_version;
+      allowed = holds.allowed;
+      block = open_before at n 0 (block_body holds.block_version vars slots) b c same (omega (arith, behind, length-block_body holds.block_version vars slots)) holds.block;
       one = holds.one;
-      chosen = image_before vars copy at n generation image b c same (ends_before (image_place vars copy) (image_size vars) (slot_place vars 0) at here behind) holds.chosen;
+      chosen = image_before version vars copy at n generation image b c same (ends_before (image_place vars copy) (image_size vars) (slot_place vars 0) at here behind) holds.chosen;
       other = stale_before at n (image_place vars (other_copy copy)) generation b c same (fits_below (image_place vars (other_copy copy)) (image_size vars) 8 (slot_place vars 0) at there behind (omega arith)) holds.other;
       log = log;
     }
@@ -75,31 +79,31 @@ in_slots vars slots at n copy generation image batches others b c same behind ho
     ends_before p size low at part front = omega (arith, part, front)
 
 -- a batch that goes into the first slot behind the log of a content that stands for a state
-abbrev pub position_at : ℕ → Placed → Position
-position_at copy p = record { copy = copy; generation = p.generation; used = p.slot }
+abbrev pub before_slot : ℕ → Placed → Position
+before_slot copy p = record { version = Two; copy = copy; generation = p.generation; used = p.slot }
 
-module _ (p : Placed) (copy : ℕ) (s : State) (count : s.count ≡ p.first) (room : length (fold s p.batch).names ≤ 64) (b c : List ℕ) (stands : HoldsState p.vars p.slots (position_at copy p) s b) where
+module _ (p : Placed) (copy : ℕ) (s : State) (count : s.count ≡ p.first) (within : StaysWithin s p.batch) (b c : List ℕ) (stands : HoldsState p.vars p.slots (before_slot copy p) s b) where
   follows : FollowsOn p.slot p.first p.batch stands.image stands.batches
   follows = record {
     used = stands.is_used;
     number = ap (λ (t : State). t.count) stands.is_state ∙ count;
-    room = subst (λ (t : State). length (fold t p.batch).names ≤ 64) (sym stands.is_state) room;
+    room = subst (λ (t : State). StaysWithin t p.batch) (sym stands.is_state) within;
   }
 
-  pub state_without : Without p b c → HoldsState p.vars p.slots (position_at copy p) s c
+  pub state_without : Without p b c → HoldsState p.vars p.slots (before_slot copy p) s c
   state_without without = record {
     image = stands.image;
     batches = stands.batches;
-    holds = in_slots p.vars p.slots (slot_place p.vars p.slot) 4096 copy p.generation stands.image stands.batches stands.batches b c without.elsewhere (omega arith) stands.holds (without.log stands.image stands.batches follows stands.holds.log);
+    holds = in_slots Two p.vars p.slots (slot_place p.vars p.slot) 4096 copy p.generation stands.image stands.batches stands.batches b c without.elsewhere (omega arith) stands.holds (without.log stands.image stands.batches follows stands.holds.log);
     is_used = stands.is_used;
     is_state = stands.is_state;
   }
 
-  pub state_with : With p b c → HoldsState p.vars p.slots (next_slot (position_at copy p)) (fold s p.batch) c
+  pub state_with : With p b c → HoldsState p.vars p.slots (next_slot (before_slot copy p)) (fold s p.batch) c
   state_with with = record {
     image = stands.image;
     batches = stands.batches ++ p.batch ∷ [];
-    holds = in_slots p.vars p.slots (slot_place p.vars p.slot) 4096 copy p.generation stands.image stands.batches (stands.batches ++ p.batch ∷ []) b c with.elsewhere (omega arith) stands.holds (with.log stands.image stands.batches follows stands.holds.log);
+    holds = in_slots Two p.vars p.slots (slot_place p.vars p.slot) 4096 copy p.generation stands.image stands.batches (stands.batches ++ p.batch ∷ []) b c with.elsewhere (omega arith) stands.holds (with.log stands.image stands.batches follows stands.holds.log);
     is_used = length-append stands.batches (p.batch ∷ []) ∙ ap (λ (n : ℕ). n + 1) stands.is_used;
     is_state = replayed-push stands.image stands.batches p.batch ∙ ap (λ (t : State). fold t p.batch) stands.is_state;
   }
@@ -109,7 +113,7 @@ pub state_closed : (vars slots : ℕ) (p : Position) (s : State) (b c : List ℕ
 state_closed vars slots p s b c keeps held = record {
   image = held.image;
   batches = held.batches;
-  holds = in_slots vars slots (slot_place vars p.used) (bytes_from p.used slots) p.copy p.generation held.image held.batches held.batches b c keeps.elsewhere (omega arith) held.holds (keeps.log held.image held.batches held.is_used held.holds.log);
+  holds = in_slots p.version vars slots (slot_place vars p.used) (bytes_from p.used slots) p.copy p.generation held.image held.batches held.batches b c keeps.elsewhere (omega arith) held.holds (keeps.log p.version held.image held.batches held.is_used held.holds.log);
   is_used = held.is_used;
   is_state = held.is_state;
 }

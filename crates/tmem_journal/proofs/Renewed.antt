@@ -13,16 +13,19 @@ use Rattle.tmem_gate.specs.Gate.{IsOpenOver}
 use Rattle.tmem_gate.proofs.Laws.{open_before, open_after, WritesWithin-wider, WritesWithin-trans}
 use Rattle.tmem_record.specs.Layout.{pages_of, image_place, image_size, slot_place}
 use Rattle.tmem_record.specs.Stale.{IsStale}
-use Rattle.tmem_record.specs.State.{State, fold}
+use Rattle.tmem_record.specs.State.{State, fold, IsWithin}
 use Rattle.tmem_record.specs.declared.effect.Effect.{Effect}
+use Rattle.tmem_record.specs.Versions.{number_of}
+use Rattle.tmem_record.specs.declared.version.Version.{Version}
+use Rattle.tmem_record.specs.declared.version.Version.TheVariants.{One, Two}
 use Rattle.tmem_image.specs.Image.{HoldsImage, other_copy}
 use Rattle.tmem_image.specs.Spare.{Placed, IsSettled, Without, With}
 use Rattle.tmem_image.specs.Spelling.{image_body}
 use Rattle.tmem_image.specs.Pages.{has_page, is_page_changed, HoldsOthers, pages_place}
 use Rattle.tmem_image.proofs.Laws.{front_of_image, HoldsOthers-before, HoldsOthers-after, HoldsOthers-fold, HoldsOthers-image}
 use Rattle.tmem_redolog.specs.Closes.{bytes_from, Keeps}
-use Rattle.tmem_redolog.specs.Log.{HoldsLog, IsWithin}
-use Rattle.tmem_redolog.proofs.Laws.{HoldsLog-front, emptied}
+use Rattle.tmem_redolog.specs.Log.{HoldsLog}
+use Rattle.tmem_redolog.proofs.Laws.{HoldsLog-front, emptied, LogWithin-last}
 use Rattle.tmem_journal.specs.BlockSpelling.{block_body}
 use Rattle.tmem_journal.specs.Stands.{Position, next_image, HoldsState, StandsFor, StandsForState, StandsForEither}
 use Rattle.tmem_journal.proofs.Lengths.{length-block_body}
@@ -44,21 +47,26 @@ behind_block vars copy = omega arith
 
 -- what is written in one copy changes neither block 0, nor the image in the other, nor the log
 module _ (vars slots copy : ℕ) (one : copy ≤ 1) (b c : List ℕ) (same : SameOutside (image_place vars (other_copy copy)) (image_size vars) b c) where
-  block_aside : IsOpenOver 0 (block_body vars slots) b → IsOpenOver 0 (block_body vars slots) c
-  block_aside block = open_before (image_place vars (other_copy copy)) (image_size vars) 0 (block_body vars slots) b c same (omega (arith, behind_block vars (other_copy copy), length-block_body vars slots)) block
+  block_aside : (version : Version) → IsOpenOver 0 (block_body version vars slots) b → IsOpenOver 0 (block_body version vars slots) c
+  block_aside version block = open_before (image_place vars (other_copy copy)) (image_size vars) 0 (block_body version vars slots) b c same (omega (arith, behind_block vars (other_copy copy), length-block_body version vars slots)) block
 
-  image_aside : (generation : ℕ) (image : State) → HoldsImage vars copy generation image b → HoldsImage vars copy generation image c
-  image_aside generation image holds = ⊎_elim
-      (λ before. image_before vars copy (image_place vars (other_copy copy)) (image_size vars) generation image b c same before holds)
+  image_aside : (version : Version) (generation : ℕ) (image : State) → HoldsImage version vars copy generation image b → HoldsImage version vars copy generation image c
+  image_aside version generation image holds = ⊎_elim
+      (λ before. image_before version vars copy (image_place vars (other_copy copy)) (image_size vars) generation image b c same before holds)
       (λ after. record {
         number = holds.number;
         fits = holds.fits;
-        cell = open_after (image_place vars (other_copy copy)) (image_size vars) (image_place vars copy) (image_body vars generation image) b c same after holds.cell;
+        cell = open_after (image_place vars (other_copy copy)) (image_size vars) (image_place vars copy) (image_body version vars generation image) b c same after holds.cell;
       })
       (apart vars copy one)
 
-  log_aside : (generation : ℕ) (image : State) (batches : List (List Effect)) → HoldsLog vars slots generation image batches b → HoldsLog vars slots generation image batches c
-  log_aside generation image batches log = HoldsLog-front vars (image_place vars (other_copy copy)) (image_size vars) b c same (copy_below vars (other_copy copy) (other_one copy)) slots generation image batches log
+  log_aside : (version : Version) (generation : ℕ) (image : State) (batches : List (List Effect)) → HoldsLog version vars slots generation image batches b → HoldsLog version vars slots generation image batches c
+  log_aside version generation image batches log = HoldsLog-front vars (image_place vars (other_copy copy)) (image_size vars) b c same (copy_below vars (other_copy copy) (other_one copy)) version slots generation image batches log
+
+-- no version is later than the one that is written
+at_most_two : (version : Version) → number_of version ≤ number_of Two
+at_most_two One = omega arith
+at_most_two Two = omega arith
 
 -- the image of a state that goes next
 abbrev pub next_placed : ℕ → Position → State → Placed
@@ -71,11 +79,13 @@ module _ (vars slots : ℕ) (p : Position) (s : State) (b c : List ℕ) (stands 
     image = stands.image;
     batches = stands.batches;
     holds = record {
-      block = block_aside vars slots p.copy stands.holds.one b c without.elsewhere stands.holds.block;
+      block_version = stands.holds.block_version;
+      allowed = stands.holds.allowed;
+      block = block_aside vars slots p.copy stands.holds.one b c without.elsewhere stands.holds.block_version stands.holds.block;
       one = stands.holds.one;
-      chosen = image_aside vars slots p.copy stands.holds.one b c without.elsewhere p.generation stands.image stands.holds.chosen;
+      chosen = image_aside vars slots p.copy stands.holds.one b c without.elsewhere p.version p.generation stands.image stands.holds.chosen;
       other = without.stale p.generation stands.holds.other;
-      log = log_aside vars slots p.copy stands.holds.one b c without.elsewhere p.generation stands.image stands.batches stands.holds.log;
+      log = log_aside vars slots p.copy stands.holds.one b c without.elsewhere p.version p.generation stands.image stands.batches stands.holds.log;
     };
     is_used = stands.is_used;
     is_state = stands.is_state;
@@ -87,21 +97,23 @@ module _ (vars slots : ℕ) (p : Position) (s : State) (b c : List ℕ) (stands 
   -- with it that is chosen, and no slot carries its generation
   written_state : p.generation + 1 < 2 ^ 64 → With (next_placed vars p s) b c → HoldsState vars slots (next_image p) s c
   written_state fits with =
-      let was = image_aside vars slots p.copy stands.holds.one b c with.elsewhere p.generation stands.image stands.holds.chosen in
-      let head = front_of_image vars p.generation (image_place vars p.copy) stands.image c was.cell in
+      let was = image_aside vars slots p.copy stands.holds.one b c with.elsewhere p.version p.generation stands.image stands.holds.chosen in
+      let head = front_of_image p.version vars p.generation (image_place vars p.copy) stands.image c was.cell in
       let less : p.generation < p.generation + 1 = omega arith in
       let stale : IsStale (p.generation + 1) (image_place vars p.copy) c = inr (p.generation, less, head) in
-      let within : IsWithin s = subst (λ (t : State). IsWithin t) stands.is_state stands.holds.log.within in
-      let log = log_aside vars slots p.copy stands.holds.one b c with.elsewhere p.generation stands.image stands.batches stands.holds.log in
+      let within : IsWithin s = subst (λ (t : State). IsWithin t) stands.is_state (LogWithin-last stands.image stands.batches stands.holds.log.within) in
+      let log = log_aside vars slots p.copy stands.holds.one b c with.elsewhere p.version p.generation stands.image stands.batches stands.holds.log in
       record {
         image = s;
         batches = [];
         holds = record {
-          block = block_aside vars slots p.copy stands.holds.one b c with.elsewhere stands.holds.block;
+          block_version = stands.holds.block_version;
+          allowed = at_most_two stands.holds.block_version;
+          block = block_aside vars slots p.copy stands.holds.one b c with.elsewhere stands.holds.block_version stands.holds.block;
           one = other_one p.copy;
           chosen = with.image;
           other = subst (λ (k : ℕ). IsStale (p.generation + 1) (image_place vars k) c) back stale;
-          log = emptied vars slots p.generation (p.generation + 1) stands.image s stands.batches c less fits within log;
+          log = emptied p.version Two vars slots p.generation (p.generation + 1) stands.image s stands.batches c less fits within log;
         };
         is_used = refl;
         is_state = refl;
@@ -209,7 +221,7 @@ pages_in_front vars copy set slot n values one old new model writes holds = reco
 
 -- once the image is written, each page of its copy holds its state
 pub pages_written : (vars : ℕ) (p : Position) (s : State) (old new : DeviceView) → LeavesOnly new (MadeBy (With (next_placed vars p s)) old) → LeavesOnly new (HoldsOthers (pages_place vars (other_copy p.copy)) vars 0 s.values)
-pages_written vars p s old new made = record { each = λ k c left. HoldsOthers-image vars (other_copy p.copy) (p.generation + 1) 0 s c (made.each k c left).2.image }
+pages_written vars p s old new made = record { each = λ k c left. HoldsOthers-image Two vars (other_copy p.copy) (p.generation + 1) 0 s c (made.each k c left).2.image }
 
 -- once a batch is flushed into a slot, the pages that it does not change hold the state after it
 pub pages_folded : (vars copy slot set more n : ℕ) (s : State) (es : List Effect) (t : State) → copy ≤ 1 → ((page : ℕ) → has_page more page ≡ is_page_changed es page) → fold s es ≡ t → (old new : DeviceView) → (new.keeps_model → old.keeps_model) → WritesWithin (slot_place vars slot) n old new

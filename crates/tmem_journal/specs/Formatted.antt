@@ -1,6 +1,9 @@
 -- The content of a device once it is formatted.
-use Rattle.std.specs.Prelude.{ℕ, ◌-◌, List, ◌∷◌, ◌++◌, replicate}
+use Rattle.std.specs.Prelude.{ℕ, ◌-◌, List, [], ◌∷◌, ◌++◌, replicate}
+use Rattle.byteorder.specs.Endian.{little_bytes}
 use Rattle.tmem_record.specs.State.{first_state}
+use Rattle.tmem_record.specs.Versions.{mark_of}
+use Rattle.tmem_record.specs.declared.version.Version.TheVariants.{Two}
 use Rattle.tmem_record.specs.Layout.{image_place, end_place}
 use Rattle.tmem_image.specs.Spelling.{image_body}
 use Rattle.tmem_journal.specs.BlockSpelling.{block_body}
@@ -9,6 +12,11 @@ use Rattle.tmem_journal.specs.BlockSpelling.{block_body}
 abbrev pub open_cell : List ℕ → List ℕ
 open_cell body = 0xA5 ∷ body
 
--- Block 0 with these numbers, image copy 0 of generation 1 with the first state, and 0 from image copy 1 to the end.
+-- what stands in front of the pages of the first image: generation 1, no transaction and no name, and the mark of version 2
+abbrev pub header_bytes : List ℕ
+header_bytes = little_bytes 8 1 ++ (replicate 2038 0 ++ mark_of Two ∷ [])
+
+-- Block 0 of version 2 with these numbers, image copy 0 of version 2 and generation 1 with the first state, and 0 from image
+-- copy 1 to the end.
 unfoldable pub formatted : ℕ → ℕ → List ℕ
-formatted vars slots = open_cell (block_body vars slots) ++ (open_cell (image_body vars 1 (first_state vars)) ++ replicate (end_place vars slots - image_place vars 1) 0)
+formatted vars slots = open_cell (block_body Two vars slots) ++ (open_cell (image_body Two vars 1 (first_state vars)) ++ replicate (end_place vars slots - image_place vars 1) 0)

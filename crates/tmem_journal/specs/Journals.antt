@@ -53,10 +53,14 @@ Checkpoints old (Err fault.Closed) new = (is_closed_of old ≡ true) × (new ≡
 Checkpoints old (Err fault.Spent) new = (is_closed_of old ≡ false) × ((position_of old).generation + 1 ≡ 2 ^ 64) × (new ≡ old)
 Checkpoints old (Err _) new = ⊥
 
--- one of two states is found, or memory or the device failed
+-- why a content that stands for a state was not opened: memory or the device failed, or it cannot be migrated
+abbrev pub IsOpeningFailure : Fault → Type 0
+IsOpeningFailure f = (f ≡ fault.Memory) ⊎ ((f ≡ fault.Device) ⊎ (f ≡ fault.Spent))
+
+-- one of two states is found, or else the opening failed so
 abbrev pub FindsEither : {D : Type 0} {d : _} → Result (Journal D d) (Fault × D) → State → State → Type 0
 FindsEither (Ok j) s t = ∥ (state_of j ≡ s) ⊎ (state_of j ≡ t) ∥₁
-FindsEither (Err e) s t = (e.0 ≡ fault.Memory) ⊎ (e.0 ≡ fault.Device)
+FindsEither (Err e) s t = IsOpeningFailure e.0
 
 -- Why opening was refused: by Geometry where the numbers do not fit the device; else memory or the device, or what its
 -- content is refused by.

@@ -1,11 +1,11 @@
--- What recovery makes of a content.
-use Rattle.std.specs.Prelude.{◌≡◌, ◌≢◌, ◌<◌, ◌≤◌, ◌*◌, ℕ, List, slice_get}
+-- What an opening makes of a content: recovery closes gates behind the log, and a migration writes an image of version 2.
+use Rattle.std.specs.Prelude.{◌≡◌, ◌≢◌, ◌<◌, ◌≤◌, ◌+◌, ◌*◌, ℕ, List, slice_get}
 use Rattle.tmem_disk.specs.Disk.{DeviceView, SameOutside, AtEachMoment}
 use Rattle.tmem_gate.specs.Calls.{LooksOnly, WritesWithin}
 use Rattle.tmem_gate.specs.Gate.{IsOpenAt, IsClosed}
-use Rattle.tmem_record.specs.Layout.{slot_place}
+use Rattle.tmem_record.specs.Layout.{image_place, image_size, slot_place}
 use Rattle.tmem_record.specs.State.{State}
-use Rattle.tmem_journal.specs.Stands.{Position, StandsFor}
+use Rattle.tmem_journal.specs.Stands.{Position, StandsFor, StandsForState, migrated}
 
 -- at this place there is no open gate of a log slot
 abbrev pub IsNoOpenGate : ℕ → ℕ → List ℕ → ℕ → Type 0
@@ -36,3 +36,26 @@ pub record MendsDevice (vars slots : ℕ) (old new : DeviceView) : Type 0 where
   pub elsewhere : WritesWithin (slot_place vars 0) (4096 * slots) old new
   pub looks : (p : Position) (s : State) → StandsFor vars slots p s old.seen → ClosedFrom vars slots p.used old.seen → LooksOnly old new
   pub damaged_looks : ((p : Position) (s : State) → ¬ StandsFor vars slots p s old.seen) → LooksOnly old new
+
+-- whatever state the first content stands for, the second stands for, at any position
+abbrev pub Recovers : ℕ → ℕ → List ℕ → List ℕ → Type 0
+Recovers vars slots b c = (s : State) → StandsForState vars slots s b → StandsForState vars slots s c
+
+-- a crash might have left before a content that stands for no state but this one's
+abbrev pub RecoveredBy : ℕ → ℕ → DeviceView → List ℕ → Type 0
+RecoveredBy vars slots d c = (b : List ℕ) × d.may_leave b × Recovers vars slots b c
+
+-- What an opening does to a device, whatever it answers, also where it writes an image of version 2. A read gives a content that
+-- stands for the state that it stood for, and so does what a crash leaves, at any moment of it. Neither block 0 is written, nor
+-- anything behind the slots.
+pub record RecoversDevice (vars slots : ℕ) (old new : DeviceView) : Type 0 where
+  pub any_moment : AtEachMoment old new (RecoveredBy vars slots old)
+  pub seen : new.keeps_model → Recovers vars slots old.seen new.seen
+  pub elsewhere : WritesWithin (image_place vars 0) (2 * image_size vars + 4096 * slots) old new
+
+-- A content stood for this state, and the store goes on at this position: where the content stood for it, or with the next image
+-- where it was of version 1.
+pub record IsFoundAt (vars slots : ℕ) (c : List ℕ) (s : State) (now : Position) : Type 0 where
+  pub position : Position
+  pub stands : StandsFor vars slots position s c
+  pub goes_on : now ≡ migrated position

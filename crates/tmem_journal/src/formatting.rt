@@ -3,7 +3,7 @@ ghost use Rattle.std.specs.Prelude.{◌≡◌, ◌⊎◌, ◌≤◌, ◌*◌, �
 ghost use Rattle.tmem_disk.specs.Disk.{AtEachMoment, LeavesOnly, ReadsAs, IsSynced};
 ghost use Rattle.tmem_record.specs.State.{first_state};
 ghost use Rattle.tmem_record.specs.Layout.{end_place};
-ghost use Rattle.tmem_journal.specs.Formatted.{formatted};
+ghost use Rattle.tmem_journal.specs.Formatted.{formatted, header_bytes};
 ghost use Rattle.tmem_journal.specs.Stands.{first_position, StandsFor};
 ghost use Rattle.tmem_gate.specs.Calls.{WritesWithin, Uses};
 ghost use Rattle.tmem_gate.specs.Gate.{IsClosed};
@@ -13,14 +13,21 @@ use crate::block::spell_block;
 use crate::calls::put_cell;
 use tmem_disk::{Disk, Fault};
 use tmem_gate::device::{sync, write};
-use tmem_record::Layout;
+use tmem_record::bytes::put;
+use tmem_record::{Layout, Version};
+
+// An image's header without its gate.
+const HEADER_ROOM: usize = 2047;
+
+// Where the version's mark stands in it.
+const MARK_AT: usize = 2046;
 
 // How many bytes are erased by one write at the most.
 const PIECE: usize = 16384;
 
-/// Formats a device for so many variables and log slots: no transaction, every variable 0. Refused by `Geometry`, before
-/// anything is written, where a number is out of its limits or the device is too small; by `Device` where a call of the
-/// device fails, which may leave anything in the layout, an old store too: format it again.
+/// Formats a device for so many variables and log slots, in version 2: no transaction, every variable 0. Refused by
+/// `Geometry`, before anything is written, where a number is out of its limits or the device is too small; by `Device` where
+/// a call of the device fails, which may leave anything in the layout, an old store too: format it again.
 pub fn format<D: Disk>(disk: &mut D, vars: u16, slots: u16) -> Result<(), Fault>
     ensures uses { Uses (D.view disk.old) (D.view disk.new) result }
     ensures fits { OnOk result (FitsOn vars slots (D.view disk.old).capacity) }
@@ -59,8 +66,19 @@ fn build<D: Disk>(disk: &mut D, layout: Layout) -> Result<(), Fault>
     ensures any_moment { AtEachMoment (D.view disk.old) (D.view disk.new)
         (λ c. IsClosed 0 c ⊎ StandsFor layout.vars layout.slots first_position (first_state layout.vars) c) }
 {
-    put_cell(disk, layout.image(0), &1u64.to_le_bytes())?;
-    put_cell(disk, 0, &spell_block(layout.vars, layout.slots))
+    let block = spell_block(Version::Two, layout.vars, layout.slots);
+    put_cell(disk, layout.image(0), &first_header())?;
+    put_cell(disk, 0, &block)
+}
+
+// The header of the first image, without its gate: generation 1, no transaction and no name, and the mark of version 2.
+fn first_header() -> [u8; HEADER_ROOM]
+    ensures { result ≡ header_bytes }
+{
+    let mut bytes = [0; HEADER_ROOM];
+    put(&mut bytes, 0, &1u64.to_le_bytes());
+    put(&mut bytes, MARK_AT, &[Version::Two.mark()]);
+    bytes
 }
 
 // Writes zeros up to a place, in large pieces, and syncs.

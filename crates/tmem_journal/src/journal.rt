@@ -1,29 +1,30 @@
 // The journal: a device, and the state that it stands for.
-ghost use Rattle.std.specs.Prelude.{◌≡◌, ◌≢◌, ◌≤◌, ◌<◌, ◌+◌, ◌*◌, ◌^◌, ◌⊎◌, ℕ, [], false, Some, length, All, IfOk, IfErr, IfSome, IsErrOf};
+ghost use Rattle.std.specs.Prelude.{◌≡◌, ◌≢◌, ◌≤◌, ◌<◌, ◌+◌, ◌*◌, ◌⊎◌, ℕ, [], false, Some, length, All, IfOk, IfErr, IfSome, IsErrOf};
 ghost use Rattle.tmem_disk.specs.Disk.{LeavesOnly, AtEachMoment, SameSeenOutside, IsSynced, IsWriteOrSync};
 ghost use Rattle.tmem_gate.specs.Calls.{Uses, LooksOnly, WritesWithin};
 ghost use Rattle.tmem_gate.specs.Gate.{HasBody, StandsClosed};
-ghost use Rattle.tmem_record.specs.State.{State as StateOf, fold};
+ghost use Rattle.tmem_record.specs.State.{State as StateOf, fold, StaysWithin};
 ghost use Rattle.tmem_record.specs.Spelling.{batch_bytes};
+ghost use Rattle.tmem_record.specs.declared.version.Version.TheVariants.{Two};
 ghost use Rattle.tmem_record.specs.declared.codec.TheConstants.{BATCH_ROOM};
 ghost use Rattle.tmem_record.specs.Layout.{image_place, image_size, slot_place, end_place};
 ghost use Rattle.tmem_image.specs.Image.{IsGeneration, other_copy};
 ghost use Rattle.tmem_image.specs.Pages.{HoldsOthers, pages_place};
 ghost use Rattle.tmem_image.specs.Spare.{placed, AwaitsGate};
-ghost use Rattle.tmem_journal.specs.Stands.{Position, next_image, position_in, StandsFor, StandsForState, StandsForEither};
-ghost use Rattle.tmem_journal.specs.Mended.{Mends, MendedBy, ClosedFrom};
+ghost use Rattle.tmem_journal.specs.Stands.{next_image, position_in, StandsFor, StandsForState, StandsForEither, NeedsNoMigration};
+ghost use Rattle.tmem_journal.specs.Mended.{MendsDevice, RecoversDevice, IsFoundAt};
 ghost use Rattle.tmem_journal.specs.Calls.{FitsOn, effects_in, doubted, fault_alone};
 
 use crate::accepting::accept_all;
 use crate::buffer::Buffer;
-use crate::recovery::recover;
+use crate::migrating::recover_current;
 use crate::renewing::renew;
 use crate::room::Room;
 use std::alloc::Global;
 use std::snapshot::Snapshot;
 use tmem_disk::{DeviceFault, Disk, Fault};
 use tmem_image::{ALL_PAGES, pages_changed};
-use tmem_record::{Batch, Layout, State};
+use tmem_record::{Batch, Layout, State, Version};
 use tmem_redolog::{Log, append};
 
 // Sets of pages, one for each image copy.
@@ -95,16 +96,22 @@ impl<D: Disk> Journal<D> {
     ghost use Rattle.tmem_journal.specs.Held.{disk_of, device_of, device_after, layout_of, state_of, doubtful_of, position_of, is_closed_of, MayBe};
     ghost use Rattle.tmem_journal.specs.Journals.{Flushes, Checkpoints, FindsEither, IsOpeningRefused};
 
-    /// Recovers the state that a device of these numbers stands for. Refused by `Geometry` where the numbers are out of
-    /// limits, the device is smaller than their layout, or it was formatted for others; by `NotFormatted` where block 0 is
-    /// closed or lacks its magic; else by `Damaged` where its content stands for no state; by `Memory`, before the device is
-    /// touched; by `Device` where a call of the device fails. The device is handed back with the refusal. Gates that read open behind the log are closed,
-    /// and nothing else is written.
+    /// Recovers the state that a device of these numbers stands for. Where its image is of version 1, one checkpoint follows,
+    /// which writes an image of version 2. Refused by `Geometry` where the numbers are out of limits, the device is smaller
+    /// than their layout, or it was formatted for others; by `NotFormatted` where block 0 is closed or lacks its magic; else
+    /// by `Damaged` where its content stands for no state; by `Spent` where its image is of version 1 and of the last
+    /// generation, so that no other can follow; by `Memory`, before the device is touched; by `Device` where a call of the
+    /// device fails, which may leave the image of version 2 or not. The device is handed back with the refusal. Gates that
+    /// read open behind the log are closed, and nothing else is written but for that checkpoint.
     pub fn open(alloc: Global, mut disk: D, vars: u16, slots: u16) -> Result<Journal<D>, (Fault, D)>
         ensures uses { Uses (D.view disk) (device_after result) (fault_alone result) }
         ensures fits { IfOk result (λ j. ((layout_of j).vars ≡ vars) × ((layout_of j).slots ≡ slots) × FitsOn vars slots (D.view disk).capacity) }
         ensures fresh { IfOk result (λ j. (is_closed_of j ≡ false) × (doubtful_of j ≡ state_of j)) }
-        ensures found { IfOk result (λ j. (device_of j).keeps_model → StandsFor vars slots (position_of j) (state_of j) (D.view disk).seen) }
+
+        // The state that the content stood for is found: at its position, or with the next image where it was of version 1.
+        // What a read gives then stands for it too.
+        ensures found { IfOk result (λ j. (device_of j).keeps_model → IsFoundAt vars slots (D.view disk).seen (state_of j) (position_of j)) }
+        ensures stands { IfOk result (λ j. (device_of j).keeps_model → StandsFor vars slots (position_of j) (state_of j) (device_of j).seen) }
         ensures refused { IfErr result (λ e. IsOpeningRefused (D.view disk) vars slots e.0 (D.view e.1)) }
 
         // Where the numbers do not fit the device, no call of it is made: the one that was handed in is handed back. So is it
@@ -112,19 +119,20 @@ impl<D: Disk> Journal<D> {
         ensures untouched { ¬ FitsOn vars slots (D.view disk).capacity → IfErr result (λ e. e.1 ≡ disk) }
         ensures memory { IfErr result (λ e. e.0 ≡ Fault.Memory → e.1 ≡ disk) }
 
-        // A crash at any moment leaves what one might have left before, but for gates behind the log that are closed in it.
-        ensures any_moment { AtEachMoment (D.view disk) (device_after result) (MendedBy vars slots (D.view disk)) }
-        ensures seen { (device_after result).keeps_model → Mends vars slots (D.view disk).seen (device_after result).seen }
-        ensures elsewhere { WritesWithin (slot_place vars 0) (4096 * slots) (D.view disk) (device_after result) }
+        // Whatever is answered, a crash at any moment leaves a content that stands for what one before it stood for. Block 0 is
+        // not written, nor anything behind the slots.
+        ensures recovers { RecoversDevice vars slots (D.view disk) (device_after result) }
 
-        // Nothing is written where these gates read closed, nor where the content stands for no state, nor before a refusal
-        // other than `Device`.
-        ensures looks { (p : Position) (s : StateOf) → StandsFor vars slots p s (D.view disk).seen → ClosedFrom vars slots p.used (D.view disk).seen
-            → LooksOnly (D.view disk) (device_after result) }
-        ensures damaged_looks { ((p : Position) (s : StateOf) → ¬ StandsFor vars slots p s (D.view disk).seen) → LooksOnly (D.view disk) (device_after result) }
-        ensures refused_looks { IfErr result (λ e. e.0 ≢ Fault.Device → LooksOnly (D.view disk) (D.view e.1)) }
+        // Where no image of version 1 is found, nothing is written but gates behind the log that read open, and nothing at all
+        // where the content stands for no state; nor is anything else written before `Spent`.
+        ensures mends { NeedsNoMigration vars slots (D.view disk).seen → MendsDevice vars slots (D.view disk) (device_after result) }
+        ensures spent_mends { IfErr result (λ e. e.0 ≡ Fault.Spent → MendsDevice vars slots (D.view disk) (D.view e.1)) }
 
-        // Where every crash left one of two states, that one is found, unless memory or the device fails.
+        // Nothing at all is written before a refusal other than `Device` and `Spent`.
+        ensures refused_looks { IfErr result (λ e. e.0 ≢ Fault.Device → e.0 ≢ Fault.Spent → LooksOnly (D.view disk) (D.view e.1)) }
+
+        // Where every crash left one of two states, that one is found, unless memory or the device fails, or it cannot be
+        // migrated.
         ensures either { (s t : StateOf) → FitsOn vars slots (D.view disk).capacity → LeavesOnly (D.view disk) (StandsForEither vars slots s t)
             → (device_after result).keeps_model → FindsEither result s t }
     {
@@ -139,7 +147,7 @@ impl<D: Disk> Journal<D> {
             Ok(room) => room,
             Err(_) => return Err((Fault::Memory, disk)),
         };
-        match recover(&mut disk, layout, image, log) {
+        match recover_current(&mut disk, layout, image, log) {
             Ok(found) => Ok(Journal {
                 disk,
                 layout,
@@ -195,15 +203,14 @@ impl<D: Disk> Journal<D> {
     }
 
     /// Makes a batch durable, and answers how many transactions are durable then. The batch is not empty, its effects are
-    /// over the journal's variables, and the state after them is within the limits of counts and names. Refused by `Closed`
-    /// once a call of the device has failed; by `LogFull` where every log slot is used; by `Device` where the write of the
-    /// batch failed: no crash leaves any of it; and by `Unknown` where a sync or the write of a gate failed: a crash leaves
-    /// the whole batch or none of it. After these two the journal is closed.
+    /// over the journal's variables, and the state is within the limits of counts and names after each of them. Refused by
+    /// `Closed` once a call of the device has failed; by `LogFull` where every log slot is used; by `Device` where the write
+    /// of the batch failed: no crash leaves any of it; and by `Unknown` where a sync or the write of a gate failed: a crash
+    /// leaves the whole batch or none of it. After these two the journal is closed.
     pub fn flush(&mut self, batch: &Batch) -> Result<u64, Fault>
         requires some { 1 ≤ length batch.now }
-        requires within { All (λ e. All (λ w. w.0 < (layout_of self.old).vars) e.writes) batch.now }
-        requires countable { (fold (state_of self.old) batch.now).count < 2 ^ 64 }
-        requires room { length (fold (state_of self.old) batch.now).names ≤ 64 }
+        requires variables { All (λ e. All (λ w. w.0 < (layout_of self.old).vars) e.writes) batch.now }
+        requires within { StaysWithin (state_of self.old) batch.now }
         ensures uses { Uses (device_of self.old) (device_of self.new) result }
         ensures layout { layout_of self.new ≡ layout_of self.old }
         ensures flushed { Flushes self.old batch.now result self.new }
@@ -215,7 +222,7 @@ impl<D: Disk> Journal<D> {
             SameSeenOutside (slot_place (layout_of self.old).vars (position_of self.old).used + 1) BATCH_ROOM (device_of self.old) (device_of self.new) }
         ensures gate_failed { IsErrOf result Fault.Unknown → IfSome (device_of self.new).last_fault IsWriteOrSync }
         ensures body_written { IsErrOf result Fault.Unknown → (device_of self.new).keeps_model →
-            HasBody (slot_place (layout_of self.old).vars (position_of self.old).used) (batch_bytes (position_of self.old).generation (state_of self.old).count batch.now) (device_of self.new).seen }
+            HasBody (slot_place (layout_of self.old).vars (position_of self.old).used) (batch_bytes Two (position_of self.old).generation (state_of self.old).count batch.now) (device_of self.new).seen }
 
         // A crash at any moment of the call leaves what the journal before it allows, or the one after it.
         ensures any_moment { AtEachMoment (device_of self.old) (device_of self.new) (λ c. ∥ MayBe self.old c ⊎ MayBe self.new c ∥₁) }
@@ -251,12 +258,12 @@ impl<D: Disk> Journal<D> {
         }
     }
 
-    /// Writes the state as an image of the next generation to the image copy that is not chosen, and empties the log then:
-    /// each log slot is free again. Of the pages of that copy it writes those that may differ from the state. The state stays
-    /// as it is. Refused by `Closed` once a call of the device has failed; by `Spent` where no generation is left; by `Device`
-    /// where a read failed, or a write of anything but the gate that opens the image; and by `Unknown` where a sync or the
-    /// write of that gate failed. After these two the journal is closed, and a crash leaves the old image with its log, or
-    /// the new one: after `Device` always the same one. It takes no memory.
+    /// Writes the state as an image of the next generation, of version 2, to the image copy that is not chosen, and empties
+    /// the log then: each log slot is free again. Of the pages of that copy it writes those that may differ from the state.
+    /// The state stays as it is. Refused by `Closed` once a call of the device has failed; by `Spent` where no generation is
+    /// left; by `Device` where a read failed, or a write of anything but the gate that opens the image; and by `Unknown` where
+    /// a sync or the write of that gate failed. After these two the journal is closed, and a crash leaves the old image with
+    /// its log, or the new one: after `Device` always the same one. It takes no memory.
     pub fn checkpoint(&mut self) -> Result<(), Fault>
         ensures uses { Uses (device_of self.old) (device_of self.new) result }
         ensures layout { layout_of self.new ≡ layout_of self.old }
@@ -290,6 +297,7 @@ impl<D: Disk> Journal<D> {
         match renew(
             &mut self.disk,
             self.layout,
+            Version::Two,
             self.copy,
             &mut self.log,
             &self.state,

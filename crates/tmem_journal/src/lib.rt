@@ -5,9 +5,12 @@
 //! an image of the state and empties the log. A stop (a crash: a power cut or a kill) at any moment of `flush` leaves the
 //! state before the batch or the state after it, and at any moment of `open` and of `checkpoint` the state that was there.
 //!
+//! Images and their logs are of format version 1 or 2. Version 2 is written, and both are read: `open` makes a checkpoint of a
+//! store whose image is of version 1. Block 0 keeps the version that the store was formatted with.
+//!
 //! `recovery` finds the state, over `parts`, which finds block 0; images and the log are crates of their own. `renewing`
-//! writes a new image and empties the log behind it. `block` reads and writes the bytes of block 0, and `calls` writes a
-//! cell. `laws` states what holds of every content.
+//! writes a new image and empties the log behind it, and `migrating` does so once a state of version 1 was found. `block`
+//! reads and writes the bytes of block 0, and `calls` writes a cell. `laws` states what holds of every content.
 #![tactic(auto)]
 
 mod accepting;
@@ -17,6 +20,7 @@ mod calls;
 mod formatting;
 mod journal;
 mod laws;
+mod migrating;
 mod parts;
 mod recovery;
 mod renewing;
@@ -24,5 +28,5 @@ mod room;
 
 pub use formatting::format;
 pub use journal::Journal;
-pub use laws::{refused_stands_for_none, stands_for_one};
+pub use laws::{refused_stands_for_none, spent_stands_at_last, stands_for_one};
 pub use tmem_record::Layout;

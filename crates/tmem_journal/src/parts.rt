@@ -1,5 +1,5 @@
 // Block 0 of a device, by one read.
-ghost use Rattle.std.specs.Prelude.{◌≤◌, OnOk, IfErr};
+ghost use Rattle.std.specs.Prelude.{◌≤◌, IfOk, IfErr};
 ghost use Rattle.tmem_gate.specs.Calls.{Uses, LooksOnly};
 ghost use Rattle.tmem_gate.specs.Gate.{IsOpenOver};
 ghost use Rattle.tmem_record.specs.Layout.{end_place};
@@ -11,14 +11,14 @@ use crate::block::read_block;
 use tmem_disk::{Disk, Fault};
 use tmem_gate::device::read;
 use tmem_gate::reads_open;
-use tmem_record::{BLOCK_SIZE, Layout};
+use tmem_record::{BLOCK_SIZE, Layout, Version};
 
-// Checks that block 0 is open, and of this layout.
-pub(crate) fn found_block<D: Disk>(disk: &mut D, layout: Layout) -> Result<(), Fault>
+// Checks that block 0 is open, and of this layout, and answers which version's it is.
+pub(crate) fn found_block<D: Disk>(disk: &mut D, layout: Layout) -> Result<Version, Fault>
     requires { end_place layout.vars layout.slots ≤ (D.view disk.old).capacity }
     ensures uses { Uses (D.view disk.old) (D.view disk.new) result }
     ensures looks { LooksOnly (D.view disk.old) (D.view disk.new) }
-    ensures found { (D.view disk.new).keeps_model → OnOk result (IsOpenOver 0 (block_body layout.vars layout.slots) (D.view disk.old).seen) }
+    ensures found { (D.view disk.new).keeps_model → IfOk result (λ version. IsOpenOver 0 (block_body version layout.vars layout.slots) (D.view disk.old).seen) }
     ensures refused { IfErr result (IsWhyRead (λ f. (D.view disk.new).keeps_model → IsBlockBy layout.vars layout.slots (D.view disk.old).seen f)) }
 {
     let mut block = [0; BLOCK_SIZE];

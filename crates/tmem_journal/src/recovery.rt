@@ -7,20 +7,22 @@ ghost use Rattle.tmem_record.specs.Layout.{slot_place, end_place};
 ghost use Rattle.tmem_image.specs.Image.{IsGeneration};
 ghost use Rattle.tmem_image.specs.Room.{IsImageRoom};
 ghost use Rattle.tmem_redolog.specs.Room.{IsLogRoom};
-ghost use Rattle.tmem_journal.specs.Stands.{position_in, StandsFor};
+ghost use Rattle.tmem_journal.specs.Stands.{position_at, StandsFor};
 ghost use Rattle.tmem_journal.specs.Mended.{MendsDevice};
 ghost use Rattle.tmem_journal.specs.Refusals.{IsWhyRead, IsRefusedBy};
 
+use crate::block::may_follow;
 use crate::parts::found_block;
 use tmem_disk::{Disk, Fault};
 use tmem_gate::device::sync;
 use tmem_image::{ImageRoom, ImageState, choose, load};
-use tmem_record::{Layout, State};
+use tmem_record::{Layout, State, Version};
 use tmem_redolog::{Log, LogRoom, close_stale, scan};
 
-/// What recovery found: the chosen image copy, the state, and where the next batch goes.
+/// What recovery found: the chosen image copy and its version, the state, and where the next batch goes.
 #[derive(Drop)]
 pub(crate) struct Found {
+    pub(crate) version: Version,
     pub(crate) copy: u8,
     pub(crate) state: State,
     pub(crate) log: Log,
@@ -40,7 +42,7 @@ pub(crate) fn recover<D: Disk>(
     requires image { IsImageRoom layout.vars image }
     requires log { IsLogRoom layout.slots log }
     ensures uses { Uses (D.view disk.old) (D.view disk.new) result }
-    ensures found { (D.view disk.new).keeps_model → IfOk result (λ f. StandsFor layout.vars layout.slots (position_in f.copy f.log) f.state (D.view disk.old).seen) }
+    ensures found { (D.view disk.new).keeps_model → IfOk result (λ f. StandsFor layout.vars layout.slots (position_at f.version f.copy f.log) f.state (D.view disk.old).seen) }
     ensures refused { IfErr result (IsWhyRead (λ f. (D.view disk.new).keeps_model → IsRefusedBy layout.vars layout.slots (D.view disk.old).seen f)) }
     ensures mends { MendsDevice layout.vars layout.slots (D.view disk.old) (D.view disk.new) }
     ensures refused_looks { IfErr result (λ f. f ≢ Fault.Device → LooksOnly (D.view disk.old) (D.view disk.new)) }
@@ -68,7 +70,7 @@ fn look_up<D: Disk>(
     requires image { IsImageRoom layout.vars image }
     requires log { IsLogRoom layout.slots log }
     ensures uses { Uses (D.view disk.old) (D.view disk.new) result }
-    ensures found { (D.view disk.new).keeps_model → IfOk result (λ f. StandsFor layout.vars layout.slots (position_in f.copy f.log) f.state (D.view disk.old).seen) }
+    ensures found { (D.view disk.new).keeps_model → IfOk result (λ f. StandsFor layout.vars layout.slots (position_at f.version f.copy f.log) f.state (D.view disk.old).seen) }
     ensures refused { IfErr result (IsWhyRead (λ f. (D.view disk.new).keeps_model → IsRefusedBy layout.vars layout.slots (D.view disk.old).seen f)) }
     ensures looks { LooksOnly (D.view disk.old) (D.view disk.new) }
     ensures synced { OnOk result (IsSynced (D.view disk.new)) }
@@ -77,12 +79,21 @@ fn look_up<D: Disk>(
     ensures sized { IfOk result (λ f. (length f.state.values ≡ layout.vars) × (f.log.used ≤ layout.slots)) }
 {
     sync(disk)?;
-    found_block(disk, layout)?;
+    let block = found_block(disk, layout)?;
     let copy = choose(disk, layout)?;
     let ImageState {
+        version,
         generation,
         mut state,
     } = load(disk, layout, copy, image)?;
-    let log = scan(disk, layout, generation, &mut state, log)?;
-    Ok(Found { copy, state, log })
+    if !may_follow(block, version) {
+        return Err(Fault::Damaged);
+    }
+    let log = scan(disk, layout, generation, &mut state, log, version)?;
+    Ok(Found {
+        version,
+        copy,
+        state,
+        log,
+    })
 }

@@ -8,20 +8,22 @@ ghost use Rattle.tmem_image.specs.Image.{other_copy};
 ghost use Rattle.tmem_image.specs.Pages.{HoldsOthers, pages_place};
 ghost use Rattle.tmem_image.specs.Spare.{placed, AwaitsGate};
 ghost use Rattle.tmem_redolog.specs.Closes.{empty_log};
-ghost use Rattle.tmem_journal.specs.Stands.{position_in, next_image, StandsFor, StandsForState};
+ghost use Rattle.tmem_journal.specs.Stands.{position_at, next_image, StandsFor, StandsForState};
 
 use tmem_disk::{DeviceFault, Disk, Fault};
 use tmem_image::write_spare;
-use tmem_record::{Layout, State};
+use tmem_record::{Layout, State, Version};
 use tmem_redolog::{Log, empty};
 
-/// Writes the state of a device as an image of the next generation to the copy that is not chosen, and empties the log
-/// then. Of the pages of that copy it writes these, as the others hold the state's values already. `Device` where a read
-/// failed, or a write of anything but the gate that opens the image; `Unknown` where a sync or the write of that gate failed.
-/// A crash at any moment, or after any answer, leaves a content that stands for this state.
+/// Writes the state of a device as an image of version 2 and of the next generation to the copy that is not chosen, and empties
+/// the log then. Of the pages of that copy it writes these, as the others hold the state's values already. `version` is that of
+/// the image that is chosen before: the clauses alone speak of it. `Device` where a read failed, or a write of anything but the
+/// gate that opens the image; `Unknown` where a sync or the write of that gate failed. A crash at any moment, or after any
+/// answer, leaves a content that stands for this state.
 pub(crate) fn renew<D: Disk>(
     disk: &mut D,
     layout: Layout,
+    version: Version,
     copy: u8,
     log: &mut Log,
     state: &State,
@@ -32,7 +34,7 @@ pub(crate) fn renew<D: Disk>(
     requires number { log.old.generation + 1 < 2 ^ 64 }
     requires sized { length state.now.values ≡ layout.vars }
     requires synced { IsSynced (D.view disk.old) }
-    requires stands { LeavesOnly (D.view disk.old) (StandsFor layout.vars layout.slots (position_in copy log.old) state.now) }
+    requires stands { LeavesOnly (D.view disk.old) (StandsFor layout.vars layout.slots (position_at version copy log.old) state.now) }
     requires others { LeavesOnly (D.view disk.old) (HoldsOthers (pages_place layout.vars (other_copy copy)) layout.vars pages state.now.values) }
     ensures uses { Uses (D.view disk.old) (D.view disk.new) result }
     ensures errors { IfErr result (λ f. (f ≡ Fault.Device) ⊎ (f ≡ Fault.Unknown)) }
@@ -49,12 +51,12 @@ pub(crate) fn renew<D: Disk>(
     ensures any_moment { AtEachMoment (D.view disk.old) (D.view disk.new) (StandsForState layout.vars layout.slots state.now) }
     ensures stands { LeavesOnly (D.view disk.new) (StandsForState layout.vars layout.slots state.now) }
     ensures sure { OnOk result (LeavesOnly (D.view disk.new)
-        (StandsFor layout.vars layout.slots (next_image (position_in copy log.old)) state.now)) }
+        (StandsFor layout.vars layout.slots (next_image (position_at version copy log.old)) state.now)) }
 
     // At `Device` it is certain which image is chosen: the old one with its log, or the new one.
     ensures certain { IsErrOf result Fault.Device →
-        LeavesOnly (D.view disk.new) (StandsFor layout.vars layout.slots (position_in copy log.old) state.now)
-        ⊎ LeavesOnly (D.view disk.new) (StandsFor layout.vars layout.slots (next_image (position_in copy log.old)) state.now) }
+        LeavesOnly (D.view disk.new) (StandsFor layout.vars layout.slots (position_at version copy log.old) state.now)
+        ⊎ LeavesOnly (D.view disk.new) (StandsFor layout.vars layout.slots (next_image (position_at version copy log.old)) state.now) }
     ensures closed { OnOk result ((k : ℕ) → k < layout.slots → StandsClosed (slot_place layout.vars k) (D.view disk.new)) }
     ensures durable { OnOk result (IsSynced (D.view disk.new)) }
 

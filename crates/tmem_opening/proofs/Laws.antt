@@ -1,5 +1,5 @@
 -- What follows from a refusal.
-use Rattle.std.proofs.Common.{◌≡◌, inl, inr, ⊎_elim, ℕ, Ok, refl, sym, subst}
+use Rattle.std.proofs.Common.{◌≡◌, ◌≢◌, inl, inr, ⊎_elim, ℕ, Ok, refl, sym, subst}
 use Rattle.tmem_disk.specs.Disk.{DeviceView}
 use Rattle.tmem_disk.specs.declared.fault.Fault.{Fault}
 use Rattle.tmem_disk.specs.declared.fault.Fault.TheVariants as fault
@@ -9,28 +9,36 @@ use Rattle.tmem_invariants.specs.Meanings.{Meanings, IsSound}
 use Rattle.tmem_invariants.specs.declared.named.Invariants.{Ghosts}
 use Rattle.tmem_core.specs.Program.{Program, IsProgramOf}
 use Rattle.tmem_journal.specs.Calls.{FitsOn}
+use Rattle.tmem_journal.specs.Journals.{IsOpeningFailure}
 use Rattle.tmem_journal.specs.Refusals.{IsWhy, IsRefusedBy}
-use Rattle.tmem_journal.specs.Stands.{Position, StandsFor}
-use Rattle.tmem_opening.specs.Opening.{Mending, FindsUnsound, IsFailure, OpeningRefused}
+use Rattle.tmem_journal.specs.Stands.{Position}
+use Rattle.tmem_opening.specs.Opening.{Mending, NamesInvariant, FindsState, FindsUnsound, OpeningRefused}
 
--- what no content is refused by is refused by memory or the device
-by_content : (P : Fault → Type 0) (f : Fault) → ((g : Fault) → P g → ⊥) → IsWhy P f → IsFailure f
+-- what no content is refused by but Spent is refused by memory or the device, or by that
+by_content : (P : Fault → Type 0) (f : Fault) → ((g : Fault) → g ≢ fault.Spent → P g → ⊥) → IsWhy P f → IsOpeningFailure f
 by_content P fault.Memory never why = inl refl
-by_content P fault.Device never why = inr refl
-by_content P fault.NotFormatted never why = absurd (never fault.NotFormatted why)
-by_content P fault.Damaged never why = absurd (never fault.Damaged why)
-by_content P fault.Geometry never why = absurd (never fault.Geometry why)
+by_content P fault.Device never why = inr (inl refl)
+by_content P fault.Spent never why = inr (inr refl)
+by_content P fault.NotFormatted never why = absurd (never fault.NotFormatted (λ is. cc) why)
+by_content P fault.Damaged never why = absurd (never fault.Damaged (λ is. cc) why)
+by_content P fault.Geometry never why = absurd (never fault.Geometry (λ is. cc) why)
 by_content P _ never why = absurd why
 
--- where nothing stands against the content, nor against its state, memory or the device failed
+-- where nothing else stands against the content, nor against its state, memory or the device failed, or no image can follow
 pub only_failed : {AreTheirs : Program → Type 0} {vars slots : ℕ} {old new : DeviceView} {f : Fault} → OpeningRefused AreTheirs vars slots old f new
-    → ((g : Fault) → (new.keeps_model → FitsOn vars slots old.capacity → IsRefusedBy vars slots old.seen g) → ⊥) → (FindsUnsound AreTheirs vars slots old f new → ⊥) → IsFailure f
+    → ((g : Fault) → g ≢ fault.Spent → (new.keeps_model → FitsOn vars slots old.capacity → IsRefusedBy vars slots old.seen g) → ⊥) → (FindsUnsound AreTheirs vars slots old f new → ⊥) → IsOpeningFailure f
 only_failed {vars = vars} {slots = slots} {old = old} {new = new} {f = f} it never sound =
     ⊎_elim (by_content (λ g. new.keeps_model → FitsOn vars slots old.capacity → IsRefusedBy vars slots old.seen g) f never) (λ un. absurd (sound un.1)) it.why
 
+-- what is refused by Spent is refused so by its content
+pub spent_content : {AreTheirs : Program → Type 0} {vars slots : ℕ} {old new : DeviceView} {f : Fault} → OpeningRefused AreTheirs vars slots old f new
+    → f ≡ fault.Spent → new.keeps_model → FitsOn vars slots old.capacity → IsRefusedBy vars slots old.seen fault.Spent
+spent_content {vars = vars} {slots = slots} {old = old} {new = new} it is keeps fits =
+    ⊎_elim (λ why. subst (IsWhy (λ g. new.keeps_model → FitsOn vars slots old.capacity → IsRefusedBy vars slots old.seen g)) is why keeps fits) (λ un. absurd (subst NamesInvariant is un.0)) it.why
+
 -- a store that was opened, with its state sound, is given up for want of memory
 pub given_up : {T : Type 0} (t : Ghosts T) (table : T) (vars slots : ℕ) (old new : DeviceView) → Uses {T = Unit {0}} old new (Ok tt) → FitsOn vars slots old.capacity → Mending vars slots old new
-    → (position : Position) (s : State) → (new.keeps_model → StandsFor vars slots position s old.seen) → ((m : Meanings) → t.is_stated table m → IsSound m (t.names table) s.names s.values)
+    → (position : Position) (s : State) → (new.keeps_model → FindsState vars slots old new position s) → ((m : Meanings) → t.is_stated table m → IsSound m (t.names table) s.names s.values)
     → OpeningRefused (IsProgramOf t table) vars slots old fault.Memory new
 given_up t table vars slots old new uses fits mends position s stands sound = record {
   uses = record { capacity = uses.capacity; model = uses.model; failures = uses.failures };
@@ -39,11 +47,12 @@ given_up t table vars slots old new uses fits mends position s stands sound = re
   why = inl tt;
   memory = λ is. inr (position, s, stands, λ p are. subst (λ ns. IsSound p.tests ns s.names s.values) (sym are.names) (sound p.tests are.tests));
   early = λ tells. absurd tells;
+  spent = λ is. cc;
 }
 
 -- and its device is handed back
 pub handed_back : {T D : Type 0} (t : Ghosts T) (table : T) (vars slots : ℕ) (old : DeviceView) (view : D → DeviceView) (back from : D) → back ≡ from → Uses {T = Unit {0}} old (view from) (Ok tt) → FitsOn vars slots old.capacity
-    → Mending vars slots old (view from) → (position : Position) (s : State) → ((view from).keeps_model → StandsFor vars slots position s old.seen) → ((m : Meanings) → t.is_stated table m → IsSound m (t.names table) s.names s.values)
+    → Mending vars slots old (view from) → (position : Position) (s : State) → ((view from).keeps_model → FindsState vars slots old (view from) position s) → ((m : Meanings) → t.is_stated table m → IsSound m (t.names table) s.names s.values)
     → Mending vars slots old (view back) × OpeningRefused (IsProgramOf t table) vars slots old fault.Memory (view back)
 handed_back t table vars slots old view back from is uses fits mends position s stands sound =
     subst (λ x. Mending vars slots old (view x) × OpeningRefused (IsProgramOf t table) vars slots old fault.Memory (view x)) (sym is)
@@ -58,4 +67,5 @@ refused_for_fewer More Fewer vars slots old f new so it = record {
   why = ⊎_elim (λ one. inl one) (λ other. inr (other.0, (other.1.0, other.1.1, other.1.2, λ p are. other.1.3 p (so p are)))) it.why;
   memory = λ is. ⊎_elim (λ same. inl same) (λ found. inr (found.0, found.1, found.2, λ p are. found.3 p (so p are))) (it.memory is);
   early = it.early;
+  spent = it.spent;
 }

@@ -1,28 +1,27 @@
 -- How an opening is refused, by what the journal and the core say.
-use Rattle.std.proofs.Common.{◌≡◌, ◌≢◌, ◌⊎◌, inl, inr, ⊎_elim, ℕ, ◌*◌, Some, Ok, Err, refl, sym, ◌∙◌, subst}
+use Rattle.std.proofs.Common.{◌≡◌, ◌≢◌, ◌⊎◌, inl, inr, ⊎_elim, ℕ, Some, Ok, Err, refl, sym, ◌∙◌, subst}
 use Rattle.std.proofs.Math.Logic.{∥∥₁_elim}
 use Rattle.std.proofs.Props.{props}
-use Rattle.tmem_disk.specs.Disk.{DeviceView, IsDevice, AtEachMoment, SameDevice}
+use Rattle.tmem_disk.specs.Disk.{DeviceView, IsDevice, SameDevice}
 use Rattle.tmem_disk.specs.declared.fault.Fault.{Fault}
 use Rattle.tmem_disk.specs.declared.fault.Fault.TheVariants as fault
-use Rattle.tmem_gate.specs.Calls.{Uses, LooksOnly, WritesWithin, failures_after}
-use Rattle.tmem_record.specs.Layout.{slot_place}
+use Rattle.tmem_gate.specs.Calls.{Uses, LooksOnly, failures_after}
 use Rattle.tmem_record.specs.State.{State}
 use Rattle.tmem_invariants.specs.Meanings.{IsSound}
 use Rattle.tmem_core.specs.Opening.{IsOpeningRefusal, opening_fault}
 use Rattle.tmem_core.specs.Program.{Program}
 use Rattle.tmem_journal.specs.Calls.{FitsOn}
-use Rattle.tmem_journal.specs.Journals.{IsOpeningRefused}
-use Rattle.tmem_journal.specs.Mended.{Mends, MendedBy}
+use Rattle.tmem_journal.specs.Journals.{IsOpeningRefused, IsOpeningFailure}
+use Rattle.tmem_journal.specs.Mended.{MendsDevice, RecoversDevice}
 use Rattle.tmem_journal.specs.Refusals.{IsWhy, IsRefusedBy}
-use Rattle.tmem_journal.specs.Stands.{Position, StandsFor}
-use Rattle.tmem_opening.specs.Opening.{LooksWhereClosed, Mending, NamesInvariant, TellsOfContent, OpeningRefused, IsFailure}
+use Rattle.tmem_journal.specs.Stands.{Position, NeedsNoMigration}
+use Rattle.tmem_opening.specs.Opening.{ClosesGates, Mending, NamesInvariant, TellsOfContent, FindsState, OpeningRefused}
 
--- a refusal that tells of the content is no failed call
-tells_no_device : (f : Fault) → TellsOfContent f → f ≢ fault.Device
-tells_no_device fault.NotFormatted tells = λ is. cc
-tells_no_device fault.Damaged tells = λ is. cc
-tells_no_device fault.Geometry tells = λ is. cc
+-- a refusal that tells of the content is no failed call, nor is it that no image can follow
+tells_no_device : (f : Fault) → TellsOfContent f → (f ≢ fault.Device) × (f ≢ fault.Spent)
+tells_no_device fault.NotFormatted tells = (λ is. cc, λ is. cc)
+tells_no_device fault.Damaged tells = (λ is. cc, λ is. cc)
+tells_no_device fault.Geometry tells = (λ is. cc, λ is. cc)
 tells_no_device _ tells = absurd tells
 
 -- nor does a core's refusal tell of it
@@ -62,34 +61,42 @@ sound_either p s a b either one other un = ∥∥₁_elim either (hlevel props) 
 
 -- a core of one of two sound states lacks memory at the most
 pub only_memory : (p : Program) (s a b : State) (f : Fault) → IsOpeningRefusal f → (f ≢ fault.Memory → ¬ IsSound p.tests p.names s.names s.values)
-    → ∥ (s ≡ a) ⊎ (s ≡ b) ∥₁ → IsSound p.tests p.names a.names a.values → IsSound p.tests p.names b.names b.values → IsFailure f
+    → ∥ (s ≡ a) ⊎ (s ≡ b) ∥₁ → IsSound p.tests p.names a.names a.values → IsSound p.tests p.names b.names b.values → IsOpeningFailure f
 only_memory p s a b f refused so either one other = ⊎_elim (λ is. inl is) (λ named. absurd (sound_either p s a b either one other (so named.1))) (memory_or_named f refused)
 
 -- what a stop leaves after an opening is among what one leaves in it
-pub mending : (vars slots : ℕ) (old new : DeviceView) → IsDevice new → (new.keeps_model → Mends vars slots old.seen new.seen) → AtEachMoment old new (MendedBy vars slots old)
-    → WritesWithin (slot_place vars 0) (4096 * slots) old new → LooksWhereClosed vars slots old new → Mending vars slots old new
-mending vars slots old new device seen during within looks = record {
-  seen = seen;
-  any_moment = during;
-  stop = record { each = λ k c left. during.each k c (device.counts_now old.moment c k (within.time.later k) left) };
-  elsewhere = within;
-  looks = looks;
+closes : (vars slots : ℕ) (old new : DeviceView) → IsDevice new → MendsDevice vars slots old new → ClosesGates vars slots old new
+closes vars slots old new device mends = record {
+  seen = mends.seen;
+  any_moment = mends.any_moment;
+  stop = record { each = λ k c left. mends.any_moment.each k c (device.counts_now old.moment c k (mends.elsewhere.time.later k) left) };
+  elsewhere = mends.elsewhere;
+  looks = mends.looks;
+}
+
+pub mending : (vars slots : ℕ) (old new : DeviceView) → IsDevice new → RecoversDevice vars slots old new → (NeedsNoMigration vars slots old.seen → MendsDevice vars slots old new) → Mending vars slots old new
+mending vars slots old new device recovers mends = record {
+  recovers = recovers;
+  stop = record { each = λ k c left. recovers.any_moment.each k c (device.counts_now old.moment c k (recovers.elsewhere.time.later k) left) };
+  gates = λ none. closes vars slots old new device (mends none);
 }
 
 module _ (AreTheirs : Program → Type 0) (vars slots : ℕ) (old new : DeviceView) (f : Fault) (mends : Mending vars slots old new) where
   -- no journal was opened
-  pub journal_refused : Uses {T = Unit {0}} old new (Err f) → IsOpeningRefused old vars slots f new → (f ≢ fault.Device → LooksOnly old new) → (f ≡ fault.Memory → SameDevice old new) → OpeningRefused AreTheirs vars slots old f new
-  journal_refused uses refused looks untouched = record {
+  pub journal_refused : IsDevice new → Uses {T = Unit {0}} old new (Err f) → IsOpeningRefused old vars slots f new → (f ≢ fault.Device → f ≢ fault.Spent → LooksOnly old new) → (f ≡ fault.Spent → MendsDevice vars slots old new)
+      → (f ≡ fault.Memory → SameDevice old new) → OpeningRefused AreTheirs vars slots old f new
+  journal_refused device uses refused looks spent untouched = record {
     uses = uses;
     mends = mends;
     numbers = refused.numbers;
     why = inl refused.why;
     memory = λ is. inl (untouched is);
-    early = λ tells. looks (tells_no_device f tells);
+    early = λ tells. looks (tells_no_device f tells).0 (tells_no_device f tells).1;
+    spent = λ is. closes vars slots old new device (spent is);
   }
 
   -- a journal was opened, and no core made of its state
-  pub core_refused : Uses {T = Unit {0}} old new (Ok tt) → FitsOn vars slots old.capacity → IsOpeningRefusal f → (position : Position) (s : State) → (new.keeps_model → StandsFor vars slots position s old.seen)
+  pub core_refused : Uses {T = Unit {0}} old new (Ok tt) → FitsOn vars slots old.capacity → IsOpeningRefusal f → (position : Position) (s : State) → (new.keeps_model → FindsState vars slots old new position s)
       → (f ≢ fault.Memory → (p : Program) → AreTheirs p → (opening_fault p s ≡ Some f) × (¬ IsSound p.tests p.names s.names s.values))
       → (f ≡ fault.Memory → (p : Program) → AreTheirs p → IsSound p.tests p.names s.names s.values) → OpeningRefused AreTheirs vars slots old f new
   core_refused uses fits refused position s stands unsound sound = record {
@@ -99,4 +106,5 @@ module _ (AreTheirs : Program → Type 0) (vars slots : ℕ) (old new : DeviceVi
     why = ⊎_elim (λ is. inl (by_memory (λ g. new.keeps_model → FitsOn vars slots old.capacity → IsRefusedBy vars slots old.seen g) f is)) (λ named. inr (named.0, (position, s, stands, unsound named.1))) (memory_or_named f refused);
     memory = λ is. inr (position, s, stands, sound is);
     early = λ tells. absurd (tells_none f refused tells);
+    spent = λ is. absurd (subst IsOpeningRefusal is refused);
   }

@@ -44,10 +44,12 @@ impl<D: Disk + Drop, T: Invariants + Drop> Opening<D, T> {
     /// the numbers are out of limits, the device is smaller than their layout, or it was formatted for others; by
     /// `NotFormatted` where it lacks the open block 0 with its letters; else by `Damaged` where its content stands for no
     /// state; by `Missing` with the first registered name, by bytes, that the table lacks; by `Broken` with the first
-    /// registered invariant, in the table's order, that is false; by `Memory`, before the device is touched or where the state
-    /// that was found is sound; by `Device` where a call of the device failed. The device and the table are handed back with
-    /// the refusal. Gates that read open behind the log are closed, and nothing else is written: nothing at all before a
-    /// refusal by `Geometry`, `NotFormatted` or `Damaged`.
+    /// registered invariant, in the table's order, that is false; by `Spent` where its image is of format version 1 and of the
+    /// last generation, so that none of version 2 can follow; by `Memory`, before the device is touched or where the state that
+    /// was found is sound; by `Device` where a call of the device failed. The device and the table are handed back with the
+    /// refusal. Gates that read open behind the log are closed, and where the image is of version 1, the state is written as the
+    /// next image, of version 2, before the invariants are looked at. Nothing else is written: nothing at all before a refusal by
+    /// `Geometry`, `NotFormatted` or `Damaged`.
     pub fn open(
         alloc: Global,
         disk: D,
@@ -63,7 +65,7 @@ impl<D: Disk + Drop, T: Invariants + Drop> Opening<D, T> {
         ensures back { IfErr result (λ e. e.2 ≡ table) }
 
         // Where every crash left one of two states, and both are sound, one of them is found, unless memory or the device
-        // fails.
+        // fails, or no image of version 2 can follow.
         ensures recovers { RecoversEither FoundIs (IsProgramOf T.Invariants table) vars slots (D.view disk) (device_after result) (answer_alone result) }
 
         // Where the numbers do not fit the device, no call of it is made: the one that was handed in is handed back.

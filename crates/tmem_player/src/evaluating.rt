@@ -281,6 +281,7 @@ fn are_alike(one: &Attempt, other: &Attempt) -> bool {
         && are_read_alike(&one.reads, &other.reads)
         && one.effect.writes.as_slice() == other.effect.writes.as_slice()
         && one.effect.names.as_slice() == other.effect.names.as_slice()
+        && one.effect.retired.as_slice() == other.effect.retired.as_slice()
 }
 
 // Whether the same variables were read, with the same values, in the same order.
@@ -302,7 +303,9 @@ fn print_attempt<W: Write>(attempt: &Attempt, out: &mut W) -> io::Result<()> {
     print_reads(&attempt.reads, out)?;
     print_registers(&attempt.registers, out)?;
     print_writes(attempt.effect.writes.as_slice(), out)?;
-    print_names(attempt.effect.names.as_slice(), out)
+    out.write_all(b" names=")?;
+    print_names(attempt.effect.names.as_slice(), out)?;
+    print_retired(attempt.effect.retired.as_slice(), out)
 }
 
 fn print_ending<W: Write>(ending: Ending, out: &mut W) -> io::Result<()> {
@@ -338,8 +341,16 @@ fn print_writes<W: Write>(writes: &[(u16, i64)], out: &mut W) -> io::Result<()> 
     Ok(())
 }
 
+// Prints the names that an attempt retires, where there are some.
+fn print_retired<W: Write>(names: &[Name], out: &mut W) -> io::Result<()> {
+    if names.is_empty() {
+        return Ok(());
+    }
+    out.write_all(b" retired=")?;
+    print_names(names, out)
+}
+
 fn print_names<W: Write>(names: &[Name], out: &mut W) -> io::Result<()> {
-    out.write_all(b" names=")?;
     for (i, name) in names.iter().enumerate() {
         print_name(i, name, out)?;
     }

@@ -1,15 +1,13 @@
 -- What was read so far, one after another, and that nothing else is spelled there.
-use Rattle.std.proofs.Common.{◌≡◌, ◌<◌, ◌≤◌, ◌+◌, ◌-◌, ◌^◌, ◌==◌, ℕ, suc, ℤ, Bool, true, false, cond, nat_eq, ◌&&◌, List, [], ◌∷◌, ◌++◌, length, take, drop, flat_map, Some, is_some, IsNone, bytes_eq, refl, sym, ◌∙◌, ap, subst, arith, append_assoc, length-append, inl, inr}
-use Rattle.std.specs.Prelude.{All, FitsSigned, Any, Option, None, IfNone, IsTrue, ◌↔◌}
+use Rattle.std.proofs.Common.{◌≡◌, ◌<◌, ◌≤◌, ◌+◌, ◌-◌, ◌^◌, ◌==◌, ℕ, suc, ℤ, Bool, true, false, cond, nat_eq, List, [], ◌∷◌, ◌++◌, length, take, drop, flat_map, Some, is_some, IsNone, bytes_eq, refl, sym, ◌∙◌, ap, subst, arith, append_assoc, length-append}
+use Rattle.std.specs.Prelude.{All, FitsSigned, Any, Option, None, IfNone}
 use Rattle.std.specs.Int.{w64, cast_signed, cast_unsigned}
-use Rattle.std.proofs.lemmas.Bool.{cases_lt, false≢true}
 use Rattle.std.proofs.lemmas.Bool.Decides.{nat_tests}
 use Rattle.std.proofs.lemmas.Int.{of_z-to_z}
 use Rattle.std.proofs.lemmas.List.{append-nil, length_push, length-map, get_or-map, get_or_at, get_or_append_left, take-append-drop, take_rest, take_at, length-take-le, nil_from_length}
 use Rattle.std.proofs.lemmas.List.Concat.{flat_map-append}
 use Rattle.std.proofs.lemmas.List.Elements.{All-push, All-nil}
 use Rattle.std.proofs.lemmas.List.Folds.{Any-from_list_any}
-use Rattle.std.proofs.lemmas.List.Sums.{sum_by-append, sum_by-cons}
 use Rattle.std.specs.Str.{IsUtf8}
 use Rattle.std.proofs.lemmas.Str.{IsUtf8-from_ascii}
 use Rattle.std.proofs.lemmas.Str.Ascii.{IsAscii-from_all}
@@ -17,15 +15,16 @@ use Rattle.std.proofs.lemmas.Slice.Eq.{bytes_eq-Decides}
 use Rattle.byteorder.specs.Endian.{little_bytes, little_number}
 use Rattle.byteorder.specs.Numbers.{little_from-lt}
 use Rattle.tmem_disk.specs.Name.{IsName}
-use Rattle.tmem_record.specs.State.{Effect, AreWrites, AreChecks, is_empty, variables, look, with_write, has_name, with_name}
+use Rattle.tmem_record.specs.State.{Effect, AreWrites, AreChecks, variables, look, with_write, has_name, with_name}
 use Rattle.tmem_record.specs.Prefix.{IsPrefix}
-use Rattle.tmem_record.specs.Loggable.{IsLoggable}
-use Rattle.tmem_record.specs.Batch.{record_length, records_length, IsBatch}
-use Rattle.tmem_record.specs.Spelling.{number_bytes, value_bytes, write_bytes, name_bytes, writes_bytes, names_bytes, record_bytes, batch_bytes, SpellsBatch}
+use Rattle.tmem_record.specs.Versions.{Version, One, MayRetire}
+use Rattle.tmem_record.specs.Batch.{records_length_in, IsRecordIn, IsBatchIn}
+use Rattle.tmem_record.specs.Spelling.{number_bytes, value_bytes, write_bytes, name_bytes, writes_bytes, names_bytes, retired_bytes, record_bytes, batch_bytes, SpellsBatch}
 use Rattle.tmem_record.proofs.PrefixLaws.{IsPrefix-append, IsPrefix-rest}
 use Rattle.tmem_record.proofs.NamesLaws.{AreChecks-push}
+use Rattle.tmem_record.proofs.CodecWrites.{length-records}
 use Rattle.tmem_record.proofs.WritesLaws.{is_some-look, AreWrites-push}
-use Rattle.tmem_record.proofs.SpellingLaws.{IsBytes, take-spelled, Delimits, IsWriteWithin, AreWritesWithin, each_write, writes_within, same_cons, length-number_bytes, length-write_bytes, delimits_number, delimits_write, delimits_name, delimits_writes, delimits_names, delimits_record, batch_parts, head_of}
+use Rattle.tmem_record.proofs.SpellingLaws.{IsBytes, take-spelled, Delimits, IsWriteWithin, AreWritesWithin, each_write, writes_within, same_cons, length-number_bytes, length-write_bytes, delimits_number, delimits_write, delimits_name, delimits_writes, delimits_names, delimits_all, AreRetiredIn, retired_in, delimits_retired, record_parts, delimits_record, batch_parts, head_of}
 
 -- what holds anyway holds where nothing is answered
 pub or_none : {X : Type 0} {P : Type 0} (o : Option X) → P → IfNone o P
@@ -314,107 +313,108 @@ pub nothing_of_name : (bytes : List ℕ) → bytes ≡ [] → (name s : List ℕ
 unfolding name_bytes
 nothing_of_name bytes none name s is same = absurd (omega (arith, ap length none, ap length same))
 
--- a record: its writes, and then its names
-module _ (vars : ℕ) (few : vars ≤ 2 ^ 16) (bytes : List ℕ) where
-  pub record_found : (e : Effect) (behind rest : List ℕ) → bytes ≡ writes_bytes e.writes ++ behind → behind ≡ names_bytes e.names ++ rest → bytes ≡ record_bytes e ++ rest
-  unfolding record_bytes
-  record_found e behind rest first second =
-      first ∙ ap (λ (l : List ℕ). writes_bytes e.writes ++ l) second ∙ sym (append_assoc (writes_bytes e.writes) (names_bytes e.names) rest)
+-- nothing spells the retired names of the first version
+pub retired_none : (bytes : List ℕ) (ns : List (List ℕ)) → ns ≡ [] → bytes ≡ retired_bytes One ns ++ bytes
+retired_none bytes ns none = refl
 
-  split_record : (e : Effect) (s : List ℕ) → bytes ≡ record_bytes e ++ s → bytes ≡ writes_bytes e.writes ++ (names_bytes e.names ++ s)
-  unfolding record_bytes
-  split_record e s same = same ∙ append_assoc (writes_bytes e.writes) (names_bytes e.names) s
+-- a record: its writes, its names, and its retired names
+module _ (v : Version) (vars : ℕ) (few : vars ≤ 2 ^ 16) (bytes : List ℕ) where
+  pub record_found : (e : Effect) (b1 b2 rest : List ℕ) → bytes ≡ writes_bytes e.writes ++ b1 → b1 ≡ names_bytes e.names ++ b2 → b2 ≡ retired_bytes v e.retired ++ rest → bytes ≡ record_bytes v e ++ rest
+  record_found e b1 b2 rest first second third =
+      first ∙ ap (λ (l : List ℕ). writes_bytes e.writes ++ l) (second ∙ ap (λ (l : List ℕ). names_bytes e.names ++ l) third) ∙ sym (record_parts v e rest)
 
-  pub no_writes_there : ((ws : List (ℕ × ℤ)) (t : List ℕ) → AreWrites ws → All (λ (w : ℕ × ℤ). w.0 < vars) ws → bytes ≡ writes_bytes ws ++ t → ⊥) → (e : Effect) (s : List ℕ) → IsLoggable vars e → bytes ≡ record_bytes e ++ s → ⊥
-  no_writes_there none e s is same = none e.writes (names_bytes e.names ++ s) is.effect.writes is.effect.within (split_record e s same)
+  split_record : (e : Effect) (s : List ℕ) → bytes ≡ record_bytes v e ++ s → bytes ≡ writes_bytes e.writes ++ (names_bytes e.names ++ (retired_bytes v e.retired ++ s))
+  split_record e s same = same ∙ record_parts v e s
 
-  pub no_names_there : (ws : List (ℕ × ℤ)) (behind : List ℕ) → AreWritesWithin vars ws → bytes ≡ writes_bytes ws ++ behind → ((ns : List (List ℕ)) (t : List ℕ) → AreChecks ns → behind ≡ names_bytes ns ++ t → ⊥)
-      → (e : Effect) (s : List ℕ) → IsLoggable vars e → bytes ≡ record_bytes e ++ s → ⊥
-  no_names_there ws behind are here none e s is same =
-      let writes = delimits_writes vars few ws e.writes behind (names_bytes e.names ++ s) are (writes_within vars e is.effect) (sym here ∙ split_record e s same) in
-      none e.names s is.effect.names writes.1
+  pub no_writes_there : ((ws : List (ℕ × ℤ)) (t : List ℕ) → AreWrites ws → All (λ (w : ℕ × ℤ). w.0 < vars) ws → bytes ≡ writes_bytes ws ++ t → ⊥) → (e : Effect) (s : List ℕ) → IsRecordIn v vars e → bytes ≡ record_bytes v e ++ s → ⊥
+  no_writes_there none e s is same = none e.writes (names_bytes e.names ++ (retired_bytes v e.retired ++ s)) is.loggable.effect.writes is.loggable.effect.within (split_record e s same)
 
-  pub nothing_there : (d : Effect) (rest : List ℕ) → AreWritesWithin vars d.writes → AreChecks d.names → is_empty d ≡ true → bytes ≡ record_bytes d ++ rest → (e : Effect) (s : List ℕ) → IsLoggable vars e → bytes ≡ record_bytes e ++ s → ⊥
-  nothing_there d rest writes names empty here e s is same =
-      let first = delimits_writes vars few d.writes e.writes (names_bytes d.names ++ rest) (names_bytes e.names ++ s) writes (writes_within vars e is.effect) (sym (split_record d rest here) ∙ split_record e s same) in
-      let second = delimits_names d.names e.names rest s names is.effect.names first.1 in
-      let one : is_empty d ≡ is_empty e = ap (λ (ws : List (ℕ × ℤ)). (length ws == 0) && (length d.names == 0)) first.0 ∙ ap (λ (ns : List (List ℕ)). (length e.writes == 0) && (length ns == 0)) second.0 in
-      false≢true (sym is.not_empty ∙ sym one ∙ empty)
+  -- behind these writes
+  module _ (ws : List (ℕ × ℤ)) (b1 : List ℕ) (are : AreWritesWithin vars ws) (here : bytes ≡ writes_bytes ws ++ b1) where
+    behind_writes : (e : Effect) (s : List ℕ) → IsRecordIn v vars e → bytes ≡ record_bytes v e ++ s → (ws ≡ e.writes) × (b1 ≡ names_bytes e.names ++ (retired_bytes v e.retired ++ s))
+    behind_writes e s is same =
+        delimits_writes vars few ws e.writes b1 (names_bytes e.names ++ (retired_bytes v e.retired ++ s)) are (writes_within vars e is.loggable.effect) (sym here ∙ split_record e s same)
+
+    pub no_names_there : ((ns : List (List ℕ)) (t : List ℕ) → AreChecks ns → b1 ≡ names_bytes ns ++ t → ⊥) → (e : Effect) (s : List ℕ) → IsRecordIn v vars e → bytes ≡ record_bytes v e ++ s → ⊥
+    no_names_there none e s is same = none e.names (retired_bytes v e.retired ++ s) is.loggable.effect.names (behind_writes e s is same).1
+
+    -- and behind these names
+    module _ (ns : List (List ℕ)) (b2 : List ℕ) (are_names : AreChecks ns) (there : b1 ≡ names_bytes ns ++ b2) where
+      behind_names : (e : Effect) (s : List ℕ) → IsRecordIn v vars e → bytes ≡ record_bytes v e ++ s → (ns ≡ e.names) × (b2 ≡ retired_bytes v e.retired ++ s)
+      behind_names e s is same =
+          delimits_names ns e.names b2 (retired_bytes v e.retired ++ s) are_names is.loggable.effect.names (sym there ∙ (behind_writes e s is same).1)
+
+      pub none_retired_there : ((ms : List (List ℕ)) (t : List ℕ) → AreChecks ms → MayRetire v ms → b2 ≡ retired_bytes v ms ++ t → ⊥) → (e : Effect) (s : List ℕ) → IsRecordIn v vars e → bytes ≡ record_bytes v e ++ s → ⊥
+      none_retired_there none e s is same = none e.retired s is.loggable.effect.retired is.may_retire (behind_names e s is same).1
+
+      -- each record that is spelled there is the one that was read
+      pub one_record : (ms : List (List ℕ)) (b3 : List ℕ) → AreRetiredIn v ms → b2 ≡ retired_bytes v ms ++ b3 → (e : Effect) (s : List ℕ) → IsRecordIn v vars e → bytes ≡ record_bytes v e ++ s → e ≡ record { writes = ws; names = ns; retired = ms }
+      one_record ms b3 are_retired last e s is same =
+          let first = behind_writes e s is same in
+          let second = behind_names e s is same in
+          let third = delimits_retired v ms e.retired b3 s are_retired (retired_in v vars e is) (sym last ∙ second.1) in
+          ap (λ (l : List (ℕ × ℤ)). record { writes = l; names = e.names; retired = e.retired }) (sym first.0) ∙ ap (λ (l : List (List ℕ)). record { writes = ws; names = l; retired = e.retired }) (sym second.0)
+          ∙ ap (λ (l : List (List ℕ)). record { writes = ws; names = ns; retired = l }) (sym third.0)
 
 -- records
 
--- effects that fit a batch together: as many as were read so far
-pub record FitTogether (vars : ℕ) (es : List Effect) : Type 0 where
-  pub each : All (IsLoggable vars) es
-  pub fits : records_length es ≤ 4077
+abbrev pub ReadRecords : Version → ℕ → ℕ → List Effect → List ℕ → List ℕ → Type 0
+ReadRecords v vars i es bytes rest = HasRead (All (IsRecordIn v vars)) (record_bytes v) i es bytes rest
 
-fit_of : (vars : ℕ) (es : List Effect) → IsBatch vars es → FitTogether vars es
-fit_of vars es is = record { each = is.each; fits = is.fits }
+pub record_more : (v : Version) (vars i : ℕ) (es : List Effect) (e : Effect) (bytes rest next : List ℕ) → ReadRecords v vars i es bytes rest → IsRecordIn v vars e → rest ≡ record_bytes v e ++ next → ReadRecords v vars (i + 1) (es ++ e ∷ []) bytes next
+record_more v vars i es e bytes rest next read is same = read_more (All (IsRecordIn v vars)) (record_bytes v) i es e bytes rest next read (All-push (IsRecordIn v vars) es e read.valid is) same
 
-abbrev pub ReadRecords : ℕ → ℕ → List Effect → List ℕ → List ℕ → Type 0
-ReadRecords vars i es bytes rest = HasRead (FitTogether vars) record_bytes i es bytes rest
+pub no_record_next : (v : Version) (vars count : ℕ) (few : vars ≤ 2 ^ 16) (bytes : List ℕ) (i : ℕ) (es : List Effect) (rest : List ℕ) → ReadRecords v vars i es bytes rest → i < count
+    → ((e : Effect) (t : List ℕ) → IsRecordIn v vars e → rest ≡ record_bytes v e ++ t → ⊥) → (os : List Effect) (s : List ℕ) → length os ≡ count → All (IsRecordIn v vars) os → bytes ≡ flat_map (record_bytes v) os ++ s → ⊥
+no_record_next v vars count few bytes i es rest read less none os s counted are same =
+    none_next (All (IsRecordIn v vars)) (IsRecordIn v vars) (record_bytes v) (λ xs all. all) (delimits_record v vars few) i count es bytes rest read less none os s counted are same
 
-each_record : (vars : ℕ) (es : List Effect) → FitTogether vars es → All (IsLoggable vars) es
-each_record vars es fit = fit.each
+-- how many bytes so many records were read from
+pub records_read : (v : Version) (es : List Effect) (bytes rest : List ℕ) → bytes ≡ flat_map (record_bytes v) es ++ rest → length bytes ≡ records_length_in v es + length rest
+records_read v es bytes rest same = omega (arith, ap length same, length-append (flat_map (record_bytes v) es) rest, length-records v es)
 
--- all that were counted are a batch
-pub IsBatch-read : (vars i : ℕ) (es : List Effect) (bytes rest : List ℕ) → ReadRecords vars i es bytes rest → 1 ≤ i → i ≤ 64 → IsBatch vars es
-IsBatch-read vars i es bytes rest read some few = record { some = omega (arith, read.counted, some); few = omega (arith, read.counted, few); each = read.valid.each; fits = read.valid.fits }
-
--- what does not fit, where there are few enough, is too long
-pub does_not_fit : (fits : Bool) (m n : ℕ) → (IsTrue fits ↔ ((m < 64) × (n ≤ 4077))) → fits ≡ false → m < 64 → 4077 < n
-does_not_fit fits m n iff not few =
-    elim (cases_lt 4077 n) [
-      | inl more ↦ more
-      | inr less ↦ absurd (false≢true (sym not ∙ iff.1 (few, less)))
-    ]
-
-module _ (vars count : ℕ) (few : vars ≤ 2 ^ 16) (bytes : List ℕ) (i : ℕ) (es : List Effect) (rest : List ℕ) (read : ReadRecords vars i es bytes rest) (less : i < count) where
-  pub no_record_next : ((e : Effect) (t : List ℕ) → IsLoggable vars e → rest ≡ record_bytes e ++ t → ⊥) → (os : List Effect) (s : List ℕ) → length os ≡ count → IsBatch vars os → bytes ≡ flat_map record_bytes os ++ s → ⊥
-  no_record_next none os s counted fit same =
-      none_next (FitTogether vars) (IsLoggable vars) record_bytes (each_record vars) (delimits_record vars few) i count es bytes rest read less none os s counted (fit_of vars os fit) same
-
-  pub too_long : (e : Effect) (next : List ℕ) → IsLoggable vars e → rest ≡ record_bytes e ++ next → 4077 < records_length es + record_length e → (os : List Effect) (s : List ℕ) → length os ≡ count → IsBatch vars os → bytes ≡ flat_map record_bytes os ++ s → ⊥
-  too_long e next is here long os s counted fit same =
-      let more = one_next (FitTogether vars) (IsLoggable vars) record_bytes (each_record vars) (delimits_record vars few) i count es bytes rest read less e next is here os s counted (fit_of vars os fit) same in
-      let whole : records_length os ≡ records_length es + (record_length e + records_length more.0) = ap records_length more.1 ∙ sum_by-append record_length es (e ∷ more.0) ∙ ap (λ (n : ℕ). records_length es + n) (sum_by-cons record_length e more.0) in
-      absurd (omega (arith, whole, fit.fits))
+-- where they were too many bytes, no batch of so many records is spelled there
+pub too_long : (v : Version) (vars : ℕ) → vars ≤ 2 ^ 16 → (es : List Effect) (bytes rest : List ℕ) → All (IsRecordIn v vars) es → bytes ≡ flat_map (record_bytes v) es ++ rest → 4077 + length rest < length bytes
+    → (os : List Effect) (s : List ℕ) → length os ≡ length es → IsBatchIn v vars os → bytes ≡ flat_map (record_bytes v) os ++ s → ⊥
+too_long v vars few es bytes rest are here long os s counted is same =
+    let one = delimits_all (IsRecordIn v vars) (record_bytes v) (delimits_record v vars few) os es s rest counted is.each are (sym same ∙ here) in
+    absurd (omega (arith, is.fits, ap (records_length_in v) one.0, records_read v es bytes rest here))
 
 -- a batch: its head, and then its records
-module _ (vars g f n : ℕ) (bytes b8 b16 behind : List ℕ) (fits_g : g < 2 ^ 64) (fits_f : f < 2 ^ 64) (fits_n : n < 2 ^ 16) (first : bytes ≡ number_bytes 8 g ++ b8) (second : b8 ≡ number_bytes 8 f ++ b16) (third : b16 ≡ number_bytes 2 n ++ behind) where
+module _ (v : Version) (vars g f n : ℕ) (bytes b8 b16 behind : List ℕ) (fits_g : g < 2 ^ 64) (fits_f : f < 2 ^ 64) (fits_n : n < 2 ^ 16) (first : bytes ≡ number_bytes 8 g ++ b8) (second : b8 ≡ number_bytes 8 f ++ b16) (third : b16 ≡ number_bytes 2 n ++ behind) where
   head_there : bytes ≡ number_bytes 8 g ++ (number_bytes 8 f ++ (number_bytes 2 n ++ behind))
   head_there = first ∙ ap (λ (l : List ℕ). number_bytes 8 g ++ l) (second ∙ ap (λ (l : List ℕ). number_bytes 8 f ++ l) third)
 
-  pub batch_found : (es : List Effect) (rest : List ℕ) → length es ≡ n → behind ≡ flat_map record_bytes es ++ rest → bytes ≡ batch_bytes g f es ++ rest
+  pub batch_found : (es : List Effect) (rest : List ℕ) → length es ≡ n → behind ≡ flat_map (record_bytes v) es ++ rest → bytes ≡ batch_bytes v g f es ++ rest
   batch_found es rest counted same =
       head_there ∙ ap (λ (l : List ℕ). number_bytes 8 g ++ (number_bytes 8 f ++ (number_bytes 2 n ++ l))) same
-      ∙ ap (λ (k : ℕ). number_bytes 8 g ++ (number_bytes 8 f ++ (number_bytes 2 k ++ (flat_map record_bytes es ++ rest)))) (sym counted)
-      ∙ sym (batch_parts g f es rest)
+      ∙ ap (λ (k : ℕ). number_bytes 8 g ++ (number_bytes 8 f ++ (number_bytes 2 k ++ (flat_map (record_bytes v) es ++ rest)))) (sym counted)
+      ∙ sym (batch_parts v g f es rest)
 
-  split_batch : (g' f' : ℕ) (es : List Effect) (s : List ℕ) → g' < 2 ^ 64 → f' < 2 ^ 64 → IsBatch vars es → bytes ≡ batch_bytes g' f' es ++ s → (n ≡ length es) × (behind ≡ flat_map record_bytes es ++ s)
+  split_batch : (g' f' : ℕ) (es : List Effect) (s : List ℕ) → g' < 2 ^ 64 → f' < 2 ^ 64 → IsBatchIn v vars es → bytes ≡ batch_bytes v g' f' es ++ s → (n ≡ length es) × (behind ≡ flat_map (record_bytes v) es ++ s)
   split_batch g' f' es s fits_g' fits_f' is same =
-      let parts = head_of g f n g' f' (length es) behind (flat_map record_bytes es ++ s) fits_g fits_f fits_n fits_g' fits_f' (omega (arith, is.few)) (sym head_there ∙ same ∙ batch_parts g' f' es s) in
+      let parts = head_of g f n g' f' (length es) behind (flat_map (record_bytes v) es ++ s) fits_g fits_f fits_n fits_g' fits_f' (omega (arith, is.few)) (sym head_there ∙ same ∙ batch_parts v g' f' es s) in
       (parts.2, parts.3)
 
-  pub no_such_count : ((1 ≤ n → n ≤ 64 → ⊥)) → (g' f' : ℕ) (es : List Effect) (s : List ℕ) → g' < 2 ^ 64 → f' < 2 ^ 64 → IsBatch vars es → bytes ≡ batch_bytes g' f' es ++ s → ⊥
+  pub no_such_count : ((1 ≤ n → n ≤ 64 → ⊥)) → (g' f' : ℕ) (es : List Effect) (s : List ℕ) → g' < 2 ^ 64 → f' < 2 ^ 64 → IsBatchIn v vars es → bytes ≡ batch_bytes v g' f' es ++ s → ⊥
   no_such_count none g' f' es s fits_g' fits_f' is same =
       let split = split_batch g' f' es s fits_g' fits_f' is same in
       none (omega (arith, split.0, is.some)) (omega (arith, split.0, is.few))
 
-  pub no_records_there : ((es : List Effect) (t : List ℕ) → length es ≡ n → IsBatch vars es → behind ≡ flat_map record_bytes es ++ t → ⊥)
-      → (g' f' : ℕ) (es : List Effect) (s : List ℕ) → g' < 2 ^ 64 → f' < 2 ^ 64 → IsBatch vars es → bytes ≡ batch_bytes g' f' es ++ s → ⊥
+  pub no_records_there : ((es : List Effect) (t : List ℕ) → length es ≡ n → IsBatchIn v vars es → behind ≡ flat_map (record_bytes v) es ++ t → ⊥)
+      → (g' f' : ℕ) (es : List Effect) (s : List ℕ) → g' < 2 ^ 64 → f' < 2 ^ 64 → IsBatchIn v vars es → bytes ≡ batch_bytes v g' f' es ++ s → ⊥
   no_records_there none g' f' es s fits_g' fits_f' is same =
       let split = split_batch g' f' es s fits_g' fits_f' is same in
       none es s (sym split.0) is split.1
 
-pub no_room_for_head : (bytes : List ℕ) (g f : ℕ) (es : List Effect) (s : List ℕ) → length bytes < 18 → bytes ≡ batch_bytes g f es ++ s → ⊥
-no_room_for_head bytes g f es s short same =
-    let records : List ℕ = flat_map record_bytes es ++ s in
-    absurd (omega (arith, ap length (same ∙ batch_parts g f es s), length-append (number_bytes 8 g) (number_bytes 8 f ++ (number_bytes 2 (length es) ++ records)), length-append (number_bytes 8 f) (number_bytes 2 (length es) ++ records), length-append (number_bytes 2 (length es)) records, length-number_bytes 8 g, length-number_bytes 8 f, length-number_bytes 2 (length es)))
+pub no_room_for_head : (v : Version) (bytes : List ℕ) (g f : ℕ) (es : List Effect) (s : List ℕ) → length bytes < 18 → bytes ≡ batch_bytes v g f es ++ s → ⊥
+no_room_for_head v bytes g f es s short same =
+    let records : List ℕ = flat_map (record_bytes v) es ++ s in
+    absurd (omega (arith, ap length (same ∙ batch_parts v g f es s), length-append (number_bytes 8 g) (number_bytes 8 f ++ (number_bytes 2 (length es) ++ records)), length-append (number_bytes 8 f) (number_bytes 2 (length es) ++ records), length-append (number_bytes 2 (length es)) records, length-number_bytes 8 g, length-number_bytes 8 f, length-number_bytes 2 (length es)))
 
 -- where no batch is spelled in front of a rest, no beginning of the bytes spells one
-pub no_beginning : (vars : ℕ) (bytes : List ℕ) → ((g f : ℕ) (es : List Effect) (s : List ℕ) → g < 2 ^ 64 → f < 2 ^ 64 → IsBatch vars es → bytes ≡ batch_bytes g f es ++ s → ⊥) → (g f n : ℕ) (es : List Effect) → SpellsBatch vars g f es (take n bytes) → ⊥
-no_beginning vars bytes none g f n es spells =
+pub no_beginning : (v : Version) (vars : ℕ) (bytes : List ℕ) → ((g f : ℕ) (es : List Effect) (s : List ℕ) → g < 2 ^ 64 → f < 2 ^ 64 → IsBatchIn v vars es → bytes ≡ batch_bytes v g f es ++ s → ⊥) → (g f n : ℕ) (es : List Effect) → SpellsBatch v vars g f es (take n bytes) → ⊥
+no_beginning v vars bytes none g f n es spells =
     none g f es (drop n bytes) spells.generation_fits spells.first_fits spells.batch (sym (take-append-drop n bytes) ∙ ap (λ (l : List ℕ). l ++ drop n bytes) spells.spelled)
 
 -- a head alone

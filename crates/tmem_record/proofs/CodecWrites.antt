@@ -1,11 +1,14 @@
 -- A spelling, as it is put into a buffer part by part.
-use Rattle.std.proofs.Common.{◌≡◌, ◌<◌, ◌≤◌, ◌+◌, ◌-◌, ℕ, ℤ, pos, List, [], ◌∷◌, ◌++◌, length, take, drop, get_or, flat_map, sum_by, sym, ◌∙◌, ap, arith, append_assoc, length-append, refl}
+use Rattle.std.proofs.Common.{◌≡◌, ◌<◌, ◌≤◌, ◌+◌, ◌-◌, ◌*◌, ℕ, ℤ, pos, List, [], ◌∷◌, ◌++◌, length, take, drop, get_or, flat_map, sum_by, sym, ◌∙◌, ap, arith, append_assoc, length-append, refl}
 use Rattle.std.specs.Int.{w64, cast_unsigned}
 use Rattle.std.proofs.lemmas.List.{take_more, flat_map_more, drop-drop}
 use Rattle.std.proofs.lemmas.List.Sums.{sum_by-cons}
 use Rattle.byteorder.specs.Endian.{little_bytes}
 use Rattle.tmem_record.specs.State.{Effect}
-use Rattle.tmem_record.specs.Spelling.{number_bytes, value_bytes, write_bytes, name_bytes, writes_bytes, names_bytes, record_bytes, batch_bytes}
+use Rattle.tmem_record.specs.Batch.{record_length_in, records_length_in}
+use Rattle.tmem_record.specs.Versions.{Version, One, Two, retired_length}
+use Rattle.tmem_record.specs.Spelling.{number_bytes, value_bytes, write_bytes, name_bytes, writes_bytes, names_bytes, retired_bytes, record_bytes, batch_bytes}
+use Rattle.tmem_record.proofs.SpellingLaws.{length-write_bytes}
 
 -- one part more
 pub part_more : {X : Type 0} (f : X → List ℕ) (xs : List X) (i : ℕ) (d : X) → i < length xs → (front b0 b1 part : List ℕ) → b0 ≡ front ++ flat_map f (take i xs) → b1 ≡ b0 ++ part → part ≡ f (get_or xs i d) → b1 ≡ front ++ flat_map f (take (i + 1) xs)
@@ -61,20 +64,41 @@ pub length-names : (ns : List (List ℕ)) → length (names_bytes ns) ≡ 1 + su
 unfolding names_bytes
 length-names ns = omega (arith, length-each ns)
 
+length-writes : (ws : List (ℕ × ℤ)) → length (writes_bytes ws) ≡ 1 + 10 * length ws
+unfolding writes_bytes
+length-writes ws = omega (arith, each ws)
+  where
+    each : (vs : List (ℕ × ℤ)) → length (flat_map write_bytes vs) ≡ 10 * length vs
+    each [] = refl
+    each (v ∷ vs) = omega (arith, length-append (write_bytes v) (flat_map write_bytes vs), length-write_bytes v, each vs)
+
+length-retired : (v : Version) (ns : List (List ℕ)) → length (retired_bytes v ns) ≡ retired_length v ns
+length-retired One ns = refl
+length-retired Two ns = length-names ns
+
+-- how long a record is, and how long several are
+pub length-record_bytes : (v : Version) (e : Effect) → length (record_bytes v e) ≡ record_length_in v e
+unfolding record_bytes
+length-record_bytes v e =
+    omega (arith, length-append (writes_bytes e.writes) (names_bytes e.names ++ retired_bytes v e.retired), length-append (names_bytes e.names) (retired_bytes v e.retired), length-writes e.writes, length-names e.names, length-retired v e.retired)
+
+pub length-records : (v : Version) (es : List Effect) → length (flat_map (record_bytes v) es) ≡ records_length_in v es
+length-records v [] = refl
+length-records v (e ∷ es) = omega (arith, length-append (record_bytes v e) (flat_map (record_bytes v) es), length-record_bytes v e, length-records v es, sum_by-cons (record_length_in v) e es)
+
 -- a record from its parts
-pub record_is : (e : Effect) (front b1 b2 b3 b4 : List ℕ) (m n : ℕ) → b1 ≡ front ++ m ∷ [] → b2 ≡ b1 ++ flat_map write_bytes e.writes → b3 ≡ b2 ++ n ∷ [] → b4 ≡ b3 ++ flat_map name_bytes e.names
-    → m ≡ length e.writes → n ≡ length e.names → b4 ≡ front ++ record_bytes e
-unfolding record_bytes writes_bytes names_bytes
-record_is e front b1 b2 b3 b4 m n e1 e2 e3 e4 m_is n_is =
+pub record_is : (e : Effect) (front b1 b2 b3 b4 : List ℕ) (m : ℕ) → b1 ≡ front ++ m ∷ [] → b2 ≡ b1 ++ flat_map write_bytes e.writes → b3 ≡ b2 ++ names_bytes e.names → b4 ≡ b3 ++ names_bytes e.retired
+    → m ≡ length e.writes → b4 ≡ front ++ record_bytes Two e
+unfolding record_bytes writes_bytes
+record_is e front b1 b2 b3 b4 m e1 e2 e3 e4 m_is =
     let writes = two_parts front b1 b2 (m ∷ []) (flat_map write_bytes e.writes) e1 e2 in
-    let names = two_parts b2 b3 b4 (n ∷ []) (flat_map name_bytes e.names) e3 e4 in
-    two_parts front b2 b4 (m ∷ flat_map write_bytes e.writes) (n ∷ flat_map name_bytes e.names) writes names
-    ∙ ap (λ (k : ℕ). front ++ ((k ∷ flat_map write_bytes e.writes) ++ (n ∷ flat_map name_bytes e.names))) m_is
-    ∙ ap (λ (k : ℕ). front ++ ((length e.writes ∷ flat_map write_bytes e.writes) ++ (k ∷ flat_map name_bytes e.names))) n_is
+    let names = two_parts b2 b3 b4 (names_bytes e.names) (names_bytes e.retired) e3 e4 in
+    two_parts front b2 b4 (m ∷ flat_map write_bytes e.writes) (names_bytes e.names ++ names_bytes e.retired) writes names
+    ∙ ap (λ (k : ℕ). front ++ ((k ∷ flat_map write_bytes e.writes) ++ (names_bytes e.names ++ names_bytes e.retired))) m_is
 
 -- a batch from its parts
-pub batch_is : (g f : ℕ) (es : List Effect) (b0 b1 b2 b3 generation first count : List ℕ) → b0 ≡ generation → b1 ≡ b0 ++ first → b2 ≡ b1 ++ count → b3 ≡ b2 ++ flat_map record_bytes es
-    → generation ≡ little_bytes 8 g → first ≡ little_bytes 8 f → count ≡ little_bytes 2 (length es) → b3 ≡ batch_bytes g f es
+pub batch_is : (g f : ℕ) (es : List Effect) (b0 b1 b2 b3 generation first count : List ℕ) → b0 ≡ generation → b1 ≡ b0 ++ first → b2 ≡ b1 ++ count → b3 ≡ b2 ++ flat_map (record_bytes Two) es
+    → generation ≡ little_bytes 8 g → first ≡ little_bytes 8 f → count ≡ little_bytes 2 (length es) → b3 ≡ batch_bytes Two g f es
 unfolding batch_bytes number_bytes
 batch_is g f es b0 b1 b2 b3 generation first count e0 e1 e2 e3 g_is f_is n_is =
     e3 ∙ ap (λ (l : List ℕ). l ++ records) (e2 ∙ ap (λ (l : List ℕ). l ++ count) (e1 ∙ ap (λ (l : List ℕ). l ++ first) e0))
@@ -84,7 +108,7 @@ batch_is g f es b0 b1 b2 b3 generation first count e0 e1 e2 e3 g_is f_is n_is =
     ∙ ap (λ (l : List ℕ). little_bytes 8 g ++ (little_bytes 8 f ++ (l ++ records))) n_is
   where
     records : List ℕ
-    records = flat_map record_bytes es
+    records = flat_map (record_bytes Two) es
 
     grouped : (a b c d : List ℕ) → ((a ++ b) ++ c) ++ d ≡ a ++ (b ++ (c ++ d))
     grouped a b c d = simp append_assoc

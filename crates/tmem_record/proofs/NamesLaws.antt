@@ -38,6 +38,10 @@ names-apart (n ∷ ns) name absent (suc k) d below = names-apart ns name (rest (
     rest true h = cc
     rest false h = h
 
+-- no names
+pub AreChecks-nil : AreChecks []
+AreChecks-nil = record { few = omega arith; names = All-nil IsName; distinct = λ i j d before below. absurd (omega (arith, below)) }
+
 -- a name more at the end
 pub AreChecks-push : (ns : List (List ℕ)) (name : List ℕ) → has_name ns name ≡ false → length ns < 8 → IsName name → AreChecks ns → AreChecks (ns ++ name ∷ [])
 AreChecks-push ns name absent room is_name are =

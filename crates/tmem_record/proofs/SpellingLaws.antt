@@ -11,8 +11,9 @@ use Rattle.byteorder.specs.Endian.{little_from, little_number, little_bytes}
 use Rattle.byteorder.specs.Numbers.{length-bytes_low_first, little_number-reads_back}
 use Rattle.tmem_disk.specs.Name.{IsName}
 use Rattle.tmem_record.specs.State.{Effect, AreWrites, AreChecks, AreRegistered, IsEffect}
-use Rattle.tmem_record.specs.Loggable.{IsLoggable}
-use Rattle.tmem_record.specs.Spelling.{number_bytes, value_bytes, write_bytes, name_bytes, writes_bytes, names_bytes, record_bytes, batch_bytes, OneSpelling}
+use Rattle.tmem_record.specs.Batch.{IsRecordIn}
+use Rattle.tmem_record.specs.Versions.{Version, One, Two, MayRetire}
+use Rattle.tmem_record.specs.Spelling.{number_bytes, value_bytes, write_bytes, name_bytes, writes_bytes, names_bytes, retired_bytes, record_bytes, batch_bytes, OneSpelling}
 
 -- numbers that are bytes
 abbrev pub IsBytes : List ℕ → Type 0
@@ -156,21 +157,41 @@ delimits_names ms ns r s is is' same = delimits_list ms ns r s is.names is'.name
 pub delimits_registered : Delimits AreRegistered names_bytes
 delimits_registered ms ns r s is is' same = delimits_list ms ns r s is.names is'.names same
 
-pub delimits_record : (vars : ℕ) → vars ≤ 2 ^ 16 → Delimits (IsLoggable vars) record_bytes
+-- a record, part by part
+pub record_parts : (v : Version) (e : Effect) (x : List ℕ) → record_bytes v e ++ x ≡ writes_bytes e.writes ++ (names_bytes e.names ++ (retired_bytes v e.retired ++ x))
 unfolding record_bytes
-delimits_record vars few d e r s is is' same =
-    let grouped = sym (append_assoc (writes_bytes d.writes) (names_bytes d.names) r) ∙ same ∙ append_assoc (writes_bytes e.writes) (names_bytes e.names) s in
-    let writes = delimits_writes vars few d.writes e.writes (names_bytes d.names ++ r) (names_bytes e.names ++ s) (writes_within vars d is.effect) (writes_within vars e is'.effect) grouped in
-    let names = delimits_names d.names e.names r s is.effect.names is'.effect.names writes.1 in
-    (ap (λ (ws : List (ℕ × ℤ)). record { writes = ws; names = d.names }) writes.0 ∙ ap (λ (ns : List (List ℕ)). record { writes = e.writes; names = ns }) names.0, names.1)
+record_parts v e x = append_assoc (writes_bytes e.writes) (names_bytes e.names ++ retired_bytes v e.retired) x ∙ ap (λ (l : List ℕ). writes_bytes e.writes ++ l) (append_assoc (names_bytes e.names) (retired_bytes v e.retired) x)
+
+-- what a record has of its retired names, where the version allows them
+pub record AreRetiredIn (v : Version) (ns : List (List ℕ)) : Type 0 where
+  pub are_checks : AreChecks ns
+  pub may_retire : MayRetire v ns
+
+pub delimits_retired : (v : Version) → Delimits (AreRetiredIn v) (retired_bytes v)
+delimits_retired One ms ns r s is is' same = (is.may_retire ∙ sym is'.may_retire, same)
+delimits_retired Two ms ns r s is is' same = delimits_names ms ns r s is.are_checks is'.are_checks same
+
+pub retired_in : (v : Version) (vars : ℕ) (e : Effect) → IsRecordIn v vars e → AreRetiredIn v e.retired
+retired_in v vars e is = record { are_checks = is.loggable.effect.retired; may_retire = is.may_retire }
+
+pub delimits_record : (v : Version) (vars : ℕ) → vars ≤ 2 ^ 16 → Delimits (IsRecordIn v vars) (record_bytes v)
+delimits_record v vars few d e r s is is' same =
+    let whole = sym (record_parts v d r) ∙ same ∙ record_parts v e s in
+    let writes = delimits_writes vars few d.writes e.writes (names_bytes d.names ++ (retired_bytes v d.retired ++ r)) (names_bytes e.names ++ (retired_bytes v e.retired ++ s)) (writes_within vars d is.loggable.effect) (writes_within vars e is'.loggable.effect) whole in
+    let names = delimits_names d.names e.names (retired_bytes v d.retired ++ r) (retired_bytes v e.retired ++ s) is.loggable.effect.names is'.loggable.effect.names writes.1 in
+    let retired = delimits_retired v d.retired e.retired r s (retired_in v vars d is) (retired_in v vars e is') names.1 in (
+      ap (λ (ws : List (ℕ × ℤ)). record { writes = ws; names = d.names; retired = d.retired }) writes.0 ∙ ap (λ (ns : List (List ℕ)). record { writes = e.writes; names = ns; retired = d.retired }) names.0
+          ∙ ap (λ (ns : List (List ℕ)). record { writes = e.writes; names = e.names; retired = ns }) retired.0,
+      retired.1,
+    )
 
 grouped : (a b c d x : List ℕ) → (a ++ (b ++ (c ++ d))) ++ x ≡ a ++ (b ++ (c ++ (d ++ x)))
 grouped a b c d x = simp append_assoc
 
 -- a batch, its head part by part
-pub batch_parts : (g f : ℕ) (es : List Effect) (x : List ℕ) → batch_bytes g f es ++ x ≡ number_bytes 8 g ++ (number_bytes 8 f ++ (number_bytes 2 (length es) ++ (flat_map record_bytes es ++ x)))
+pub batch_parts : (v : Version) (g f : ℕ) (es : List Effect) (x : List ℕ) → batch_bytes v g f es ++ x ≡ number_bytes 8 g ++ (number_bytes 8 f ++ (number_bytes 2 (length es) ++ (flat_map (record_bytes v) es ++ x)))
 unfolding batch_bytes
-batch_parts g f es x = grouped (number_bytes 8 g) (number_bytes 8 f) (number_bytes 2 (length es)) (flat_map record_bytes es) x
+batch_parts v g f es x = grouped (number_bytes 8 g) (number_bytes 8 f) (number_bytes 2 (length es)) (flat_map (record_bytes v) es) x
 
 -- the numbers at the head are those of each batch that is spelled there
 pub head_of : (g f n g' f' n' : ℕ) (r s : List ℕ) → g < 2 ^ 64 → f < 2 ^ 64 → n < 2 ^ 16 → g' < 2 ^ 64 → f' < 2 ^ 64 → n' < 2 ^ 16
@@ -182,9 +203,9 @@ head_of g f n g' f' n' r s fits_g fits_f fits_n fits_g' fits_f' fits_n' same =
     (first.0, second.0, third.0, third.1)
 
 pub one_spelling : OneSpelling
-one_spelling vars g g' f f' es es' a b x y few is is' same =
-    let whole = sym (batch_parts g f es x) ∙ ap (λ (l : List ℕ). l ++ x) (sym is.spelled) ∙ same ∙ ap (λ (l : List ℕ). l ++ y) is'.spelled ∙ batch_parts g' f' es' y in
-    let head = head_of g f (length es) g' f' (length es') (flat_map record_bytes es ++ x) (flat_map record_bytes es' ++ y) is.generation_fits is.first_fits (omega (arith, is.batch.few)) is'.generation_fits is'.first_fits (omega (arith, is'.batch.few)) whole in
-    let records = delimits_all (IsLoggable vars) record_bytes (delimits_record vars few) es es' x y head.2 is.batch.each is'.batch.each head.3 in
-    let spelled = is.spelled ∙ ap (λ (n : ℕ). batch_bytes n f es) head.0 ∙ ap (λ (n : ℕ). batch_bytes g' n es) head.1 ∙ ap (λ (l : List Effect). batch_bytes g' f' l) records.0 ∙ sym is'.spelled in
+one_spelling v vars g g' f f' es es' a b x y few is is' same =
+    let whole = sym (batch_parts v g f es x) ∙ ap (λ (l : List ℕ). l ++ x) (sym is.spelled) ∙ same ∙ ap (λ (l : List ℕ). l ++ y) is'.spelled ∙ batch_parts v g' f' es' y in
+    let head = head_of g f (length es) g' f' (length es') (flat_map (record_bytes v) es ++ x) (flat_map (record_bytes v) es' ++ y) is.generation_fits is.first_fits (omega (arith, is.batch.few)) is'.generation_fits is'.first_fits (omega (arith, is'.batch.few)) whole in
+    let records = delimits_all (IsRecordIn v vars) (record_bytes v) (delimits_record v vars few) es es' x y head.2 is.batch.each is'.batch.each head.3 in
+    let spelled = is.spelled ∙ ap (λ (n : ℕ). batch_bytes v n f es) head.0 ∙ ap (λ (n : ℕ). batch_bytes v g' n es) head.1 ∙ ap (λ (l : List Effect). batch_bytes v g' f' l) records.0 ∙ sym is'.spelled in
     (spelled, records.1, head.0, head.1, records.0)

@@ -1,10 +1,12 @@
 -- Laws of what effects make of a state.
-use Rattle.std.proofs.Common.{◌≡◌, ◌≢◌, ℕ, ◌+◌, ◌<◌, ◌≤◌, ◌==◌, ℤ, Bool, true, false, cond, List, [], ◌∷◌, ◌++◌, length, take, get_or, slice_set, Some, IsNone, refl, ap, sym, ◌∙◌, arith, length-set}
+use Rattle.std.proofs.Common.{◌≡◌, ◌≢◌, ℕ, ◌+◌, ◌<◌, ◌≤◌, ◌==◌, ℤ, Bool, true, false, cond, ◌||◌, ◌&&◌, not, All, List, [], ◌∷◌, ◌++◌, length, take, get_or, slice_set, Some, IsNone, refl, ap, sym, ◌∙◌, arith, length-set}
 use Rattle.std.proofs.lemmas.Bool.Decides.{nat_tests}
 use Rattle.std.proofs.lemmas.List.{take_more, get_or-set_other, get_or-set_same, set_comm, set-set}
-use Rattle.tmem_record.specs.State.{State, Effect, apply, fold, written, variables, look, with_write, AreDistinct, AreAscending}
+use Rattle.tmem_disk.specs.Name.{IsName}
+use Rattle.tmem_record.specs.State.{State, Effect, apply, fold, written, variables, look, with_write, has_name, without_names, AreDistinct, AreAscending, AreRegistered}
 use Rattle.tmem_record.proofs.WritesLaws.{look-absent}
-use Rattle.tmem_record.proofs.NamesLaws.{AllPairs-head, AllPairs-tail, length-with_names-le, AreAscending-with_names}
+use Rattle.tmem_record.proofs.NamesLaws.{AllPairs-head, AllPairs-tail, has_name-with_names, AreAscending-with_names, AreRegistered-with_names}
+use Rattle.tmem_record.proofs.NamesRemoved.{has_name-without_names, AreAscending-without_names, AreRegistered-without_names}
 
 -- effects after effects
 pub fold-append : (s : State) (es fs : List Effect) → fold s (es ++ fs) ≡ fold (fold s es) fs
@@ -94,14 +96,19 @@ written-with_write values (w ∷ ws) var value distinct =
         rw (← same) (ap (λ vs. written vs ws) (sym (set-set values w.0 w.1 value)) ∙ written-set (slice_set values w.0 w.1) ws w.0 value apart)
     by false is rest = rest
 
--- an effect takes no name away, nor do many
-pub length-names-fold-le : (s : State) (es : List Effect) → length s.names ≤ length (fold s es).names
-length-names-fold-le s [] = omega arith
-length-names-fold-le s (e ∷ es) = omega (arith, length-with_names-le s.names e.names, length-names-fold-le (apply s e) es)
+-- a name is registered after an effect where it is checked, or was registered and is not retired
+pub has_name-apply : (s : State) (e : Effect) (name : List ℕ) → has_name (apply s e).names name ≡ (has_name e.names name || (not (has_name e.retired name) && has_name s.names name))
+has_name-apply s e name = has_name-with_names (without_names s.names e.retired) e.names name ∙ ap (λ (b : Bool). has_name e.names name || b) (has_name-without_names s.names e.retired name)
+
+pub AreRegistered-apply : (s : State) (e : Effect) → All IsName e.names → length (apply s e).names ≤ 64 → AreRegistered s.names → AreRegistered (apply s e).names
+AreRegistered-apply s e names room are = AreRegistered-with_names (without_names s.names e.retired) e.names names room (AreRegistered-without_names s.names e.retired are)
+
+pub AreAscending-apply : (s : State) (e : Effect) → AreAscending s.names → AreAscending (apply s e).names
+AreAscending-apply s e up = AreAscending-with_names (without_names s.names e.retired) e.names (AreAscending-without_names s.names e.retired up)
 
 pub AreAscending-names-fold : (s : State) (es : List Effect) → AreAscending s.names → AreAscending (fold s es).names
 AreAscending-names-fold s [] up = up
-AreAscending-names-fold s (e ∷ es) up = AreAscending-names-fold (apply s e) es (AreAscending-with_names s.names e.names up)
+AreAscending-names-fold s (e ∷ es) up = AreAscending-names-fold (apply s e) es (AreAscending-apply s e up)
 
 -- one write more
 pub written-next : (values : List ℤ) (ws : List (ℕ × ℤ)) (k : ℕ) (d : ℕ × ℤ) → k < length ws →

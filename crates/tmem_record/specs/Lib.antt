@@ -7,4 +7,5 @@ pub mod Spelling
 pub mod Stale
 pub mod StandsAt
 pub mod State
+pub mod Versions
 pub mod Writes

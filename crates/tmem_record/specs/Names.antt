@@ -1,5 +1,6 @@
--- Lists of names: in order of first check, and in ascending order. A name is the list of its bytes.
-use Rattle.std.specs.Prelude.{◌≡◌, ℕ, ◌≤◌, Bool, true, List, [], ◌∷◌, ◌++◌, length, All, AllPairs, if◌then◌else◌}
+-- Lists of names: in order of first mention, and in ascending order. A name is the list of its bytes.
+use Rattle.std.specs.Prelude.{◌≡◌, ℕ, ◌≤◌, Bool, true, false, not, List, [], ◌∷◌, ◌++◌, length, All, AllPairs, bytes_eq, if◌then◌else◌}
+use Rattle.std.specs.List.{filter}
 use Rattle.std.specs.Ordering.{nat_cmp, is_lt}
 use Rattle.std.specs.Cmp.Lexicographic.{slice_cmp}
 use Rattle.std.proofs.Props.{props}
@@ -29,6 +30,19 @@ abbrev pub with_names : List (List ℕ) → List (List ℕ) → List (List ℕ)
 with_names ns [] = ns
 with_names ns (m ∷ ms) = with_names (insert_name ns m) ms
 
+-- without this name
+abbrev pub without_name : List (List ℕ) → List ℕ → List (List ℕ)
+without_name ns name = filter (λ n. not (bytes_eq n name)) ns
+
+-- without these names
+abbrev pub without_names : List (List ℕ) → List (List ℕ) → List (List ℕ)
+without_names ns [] = ns
+without_names ns (m ∷ ms) = without_names (without_name ns m) ms
+
+-- none of the first names is among the second
+abbrev pub AreApart : List (List ℕ) → List (List ℕ) → Type 0
+AreApart ns ms = All (λ n. has_name ms n ≡ false) ns
+
 -- each is below each later one
 abbrev pub AreAscending : List (List ℕ) → Type 0
 AreAscending ns = AllPairs (λ m n. is_before m n ≡ true) ns
@@ -49,7 +63,10 @@ pub record AreRegistered (ns : List (List ℕ)) : Type 0 where
   pub names : All IsName ns
   pub ascending : AreAscending ns
 
--- both are facts: each has one proof at most
+-- these are facts: each has one proof at most
+pub AreApart-prop : (ns ms : List (List ℕ)) → IsProp (AreApart ns ms)
+AreApart-prop ns ms = hlevel props
+
 pub AreChecks-prop : (ns : List (List ℕ)) → IsProp (AreChecks ns)
 AreChecks-prop ns = hlevel props
 

@@ -1,44 +1,41 @@
 // A list of effects that fits one slot of the log.
 ghost use Rattle.std.specs.Prelude.{◌≡◌, ◌≤◌, ◌<◌, ◌+◌, ◌*◌, ◌↔◌, ℕ, [], ◌∷◌, ◌++◌, length, sum_by, false, All, IsTrue, IfOk};
 ghost use Rattle.std.specs.Bool.{OnTrue, OnFalse};
-ghost use Rattle.tmem_record.specs.State.{AreWrites, AreChecks, is_empty};
+ghost use Rattle.tmem_record.specs.State.{AreWrites, AreChecks, AreApart, is_empty};
 ghost use Rattle.tmem_record.specs.declared.names.TheConstants.{MAX_CHECKS};
+ghost use Rattle.tmem_record.specs.declared.records.TheConstants.{MAX_RECORDS};
 ghost use Rattle.tmem_record.specs.Batch.{record_length, records_length, IsBatch};
 
 use crate::effect::Effect;
+use crate::records::{MAX_RECORDS, Records};
 use std::alloc::{AllocError, Global};
 use std::marker::Model;
 use tmem_disk::Name;
 
-/// How many records a batch may have.
-pub const MAX_RECORDS: usize = 64;
-
 /// How many bytes the records of a batch may have together.
 pub const BATCH_BYTES: usize = 4077;
 
-/// How many bytes one record has at most: with 64 writes, and 8 names of 16 letters.
-pub const MAX_RECORD_BYTES: usize = 778;
+/// How many bytes one record has at most: with 64 writes, and 8 checked and 8 retired names of 16 letters each.
+pub const MAX_RECORD_BYTES: usize = 915;
 
 /// Effects that are to be written together, in order. There is room for all of them from the start.
 #[derive(Drop)]
 pub struct Batch {
-    // made beforehand: those from `len` on are not in the batch
-    effects: Vec<Effect>,
-    len: usize,
-    // the bytes of those in the batch
+    records: Records,
+    // their bytes
     used: usize,
 }
 
 impl Model for Batch {
-    ghost use Rattle.std.specs.Prelude.{List, take};
+    ghost use Rattle.std.specs.Prelude.{List};
     ghost use Rattle.tmem_record.specs.State.{Effect as EffectOf};
     ghost use Rattle.tmem_record.specs.Batch.{FillsBatch};
 
     ghost Value = { List EffectOf };
 
-    ghost view = { λ b. take b.len b.effects.items };
+    ghost view = { λ b. b.records };
 
-    ghost invariant = { λ b. FillsBatch b.effects.items b.len b.used };
+    ghost invariant = { λ b. FillsBatch b.records b.used };
 }
 
 impl Batch {
@@ -46,12 +43,8 @@ impl Batch {
     pub fn new(alloc: Global) -> Result<Batch, AllocError>
         ensures { IfOk result (λ batch. batch ≡ []) }
     {
-        let effects = spare(alloc)?;
-        Ok(Batch {
-            effects,
-            len: 0,
-            used: 0,
-        })
+        let records = Records::new(alloc)?;
+        Ok(Batch { records, used: 0 })
     }
 
     /// How many records it has.
@@ -59,7 +52,7 @@ impl Batch {
         ensures len { result ≡ length self.now }
         ensures few { result ≤ MAX_RECORDS }
     {
-        self.len
+        self.records.len()
     }
 
     /// How many bytes its records will have together.
@@ -77,21 +70,22 @@ impl Batch {
         ensures fits { records_length self.now ≤ BATCH_BYTES }
         ensures is_batch { (vars : ℕ) → 1 ≤ length self.now → All (λ e. All (λ w. w.0 < vars) e.writes) self.now → IsBatch vars self.now }
     {
-        &self.effects[..self.len]
+        self.records.effects()
     }
 
     /// Forgets all records.
     pub fn clear(&mut self)
         ensures { self.new ≡ [] }
     {
-        self.len = 0;
+        self.records.clear();
         self.used = 0;
     }
 
     /// Puts a record last. Where there are 64 records already, or its bytes do not fit, nothing changes and the answer
     /// is false.
     pub fn push(&mut self, effect: &Effect) -> bool
-        requires { is_empty effect.now ≡ false }
+        requires not_empty { is_empty effect.now ≡ false }
+        requires apart { AreApart effect.now.names effect.now.retired }
         ensures fits { IsTrue result
             ↔ ((length self.old < MAX_RECORDS)
             × (records_length self.old + record_length effect.now ≤ BATCH_BYTES)) }
@@ -102,44 +96,32 @@ impl Batch {
         ensures full { OnFalse result (self.new ≡ self.old) }
     {
         let bytes = length_of(effect);
-        if self.len == MAX_RECORDS || BATCH_BYTES - self.used < bytes {
+        if self.records.len() == MAX_RECORDS || BATCH_BYTES - self.used < bytes {
             return false;
         }
-        self.effects[self.len].copy_from(effect);
-        self.len += 1;
+        self.records.push(effect);
         self.used += bytes;
         true
     }
-}
-
-// 64 effects to be filled.
-fn spare(alloc: Global) -> Result<Vec<Effect>, AllocError>
-    ensures { IfOk result (λ effects. length effects.items ≡ MAX_RECORDS) }
-{
-    let mut effects = Vec::with_capacity(alloc, MAX_RECORDS)?;
-    for _ in 0..MAX_RECORDS {
-        effects.push(Effect::new()).unwrap();
-    }
-    Ok(effects)
 }
 
 // How many bytes a record will have.
 fn length_of(effect: &Effect) -> usize
     ensures length { result ≡ record_length effect.now }
     ensures most { result ≤ MAX_RECORD_BYTES }
-    ensures writes { AreWrites effect.now.writes }
-    ensures names { AreChecks effect.now.names }
 {
-    1 + 10 * effect.writes.as_slice().len() + 1 + names_length(effect.names.as_slice())
+    let writes = effect.writes.as_slice();
+    let names = names_length(effect.names.as_slice());
+    1 + 10 * writes.len() + names + names_length(effect.retired.as_slice())
 }
 
-// How many bytes the names will have, each behind its length.
+// How many bytes the names will have behind their count, each behind its length.
 fn names_length(names: &[Name]) -> usize
     requires { length names.now ≤ MAX_CHECKS }
-    ensures bytes { result ≡ sum_by (λ n. 1 + length n) names.now }
-    ensures few { result ≤ 17 * length names.now }
+    ensures bytes { result ≡ 1 + sum_by (λ n. 1 + length n) names.now }
+    ensures few { result ≤ 1 + 17 * length names.now }
 {
-    let mut bytes = 0;
+    let mut bytes = 1;
     for name in names {
         bytes += 1 + name.as_bytes().len();
     }

@@ -1,19 +1,21 @@
-// Batches and names as bytes: how they are written and read.
-ghost use Rattle.std.specs.Prelude.{◌≡◌, ◌≤◌, ◌<◌, ◌+◌, ◌*◌, ◌^◌, [], ◌∷◌, ◌++◌, ℕ, ℤ, length, take, drop, flat_map, sum_by, All, IfOk, IfErr, IfSome, IfNone, List, FitsSigned};
+// Batches and names as bytes: how they are written, in the second version, and read, in either.
+ghost use Rattle.std.specs.Prelude.{◌≡◌, ◌≤◌, ◌<◌, ◌+◌, ◌*◌, ◌^◌, ◌↔◌, [], ◌∷◌, ◌++◌, ℕ, ℤ, length, take, drop, flat_map, sum_by, All, IsTrue, IfOk, IfErr, IfSome, IfNone, List, FitsSigned};
 ghost use Rattle.std.specs.Int.{w64};
 ghost use Rattle.tmem_disk.specs.Name.{IsName};
 ghost use Rattle.tmem_record.specs.declared.effect.Effect.{Effect as EffectOf};
-ghost use Rattle.tmem_record.specs.State.{AreWrites, AreChecks, AreRegistered};
-ghost use Rattle.tmem_record.specs.Loggable.{IsLoggable};
+ghost use Rattle.tmem_record.specs.State.{AreWrites, AreChecks, AreRegistered, AreApart};
 ghost use Rattle.tmem_record.specs.Prefix.{IsPrefix};
-ghost use Rattle.tmem_record.specs.Batch.{record_length, records_length, IsBatch};
-ghost use Rattle.tmem_record.specs.Spelling.{number_bytes, value_bytes, write_bytes, name_bytes, writes_bytes, names_bytes, record_bytes, batch_bytes, SpellsBatch, OneSpelling};
+ghost use Rattle.tmem_record.specs.Batch.{record_length, records_length, IsRecordIn, IsBatchIn};
+ghost use Rattle.tmem_record.specs.Versions.{Two, MayRetire};
+ghost use Rattle.tmem_record.specs.Spelling.{number_bytes, value_bytes, write_bytes, name_bytes, writes_bytes, names_bytes, retired_bytes, record_bytes, batch_bytes, SpellsBatch, OneSpelling};
 
-use crate::batch::{Batch, MAX_RECORDS};
+use crate::batch::{BATCH_BYTES, Batch};
 use crate::bytes::put;
 use crate::effect::Effect;
 use crate::name_set::{MAX_NAMES, NameSet};
-use crate::names::{MAX_CHECKS, Names};
+use crate::names::{MAX_CHECKS, Names, holds};
+use crate::records::{MAX_RECORDS, Records};
+use crate::version::Version;
 use crate::writes::{MAX_WRITES, Writes};
 use byteorder::{ByteOrder, LittleEndian};
 use std::alloc::Global;
@@ -39,7 +41,7 @@ pub struct Decoded {
     /// The number of its first record.
     pub first: u64,
     /// Its records in order.
-    pub effects: Batch,
+    pub effects: Records,
     /// How many bytes spell it.
     pub length: usize,
 }
@@ -114,21 +116,20 @@ pub fn write_name(name: &Name, into: &mut [u8]) -> usize
 fn put_record(into: &mut [u8], start: usize, effect: &Effect) -> usize
     requires { start + record_length effect.now ≤ length into.old }
     ensures next { result ≡ start + record_length effect.now }
-    ensures front { take result into.new ≡ take start into.old ++ record_bytes effect.now }
+    ensures front { take result into.new ≡ take start into.old ++ record_bytes Two effect.now }
 {
     let writes = effect.writes.as_slice();
-    let names = effect.names.as_slice();
     let mut at = put(into, start, &[writes.len() as u8]);
     at = put_writes(into, at, writes);
-    at = put(into, at, &[names.len() as u8]);
-    put_names(into, at, names)
+    at = write_names(into, at, effect.names.as_slice());
+    write_names(into, at, effect.retired.as_slice())
 }
 
 // Spells records from a place on, one after another, and returns the place behind them.
 fn put_records(into: &mut [u8], start: usize, effects: &[Effect]) -> usize
     requires { start + records_length effects.now ≤ length into.old }
     ensures next { result ≡ start + records_length effects.now }
-    ensures front { take result into.new ≡ take start into.old ++ flat_map record_bytes effects.now }
+    ensures front { take result into.new ≡ take start into.old ++ flat_map (record_bytes Two) effects.now }
 {
     let mut at = start;
     for effect in effects {
@@ -137,13 +138,13 @@ fn put_records(into: &mut [u8], start: usize, effects: &[Effect]) -> usize
     at
 }
 
-/// Writes the bytes of a batch to the front of a buffer, and returns how many there are.
+/// Writes the bytes of a batch, in the second version, to the front of a buffer, and returns how many there are.
 pub fn encode_batch(batch: &Batch, generation: u64, first: u64, into: &mut [u8]) -> usize
     requires some { 1 ≤ length batch.now }
     requires room { BATCH_ROOM ≤ length into.old }
     ensures room { result ≤ BATCH_ROOM }
-    ensures bytes { take result into.new ≡ batch_bytes generation first batch.now }
-    ensures spells { (vars : ℕ) → All (λ e. All (λ w. w.0 < vars) e.writes) batch.now → SpellsBatch vars generation first batch.now (take result into.new) }
+    ensures bytes { take result into.new ≡ batch_bytes Two generation first batch.now }
+    ensures spells { (vars : ℕ) → All (λ e. All (λ w. w.0 < vars) e.writes) batch.now → SpellsBatch Two vars generation first batch.now (take result into.new) }
 {
     let effects = batch.effects();
     let mut at = put(into, 0, &generation.to_le_bytes());
@@ -314,59 +315,88 @@ fn names_of<'a>(bytes: &'a [u8], names: &mut Names) -> Option<&'a [u8]>
     Some(rest)
 }
 
-// The record at the front, and what follows it.
-fn record_of<'a>(bytes: &'a [u8], vars: u16, effect: &mut Effect) -> Option<&'a [u8]>
-    ensures is_loggable { IfSome result (λ rest. IsLoggable vars effect.new) }
-    ensures found { IfSome result (λ rest. bytes.now ≡ record_bytes effect.new ++ rest.now) }
-    ensures none { IfNone result ((e : EffectOf) (rest : List ℕ) → IsLoggable vars e → bytes.now ≡ record_bytes e ++ rest → ⊥) }
+// The retired names of a record of a version, and what follows them.
+fn retired_of<'a>(bytes: &'a [u8], version: Version, names: &mut Names) -> Option<&'a [u8]>
+    requires { names.old ≡ [] }
+    ensures are_checks { IfSome result (λ rest. AreChecks names.new) }
+    ensures may_retire { IfSome result (λ rest. MayRetire version names.new) }
+    ensures found { IfSome result (λ rest. bytes.now ≡ retired_bytes version names.new ++ rest.now) }
+    ensures none { IfNone result ((ns : List (List ℕ)) (rest : List ℕ) → AreChecks ns → MayRetire version ns → bytes.now ≡ retired_bytes version ns ++ rest → ⊥) }
+{
+    match version {
+        Version::One => Some(bytes),
+        Version::Two => names_of(bytes, names),
+    }
+}
+
+// Whether none of these names is among the others.
+fn are_apart(names: &[Name], others: &[Name]) -> bool
+    ensures { IsTrue result ↔ AreApart names.now others.now }
+{
+    names.iter().all(|name| !holds(others, name))
+}
+
+// The record of a version at the front, and what follows it.
+fn record_of<'a>(
+    bytes: &'a [u8],
+    vars: u16,
+    version: Version,
+    effect: &mut Effect,
+) -> Option<&'a [u8]>
+    ensures is_record { IfSome result (λ rest. IsRecordIn version vars effect.new) }
+    ensures found { IfSome result (λ rest. bytes.now ≡ record_bytes version effect.new ++ rest.now) }
+    ensures none { IfNone result ((e : EffectOf) (rest : List ℕ) → IsRecordIn version vars e → bytes.now ≡ record_bytes version e ++ rest → ⊥) }
 {
     effect.clear();
     let behind = writes_of(bytes, vars, &mut effect.writes)?;
-    let rest = names_of(behind, &mut effect.names)?;
+    let behind = names_of(behind, &mut effect.names)?;
+    let rest = retired_of(behind, version, &mut effect.retired)?;
     if effect.is_empty() {
+        return None;
+    }
+    if !are_apart(effect.names.as_slice(), effect.retired.as_slice()) {
         return None;
     }
     Some(rest)
 }
 
-// So many records from the front on that fit a batch, and what follows them.
+// So many records of a version from the front on, and what follows them.
 fn records_of<'a>(
     bytes: &'a [u8],
     count: u16,
     vars: u16,
+    version: Version,
     effect: &mut Effect,
-    batch: &mut Batch,
+    records: &mut Records,
 ) -> Option<&'a [u8]>
-    requires none_yet { batch.old ≡ [] }
-    requires some { 1 ≤ count }
+    requires none_yet { records.old ≡ [] }
     requires few { count ≤ MAX_RECORDS }
-    ensures counted { IfSome result (λ rest. length batch.new ≡ count) }
-    ensures is_batch { IfSome result (λ rest. IsBatch vars batch.new) }
-    ensures found { IfSome result (λ rest. bytes.now ≡ flat_map record_bytes batch.new ++ rest.now) }
-    ensures none { IfNone result ((es : List EffectOf) (rest : List ℕ) → length es ≡ count → IsBatch vars es → bytes.now ≡ flat_map record_bytes es ++ rest → ⊥) }
+    ensures counted { IfSome result (λ rest. length records.new ≡ count) }
+    ensures each { IfSome result (λ rest. All (IsRecordIn version vars) records.new) }
+    ensures found { IfSome result (λ rest. bytes.now ≡ flat_map (record_bytes version) records.new ++ rest.now) }
+    ensures none { IfNone result ((es : List EffectOf) (rest : List ℕ) → length es ≡ count → All (IsRecordIn version vars) es → bytes.now ≡ flat_map (record_bytes version) es ++ rest → ⊥) }
 {
     let mut rest = bytes;
     for _ in 0..count {
-        let next = record_of(rest, vars, effect)?;
-        if !batch.push(effect) {
-            return None;
-        }
+        let next = record_of(rest, vars, version, effect)?;
+        records.push(effect);
         rest = next;
     }
     Some(rest)
 }
 
-// The batch at the front: its generation, the number of its first record, and what follows it.
+// The batch of a version at the front: its generation, the number of its first record, and what follows it.
 fn batch_of<'a>(
     bytes: &'a [u8],
     vars: u16,
+    version: Version,
     effect: &mut Effect,
-    batch: &mut Batch,
+    records: &mut Records,
 ) -> Option<(u64, u64, &'a [u8])>
-    requires { batch.old ≡ [] }
-    ensures is_batch { IfSome result (λ found. IsBatch vars batch.new) }
-    ensures found { IfSome result (λ found. bytes.now ≡ batch_bytes found.0 found.1 batch.new ++ found.2.now) }
-    ensures none { IfNone result ((generation first : ℕ) (es : List EffectOf) (rest : List ℕ) → generation < 2 ^ 64 → first < 2 ^ 64 → IsBatch vars es → bytes.now ≡ batch_bytes generation first es ++ rest → ⊥) }
+    requires { records.old ≡ [] }
+    ensures is_batch { IfSome result (λ found. IsBatchIn version vars records.new) }
+    ensures found { IfSome result (λ found. bytes.now ≡ batch_bytes version found.0 found.1 records.new ++ found.2.now) }
+    ensures none { IfNone result ((generation first : ℕ) (es : List EffectOf) (rest : List ℕ) → generation < 2 ^ 64 → first < 2 ^ 64 → IsBatchIn version vars es → bytes.now ≡ batch_bytes version generation first es ++ rest → ⊥) }
 {
     if bytes.len() < HEAD_BYTES {
         return None;
@@ -377,7 +407,11 @@ fn batch_of<'a>(
     if count == 0 || count as usize > MAX_RECORDS {
         return None;
     }
-    let rest = records_of(behind, count, vars, effect, batch)?;
+    let rest = records_of(behind, count, vars, version, effect, records)?;
+    // the limit is one of the bytes that are read: the second version spells the same records in more
+    if behind.len() - rest.len() > BATCH_BYTES {
+        return None;
+    }
     Some((generation, first, rest))
 }
 
@@ -392,16 +426,17 @@ pub fn read_head(bytes: &[u8; HEAD_BYTES]) -> (u64, u64, u16)
     (generation, first, count)
 }
 
-/// Reads a batch over so many variables from the front of the bytes into one that is lent, whose own records are forgotten
-/// before. `None` where no prefix of the bytes spells one, and then what the lent batch holds is open. It takes no memory.
-pub fn read_batch(bytes: &[u8], vars: u16, batch: &mut Batch) -> Option<Head>
-    ensures found { IfSome result (λ head. SpellsBatch vars head.generation head.first batch.new (take head.length bytes.now)) }
+/// Reads a batch of a version over so many variables from the front of the bytes into records that are lent, whose own are
+/// forgotten before. `None` where no prefix of the bytes spells one, and then what the lent records hold is open. It takes
+/// no memory.
+pub fn read_batch(bytes: &[u8], vars: u16, version: Version, records: &mut Records) -> Option<Head>
+    ensures found { IfSome result (λ head. SpellsBatch version vars head.generation head.first records.new (take head.length bytes.now)) }
     ensures within { IfSome result (λ head. head.length ≤ length bytes.now) }
-    ensures none { IfNone result ((generation first n : ℕ) (es : List EffectOf) → SpellsBatch vars generation first es (take n bytes.now) → ⊥) }
+    ensures none { IfNone result ((generation first n : ℕ) (es : List EffectOf) → SpellsBatch version vars generation first es (take n bytes.now) → ⊥) }
 {
-    batch.clear();
+    records.clear();
     let mut effect = Effect::new();
-    let (generation, first, rest) = batch_of(bytes, vars, &mut effect, batch)?;
+    let (generation, first, rest) = batch_of(bytes, vars, version, &mut effect, records)?;
     Some(Head {
         generation,
         first,
@@ -409,16 +444,21 @@ pub fn read_batch(bytes: &[u8], vars: u16, batch: &mut Batch) -> Option<Head>
     })
 }
 
-/// Reads a batch over so many variables from the front of the bytes. `None` where no prefix of them spells one. The only
-/// error is want of memory.
-pub fn decode_batch(alloc: Global, bytes: &[u8], vars: u16) -> Result<Option<Decoded>, Fault>
-    ensures found { IfOk result (λ found. IfSome found (λ d. SpellsBatch vars d.generation d.first d.effects (take d.length bytes.now))) }
+/// Reads a batch of a version over so many variables from the front of the bytes. `None` where no prefix of them spells
+/// one. The only error is want of memory.
+pub fn decode_batch(
+    alloc: Global,
+    bytes: &[u8],
+    vars: u16,
+    version: Version,
+) -> Result<Option<Decoded>, Fault>
+    ensures found { IfOk result (λ found. IfSome found (λ d. SpellsBatch version vars d.generation d.first d.effects (take d.length bytes.now))) }
     ensures within { IfOk result (λ found. IfSome found (λ d. d.length ≤ length bytes.now)) }
-    ensures none { IfOk result (λ found. IfNone found ((generation first n : ℕ) (es : List EffectOf) → SpellsBatch vars generation first es (take n bytes.now) → ⊥)) }
+    ensures none { IfOk result (λ found. IfNone found ((generation first n : ℕ) (es : List EffectOf) → SpellsBatch version vars generation first es (take n bytes.now) → ⊥)) }
     ensures refused { IfErr result (λ fault. fault ≡ Fault.Memory) }
 {
-    let mut effects = Batch::new(alloc)?;
-    let Some(head) = read_batch(bytes, vars, &mut effects) else {
+    let mut effects = Records::new(alloc)?;
+    let Some(head) = read_batch(bytes, vars, version, &mut effects) else {
         return Ok(None);
     };
     Ok(Some(Decoded {
@@ -429,7 +469,7 @@ pub fn decode_batch(alloc: Global, bytes: &[u8], vars: u16) -> Result<Option<Dec
     }))
 }
 
-/// A batch has one spelling, and no spelling is a prefix of that of another batch.
+/// A batch of a version has one spelling, and no spelling is a prefix of that of another batch of this version.
 pub fn one_spelling()
     ensures { OneSpelling }
 {}

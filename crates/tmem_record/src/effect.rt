@@ -1,17 +1,21 @@
 // What one transaction changes.
-ghost use Rattle.std.specs.Prelude.{◌≡◌, ◌<◌, ℕ, All};
+ghost use Rattle.std.specs.Prelude.{◌≡◌, ◌<◌, ℕ, false, length, All};
+ghost use Rattle.tmem_record.specs.Names.{has_name, with_name, without_name, AreApart};
 ghost use Rattle.tmem_record.specs.State.{IsEffect, is_empty, no_effect};
 
-use crate::names::Names;
+use crate::names::{MAX_CHECKS, MAX_RETIRES, Names};
 use crate::writes::Writes;
+use tmem_disk::Name;
 
-/// What a transaction changes: the variables that it writes and the names that it checks.
+/// What a transaction changes: the variables that it writes, the names that it checks and those that it retires.
 #[derive(Drop)]
 pub struct Effect {
     /// The variables that it writes, each with its value.
     pub writes: Writes,
     /// The names that it checks.
     pub names: Names,
+    /// The names that it retires.
+    pub retired: Names,
 }
 
 impl Effect {
@@ -22,17 +26,43 @@ impl Effect {
         Effect {
             writes: Writes::new(),
             names: Names::new(),
+            retired: Names::new(),
         }
     }
 
-    /// Whether it changes nothing: it has no write and no name.
+    /// Whether it changes nothing: it has no write, checks no name and retires none.
     pub fn is_empty(&self) -> bool
         ensures empty { result ≡ is_empty self.now }
-        ensures is_effect { (vars : ℕ) → All (λ w. w.0 < vars) self.now.writes → IsEffect vars self.now }
+        ensures is_effect { (vars : ℕ) → All (λ w. w.0 < vars) self.now.writes → AreApart self.now.names self.now.retired → IsEffect vars self.now }
     {
         let writes = self.writes.as_slice();
         let names = self.names.as_slice();
-        writes.is_empty() && names.is_empty()
+        let retired = self.retired.as_slice();
+        writes.is_empty() && (names.is_empty() && retired.is_empty())
+    }
+
+    /// Checks a name: it is added at the end, unless it is there, and no longer retired.
+    pub fn check(&mut self, name: &Name)
+        requires { has_name self.old.names name.now ≡ false → length self.old.names < MAX_CHECKS }
+        ensures writes { self.new.writes ≡ self.old.writes }
+        ensures names { self.new.names ≡ with_name self.old.names name.now }
+        ensures retired { self.new.retired ≡ without_name self.old.retired name.now }
+        ensures apart { AreApart self.old.names self.old.retired → AreApart self.new.names self.new.retired }
+    {
+        self.names.put(name);
+        self.retired.remove(name);
+    }
+
+    /// Retires a name: it is added at the end of those that are retired, unless it is there, and no longer checked.
+    pub fn retire(&mut self, name: &Name)
+        requires { has_name self.old.retired name.now ≡ false → length self.old.retired < MAX_RETIRES }
+        ensures writes { self.new.writes ≡ self.old.writes }
+        ensures names { self.new.names ≡ without_name self.old.names name.now }
+        ensures retired { self.new.retired ≡ with_name self.old.retired name.now }
+        ensures apart { AreApart self.old.names self.old.retired → AreApart self.new.names self.new.retired }
+    {
+        self.retired.put(name);
+        self.names.remove(name);
     }
 
     /// Copies the writes and the names of another effect.
@@ -41,6 +71,7 @@ impl Effect {
     {
         self.writes.copy_from(&other.writes);
         self.names.copy_from(&other.names);
+        self.retired.copy_from(&other.retired);
     }
 
     /// The same effect once more.
@@ -58,5 +89,6 @@ impl Effect {
     {
         self.writes.clear();
         self.names.clear();
+        self.retired.clear();
     }
 }

@@ -2,7 +2,7 @@
 ghost use Rattle.std.specs.Prelude.{◌≡◌, ◌≤◌, ◌<◌, ◌↔◌, [], ◌∷◌, ◌++◌, length, true, false, All, IsTrue, IfOk};
 ghost use Rattle.std.specs.Bool.{OnTrue, OnFalse};
 ghost use Rattle.std.specs.List.{prefix_len};
-ghost use Rattle.tmem_record.specs.Names.{has_name, insert_name, is_before, AreRegistered};
+ghost use Rattle.tmem_record.specs.Names.{has_name, insert_name, without_name, is_before, AreRegistered};
 
 use crate::names::holds;
 use std::alloc::{AllocError, Global};
@@ -62,6 +62,13 @@ impl NameSet {
             let place = count_below(&self.items, name);
             self.items.insert(place, *name).unwrap();
         }
+    }
+
+    /// Removes a name, if it is registered.
+    pub(crate) fn remove(&mut self, name: &Name)
+        ensures { self.new ≡ without_name self.old name.now }
+    {
+        self.items.retain(|n| n != name);
     }
 
     /// Registers a name that is above all others. Where 64 are registered already, or one of them is not below it,

@@ -1,7 +1,7 @@
-// The names that a transaction checks.
-ghost use Rattle.std.specs.Prelude.{◌≡◌, ◌≤◌, ◌<◌, [], length, false, not, count_by};
+// The names that a transaction checks, and those that it retires.
+ghost use Rattle.std.specs.Prelude.{◌≡◌, ◌≤◌, ◌<◌, [], length, take, false, not, count_by};
 ghost use Rattle.tmem_disk.specs.Name.{IsName};
-ghost use Rattle.tmem_record.specs.Names.{has_name, with_name, AreChecks};
+ghost use Rattle.tmem_record.specs.Names.{has_name, with_name, without_name, without_names, AreChecks};
 
 use std::marker::Model;
 use tmem_disk::Name;
@@ -9,10 +9,14 @@ use tmem_disk::Name;
 /// How many names one transaction may check.
 pub const MAX_CHECKS: usize = 8;
 
-/// The names that a transaction checks: each once, in order of first check. They are held in place.
+/// How many names one transaction may retire.
+pub const MAX_RETIRES: usize = MAX_CHECKS;
+
+/// The names that a transaction checks, or those that it retires: each once, in the order in which they came. They are
+/// held in place.
 #[derive(Drop)]
 pub struct Names {
-    // those from `len` on are not checked
+    // those from `len` on are not among them
     items: [Name; MAX_CHECKS],
     len: usize,
 }
@@ -47,7 +51,7 @@ impl Names {
         &self.items[..self.len]
     }
 
-    /// Whether a name is checked.
+    /// Whether a name is among them.
     pub(crate) fn has(&self, name: &Name) -> bool
         ensures { result ≡ has_name self.now name.now }
     {
@@ -63,6 +67,13 @@ impl Names {
             self.items[self.len] = *name;
             self.len += 1;
         }
+    }
+
+    /// Removes a name, if it is there. The others stay in their order.
+    pub fn remove(&mut self, name: &Name)
+        ensures { self.new ≡ without_name self.old name.now }
+    {
+        self.len = keep_others(&mut self.items, self.len, name);
     }
 
     // Takes over the names of another.
@@ -99,15 +110,52 @@ pub(crate) fn holds(names: &[Name], name: &Name) -> bool
     names.iter().any(|n| n.as_bytes() == bytes)
 }
 
-// How many of the names are not among those that are held.
-pub(crate) fn count_new(held: &[Name], names: &[Name]) -> usize
-    ensures { result ≡ count_by (λ name. not (has_name held.now name)) names.now }
+// Moves so many names at the front together, without this one, and answers how many are left.
+fn keep_others(items: &mut [Name], len: usize, name: &Name) -> usize
+    requires { len ≤ length items.old }
+    ensures kept { take result items.new ≡ without_name (take len items.old) name.now }
+    ensures fewer { result ≤ len }
+    ensures long { length items.new ≡ length items.old }
+{
+    let mut kept = 0;
+    for at in 0..len {
+        let item = items[at];
+        if item != *name {
+            items[kept] = item;
+            kept += 1;
+        }
+    }
+    kept
+}
+
+// How many of the names are not among those.
+pub(crate) fn count_others(those: &[Name], names: &[Name]) -> usize
+    ensures { result ≡ count_by (λ name. not (has_name those.now name)) names.now }
 {
     let mut count = 0;
     for name in names {
-        if !holds(held, name) {
+        if !holds(those, name) {
             count += 1;
         }
     }
     count
+}
+
+// How many of the names are not among those that are held, or among those that are retired of them.
+pub(crate) fn count_new(held: &[Name], retired: &[Name], names: &[Name]) -> usize
+    ensures { result ≡ count_by (λ name. not (has_name (without_names held.now retired.now) name)) names.now }
+{
+    let mut count = 0;
+    for name in names {
+        if is_new(held, retired, name) {
+            count += 1;
+        }
+    }
+    count
+}
+
+fn is_new(held: &[Name], retired: &[Name], name: &Name) -> bool
+    ensures { result ≡ not (has_name (without_names held.now retired.now) name.now) }
+{
+    !holds(held, name) || holds(retired, name)
 }

@@ -1,12 +1,11 @@
 // What all accepted transactions made.
 ghost use Rattle.std.specs.Prelude.{◌≡◌, ◌≤◌, ◌<◌, ◌+◌, ◌^◌, ◌↔◌, length, All, IsTrue, IfOk, Some, slice_get};
-ghost use Rattle.tmem_disk.specs.Distinct.{AreDistinct};
-ghost use Rattle.tmem_record.specs.Names.{has_name, with_names, AreRegistered};
+ghost use Rattle.tmem_record.specs.Names.{has_name, with_names, without_names, AreRegistered};
 ghost use Rattle.tmem_record.specs.State.{apply, overwrite, written};
 
 use crate::effect::Effect;
 use crate::name_set::{MAX_NAMES, NameSet};
-use crate::names::count_new;
+use crate::names::{count_new, count_others};
 use std::alloc::{AllocError, Global};
 use std::marker::Model;
 use tmem_disk::Name;
@@ -78,13 +77,14 @@ impl State {
         self.names.has(name)
     }
 
-    /// Whether these names, none of them twice, can be registered beside those that are.
-    pub fn has_room_for(&self, names: &[Name]) -> bool
-        requires { AreDistinct names.now }
-        ensures { IsTrue result ↔ length (with_names self.now.names names.now) ≤ MAX_NAMES }
+    /// Whether the names that are registered after this effect are not too many.
+    pub fn has_room_for(&self, effect: &Effect) -> bool
+        ensures { IsTrue result ↔ length (apply self.now effect.now).names ≤ MAX_NAMES }
     {
         let held = self.names();
-        count_new(held, names) <= MAX_NAMES - held.len()
+        let retired = effect.retired.as_slice();
+        let kept = count_others(retired, held);
+        count_new(held, retired, effect.names.as_slice()) <= MAX_NAMES - kept
     }
 
     /// The same state in memory of its own.
@@ -108,14 +108,16 @@ impl State {
         set_all(&mut self.values, writes);
     }
 
-    /// Accepts a transaction: its variables are set, its names are added, and the count grows by 1.
+    /// Accepts a transaction: its variables are set, the names that it retires are removed, those that it checks are added,
+    /// and the count grows by 1.
     pub fn accept(&mut self, effect: &Effect)
         requires within { All (λ w. w.0 < length self.old.values) effect.now.writes }
         requires countable { self.old.count + 1 < 2 ^ 64 }
-        requires room { length (with_names self.old.names effect.now.names) ≤ MAX_NAMES }
+        requires room { length (apply self.old effect.now).names ≤ MAX_NAMES }
         ensures { self.new ≡ apply self.old effect.now }
     {
         set_all(&mut self.values, effect.writes.as_slice());
+        remove_all(&mut self.names, effect.retired.as_slice());
         insert_all(&mut self.names, effect.names.as_slice());
         self.count += 1;
     }
@@ -127,6 +129,14 @@ fn set_all(values: &mut Vec<i64>, writes: &[(u16, i64)])
 {
     for write in writes {
         values[write.0 as usize] = write.1;
+    }
+}
+
+fn remove_all(names: &mut NameSet, fewer: &[Name])
+    ensures { names.new ≡ without_names names.old fewer.now }
+{
+    for name in fewer {
+        names.remove(name);
     }
 }
 

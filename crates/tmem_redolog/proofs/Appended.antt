@@ -1,14 +1,15 @@
 -- From what a crash leaves of a slot to what it leaves of the log.
-use Rattle.std.proofs.Common.{◌≡◌, ℕ, ◌+◌, ◌<◌, ◌≤◌, ◌^◌, List, length, ap, subst, arith}
+use Rattle.std.proofs.Common.{◌≡◌, ℕ, ◌+◌, ◌<◌, ◌≤◌, List, length, ap, subst, arith}
 use Rattle.tmem_disk.specs.Disk.{DeviceView}
 use Rattle.tmem_gate.specs.Calls.{WritesWithin}
 use Rattle.tmem_gate.specs.Cells.{LeftClosed, LeftOpen}
 use Rattle.tmem_gate.specs.Changes.{Outcome, Puts}
 use Rattle.tmem_gate.specs.Gate.{StandsClosed}
 use Rattle.tmem_gate.proofs.Laws.{Puts-more}
-use Rattle.tmem_record.specs.Batch.{IsBatch}
+use Rattle.tmem_record.specs.Batch.{IsBatchIn}
 use Rattle.tmem_record.specs.Layout.{slot_place}
 use Rattle.tmem_record.specs.Spelling.{batch_bytes}
+use Rattle.tmem_record.specs.declared.version.Version.TheVariants.{Two}
 use Rattle.tmem_redolog.specs.Appends.{Placed, Without, With}
 use Rattle.tmem_redolog.proofs.Logs.{without, with_batch, closed_behind, length-batch_bytes-le}
 
@@ -17,11 +18,11 @@ abbrev pub place_of : Placed → ℕ
 place_of p = slot_place p.vars p.slot
 
 abbrev pub bytes_of : Placed → List ℕ
-bytes_of p = batch_bytes p.generation p.first p.batch
+bytes_of p = batch_bytes Two p.generation p.first p.batch
 
-module _ (p : Placed) (room : p.slot < p.slots) (is : IsBatch p.vars p.batch) (number : p.first + length p.batch < 2 ^ 64) where
+module _ (p : Placed) (room : p.slot < p.slots) (is : IsBatchIn Two p.vars p.batch) where
   short : length (bytes_of p) ≤ 4095
-  short = length-batch_bytes-le p.vars p.generation p.first p.batch is
+  short = length-batch_bytes-le Two p.vars p.generation p.first p.batch is
 
   -- as the bytes were spelled, at the place that was found
   module _ (place : ℕ) (spelled : List ℕ) (old new : DeviceView) (o : Outcome) (here : place ≡ place_of p) (same : spelled ≡ bytes_of p) where
@@ -29,7 +30,7 @@ module _ (p : Placed) (room : p.slot < p.slots) (is : IsBatch p.vars p.batch) (n
     no b c left = without p (length (bytes_of p)) short b c (subst (λ (l : List ℕ). LeftClosed (place_of p) (length l) b c) same (subst (λ (n : ℕ). LeftClosed n (length spelled) b c) here left))
 
     yes : (b c : List ℕ) → LeftOpen place spelled old.seen b c → With p b c
-    yes b c left = with_batch p room is number old.seen b c (subst (λ (l : List ℕ). LeftOpen (place_of p) l old.seen b c) same (subst (λ (n : ℕ). LeftOpen n spelled old.seen b c) here left))
+    yes b c left = with_batch p room is old.seen b c (subst (λ (l : List ℕ). LeftOpen (place_of p) l old.seen b c) same (subst (λ (n : ℕ). LeftOpen n spelled old.seen b c) here left))
 
     pub append_put : Puts place (1 + length spelled) (LeftClosed place (length spelled)) (LeftOpen place spelled old.seen) old new o → Puts (place_of p) 4096 (Without p) (With p) old new o
     append_put = Puts-more place (1 + length spelled) (place_of p) 4096 _ _ (Without p) (With p) old new o (omega (arith, here)) (omega (arith, here, short, ap length same)) no yes

@@ -94,10 +94,10 @@ keeps vars slots generation used to b c aside = record {
   elsewhere = aside.elsewhere;
   closed = aside.closed;
   others = aside.others;
-  log = λ image batches long holds. record {
+  log = λ v image batches long holds. record {
     generation_fits = holds.generation_fits;
     fits = holds.fits;
-    held = held_before vars used (bytes_from used slots) b c aside.elsewhere generation 0 image.count batches (omega (arith, long)) holds.held;
+    held = held_before vars used (bytes_from used slots) b c aside.elsewhere v generation 0 image.count batches (omega (arith, long)) holds.held;
     behind = λ k above below. stale_too k (omega (arith, long, above)) below (holds.behind k above below);
     within = holds.within;
   };

@@ -1,30 +1,30 @@
 -- The batch of one slot, and what it makes of a state.
-use Rattle.std.proofs.Common.{◌≡◌, inl, inr, ℕ, ℤ, ◌+◌, ◌-◌, ◌<◌, ◌≤◌, ◌^◌, true, nat_eq, nat_lt, List, ◌++◌, length, take, drop, get_or, sym, ◌∙◌, ap, subst, arith, length-drop}
+use Rattle.std.proofs.Common.{◌≡◌, inl, inr, ℕ, ℤ, ◌+◌, ◌-◌, ◌<◌, ◌≤◌, ◌^◌, true, nat_eq, nat_lt, List, [], ◌∷◌, ◌++◌, length, take, drop, get_or, sym, ◌∙◌, ap, subst, arith, length-drop}
 use Rattle.std.specs.Prelude.{All}
 use Rattle.std.proofs.lemmas.Bool.Decides.{nat_tests}
-use Rattle.std.proofs.lemmas.List.{take-append-drop, take-take, take_at, take_all, take_more}
+use Rattle.std.proofs.lemmas.List.{take-take, take_at, take_all, take_more}
 use Rattle.tmem_gate.specs.Gate.{IsOpenAt, HasBody, IsOpenOver}
 use Rattle.tmem_record.specs.Spelling.{number_bytes, batch_bytes, SpellsBatch}
 use Rattle.tmem_record.specs.State.{State, apply, fold}
 use Rattle.tmem_record.specs.declared.effect.Effect.{Effect}
-use Rattle.tmem_record.proofs.Laws.{fold-append, fold-push, count-fold, length-names-fold-le, length-number_bytes}
-use Rattle.tmem_redolog.specs.Log.{IsStale, IsWithin}
+use Rattle.tmem_record.specs.declared.version.Version.{Version}
+use Rattle.tmem_record.proofs.Laws.{fold-push, StaysWithin-first, StaysWithin-push, StaysWithin-at, length-number_bytes}
+use Rattle.tmem_redolog.specs.Log.{IsStale, IsWithin, StaysWithin}
 use Rattle.tmem_redolog.specs.Scans.{MayReplay}
 use Rattle.tmem_redolog.proofs.OneLog.{begins, one_number, spells, one_batch}
-
--- effects take no state back within the limits
-pub within_before : (s : State) (es : List Effect) → IsWithin (fold s es) → IsWithin s
-within_before s es within = record { count = omega (arith, count-fold s es, within.count); names = omega (arith, length-names-fold-le s es, within.names) }
 
 -- one effect after another
 module _ (s : State) (es : List Effect) (k : ℕ) (e : Effect) (below : k < length es) (is : e ≡ get_or es k e) where
   pub fold_next : fold s (take (k + 1) es) ≡ apply (fold s (take k es)) e
   fold_next = ap (fold s) (take_more es k e below) ∙ fold-push s (take k es) (get_or es k e) ∙ ap (apply (fold s (take k es))) (sym is)
 
-  pub within_next : IsWithin (fold s es) → IsWithin (apply (fold s (take k es)) e)
-  within_next within =
-      let whole : fold s es ≡ fold (fold s (take (k + 1) es)) (drop (k + 1) es) = ap (fold s) (sym (take-append-drop (k + 1) es)) ∙ fold-append s (take (k + 1) es) (drop (k + 1) es) in
-      subst IsWithin fold_next (within_before (fold s (take (k + 1) es)) (drop (k + 1) es) (subst IsWithin whole within))
+  pub within_next : StaysWithin s es → IsWithin (apply (fold s (take k es)) e)
+  within_next within = subst IsWithin fold_next (StaysWithin-at s es (k + 1) within)
+
+  -- and one more that stays within the limits
+  pub stays_next : StaysWithin s (take k es) → IsWithin (apply (fold s (take k es)) e) → StaysWithin s (take (k + 1) es)
+  stays_next before within =
+      subst (StaysWithin s) (ap (λ (x : Effect). take k es ++ x ∷ []) is ∙ sym (take_more es k e below)) (StaysWithin-push s (take k es) e before within)
 
   pub of_variables : (n : ℕ) → All (λ (x : Effect). All (λ (w : ℕ × ℤ). w.0 < n) x.writes) es → All (λ (w : ℕ × ℤ). w.0 < n) e.writes
   of_variables n all = subst (λ (x : Effect). All (λ (w : ℕ × ℤ). w.0 < n) x.writes) (sym is) (all k e below)
@@ -72,18 +72,18 @@ module _ (slot : List ℕ) (x generation : ℕ) (fits_x : x < 2 ^ 64) (fits : ge
 all_behind : (slot : List ℕ) → take (length slot - 1) (drop 1 slot) ≡ drop 1 slot
 all_behind slot = take_all (length slot - 1) (drop 1 slot) (omega (arith, length-drop 1 slot))
 
-pub from_all : (vars g f n : ℕ) (es : List Effect) (slot : List ℕ) → SpellsBatch vars g f es (take n (take (length slot - 1) (drop 1 slot))) → SpellsBatch vars g f es (take n (drop 1 slot))
-from_all vars g f n es slot = subst (λ (l : List ℕ). SpellsBatch vars g f es (take n l)) (all_behind slot)
+pub from_all : (v : Version) (vars g f n : ℕ) (es : List Effect) (slot : List ℕ) → SpellsBatch v vars g f es (take n (take (length slot - 1) (drop 1 slot))) → SpellsBatch v vars g f es (take n (drop 1 slot))
+from_all v vars g f n es slot = subst (λ (l : List ℕ). SpellsBatch v vars g f es (take n l)) (all_behind slot)
 
-pub to_all : (vars g f n : ℕ) (es : List Effect) (slot : List ℕ) → SpellsBatch vars g f es (take n (drop 1 slot)) → SpellsBatch vars g f es (take n (take (length slot - 1) (drop 1 slot)))
-to_all vars g f n es slot = subst (λ (l : List ℕ). SpellsBatch vars g f es (take n l)) (sym (all_behind slot))
+pub to_all : (v : Version) (vars g f n : ℕ) (es : List Effect) (slot : List ℕ) → SpellsBatch v vars g f es (take n (drop 1 slot)) → SpellsBatch v vars g f es (take n (take (length slot - 1) (drop 1 slot)))
+to_all v vars g f n es slot = subst (λ (l : List ℕ). SpellsBatch v vars g f es (take n l)) (sym (all_behind slot))
 
 -- a batch that a slot may replay is spelled behind its gate
-pub spelled_in : (vars generation : ℕ) (s : State) (slot : List ℕ) (es : List Effect) → generation < 2 ^ 64 → MayReplay vars generation s slot es → SpellsBatch vars generation s.count es (take (length (batch_bytes generation s.count es)) (drop 1 slot))
-spelled_in vars generation s slot es fits may =
-    spells vars generation s.count es (drop 1 slot) fits (omega (arith, count-fold s es, may.within.count)) may.batch (begins 0 (batch_bytes generation s.count es) slot may.cell)
+pub spelled_in : (v : Version) (vars generation : ℕ) (s : State) (slot : List ℕ) (es : List Effect) → generation < 2 ^ 64 → MayReplay v vars generation s slot es → SpellsBatch v vars generation s.count es (take (length (batch_bytes v generation s.count es)) (drop 1 slot))
+spelled_in v vars generation s slot es fits may =
+    spells v vars generation s.count es (drop 1 slot) fits (StaysWithin-first s es may.within).count may.batch (begins 0 (batch_bytes v generation s.count es) slot may.cell)
 
 -- the batch that was read is the one that the slot may replay
-module _ (vars generation : ℕ) (few : vars ≤ 2 ^ 16) (fits : generation < 2 ^ 64) (s : State) (slot : List ℕ) (g f n : ℕ) (es : List Effect) (read : SpellsBatch vars g f es (take n (drop 1 slot))) where
-  pub same_batch : (fs : List Effect) → MayReplay vars generation s slot fs → (g ≡ generation) × (f ≡ s.count) × (es ≡ fs)
-  same_batch fs may = one_batch vars g generation f s.count n (length (batch_bytes generation s.count fs)) es fs (drop 1 slot) few read (spelled_in vars generation s slot fs fits may)
+module _ (v : Version) (vars generation : ℕ) (few : vars ≤ 2 ^ 16) (fits : generation < 2 ^ 64) (s : State) (slot : List ℕ) (g f n : ℕ) (es : List Effect) (read : SpellsBatch v vars g f es (take n (drop 1 slot))) where
+  pub same_batch : (fs : List Effect) → MayReplay v vars generation s slot fs → (g ≡ generation) × (f ≡ s.count) × (es ≡ fs)
+  same_batch fs may = one_batch v vars g generation f s.count n (length (batch_bytes v generation s.count fs)) es fs (drop 1 slot) few read (spelled_in v vars generation s slot fs fits may)

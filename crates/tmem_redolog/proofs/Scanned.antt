@@ -7,13 +7,14 @@ use Rattle.tmem_record.specs.Layout.{slot_place}
 use Rattle.tmem_record.specs.Spelling.{number_bytes, batch_bytes}
 use Rattle.tmem_record.specs.State.{State, fold}
 use Rattle.tmem_record.specs.declared.effect.Effect.{Effect}
-use Rattle.tmem_record.proofs.Laws.{length-number_bytes}
-use Rattle.tmem_redolog.specs.Log.{HoldsBatch, HoldsLog, IsStale, IsWithin}
+use Rattle.tmem_record.specs.declared.version.Version.{Version}
+use Rattle.tmem_record.proofs.Laws.{StaysWithin-first, length-number_bytes}
+use Rattle.tmem_redolog.specs.Log.{HoldsBatch, HoldsLog, StaysWithin, IsStale, IsWithin}
 use Rattle.tmem_disk.specs.declared.fault.Fault.{Fault}
 use Rattle.tmem_disk.specs.declared.fault.Fault.TheVariants as fault
 use Rattle.tmem_redolog.specs.Scans.{IsWhyNone, FindsLog, IsLogOf, slot_bytes, HoldsFrom, Rests, Reached, Replays, MayReplay}
 use Rattle.tmem_redolog.proofs.Logs.{length-batch_bytes-le}
-use Rattle.tmem_redolog.proofs.OneLog.{begins, generation_first, not_stale, not_stale_number, one_batch, spells, first_spelled, from_first, to_log, behind_one, one_more, count-le, names-le}
+use Rattle.tmem_redolog.proofs.OneLog.{begins, generation_first, not_stale, not_stale_number, one_batch, spells, first_spelled, from_first, to_log, behind_one, one_more}
 
 -- a part of a part
 pub part_of : (c : List ℕ) (a n x m : ℕ) → x + m ≤ n → slice_range (slice_range c a (a + n)) x (x + m) ≡ slice_range c (a + x) (a + x + m)
@@ -70,8 +71,8 @@ module _ (vars slots : ℕ) (log c : List ℕ) (is : IsLogOf vars slots log c) (
   stale_in_content generation (inr it) = inr (it.0, it.1, in_content (number_bytes 8 it.0) (few_bytes it.0) it.2)
 
 -- nothing is replayed yet
-pub reached_first : (vars slots generation : ℕ) (image : State) (c : List ℕ) → Reached vars slots generation image 0 image c
-reached_first vars slots generation image c = record {
+pub reached_first : (v : Version) (vars slots generation : ℕ) (image : State) (c : List ℕ) → Reached v vars slots generation image 0 image c
+reached_first v vars slots generation image c = record {
   whole = λ rest holds. record { batches = rest; holds = holds; long = none (length rest); state = refl };
   rest = λ batches holds. record { rest = batches; holds = holds };
 }
@@ -79,12 +80,12 @@ reached_first vars slots generation image c = record {
     none : (n : ℕ) → n ≡ 0 + n
     none n = omega arith
 
-module _ (vars slots generation : ℕ) (few : vars ≤ 2 ^ 16) (fits : generation < 2 ^ 64) (image : State) (c : List ℕ) where
+module _ (v : Version) (vars slots generation : ℕ) (few : vars ≤ 2 ^ 16) (fits : generation < 2 ^ 64) (image : State) (c : List ℕ) where
   -- one batch more
-  pub reached_next : (slot : ℕ) (s : State) (es : List Effect) → slot < slots → s.count < 2 ^ 64 → HoldsBatch vars generation slot s.count es c → Reached vars slots generation image slot s c → Reached vars slots generation image (slot + 1) (fold s es) c
-  reached_next slot s es below fits_s held before = record {
+  pub reached_next : (slot : ℕ) (s : State) (es : List Effect) → slot < slots → StaysWithin s es → HoldsBatch v vars generation slot s.count es c → Reached v vars slots generation image slot s c → Reached v vars slots generation image (slot + 1) (fold s es) c
+  reached_next slot s es below stays held before = record {
     whole = λ rest holds.
-        let joined = before.whole (es ∷ rest) (one_more vars slots generation slot s es rest c held holds) in
+        let joined = before.whole (es ∷ rest) (one_more v vars slots generation slot s es rest c held stays holds) in
         record { batches = joined.batches; holds = joined.holds; long = joined.long ∙ longer (length rest); state = joined.state };
     rest = λ batches holds. let left = before.rest batches holds in next left.rest left.holds;
   }
@@ -92,57 +93,57 @@ module _ (vars slots generation : ℕ) (few : vars ≤ 2 ^ 16) (fits : generatio
       longer : (n : ℕ) → slot + suc n ≡ slot + 1 + n
       longer n = omega arith
 
-      next : (rest : List (List Effect)) → HoldsFrom vars slots generation slot s rest c → Rests vars slots generation (slot + 1) (fold s es) c
-      next [] holds = absurd (not_stale generation s.count (slot_place vars slot) es c fits held.cell (holds.behind slot (omega arith) below))
+      next : (rest : List (List Effect)) → HoldsFrom v vars slots generation slot s rest c → Rests v vars slots generation (slot + 1) (fold s es) c
+      next [] holds = absurd (not_stale v generation s.count (slot_place vars slot) es c fits held.cell (holds.behind slot (omega arith) below))
       next (fs ∷ rest) holds =
           let bytes = drop (slot_place vars slot + 1) c in
-          let mine = spells vars generation s.count es bytes fits fits_s held.batch (begins (slot_place vars slot) (batch_bytes generation s.count es) c held.cell) in
-          let same = (one_batch vars generation generation s.count s.count (length (batch_bytes generation s.count fs)) (length (batch_bytes generation s.count es)) fs es bytes few (first_spelled vars slots generation few fits c slot s fs rest holds) mine).2 in
-          record { rest = rest; holds = subst (λ (gs : List Effect). HoldsFrom vars slots generation (slot + 1) (fold s gs) rest c) same (behind_one vars slots generation slot s fs rest c holds) }
+          let mine = spells v vars generation s.count es bytes fits (StaysWithin-first s es stays).count held.batch (begins (slot_place vars slot) (batch_bytes v generation s.count es) c held.cell) in
+          let same = (one_batch v vars generation generation s.count s.count (length (batch_bytes v generation s.count fs)) (length (batch_bytes v generation s.count es)) fs es bytes few (first_spelled v vars slots generation few fits c slot s fs rest holds) mine).2 in
+          record { rest = rest; holds = subst (λ (gs : List Effect). HoldsFrom v vars slots generation (slot + 1) (fold s gs) rest c) same (behind_one v vars slots generation slot s fs rest c holds) }
 
   module _ (log : List ℕ) (is : IsLogOf vars slots log c) where
     -- a slot that was replayed
-    pub reached_by : (slot : ℕ) (s t : State) → slot < slots → s.count < 2 ^ 64 → Replays vars generation s (slot_bytes log slot) t → Reached vars slots generation image slot s c → Reached vars slots generation image (slot + 1) t c
-    reached_by slot s t below fits_s replays before =
-        let cell = in_content vars slots log c is slot below (batch_bytes generation s.count replays.es) (length-batch_bytes-le vars generation s.count replays.es replays.batch) replays.cell in
-        subst (λ (u : State). Reached vars slots generation image (slot + 1) u c) replays.state (reached_next slot s replays.es below fits_s (record { batch = replays.batch; cell = cell }) before)
+    pub reached_by : (slot : ℕ) (s t : State) → slot < slots → Replays v vars generation s (slot_bytes log slot) t → Reached v vars slots generation image slot s c → Reached v vars slots generation image (slot + 1) t c
+    reached_by slot s t below replays before =
+        let cell = in_content vars slots log c is slot below (batch_bytes v generation s.count replays.es) (length-batch_bytes-le v vars generation s.count replays.es replays.batch) replays.cell in
+        subst (λ (u : State). Reached v vars slots generation image (slot + 1) u c) replays.state (reached_next slot s replays.es below replays.within (record { batch = replays.batch; cell = cell }) before)
 
     -- where an open slot of the generation cannot be replayed, there is no log
-    pub none_replayed : (slot : ℕ) (s : State) → slot < slots → IsOpenOver 0 (number_bytes 8 generation) (slot_bytes log slot) → ((es : List Effect) → MayReplay vars generation s (slot_bytes log slot) es → ⊥) → Reached vars slots generation image slot s c
-        → (batches : List (List Effect)) → HoldsFrom vars slots generation 0 image batches c → ⊥
+    pub none_replayed : (slot : ℕ) (s : State) → slot < slots → IsOpenOver 0 (number_bytes 8 generation) (slot_bytes log slot) → ((es : List Effect) → MayReplay v vars generation s (slot_bytes log slot) es → ⊥) → Reached v vars slots generation image slot s c
+        → (batches : List (List Effect)) → HoldsFrom v vars slots generation 0 image batches c → ⊥
     none_replayed slot s below carries none before batches holds = let left = before.rest batches holds in by_rest left.rest left.holds
       where
-        by_rest : (rest : List (List Effect)) → HoldsFrom vars slots generation slot s rest c → ⊥
+        by_rest : (rest : List (List Effect)) → HoldsFrom v vars slots generation slot s rest c → ⊥
         by_rest [] left =
             let cell = in_content vars slots log c is slot below (number_bytes 8 generation) (omega (arith, length-number_bytes 8 generation)) carries in
             not_stale_number generation (slot_place vars slot) c fits cell (left.behind slot (omega arith) below)
         by_rest (es ∷ rest) left = none es (record {
           batch = left.held.0.batch;
-          cell = in_slot vars slots log c is slot below (batch_bytes generation s.count es) (length-batch_bytes-le vars generation s.count es left.held.0.batch) left.held.0.cell;
-          within = record { count = omega (arith, count-le (fold s es) rest, left.within.count); names = omega (arith, names-le (fold s es) rest, left.within.names) };
+          cell = in_slot vars slots log c is slot below (batch_bytes v generation s.count es) (length-batch_bytes-le v vars generation s.count es left.held.0.batch) left.held.0.cell;
+          within = left.within.0;
         })
 
     -- behind the last slot of the generation there is no batch
     module _ (used : ℕ) (s : State) (few_used : used ≤ slots) (ends : used < slots → IsOpenOver 0 (number_bytes 8 generation) (slot_bytes log used) → ⊥) where
-      no_batch : (rest : List (List Effect)) → HoldsFrom vars slots generation used s rest c → rest ≡ []
+      no_batch : (rest : List (List Effect)) → HoldsFrom v vars slots generation used s rest c → rest ≡ []
       no_batch [] holds = refl
       no_batch (es ∷ rest) holds =
           let below : used < slots = omega (arith, holds.fits) in
-          let cell = in_slot vars slots log c is used below (batch_bytes generation s.count es) (length-batch_bytes-le vars generation s.count es holds.held.0.batch) holds.held.0.cell in
+          let cell = in_slot vars slots log c is used below (batch_bytes v generation s.count es) (length-batch_bytes-le v vars generation s.count es holds.held.0.batch) holds.held.0.cell in
           absurd (ends below (carried cell))
         where
-          carried : IsOpenOver 0 (batch_bytes generation s.count es) (slot_bytes log used) → IsOpenOver 0 (number_bytes 8 generation) (slot_bytes log used)
+          carried : IsOpenOver 0 (batch_bytes v generation s.count es) (slot_bytes log used) → IsOpenOver 0 (number_bytes 8 generation) (slot_bytes log used)
           carried cell =
               let n : 0 + 1 + length (number_bytes 8 generation) - (0 + 1) ≡ length (number_bytes 8 generation) = omega arith in
               record {
                 gate = cell.gate;
-                body = ap (λ (m : ℕ). take m (drop 1 (slot_bytes log used))) n ∙ generation_first generation s.count es (drop 1 (slot_bytes log used)) (begins 0 (batch_bytes generation s.count es) (slot_bytes log used) cell);
+                body = ap (λ (m : ℕ). take m (drop 1 (slot_bytes log used))) n ∙ generation_first v generation s.count es (drop 1 (slot_bytes log used)) (begins 0 (batch_bytes v generation s.count es) (slot_bytes log used) cell);
               }
 
       -- so the log ends there, where each slot behind is stale
-      pub log_found : Reached vars slots generation image used s c → IsWithin s → ((k : ℕ) → used ≤ k → k < slots → IsStale generation 0 (slot_bytes log k)) → FindsLog vars slots generation image used s c
+      pub log_found : Reached v vars slots generation image used s c → IsWithin s → ((k : ℕ) → used ≤ k → k < slots → IsStale generation 0 (slot_bytes log k)) → FindsLog v vars slots generation image used s c
       log_found before within stale =
-          let ended : HoldsFrom vars slots generation used s [] c = record {
+          let ended : HoldsFrom v vars slots generation used s [] c = record {
             fits = omega (arith, few_used);
             held = tt;
             behind = λ k above below. stale_in_content vars slots log c is k below generation (stale k (omega (arith, above)) below);
@@ -155,7 +156,7 @@ module _ (vars slots generation : ℕ) (few : vars ≤ 2 ^ 16) (fits : generatio
           none = omega arith
 
       -- and there is none where one is not
-      pub no_log : Reached vars slots generation image used s c → (batches : List (List Effect)) → HoldsLog vars slots generation image batches c → (k : ℕ) → used ≤ k → k < slots → IsStale generation 0 (slot_bytes log k)
+      pub no_log : Reached v vars slots generation image used s c → (batches : List (List Effect)) → HoldsLog v vars slots generation image batches c → (k : ℕ) → used ≤ k → k < slots → IsStale generation 0 (slot_bytes log k)
       no_log before batches holds k above below =
           let left = before.rest batches (from_first holds) in
           let empty : length left.rest ≡ 0 = ap length (no_batch left.rest left.holds) in

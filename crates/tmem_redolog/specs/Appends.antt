@@ -1,21 +1,22 @@
 -- What appending a batch makes of a log.
-use Rattle.std.specs.Prelude.{◌≡◌, ◌⊎◌, ◌≤◌, ℕ, List, [], ◌∷◌, ◌++◌, length}
+use Rattle.std.specs.Prelude.{◌≡◌, ◌⊎◌, ℕ, List, [], ◌∷◌, ◌++◌, length}
 use Rattle.tmem_disk.specs.Disk.{SameOutside}
 use Rattle.tmem_disk.specs.declared.fault.Fault.{Fault}
 use Rattle.tmem_disk.specs.declared.fault.Fault.TheVariants.{Device, Unknown, LogFull}
 use Rattle.tmem_record.specs.Layout.{slot_place}
-use Rattle.tmem_record.specs.State.{State, fold}
+use Rattle.tmem_record.specs.State.{State}
 use Rattle.tmem_record.specs.declared.effect.Effect.{Effect}
-use Rattle.tmem_redolog.specs.Log.{HoldsLog, replayed}
+use Rattle.tmem_redolog.specs.Log.{HoldsLog, StaysWithin, replayed}
 use Rattle.tmem_redolog.specs.declared.log.Log.{Log}
 use Rattle.tmem_record.specs.declared.layout.Layout.{Layout}
+use Rattle.tmem_record.specs.declared.version.Version.TheVariants.{Two}
 
--- a batch with this first number may go into that slot next: the log ends there, its last state has that count, and there
--- is room for the names of the batch
+-- a batch with this first number may go into that slot next: the log ends there, its last state has that count, and that
+-- state stays within the limits, record by record
 pub record FollowsOn (slot first : ℕ) (es : List Effect) (image : State) (batches : List (List Effect)) : Type 0 where
   pub used : length batches ≡ slot
   pub number : (replayed image batches).count ≡ first
-  pub room : length (fold (replayed image batches) es).names ≤ 64
+  pub room : StaysWithin (replayed image batches) es
 
 -- Which batch goes where: over so many variables and slots, of this generation, into this slot, with this first number.
 pub record Placed : Type 0 where
@@ -30,15 +31,15 @@ pub record Placed : Type 0 where
 abbrev pub placed : Layout → Log → ℕ → List Effect → Placed
 placed layout log first es = record { vars = layout.vars; slots = layout.slots; generation = log.generation; slot = log.used; first = first; batch = es }
 
--- the second content holds each log of the first that the batch follows on, and is the same outside the slot
+-- the second content holds each log of the first, of version 2, that the batch follows on, and is the same outside the slot
 pub record Without (p : Placed) (b c : List ℕ) : Type 0 where
   pub elsewhere : SameOutside (slot_place p.vars p.slot) 4096 b c
-  pub log : (image : State) (batches : List (List Effect)) → FollowsOn p.slot p.first p.batch image batches → HoldsLog p.vars p.slots p.generation image batches b → HoldsLog p.vars p.slots p.generation image batches c
+  pub log : (image : State) (batches : List (List Effect)) → FollowsOn p.slot p.first p.batch image batches → HoldsLog Two p.vars p.slots p.generation image batches b → HoldsLog Two p.vars p.slots p.generation image batches c
 
 -- the second content holds each such log with the batch last, and is the same outside the slot
 pub record With (p : Placed) (b c : List ℕ) : Type 0 where
   pub elsewhere : SameOutside (slot_place p.vars p.slot) 4096 b c
-  pub log : (image : State) (batches : List (List Effect)) → FollowsOn p.slot p.first p.batch image batches → HoldsLog p.vars p.slots p.generation image batches b → HoldsLog p.vars p.slots p.generation image (batches ++ p.batch ∷ []) c
+  pub log : (image : State) (batches : List (List Effect)) → FollowsOn p.slot p.first p.batch image batches → HoldsLog Two p.vars p.slots p.generation image batches b → HoldsLog Two p.vars p.slots p.generation image (batches ++ p.batch ∷ []) c
 
 -- what an append is refused by
 abbrev pub IsAppendFault : Fault → Type 0

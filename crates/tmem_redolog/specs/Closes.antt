@@ -6,6 +6,7 @@ use Rattle.tmem_gate.specs.Gate.{IsOpenAt, IsClosed}
 use Rattle.tmem_record.specs.Layout.{slot_place}
 use Rattle.tmem_record.specs.State.{State}
 use Rattle.tmem_record.specs.declared.effect.Effect.{Effect}
+use Rattle.tmem_record.specs.declared.version.Version.{Version}
 use Rattle.tmem_redolog.specs.Log.{HoldsLog}
 use Rattle.tmem_redolog.specs.declared.log.Log.{Log}
 
@@ -17,13 +18,14 @@ bytes_from slot slots = 4096 * (slots - slot)
 abbrev pub IsNoOpenGate : ℕ → ℕ → ℕ → List ℕ → ℕ → Type 0
 IsNoOpenGate vars slots used c i = (k : ℕ) → used ≤ k → k < slots → IsOpenAt (slot_place vars k) c → i ≢ slot_place vars k
 
--- the second content holds each log of the first that ends before a slot, has each slot from there on closed that the
--- first has closed, and is the same in front of those slots and behind them, and in them but for their open gates
+-- the second content holds each log of the first that ends before a slot, whatever its version, has each slot from there on
+-- closed that the first has closed, and is the same in front of those slots and behind them, and in them but for their open
+-- gates
 pub record Keeps (vars slots generation used : ℕ) (b c : List ℕ) : Type 0 where
   pub elsewhere : SameOutside (slot_place vars used) (bytes_from used slots) b c
   pub closed : (k : ℕ) → used ≤ k → k < slots → IsClosed (slot_place vars k) b → IsClosed (slot_place vars k) c
   pub others : (i : ℕ) → IsNoOpenGate vars slots used b i → slice_get c i ≡ slice_get b i
-  pub log : (image : State) (batches : List (List Effect)) → length batches ≡ used → HoldsLog vars slots generation image batches b → HoldsLog vars slots generation image batches c
+  pub log : (v : Version) (image : State) (batches : List (List Effect)) → length batches ≡ used → HoldsLog v vars slots generation image batches b → HoldsLog v vars slots generation image batches c
 
 -- the gates of the slots from one to another read closed
 abbrev pub ReadClosed : ℕ → ℕ → ℕ → DeviceView → Type 0

@@ -1,5 +1,5 @@
 // One batch more.
-ghost use Rattle.std.specs.Prelude.{Some, ◌≡◌, ◌↔◌, ◌<◌, ◌≤◌, ◌+◌, ◌^◌, ℕ, length, OnOk, OnErr, IfErr, IfSome, IsErrOf};
+ghost use Rattle.std.specs.Prelude.{Some, ◌≡◌, ◌↔◌, ◌<◌, ◌≤◌, ◌+◌, ℕ, length, OnOk, OnErr, IfErr, IfSome, IsErrOf};
 ghost use Rattle.tmem_disk.specs.Disk.{SameSeenOutside, IsSynced, IsWriteOrSync};
 ghost use Rattle.tmem_gate.specs.Calls.{Uses};
 ghost use Rattle.tmem_gate.specs.Changes.{Puts, outcome_of};
@@ -7,6 +7,7 @@ ghost use Rattle.tmem_gate.specs.Gate.{StandsClosed, HasBody};
 ghost use Rattle.tmem_record.specs.Batch.{IsBatch};
 ghost use Rattle.tmem_record.specs.Layout.{slot_place, end_place};
 ghost use Rattle.tmem_record.specs.Spelling.{batch_bytes};
+ghost use Rattle.tmem_record.specs.declared.version.Version.TheVariants.{Two};
 ghost use Rattle.tmem_redolog.specs.Appends.{placed, Without, With, IsAppendFault};
 
 use crate::log::Log;
@@ -14,11 +15,11 @@ use tmem_disk::{DeviceFault, Disk, Fault};
 use tmem_gate::put_cell;
 use tmem_record::{BATCH_ROOM, Batch, Layout, SLOT_SIZE, encode_batch};
 
-/// Puts a batch last in the log, into the first slot behind it, whose gate stands closed. `LogFull` where every slot is
-/// used; nothing changes then. `Device` where the write of the batch failed: no crash leaves it in the log. `Unknown` where
-/// a sync or the write of the gate failed: a crash leaves it in the log or not. After a refusal the log's numbers stay.
-/// Nothing outside the slot is written. The buffer has `BATCH_ROOM` bytes or more. The batch is spelled there; afterwards it
-/// may hold anything.
+/// Puts a batch last in the log over an image of version 2, into the first slot behind it, whose gate stands closed.
+/// `LogFull` where every slot is used; nothing changes then. `Device` where the write of the batch failed: no crash leaves it
+/// in the log. `Unknown` where a sync or the write of the gate failed: a crash leaves it in the log or not. After a refusal
+/// the log's numbers stay. Nothing outside the slot is written. The buffer has `BATCH_ROOM` bytes or more. The batch is
+/// spelled there; afterwards it may hold anything.
 pub fn append<D: Disk>(
     disk: &mut D,
     layout: Layout,
@@ -31,7 +32,6 @@ pub fn append<D: Disk>(
     requires used { log.old.used ≤ layout.slots }
     requires closed { log.old.used < layout.slots → StandsClosed (slot_place layout.vars log.old.used) (D.view disk.old) }
     requires batch { IsBatch layout.vars batch.now }
-    requires number { first + length batch.now < 2 ^ 64 }
     requires buffer { BATCH_ROOM ≤ length buffer.old }
     ensures uses { Uses (D.view disk.old) (D.view disk.new) result }
     ensures errors { IfErr result IsAppendFault }
@@ -47,7 +47,7 @@ pub fn append<D: Disk>(
         SameSeenOutside (slot_place layout.vars log.old.used + 1) BATCH_ROOM (D.view disk.old) (D.view disk.new) }
     ensures gate_failed { IsErrOf result Fault.Unknown → IfSome (D.view disk.new).last_fault IsWriteOrSync }
     ensures body_written { IsErrOf result Fault.Unknown → (D.view disk.new).keeps_model →
-        HasBody (slot_place layout.vars log.old.used) (batch_bytes log.old.generation first batch.now) (D.view disk.new).seen }
+        HasBody (slot_place layout.vars log.old.used) (batch_bytes Two log.old.generation first batch.now) (D.view disk.new).seen }
 
     // A crash leaves what one might have left before, with the batch or without it in each log that it follows on. Nothing
     // outside the slot changes, and each closed slot behind it stays closed.

@@ -1,16 +1,16 @@
 // The batch of one slot, and what it makes of a state.
-ghost use Rattle.std.specs.Prelude.{◌≡◌, ◌↔◌, ◌<◌, ◌≤◌, ◌^◌, ℕ, List, length, All, IsTrue, OnOk, OnErr, IfErr};
+ghost use Rattle.std.specs.Prelude.{◌≡◌, ◌↔◌, ◌<◌, ◌^◌, ℕ, List, length, All, IsTrue, OnOk, OnErr, IfErr};
 ghost use Rattle.std.specs.Bool.{OnTrue};
 ghost use Rattle.tmem_gate.specs.Gate.{IsOpenAt, HasBody, IsOpenOver};
 ghost use Rattle.tmem_record.specs.Spelling.{number_bytes};
 ghost use Rattle.tmem_record.specs.State.{apply, fold};
 ghost use Rattle.tmem_record.specs.declared.effect.Effect.{Effect as EffectOf};
-ghost use Rattle.tmem_redolog.specs.Log.{IsStale, IsWithin};
+ghost use Rattle.tmem_redolog.specs.Log.{IsStale, IsWithin, StaysWithin};
 ghost use Rattle.tmem_redolog.specs.Scans.{Replays, MayReplay};
 
 use tmem_disk::Fault;
 use tmem_gate::GATE_OPEN;
-use tmem_record::{Batch, Effect, HEAD_BYTES, State, read_batch, read_head};
+use tmem_record::{Effect, HEAD_BYTES, Records, State, Version, read_batch, read_head};
 
 // Whether the gate of a slot is open.
 fn is_open(slot: &[u8]) -> bool
@@ -47,40 +47,44 @@ pub(crate) fn is_stale(slot: &[u8], generation: u64) -> bool
     !is_open(slot) || generation_in(slot) < generation
 }
 
-/// Replays the batch that an open slot begins with: it has this generation, and its first number is the count of the
-/// state. The batch is read into the one that is lent, which may hold anything before and after. `Damaged` where there is
-/// none, or where its effects take the state past the limits: the one refusal. After it the state is of no use.
+/// Replays the batch that an open slot begins with, in the grammar of this version: it has this generation, and its first
+/// number is the count of the state. Its records are read into those that are lent, which may hold anything before and after.
+/// `Damaged` where there is no batch, or where one of its effects takes the state past the limits, whatever a later one
+/// does: the one refusal. After it the state is of no use.
 pub(crate) fn replay_slot(
     slot: &[u8],
     vars: u16,
     generation: u64,
-    batch: &mut Batch,
+    version: Version,
+    records: &mut Records,
     state: &mut State,
 ) -> Result<(), Fault>
     requires long { length slot.now ≡ 4096 }
     requires open { IsOpenAt 0 slot.now }
     requires sized { length state.old.values ≡ vars }
+    requires within { IsWithin state.old }
     ensures errors { IfErr result (λ f. f ≡ Fault.Damaged) }
-    ensures replayed { OnOk result (Replays vars generation state.old slot.now state.new) }
-    ensures refused { OnErr result ((es : List EffectOf) → MayReplay vars generation state.old slot.now es → ⊥) }
+    ensures replayed { OnOk result (Replays version vars generation state.old slot.now state.new) }
+    ensures refused { OnErr result ((es : List EffectOf) → MayReplay version vars generation state.old slot.now es → ⊥) }
 {
-    let Some(head) = read_batch(&slot[1..], vars, batch) else {
+    let Some(head) = read_batch(&slot[1..], vars, version, records) else {
         return Err(Fault::Damaged);
     };
     if head.generation != generation || head.first != state.count() {
         return Err(Fault::Damaged);
     }
-    if !accept_all(state, batch.effects()) {
+    if !accept_all(state, records.effects()) {
         return Err(Fault::Damaged);
     }
     Ok(())
 }
 
-// Accepts effects one after another, as long as the state stays within the limits, and answers whether it took all.
+// Accepts effects one after another, as long as the state stays within the limits, and answers whether it took all. The
+// limits hold after each effect: a name too many is not mended by a later effect that retires one.
 fn accept_all(state: &mut State, effects: &[Effect]) -> bool
-    requires some { 1 ≤ length effects.now }
-    requires within { All (λ e. All (λ w. w.0 < length state.old.values) e.writes) effects.now }
-    ensures accepted { IsTrue result ↔ IsWithin (fold state.old effects.now) }
+    requires variables { All (λ e. All (λ w. w.0 < length state.old.values) e.writes) effects.now }
+    requires within { IsWithin state.old }
+    ensures accepted { IsTrue result ↔ StaysWithin state.old effects.now }
     ensures state { OnTrue result (state.new ≡ fold state.old effects.now) }
 {
     for effect in effects {
@@ -97,7 +101,7 @@ fn accept_one(state: &mut State, effect: &Effect) -> bool
     ensures accepted { IsTrue result ↔ IsWithin (apply state.old effect.now) }
     ensures state { OnTrue result (state.new ≡ apply state.old effect.now) }
 {
-    if state.count() == u64::MAX || !state.has_room_for(effect.names.as_slice()) {
+    if state.count() == u64::MAX || !state.has_room_for(effect) {
         return false;
     }
     state.accept(effect);

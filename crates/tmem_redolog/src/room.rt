@@ -3,23 +3,23 @@ ghost use Rattle.std.specs.Prelude.{IfOk};
 ghost use Rattle.tmem_redolog.specs.Room.{IsLogRoom};
 
 use std::alloc::{AllocError, Global};
-use tmem_record::{Batch, Layout, SLOT_SIZE};
+use tmem_record::{Layout, Records, SLOT_SIZE};
 
 /// Memory for a log that is read, all of it: so reading takes none.
 #[derive(Drop)]
 pub struct LogRoom {
     pub(crate) bytes: Vec<u8>,
-    pub(crate) batch: Batch,
+    pub(crate) records: Records,
 }
 
 impl LogRoom {
-    /// Room for the log of this layout: for the bytes of all its slots, and for one batch, into which each slot is read in
-    /// turn.
+    /// Room for the log of this layout: for the bytes of all its slots, and for the records of one batch, into which each slot
+    /// is read in turn.
     pub fn new(alloc: Global, layout: Layout) -> Result<LogRoom, AllocError>
         ensures { IfOk result (IsLogRoom layout.slots) }
     {
         let bytes = vec![in alloc; 0; SLOT_SIZE * layout.slots as usize]?;
-        let batch = Batch::new(alloc)?;
-        Ok(LogRoom { bytes, batch })
+        let records = Records::new(alloc)?;
+        Ok(LogRoom { bytes, records })
     }
 }

@@ -14,17 +14,19 @@ use crate::replay::{carries, is_stale, replay_slot};
 use crate::room::LogRoom;
 use tmem_disk::{Disk, Fault};
 use tmem_gate::device::read_piece;
-use tmem_record::{Batch, Layout, SLOT_SIZE, State};
+use tmem_record::{Layout, Records, SLOT_SIZE, State, Version};
 
-/// Reads the log over an image of this generation, and brings the image's state to the state after it. The log is read in
-/// one piece, into the room that is given. `Damaged` where the device holds no log over that image; and `Device` where the
-/// read failed. After a refusal the state is of no use. It takes no memory.
+/// Reads the log over an image of this generation and version, and brings the image's state to the state after it. The log is
+/// read in one piece, into the room that is given, and in the grammar of the image's version. `Damaged` where the device
+/// holds no log over that image; and `Device` where the read failed. After a refusal the state is of no use. It takes no
+/// memory.
 pub fn scan<D: Disk>(
     disk: &mut D,
     layout: Layout,
     generation: u64,
     state: &mut State,
     room: LogRoom,
+    version: Version,
 ) -> Result<Log, Fault>
     requires fits { end_place layout.vars layout.slots ≤ (D.view disk.old).capacity }
     requires sized { length state.old.values ≡ layout.vars }
@@ -35,14 +37,14 @@ pub fn scan<D: Disk>(
     ensures few { IfOk result (λ log. log.used ≤ layout.slots) }
     ensures sized { OnOk result (length state.new.values ≡ layout.vars) }
     ensures found { (D.view disk.new).keeps_model →
-        IfOk result (λ log. FindsLog layout.vars layout.slots generation state.old log.used state.new (D.view disk.old).seen) }
+        IfOk result (λ log. FindsLog version layout.vars layout.slots generation state.old log.used state.new (D.view disk.old).seen) }
     ensures refused { IfErr result (IsWhyNone ((D.view disk.new).keeps_model → (batches : List (List EffectOf)) →
-        HoldsLog layout.vars layout.slots generation state.old batches (D.view disk.old).seen → ⊥)) }
+        HoldsLog version layout.vars layout.slots generation state.old batches (D.view disk.old).seen → ⊥)) }
 {
-    let LogRoom { bytes, mut batch } = room;
+    let LogRoom { bytes, mut records } = room;
     let log = read_piece(disk, layout.slot(0), bytes)?;
     let bytes: &[u8] = &log;
-    let used = replay(bytes, layout, generation, &mut batch, state)?;
+    let used = replay(bytes, layout, generation, version, &mut records, state)?;
     if !are_stale(bytes, used, layout.slots, generation) {
         return Err(Fault::Damaged);
     }
@@ -60,13 +62,14 @@ fn slot_of(log: &[u8], k: u16) -> &[u8]
 }
 
 // Replays the slots from the first one on, as long as they are open and of this generation, and answers how many there
-// are. `Damaged` where one of them cannot be replayed: the one refusal. Each is read in turn into the batch that is lent,
+// are. `Damaged` where one of them cannot be replayed: the one refusal. Each is read in turn into the records that are lent,
 // which may hold anything before and after.
 fn replay(
     log: &[u8],
     layout: Layout,
     generation: u64,
-    batch: &mut Batch,
+    version: Version,
+    records: &mut Records,
     state: &mut State,
 ) -> Result<u16, Fault>
     requires long { length log.now ≡ 4096 * layout.slots }
@@ -76,10 +79,10 @@ fn replay(
     ensures sized { OnOk result (length state.new.values ≡ layout.vars) }
     ensures within { OnOk result (IsWithin state.new) }
     ensures reached { IfOk result (λ used. (c : List ℕ) → IsLogOf layout.vars layout.slots log.now c →
-        Reached layout.vars layout.slots generation state.old used state.new c) }
+        Reached version layout.vars layout.slots generation state.old used state.new c) }
     ensures ends { IfOk result (λ used. used < layout.slots → IsOpenOver 0 (number_bytes 8 generation) (slot_bytes log.now used) → ⊥) }
     ensures refused { OnErr result ((c : List ℕ) → IsLogOf layout.vars layout.slots log.now c → (batches : List (List EffectOf)) →
-        HoldsFrom layout.vars layout.slots generation 0 state.old batches c → ⊥) }
+        HoldsFrom version layout.vars layout.slots generation 0 state.old batches c → ⊥) }
 {
     recall_limits(state);
     for k in 0..layout.slots {
@@ -87,7 +90,7 @@ fn replay(
         if !carries(slot, generation) {
             return Ok(k);
         }
-        replay_slot(slot, layout.vars, generation, batch, state)?;
+        replay_slot(slot, layout.vars, generation, version, records, state)?;
     }
     Ok(layout.slots)
 }

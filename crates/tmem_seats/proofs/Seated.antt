@@ -2,19 +2,20 @@
 use Rattle.std.proofs.Common.{◌≡◌, All, IsTrue, ◌⊎◌, inl, inr, ⊎_elim, ℕ, Result, Ok, ◌+◌, ◌-◌, ◌≤◌, List, [], ◌∷◌, ◌++◌, length, drop, refl, sym, ap, ◌∙◌, subst, arith}
 use Rattle.std.proofs.lemmas.List.{append-nil, length-map, drop-drop, drop-append-le}
 use Rattle.tmem_record.specs.Prefix.{IsPrefix}
-use Rattle.tmem_record.specs.State.{State, fold}
+use Rattle.tmem_record.specs.State.{State, fold, IsWithin, StaysWithin}
 use Rattle.tmem_record.specs.declared.effect.Effect.{Effect}
 use Rattle.tmem_record.proofs.Laws.{fold-append, count-fold, length-values-fold}
 use Rattle.tmem_core.specs.declared.core_state.Core.{Core}
 use Rattle.tmem_core.specs.Held as core
 use Rattle.tmem_core.specs.Held.{view_of, state_of, durable_of, table_of, accepting, knowing}
-use Rattle.tmem_core.specs.Decisions.{taken_by}
+use Rattle.tmem_core.specs.Decisions.{answer_of, taken_by}
 use Rattle.tmem_core.specs.declared.decision.Decision.{Decision}
 use Rattle.tmem_core.specs.declared.decision.Decision.TheVariants.{Committed}
 use Rattle.tmem_disk.specs.declared.fault.Fault.{Fault}
 use Rattle.tmem_tentative.specs.declared.attempt.Attempt.{Attempt}
 use Rattle.tmem_invariants.specs.TableNames.{has_name}
 use Rattle.tmem_core.specs.Program.{Program, IsProgramOf}
+use Rattle.tmem_core.proofs.Laws.{StaysWithin-taken}
 use Rattle.tmem_spine.specs.declared.view.Entry.{Entry}
 use Rattle.tmem_spine.specs.History.{count, entry, unmarked}
 use Rattle.tmem_spine.specs.Views.{CoreView}
@@ -85,6 +86,9 @@ core_settled {T = T} {t = t} start opening p c c' v v' mark n decision a was vie
     let waits : drop (n - start) (unmarked log) ≡ drop (n - v.trimmed) (drop (v.trimmed - start) (unmarked v.accepted)) ++ es =
     ap (λ (l : List Effect). drop (n - start) l) plain
     ∙ (ap (λ (m : ℕ). drop m (unmarked v.accepted ++ es)) (sym k) ∙ drop_more (unmarked v.accepted) es (v.trimmed - start) (n - v.trimmed) (omega arith)) in
+    let limits : IsWithin (state_of c') = record { count = c'.countable; names = c'.registered.few } in
+    let stays : StaysWithin opening (unmarked v.accepted ++ es) =
+    StaysWithin-taken opening (unmarked v.accepted) a.effect (answer_of decision a.registers) was.within (subst IsWithin (state ∙ ap (λ (l : List Effect). fold opening l) plain) limits) in
     subst (IsCoreOf start opening p c') (sym is) record {
       state = state;
       starts = was.starts;
@@ -93,6 +97,7 @@ core_settled {T = T} {t = t} start opening p c c' v v' mark n decision a was vie
           ∙ (ap (λ (m : ℕ). drop (n - m) (drop (v.trimmed - start) (unmarked v.accepted)) ++ es) was.trimmed ∙ sym waits));
       late = omega arith;
       sound = sound_taken p opening v.accepted mark decision a was.sound (subst (IsSoundState p) state (sound_core p c' program));
+      within = subst (StaysWithin opening) (sym plain) stays;
       table = program;
     }
 

@@ -4,7 +4,7 @@ use Rattle.tmem_disk.specs.declared.fault.Fault.{Fault}
 use Rattle.tmem_disk.specs.declared.fault.Fault.TheVariants as fault
 use Rattle.tmem_record.specs.Loggable.{IsLoggable}
 use Rattle.tmem_record.specs.Prefix.{IsPrefix}
-use Rattle.tmem_record.specs.State.{State}
+use Rattle.tmem_record.specs.State.{State, StaysWithin}
 use Rattle.tmem_record.specs.declared.effect.Effect.{Effect}
 use Rattle.tmem_core.specs.Taking.{IsTaken}
 use Rattle.tmem_spine.specs.declared.view.Entry.{Entry}
@@ -14,14 +14,14 @@ use Rattle.tmem_seats.specs.declared.failure.Failure.{Failure}
 use Rattle.tmem_seats.specs.declared.failure.Failure.TheVariants as failure
 
 -- A batch goes on from what is durable to what the journal aims at, and a log takes it: each effect changes something,
--- and the state after them is within the limits of counts and names.
+-- and the state after each of them is within the limits of counts and names.
 pub record GoesOn (start : ℕ) (opening : State) (durable : List Entry) (batch : List Effect) (aimed : List Entry) : Type 0 where
   pub begins : IsPrefix durable aimed
   pub more : unmarked aimed ≡ unmarked durable ++ batch
   pub few : length batch ≤ 64
   pub each : All (IsLoggable (length opening.values)) batch
   pub countable : count start aimed < 2 ^ 64
-  pub room : length (after opening aimed).names ≤ 64
+  pub room : StaysWithin (after opening durable) batch
 
 -- the batch is taken from the oldest of what is accepted and not durable, each next one as long as any other would
 -- still fit

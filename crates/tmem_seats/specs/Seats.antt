@@ -1,6 +1,6 @@
 -- What lies under the core's lock, and what it stands for.
 use Rattle.std.specs.Prelude.{◌≡◌, ◌⊎◌, ℕ, ◌-◌, ◌<◌, ◌≤◌, Bool, true, false, List, drop}
-use Rattle.tmem_record.specs.State.{State}
+use Rattle.tmem_record.specs.State.{State, StaysWithin}
 use Rattle.tmem_core.specs.declared.core_state.Core.{Core}
 use Rattle.tmem_core.specs.Held as core
 use Rattle.tmem_core.specs.Program.{Program, IsProgramOf}
@@ -21,8 +21,8 @@ pub record CoreSeatView : Type 0 where
   pub is_draining : Bool
   pub failure : Failure
 
--- The core's state is what the accepted effects make of the opening state, and is sound after each beginning of them.
--- Those behind the number known durable wait. Its table has the program's invariants.
+-- The core's state is what the accepted effects make of the opening state, and is sound after each beginning of them, and within
+-- the limits of counts and names. Those behind the number known durable wait. Its table has the program's invariants.
 pub record IsCoreOf {T : Type 0} {t : _} (start : ℕ) (opening : State) (program : Program) (c : Core T t) (v : CoreView) : Type 0 where
   pub state : core.state_of c ≡ after opening v.accepted
   pub starts : opening.count ≡ start
@@ -30,6 +30,7 @@ pub record IsCoreOf {T : Type 0} {t : _} (start : ℕ) (opening : State) (progra
   pub waits : core.waiting_of c ≡ drop (v.trimmed - start) (unmarked v.accepted)
   pub late : start ≤ v.trimmed
   pub sound : AreSound program opening v.accepted
+  pub within : StaysWithin opening (unmarked v.accepted)
   pub table : IsProgramOf t (core.table_of c) program
 
 -- more than so many are accepted, or the front is shut

@@ -45,8 +45,6 @@ impl<N: StoreNaming, T: Invariants + Drop> CoreSeat<N, T> {
                     cursor.give(var, value);
                 }
                 Progress::Probe => {
-                    // each name that it checks has a shape
-                    let _shapes = plan.shapes();
                     let held = self.probe(cursor.probe());
                     cursor.answer(held);
                 }

@@ -3,7 +3,7 @@ ghost use Rattle.std.specs.Prelude.{◌≡◌, ◌↔◌, ◌+◌, ◌^◌, ◌<
 ghost use Rattle.tmem_record.specs.Prefix.{IsPrefix};
 ghost use Rattle.tmem_record.specs.Names.{has_name};
 ghost use Rattle.tmem_tentative.specs.declared.attempt.Attempt.{Attempt as AttemptOf};
-ghost use Rattle.tmem_tentative.specs.Fits.{IsForVariables};
+ghost use Rattle.tmem_tentative.specs.Fits.{IsForVariables, IsForNames};
 ghost use Rattle.tmem_core.specs.Held.{state_of, waiting_of, durable_of, is_shut_of, table_of};
 ghost use Rattle.tmem_core.specs.Decisions.{answer_of, taken_by, RetriesAt};
 ghost use Rattle.tmem_core.specs.Program.{IsProgramOf};
@@ -81,15 +81,13 @@ impl<N: StoreNaming, T: Invariants + Drop> CoreSeat<N, T> {
         attempt: &Attempt,
     ) -> Result<Decision, Fault>
         requires variables { IsForVariables (length N.opening.values) attempt.now }
-        requires names { All (λ name. IsTrue (has_name N.program.names name)) attempt.now.effect.names }
+        requires names { IsForNames N.program.names attempt.now }
         ensures decided { Decides N.name.start N.opening N.program attempt.now self.old pass.old (answer_of result attempt.now.registers) self.new pass.new }
         ensures retries { RetriesAt (count N.name.start self.old.accepted) result }
     {
         let durable = spine.trim(&mut self.side, pass);
         self.core.note_durable(durable);
         let decision = self.core.decide(attempt);
-        // that the count has room for it is why the core accepted it
-        let _count = self.core.count();
         enter(spine, &mut self.side, pass, &decision, attempt);
         decision
     }
@@ -102,7 +100,7 @@ impl<N: StoreNaming, T: Invariants + Drop> CoreSeat<N, T> {
         attempt: &Attempt,
     ) -> Result<Settled, Fault>
         requires variables { IsForVariables (length N.opening.values) attempt.now }
-        requires names { All (λ name. IsTrue (has_name N.program.names name)) attempt.now.effect.names }
+        requires names { IsForNames N.program.names attempt.now }
         ensures { Decides N.name.start N.opening N.program attempt.now self.old pass.old result self.new pass.new }
     {
         let decision = self.decide(spine, pass, attempt);
@@ -188,7 +186,6 @@ impl<N: StoreNaming, T: Invariants + Drop> CoreSeat<N, T> {
         let durable = spine.trim_beside(&mut self.side, journal);
         self.core.note_durable(durable);
         self.core.take(durable, batch);
-        let _count = self.core.count();
         spine.aim(&mut self.side, journal, durable + batch.len() as u64);
     }
 

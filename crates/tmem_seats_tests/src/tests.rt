@@ -2,4 +2,5 @@
 mod batches;
 mod limits;
 mod spine;
+mod states;
 mod words;

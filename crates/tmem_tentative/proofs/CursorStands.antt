@@ -7,7 +7,7 @@ use Rattle.tmem_invariants.specs.Meanings.{Meanings}
 use Rattle.tmem_record.specs.State.{no_effect}
 use Rattle.tmem_record.specs.Writes.{look}
 use Rattle.tmem_tree.specs.Limits.{choices}
-use Rattle.tmem_tree.specs.Plans.{PlanView, IsWithinLimits, FitsSteps, FitsNames}
+use Rattle.tmem_tree.specs.Plans.{PlanView, IsWithinLimits, FitsSteps, HasShapes}
 use Rattle.tmem_tree.specs.Run.{no_registers}
 use Rattle.tmem_tree.specs.Shapes.{footprint_in, names_of}
 use Rattle.tmem_tree.specs.declared.shape.Shape.{Shape}
@@ -27,7 +27,7 @@ use Rattle.tmem_tentative.specs.declared.cursor.Stage.TheVariants.{Going}
 use Rattle.tmem_tentative.specs.Eval.{Taken, Goes, Retries, Leaves, Gives_up, Breaks, eval}
 use Rattle.tmem_tentative.specs.Ends.{start_state, ended_as, IsEndOf, IsMadeOf}
 use Rattle.tmem_tentative.specs.Logs.{AreOf, Out, Went, Stopped, Gave_way, Left, IsLeaving, left_for, run_state_of}
-use Rattle.tmem_tentative.specs.Places.{Covers, Place, LeadsTo, MayRunFrom, RunsTo, place_of, place_at, eval_from, with_more, read_behind, WritesFit, NamesFit}
+use Rattle.tmem_tentative.specs.Places.{Covers, Place, LeadsTo, MayRunFrom, RunsTo, place_of, place_at, eval_from, with_more, read_behind, WritesFit, NamesFit, RetiresFit}
 use Rattle.tmem_tentative.specs.Right.{HaveAnswered, IsOutcome}
 use Rattle.tmem_tentative.specs.Cursors.{IsAt, StandsIn, IsAtStage, MayGoOn, StandsAt, AsksFor, Answered, HasEnded, given, answers, unused, taken, outcome_of, place}
 use Rattle.tmem_tentative.specs.CursorFacts.{MayGoOn-prop}
@@ -51,9 +51,9 @@ at_right m tests plan cursor p at is =
     made_right m tests plan (given cursor) (answers cursor) (unused cursor) (outcome_of cursor p) at.answered (at_made m tests.footprint plan cursor p at.stands is)
 
 -- and it fits the plan
-pub stands_fit : {IsStated : StepMeanings → Type 0} (plan : PlanView) (cursor : Cursor) (p : Progress) → ∥ ((m : StepMeanings) × IsStated m) ∥₁ → ((m : StepMeanings) → IsStated m → StandsIn m plan cursor) → Answered cursor p → FitsPlan (given cursor) plan (outcome_of cursor p)
-stands_fit plan cursor p some stands is =
-    made_fits_plan some (given cursor) plan (answers cursor) (unused cursor) (outcome_of cursor p) (λ m stated. at_made m (footprint_in plan.shapes) plan.tree cursor p (stands m stated) is)
+pub stands_fit : {IsStated : StepMeanings → Type 0} (plan : PlanView) (cursor : Cursor) (p : Progress) → ∥ ((m : StepMeanings) × IsStated m) ∥₁ → HasShapes (names_of plan.shapes) plan.tree → ((m : StepMeanings) → IsStated m → StandsIn m plan cursor) → Answered cursor p → FitsPlan (given cursor) plan (outcome_of cursor p)
+stands_fit plan cursor p some shaped stands is =
+    made_fits_plan some shaped (given cursor) (answers cursor) (unused cursor) (outcome_of cursor p) (λ m stated. at_made m (footprint_in plan.shapes) plan.tree cursor p (stands m stated) is)
 
 -- with the same values and answers, where it stands too
 pub at_still : (m : StepMeanings) (tests : Meanings) (plan : Tx) (old new : Cursor) → IsAtStage m tests.footprint plan new.stage new → given new ≡ given old → answers new ≡ answers old → IsAt m tests plan old → IsAt m tests plan new
@@ -96,11 +96,11 @@ end_reads old new (Abort code) is = ap (λ rs. rs.entries) is.0
 end_reads old new (Broken name) is = ap (λ rs. rs.entries) is.0
 
 -- a run may go on from where the cursor stands
-pub may_run : {IsStated : StepMeanings → Type 0} {arities : List ℕ} (plan : PlanView) (cursor : Cursor) → ∥ ((m : StepMeanings) × IsStated m) ∥₁ → IsWithinLimits plan.tree → FitsSteps arities plan.tree → FitsNames (names_of plan.shapes) plan.tree → cursor.stage ≡ Going
+pub may_run : {IsStated : StepMeanings → Type 0} {arities : List ℕ} (plan : PlanView) (cursor : Cursor) → ∥ ((m : StepMeanings) × IsStated m) ∥₁ → IsWithinLimits plan.tree → FitsSteps arities plan.tree → HasShapes (names_of plan.shapes) plan.tree → cursor.stage ≡ Going
     → ((m : StepMeanings) → IsStated m → StandsIn m plan cursor) → MayRunFrom arities (names_of plan.shapes) plan.tree (place cursor)
 may_run plan cursor some limits steps known going stands =
     let may : MayGoOn plan.tree (place cursor) = ∥∥₁_elim some (MayGoOn-prop plan.tree (place cursor)) (λ p. (subst (λ s. IsAtStage p.0 (footprint_in plan.shapes) plan.tree s cursor) going (stands p.0 p.1)).0) in
-    record { registers = limits.registers; steps = steps; known = known; deep = limits.shallow; enough = may.enough; writes = (0, may.writes); names = (0, may.names) }
+    record { registers = limits.registers; steps = steps; known = known; deep = limits.shallow; enough = may.enough; writes = (0, may.writes); names = (0, may.names); retires = (0, may.retires) }
 
 -- how a run has come out that has ended so
 abbrev pub out_for : Ending → Out
@@ -146,7 +146,7 @@ module _ (m : StepMeanings) (footprint : List ℕ → List ℕ) (plan : Tx) (old
 
   module _ {IsStated : StepMeanings → Type 0} {shapes : List Shape} {saves : List Save} {left : List Bool} {ask : Ask} (long : length saves ≡ length old.saves.items) (run : RunsTo IsStated shapes (taken old) plan (place old) (Stopped ask) (place_at course saves) left) (leads : LeadsTo m footprint (taken old) plan (place old) (Stopped ask) (place_at course saves) left) where
     may_still : MayGoOn plan (place_at course saves)
-    may_still = record { enough = omega (arith, here.0.enough, long); writes = run.writes 0 here.0.writes; names = run.names 0 here.0.names }
+    may_still = record { enough = omega (arith, here.0.enough, long); writes = run.writes 0 here.0.writes; names = run.names 0 here.0.names; retires = run.retires 0 here.0.retires }
 
     asks_still : AsksFor m footprint plan course.attempt.reads.entries (answers old) ask
     asks_still = subst (λ rs. AsksFor m footprint plan rs.entries (answers old) ask) (sym reads) (stops m footprint plan (answers old) (place old) (taken old) here.1 leads)
@@ -188,6 +188,7 @@ start_stands m footprint plan p answers seen path registers effect no_answers no
     enough = enough;
     writes = subst (λ l. WritesFit 0 l plan p.saves p.effect) (sym path) (subst (λ e. WritesFit 0 [] plan p.saves e) (sym effect) (omega (arith, limits.writes)));
     names = subst (λ l. NamesFit 0 l plan p.saves p.effect) (sym path) (subst (λ e. NamesFit 0 [] plan p.saves e) (sym effect) (omega (arith, limits.checks)));
+    retires = subst (λ l. RetiresFit 0 l plan p.saves p.effect) (sym path) (subst (λ e. RetiresFit 0 [] plan p.saves e) (sym effect) (omega (arith, limits.retires)));
   },
   λ reads more c d.
       ap (λ all. eval m footprint reads plan (start_state (all ++ more))) no_answers

@@ -5,23 +5,25 @@ use Rattle.std.proofs.lemmas.List.Elements.{All-push, All-head, All-tail}
 use Rattle.std.proofs.lemmas.Map.Keys.{IsDistinct-push}
 use Rattle.std.specs.Cmp.{nat_eq_equiv}
 use Rattle.std.specs.List.{IsDistinct, list_any}
+use Rattle.std.specs.Prelude.{⊤}
 use Rattle.std.specs.Map.{keys_of}
 use Rattle.indexmap.specs.IndexMap.{insert_entry}
 use Rattle.indexmap.proofs.SetLemmas.{keys_insert_entry}
 use Rattle.tmem_tree.specs.declared.tx.Tx.{Tx, Row_of-Tx, end_of-Tx, more_of-Tx}
-use Rattle.tmem_tree.specs.declared.tx.Tx.TheVariants.{Seq', Read, Write, Step, When', OrElse', Retry, Abort, Check}
+use Rattle.tmem_tree.specs.declared.tx.Tx.TheVariants.{Seq', Read, Write, Step, When', OrElse', Retry, Abort, Check, Retire}
 use Rattle.tmem_tree.specs.declared.step.StepAnswer.{StepAnswer}
 use Rattle.tmem_tree.specs.declared.step.StepAnswer.TheVariants as answer
 use Rattle.tmem_tree.specs.StepAnswers.{StepMeanings}
 use Rattle.tmem_tree.specs.Visited.{Ask, Visit, Probe}
 use Rattle.tmem_invariants.specs.TableNames.{AreBelow}
 use Rattle.tmem_record.specs.declared.effect.Effect.{Effect}
-use Rattle.tmem_record.specs.Names.{has_name, with_name}
+use Rattle.tmem_record.specs.Names.{has_name, with_name, without_name, AreApart}
 use Rattle.tmem_record.specs.Writes.{look, with_write}
-use Rattle.tmem_tree.specs.Limits.{one_if, count, count_all, is_write, is_check, has_bad_variable, has_unknown_name}
+use Rattle.tmem_record.proofs.Laws.{AreApart-check, AreApart-retire, All-with_name, All-without_names, length-without_name-le}
+use Rattle.tmem_tree.specs.Limits.{one_if, count, count_all, is_write, is_check, is_retire, has_bad_variable, has_unknown_name, lacks_shape}
 use Rattle.tmem_tree.specs.Run.{register, is_zero}
 use Rattle.tmem_tentative.proofs.ReadEntries.{write_is_insert}
-use Rattle.tmem_tentative.specs.Eval.{RunState, Taken, Flow, Goes, Stops, Retries, Leaves, Looked, Lacks, Found, eval, eval_all, then_eval, else_eval, read, answered, saw, check, before, look_first, looked, tested, checked}
+use Rattle.tmem_tentative.specs.Eval.{RunState, Taken, Leaving, Gives_up, Breaks, Flow, Goes, Stops, Retries, Leaves, Looked, Lacks, Found, eval, eval_all, then_eval, else_eval, read, answered, saw, check, retire, before, look_first, looked, tested, checked}
 
 -- each of these variables is one of so many
 abbrev pub Below : ℕ → List (ℕ × ℤ) → Type 0
@@ -68,18 +70,30 @@ is_known : (b : Bool) → one_if (not b) ≡ 0 → b ≡ true
 is_known true h = refl
 is_known false h = cc
 
--- with a bound on the variables where Q holds, and with these names where R does
-module _ (Q R : Type 0) (vars : ℕ) (names : List (List ℕ)) where
-  -- what a run does that has so many writes and checks at most
-  pub record IsGood (writes checks : ℕ) (effect : Effect) : Type 0 where
+-- with a bound on the variables where Q holds, with these names for the checks where R does, and for the retirements where U does
+module _ (Q R U : Type 0) (vars : ℕ) (names : List (List ℕ)) where
+  -- what a run does that has so many writes, checks and retirements at most
+  pub record IsGood (writes checks retires : ℕ) (effect : Effect) : Type 0 where
     pub within : Q → Below vars effect.writes
     pub once : IsDistinct nat_eq (keys_of effect.writes)
     pub few : length effect.writes ≤ writes
     pub few_names : length effect.names ≤ checks
+    pub few_retired : length effect.retired ≤ retires
     pub known : R → All (λ name. has_name names name ≡ true) effect.names
+    pub known_too : U → All (λ name. has_name names name ≡ true) effect.retired
+    pub apart : AreApart effect.names effect.retired
 
-  more : {w c w' c' : ℕ} {effect : Effect} → w ≤ w' → c ≤ c' → IsGood w c effect → IsGood w' c' effect
-  more v d g = record { within = g.within; once = g.once; few = omega (arith, g.few); few_names = omega (arith, g.few_names); known = g.known }
+  more : {w c r w' c' r' : ℕ} {effect : Effect} → w ≤ w' → c ≤ c' → r ≤ r' → IsGood w c r effect → IsGood w' c' r' effect
+  more v d e g = record {
+    within = g.within;
+    once = g.once;
+    few = omega (arith, g.few);
+    few_names = omega (arith, g.few_names);
+    few_retired = omega (arith, g.few_retired);
+    known = g.known;
+    known_too = g.known_too;
+    apart = g.apart;
+  }
 
   module _ (steps : StepMeanings) (footprint : List ℕ → List ℕ) (reads : List (ℕ × ℤ)) where
     -- a variable that the reads lack, or a test with as many values as its footprint has variables
@@ -87,37 +101,42 @@ module _ (Q R : Type 0) (vars : ℕ) (names : List (List ℕ)) where
     IsGoodAsk (Visit var) = (Q → var < vars) × (look reads var ≡ None)
     IsGoodAsk (Probe name values) = (R → has_name names name ≡ true) × (length values ≡ length (footprint name))
 
-    abbrev pub IsGoodFlow : ℕ → ℕ → Flow → Type 0
-    IsGoodFlow w c (Goes s) = (Q → Below vars s.seen.reads) × IsGood w c s.effect
-    IsGoodFlow w c (Stops ask) = IsGoodAsk ask
-    IsGoodFlow w c (Retries seen) = Q → Below vars seen.reads
-    IsGoodFlow w c (Leaves how seen) = Q → Below vars seen.reads
+    -- an invariant that was false has one of these names
+    abbrev pub IsGoodLeaving : Leaving → Type 0
+    IsGoodLeaving (Gives_up code) = ⊤
+    IsGoodLeaving (Breaks name) = R → has_name names name ≡ true
 
-    then_good : (w c w' c' : ℕ) (f : Flow) (on : RunState → Flow) → IsGoodFlow w c f → ((s : RunState) → (Q → Below vars s.seen.reads) → IsGood w c s.effect → IsGoodFlow w' c' (on s)) → IsGoodFlow w' c' (then_eval f on)
-    then_good w c w' c' (Goes s) on g k = k s g.0 g.1
-    then_good w c w' c' (Stops ask) on g k = g
-    then_good w c w' c' (Retries seen) on g k = g
-    then_good w c w' c' (Leaves how seen) on g k = g
+    abbrev pub IsGoodFlow : ℕ → ℕ → ℕ → Flow → Type 0
+    IsGoodFlow w c r (Goes s) = (Q → Below vars s.seen.reads) × IsGood w c r s.effect
+    IsGoodFlow w c r (Stops ask) = IsGoodAsk ask
+    IsGoodFlow w c r (Retries seen) = Q → Below vars seen.reads
+    IsGoodFlow w c r (Leaves how seen) = (Q → Below vars seen.reads) × IsGoodLeaving how
 
-    else_good : (w c : ℕ) (f : Flow) (on : Taken → Flow) → IsGoodFlow w c f → ((seen : Taken) → (Q → Below vars seen.reads) → IsGoodFlow w c (on seen)) → IsGoodFlow w c (else_eval f on)
-    else_good w c (Goes s) on g k = g
-    else_good w c (Stops ask) on g k = g
-    else_good w c (Retries seen) on g k = k seen g
-    else_good w c (Leaves how seen) on g k = g
+    then_good : (w c r w' c' r' : ℕ) (f : Flow) (on : RunState → Flow) → IsGoodFlow w c r f → ((s : RunState) → (Q → Below vars s.seen.reads) → IsGood w c r s.effect → IsGoodFlow w' c' r' (on s)) → IsGoodFlow w' c' r' (then_eval f on)
+    then_good w c r w' c' r' (Goes s) on g k = k s g.0 g.1
+    then_good w c r w' c' r' (Stops ask) on g k = g
+    then_good w c r w' c' r' (Retries seen) on g k = g
+    then_good w c r w' c' r' (Leaves how seen) on g k = g
 
-    read_good : (w c : ℕ) (s : RunState) (var reg : ℕ) (o p : Option ℤ) → look reads var ≡ p → (Q → var < vars) → (Q → Below vars s.seen.reads) → IsGood w c s.effect → IsGoodFlow w c (read o p s var reg)
-    read_good w c s var reg (Some x) p e h b g = (b, g)
-    read_good w c s var reg None (Some x) e h b g = ((λ q. below_insert vars s.seen.reads var x (h q) (b q)), g)
-    read_good w c s var reg None None e h b g = (h, e)
+    else_good : (w c r : ℕ) (f : Flow) (on : Taken → Flow) → IsGoodFlow w c r f → ((seen : Taken) → (Q → Below vars seen.reads) → IsGoodFlow w c r (on seen)) → IsGoodFlow w c r (else_eval f on)
+    else_good w c r (Goes s) on g k = g
+    else_good w c r (Stops ask) on g k = g
+    else_good w c r (Retries seen) on g k = k seen g
+    else_good w c r (Leaves how seen) on g k = g
 
-    answered_good : (w c : ℕ) (a : StepAnswer) (s : RunState) (out : ℕ) → (Q → Below vars s.seen.reads) → IsGood w c s.effect → IsGoodFlow w c (answered a s out)
-    answered_good w c (answer.Value x) s out b g = (b, g)
-    answered_good w c answer.Retry s out b g = b
-    answered_good w c (answer.Abort code) s out b g = b
+    read_good : (w c r : ℕ) (s : RunState) (var reg : ℕ) (o p : Option ℤ) → look reads var ≡ p → (Q → var < vars) → (Q → Below vars s.seen.reads) → IsGood w c r s.effect → IsGoodFlow w c r (read o p s var reg)
+    read_good w c r s var reg (Some x) p e h b g = (b, g)
+    read_good w c r s var reg None (Some x) e h b g = ((λ q. below_insert vars s.seen.reads var x (h q) (b q)), g)
+    read_good w c r s var reg None None e h b g = (h, e)
 
-    cond_good : (t : Bool) (w c : ℕ) (e f : Flow) → IsGoodFlow w c e → IsGoodFlow w c f → IsGoodFlow w c (cond t e f)
-    cond_good true w c e f g h = g
-    cond_good false w c e f g h = h
+    answered_good : (w c r : ℕ) (a : StepAnswer) (s : RunState) (out : ℕ) → (Q → Below vars s.seen.reads) → IsGood w c r s.effect → IsGoodFlow w c r (answered a s out)
+    answered_good w c r (answer.Value x) s out b g = (b, g)
+    answered_good w c r answer.Retry s out b g = b
+    answered_good w c r (answer.Abort code) s out b g = (b, tt)
+
+    cond_good : (t : Bool) (w c r : ℕ) (e f : Flow) → IsGoodFlow w c r e → IsGoodFlow w c r f → IsGoodFlow w c r (cond t e f)
+    cond_good true w c r e f g h = g
+    cond_good false w c r e f g h = h
 
     -- a look at so many variables, from a state of this effect
     abbrev IsGoodLook : ℕ → Effect → Looked → Type 0
@@ -141,32 +160,55 @@ module _ (Q R : Type 0) (vars : ℕ) (names : List (List ℕ)) where
         look_good s var vs (look s.effect.writes var) (look reads var) refl (λ q. All-head (λ v. v < vars) var vs (h q)) b
         (λ s' same b'. subst (λ e. IsGoodLook (length vs) e (looked reads vs s')) same (looked_good vs s' (λ q. All-tail (λ v. v < vars) var vs (h q)) b'))
 
-    -- a name more
-    named_good : (w c w' c' : ℕ) (effect : Effect) (name : List ℕ) → w ≤ w' → c + 1 ≤ c' → (R → has_name names name ≡ true) → IsGood w c effect → IsGood w' c' (record { writes = effect.writes; names = with_name effect.names name })
-    named_good w c w' c' effect name v d known g = record {
+    -- an effect that takes a name, and one that retires it
+    abbrev named : Effect → List ℕ → Effect
+    named e name = record { writes = e.writes; names = with_name e.names name; retired = without_name e.retired name }
+
+    abbrev retired : Effect → List ℕ → Effect
+    retired e name = record { writes = e.writes; names = without_name e.names name; retired = with_name e.retired name }
+
+    named_good : (w c r w' c' r' : ℕ) (effect : Effect) (name : List ℕ) → w ≤ w' → c + 1 ≤ c' → r ≤ r' → (R → has_name names name ≡ true) → IsGood w c r effect → IsGood w' c' r' (named effect name)
+    named_good w c r w' c' r' effect name v d e known g = record {
       within = g.within;
       once = g.once;
       few = omega (arith, g.few);
       few_names = omega (arith, d, g.few_names, length-joined (has_name effect.names name) effect.names name);
-      known = λ r. all-joined (λ m. has_name names m ≡ true) (has_name effect.names name) effect.names name (known r) (g.known r);
+      few_retired = omega (arith, e, g.few_retired, length-without_name-le effect.retired name);
+      known = λ x. All-with_name (λ m. has_name names m ≡ true) effect.names name (g.known x) (known x);
+      known_too = λ x. All-without_names (λ m. has_name names m ≡ true) effect.retired (name ∷ []) (g.known_too x);
+      apart = AreApart-check effect.names effect.retired name g.apart;
     }
 
-    tested_good : (w c : ℕ) (left : List Bool) (name : List ℕ) (values : List ℤ) (s : RunState) → IsGoodAsk (Probe name values) → (Q → Below vars s.seen.reads) → IsGood w c (check s name).effect → IsGoodFlow w c (tested left name values s)
-    tested_good w c [] name values s a b g = a
-    tested_good w c (true ∷ left) name values s a b g = (b, g)
-    tested_good w c (false ∷ left) name values s a b g = b
+    retired_good : (w c r w' c' r' : ℕ) (effect : Effect) (name : List ℕ) → w ≤ w' → c ≤ c' → r + 1 ≤ r' → (U → has_name names name ≡ true) → IsGood w c r effect → IsGood w' c' r' (retired effect name)
+    retired_good w c r w' c' r' effect name v d e known g = record {
+      within = g.within;
+      once = g.once;
+      few = omega (arith, g.few);
+      few_names = omega (arith, d, g.few_names, length-without_name-le effect.names name);
+      few_retired = omega (arith, e, g.few_retired, length-joined (has_name effect.retired name) effect.retired name);
+      known = λ x. All-without_names (λ m. has_name names m ≡ true) effect.names (name ∷ []) (g.known x);
+      known_too = λ x. All-with_name (λ m. has_name names m ≡ true) effect.retired name (g.known_too x) (known x);
+      apart = AreApart-retire effect.names effect.retired name g.apart;
+    }
 
-    checked_good : (w c : ℕ) (name : List ℕ) (effect : Effect) (l : Looked) → IsGoodLook (length (footprint name)) effect l → (R → has_name names name ≡ true) → IsGood w c (record { writes = effect.writes; names = with_name effect.names name }) → IsGoodFlow w c (checked l name)
-    checked_good w c name effect (Lacks var) l known g = l
-    checked_good w c name effect (Found values s) l known g =
-        tested_good w c s.seen.left name values s (known, l.0) l.2 (subst (λ e. IsGood w c (record { writes = e.writes; names = with_name e.names name })) (sym l.1) g)
+    tested_good : (w c r : ℕ) (left : List Bool) (name : List ℕ) (values : List ℤ) (s : RunState) → IsGoodAsk (Probe name values) → (Q → Below vars s.seen.reads) → IsGood w c r (check s name).effect → IsGoodFlow w c r (tested left name values s)
+    tested_good w c r [] name values s a b g = a
+    tested_good w c r (true ∷ left) name values s a b g = (b, g)
+    tested_good w c r (false ∷ left) name values s a b g = (b, a.0)
+
+    checked_good : (w c r : ℕ) (name : List ℕ) (effect : Effect) (l : Looked) → IsGoodLook (length (footprint name)) effect l → (R → has_name names name ≡ true) → IsGood w c r (named effect name) → IsGoodFlow w c r (checked l name)
+    checked_good w c r name effect (Lacks var) l known g = l
+    checked_good w c r name effect (Found values s) l known g =
+        tested_good w c r s.seen.left name values s (known, l.0) l.2 (subst (λ e. IsGood w c r (named e name)) (sym l.1) g)
 
     mutual
-      pub good : (Q → (name : List ℕ) → AreBelow vars (footprint name)) → (tx : Tx) (w c w' c' : ℕ) (s : RunState) → w + count is_write tx ≤ w' → c + count is_check tx ≤ c' → (Q → count (has_bad_variable vars) tx ≡ 0) → (R → count (has_unknown_name names) tx ≡ 0)
-          → (Q → Below vars s.seen.reads) → IsGood w c s.effect → IsGoodFlow w' c' (eval steps footprint reads tx s)
-      good low (Seq' shape txs) w c w' c' s v d h k b g = good_all low txs w c w' c' s (omega arith) (omega arith) (λ q. omega (arith, h q)) (λ r. omega (arith, k r)) b g
-      good low (Read var reg) w c w' c' s v d h k b g = read_good w' c' s var reg (look s.effect.writes var) (look reads var) refl (λ q. below_if vars var (h q)) b (more (omega arith) (omega arith) g)
-      good low (Write var reg) w c w' c' s v d h k b g =
+      pub good : (Q → (name : List ℕ) → AreBelow vars (footprint name)) → (tx : Tx) (w c r w' c' r' : ℕ) (s : RunState) → w + count is_write tx ≤ w' → c + count is_check tx ≤ c' → r + count is_retire tx ≤ r'
+          → (Q → count (has_bad_variable vars) tx ≡ 0) → (R → count (lacks_shape names) tx ≡ 0) → (U → count (has_unknown_name names) tx ≡ 0)
+          → (Q → Below vars s.seen.reads) → IsGood w c r s.effect → IsGoodFlow w' c' r' (eval steps footprint reads tx s)
+      good low (Seq' shape txs) w c r w' c' r' s v d e h k u b g =
+          good_all low txs w c r w' c' r' s (omega arith) (omega arith) (omega arith) (λ q. omega (arith, h q)) (λ x. omega (arith, k x)) (λ x. omega (arith, u x)) b g
+      good low (Read var reg) w c r w' c' r' s v d e h k u b g = read_good w' c' r' s var reg (look s.effect.writes var) (look reads var) refl (λ q. below_if vars var (h q)) b (more (omega arith) (omega arith) (omega arith) g)
+      good low (Write var reg) w c r w' c' r' s v d e h k u b g =
           let n = register s.registers reg in (
             b,
             record {
@@ -174,29 +216,34 @@ module _ (Q R : Type 0) (vars : ℕ) (names : List (List ℕ)) where
               once = subst (λ es. IsDistinct nat_eq (keys_of es)) (sym (write_is_insert s.effect.writes var n)) (once_insert s.effect.writes var n g.once);
               few = omega (arith, g.few, length-write s.effect.writes var n);
               few_names = omega (arith, g.few_names);
+              few_retired = omega (arith, g.few_retired);
               known = g.known;
+              known_too = g.known_too;
+              apart = g.apart;
             },
           )
-      good low (Step index args out) w c w' c' s v d h k b g = answered_good w' c' (steps index (map (register s.registers) args.items)) s out b (more (omega arith) (omega arith) g)
-      good low (When' reg p x q y) w c w' c' s v d h k b g =
-          cond_good (is_zero (register s.registers reg)) w' c' _ _
-          (good low y w c w' c' s (omega arith) (omega arith) (λ q. omega (arith, h q)) (λ r. omega (arith, k r)) b g)
-          (good low x w c w' c' s (omega arith) (omega arith) (λ q. omega (arith, h q)) (λ r. omega (arith, k r)) b g)
-      good low (OrElse' p x q y) w c w' c' s v d h k b g =
-          else_good w' c' (eval steps footprint reads x s) (λ seen. eval steps footprint reads y (record s { seen = seen }))
-          (good low x w c w' c' s (omega arith) (omega arith) (λ q. omega (arith, h q)) (λ r. omega (arith, k r)) b g)
-          (λ seen l. good low y w c w' c' (record s { seen = seen }) (omega arith) (omega arith) (λ q. omega (arith, h q)) (λ r. omega (arith, k r)) l g)
-      good low Retry w c w' c' s v d h k b g = b
-      good low (Abort code) w c w' c' s v d h k b g = b
-      good low (Check name) w c w' c' s v d h k b g =
-          let known : R → has_name names name ≡ true = λ r. is_known _ (k r) in
-          checked_good w' c' name s.effect (looked reads (footprint name) s) (looked_good (footprint name) s (λ q. low q name) b) known (named_good w c w' c' s.effect name (omega arith) d known g)
-      good low tx w c w' c' s v d h k b g = (b, more (omega arith) (omega arith) g)
+      good low (Step index args out) w c r w' c' r' s v d e h k u b g = answered_good w' c' r' (steps index (map (register s.registers) args.items)) s out b (more (omega arith) (omega arith) (omega arith) g)
+      good low (When' reg p x q y) w c r w' c' r' s v d e h k u b g =
+          cond_good (is_zero (register s.registers reg)) w' c' r' _ _
+          (good low y w c r w' c' r' s (omega arith) (omega arith) (omega arith) (λ q. omega (arith, h q)) (λ x. omega (arith, k x)) (λ x. omega (arith, u x)) b g)
+          (good low x w c r w' c' r' s (omega arith) (omega arith) (omega arith) (λ q. omega (arith, h q)) (λ x. omega (arith, k x)) (λ x. omega (arith, u x)) b g)
+      good low (OrElse' p x q y) w c r w' c' r' s v d e h k u b g =
+          else_good w' c' r' (eval steps footprint reads x s) (λ seen. eval steps footprint reads y (record s { seen = seen }))
+          (good low x w c r w' c' r' s (omega arith) (omega arith) (omega arith) (λ q. omega (arith, h q)) (λ x. omega (arith, k x)) (λ x. omega (arith, u x)) b g)
+          (λ seen l. good low y w c r w' c' r' (record s { seen = seen }) (omega arith) (omega arith) (omega arith) (λ q. omega (arith, h q)) (λ x. omega (arith, k x)) (λ x. omega (arith, u x)) l g)
+      good low Retry w c r w' c' r' s v d e h k u b g = b
+      good low (Abort code) w c r w' c' r' s v d e h k u b g = (b, tt)
+      good low (Check name) w c r w' c' r' s v d e h k u b g =
+          let known : R → has_name names name ≡ true = λ x. is_known _ (k x) in
+          checked_good w' c' r' name s.effect (looked reads (footprint name) s) (looked_good (footprint name) s (λ q. low q name) b) known (named_good w c r w' c' r' s.effect name (omega arith) d (omega arith) known g)
+      good low (Retire name) w c r w' c' r' s v d e h k u b g = (b, retired_good w c r w' c' r' s.effect name (omega arith) (omega arith) e (λ x. is_known _ (u x)) g)
+      good low tx w c r w' c' r' s v d e h k u b g = (b, more (omega arith) (omega arith) (omega arith) g)
 
-      pub good_all : (Q → (name : List ℕ) → AreBelow vars (footprint name)) → {m : _} (txs : Row_of-Tx m) (w c w' c' : ℕ) (s : RunState) → w + count_all is_write txs ≤ w' → c + count_all is_check txs ≤ c' → (Q → count_all (has_bad_variable vars) txs ≡ 0) → (R → count_all (has_unknown_name names) txs ≡ 0)
-          → (Q → Below vars s.seen.reads) → IsGood w c s.effect → IsGoodFlow w' c' (eval_all steps footprint reads txs s)
-      good_all low end_of-Tx w c w' c' s v d h k b g = (b, more (omega arith) (omega arith) g)
-      good_all low (more_of-Tx tx txs) w c w' c' s v d h k b g =
-          then_good (w + count is_write tx) (c + count is_check tx) w' c' (eval steps footprint reads tx s) (eval_all steps footprint reads txs)
-          (good low tx w c _ _ s (omega arith) (omega arith) (λ q. omega (arith, h q)) (λ r. omega (arith, k r)) b g)
-          (λ s' b' g'. good_all low txs _ _ w' c' s' (omega arith) (omega arith) (λ q. omega (arith, h q)) (λ r. omega (arith, k r)) b' g')
+      pub good_all : (Q → (name : List ℕ) → AreBelow vars (footprint name)) → {m : _} (txs : Row_of-Tx m) (w c r w' c' r' : ℕ) (s : RunState) → w + count_all is_write txs ≤ w' → c + count_all is_check txs ≤ c' → r + count_all is_retire txs ≤ r'
+          → (Q → count_all (has_bad_variable vars) txs ≡ 0) → (R → count_all (lacks_shape names) txs ≡ 0) → (U → count_all (has_unknown_name names) txs ≡ 0)
+          → (Q → Below vars s.seen.reads) → IsGood w c r s.effect → IsGoodFlow w' c' r' (eval_all steps footprint reads txs s)
+      good_all low end_of-Tx w c r w' c' r' s v d e h k u b g = (b, more (omega arith) (omega arith) (omega arith) g)
+      good_all low (more_of-Tx tx txs) w c r w' c' r' s v d e h k u b g =
+          then_good (w + count is_write tx) (c + count is_check tx) (r + count is_retire tx) w' c' r' (eval steps footprint reads tx s) (eval_all steps footprint reads txs)
+          (good low tx w c r _ _ _ s (omega arith) (omega arith) (omega arith) (λ q. omega (arith, h q)) (λ x. omega (arith, k x)) (λ x. omega (arith, u x)) b g)
+          (λ s' b' g'. good_all low txs _ _ _ w' c' r' s' (omega arith) (omega arith) (omega arith) (λ q. omega (arith, h q)) (λ x. omega (arith, k x)) (λ x. omega (arith, u x)) b' g')

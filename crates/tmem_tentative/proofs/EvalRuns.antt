@@ -235,7 +235,7 @@ module _ (reads : List (ℕ × ℤ)) (values : ℕ → ℤ) where
       pub tells : (tx : Tx) (s : RunState) → Gave tests s.seen.left (asks steps tests tx (view_of values s)) → Tells s.seen (run steps tests tx (view_of values s)) (asks steps tests tx (view_of values s)) (eval steps tests.footprint reads tx s)
       tells (Seq' shape txs) s g = tells_all txs s g
       tells (Read var reg) s g = read_tells agrees s var reg (look s.effect.writes var) (look reads var) refl refl
-      tells (Write var reg) s g = (ap (λ m. Normal (record { values = m; registers = s.registers; effect = record { writes = with_write s.effect.writes var (register s.registers reg); names = s.effect.names } })) (sym (overlay-write values s.effect.writes var (register s.registers reg))), refl, refl)
+      tells (Write var reg) s g = (ap (λ m. Normal (record { values = m; registers = s.registers; effect = record { writes = with_write s.effect.writes var (register s.registers reg); names = s.effect.names; retired = s.effect.retired } })) (sym (overlay-write values s.effect.writes var (register s.registers reg))), refl, refl)
       tells (Step index args out) s g = answered_tells (steps index (map (register s.registers) args.items)) s out
       tells (When' reg p a q b) s g = cond_tells tests (is_zero (register s.registers reg)) s.seen _ _ _ _ _ _ g (tells b s) (tells a s)
       tells (OrElse' p a q b) s g =

@@ -8,18 +8,21 @@ use mathlib.Core.Bool.{Bool-set}
 use Rattle.tmem_record.specs.declared.effect.Effect.{Effect}
 use Rattle.tmem_tree.specs.declared.tx.Tx.{Tx}
 use Rattle.tmem_tree.specs.StepAnswers.{StepMeanings}
-use Rattle.tmem_tree.specs.Limits.{count, is_write, is_check}
-use Rattle.tmem_tree.specs.Plans.{PlanView, FitsVariables, FitsNames}
-use Rattle.tmem_tree.specs.Shapes.{footprint_in}
+use Rattle.tmem_record.proofs.Laws.{AreApart-none}
+use Rattle.tmem_tree.specs.Limits.{count, is_write, is_check, is_retire}
+use Rattle.tmem_tree.specs.Plans.{PlanView, FitsVariables, FitsNames, HasShapes}
+use Rattle.tmem_tree.specs.Shapes.{names_of, footprint_in}
+use Rattle.tmem_tree.specs.declared.shape.Shape.{Shape}
+use Rattle.tmem_tree.proofs.Laws.{has_shapes}
 use Rattle.tmem_tree.specs.Visited.{Visit}
 use Rattle.tmem_record.specs.State.{no_effect}
 use Rattle.tmem_record.specs.Writes.{look}
 use Rattle.tmem_tentative.specs.Eval.{Flow, Stops, Retries, Leaves, Gives_up, Breaks, eval}
 use Rattle.tmem_tentative.specs.Ends.{start_state, ended_as, IsEndOf, IsMadeOf}
-use Rattle.tmem_tentative.specs.Fits.{IsFit, IsWithin, IsNamed, IsFilled, IsBlankUnlessNormal}
+use Rattle.tmem_tentative.specs.Fits.{IsFit, IsWithin, IsNamed, IsFilled, IsBlankUnlessNormal, IsEndingFor}
 use Rattle.tmem_tentative.specs.Logs.{run_state_of}
 use Rattle.tmem_tentative.specs.Right.{IsBlank}
-use Rattle.tmem_tentative.specs.CursorFacts.{IsBlankUnlessNormal-prop}
+use Rattle.tmem_tentative.specs.CursorFacts.{IsBlankUnlessNormal-prop, IsEndingFor-prop}
 use Rattle.tmem_tentative.specs.declared.attempt.Attempt.{Attempt}
 use Rattle.tmem_tentative.specs.declared.attempt.Outcome.{Outcome}
 use Rattle.tmem_tentative.specs.declared.attempt.Outcome.TheVariants.{Need, Ended}
@@ -31,10 +34,10 @@ use Rattle.tmem_tentative.proofs.ShapeFootprints.{within_of}
 
 -- what holds of each answer of an evaluation of this plan
 pub record FitsPlan (reads : List (ℕ × ℤ)) (plan : PlanView) (o : Outcome) : Type 0 where
-  pub fits : count is_write plan.tree ≤ 64 → count is_check plan.tree ≤ 8 → IsFit reads o
+  pub fits : count is_write plan.tree ≤ 64 → count is_check plan.tree ≤ 8 → count is_retire plan.tree ≤ 8 → IsFit reads o
   pub within : (vars : ℕ) → FitsVariables vars plan → IsWithin vars o
   pub named : (names : List (List ℕ)) → FitsNames names plan.tree → IsNamed names o
-  pub filled : IsFilled (footprint_in plan.shapes) o
+  pub filled : IsFilled plan.shapes o
 
 value_coded : Coded (Option ℤ)
 value_coded = hlevel codes
@@ -52,77 +55,97 @@ IsWithin-prop vars (Ended a) = hlevel props
 IsNamed-prop : (names : List (List ℕ)) (o : Outcome) → IsProp (IsNamed names o)
 IsNamed-prop names (Need var) = hlevel props
 IsNamed-prop names (outcome.Probe probe) = Bool-set _ _
-IsNamed-prop names (Ended a) = hlevel (props, Bool-set)
+IsNamed-prop names (Ended a) = hlevel (props, Bool-set, IsEndingFor-prop)
 
-IsFilled-prop : (footprint : List ℕ → List ℕ) (o : Outcome) → IsProp (IsFilled footprint o)
-IsFilled-prop footprint (Need var) = hlevel props
-IsFilled-prop footprint (outcome.Probe probe) = hlevel props
-IsFilled-prop footprint (Ended a) = hlevel props
+IsFilled-prop : (shapes : List Shape) (o : Outcome) → IsProp (IsFilled shapes o)
+IsFilled-prop shapes (Need var) = hlevel props
+IsFilled-prop shapes (outcome.Probe probe) = hlevel (props, Bool-set)
+IsFilled-prop shapes (Ended a) = hlevel props
 
 FitsPlan-prop : (reads : List (ℕ × ℤ)) (plan : PlanView) (o : Outcome) → IsProp (FitsPlan reads plan o)
 FitsPlan-prop reads plan o = hlevel (props, IsFit-prop, IsWithin-prop, IsNamed-prop, IsFilled-prop)
 
-nothing : (Q R : Type 0) (vars : ℕ) (names : List (List ℕ)) (w c : ℕ) → IsGood Q R vars names w c no_effect
-nothing Q R vars names w c = record { within = λ q k d h. absurd (omega arith); once = once_nil; few = omega arith; few_names = omega arith; known = λ r k d h. absurd (omega arith) }
+nothing : (Q R U : Type 0) (vars : ℕ) (names : List (List ℕ)) (w c r : ℕ) → IsGood Q R U vars names w c r no_effect
+nothing Q R U vars names w c r = record {
+  within = λ q k d h. absurd (omega arith);
+  once = once_nil;
+  few = omega arith;
+  few_names = omega arith;
+  few_retired = omega arith;
+  known = λ x k d h. absurd (omega arith);
+  known_too = λ x k d h. absurd (omega arith);
+  apart = AreApart-none [];
+}
 
 -- a value that is needed is one that the reads lack
 pub need_lacks : (m : StepMeanings) (footprint : List ℕ → List ℕ) (reads : List (ℕ × ℤ)) (tx : Tx) (answers : List Bool) (var : ℕ) → eval m footprint reads tx (start_state answers) ≡ Stops (Visit var) → look reads var ≡ None
 need_lacks m footprint reads tx answers var e =
-    let g = good ⊥ ⊥ 0 [] m footprint reads (λ q. absurd q) tx 0 0 (count is_write tx) (count is_check tx) (start_state answers) (omega arith) (omega arith) (λ q. absurd q) (λ r. absurd r) (λ q. absurd q) (nothing ⊥ ⊥ 0 [] 0 0) in
-    (subst (IsGoodFlow ⊥ ⊥ 0 [] m footprint reads (count is_write tx) (count is_check tx)) e g).1
+    let g = good ⊥ ⊥ ⊥ 0 [] m footprint reads (λ q. absurd q) tx 0 0 0 (count is_write tx) (count is_check tx) (count is_retire tx) (start_state answers) (omega arith) (omega arith) (omega arith) (λ q. absurd q) (λ x. absurd x) (λ x. absurd x) (λ q. absurd q) (nothing ⊥ ⊥ ⊥ 0 [] 0 0 0) in
+    (subst (IsGoodFlow ⊥ ⊥ ⊥ 0 [] m footprint reads (count is_write tx) (count is_check tx) (count is_retire tx)) e g).1
 
 module _ (m : StepMeanings) (reads : List (ℕ × ℤ)) (plan : PlanView) (answers left : List Bool) where
   module _ (vars : ℕ) (names : List (List ℕ)) where
     abbrev IsOfPlan : Effect → Type 0
     IsOfPlan =
-        IsGood (FitsVariables vars plan) (FitsNames names plan.tree) vars names (count is_write plan.tree) (count is_check plan.tree)
+        IsGood (FitsVariables vars plan) (HasShapes names plan.tree) (FitsNames names plan.tree) vars names (count is_write plan.tree) (count is_check plan.tree) (count is_retire plan.tree)
 
     abbrev IsFlowOfPlan : Flow → Type 0
     IsFlowOfPlan =
-        IsGoodFlow (FitsVariables vars plan) (FitsNames names plan.tree) vars names m (footprint_in plan.shapes) reads (count is_write plan.tree) (count is_check plan.tree)
+        IsGoodFlow (FitsVariables vars plan) (HasShapes names plan.tree) (FitsNames names plan.tree) vars names m (footprint_in plan.shapes) reads (count is_write plan.tree) (count is_check plan.tree) (count is_retire plan.tree)
 
     flow_of_plan : (f : Flow) → eval m (footprint_in plan.shapes) reads plan.tree (start_state answers) ≡ f → IsFlowOfPlan f
     flow_of_plan f e =
         subst IsFlowOfPlan e
-        (good _ _ vars names m (footprint_in plan.shapes) reads (λ q name. within_of vars plan.shapes q.footprints name) plan.tree 0 0 _ _ (start_state answers) (omega arith) (omega arith) (λ q. q.named) (λ r. r) (λ q k d h. absurd (omega arith)) (nothing _ _ vars names 0 0))
+        (good _ _ _ vars names m (footprint_in plan.shapes) reads (λ q name. within_of vars plan.shapes q.footprints name) plan.tree 0 0 0 _ _ _ (start_state answers) (omega arith) (omega arith) (omega arith) (λ q. q.named) (λ x. x) (λ x. x) (λ q k d h. absurd (omega arith)) (nothing _ _ _ vars names 0 0 0))
 
-    end_of_plan : (end : Ending) (a : Attempt) → IsBlankUnlessNormal end a → IsFlowOfPlan (ended_as end (run_state_of a left)) → (FitsVariables vars plan → Below vars a.reads.entries) × IsOfPlan a.effect
-    end_of_plan Normal a blank g = g
-    end_of_plan Retry a blank g = (g, subst IsOfPlan (sym blank.effect) (nothing _ _ vars names _ _))
-    end_of_plan (Abort code) a blank g = (g, subst IsOfPlan (sym blank.effect) (nothing _ _ vars names _ _))
-    end_of_plan (Broken name) a blank g = (g, subst IsOfPlan (sym blank.effect) (nothing _ _ vars names _ _))
+    end_of_plan : (end : Ending) (a : Attempt) → IsBlankUnlessNormal end a → IsFlowOfPlan (ended_as end (run_state_of a left)) → (FitsVariables vars plan → Below vars a.reads.entries) × IsOfPlan a.effect × (HasShapes names plan.tree → IsEndingFor names end)
+    end_of_plan Normal a blank g = (g.0, g.1, λ r. tt)
+    end_of_plan Retry a blank g = (g, subst IsOfPlan (sym blank.effect) (nothing _ _ _ vars names _ _ _), λ r. tt)
+    end_of_plan (Abort code) a blank g = (g.0, subst IsOfPlan (sym blank.effect) (nothing _ _ _ vars names _ _ _), λ r. tt)
+    end_of_plan (Broken name) a blank g = (g.0, subst IsOfPlan (sym blank.effect) (nothing _ _ _ vars names _ _ _), g.1)
 
-  made_fits : (o : Outcome) → IsMadeOf (eval m (footprint_in plan.shapes) reads plan.tree (start_state answers)) left o → FitsPlan reads plan o
-  made_fits (Need var) e = record {
-    fits = λ few few_names. (flow_of_plan 0 [] _ e).1;
+  made_fits : (o : Outcome) → HasShapes (names_of plan.shapes) plan.tree → IsMadeOf (eval m (footprint_in plan.shapes) reads plan.tree (start_state answers)) left o → FitsPlan reads plan o
+  made_fits (Need var) shaped e = record {
+    fits = λ few few_names few_retired. (flow_of_plan 0 [] _ e).1;
     within = λ vars fits. (flow_of_plan vars [] _ e).0 fits;
     named = λ names fits. tt;
     filled = tt;
   }
-  made_fits (outcome.Probe probe) e = record {
-    fits = λ few few_names. tt;
+  made_fits (outcome.Probe probe) shaped e = record {
+    fits = λ few few_names few_retired. tt;
     within = λ vars fits. tt;
-    named = λ names fits. (flow_of_plan 0 names _ e).0 fits;
-    filled = (flow_of_plan 0 [] _ e).1;
+    named = λ names fits. (flow_of_plan 0 names _ e).0 (has_shapes names plan.tree fits);
+    filled = let asks = flow_of_plan 0 (names_of plan.shapes) _ e in (asks.0 shaped, asks.1);
   }
-  made_fits (Ended a) (e, blank) = record {
-    fits = λ few few_names.
-        let g = (made 0 []).1 in
-        (record { once = g.once; few = omega (arith, few, g.few); few_names = omega (arith, few_names, g.few_names) }, blank);
+  made_fits (Ended a) shaped (e, blank) = record {
+    fits = λ few few_names few_retired.
+        let g = (made 0 []).1 in (
+          record {
+            once = g.once;
+            few = omega (arith, few, g.few);
+            few_names = omega (arith, few_names, g.few_names);
+            few_retired = omega (arith, few_retired, g.few_retired);
+            apart = g.apart;
+          },
+          blank,
+        );
     within = λ vars fits.
         let g = made vars [] in
         (g.0 fits, g.1.within fits);
-    named = λ names fits. (made 0 names).1.known fits;
+    named = λ names fits.
+        let g = made 0 names in
+        let shapes = has_shapes names plan.tree fits in
+        record { proposed = g.1.known shapes; retired = g.1.known_too fits; apart = g.1.apart; ending = g.2 shapes };
     filled = tt;
   } where
-    made : (vars : ℕ) (names : List (List ℕ)) → (FitsVariables vars plan → Below vars a.reads.entries) × IsOfPlan vars names a.effect
+    made : (vars : ℕ) (names : List (List ℕ)) → (FitsVariables vars plan → Below vars a.reads.entries) × IsOfPlan vars names a.effect × (HasShapes names plan.tree → IsEndingFor names a.ending)
     made vars names = end_of_plan vars names a.ending a blank (flow_of_plan vars names _ e)
 
 -- what an evaluation comes to fits its plan, whatever the steps mean, since they mean something
-pub made_fits_plan : {IsStated : StepMeanings → Type 0} → ∥ ((m : StepMeanings) × IsStated m) ∥₁ → (reads : List (ℕ × ℤ)) (plan : PlanView) (answers left : List Bool) (o : Outcome)
+pub made_fits_plan : {IsStated : StepMeanings → Type 0} → ∥ ((m : StepMeanings) × IsStated m) ∥₁ → {plan : PlanView} → HasShapes (names_of plan.shapes) plan.tree → (reads : List (ℕ × ℤ)) (answers left : List Bool) (o : Outcome)
     → ((m : StepMeanings) → IsStated m → IsMadeOf (eval m (footprint_in plan.shapes) reads plan.tree (start_state answers)) left o) → FitsPlan reads plan o
-made_fits_plan some reads plan answers left o made =
-    ∥∥₁_elim some (FitsPlan-prop reads plan o) (λ p. made_fits p.0 reads plan answers left o (made p.0 p.1))
+made_fits_plan some {plan} shaped reads answers left o made =
+    ∥∥₁_elim some (FitsPlan-prop reads plan o) (λ p. made_fits p.0 reads plan answers left o shaped (made p.0 p.1))
 
 -- an attempt of a run that has ended
 pub end_made : (f : Flow) (left : List Bool) (old new : Attempt) (end : Ending) → f ≡ ended_as end (run_state_of old left) → IsEndOf old end new → IsMadeOf f left (Ended new)

@@ -4,7 +4,7 @@ use Rattle.tmem_record.specs.declared.effect.Effect.{Effect}
 use Rattle.tmem_tree.specs.declared.shape.Shape.{Shape}
 use Rattle.tmem_tree.specs.declared.tx.Tx.{Tx}
 use Rattle.tmem_tree.specs.declared.tx.Tx.TheVariants.{When', OrElse'}
-use Rattle.tmem_tree.specs.Limits.{depth, choices, count, is_write, is_check, has_bad_register, has_bad_step, has_bad_arguments, has_unknown_name}
+use Rattle.tmem_tree.specs.Limits.{depth, choices, count, is_write, is_check, is_retire, has_bad_register, has_bad_step, has_bad_arguments, lacks_shape}
 use Rattle.tmem_tree.specs.Run.{register, is_zero}
 use Rattle.tmem_tree.specs.StepAnswers.{StepMeanings}
 use Rattle.tmem_tree.specs.Visited.{Ask}
@@ -33,11 +33,12 @@ module _ (IsStated : StepMeanings → Type 0) (shapes : List Shape) (seen : Take
   child_may {arities = arities} {invariants = invariants} is may = record {
     registers = omega (arith, is.counts has_bad_register, may.registers);
     steps = record { there = omega (arith, is.counts (has_bad_step arities), may.steps.there); given = omega (arith, is.counts (has_bad_arguments arities), may.steps.given) };
-    known = omega (arith, is.counts (has_unknown_name invariants), may.known);
+    known = omega (arith, is.counts (lacks_shape invariants), may.known);
     deep = omega (arith, is.deep, may.deep);
     enough = is.enough may.enough;
     writes = (may.writes.0, is.room is_write 64 (λ e. length e.writes) may.writes.0 may.writes.1);
     names = (may.names.0, is.room is_check 8 (λ e. length e.names) may.names.0 may.names.1);
+    retires = (may.retires.0, is.room is_retire 8 (λ e. length e.retired) may.retires.0 may.retires.1);
   }
 
   pub child_runs : {tx sub : Tx} {child : ℕ} {before inside after : Place} {kept left : List Bool} {out : Out} → IsChild tx sub child before inside kept → RunsTo IsStated shapes (with_left seen kept) sub inside out after left
@@ -46,6 +47,7 @@ module _ (IsStated : StepMeanings → Type 0) (shapes : List Shape) (seen : Take
     path = path_grows out _ _ child after.path r.path is.deep;
     writes = λ rest h. child_leaves is_write 64 (λ e. length e.writes) rest child tx sub out after.path after.saves after.effect (λ path n. is.room_on is_write 64 (λ e. length e.writes) rest path after.saves n) (r.writes rest (is.room is_write 64 (λ e. length e.writes) rest h));
     names = λ rest h. child_leaves is_check 8 (λ e. length e.names) rest child tx sub out after.path after.saves after.effect (λ path n. is.room_on is_check 8 (λ e. length e.names) rest path after.saves n) (r.names rest (is.room is_check 8 (λ e. length e.names) rest h));
+    retires = λ rest h. child_leaves is_retire 8 (λ e. length e.retired) rest child tx sub out after.path after.saves after.effect (λ path n. is.room_on is_retire 8 (λ e. length e.retired) rest path after.saves n) (r.retires rest (is.room is_retire 8 (λ e. length e.retired) rest h));
     leads = λ m footprint stated of. child_leads m footprint seen kept tx sub before inside child out after left (is.goes m footprint stated of) (is.goes_on m footprint) (r.leads m footprint stated of);
   }
 
@@ -110,6 +112,7 @@ module _ (IsStated : StepMeanings → Type 0) (shapes : List Shape) (seen : Take
       enough = omega (arith, may.enough, e.long, ap (λ (l : List Save). length l) e.inner);
       writes = (may.writes.0, (room_of is_write 64 (λ e. length e.writes) may.writes.0 a b p q may.writes.1).0);
       names = (may.names.0, (room_of is_check 8 (λ e. length e.names) may.names.0 a b p q may.names.1).0);
+      retires = (may.retires.0, (room_of is_retire 8 (λ e. length e.retired) may.retires.0 a b p q may.retires.1).0);
     }
 
     -- and that has not retried
@@ -124,6 +127,9 @@ module _ (IsStated : StepMeanings → Type 0) (shapes : List Shape) (seen : Take
           names = λ rest h.
               let k = room_of is_check 8 (λ e. length e.names) rest a b p q h in
               first_leaves is_check 8 (λ e. length e.names) rest a b p q out after.path e.head after.saves after.effect some k.1 (r.names rest k.0);
+          retires = λ rest h.
+              let k = room_of is_retire 8 (λ e. length e.retired) rest a b p q h in
+              first_leaves is_retire 8 (λ e. length e.retired) rest a b p q out after.path e.head after.saves after.effect some k.1 (r.retires rest k.0);
           leads = λ m footprint stated of. first_leads m footprint seen a b p q before _ after e.head kept (start m footprint a b p q) out some (r.leads m footprint stated of);
         })
 
@@ -145,14 +151,15 @@ module _ (IsStated : StepMeanings → Type 0) (shapes : List Shape) (seen : Take
 -- a leaf, whose effect had room
 pub leaf_runs : {IsStated : StepMeanings → Type 0} {arities : List ℕ} {invariants : List (List ℕ)} {shapes : List Shape} {tx : Tx} (before after : Attempt) {path after_path : List ℕ} {saves : List Save} {seen : Taken} {out : Out} {left : List Bool}
     → MayRunFrom arities invariants tx (place_of before path saves) → IsLeaf tx → after_path ≡ path
-    → length after.effect.writes ≤ length before.effect.writes + count is_write tx → length after.effect.names ≤ length before.effect.names + count is_check tx → ((ask : Ask) → out ≡ Stopped ask → after.effect ≡ before.effect)
+    → length after.effect.writes ≤ length before.effect.writes + count is_write tx → length after.effect.names ≤ length before.effect.names + count is_check tx → length after.effect.retired ≤ length before.effect.retired + count is_retire tx → ((ask : Ask) → out ≡ Stopped ask → after.effect ≡ before.effect)
     → ((m : StepMeanings) (footprint : List ℕ → List ℕ) → IsStated m → AreOf shapes footprint → (saves : List Save) → LeadsTo m footprint seen tx (place_of before [] saves) out (place_of after [] saves) left)
     → RunsTo IsStated shapes seen tx (place_of before path saves) out (place_of after after_path saves) left
-leaf_runs {IsStated} {shapes = shapes} {tx = tx} before after {path = path} {saves = saves} {seen = seen} {out = out} {left = left} may leaf stood writes names stays leads =
+leaf_runs {IsStated} {shapes = shapes} {tx = tx} before after {path = path} {saves = saves} {seen = seen} {out = out} {left = left} may leaf stood writes names retires stays leads =
     let none : path ≡ [] = leaf_start is_write 64 (λ e. length e.writes) may.writes.0 path tx saves (length before.effect.writes) leaf may.writes.1 in
     subst (λ l. RunsTo IsStated shapes seen tx (place_of before path saves) out (place_of after l saves) left) (sym stood) (record {
       path = leaf_path out (depth tx) path none (leaf_depth tx leaf);
       writes = λ rest h. leaf_leaves is_write 64 (λ e. length e.writes) rest out tx path saves before.effect after.effect none writes stays h;
       names = λ rest h. leaf_leaves is_check 8 (λ e. length e.names) rest out tx path saves before.effect after.effect none names stays h;
+      retires = λ rest h. leaf_leaves is_retire 8 (λ e. length e.retired) rest out tx path saves before.effect after.effect none retires stays h;
       leads = λ m footprint stated of. subst (λ l. LeadsTo m footprint seen tx (place_of before l saves) out (place_of after l saves) left) (sym none) (leads m footprint stated of saves);
     })

@@ -9,12 +9,12 @@ use Rattle.tmem_tree.specs.declared.tx.Tx.TheVariants.{Seq}
 use Rattle.tmem_tree.specs.declared.tx.Tx.TheBlock.{items-the_row-Tx}
 use Rattle.tmem_tree.specs.declared.tx.Tx.TheViews.{the_lemmas}
 use Rattle.tmem_tree.proofs.Laws.{count_in, depth_in, choices_in, count-Seq, depth-Seq, choices-Seq}
-use Rattle.tmem_tree.specs.Limits.{depth, count, is_write, is_check, has_bad_register, has_bad_step, has_bad_arguments, has_unknown_name}
+use Rattle.tmem_tree.specs.Limits.{depth, count, is_write, is_check, is_retire, has_bad_register, has_bad_step, has_bad_arguments, lacks_shape}
 use Rattle.tmem_tree.specs.StepAnswers.{StepMeanings}
 use Rattle.tmem_tentative.specs.declared.save.Save.{Save}
 use Rattle.tmem_tentative.specs.Eval.{RunState, Taken, Flow, Goes, then_eval}
 use Rattle.tmem_tentative.specs.Logs.{AreOf, Out, Went, Stopped}
-use Rattle.tmem_tentative.specs.Places.{Covers, Place, LeadsTo, MayRunFrom, RunsTo, WritesFit, NamesFit, eval_on, eval_all_on, eval_from, with_more, behind, Enters}
+use Rattle.tmem_tentative.specs.Places.{Covers, Place, LeadsTo, MayRunFrom, RunsTo, WritesFit, NamesFit, RetiresFit, eval_on, eval_all_on, eval_from, with_more, behind, Enters}
 use Rattle.tmem_tentative.proofs.EvalSeen.{covers_refl}
 use Rattle.tmem_tentative.proofs.EvalSeq.{eval_in, eval-Seq, eval_all-items}
 use Rattle.tmem_tentative.proofs.PlaceRoom.{RoomIn, path_grows, seq_room, seq_leaves, seq_next}
@@ -100,6 +100,7 @@ module _ (IsStated : StepMeanings → Type 0) (shapes : List Shape) (seen : Take
     pub enough : choices_in txs ≤ length here.saves
     pub writes : (rest : ℕ) → WritesFit rest before.path tree before.saves before.effect → RoomIn is_write 64 (λ e. length e.writes) rest txs here.path here.saves (length here.effect.writes)
     pub names : (rest : ℕ) → NamesFit rest before.path tree before.saves before.effect → RoomIn is_check 8 (λ e. length e.names) rest txs here.path here.saves (length here.effect.names)
+    pub retires : (rest : ℕ) → RetiresFit rest before.path tree before.saves before.effect → RoomIn is_retire 8 (λ e. length e.retired) rest txs here.path here.saves (length here.effect.retired)
     pub leads : (m : StepMeanings) (footprint : List ℕ → List ℕ) → IsStated m → AreOf shapes footprint → (reads : List (ℕ × ℤ)) (more : List Bool) → Covers reads seen.reads
         → eval_from m footprint reads tree before (with_more seen more) ≡ eval_in_on m footprint reads txs here.path here.saves (record { registers = here.registers; effect = here.effect; seen = with_more (with_left seen kept) more })
 
@@ -111,6 +112,7 @@ module _ (IsStated : StepMeanings → Type 0) (shapes : List Shape) (seen : Take
     enough = omega (arith, may.enough, choices-Seq txs, choices_in-drop from txs.items);
     writes = λ rest. seq_room is_write 64 (λ e. length e.writes) rest txs before.path from left before.saves (length before.effect.writes) e;
     names = λ rest. seq_room is_check 8 (λ e. length e.names) rest txs before.path from left before.saves (length before.effect.names) e;
+    retires = λ rest. seq_room is_retire 8 (λ e. length e.retired) rest txs before.path from left before.saves (length before.effect.retired) e;
     leads = λ m footprint stated of reads more c. seq_start m footprint reads txs before.path from left before.saves _ e;
   }
 
@@ -120,11 +122,12 @@ module _ (IsStated : StepMeanings → Type 0) (shapes : List Shape) (seen : Take
     first_may {tx} {txs} is = record {
       registers = omega (arith, may.registers, is.counts has_bad_register);
       steps = record { there = omega (arith, may.steps.there, is.counts (has_bad_step arities)); given = omega (arith, may.steps.given, is.counts (has_bad_arguments arities)) };
-      known = omega (arith, may.known, is.counts (has_unknown_name invariants));
+      known = omega (arith, may.known, is.counts (lacks_shape invariants));
       deep = omega (arith, may.deep, is.deep);
       enough = omega (arith, is.enough);
       writes = (count_in is_write txs + may.writes.0, is.writes may.writes.0 may.writes.1);
       names = (count_in is_check txs + may.names.0, is.names may.names.0 may.names.1);
+      retires = (count_in is_retire txs + may.retires.0, is.retires may.retires.0 may.retires.1);
     }
 
     -- none is left
@@ -133,6 +136,7 @@ module _ (IsStated : StepMeanings → Type 0) (shapes : List Shape) (seen : Take
       path = (is.writes may.writes.0 may.writes.1).0;
       writes = λ rest h. (is.writes rest h).1;
       names = λ rest h. (is.names rest h).1;
+      retires = λ rest h. (is.retires rest h).1;
       leads = λ m footprint stated of. record { asks = λ ask e. cc; spent = λ name values e. cc; goes_on = λ reads n more c d. is.leads m footprint stated of reads more c };
     }
 
@@ -144,6 +148,7 @@ module _ (IsStated : StepMeanings → Type 0) (shapes : List Shape) (seen : Take
     enough = omega (arith, is.enough);
     writes = λ rest h. seq_next is_write 64 (λ e. length e.writes) rest tx txs after.path after.saves after.effect r.path (r.writes _ (is.writes rest h));
     names = λ rest h. seq_next is_check 8 (λ e. length e.names) rest tx txs after.path after.saves after.effect r.path (r.names _ (is.names rest h));
+    retires = λ rest h. seq_next is_retire 8 (λ e. length e.retired) rest tx txs after.path after.saves after.effect r.path (r.retires _ (is.retires rest h));
     leads = λ m footprint stated of reads more c.
         is.leads m footprint stated of reads more c ∙ seq_goes m footprint (with_left seen kept) left reads more tx txs here after (r.leads m footprint stated of) c
         ∙ ap (λ l. eval_in_on m footprint reads txs l after.saves (record { registers = after.registers; effect = after.effect; seen = with_more (with_left seen left) more })) (sym r.path);
@@ -156,5 +161,6 @@ module _ (IsStated : StepMeanings → Type 0) (shapes : List Shape) (seen : Take
     path = path_grows out _ _ k after.path r.path (omega (arith, is.deep));
     writes = λ rest h. seq_leaves is_write 64 (λ e. length e.writes) rest k txs tx others out after.path after.saves after.effect key some (r.writes _ (is.writes rest h));
     names = λ rest h. seq_leaves is_check 8 (λ e. length e.names) rest k txs tx others out after.path after.saves after.effect key some (r.names _ (is.names rest h));
+    retires = λ rest h. seq_leaves is_retire 8 (λ e. length e.retired) rest k txs tx others out after.path after.saves after.effect key some (r.retires _ (is.retires rest h));
     leads = λ m footprint stated of. seq_leads m footprint seen kept txs k tx others before here out after left key (is.leads m footprint stated of) some (r.leads m footprint stated of);
   }

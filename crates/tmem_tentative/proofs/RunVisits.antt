@@ -4,7 +4,7 @@ use Rattle.std.specs.Prelude.{⊤, nat_eq}
 use Rattle.indexmap.specs.IndexMap.{insert_entry}
 use Rattle.tmem_invariants.specs.Meanings.{Meanings}
 use Rattle.tmem_tree.specs.declared.tx.Tx.{Tx, Row_of-Tx, end_of-Tx, more_of-Tx}
-use Rattle.tmem_tree.specs.declared.tx.Tx.TheVariants.{Seq', Put, Read, Write, Step, When', OrElse', Retry, Abort, Check}
+use Rattle.tmem_tree.specs.declared.tx.Tx.TheVariants.{Seq', Put, Read, Write, Step, When', OrElse', Retry, Abort, Check, Retire}
 use Rattle.tmem_tree.specs.declared.step.StepAnswer.{StepAnswer}
 use Rattle.tmem_tree.specs.declared.step.StepAnswer.TheVariants as answer
 use Rattle.tmem_tree.specs.StepAnswers.{StepMeanings}
@@ -115,7 +115,7 @@ module _ (v w : ℕ → ℤ) where
           ((eval.put s reg (overlay v s.effect.writes var), refl, ap (λ n. Normal (run.put (view_of w s) reg n)) (sym (read_same s.effect.writes var a))), refl)
       same (Write var reg) s a =
           let n = register s.registers reg in
-          let after : (ℕ → ℤ) → View = λ m. record { values = m; registers = s.registers; effect = record { writes = with_write s.effect.writes var n; names = s.effect.names } } in
+          let after : (ℕ → ℤ) → View = λ m. record { values = m; registers = s.registers; effect = record { writes = with_write s.effect.writes var n; names = s.effect.names; retired = s.effect.retired } } in
           ((eval.write s var n, ap after (sym (overlay-write v s.effect.writes var n)), ap (λ m. Normal (after m)) (sym (overlay-write w s.effect.writes var n))), refl)
       same (Step index args out) s a = answered_same (steps index (map (register s.registers) args.items)) s out
       same (When' reg p x q y) s a = cond_same (is_zero (register s.registers reg)) _ _ _ _ _ _ _ _ (same y s) (same x s) a
@@ -130,6 +130,7 @@ module _ (v w : ℕ → ℤ) where
             subst (λ l. EndLike (run.checked (tests.test name (map (overlay v s.effect.writes) vars)) (view_of v s) name) (run.checked (tests.test name l) (view_of w s) name)) eq (checked_same (tests.test name (map (overlay v s.effect.writes) vars)) s name),
             ap (λ l. unwritten s.effect.writes vars ++ Probe name l ∷ []) eq,
           )
+      same (Retire name) s a = ((eval.retire s name, refl, refl), refl)
       same tx s a = ((s, refl, refl), refl)
 
       pub same_all : {m : _} (txs : Row_of-Tx m) (s : RunState) → AgreeOn (asks_all steps tests txs (view_of v s)) → AreSame (run_all steps tests txs (view_of v s)) (run_all steps tests txs (view_of w s)) (asks_all steps tests txs (view_of v s)) (asks_all steps tests txs (view_of w s))

@@ -7,7 +7,7 @@ use Rattle.tmem_invariants.specs.Meanings.{Meanings}
 use Rattle.tmem_record.specs.declared.effect.Effect.{Effect}
 use Rattle.tmem_tree.specs.declared.tx.Tx.{Tx, Row_of-Tx, end_of-Tx, more_of-Tx}
 use Rattle.tmem_tree.specs.declared.tx.Tx.TheVariants.{Seq', When', OrElse'}
-use Rattle.tmem_tree.specs.Limits.{is_write, is_check}
+use Rattle.tmem_tree.specs.Limits.{is_write, is_check, is_retire}
 use Rattle.tmem_tree.specs.Plans.{PlanView}
 use Rattle.tmem_tree.specs.Shapes.{footprint_in}
 use Rattle.tmem_tree.specs.StepAnswers.{StepMeanings}
@@ -20,7 +20,7 @@ use Rattle.tmem_tentative.specs.declared.cursor.Stage.{Stage}
 use Rattle.tmem_tentative.specs.declared.cursor.Stage.TheVariants.{Going, Waits, Tests, Ended}
 use Rattle.tmem_tentative.specs.declared.save.Save.{Save}
 use Rattle.tmem_tentative.specs.Eval.{Flow}
-use Rattle.tmem_tentative.specs.Fits.{IsBlankUnlessNormal}
+use Rattle.tmem_tentative.specs.Fits.{IsBlankUnlessNormal, IsEndingFor}
 use Rattle.tmem_tentative.specs.Places.{Place, HasRoom, AllHaveRoom}
 use Rattle.tmem_tentative.specs.Cursors.{MayGoOn, StandsIn, IsAt, IsAtStage, attempt_of}
 use Rattle.tmem_tentative.specs.Right.{Gave}
@@ -56,13 +56,19 @@ module _ (test : Tx → Bool) (limit : ℕ) (size : Effect → ℕ) where
 
 pub MayGoOn-prop : (plan : Tx) (p : Place) → IsProp (MayGoOn plan p)
 MayGoOn-prop plan p =
-    hlevel (props, HasRoom-prop is_write 64 (λ e. length e.writes) 0 p.path plan p.saves (length p.effect.writes), HasRoom-prop is_check 8 (λ e. length e.names) 0 p.path plan p.saves (length p.effect.names))
+    hlevel (props, HasRoom-prop is_write 64 (λ e. length e.writes) 0 p.path plan p.saves (length p.effect.writes), HasRoom-prop is_check 8 (λ e. length e.names) 0 p.path plan p.saves (length p.effect.names), HasRoom-prop is_retire 8 (λ e. length e.retired) 0 p.path plan p.saves (length p.effect.retired))
 
 pub IsBlankUnlessNormal-prop : (e : Ending) (a : Attempt) → IsProp (IsBlankUnlessNormal e a)
 IsBlankUnlessNormal-prop ending.Normal a = hlevel
 IsBlankUnlessNormal-prop ending.Retry a = hlevel props
 IsBlankUnlessNormal-prop (ending.Abort code) a = hlevel props
 IsBlankUnlessNormal-prop (ending.Broken name) a = hlevel props
+
+pub IsEndingFor-prop : (names : List (List ℕ)) (end : Ending) → IsProp (IsEndingFor names end)
+IsEndingFor-prop names ending.Normal = hlevel
+IsEndingFor-prop names ending.Retry = hlevel
+IsEndingFor-prop names (ending.Abort code) = hlevel
+IsEndingFor-prop names (ending.Broken name) = Bool-set _ _
 
 IsAtStage-prop : (m : StepMeanings) (footprint : List ℕ → List ℕ) (plan : Tx) (stage : Stage) (cursor : Cursor) → IsProp (IsAtStage m footprint plan stage cursor)
 IsAtStage-prop m footprint plan Going cursor = hlevel (props, MayGoOn-prop, Flow-prop)

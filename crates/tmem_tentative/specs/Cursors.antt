@@ -20,7 +20,7 @@ use Rattle.tmem_tentative.specs.declared.cursor.Stage.TheVariants.{Going, Waits,
 use Rattle.tmem_tentative.specs.Answers.{answers_of}
 use Rattle.tmem_tentative.specs.Ends.{start_state, IsMadeOf}
 use Rattle.tmem_tentative.specs.Eval.{Taken, Stops, eval}
-use Rattle.tmem_tentative.specs.Places.{Covers, Place, place_at, taken_at, eval_from, with_more, WritesFit, NamesFit}
+use Rattle.tmem_tentative.specs.Places.{Covers, Place, place_at, taken_at, eval_from, with_more, WritesFit, NamesFit, RetiresFit}
 use Rattle.tmem_tentative.specs.Right.{HaveAnswered}
 
 -- the values that it was given, in order
@@ -50,11 +50,13 @@ taken cursor = taken_at cursor.course
 abbrev pub place : Cursor → Place
 place cursor = place_at cursor.course cursor.saves.items
 
--- an evaluation of the plan may go on from here: there are saves for its choices, and room for what it writes and checks
+-- an evaluation of the plan may go on from here: there are saves for its choices, and room for what it writes, checks and
+-- retires
 pub record MayGoOn (plan : Tx) (p : Place) : Type 0 where
   pub enough : choices plan ≤ length p.saves
   pub writes : WritesFit 0 p.path plan p.saves p.effect
   pub names : NamesFit 0 p.path plan p.saves p.effect
+  pub retires : RetiresFit 0 p.path plan p.saves p.effect
 
 -- whatever else will be read and answered, the evaluation of the plan from its start, with these answers first, is the one from
 -- here, where so much was taken

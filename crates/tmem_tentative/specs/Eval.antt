@@ -2,11 +2,11 @@
 use Rattle.std.specs.Prelude.{ℕ, ℤ, Bool, true, false, List, [], ◌∷◌, map, Option, Some, None, nat_eq, slice_set, if◌then◌else◌}
 use Rattle.indexmap.specs.IndexMap.{insert_entry}
 use Rattle.tmem_tree.specs.declared.tx.Tx.{Tx, Row_of-Tx, end_of-Tx, more_of-Tx}
-use Rattle.tmem_tree.specs.declared.tx.Tx.TheVariants.{Skip, Seq', Put, Read, Write, Step, When', OrElse', Retry, Abort, Check}
+use Rattle.tmem_tree.specs.declared.tx.Tx.TheVariants.{Skip, Seq', Put, Read, Write, Step, When', OrElse', Retry, Abort, Check, Retire}
 use Rattle.tmem_tree.specs.declared.step.StepAnswer.{StepAnswer}
 use Rattle.tmem_tree.specs.declared.step.StepAnswer.TheVariants as answer
 use Rattle.tmem_tree.specs.StepAnswers.{StepMeanings}
-use Rattle.tmem_record.specs.Names.{with_name}
+use Rattle.tmem_record.specs.Names.{with_name, without_name}
 use Rattle.tmem_record.specs.Writes.{look, with_write}
 use Rattle.tmem_record.specs.declared.effect.Effect.{Effect}
 use Rattle.tmem_tree.specs.Run.{is_zero, register}
@@ -40,10 +40,25 @@ abbrev pub put : RunState → ℕ → ℤ → RunState
 put s reg n = record s { registers = slice_set s.registers reg n }
 
 abbrev pub write : RunState → ℕ → ℤ → RunState
-write s var n = record s { effect = record { writes = with_write s.effect.writes var n; names = s.effect.names } }
+write s var n = record s { effect = record { writes = with_write s.effect.writes var n; names = s.effect.names; retired = s.effect.retired } }
 
 abbrev pub check : RunState → List ℕ → RunState
-check s name = record s { effect = record { writes = s.effect.writes; names = with_name s.effect.names name } }
+check s name = record s {
+  effect = record {
+    writes = s.effect.writes;
+    names = with_name s.effect.names name;
+    retired = without_name s.effect.retired name;
+  };
+}
+
+abbrev pub retire : RunState → List ℕ → RunState
+retire s name = record s {
+  effect = record {
+    writes = s.effect.writes;
+    names = without_name s.effect.names name;
+    retired = with_name s.effect.retired name;
+  };
+}
 
 abbrev pub saw : RunState → ℕ → ℤ → RunState
 saw s var n = record s { seen = record { reads = insert_entry nat_eq s.seen.reads var n; left = s.seen.left } }
@@ -130,6 +145,7 @@ module _ (steps : StepMeanings) (footprint : List ℕ → List ℕ) (reads : Lis
     eval Retry s = Retries s.seen
     eval (Abort code) s = Leaves (Gives_up code) s.seen
     eval (Check name) s = checked (looked reads (footprint name) s) name
+    eval (Retire name) s = Goes (retire s name)
 
     pub eval_all : {m : _} → Row_of-Tx m → RunState → Flow
     eval_all end_of-Tx s = Goes s

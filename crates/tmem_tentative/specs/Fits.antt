@@ -2,9 +2,11 @@
 use Rattle.std.specs.Prelude.{◌≡◌, ⊤, ℕ, ℤ, ◌<◌, ◌≤◌, true, List, length, None, nat_eq, All}
 use Rattle.std.specs.List.{IsDistinct}
 use Rattle.std.specs.Map.{keys_of}
-use Rattle.tmem_record.specs.Names.{has_name}
+use Rattle.tmem_record.specs.Names.{has_name, AreApart}
 use Rattle.tmem_record.specs.Writes.{look}
 use Rattle.tmem_record.specs.declared.effect.Effect.{Effect}
+use Rattle.tmem_tree.specs.declared.shape.Shape.{Shape}
+use Rattle.tmem_tree.specs.Shapes.{names_of, footprint_in}
 use Rattle.tmem_tentative.specs.declared.attempt.Outcome.{Outcome}
 use Rattle.tmem_tentative.specs.declared.attempt.Outcome.TheVariants.{Need, Ended}
 use Rattle.tmem_tentative.specs.declared.attempt.Outcome.TheVariants as outcome
@@ -13,11 +15,13 @@ use Rattle.tmem_tentative.specs.declared.attempt.Ending.{Ending}
 use Rattle.tmem_tentative.specs.declared.attempt.Ending.TheVariants.{Normal, Retry, Abort, Broken}
 use Rattle.tmem_tentative.specs.Right.{IsBlank}
 
--- each variable is written once, and no more variables and names than a plan may have
+-- each variable is written once, no name is both proposed and retired, and no more variables and names than a plan may have
 pub record IsPlansEffect (effect : Effect) : Type 0 where
   pub once : IsDistinct nat_eq (keys_of effect.writes)
   pub few : length effect.writes ≤ 64
   pub few_names : length effect.names ≤ 8
+  pub few_retired : length effect.retired ≤ 8
+  pub apart : AreApart effect.names effect.retired
 
 abbrev pub IsBlankUnlessNormal : Ending → Attempt → Type 0
 IsBlankUnlessNormal Normal a = Unit {0}
@@ -42,9 +46,17 @@ IsWithin vars (Need var) = var < vars
 IsWithin vars (outcome.Probe probe) = ⊤
 IsWithin vars (Ended a) = IsForVariables vars a
 
--- each name that it proposes is one of these
-abbrev pub IsForNames : List (List ℕ) → Attempt → Type 0
-IsForNames names a = All (λ name. has_name names name ≡ true) a.effect.names
+-- the name of an invariant that was false is one of these
+abbrev pub IsEndingFor : List (List ℕ) → Ending → Type 0
+IsEndingFor names (Broken name) = has_name names name ≡ true
+IsEndingFor names _ = ⊤
+
+-- each name that it proposes or retires is one of these, none of them both, and so is the one at which it was broken
+pub record IsForNames (names : List (List ℕ)) (a : Attempt) : Type 0 where
+  pub proposed : All (λ name. has_name names name ≡ true) a.effect.names
+  pub retired : All (λ name. has_name names name ≡ true) a.effect.retired
+  pub apart : AreApart a.effect.names a.effect.retired
+  pub ending : IsEndingFor names a.ending
 
 -- each name is one of these
 abbrev pub IsNamed : List (List ℕ) → Outcome → Type 0
@@ -52,7 +64,8 @@ IsNamed names (Need var) = ⊤
 IsNamed names (outcome.Probe probe) = has_name names probe.name ≡ true
 IsNamed names (Ended a) = IsForNames names a
 
--- a test is given as many values as the footprint of its name has variables
-abbrev pub IsFilled : (List ℕ → List ℕ) → Outcome → Type 0
-IsFilled footprint (outcome.Probe probe) = length probe.values ≡ length (footprint probe.name)
-IsFilled footprint _ = ⊤
+-- a test is of a name that has a shape, and is given as many values as that has variables
+abbrev pub IsFilled : List Shape → Outcome → Type 0
+IsFilled shapes (outcome.Probe probe) =
+    (has_name (names_of shapes) probe.name ≡ true) × (length probe.values ≡ length (footprint_in shapes probe.name))
+IsFilled shapes _ = ⊤

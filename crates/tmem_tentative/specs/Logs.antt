@@ -3,8 +3,8 @@ use Rattle.std.specs.Prelude.{◌≡◌, ⊤, ℕ, ℤ, ◌+◌, ◌≤◌, Bool
 use Rattle.tmem_record.specs.Names.{has_name}
 use Rattle.tmem_record.specs.declared.effect.Effect.{Effect}
 use Rattle.tmem_tree.specs.declared.tx.Tx.{Tx}
-use Rattle.tmem_tree.specs.Limits.{count, is_write, is_check, has_bad_register}
-use Rattle.tmem_tree.specs.Plans.{FitsSteps, FitsNames}
+use Rattle.tmem_tree.specs.Limits.{count, is_write, is_check, is_retire, has_bad_register}
+use Rattle.tmem_tree.specs.Plans.{FitsSteps, HasShapes}
 use Rattle.tmem_tree.specs.Shapes.{names_of, footprint_in}
 use Rattle.tmem_tree.specs.Visited.{Ask, Visit, Probe}
 use Rattle.tmem_tree.specs.declared.shape.Shape.{Shape}
@@ -67,11 +67,12 @@ looked_at None values s = Found values s
 abbrev pub AreOf : List Shape → (List ℕ → List ℕ) → Type 0
 AreOf shapes footprint = (name : List ℕ) → has_name (names_of shapes) name ≡ true → footprint name ≡ footprint_in shapes name
 
--- a run of this tree may go on, for steps that take so many arguments and for invariants of these names, where the effect has room
--- for what it writes and checks
+-- a run of this tree may go on, for steps that take so many arguments and for shapes of these names, where the effect has room for
+-- what it writes, checks and retires
 pub record MayWalk (arities : List ℕ) (names : List (List ℕ)) (tx : Tx) (effect : Effect) : Type 0 where
   pub registers : count has_bad_register tx ≡ 0
   pub steps : FitsSteps arities tx
-  pub known : FitsNames names tx
+  pub known : HasShapes names tx
   pub writes : length effect.writes + count is_write tx ≤ 64
   pub checks : length effect.names + count is_check tx ≤ 8
+  pub retires : length effect.retired + count is_retire tx ≤ 8

@@ -6,8 +6,8 @@ use Rattle.tmem_tree.specs.declared.tx.Tx.TheVariants.{Seq', When', OrElse'}
 use Rattle.tmem_tree.specs.StepAnswers.{StepMeanings}
 use Rattle.tmem_record.specs.Writes.{look}
 use Rattle.tmem_record.specs.declared.effect.Effect.{Effect}
-use Rattle.tmem_tree.specs.Limits.{depth, choices, count, count_all, is_write, is_check, has_bad_register}
-use Rattle.tmem_tree.specs.Plans.{FitsSteps, FitsNames}
+use Rattle.tmem_tree.specs.Limits.{depth, choices, count, count_all, is_write, is_check, is_retire, has_bad_register}
+use Rattle.tmem_tree.specs.Plans.{FitsSteps, HasShapes}
 use Rattle.tmem_tree.specs.Visited.{Ask, Visit, Probe}
 use Rattle.tmem_tree.specs.declared.shape.Shape.{Shape}
 use Rattle.tmem_tentative.specs.declared.attempt.Attempt.{Attempt}
@@ -68,6 +68,11 @@ WritesFit rest path tx saves effect =
 abbrev pub NamesFit : ℕ → List ℕ → Tx → List Save → Effect → Type 0
 NamesFit rest path tx saves effect =
     HasRoom is_check 8 (λ e. length e.names) rest path tx saves (length effect.names)
+
+-- no more than 8 retired names
+abbrev pub RetiresFit : ℕ → List ℕ → Tx → List Save → Effect → Type 0
+RetiresFit rest path tx saves effect =
+    HasRoom is_retire 8 (λ e. length e.retired) rest path tx saves (length effect.retired)
 
 -- the reads have all that was seen
 pub record Covers (reads seen : List (ℕ × ℤ)) : Type 0 where
@@ -132,16 +137,17 @@ LeavesRoom test limit size rest Went path tx saves effect = size effect + rest �
 LeavesRoom test limit size rest (Stopped ask) path tx saves effect = HasRoom test limit size rest path tx saves (size effect)
 LeavesRoom test limit size rest _ path tx saves effect = ⊤
 
--- A run of this tree may go on from here, for steps that take so many arguments and invariants of these names: it is no deeper
--- than a plan, there is a save for each of its choices, and with so many behind it there is room for what it writes and checks.
+-- A run of this tree may go on from here, for steps that take so many arguments and shapes of these names: it is no deeper than a
+-- plan, there is a save for each of its choices, and with so many behind it there is room for what it writes, checks and retires.
 pub record MayRunFrom (arities : List ℕ) (invariants : List (List ℕ)) (tx : Tx) (p : Place) : Type 0 where
   pub registers : count has_bad_register tx ≡ 0
   pub steps : FitsSteps arities tx
-  pub known : FitsNames invariants tx
+  pub known : HasShapes invariants tx
   pub deep : depth tx ≤ 32
   pub enough : choices tx ≤ length p.saves
   pub writes : (rest : ℕ) × WritesFit rest p.path tx p.saves p.effect
   pub names : (rest : ℕ) × NamesFit rest p.path tx p.saves p.effect
+  pub retires : (rest : ℕ) × RetiresFit rest p.path tx p.saves p.effect
 
 -- a run from one place to another, where so much was taken: the path and the room behind it, and what it leads to under each
 -- meaning that is stated of the steps, with the footprints of these shapes
@@ -149,6 +155,7 @@ pub record RunsTo (IsStated : StepMeanings → Type 0) (shapes : List Shape) (se
   pub path : IsPathBehind out (depth tx) after.path
   pub writes : (rest : ℕ) → WritesFit rest before.path tx before.saves before.effect → LeavesRoom is_write 64 (λ e. length e.writes) rest out after.path tx after.saves after.effect
   pub names : (rest : ℕ) → NamesFit rest before.path tx before.saves before.effect → LeavesRoom is_check 8 (λ e. length e.names) rest out after.path tx after.saves after.effect
+  pub retires : (rest : ℕ) → RetiresFit rest before.path tx before.saves before.effect → LeavesRoom is_retire 8 (λ e. length e.retired) rest out after.path tx after.saves after.effect
   pub leads : (m : StepMeanings) (footprint : List ℕ → List ℕ) → IsStated m → AreOf shapes footprint → LeadsTo m footprint seen tx before out after left
 
 -- the path with the child that leads to the place, where the run goes on

@@ -5,9 +5,9 @@ ghost use Rattle.indexmap.specs.IndexMap.{insert_entry, spare};
 ghost use Rattle.tmem_invariants.specs.Meanings.{Meanings};
 ghost use Rattle.tmem_tree.specs.declared.tx.Tx.{Tx};
 ghost use Rattle.tmem_tree.specs.Limits.{choices};
-ghost use Rattle.tmem_tree.specs.Shapes.{footprint_in, names_of};
+ghost use Rattle.tmem_tree.specs.Shapes.{names_of};
 ghost use Rattle.tmem_tree.specs.StepAnswers.{StepMeanings};
-ghost use Rattle.tmem_tree.specs.Plans.{PlanView, IsWithinLimits, FitsSteps, FitsVariables, FitsNames, FitsShapes};
+ghost use Rattle.tmem_tree.specs.Plans.{PlanView, IsWithinLimits, FitsSteps, FitsVariables, FitsNames, FitsShapes, HasShapes};
 ghost use Rattle.tmem_tentative.specs.Stages.{wanted, no_save};
 
 use crate::answers::Answers;
@@ -63,6 +63,7 @@ impl Cursor {
     /// A cursor in no evaluation, which has no memory: `restart` begins one.
     pub fn idle(alloc: Global) -> Cursor
         ensures given { given result ≡ [] }
+        ensures answers { answers result ≡ [] }
         ensures going { ¬ HasEnded result }
     {
         Cursor {
@@ -138,12 +139,11 @@ impl Cursor {
         ensures fits { IfOk result (λ progress. IsFit (given self.new) (outcome_of self.new progress)) }
         ensures within { (vars : ℕ) → FitsVariables vars plan.now → IfOk result (λ progress. IsWithin vars (outcome_of self.new progress)) }
         ensures named { (names : List (List ℕ)) → FitsNames names plan.now.tree → IfOk result (λ progress. IsNamed names (outcome_of self.new progress)) }
-        ensures filled { IfOk result (λ progress. IsFilled (footprint_in plan.now.shapes) (outcome_of self.new progress)) }
+        ensures filled { IfOk result (λ progress. IsFilled plan.now.shapes (outcome_of self.new progress)) }
         ensures same { IfErr result (λ _. IsAsBefore self.old self.new) }
         ensures fault { IfErr result (λ fault. fault ≡ Fault.Memory) }
     {
         let tree = plan.tree();
-        let _ = plan.shapes();
         match self.stage {
             Stage::Going => {
                 self.course.attempt.reads.reserve(1)?;
@@ -170,7 +170,7 @@ impl Cursor {
         ensures fits { IfOk result (IsFit (given self.new)) }
         ensures within { (vars : ℕ) → FitsVariables vars plan.now → IfOk result (IsWithin vars) }
         ensures named { (names : List (List ℕ)) → FitsNames names plan.now.tree → IfOk result (IsNamed names) }
-        ensures filled { IfOk result (IsFilled (footprint_in plan.now.shapes)) }
+        ensures filled { IfOk result (IsFilled plan.now.shapes) }
         ensures same { IfErr result (λ _. IsAsBefore self.old self.new) }
         ensures fault { IfErr result (λ fault. fault ≡ Fault.Memory) }
     {
@@ -254,7 +254,7 @@ impl Cursor {
     fn go_on<S: StoredSteps>(&mut self, tree: &Tx, plan: &Plan, steps: &S) -> Progress
         requires tree { tree.now ≡ plan.now.tree }
         requires limits { IsWithinLimits plan.now.tree }
-        requires known { FitsNames (names_of plan.now.shapes) plan.now.tree }
+        requires known { HasShapes (names_of plan.now.shapes) plan.now.tree }
         requires steps { FitsSteps (S.arities steps.now) plan.now.tree }
         requires stands { (m : StepMeanings) → S.is_stated steps.now m → StandsIn m plan.now self.old }
         requires going { self.old.stage ≡ Stage.Going }

@@ -4,7 +4,6 @@ ghost use Rattle.std.specs.Prelude.{◌≡◌, ℕ, Bool, List, length, IfOk, If
 ghost use Rattle.tmem_invariants.specs.Meanings.{Meanings};
 ghost use Rattle.tmem_tree.specs.StepAnswers.{StepMeanings};
 ghost use Rattle.tmem_tree.specs.Plans.{FitsSteps, FitsVariables, FitsNames, FitsShapes};
-ghost use Rattle.tmem_tree.specs.Shapes.{footprint_in};
 ghost use Rattle.tmem_tentative.specs.Right.{IsOutcome, HaveAnswered};
 ghost use Rattle.tmem_tentative.specs.Logs.{IsLeaving, run_state_of, flow_at, out_of};
 ghost use Rattle.tmem_tentative.specs.Ends.{IsEndOf, IsMadeOf};
@@ -37,7 +36,7 @@ pub fn evaluate<S: StoredSteps>(
     ensures fits { IfOk result (IsFit reads.now.entries) }
     ensures within { (vars : ℕ) → FitsVariables vars plan.now → IfOk result (IsWithin vars) }
     ensures named { (names : List (List ℕ)) → FitsNames names plan.now.tree → IfOk result (IsNamed names) }
-    ensures filled { IfOk result (IsFilled (footprint_in plan.now.shapes)) }
+    ensures filled { IfOk result (IsFilled plan.now.shapes) }
     ensures fault { IfErr result (λ fault. fault ≡ Fault.Memory) }
 {
     let mut attempt = Attempt {
@@ -76,6 +75,7 @@ fn outcome(flow: Flow, mut attempt: Attempt, probe: Probe) -> Outcome
 }
 
 /// Makes an attempt of a run that has ended: unless it ended normally, its registers and its effect are let go.
+#[inline(always)]
 pub(crate) fn end(attempt: &mut Attempt, ending: Ending)
     ensures { IsEndOf attempt.old ending attempt.new }
 {

@@ -6,7 +6,7 @@ ghost use Rattle.std.specs.Option.{option_to_list};
 ghost use Rattle.tmem_tree.specs.StepAnswers.{StepMeanings};
 ghost use Rattle.tmem_record.specs.Names.{has_name};
 ghost use Rattle.tmem_record.specs.Writes.{look};
-ghost use Rattle.tmem_tree.specs.Limits.{count, is_write, is_check, is_no_register};
+ghost use Rattle.tmem_tree.specs.Limits.{count, is_write, is_check, is_retire, is_no_register};
 ghost use Rattle.tmem_tree.specs.Run.{register};
 ghost use Rattle.tmem_tree.specs.Shapes.{names_of, footprint_in};
 ghost use Rattle.tmem_tentative.specs.Eval.{eval, read, answered, seen_of, noted_of, looked, checked, tested};
@@ -53,6 +53,7 @@ pub(crate) fn walk<S: StoredSteps>(
     requires { MayWalk (S.arities steps.now) (names_of given.now.shapes.now) tx.now log.old.effect }
     ensures room { length log.new.effect.writes ≤ length log.old.effect.writes + count is_write tx.now }
     ensures names { length log.new.effect.names ≤ length log.old.effect.names + count is_check tx.now }
+    ensures retired { length log.new.effect.retired ≤ length log.old.effect.retired + count is_retire tx.now }
     ensures flow { (m : StepMeanings) (footprint : List ℕ → List ℕ) → S.is_stated steps.now m → AreOf given.now.shapes.now footprint → IfOk result (λ flow. flow_at (out_of flow log.new tests.new.probe) (run_state_of log.new (drop tests.new.used given.now.answers.now))
         ≡ eval m footprint given.now.reads.now.entries tx.now (run_state_of log.old (drop tests.old.used given.now.answers.now))) }
     ensures leaves { result ≡ Ok Flow.Leave → IsLeaving log.new.ending }
@@ -96,6 +97,10 @@ pub(crate) fn walk<S: StoredSteps>(
             Ok(Flow::Leave)
         }
         Tx::Check { name } => check(given, log, tests, name),
+        Tx::Retire { name } => {
+            log.effect.retire(name);
+            Ok(Flow::Normal)
+        }
     }
 }
 
@@ -114,6 +119,7 @@ fn walk_first<S: StoredSteps>(
     requires { MayWalk (S.arities steps.now) (names_of given.now.shapes.now) tx.now log.old.effect }
     ensures room { length log.new.effect.writes ≤ length log.old.effect.writes + count is_write tx.now }
     ensures names { length log.new.effect.names ≤ length log.old.effect.names + count is_check tx.now }
+    ensures retired { length log.new.effect.retired ≤ length log.old.effect.retired + count is_retire tx.now }
     ensures flow { (m : StepMeanings) (footprint : List ℕ → List ℕ) → S.is_stated steps.now m → AreOf given.now.shapes.now footprint → IfOk result (λ flow. flow_at (out_of flow log.new tests.new.probe) (run_state_of log.new (drop tests.new.used given.now.answers.now))
         ≡ eval m footprint given.now.reads.now.entries tx.now (run_state_of log.old (drop tests.old.used given.now.answers.now))) }
     ensures leaves { result ≡ Ok Flow.Leave → IsLeaving log.new.ending }
@@ -191,6 +197,7 @@ fn check(given: &Given, log: &mut Attempt, tests: &mut Tests, name: &Name) -> Re
     requires room { length log.old.effect.names < 8 }
     ensures writes { log.new.effect.writes ≡ log.old.effect.writes }
     ensures names { length log.new.effect.names ≤ length log.old.effect.names + 1 }
+    ensures retired { length log.new.effect.retired ≤ length log.old.effect.retired }
     ensures flow { IfOk result (λ flow. flow_at (out_of flow log.new tests.new.probe) (run_state_of log.new (drop tests.new.used given.now.answers.now))
         ≡ checked (looked given.now.reads.now.entries (footprint_in given.now.shapes.now name.now) (run_state_of log.old (drop tests.old.used given.now.answers.now))) name.now) }
     ensures leaves { result ≡ Ok Flow.Leave → IsLeaving log.new.ending }
@@ -237,6 +244,7 @@ pub(crate) fn settle(held: Option<bool>, log: &mut Attempt, probe: &Probe) -> Fl
     ensures reads { log.new.reads ≡ log.old.reads }
     ensures writes { log.new.effect.writes ≡ log.old.effect.writes }
     ensures names { length log.new.effect.names ≤ length log.old.effect.names + 1 }
+    ensures retired { length log.new.effect.retired ≤ length log.old.effect.retired }
     ensures stays { result ≡ Flow.Test → log.new ≡ log.old }
     ensures needs_none { (n : ℕ) → result ≡ Flow.Need n → ⊥ }
     ensures flow { (left : List Bool) → (held ≡ None → left ≡ []) → flow_at (out_of result log.new probe.now) (run_state_of log.new left) ≡ tested (option_to_list held ++ left) probe.now.name probe.now.values (run_state_of log.old (option_to_list held ++ left)) }
@@ -245,7 +253,7 @@ pub(crate) fn settle(held: Option<bool>, log: &mut Attempt, probe: &Probe) -> Fl
     match held {
         None => Flow::Test,
         Some(true) => {
-            log.effect.names.put(&probe.name);
+            log.effect.check(&probe.name);
             Flow::Normal
         }
         Some(false) => {

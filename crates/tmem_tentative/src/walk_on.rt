@@ -5,7 +5,7 @@ ghost use Rattle.std.specs.List.{list_any};
 ghost use Rattle.tmem_tree.specs.StepAnswers.{StepMeanings};
 ghost use Rattle.tmem_record.specs.Writes.{look};
 ghost use Rattle.tmem_record.specs.declared.effect.Effect.{Effect};
-ghost use Rattle.tmem_tree.specs.Limits.{count, is_write, is_check};
+ghost use Rattle.tmem_tree.specs.Limits.{count, is_write, is_check, is_retire};
 ghost use Rattle.tmem_record.specs.Names.{has_name};
 ghost use Rattle.tmem_tree.specs.Run.{register, is_zero};
 ghost use Rattle.tmem_tree.specs.Shapes.{footprint_in, names_of};
@@ -193,6 +193,7 @@ fn act<S: StoredSteps>(tx: &Tx, plan: &Plan, steps: &S, course: &mut Course) -> 
     ensures path { course.new.path ≡ course.old.path }
     ensures room { length course.new.attempt.effect.writes ≤ length course.old.attempt.effect.writes + count is_write tx.now }
     ensures names { length course.new.attempt.effect.names ≤ length course.old.attempt.effect.names + count is_check tx.now }
+    ensures retired { length course.new.attempt.effect.retired ≤ length course.old.attempt.effect.retired + count is_retire tx.now }
     ensures stays { (ask : Ask) → out_at result course.new ≡ Stopped ask → course.new.attempt.effect ≡ course.old.attempt.effect }
     ensures leaves { result ≡ Flow.Leave → IsLeaving course.new.attempt.ending }
     ensures leads { (m : StepMeanings) (footprint : List ℕ → List ℕ) → S.is_stated steps.now m → AreOf plan.now.shapes footprint → (saves : List Save)
@@ -220,6 +221,10 @@ fn act<S: StoredSteps>(tx: &Tx, plan: &Plan, steps: &S, course: &mut Course) -> 
             Flow::Leave
         }
         Tx::Check { name } => check(name, plan, course),
+        Tx::Retire { name } => {
+            course.attempt.effect.retire(name);
+            Flow::Normal
+        }
     }
 }
 
@@ -247,6 +252,7 @@ fn read(log: &mut Attempt, var: u16, reg: u8) -> Flow
 
 // The value that was given of a variable. Most often that is the last one that was given, or none was given at all: then
 // nothing is looked up in the map.
+#[inline(always)]
 fn value_read(reads: &Reads, var: u16) -> Option<i64>
     ensures { result ≡ look reads.now.entries var }
 {
@@ -267,6 +273,7 @@ fn check(name: &Name, plan: &Plan, course: &mut Course) -> Flow
     ensures path { course.new.path ≡ course.old.path }
     ensures writes { course.new.attempt.effect.writes ≡ course.old.attempt.effect.writes }
     ensures names { length course.new.attempt.effect.names ≤ length course.old.attempt.effect.names + 1 }
+    ensures retired { length course.new.attempt.effect.retired ≤ length course.old.attempt.effect.retired }
     ensures stays { (ask : Ask) → out_at result course.new ≡ Stopped ask → course.new.attempt ≡ course.old.attempt }
     ensures leaves { result ≡ Flow.Leave → IsLeaving course.new.attempt.ending }
     ensures leads { (m : StepMeanings) (footprint : List ℕ → List ℕ) (saves : List Save) → footprint name.now ≡ footprint_in plan.now.shapes name.now

@@ -4,9 +4,9 @@ use Rattle.std.proofs.lemmas.Bool.{cond_both}
 use Rattle.std.proofs.lemmas.Bool.Decides.{nat_tests}
 use Rattle.tmem_tree.specs.declared.tx.Tx.{Tx, Row_of-Tx, end_of-Tx, more_of-Tx}
 use Rattle.tmem_tree.specs.declared.tx.Tx.TheVariants.{Seq', Put, When', OrElse'}
-use Rattle.tmem_tree.specs.Limits.{depth, depth_of_all, choices, choices_of_all, one_if, count, count_all, is_put, is_node, is_write, is_check, is_step, has_bad_register, has_bad_variable, has_bad_step, has_bad_arguments, has_unknown_name}
+use Rattle.tmem_tree.specs.Limits.{depth, depth_of_all, choices, choices_of_all, one_if, count, count_all, is_put, is_node, is_write, is_check, is_retire, is_step, has_bad_register, has_bad_variable, has_bad_step, has_bad_arguments, has_unknown_name, lacks_shape}
 use Rattle.tmem_tree.specs.declared.shape.Shape.{Shape}
-use Rattle.tmem_tree.specs.Plans.{IsWithinLimits, FitsSteps, FitsVariables, FitsNames, IsShort}
+use Rattle.tmem_tree.specs.Plans.{IsWithinLimits, FitsSteps, FitsVariables, FitsNames, HasShapes, IsShort}
 use Rattle.tmem_tree.specs.Numbers.{with_number, with_number_in}
 
 -- a test that looks at what a node is, and at no number and no tree below it
@@ -83,6 +83,9 @@ looks-is_write = record { put = refl; seq = refl; when = refl; or_else = refl }
 looks-is_check : LooksAtNode is_check
 looks-is_check = record { put = refl; seq = refl; when = refl; or_else = refl }
 
+looks-is_retire : LooksAtNode is_retire
+looks-is_retire = record { put = refl; seq = refl; when = refl; or_else = refl }
+
 looks-is_step : LooksAtNode is_step
 looks-is_step = record { put = refl; seq = refl; when = refl; or_else = refl }
 
@@ -101,6 +104,9 @@ looks-has_bad_arguments arities = record { put = refl; seq = refl; when = refl; 
 looks-has_unknown_name : (names : List (List ℕ)) → LooksAtNode (has_unknown_name names)
 looks-has_unknown_name names = record { put = refl; seq = refl; when = refl; or_else = refl }
 
+looks-lacks_shape : (names : List (List ℕ)) → LooksAtNode (lacks_shape names)
+looks-lacks_shape names = record { put = refl; seq = refl; when = refl; or_else = refl }
+
 -- the tree behind a change is like the one before it
 pub alike_by : (place : ℕ) (n : ℤ) (old new : Tx) → new ≡ with_number place n old → IsAlike old new
 alike_by place n old new change = subst (IsAlike old) (sym change) (alike place n old)
@@ -112,6 +118,7 @@ module _ {old new : Tx} (same : IsAlike old new) where
     nodes = omega (arith, same.counts is_node looks-is_node, within.nodes);
     writes = omega (arith, same.counts is_write looks-is_write, within.writes);
     checks = omega (arith, same.counts is_check looks-is_check, within.checks);
+    retires = omega (arith, same.counts is_retire looks-is_retire, within.retires);
     registers = same.counts has_bad_register looks-has_bad_register ∙ within.registers;
   }
 
@@ -135,6 +142,9 @@ module _ {old new : Tx} (same : IsAlike old new) where
 
   pub names_kept : (names : List (List ℕ)) → FitsNames names old → FitsNames names new
   names_kept names fits = same.counts _ (looks-has_unknown_name names) ∙ fits
+
+  pub still_shaped : (names : List (List ℕ)) → HasShapes names old → HasShapes names new
+  still_shaped names shaped = same.counts _ (looks-lacks_shape names) ∙ shaped
 
 -- behind the last place nothing changes
 mutual

@@ -4,4 +4,7 @@ mod Alike
 mod Among
 mod Numbered
 mod Found
+mod Good
+mod Checked
+mod Fewer
 mod Known

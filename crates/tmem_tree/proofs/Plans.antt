@@ -1,9 +1,9 @@
 -- What breaking no limit comes to, and that one count of all bad nodes is enough.
 use Rattle.std.proofs.Common.{◌≡◌, ℕ, ◌+◌, ◌<◌, ◌≤◌, Bool, true, false, ◌||◌, List, arith}
-use Rattle.tmem_disk.specs.declared.fault.Cause.TheVariants.{TooDeep, TooManyNodes, TooManyWrites, TooManyChecks, BadRegister, BadVariable, BadStep, BadArguments, UnknownName}
+use Rattle.tmem_disk.specs.declared.fault.Cause.TheVariants.{TooDeep, TooManyNodes, TooManyWrites, TooManyChecks, BadRegister, BadVariable, BadStep, BadArguments, UnknownName, TooManyRetires}
 use Rattle.tmem_tree.specs.declared.tx.Tx.{Tx, Row_of-Tx, end_of-Tx, more_of-Tx}
-use Rattle.tmem_tree.specs.declared.tx.Tx.TheVariants.{Skip, Seq', Put, Read, Write, Step, When', OrElse', Retry, Abort, Check}
-use Rattle.tmem_tree.specs.Limits.{depth, one_if, count, count_all, is_node, is_write, is_check, has_bad_register, has_bad_variable, has_bad_step, has_bad_arguments, has_unknown_name}
+use Rattle.tmem_tree.specs.declared.tx.Tx.TheVariants.{Skip, Seq', Put, Read, Write, Step, When', OrElse', Retry, Abort, Check, Retire}
+use Rattle.tmem_tree.specs.Limits.{depth, one_if, count, count_all, is_node, is_write, is_check, is_retire, is_step, has_bad_register, has_bad_variable, has_bad_step, has_bad_arguments, has_unknown_name}
 use Rattle.tmem_tree.specs.Plans.{BreaksNone, IsWithinLimits, FitsSteps, FitsNames, is_bad}
 
 either : (a b : Bool) → (one_if a ≤ one_if (a || b)) × (one_if b ≤ one_if (a || b)) × (one_if (a || b) ≤ one_if a + one_if b)
@@ -42,10 +42,31 @@ module _ (p q : Tx → Bool) where
     counts Retry = here Retry
     counts (Abort code) = here (Abort code)
     counts (Check name) = here (Check name)
+    counts (Retire name) = here (Retire name)
 
     counts_all : {m : _} (txs : Row_of-Tx m) → Between (count_all p txs) (count_all q txs) (count_all (λ t. p t || q t) txs)
     counts_all end_of-Tx = record { one = omega arith; other = omega arith; most = omega arith }
     counts_all (more_of-Tx tx txs) = added _ _ _ _ _ _ (counts tx) (counts_all txs)
+
+-- a step is a node
+mutual
+  pub steps_are_nodes : (tx : Tx) → count is_step tx ≤ count is_node tx
+  steps_are_nodes Skip = omega arith
+  steps_are_nodes (Seq' shape txs) = omega (arith, steps_are_nodes_in txs)
+  steps_are_nodes (Put reg number) = omega arith
+  steps_are_nodes (Read var reg) = omega arith
+  steps_are_nodes (Write var reg) = omega arith
+  steps_are_nodes (Step index args out) = omega arith
+  steps_are_nodes (When' reg i a j b) = omega (arith, steps_are_nodes a, steps_are_nodes b)
+  steps_are_nodes (OrElse' i a j b) = omega (arith, steps_are_nodes a, steps_are_nodes b)
+  steps_are_nodes Retry = omega arith
+  steps_are_nodes (Abort code) = omega arith
+  steps_are_nodes (Check name) = omega arith
+  steps_are_nodes (Retire name) = omega arith
+
+  steps_are_nodes_in : {m : _} (txs : Row_of-Tx m) → count_all is_step txs ≤ count_all is_node txs
+  steps_are_nodes_in end_of-Tx = omega arith
+  steps_are_nodes_in (more_of-Tx tx txs) = omega (arith, steps_are_nodes tx, steps_are_nodes_in txs)
 
 -- none of a sum
 none_of : (p q : Tx → Bool) (tx : Tx) → count (λ t. p t || q t) tx ≡ 0 → (count p tx ≡ 0) × (count q tx ≡ 0)
@@ -95,6 +116,7 @@ within_limits arities vars names tx none = record {
   nodes = at_most _ _ (none TooManyNodes);
   writes = at_most _ _ (none TooManyWrites);
   checks = at_most _ _ (none TooManyChecks);
+  retires = at_most _ _ (none TooManyRetires);
   registers = none_at _ (none BadRegister);
 }
 
@@ -113,6 +135,7 @@ pub record AreWithin (arities : List ℕ) (vars : ℕ) (names : List (List ℕ))
   pub nodes : count is_node tx ≤ 512
   pub writes : count is_write tx ≤ 64
   pub checks : count is_check tx ≤ 8
+  pub retires : count is_retire tx ≤ 8
   pub good : count (is_bad arities vars names) tx ≡ 0
 
 -- then no limit is broken
@@ -126,6 +149,7 @@ breaks_none arities vars names tx within BadVariable = not_one _ (are_good ariti
 breaks_none arities vars names tx within BadStep = not_one _ (are_good arities vars names tx within.good).steps
 breaks_none arities vars names tx within BadArguments = not_one _ (are_good arities vars names tx within.good).arguments
 breaks_none arities vars names tx within UnknownName = not_one _ (are_good arities vars names tx within.good).known
+breaks_none arities vars names tx within TooManyRetires = not_more _ _ within.retires
 
 -- and the other way round
 pub are_within : (arities : List ℕ) (vars : ℕ) (names : List (List ℕ)) (tx : Tx) → BreaksNone arities vars names tx → AreWithin arities vars names tx
@@ -134,6 +158,7 @@ are_within arities vars names tx none = record {
   nodes = at_most _ _ (none TooManyNodes);
   writes = at_most _ _ (none TooManyWrites);
   checks = at_most _ _ (none TooManyChecks);
+  retires = at_most _ _ (none TooManyRetires);
   good = none_bad arities vars names tx (record {
     registers = none_at _ (none BadRegister);
     variables = none_at _ (none BadVariable);

@@ -1,9 +1,9 @@
 -- How deep a transaction is, how many of its choices are open at once, and how many of its nodes pass a test.
-use Rattle.std.specs.Prelude.{ℕ, ◌+◌, max, Bool, true, false, not, ◌||◌, ◌==◌, nat_le, List, length, slice_index_or, if◌then◌else◌}
+use Rattle.std.specs.Prelude.{ℕ, ◌+◌, ◌<◌, max, Bool, true, false, not, ◌||◌, ◌==◌, nat_le, bytes_eq, List, length, slice_index_or, if◌then◌else◌}
 use Rattle.std.specs.List.{list_any}
 use Rattle.tmem_record.specs.Names.{has_name}
 use Rattle.tmem_tree.specs.declared.tx.Tx.{Tx, Row_of-Tx, end_of-Tx, more_of-Tx}
-use Rattle.tmem_tree.specs.declared.tx.Tx.TheVariants.{Seq', Put, Read, Write, Step, When', OrElse', Check}
+use Rattle.tmem_tree.specs.declared.tx.Tx.TheVariants.{Seq', Put, Read, Write, Step, When', OrElse', Check, Retire}
 
 abbrev mutual
   -- a leaf or an empty Seq has depth 1
@@ -57,6 +57,15 @@ abbrev pub is_check : Tx → Bool
 is_check (Check name) = true
 is_check _ = false
 
+abbrev pub is_retire : Tx → Bool
+is_retire (Retire name) = true
+is_retire _ = false
+
+-- it checks this name
+abbrev pub checks_name : List ℕ → Tx → Bool
+checks_name name (Check other) = bytes_eq other name
+checks_name name _ = false
+
 abbrev pub is_step : Tx → Bool
 is_step (Step index args out) = true
 is_step _ = false
@@ -94,7 +103,17 @@ has_bad_arguments arities (Step index args out) =
     not (length args.items == slice_index_or arities index (length args.items))
 has_bad_arguments arities _ = false
 
--- it checks a name that is none of these
+-- it checks or retires a name that is none of these
 abbrev pub has_unknown_name : List (List ℕ) → Tx → Bool
 has_unknown_name names (Check name) = not (has_name names name)
+has_unknown_name names (Retire name) = not (has_name names name)
 has_unknown_name names _ = false
+
+-- it checks a name that is none of these
+abbrev pub lacks_shape : List (List ℕ) → Tx → Bool
+lacks_shape names (Check name) = not (has_name names name)
+lacks_shape names _ = false
+
+-- some node of it checks this name
+abbrev pub Checks : Tx → List ℕ → Type 0
+Checks tx name = 0 < count (checks_name name) tx

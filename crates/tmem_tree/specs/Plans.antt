@@ -1,13 +1,13 @@
 -- Which transactions are plans.
 use Rattle.std.specs.Prelude.{◌≡◌, ◌↔◌, ℕ, ◌<◌, ◌≤◌, Bool, false, ◌||◌, List, IsTrue}
 use Rattle.tmem_disk.specs.declared.fault.Cause.{Cause}
-use Rattle.tmem_disk.specs.declared.fault.Cause.TheVariants.{TooDeep, TooManyNodes, TooManyWrites, TooManyChecks, BadRegister, BadVariable, BadStep, BadArguments, UnknownName}
+use Rattle.tmem_disk.specs.declared.fault.Cause.TheVariants.{TooDeep, TooManyNodes, TooManyWrites, TooManyChecks, BadRegister, BadVariable, BadStep, BadArguments, UnknownName, TooManyRetires}
 use Rattle.tmem_disk.specs.Fault.{number_of}
 use Rattle.tmem_tree.specs.declared.tx.Tx.{Tx}
 use Rattle.tmem_invariants.specs.Meanings.{Meanings}
 use Rattle.tmem_tree.specs.declared.shape.Shape.{Shape}
 use Rattle.tmem_tree.specs.Shapes.{AreMeant, AreWithin, names_of}
-use Rattle.tmem_tree.specs.Limits.{depth, choices, count, is_node, is_write, is_check, is_step, has_bad_register, has_bad_variable, has_bad_step, has_bad_arguments, has_unknown_name}
+use Rattle.tmem_tree.specs.Limits.{depth, choices, count, is_node, is_write, is_check, is_retire, is_step, has_bad_register, has_bad_variable, has_bad_step, has_bad_arguments, has_unknown_name, lacks_shape}
 
 -- the nodes that a limit counts
 abbrev pub is_counted : Cause → List ℕ → ℕ → List (List ℕ) → Tx → Bool
@@ -20,6 +20,7 @@ is_counted BadVariable arities vars names = has_bad_variable vars
 is_counted BadStep arities vars names = has_bad_step arities
 is_counted BadArguments arities vars names = has_bad_arguments arities
 is_counted UnknownName arities vars names = has_unknown_name names
+is_counted TooManyRetires arities vars names = is_retire
 
 -- the nodes that break a limit by themselves
 abbrev pub is_bad : List ℕ → ℕ → List (List ℕ) → Tx → Bool
@@ -38,6 +39,7 @@ Breaks arities vars names tx BadVariable = 0 < count (has_bad_variable vars) tx
 Breaks arities vars names tx BadStep = 0 < count (has_bad_step arities) tx
 Breaks arities vars names tx BadArguments = 0 < count (has_bad_arguments arities) tx
 Breaks arities vars names tx UnknownName = 0 < count (has_unknown_name names) tx
+Breaks arities vars names tx TooManyRetires = 8 < count is_retire tx
 
 abbrev pub BreaksNone : List ℕ → ℕ → List (List ℕ) → Tx → Type 0
 BreaksNone arities vars names tx = (cause : Cause) → Breaks arities vars names tx cause → ⊥
@@ -54,6 +56,7 @@ pub record IsWithinLimits (tx : Tx) : Type 0 where
   pub nodes : count is_node tx ≤ 512
   pub writes : count is_write tx ≤ 64
   pub checks : count is_check tx ≤ 8
+  pub retires : count is_retire tx ≤ 8
   pub registers : count has_bad_register tx ≡ 0
 
 -- each step that it calls is one of those that take so many arguments, and is given that many
@@ -75,9 +78,13 @@ pub record FitsVariables (vars : ℕ) (plan : PlanView) : Type 0 where
 abbrev pub FitsShapes : Meanings → PlanView → Type 0
 FitsShapes tests plan = AreMeant tests plan.shapes
 
--- each name that it checks is one of these
+-- each name that it checks or retires is one of these
 abbrev pub FitsNames : List (List ℕ) → Tx → Type 0
 FitsNames names tx = count (has_unknown_name names) tx ≡ 0
+
+-- each name that it checks has a shape, of shapes of these names
+abbrev pub HasShapes : List (List ℕ) → Tx → Type 0
+HasShapes names tx = count (lacks_shape names) tx ≡ 0
 
 -- it calls no stored step and has at most 64 nodes
 abbrev pub IsShort : Tx → Type 0
@@ -87,6 +94,6 @@ IsShort tx = (count is_step tx ≡ 0) × (count is_node tx ≤ 64)
 -- first branch at once, and whether it is short
 pub record IsPlan (tx : Tx) (shapes : List Shape) (open_choices : ℕ) (is_short : Bool) : Type 0 where
   pub limits : IsWithinLimits tx
-  pub known : FitsNames (names_of shapes) tx
+  pub shaped : HasShapes (names_of shapes) tx
   pub choices : open_choices ≡ choices tx
   pub short : IsTrue is_short ↔ IsShort tx

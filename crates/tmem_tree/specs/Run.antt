@@ -1,18 +1,19 @@
 -- What a transaction does, without any log: `run`. It is the meaning that Harris et al. 2005 (Composable Memory
 -- Transactions, section 3) give to sequences, to `retry`, to `orElse` and, with an abort for an exception that nobody
 -- catches, to exceptions, on a map and 16 registers in place of a heap and bound variables. A check tests its invariant on the
--- map so far, and proposes it by its name: one that is false there ends the run. That an invariant may be broken inside a
--- transaction is said in Harris and Peyton Jones 2006 (Transactional Memory with Data Invariants); that a check tests at its
--- point, and the end of the transaction once more, is this project's choice.
+-- map so far, and proposes it by its name: one that is false there ends the run. A retirement takes a name back, so that it is
+-- registered no longer. That an invariant may be broken inside a transaction is said in Harris and Peyton Jones 2006
+-- (Transactional Memory with Data Invariants); that a check tests at its point, and the end of the transaction once more, is this
+-- project's choice.
 use Rattle.std.specs.Prelude.{ℕ, zero, ℤ, pos, Bool, true, false, List, map, nat_eq, slice_index_or, slice_set, replicate, if◌then◌else◌}
 use Rattle.tmem_tree.specs.declared.tx.Tx.{Tx, Row_of-Tx, end_of-Tx, more_of-Tx}
-use Rattle.tmem_tree.specs.declared.tx.Tx.TheVariants.{Skip, Seq', Put, Read, Write, Step, When', OrElse', Retry, Abort, Check}
+use Rattle.tmem_tree.specs.declared.tx.Tx.TheVariants.{Skip, Seq', Put, Read, Write, Step, When', OrElse', Retry, Abort, Check, Retire}
 use Rattle.tmem_tree.specs.declared.step.StepAnswer.{StepAnswer}
 use Rattle.tmem_tree.specs.declared.step.StepAnswer.TheVariants as answer
 use Rattle.tmem_tree.specs.StepAnswers.{StepMeanings}
 use Rattle.tmem_invariants.specs.Meanings.{Meanings, holds_on}
 use Rattle.tmem_record.specs.State.{no_effect}
-use Rattle.tmem_record.specs.Names.{with_name}
+use Rattle.tmem_record.specs.Names.{with_name, without_name}
 use Rattle.tmem_record.specs.Writes.{with_write}
 use Rattle.tmem_record.specs.declared.effect.Effect.{Effect}
 
@@ -52,12 +53,28 @@ abbrev pub write : View → ℕ → ℤ → View
 write view var n = record {
   values = updated view.values var n;
   registers = view.registers;
-  effect = record { writes = with_write view.effect.writes var n; names = view.effect.names };
+  effect = record { writes = with_write view.effect.writes var n; names = view.effect.names; retired = view.effect.retired };
 }
 
--- the effect takes the name
+-- the effect takes the name, which is not retired then
 abbrev pub check : View → List ℕ → View
-check view name = record view { effect = record { writes = view.effect.writes; names = with_name view.effect.names name } }
+check view name = record view {
+  effect = record {
+    writes = view.effect.writes;
+    names = with_name view.effect.names name;
+    retired = without_name view.effect.retired name;
+  };
+}
+
+-- the effect retires the name, which is not proposed then
+abbrev pub retire : View → List ℕ → View
+retire view name = record view {
+  effect = record {
+    writes = view.effect.writes;
+    names = without_name view.effect.names name;
+    retired = with_name view.effect.retired name;
+  };
+}
 
 abbrev pub is_zero : ℤ → Bool
 is_zero (pos zero) = true
@@ -103,6 +120,7 @@ module _ (steps : StepMeanings) (tests : Meanings) where
     run Retry view = Retried
     run (Abort code) view = Aborted code
     run (Check name) view = checked (holds_on tests view.values name) view name
+    run (Retire name) view = Normal (retire view name)
 
     -- one after another, up to the first that does not end normally
     pub run_all : {m : _} → Row_of-Tx m → View → RunResult

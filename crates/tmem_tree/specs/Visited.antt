@@ -3,7 +3,7 @@
 -- when a blocked choice is to run again).
 use Rattle.std.specs.Prelude.{ℕ, ℤ, Bool, true, false, List, [], ◌∷◌, ◌++◌, map, Option, Some, None, nat_eq, if◌then◌else◌}
 use Rattle.tmem_tree.specs.declared.tx.Tx.{Tx, Row_of-Tx, end_of-Tx, more_of-Tx}
-use Rattle.tmem_tree.specs.declared.tx.Tx.TheVariants.{Skip, Seq', Put, Read, Write, Step, When', OrElse', Retry, Abort, Check}
+use Rattle.tmem_tree.specs.declared.tx.Tx.TheVariants.{Skip, Seq', Put, Read, Write, Step, When', OrElse', Retry, Abort, Check, Retire}
 use Rattle.tmem_tree.specs.StepAnswers.{StepMeanings}
 use Rattle.tmem_invariants.specs.Meanings.{Meanings}
 use Rattle.tmem_record.specs.Writes.{look}
@@ -55,6 +55,7 @@ module _ (steps : StepMeanings) (tests : Meanings) where
     asks (Abort code) view = []
     asks (Check name) view =
         unwritten view.effect.writes (tests.footprint name) ++ Probe name (map view.values (tests.footprint name)) ∷ []
+    asks (Retire name) view = []
 
     pub asks_all : {m : _} → Row_of-Tx m → View → List Ask
     asks_all end_of-Tx view = []

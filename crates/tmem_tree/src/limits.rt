@@ -104,6 +104,7 @@ fn is_counted<S: StoredSteps>(tx: &Tx, cause: Cause, steps: &S, vars: u16, shape
         Cause::BadStep => has_bad_step(tx, steps),
         Cause::BadArguments => has_bad_arguments(tx, steps),
         Cause::UnknownName => has_unknown_name(tx, shapes),
+        Cause::TooManyRetires => matches!(tx, Tx::Retire { .. }),
     }
 }
 
@@ -171,7 +172,7 @@ fn has_unknown_name(tx: &Tx, shapes: &[Shape]) -> bool
     ensures { result ≡ has_unknown_name (names_of shapes.now) tx.now }
 {
     match tx {
-        Tx::Check { name } => find(shapes, name).is_none(),
+        Tx::Check { name } | Tx::Retire { name } => find(shapes, name).is_none(),
         _ => false,
     }
 }

@@ -1,25 +1,28 @@
 // A transaction within the limits.
 
-ghost use Rattle.std.specs.Prelude.{◌≡◌, ℕ, ◌<◌, List, ◌↔◌, IsTrue, IsFalse, IfOk, IfErr, slice_set, All};
+ghost use Rattle.std.specs.Prelude.{◌≡◌, ℕ, ◌<◌, List, ◌+◌, ◌↔◌, IsTrue, IsFalse, IsSome, IfSome, IfOk, IfErr, slice_set, All};
 ghost use Rattle.std.specs.List.{Contains};
+ghost use Rattle.tmem_disk.specs.Distinct.{AreDistinct};
 ghost use Rattle.tmem_invariants.specs.Meanings.{Meanings};
-ghost use Rattle.tmem_tree.specs.Limits.{choices, count, is_put};
-ghost use Rattle.tmem_tree.specs.Plans.{BreaksNone, IsLeastBroken, IsWithinLimits, FitsSteps, FitsVariables, FitsNames, FitsShapes, IsShort};
+ghost use Rattle.tmem_tree.specs.Limits.{choices, count, is_node, is_check, is_step, is_put, Checks};
+ghost use Rattle.tmem_tree.specs.Plans.{BreaksNone, IsLeastBroken, IsWithinLimits, FitsSteps, FitsVariables, FitsNames, FitsShapes, HasShapes, IsShort};
 ghost use Rattle.tmem_tree.specs.Shapes.{AreMeant, AreWithin, names_of};
 ghost use Rattle.tmem_tree.specs.Numbers.{numbers, with_number};
 
-use crate::budget::{WHOLE, pay};
+use crate::budget::{Budget, WHOLE, pay};
 use crate::choices::count_choices;
 use crate::limits::{MAX_DEPTH, MAX_NODES, MAX_WRITES, is_within_depth, spend};
 use crate::numbers::change_number;
 use crate::shape::Shape;
-use crate::shapes::{Shapes, collect};
-use crate::short::is_short;
+use crate::shapes::{Shapes, fill};
 use crate::steps::StoredSteps;
 use crate::tx::Tx;
 use std::marker::Model;
 use tmem_disk::{Cause, Fault};
 use tmem_record::MAX_CHECKS;
+
+/// The most nodes of a short plan.
+pub const MAX_SHORT: u32 = 64;
 
 /// A transaction that breaks no limit. Contracts see it as its tree, and the footprints of the invariants that it checks.
 #[derive(Drop)]
@@ -49,7 +52,6 @@ impl Model for Plan {
 impl Plan {
     /// The plan, for these steps, so many variables and the invariants of these shapes. Refused with the least cause by
     /// number whose limit is broken. It takes no memory.
-    #[tactic(auto, using(crate::proofs::Plans::fits_steps, crate::proofs::Plans::fits_names))]
     pub fn new<S: StoredSteps>(
         tx: Tx,
         steps: &S,
@@ -61,29 +63,36 @@ impl Plan {
         ensures steps { IfOk result (λ _. FitsSteps (S.arities steps.now) tx) }
         ensures variables { AreWithin vars shapes.now → IfOk result (FitsVariables vars) }
         ensures names { IfOk result (λ _. FitsNames (names_of shapes.now) tx) }
-        ensures known { IfOk result (λ plan. FitsNames (names_of plan.shapes) tx) }
+        ensures shaped { IfOk result (λ plan. HasShapes (names_of plan.shapes) tx) }
         ensures among { IfOk result (λ plan. All (Contains shapes.now) plan.shapes) }
+        ensures checked { IfOk result (λ plan. All (Checks tx) (names_of plan.shapes)) }
+        ensures once { IfOk result (λ plan. AreDistinct (names_of plan.shapes)) }
         ensures shapes { (tests : Meanings) → AreMeant tests shapes.now → IfOk result (FitsShapes tests) }
         ensures least { IfErr result (λ fault. (cause : Cause) × (fault ≡ Fault.BadPlan cause) × IsLeastBroken (S.arities steps.now) vars (names_of shapes.now) tx cause) }
     {
-        if breaks_none(&tx, steps, vars, shapes) {
-            return Ok(Plan::of(tx, shapes));
+        match pay_for_all(&tx, steps, vars, shapes) {
+            Some(left) => Ok(Plan::of(tx, shapes, left)),
+            None => Err(Fault::BadPlan(least_broken(&tx, steps, vars, shapes))),
         }
-        Err(Fault::BadPlan(least_broken(&tx, steps, vars, shapes)))
     }
 
-    // The plan of a transaction that breaks no limit.
-    fn of(tx: Tx, shapes: &[Shape]) -> Plan
+    // The plan of a transaction that breaks no limit, which left so much of a whole budget.
+    fn of(tx: Tx, shapes: &[Shape], left: Budget) -> Plan
         requires limits { IsWithinLimits tx }
-        requires names { FitsNames (names_of shapes.now) tx }
+        requires shaped { HasShapes (names_of shapes.now) tx }
+        requires nodes { left.nodes + count is_node tx ≡ 512 }
+        requires checks { left.checks + count is_check tx ≡ 8 }
+        requires steps { left.steps + count is_step tx ≡ 512 }
         ensures plan { result.tree ≡ tx }
-        ensures known { FitsNames (names_of result.shapes) tx }
+        ensures shaped { HasShapes (names_of result.shapes) tx }
         ensures among { All (Contains shapes.now) result.shapes }
+        ensures checked { All (Checks tx) (names_of result.shapes) }
+        ensures once { AreDistinct (names_of result.shapes) }
     {
         let open_choices = count_choices(&tx);
-        let is_short = is_short(&tx);
+        let is_short = left.nodes >= MAX_NODES - MAX_SHORT && left.steps == WHOLE.steps;
         let mut checked = Shapes::new();
-        collect(&tx, shapes, &mut checked);
+        fill(&tx, shapes, WHOLE.checks - left.checks, &mut checked);
         Plan {
             tx,
             shapes: checked,
@@ -96,6 +105,7 @@ impl Plan {
     pub fn tree(&self) -> &Tx
         ensures tree { result.now ≡ self.now.tree }
         ensures limits { IsWithinLimits self.now.tree }
+        ensures shaped { HasShapes (names_of self.now.shapes) self.now.tree }
     {
         &self.tx
     }
@@ -103,7 +113,7 @@ impl Plan {
     /// The footprints of the invariants that it checks.
     pub fn shapes(&self) -> &[Shape]
         ensures shapes { result.now ≡ self.now.shapes }
-        ensures known { FitsNames (names_of self.now.shapes) self.now.tree }
+        ensures shaped { HasShapes (names_of self.now.shapes) self.now.tree }
     {
         self.shapes.as_slice()
     }
@@ -143,11 +153,14 @@ impl Plan {
     }
 }
 
-// Whether no limit is broken.
-fn breaks_none<S: StoredSteps>(tx: &Tx, steps: &S, vars: u16, shapes: &[Shape]) -> bool
-    ensures { IsTrue result ↔ BreaksNone (S.arities steps.now) vars (names_of shapes.now) tx.now }
+// What is left of a whole budget, or none where a limit is broken.
+fn pay_for_all<S: StoredSteps>(tx: &Tx, steps: &S, vars: u16, shapes: &[Shape]) -> Option<Budget>
+    ensures fine { IsSome result ↔ BreaksNone (S.arities steps.now) vars (names_of shapes.now) tx.now }
+    ensures nodes { IfSome result (λ left. left.nodes + count is_node tx.now ≡ 512) }
+    ensures checks { IfSome result (λ left. left.checks + count is_check tx.now ≡ 8) }
+    ensures steps { IfSome result (λ left. left.steps + count is_step tx.now ≡ 512) }
 {
-    pay(tx, steps, vars, shapes, MAX_DEPTH, WHOLE).is_some()
+    pay(tx, steps, vars, shapes, MAX_DEPTH, WHOLE)
 }
 
 // The least limit that is broken, where one is.
@@ -180,5 +193,8 @@ fn least_broken<S: StoredSteps>(tx: &Tx, steps: &S, vars: u16, shapes: &[Shape])
     if spend(tx, Cause::BadArguments, steps, vars, shapes, 0).is_none() {
         return Cause::BadArguments;
     }
-    Cause::UnknownName
+    if spend(tx, Cause::UnknownName, steps, vars, shapes, 0).is_none() {
+        return Cause::UnknownName;
+    }
+    Cause::TooManyRetires
 }

@@ -1,10 +1,11 @@
 // The shapes of the invariants that a transaction checks.
 
-ghost use Rattle.std.specs.Prelude.{◌≡◌, ℕ, ◌+◌, ◌<◌, ◌≤◌, List, [], ◌∷◌, ◌++◌, length, true, All};
+ghost use Rattle.std.specs.Prelude.{◌≡◌, ℕ, ◌+◌, ◌<◌, ◌≤◌, List, [], ◌∷◌, ◌++◌, length, true, All, bytes_eq};
 ghost use Rattle.std.specs.List.{Contains};
+ghost use Rattle.tmem_disk.specs.Distinct.{AreDistinct};
 ghost use Rattle.tmem_disk.specs.Name.{has_name};
-ghost use Rattle.tmem_tree.specs.Limits.{count, is_check};
-ghost use Rattle.tmem_tree.specs.Plans.{FitsNames};
+ghost use Rattle.tmem_tree.specs.Limits.{one_if, count, is_check, checks_name, Checks};
+ghost use Rattle.tmem_tree.specs.Plans.{HasShapes};
 ghost use Rattle.tmem_tree.specs.Shapes.{names_of};
 
 use crate::shape::{Footprint, Shape, find};
@@ -68,14 +69,33 @@ fn placeholder() -> Shape {
     }
 }
 
-/// Adds the shapes of the invariants that a tree checks, unless their names are there.
-pub(crate) fn collect(tx: &Tx, shapes: &[Shape], into: &mut Shapes)
-    requires known { FitsNames (names_of shapes.now) tx.now }
+/// Puts the shapes of the invariants that a tree checks, which has so many checks, where there are none. One that has none is not
+/// looked at.
+pub(crate) fn fill(tx: &Tx, shapes: &[Shape], checks: u32, into: &mut Shapes)
+    requires empty { into.old ≡ [] }
+    requires known { HasShapes (names_of shapes.now) tx.now }
+    requires checks { checks ≡ count is_check tx.now }
+    requires few { checks ≤ MAX_CHECKS }
+    ensures known { HasShapes (names_of into.new) tx.now }
+    ensures among { All (Contains shapes.now) into.new }
+    ensures checked { All (Checks tx.now) (names_of into.new) }
+    ensures once { AreDistinct (names_of into.new) }
+{
+    if checks > 0 {
+        collect(tx, shapes, into);
+    }
+}
+
+// Adds the shapes of the invariants that a tree checks, unless their names are there.
+fn collect(tx: &Tx, shapes: &[Shape], into: &mut Shapes)
+    requires known { HasShapes (names_of shapes.now) tx.now }
     requires room { length into.old + count is_check tx.now ≤ MAX_CHECKS }
     ensures room { length into.new ≤ length into.old + count is_check tx.now }
-    ensures known { FitsNames (names_of into.new) tx.now }
+    ensures known { HasShapes (names_of into.new) tx.now }
     ensures kept { (name : List ℕ) → has_name (names_of into.old) name ≡ true → has_name (names_of into.new) name ≡ true }
     ensures among { All (Contains shapes.now) into.old → All (Contains shapes.now) into.new }
+    ensures checked { (name : List ℕ) → one_if (has_name (names_of into.new) name) ≤ one_if (has_name (names_of into.old) name) + count (checks_name name) tx.now }
+    ensures once { AreDistinct (names_of into.old) → AreDistinct (names_of into.new) }
 {
     match tx {
         Tx::Seq(txs) => {
@@ -104,6 +124,8 @@ fn add(name: &Name, shapes: &[Shape], into: &mut Shapes)
     ensures known { has_name (names_of into.new) name.now ≡ true }
     ensures kept { (other : List ℕ) → has_name (names_of into.old) other ≡ true → has_name (names_of into.new) other ≡ true }
     ensures among { All (Contains shapes.now) into.old → All (Contains shapes.now) into.new }
+    ensures checked { (other : List ℕ) → one_if (has_name (names_of into.new) other) ≤ one_if (has_name (names_of into.old) other) + one_if (bytes_eq name.now other) }
+    ensures once { AreDistinct (names_of into.old) → AreDistinct (names_of into.new) }
 {
     if find(into.as_slice(), name).is_none() {
         into.push(find(shapes, name).unwrap());

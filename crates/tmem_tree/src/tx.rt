@@ -50,4 +50,9 @@ pub enum Tx {
     Check {
         name: Name,
     },
+    /// Retires the invariant of this name: if the transaction commits, it is not registered any more, and neither the end of this
+    /// transaction nor a later one tests it. A name that is not registered may be retired too.
+    Retire {
+        name: Name,
+    },
 }

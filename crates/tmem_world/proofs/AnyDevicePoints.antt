@@ -26,6 +26,7 @@ opening_faults P U f why = ⊎_elim (by_content f) (λ it. by_invariant f it.0) 
     by_content fault.NotFormatted why = tt
     by_content fault.Damaged why = tt
     by_content fault.Geometry why = tt
+    by_content fault.Spent why = tt
     by_content _ why = absurd why
 
     by_invariant : (g : Fault) → NamesInvariant g → IsOpeningFault g

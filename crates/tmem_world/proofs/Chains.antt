@@ -1,5 +1,5 @@
 -- How a world that carries a history goes on, and how a store is opened.
-use Rattle.std.proofs.Common.{◌≡◌, ⊎_elim, inl, inr, ℕ, ◌≤◌, ◌^◌, List, [], ◌∷◌, refl, sym, ◌∙◌, ap, subst, arith}
+use Rattle.std.proofs.Common.{◌≡◌, ◌≢◌, ⊎_elim, inl, inr, ℕ, ◌≤◌, ◌^◌, List, [], ◌∷◌, refl, sym, ◌∙◌, ap, subst, arith}
 use Rattle.std.proofs.Math.Logic.{∥∥₁_elim, ∥∥₁_map}
 use Rattle.std.proofs.Props.{props}
 use Rattle.std.specs.Prelude.{Result, Ok, Err}
@@ -15,11 +15,12 @@ use Rattle.tmem_gate.specs.Calls.{Uses}
 use Rattle.tmem_journal.specs.Calls.{FitsOn}
 use Rattle.tmem_journal.specs.Held as journal
 use Rattle.tmem_journal.specs.declared.journal.Journal as owner
+use Rattle.tmem_journal.specs.Journals.{IsOpeningFailure}
 use Rattle.tmem_journal.specs.Laws.{StandsForOne, RefusedStandsForNone}
-use Rattle.tmem_journal.specs.Mended.{MendedBy}
+use Rattle.tmem_journal.specs.Mended.{RecoveredBy, IsFoundAt}
 use Rattle.tmem_journal.specs.Refusals.{IsRefusedBy}
 use Rattle.tmem_journal.specs.Stands.{Position, StandsFor}
-use Rattle.tmem_opening.specs.Opening.{Mending, IsFailure}
+use Rattle.tmem_opening.specs.Opening.{Mending}
 use Rattle.tmem_event.specs.declared.event.Event.{Event}
 use Rattle.tmem_event.specs.declared.event.Event.TheVariants as event
 use Rattle.tmem_event.specs.declared.event.Reply.{Reply}
@@ -49,9 +50,9 @@ module _ {D T S : Type 0} {d t s : _} (w w' : World D T S d t s) (kept : KeepsSe
   finds_in : (e : Event) (r : Reply) → Reopens w e r w' → FindsIn (setting_of w program) (view_of w).seen e r m
   finds_in event.Reopen (reply.Opened n) it =
       let same = same_place program (held_of w') m (opening it.0 it.1 (view_of w).failures) at.session (it.3 program means).session refl in
-      subst (λ (p : Position). StandsFor w.layout.vars w.layout.slots p (present program m) (view_of w).seen) same.0
-      (subst (λ (x : State). StandsFor w.layout.vars w.layout.slots it.1 x (view_of w).seen) same.1
-      (subst (λ (l : Layout). StandsFor l.vars l.slots it.1 it.0 (view_of w).seen) kept.numbers (it.4 keeps)))
+      subst (λ (p : Position). IsFoundAt w.layout.vars w.layout.slots (view_of w).seen (present program m) p) same.0
+      (subst (λ (x : State). IsFoundAt w.layout.vars w.layout.slots (view_of w).seen x it.1) same.1
+      (subst (λ (l : Layout). IsFoundAt l.vars l.slots (view_of w).seen it.0 it.1) kept.numbers (it.4 keeps).was))
   finds_in event.Reopen _ it = tt
   finds_in _ r it = tt
 
@@ -100,35 +101,35 @@ module _ (one : StandsForOne) (program : Program) (vars slots : ℕ) (layout : I
       let is = state_is p s stands in
       subst (λ (x : State). IsSound program.tests program.names x.names x.values) (sym is.1) is.0.sound
 
-  -- and the content is not refused
-  pub not_refused : RefusedStandsForNone → (f : Fault) → IsRefusedBy vars slots old.seen f → ⊥
-  not_refused none f refused = ∥∥₁_elim safe (hlevel props)
+  -- and the content is not refused, unless no image can follow
+  pub not_refused : RefusedStandsForNone → (f : Fault) → f ≢ fault.Spent → IsRefusedBy vars slots old.seen f → ⊥
+  not_refused none f other refused = ∥∥₁_elim safe (hlevel props)
       (λ (x : (n : ℕ) × IsSafePrefix program vars h n × ((p : Position) × StandsFor vars slots p (state_at program vars h n) old.seen)).
-      none vars slots x.2.0 (state_at program vars h x.0) old.seen f layout refused x.2.1)
+      none vars slots x.2.0 (state_at program vars h x.0) old.seen f other layout refused x.2.1)
 
 -- a device that was handed back is still a store
-pub store_back : (program : Program) (vars slots : ℕ) (h : History) (old new : DeviceView) → IsStore program vars slots h old → new.capacity ≡ old.capacity → (new.keeps_model → old.keeps_model) → LeavesOnly new (MendedBy vars slots old) → IsStore program vars slots h new
+pub store_back : (program : Program) (vars slots : ℕ) (h : History) (old new : DeviceView) → IsStore program vars slots h old → new.capacity ≡ old.capacity → (new.keeps_model → old.keeps_model) → LeavesOnly new (RecoveredBy vars slots old) → IsStore program vars slots h new
 store_back program vars slots h old new store capacity model stop = record {
   fits = subst (FitsOn vars slots) (sym capacity) store.fits;
   device = record { each = λ k c left. mended_safe program vars h slots old store (model k) c (stop.each k c left) };
 }
 
 -- at each moment of the opening a crash leaves a safe content
-pub opening_moments : (program : Program) (vars slots : ℕ) (h : History) (old new : DeviceView) → IsStore program vars slots h old → (new.keeps_model → old.keeps_model) → AtEachMoment old new (MendedBy vars slots old) → AtEachMoment old new (IsSafe program vars slots h)
+pub opening_moments : (program : Program) (vars slots : ℕ) (h : History) (old new : DeviceView) → IsStore program vars slots h old → (new.keeps_model → old.keeps_model) → AtEachMoment old new (RecoveredBy vars slots old) → AtEachMoment old new (IsSafe program vars slots h)
 opening_moments program vars slots h old new store model during = record { each = λ k c left. mended_safe program vars h slots old store (model k) c (during.each k c left) }
 
 module _ {D T S : Type 0} {d t s : _} (result : Result (World D T S d t s) (Fault × D)) (f : Fault) (back : D) (is : result ≡ Err (f, back)) (program : Program) (vars slots : ℕ) (h : History) (old : DeviceView) (store : IsStore program vars slots h old) where
   -- an opening was refused, and the device handed back
-  pub refused_back : IsFailure f → (d.view back).capacity ≡ old.capacity → ((d.view back).keeps_model → old.keeps_model) → Mending vars slots old (d.view back) → OpensStore program vars slots h old result
-  refused_back which capacity model mends = subst (OpensStore program vars slots h old) (sym is) (record {
-    any_moment = opening_moments program vars slots h old (d.view back) store model mends.any_moment;
-    found = (which, store_back program vars slots h old (d.view back) store capacity model mends.stop);
+  pub refused_back : IsOpeningFailure f → (f ≡ fault.Spent → IsRefusedBy vars slots old.seen fault.Spent) → (d.view back).capacity ≡ old.capacity → ((d.view back).keeps_model → old.keeps_model) → Mending vars slots old (d.view back) → OpensStore program vars slots h old result
+  refused_back which spent capacity model mends = subst (OpensStore program vars slots h old) (sym is) (record {
+    any_moment = opening_moments program vars slots h old (d.view back) store model mends.recovers.any_moment;
+    found = (which, spent, store_back program vars slots h old (d.view back) store capacity model mends.stop);
   })
 
   -- so it is for want of memory, where a journal was opened on it
   pub given_back : (j : owner.Journal D d) → back ≡ journal.disk_of j → f ≡ fault.Memory → Uses {T = Unit {0}} old (journal.device_of j) (Ok tt) → Mending vars slots old (journal.device_of j) → OpensStore program vars slots h old result
   given_back j same memory uses mends =
-      refused_back (inl memory) (ap (λ (x : D). (d.view x).capacity) same ∙ uses.capacity) (λ k. uses.model (subst (λ (x : D). (d.view x).keeps_model) same k)) (subst (λ (x : D). Mending vars slots old (d.view x)) (sym same) mends)
+      refused_back (inl memory) (λ is. cc) (ap (λ (x : D). (d.view x).capacity) same ∙ uses.capacity) (λ k. uses.model (subst (λ (x : D). (d.view x).keeps_model) same k)) (subst (λ (x : D). Mending vars slots old (d.view x)) (sym same) mends)
 
 module _ {D T S : Type 0} {d t s : _} (w : World D T S d t s) (program : Program) (h : History) (vars : ℕ) (same : w.layout.vars ≡ vars) where
   -- a world that begins at a state after a safe prefix carries the history that was found

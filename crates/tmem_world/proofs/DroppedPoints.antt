@@ -4,7 +4,7 @@ use Rattle.std.specs.Prelude.{All, replicate, None}
 use Rattle.std.specs.List.{AllZip}
 use Rattle.tmem_disk.specs.Disk.{LeavesOnly}
 use Rattle.tmem_core.specs.Program.{Program}
-use Rattle.tmem_journal.specs.Mended.{MendedBy}
+use Rattle.tmem_journal.specs.Mended.{RecoveredBy}
 use Rattle.tmem_record.specs.declared.layout.Layout.{Layout}
 use Rattle.tmem_world.specs.declared.slot.Slot.{Slot}
 use Rattle.tmem_world.specs.declared.held.Held.{Held}
@@ -28,8 +28,8 @@ unfolding no_transactions
 no_slots_held program xs same each = empty_slots program xs 16 same each
 
 module _ {D T S : Type 0} {d t z : _} (program : Program) (w w' : World D T S d t z) (m : WorldModel) (r : Represents program w m) (layout : w'.layout ≡ w.layout) (emptied : All (λ (s : Slot). s.plan ≡ None) w'.slots.items) (sized : length w'.slots.items ≡ 16)
-    (stop : LeavesOnly (view_of w') (MendedBy w.layout.vars w.layout.slots (view_of w))) (model : (view_of w').keeps_model → (view_of w).keeps_model) where
-  -- a world without a session, whose device leaves no more than before but for closed gates, is at the point without a session
+    (stop : LeavesOnly (view_of w') (RecoveredBy w.layout.vars w.layout.slots (view_of w))) (model : (view_of w').keeps_model → (view_of w).keeps_model) where
+  -- a world without a session, whose device leaves no more than an opening may, is at the point without a session
   pub gone : (IsWith (held_of w') → ⊥) → (n : ℕ) → (view_of w').failures ≡ n → Represents program w' (record (dropped m) { failures = n })
   gone none n failures = record {
     numbers = record { opened = r.numbers.opened; durable = r.numbers.durable; doubtful = r.numbers.doubtful; each = r.numbers.each; sound = r.numbers.sound };

@@ -1,9 +1,9 @@
 -- What a slot and a session keep.
 use Rattle.std.proofs.Common.{◌≡◌, ⊎_elim, ℕ, List, length, refl, sym, ◌∙◌, ap, subst, Option, Some, None}
-use Rattle.std.specs.Prelude.{ℤ, ◌<◌, true, All, Result, Ok, Err, OnOk, IfErr, option_map, IsSome}
+use Rattle.std.specs.Prelude.{◌<◌, true, All, Result, Ok, Err, OnOk, IfErr, option_map, IsSome}
 use Rattle.std.specs.Map.{keys_of}
 use Rattle.tmem_disk.specs.declared.fault.Fault.{Fault}
-use Rattle.tmem_record.specs.Names.{has_name}
+use Rattle.tmem_record.specs.Names.{has_name, AreApart}
 use Rattle.tmem_record.specs.declared.effect.Effect.{Effect}
 use Rattle.tmem_disk.specs.declared.fault.Fault.TheVariants.{Memory}
 use Rattle.tmem_invariants.specs.Meanings.{Meanings}
@@ -12,7 +12,8 @@ use Rattle.tmem_tree.specs.Shapes.{AreMeant, names_of}
 use Rattle.tmem_tree.specs.declared.tx.Tx.{Tx}
 use Rattle.tmem_tree.specs.declared.settled.Settled.{Settled}
 use Rattle.tmem_tree.specs.StepAnswers.{StepMeanings}
-use Rattle.tmem_tentative.specs.Cursors.{StandsIn, IsAt, IsAsBefore, HasEnded, given, place, attempt_of}
+use Rattle.tmem_tentative.specs.Cursors.{StandsIn, IsAt, IsAsBefore, HasEnded, place, attempt_of}
+use Rattle.tmem_tentative.specs.Fits.{IsEndingFor}
 use Rattle.tmem_tentative.specs.Places.{Place}
 use Rattle.tmem_tentative.specs.declared.cursor.Cursor.{Cursor}
 use Rattle.tmem_core.specs.Held.{state_of, table_of}
@@ -62,8 +63,16 @@ module _ (vars : ℕ) (arities : List ℕ) (stated : StepMeanings → Type 0) (n
   -- an attempt is for the same variables and names where its cursor is as it was
   attempt_again : (old new : Cursor) → IsAsBefore old new → IsForStore vars names (attempt_of old) → IsForStore vars names (attempt_of new)
   attempt_again old new same fits =
-      let P : List (ℕ × ℤ) → Effect → Type 0 = λ seen e. (All (λ var. var < vars) (keys_of seen) × All (λ var. var < vars) (keys_of e.writes)) × All (λ name. has_name names name ≡ true) e.names in
-      subst (λ seen. P seen (place new).effect) (sym same.given) (subst (λ (p : Place). P (given old) p.effect) (sym same.place) fits)
+      let variables = subst (λ seen. All (λ var. var < vars) (keys_of seen)) (sym same.given) fits.0.0 in
+      let at = λ (P : Effect → Type 0) (is : P (place old).effect). subst (λ (p : Place). P p.effect) (sym same.place) is in (
+        (variables, at (λ e. All (λ var. var < vars) (keys_of e.writes)) fits.0.1),
+        record {
+          proposed = at (λ e. All (λ name. has_name names name ≡ true) e.names) fits.1.proposed;
+          retired = at (λ e. All (λ name. has_name names name ≡ true) e.retired) fits.1.retired;
+          apart = at (λ e. AreApart e.names e.retired) fits.1.apart;
+          ending = subst (IsEndingFor names) (sym same.ending) fits.1.ending;
+        },
+      )
 
   option_fits_again : (o : Option PlanView) (old new : Cursor) → IsAsBefore old new → StaysIn old new → FitsOption vars arities stated names tested o old → FitsOption vars arities stated names tested o new
   option_fits_again None old new same stays fits = tt
@@ -71,7 +80,6 @@ module _ (vars : ℕ) (arities : List ℕ) (stated : StepMeanings → Type 0) (n
     variables = fits.variables;
     steps = fits.steps;
     names = fits.names;
-    own = fits.own;
     shapes = fits.shapes;
     stands = λ m is. stays m plan (fits.stands m is);
     ended = λ ended. attempt_again old new same (fits.ended (sym same.stage ∙ ended));
@@ -82,14 +90,14 @@ module _ (vars : ℕ) (arities : List ℕ) (stated : StepMeanings → Type 0) (n
   fits_again old new plan same stays fits = subst (λ (o : Option PlanView). FitsOption vars arities stated names tested o new.cursor) (sym plan) (option_fits_again old.plan old.cursor new.cursor same stays fits)
 
   -- a slot where a plan was to begin
-  pub begun_fits : (plan : PlanView) (old new : Slot) (answer : Result (Unit {0}) Fault) → FitsVariables vars plan → FitsSteps arities plan.tree → FitsNames names plan.tree → FitsNames (names_of plan.shapes) plan.tree → ((tests : Meanings) → tested tests → FitsShapes tests plan)
+  pub begun_fits : (plan : PlanView) (old new : Slot) (answer : Result (Unit {0}) Fault) → FitsVariables vars plan → FitsSteps arities plan.tree → FitsNames names plan.tree → ((tests : Meanings) → tested tests → FitsShapes tests plan)
       → OnOk answer (new.plan ≡ Some plan) → OnOk answer ((m : StepMeanings) → StandsIn m plan new.cursor) → OnOk answer (¬ HasEnded new.cursor)
       → IfErr answer (λ (f : Fault). (f ≡ Memory) × (new.plan ≡ old.plan) × IsAsBefore old.cursor new.cursor)
       → ((m : StepMeanings) (kept : PlanView) → StandsIn m kept old.cursor → IfErr answer (λ _. StandsIn m kept new.cursor))
       → FitsSlot vars arities stated names tested old → FitsSlot vars arities stated names tested new
-  begun_fits plan old new (Ok done) variables steps known own shapes held stands going same stays fits =
-      with_plan_fits new plan held (record { variables = variables; steps = steps; names = known; own = own; shapes = shapes; stands = λ m is. stands m; ended = λ ended. absurd (going ended) })
-  begun_fits plan old new (Err f) variables steps known own shapes held stands going same stays fits = fits_again old new same.1 same.2 stays fits
+  begun_fits plan old new (Ok done) variables steps known shapes held stands going same stays fits =
+      with_plan_fits new plan held (record { variables = variables; steps = steps; names = known; shapes = shapes; stands = λ m is. stands m; ended = λ ended. absurd (going ended) })
+  begun_fits plan old new (Err f) variables steps known shapes held stands going same stays fits = fits_again old new same.1 same.2 stays fits
 
   -- a slot that was settled
   pub settles_fit : {D T : Type 0} {d t : _} (o o' : core.Session D T d t) (s after : Slot) (r : Reply) → Settles o s r o' after → FitsSlot vars arities stated names tested s → FitsSlot vars arities stated names tested after
@@ -106,7 +114,6 @@ module _ (vars : ℕ) (arities : List ℕ) (stated : StepMeanings → Type 0) (n
     variables = fits.variables;
     steps = fits.steps;
     names = fits.names;
-    own = fits.own;
     shapes = λ tests is. fits.shapes tests (among tests is);
     stands = fits.stands;
     ended = fits.ended;

@@ -123,6 +123,7 @@ module _ (m : WorldModel) where
       })
   reopens set numbers (reply.Fault fault.Memory) m' is = stays m _ (reply.Fault fault.Memory) m' _ is (λ txs. refl) refl refl (omega arith) (omega arith)
   reopens set numbers (reply.Fault fault.Device) m' is = stays m _ (reply.Fault fault.Device) m' _ is (λ txs. refl) refl refl (omega arith) (omega arith)
+  reopens set numbers (reply.Fault fault.Spent) m' is = stays m _ (reply.Fault fault.Spent) m' _ is.1 (λ txs. refl) refl refl (omega arith) (omega arith)
   reopens set numbers (reply.Fault _) m' is = absurd is
   reopens set numbers _ m' is = absurd is
 

@@ -11,7 +11,8 @@ use Rattle.tmem_gate.proofs.Laws.{WritesWithin-refl, WritesWithin-trans}
 use Rattle.tmem_event.specs.declared.event.Event.{Event}
 use Rattle.tmem_event.specs.declared.event.Event.TheVariants as event
 use Rattle.tmem_event.specs.declared.event.Reply.{Reply}
-use Rattle.tmem_journal.specs.Stands.{Position, StandsFor}
+use Rattle.tmem_journal.specs.Mended.{IsFoundAt}
+use Rattle.tmem_journal.specs.Stands.{Position}
 use Rattle.tmem_world.specs.declared.world.World.{World}
 use Rattle.tmem_world.specs.Represents.{Means, KeepsSetting, RestsOn, WritesInStore, setting_of}
 use Rattle.tmem_world.specs.Chain.{History, IsSafePrefix, RunsOn, SessionRun, IsChain, IsChainAt, GrowsChain, just_opened, state_at, history_found, history_after}
@@ -82,15 +83,15 @@ grows set m h es rs m' h' so = λ vars slots earlier s same at. (
 
 -- the session that found it is the next of each chain that led to the history
 pub opens_chain : (set : Setting) (h : History) (vars slots : ℕ) → set.vars ≡ vars → set.slots ≡ slots → (n : ℕ) (position : Position) (content : List ℕ) (failures : ℕ) → IsSafePrefix set.program vars h n
-    → StandsFor vars slots position (state_at set.program vars h n) content → failures < 2 ^ 64
+    → IsFoundAt vars slots content (state_at set.program vars h n) position → failures < 2 ^ 64
     → (earlier : List SessionRun) → IsChain vars slots earlier h → IsChainAt vars slots earlier (just_opened set content n position failures) (history_found n h) (opening (state_at set.program vars h n) position failures)
 opens_chain set h vars slots same log n position content failures safe stands counted earlier chain =
-    subst (λ (v : ℕ). IsSafePrefix set.program v h n → StandsFor v slots position (state_at set.program v h n) content → IsChain v slots earlier h → IsChainAt v slots earlier (just_opened set content n position failures) (history_found n h) (opening (state_at set.program v h n) position failures)) same
+    subst (λ (v : ℕ). IsSafePrefix set.program v h n → IsFoundAt v slots content (state_at set.program v h n) position → IsChain v slots earlier h → IsChainAt v slots earlier (just_opened set content n position failures) (history_found n h) (opening (state_at set.program v h n) position failures)) same
     (λ is found there. (
       h,
       there,
       (refl, log),
-      record { safe = is; stands = subst (λ (k : ℕ). StandsFor set.vars k position (state_at set.program set.vars h n) content) (sym log) found; counted = counted; run = (refl, refl) },
+      record { safe = is; stands = subst (λ (k : ℕ). IsFoundAt set.vars k content (state_at set.program set.vars h n) position) (sym log) found; counted = counted; run = (refl, refl) },
     )) safe stands chain
 
 -- a safe prefix is as long as the count of the state after it

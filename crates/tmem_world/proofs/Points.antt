@@ -22,7 +22,7 @@ use Rattle.tmem_world.specs.Parts.{what, disk_in, layout_in, table_in, IsWith}
 use Rattle.tmem_record.specs.State.{State}
 use Rattle.tmem_journal.specs.Held as journal
 use Rattle.tmem_journal.specs.Journals as journals
-use Rattle.tmem_journal.specs.Mended.{MendedBy}
+use Rattle.tmem_journal.specs.Mended.{RecoveredBy}
 use Rattle.tmem_journal.specs.Stands.{Position, StandsForEither}
 use Rattle.tmem_journal.specs.declared.journal.Journal as owner
 use Rattle.tmem_record.specs.declared.layout.Layout.{Layout}
@@ -177,8 +177,8 @@ module _ {D T S : Type 0} {d t s : _} (w w' : World D T S d t s) (layout : w'.la
       subst (λ (x : D). AtEachMoment (view_of w) (d.view x) (λ c. ∥ StandsCut program w.layout.vars w.layout.slots m c ⊎ StandsCut program w.layout.vars w.layout.slots m' c ∥₁)) (sym same)
       (record { each = λ k c left. ∣ inl (r.device.each k c (device.only_now c k left)) ∣₁ })
 
-  -- an event that closes gates behind the log
-  pub mending_moments : ((view_of w').keeps_model → (view_of w).keeps_model) → AtEachMoment (view_of w) (view_of w') (MendedBy w.layout.vars w.layout.slots (view_of w)) → EachMoment w w'
+  -- an event that opens the device again
+  pub mending_moments : ((view_of w').keeps_model → (view_of w).keeps_model) → AtEachMoment (view_of w) (view_of w') (RecoveredBy w.layout.vars w.layout.slots (view_of w)) → EachMoment w w'
   mending_moments model during = λ program m m' r r'.
       record { each = λ k c left. ∣ inl (mended_stands w.layout.vars w.layout.slots (cut program m m.durable) (cut program m m.doubtful) (view_of w) r.device (model k) c (during.each k c left)) ∣₁ }
 

@@ -1,6 +1,6 @@
 -- Prefixes of a history, and the contents that stand for the states after them.
 use Rattle.std.proofs.Common.{◌≡◌, ◌⊎◌, inl, inr, ⊎_elim, ℕ, ◌+◌, ◌-◌, ◌≤◌, List, [], ◌∷◌, ◌++◌, length, take, refl, sym, ◌∙◌, ap, subst, arith, append-nil, length-append}
-use Rattle.std.proofs.Math.Logic.{∥∥₁_map}
+use Rattle.std.proofs.Math.Logic.{∥∥₁_elim, ∥∥₁_map, ∥∥₁_prop}
 use Rattle.std.proofs.Math.Seq.{take-append-add}
 use Rattle.std.proofs.Props.{props}
 use Rattle.tmem_disk.specs.Disk.{DeviceView}
@@ -12,10 +12,10 @@ use Rattle.tmem_tree.specs.declared.settled.Settled.TheVariants.{Committed, Seen
 use Rattle.tmem_invariants.specs.Meanings.{IsSound}
 use Rattle.tmem_core.specs.Program.{Program}
 use Rattle.tmem_core.specs.Verdict.{serial_state, state_after, IsCommitted, AreCommitted}
-use Rattle.tmem_core.specs.Versions.{Follows, names_tested}
+use Rattle.tmem_core.specs.Versions.{Follows}
 use Rattle.tmem_core.proofs.Laws.{serial_state-append, count-committed, sound_after, same_order}
 use Rattle.tmem_journal.specs.Calls.{FitsOn}
-use Rattle.tmem_journal.specs.Mended.{Mends, MendedBy}
+use Rattle.tmem_journal.specs.Mended.{Recovers, RecoveredBy}
 use Rattle.tmem_journal.specs.Stands.{Position, HoldsState, StandsFor, StandsForEither}
 use Rattle.tmem_world.specs.declared.held.Held.{Held}
 use Rattle.tmem_world.specs.declared.held.Held.TheVariants.{With, Without}
@@ -73,13 +73,13 @@ module _ (program : Program) where
           (λ (other : HoldsState vars slots found.0 b c). (j, safe_j, (found.0, subst (λ (s : State). StandsFor vars slots found.0 s c) is_b ∣ other ∣₁)))
           found.1)
 
-      -- closing gates behind the log leaves it safe
-      safe_mended : (b c : List ℕ) → Mends vars slots b c → IsSafe program vars slots h b → IsSafe program vars slots h c
-      safe_mended b c mends it = ∥∥₁_map it (λ (x : (n : ℕ) × IsSafePrefix program vars h n × ((p : Position) × StandsFor vars slots p (state_at program vars h n) b)).
-          (x.0, x.1, (x.2.0, mends.states x.2.0 (state_at program vars h x.0) x.2.1)))
+      -- what stands for each state that it stood for is safe too
+      safe_mended : (b c : List ℕ) → Recovers vars slots b c → IsSafe program vars slots h b → IsSafe program vars slots h c
+      safe_mended b c recovers it = ∥∥₁_elim it ∥∥₁_prop (λ (x : (n : ℕ) × IsSafePrefix program vars h n × ((p : Position) × StandsFor vars slots p (state_at program vars h n) b)).
+          ∥∥₁_map (recovers (state_at program vars h x.0) (∥∥₁_map x.2.1 (λ held. (x.2.0, held)))) (λ y. (x.0, x.1, (y.0, ∣ y.1 ∣₁))))
 
       -- so it is of each content that a crash of a store might have left
-      pub mended_safe : (d : DeviceView) → IsStore program vars slots h d → d.keeps_model → (c : List ℕ) → MendedBy vars slots d c → IsSafe program vars slots h c
+      pub mended_safe : (d : DeviceView) → IsStore program vars slots h d → d.keeps_model → (c : List ℕ) → RecoveredBy vars slots d c → IsSafe program vars slots h c
       mended_safe d store keeps c from = safe_mended from.0 c from.2 (store.device.each keeps from.0 from.1)
 
     module _ (m : WorldModel) (goes : GoesOn program vars h m) where
@@ -143,9 +143,9 @@ module _ {D T S : Type 0} {d t s : _} (w : World D T S d t s) where
   }
 
 -- what is a safe prefix of one program's is one of the next one's, and the state after it is the same
-module _ (old new : Program) (vars : ℕ) (h : History) (n : ℕ) (safe : IsSafePrefix old vars h n) (follows : Follows old (state_at old vars h n).names (names_tested old (first_state vars) (take n h.accepted)) new) where
+module _ (old new : Program) (vars : ℕ) (h : History) (n : ℕ) (safe : IsSafePrefix old vars h n) (follows : Follows old (first_state vars) (take n h.accepted) new) where
   both : AreCommitted new (first_state vars) (take n h.accepted) × (state_at new vars h n ≡ state_at old vars h n)
-  both = same_order old new (state_at old vars h n).names safe.sound.there follows (first_state vars) (take n h.accepted) safe.each (λ name is. is) follows.asked
+  both = same_order old new (first_state vars) (take n h.accepted) safe.each safe.sound.there follows
 
   prefix_following : IsSafePrefix new vars h n
   prefix_following = record {
@@ -153,7 +153,7 @@ module _ (old new : Program) (vars : ℕ) (h : History) (n : ℕ) (safe : IsSafe
     acknowledged = safe.acknowledged;
     accepted = safe.accepted;
     each = both.0;
-    sound = subst (λ (s : State). IsSound new.tests new.names s.names s.values) (sym both.1) (sound_after old new (state_at old vars h n).names (state_at old vars h n).values follows safe.sound);
+    sound = subst (λ (s : State). IsSound new.tests new.names s.names s.values) (sym both.1) (sound_after old new (first_state vars) (take n h.accepted) (state_at old vars h n).values follows safe.sound);
   }
 
 -- so what stood for the state after the one stands for that after the other

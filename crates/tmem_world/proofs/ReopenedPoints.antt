@@ -1,5 +1,5 @@
 -- The point of a run after the device was opened again.
-use Rattle.std.proofs.Common.{◌≡◌, ◌⊎◌, inl, inr, ⊎_elim, ℕ, ◌+◌, ◌-◌, ◌≤◌, ◌^◌, Bool, true, false, List, length, take, refl, sym, ◌∙◌, ap, subst, arith}
+use Rattle.std.proofs.Common.{◌≡◌, ◌≢◌, ◌⊎◌, inl, inr, ⊎_elim, ℕ, ◌+◌, ◌-◌, ◌≤◌, ◌^◌, Bool, true, false, List, length, take, refl, sym, ◌∙◌, ap, subst, arith}
 use Rattle.std.specs.Prelude.{All, Result, Ok, Err, None}
 use Rattle.std.proofs.Math.Logic.{∥∥₁_elim}
 use Rattle.std.proofs.Props.{props}
@@ -16,18 +16,23 @@ use Rattle.tmem_world.specs.declared.held.Held.{Held}
 use Rattle.tmem_world.specs.declared.held.Held.TheVariants.{With, Without}
 use Rattle.tmem_world.specs.declared.world.World.{World}
 use Rattle.tmem_record.specs.State.{State}
+use Rattle.tmem_record.specs.declared.version.Version.TheVariants.{One, Two}
 use Rattle.tmem_invariants.specs.Meanings.{IsSound}
 use Rattle.tmem_core.specs.Program.{Program, IsProgramOf}
 use Rattle.tmem_core.specs.Held.{state_of, is_shut_of}
 use Rattle.tmem_core.specs.declared.core_state.Core.{Core}
 use Rattle.tmem_core.specs.Verdict.{serial_state}
 use Rattle.tmem_gate.specs.Calls.{failures_after}
-use Rattle.tmem_journal.specs.Stands.{Position, StandsFor}
-use Rattle.tmem_journal.specs.Laws.{StandsForOne}
+use Rattle.tmem_journal.specs.Journals.{IsOpeningFailure}
+use Rattle.tmem_journal.specs.Mended.{IsFoundAt}
+use Rattle.tmem_journal.specs.Refusals.{IsRefusedBy}
+use Rattle.tmem_journal.specs.Stands.{Position, StandsFor, migrated}
+use Rattle.tmem_journal.specs.Laws.{StandsForOne, SpentStandsAtLast}
 use Rattle.tmem_journal.specs.Held as journal
 use Rattle.tmem_journal.specs.declared.journal.Journal as owner
 use Rattle.tmem_opening.specs.Held.{found_of, position_of, device_of as opened_device}
-use Rattle.tmem_opening.specs.Opening.{Mending, OpeningRefused, IsFailure, IsOpened, FoundIs, FindsEither, RecoversEither}
+use Rattle.tmem_opening.specs.Opening.{FindsState, Mending, OpeningRefused, IsOpened, FoundIs, FindsEither, RecoversEither}
+use Rattle.tmem_opening.proofs.Laws.{spent_content}
 use Rattle.tmem_opening.specs.declared.opening.Opening.{Opening}
 use Rattle.tmem_record.specs.declared.layout.Layout.{Layout}
 use Rattle.tmem_world.specs.Parts.{disk_in, layout_in, table_in, IsWith}
@@ -40,15 +45,14 @@ use Rattle.tmem_world.proofs.Points.{in_point, mending_moments}
 use Rattle.tmem_world.proofs.OpenedPoints.{begun, opens}
 use Rattle.tmem_world.proofs.Prefixes.{fits_in}
 use Rattle.tmem_world.proofs.Serial.{committed-take, count-cut, none_waits}
-use Rattle.tmem_world.proofs.WrittenSlots.{log_within}
 
 -- the point of the run where n transactions were found, at that position
 abbrev found_at : WorldModel → ℕ → Position → WorldModel
 found_at m n position = record m { accepted = take (n - m.opened.count) m.accepted; durable = n; doubtful = n; position = position; slots = no_transactions; session = Open }
 
--- opening was refused by want of memory, or since a call of the device failed
-failed : (set : Setting) (m : WorldModel) (f : Fault) → IsFailure f → AllowsReopen set m (reply.Fault f) (dropped_by f m)
-failed set m f which = ⊎_elim (same fault.Memory refl) (same fault.Device refl) which
+-- opening was refused by want of memory, or since a call of the device failed, or since no image can follow
+failed : (set : Setting) (m : WorldModel) (f : Fault) → (f ≡ fault.Spent → m.session ≢ Open) → IsOpeningFailure f → AllowsReopen set m (reply.Fault f) (dropped_by f m)
+failed set m f shut which = ⊎_elim (same fault.Memory refl) (⊎_elim (same fault.Device refl) (λ is. same fault.Spent (shut is, refl) is)) which
   where
     same : (g : Fault) → AllowsReopen set m (reply.Fault g) (dropped_by g m) → f ≡ g → AllowsReopen set m (reply.Fault f) (dropped_by f m)
     same g so is = subst (λ (x : Fault). AllowsReopen set m (reply.Fault x) (dropped_by x m)) (sym is) so
@@ -106,29 +110,53 @@ module _ {D T S : Type 0} {d t z : _} (program : Program) (w w' : World D T S d 
         found_as still m.doubtful (inr refl) doubtful_from r.numbers.doubtful (by_doubtful (found_of x) either differ))
         (cases_eq (found_of x).count m.durable))
 
+-- an open session's content stands for its journal's state, at its position
+open_at : {D T : Type 0} {d t : _} (vars slots : ℕ) (o : core.Session D T d t) → is_shut_of o.core ≡ false → IsDevice (journal.device_of o.journal) → (journal.device_of o.journal).keeps_model
+    → (journal.layout_of o.journal).vars ≡ vars → (journal.layout_of o.journal).slots ≡ slots → StandsFor vars slots (journal.position_of o.journal) (journal.state_of o.journal) (journal.device_of o.journal).seen
+open_at vars slots o is device keeps over log =
+    let running : journal.is_closed_of o.journal ≡ false = sym o.shut ∙ is in
+    let sure = (o.journal.sure running).each keeps (journal.device_of o.journal).seen (device.seen_may_stay keeps) in
+    subst (λ (v : ℕ). StandsFor v slots (journal.position_of o.journal) (journal.state_of o.journal) (journal.device_of o.journal).seen) over
+    (subst (λ (n : ℕ). StandsFor (journal.layout_of o.journal).vars n (journal.position_of o.journal) (journal.state_of o.journal) (journal.device_of o.journal).seen) log sure)
+
 -- The position that a read's content stands for is the one that an open session knows of.
 module _ {D T : Type 0} {d t : _} (one : StandsForOne) (program : Program) (m : WorldModel) (vars slots : ℕ) (small : vars ≤ 2 ^ 16) (p : Position) (s : State) where
   position_by : (shut : Bool) (o : core.Session D T d t) → is_shut_of o.core ≡ shut → IsDevice (journal.device_of o.journal) → (journal.device_of o.journal).keeps_model
-      → (journal.layout_of o.journal).vars ≡ vars → (journal.layout_of o.journal).slots ≡ slots → StandsFor vars slots p s (journal.device_of o.journal).seen
+      → (journal.layout_of o.journal).vars ≡ vars → (journal.layout_of o.journal).slots ≡ slots → IsFoundAt vars slots (journal.device_of o.journal).seen s p
       → journal.position_of o.journal ≡ m.position → KeepsPosition (session_of shut) m.position p
-  position_by true o is device keeps over log stands known = tt
-  position_by false o is device keeps over log stands known =
-      let running : journal.is_closed_of o.journal ≡ false = sym o.shut ∙ is in
-      let sure = (o.journal.sure running).each keeps (journal.device_of o.journal).seen (device.seen_may_stay keeps) in
-      let there = subst (λ (v : ℕ). StandsFor v slots (journal.position_of o.journal) (journal.state_of o.journal) (journal.device_of o.journal).seen) over
-      (subst (λ (n : ℕ). StandsFor (journal.layout_of o.journal).vars n (journal.position_of o.journal) (journal.state_of o.journal) (journal.device_of o.journal).seen) log sure) in
-      (one vars slots p (journal.position_of o.journal) s (journal.state_of o.journal) (journal.device_of o.journal).seen small stands there).0 ∙ known
+  position_by true o is device keeps over log found known = tt
+  position_by false o is device keeps over log found known =
+      found.goes_on ∙ ap migrated (one vars slots found.position (journal.position_of o.journal) s (journal.state_of o.journal) (journal.device_of o.journal).seen small found.stands (open_at vars slots o is device keeps over log)).0 ∙ known
 
   pub position_kept : (h : Held D T d t) → HasSession program h m → IsDevice (d.view (disk_in h)) → (d.view (disk_in h)).keeps_model → (layout_in h).vars ≡ vars → (layout_in h).slots ≡ slots
-      → StandsFor vars slots p s (d.view (disk_in h)).seen → KeepsPosition m.session m.position p
+      → IsFoundAt vars slots (d.view (disk_in h)).seen s p → KeepsPosition m.session m.position p
   position_kept (With o) has device keeps over log stands =
       subst (λ (x : SessionStatus). KeepsPosition x m.position p) (sym has.status) (position_by (is_shut_of o.core) o refl device keeps over log stands has.position)
   position_kept (Without left) has device keeps over log stands = subst (λ (x : SessionStatus). KeepsPosition x m.position p) (sym has) tt
+
+-- The content of an open session is of version 2, so it is not refused for want of a generation.
+module _ {D T : Type 0} {d t : _} (last : SpentStandsAtLast) (program : Program) (m : WorldModel) (vars slots : ℕ) (small : vars ≤ 2 ^ 16) where
+  spent_by : (shut : Bool) (o : core.Session D T d t) → is_shut_of o.core ≡ shut → IsDevice (journal.device_of o.journal) → (journal.device_of o.journal).keeps_model
+      → (journal.layout_of o.journal).vars ≡ vars → (journal.layout_of o.journal).slots ≡ slots → IsRefusedBy vars slots (journal.device_of o.journal).seen fault.Spent → session_of shut ≢ Open
+  spent_by true o is device keeps over log refused = λ is. cc
+  spent_by false o is device keeps over log refused =
+      let at = last vars slots (journal.position_of o.journal) (journal.state_of o.journal) (journal.device_of o.journal).seen small refused (open_at vars slots o is device keeps over log) in
+      let two : Two ≡ One = at.version in λ is. cc
+
+  pub spent_shut : (h : Held D T d t) → HasSession program h m → IsDevice (d.view (disk_in h)) → (d.view (disk_in h)).keeps_model → (layout_in h).vars ≡ vars → (layout_in h).slots ≡ slots
+      → IsRefusedBy vars slots (d.view (disk_in h)).seen fault.Spent → m.session ≢ Open
+  spent_shut (With o) has device keeps over log refused =
+      subst (λ (x : SessionStatus). x ≢ Open) (sym has.status) (spent_by (is_shut_of o.core) o refl device keeps over log refused)
+  spent_shut (Without left) has device keeps over log refused = λ is. (let no = sym has ∙ is in cc)
 
 -- what is so of the device and the table that were taken out of a world is so of those that it held
 pub taken : {D T S : Type 0} {d t z : _} (w : World D T S d t z) (h : Held D T d t) (disk : D) (table : T) → held_of w ≡ h → disk ≡ disk_in h → table ≡ table_in h → (P : D → T → Type 0) → P disk table → P (device_of w) (held_table w)
 taken {D} {T} {d = d} {t = t} w h disk table held is same P it =
     subst (λ (y : T). P (device_of w) y) (same ∙ ap (λ (x : Held D T d t). table_in x) (sym held)) (subst (λ (y : D). P y table) (is ∙ ap (λ (x : Held D T d t). disk_in x) (sym held)) it)
+
+-- a world has so few variables
+few : {D T S : Type 0} {d t z : _} (w : World D T S d t z) → w.layout.vars ≤ 2 ^ 16
+few w = omega (arith, w.layout.fits.vars_fit)
 
 -- A world was opened again.
 module _ {D T S : Type 0} {d t z : _} (w w' : World D T S d t z) (kept : KeepsSetting w w') (emptied : All (λ (s : Slot). s.plan ≡ None) w'.slots.items) (sized : length w'.slots.items ≡ 16) where
@@ -140,15 +168,22 @@ module _ {D T S : Type 0} {d t z : _} (w w' : World D T S d t z) (kept : KeepsSe
 
   -- the opening was refused
   pub refused_answered : (f : Fault) → (IsWith (held_of w') → ⊥) → OpeningRefused (IsProgramOf t (held_table w)) w.layout.vars w.layout.slots (view_of w) f (view_of w')
-      → RecoversEither {A = Opening D T d t} FoundIs (IsProgramOf t (held_table w)) w.layout.vars w.layout.slots (view_of w) (view_of w') (Err f) → IsAnswered w event.Reopen (reply.Fault f) w'
-  refused_answered f none it recovers =
+      → RecoversEither {A = Opening D T d t} FoundIs (IsProgramOf t (held_table w)) w.layout.vars w.layout.slots (view_of w) (view_of w') (Err f)
+      → SpentStandsAtLast → IsDevice (view_of w) → IsAnswered w event.Reopen (reply.Fault f) w'
+  refused_answered f none it recovers last device =
       let point : (program : Program) (m : WorldModel) → Represents program w m → Represents program w' (dropped_by f m) =
       λ program m r. gone program w w' m r kept.numbers emptied sized it.mends.stop it.uses.model none (failures_after f m.failures) (it.uses.failures ∙ ap (failures_after f) r.failures) in
       record {
-        step = λ program means m r keeps. (dropped_by f m, failed (setting_of w program) m f (finds_cut program m r means (view_of w') (Err f) recovers keeps), point program m r);
+        step = λ program means m r keeps. (
+          dropped_by f m,
+          failed (setting_of w program) m f
+              (λ spent. spent_shut last program m w.layout.vars w.layout.slots (few w) (held_of w) r.session device (it.uses.model keeps) w.same_vars w.same_slots (spent_content it spent keeps (fits_in w)))
+              (finds_cut program m r means (view_of w') (Err f) recovers keeps),
+          point program m r,
+        );
         reopened = record { refused = it; session = none; slots = emptied; point = point };
-        any_moment = mending_moments w w' kept.numbers it.uses.model it.mends.any_moment;
-        elsewhere = log_within w.layout.vars w.layout.slots (view_of w) (view_of w') it.mends.elsewhere;
+        any_moment = mending_moments w w' kept.numbers it.uses.model it.mends.recovers.any_moment;
+        elsewhere = it.mends.recovers.elsewhere;
         failures = it.uses.failures;
         failed_call = tt;
         still = λ none. absurd none;
@@ -164,21 +199,21 @@ module _ {D T S : Type 0} {d t z : _} (w w' : World D T S d t z) (kept : KeepsSe
       let model : (view_of w').keeps_model → (opened_device x).keeps_model = subst (λ (v : DeviceView). v.keeps_model → (opened_device x).keeps_model) (sym now) (λ k. k) in
       let mends = subst (Mending w.layout.vars w.layout.slots (view_of w)) (sym now) it.mends in
       let counted : n ≡ (found_of x).count = count ∙ ap (λ (c : Core T t). (state_of c).count) same in
-      let small : w.layout.vars ≤ 2 ^ 16 = omega (arith, w.layout.fits.vars_fit) in
       record {
-        step = λ program means m r keeps. found program w w' m r kept.numbers emptied sized x o some same begun it.uses.failures (view_of w).seen (it.found (model keeps))
-            (position_kept one program m w.layout.vars w.layout.slots small (position_of x) (found_of x) (held_of w) r.session device (it.uses.model (model keeps)) w.same_vars w.same_slots (it.found (model keeps)))
+        step = λ program means m r keeps. found program w w' m r kept.numbers emptied sized x o some same begun it.uses.failures (opened_device x).seen (it.found (model keeps)).stands
+            (position_kept one program m w.layout.vars w.layout.slots (few w) (position_of x) (found_of x) (held_of w) r.session device (it.uses.model (model keeps)) w.same_vars w.same_slots (it.found (model keeps)).was)
             (finds_cut program m r means (opened_device x) (Ok x) either (model keeps)) n counted;
         reopened = (
           found_of x,
           position_of x,
           sym counted,
           λ program means. opens program x o same begun w' some sized emptied (view_of w).failures it.uses.failures (held_table w) it.sound (subst (λ (y : T). IsProgramOf t y program) kept.table means.invariants),
-          λ k. subst (λ (l : Layout). StandsFor l.vars l.slots (position_of x) (found_of x) (view_of w).seen) (sym kept.numbers) (it.found (model k)),
-          mends.looks,
+          λ k. subst (λ (l : Layout). FindsState l.vars l.slots (view_of w) (view_of w') (position_of x) (found_of x)) (sym kept.numbers)
+              (subst (λ (v : DeviceView). FindsState w.layout.vars w.layout.slots (view_of w) v (position_of x) (found_of x)) (sym now) (it.found (model k))),
+          λ none. (mends.gates none).looks,
         );
-        any_moment = mending_moments w w' kept.numbers (λ k. it.uses.model (model k)) mends.any_moment;
-        elsewhere = log_within w.layout.vars w.layout.slots (view_of w) (view_of w') mends.elsewhere;
+        any_moment = mending_moments w w' kept.numbers (λ k. it.uses.model (model k)) mends.recovers.any_moment;
+        elsewhere = mends.recovers.elsewhere;
         failures = ap (λ (v : DeviceView). v.failures) now ∙ it.uses.failures;
         failed_call = tt;
         still = λ none. absurd none;

@@ -1,5 +1,5 @@
 -- The oldest effects that wait, as a batch.
-use Rattle.std.proofs.Common.{◌≡◌, inr, false, ℕ, ◌+◌, ◌-◌, ◌<◌, ◌≤◌, ◌^◌, List, ◌++◌, length, drop, sym, ◌∙◌, ap, subst, arith}
+use Rattle.std.proofs.Common.{◌≡◌, inr, false, ℕ, ◌+◌, ◌-◌, ◌≤◌, List, ◌++◌, length, drop, sym, ◌∙◌, ap, subst, arith}
 use Rattle.std.specs.Prelude.{Result}
 use Rattle.tmem_disk.specs.declared.fault.Fault.{Fault}
 use Rattle.tmem_core.specs.Held.{state_of, waiting_of, durable_of, is_shut_of}
@@ -8,18 +8,9 @@ use Rattle.tmem_journal.specs.Held as journal
 use Rattle.tmem_journal.specs.Journals as journals
 use Rattle.tmem_world.specs.declared.session.Session as core
 use Rattle.tmem_world.specs.Sessions.{Flushes, waiting_after}
-use Rattle.tmem_record.specs.State.{State, fold}
+use Rattle.tmem_record.specs.State.{StaysWithin, fold}
 use Rattle.tmem_record.specs.declared.effect.Effect.{Effect}
-use Rattle.tmem_record.proofs.Laws.{fold-append, count-fold, length-names-fold-le}
-
-module _ (s : State) (es rest : List Effect) where
-  -- the names of the state after the first effects are among those of the state after all
-  names_taken : length (fold s es).names ≤ length (fold s (es ++ rest)).names
-  names_taken = subst (λ (x : State). length (fold s es).names ≤ length x.names) (sym (fold-append s es rest)) (length-names-fold-le (fold s es) rest)
-
-  -- and its count is no greater
-  count_taken : (fold s es).count ≤ (fold s (es ++ rest)).count
-  count_taken = omega (arith, ap (λ (x : State). x.count) (fold-append s es rest), count-fold (fold s es) rest)
+use Rattle.tmem_record.proofs.Laws.{fold-append, count-fold, StaysWithin-front, StaysWithin-back}
 
 -- these were taken of what waits, from the durable number on
 module _ {D T : Type 0} {d t : _} (o : core.Session D T d t) (from : ℕ) (is : from ≡ durable_of o.core) (es : List Effect) (taken : drop (from - durable_of o.core) (waiting_of o.core) ≡ es ++ drop (from + length es - durable_of o.core) (waiting_of o.core)) where
@@ -36,12 +27,15 @@ module _ {D T : Type 0} {d t : _} (o : core.Session D T d t) (from : ℕ) (is : 
   whole : fold (journal.state_of o.journal) (es ++ drop (length es) (waiting_of o.core)) ≡ state_of o.core
   whole = ap (fold (journal.state_of o.journal)) (sym waited) ∙ o.waits
 
-  -- the state after the batch is within the limits, as that one is
-  pub room_taken : length (fold (journal.state_of o.journal) es).names ≤ 64
-  room_taken = omega (arith, names_taken (journal.state_of o.journal) es (drop (length es) (waiting_of o.core)), ap (λ (x : State). length x.names) whole, o.core.registered.few)
+  -- the states up to that after the batch are within the limits, and so are those behind it
+  within_all : StaysWithin (journal.state_of o.journal) (es ++ drop (length es) (waiting_of o.core))
+  within_all = subst (StaysWithin (journal.state_of o.journal)) waited o.within
 
-  pub countable_taken : (state_of o.core).count < 2 ^ 64 → (fold (journal.state_of o.journal) es).count < 2 ^ 64
-  countable_taken fits = omega (arith, fits, count_taken (journal.state_of o.journal) es (drop (length es) (waiting_of o.core)), ap (λ (x : State). x.count) whole)
+  pub within_taken : StaysWithin (journal.state_of o.journal) es
+  within_taken = StaysWithin-front (journal.state_of o.journal) es (drop (length es) (waiting_of o.core)) within_all
+
+  pub within_rest : StaysWithin (fold (journal.state_of o.journal) es) (drop (length es) (waiting_of o.core))
+  within_rest = StaysWithin-back (journal.state_of o.journal) es (drop (length es) (waiting_of o.core)) within_all
 
   -- the rest goes on from the state after the batch
   pub rest_waits : fold (fold (journal.state_of o.journal) es) (drop (length es) (waiting_of o.core)) ≡ state_of o.core

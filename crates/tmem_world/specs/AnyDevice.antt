@@ -10,8 +10,8 @@ use Rattle.tmem_event.specs.declared.event.Reply.TheVariants as reply
 use Rattle.tmem_record.specs.State.{State}
 use Rattle.tmem_core.specs.Program.{Program, IsProgramOf}
 use Rattle.tmem_gate.specs.Calls.{failures_after}
-use Rattle.tmem_journal.specs.Stands.{Position, StandsFor}
-use Rattle.tmem_opening.specs.Opening.{OpeningRefused, LooksWhereClosed}
+use Rattle.tmem_journal.specs.Stands.{Position, NeedsNoMigration}
+use Rattle.tmem_opening.specs.Opening.{FindsState, OpeningRefused, LooksWhereClosed}
 use Rattle.tmem_world.specs.declared.slot.Slot.{Slot}
 use Rattle.tmem_world.specs.declared.world.World.{World}
 use Rattle.tmem_world.specs.OneByOne.{OneByOne}
@@ -25,6 +25,7 @@ IsOpeningFault fault.Device = ⊤
 IsOpeningFault fault.NotFormatted = ⊤
 IsOpeningFault fault.Damaged = ⊤
 IsOpeningFault fault.Geometry = ⊤
+IsOpeningFault fault.Spent = ⊤
 IsOpeningFault (fault.Missing name) = ⊤
 IsOpeningFault (fault.Broken name) = ⊤
 IsOpeningFault _ = ⊥
@@ -60,14 +61,14 @@ pub record ReopeningRefused {D T S : Type 0} {d t s : _} (old : World D T S d t 
   pub point : (program : Program) (m : WorldModel) → Represents program old m → Represents program new (dropped_by f m)
 
 -- What Reopen is answered, and where the world is then. After Opened it is where a run begins, at a state of that count:
--- the one that the content stands for, where the device keeps the model. Where the gates behind its log read closed,
--- nothing was written.
+-- the one that the content stood for, and stands for there, where the device keeps the model. Where that was of version 2 and the
+-- gates behind its log read closed, nothing was written.
 abbrev pub IsReopened : {D T S : Type 0} {d t s : _} → World D T S d t s → Reply → World D T S d t s → Type 0
 IsReopened old (reply.Opened n) new =
     (s : State) × (position : Position) × (s.count ≡ n)
     × ((program : Program) → Means new program → Represents program new (opening s position (view_of old).failures))
-    × ((view_of new).keeps_model → StandsFor new.layout.vars new.layout.slots position s (view_of old).seen)
-    × LooksWhereClosed old.layout.vars old.layout.slots (view_of old) (view_of new)
+    × ((view_of new).keeps_model → FindsState new.layout.vars new.layout.slots (view_of old) (view_of new) position s)
+    × (NeedsNoMigration old.layout.vars old.layout.slots (view_of old).seen → LooksWhereClosed old.layout.vars old.layout.slots (view_of old) (view_of new))
 IsReopened old (reply.Fault f) new = ReopeningRefused old f new
 IsReopened old _ new = ⊥
 

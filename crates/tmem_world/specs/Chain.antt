@@ -3,16 +3,20 @@
 use Rattle.std.specs.Prelude.{◌≡◌, ◌<◌, ◌≤◌, ◌^◌, ⊤, ℕ, max, List, [], ◌∷◌, ◌++◌, length, take, Result, Ok, Err, ◌⊎◌}
 use Rattle.tmem_disk.specs.Disk.{DeviceView, LeavesOnly, AtEachMoment, IsSynced}
 use Rattle.tmem_disk.specs.declared.fault.Fault.{Fault}
-use Rattle.tmem_disk.specs.declared.fault.Fault.TheVariants.{Memory, Device}
+use Rattle.tmem_disk.specs.declared.fault.Fault.TheVariants.{Spent}
 use Rattle.tmem_record.specs.State.{State, first_state}
 use Rattle.tmem_tree.specs.declared.tx.Tx.{Tx}
 use Rattle.tmem_tree.specs.declared.settled.Settled.TheVariants.{Committed}
 use Rattle.tmem_invariants.specs.Meanings.{IsSound}
 use Rattle.tmem_core.specs.Program.{Program}
 use Rattle.tmem_core.specs.Verdict.{serial_state, AreCommitted}
-use Rattle.tmem_core.specs.Versions.{Follows, names_tested}
+use Rattle.tmem_core.specs.Versions.{Follows}
 use Rattle.tmem_journal.specs.Calls.{FitsOn}
+use Rattle.tmem_journal.specs.Journals.{IsOpeningFailure}
+use Rattle.tmem_journal.specs.Mended.{IsFoundAt}
+use Rattle.tmem_journal.specs.Refusals.{IsRefusedBy}
 use Rattle.tmem_journal.specs.Stands.{Position, StandsFor}
+use Rattle.tmem_opening.specs.Opening.{FindsState}
 use Rattle.tmem_event.specs.declared.event.Event.{Event}
 use Rattle.tmem_event.specs.declared.event.Event.TheVariants as event
 use Rattle.tmem_event.specs.declared.event.Reply.{Reply}
@@ -132,11 +136,11 @@ IsOver vars slots set = (set.vars ≡ vars) × (set.slots ≡ slots)
 
 -- A session on a store with this history: it found the state after a prefix that is safe by its own program, and its replies are a
 -- run of the model from there to this point, with the history that it reached. The content that it found stands for that state, at
--- the position where the run begins: a first flush is told that the log is full only where that content has a full log. The number of
--- failed calls fits the device's count.
+-- the position where the run begins, or it is of version 1 and the run begins behind the next image: a first flush is told that the
+-- log is full only where that content has a full log. The number of failed calls fits the device's count.
 pub record IsSessionOn (before : History) (s : SessionRun) (h : History) (m : WorldModel) : Type 0 where
   pub safe : IsSafePrefix s.set.program s.set.vars before s.found
-  pub stands : StandsFor s.set.vars s.set.slots s.position (state_at s.set.program s.set.vars before s.found) s.content
+  pub stands : IsFoundAt s.set.vars s.set.slots s.content (state_at s.set.program s.set.vars before s.found) s.position
   pub counted : s.failures < 2 ^ 64
   pub run : RunsOn s.set (opening (state_at s.set.program s.set.vars before s.found) s.position s.failures) (history_found s.found before) s.events s.replies m h
 
@@ -164,24 +168,25 @@ GrowsChain set m h es rs m' h' = (vars slots : ℕ) (earlier : List SessionRun) 
 
 -- Opening found the state after a prefix of the history that is safe to find: the durable transactions, or those that may be
 -- durable in their place, with every acknowledged one, and the state is sound. A run begins there, at the position of what a read of
--- the device gave: the next session of any chain that led to the history. Or memory or the device failed, and the device is still a
--- store with the history.
+-- the device gave, or behind an image of version 2 that was written over that: the next session of any chain that led to the history.
+-- Or memory or the device failed, or a read of the device gave an image of version 1 and of the last generation, behind which none can
+-- be; and the device is still a store with the history.
 abbrev pub FindsPrefix : {D T S : Type 0} {d t s : _} → Program → ℕ → ℕ → History → DeviceView → Result (World D T S d t s) (Fault × D) → Type 0
 FindsPrefix program vars slots h old (Ok w) =
     (n : ℕ) × (position : Position) × IsSafePrefix program vars h n × Carries program w (history_found n h) (opening (state_at program vars h n) position old.failures)
-    × StandsFor vars slots position (state_at program vars h n) old.seen
+    × FindsState vars slots old (view_of w) position (state_at program vars h n)
     × ((earlier : List SessionRun) → IsChain vars slots earlier h
     → IsChainAt vars slots earlier (just_opened (setting_of w program) old.seen n position old.failures) (history_found n h) (opening (state_at program vars h n) position old.failures))
-FindsPrefix {d = d} program vars slots h old (Err e) = ((e.0 ≡ Memory) ⊎ (e.0 ≡ Device)) × IsStore program vars slots h (d.view e.1)
+FindsPrefix {d = d} program vars slots h old (Err e) = IsOpeningFailure e.0 × (e.0 ≡ Spent → IsRefusedBy vars slots old.seen Spent) × IsStore program vars slots h (d.view e.1)
 
 -- A device that is a store with this history was opened, and a crash at any moment of that leaves what is safe for it.
 pub record OpensStore {D T S : Type 0} {d t s : _} (program : Program) (vars slots : ℕ) (h : History) (old : DeviceView) (result : Result (World D T S d t s) (Fault × D)) : Type 0 where
   pub any_moment : AtEachMoment old (device_after result) (IsSafe program vars slots h)
   pub found : FindsPrefix program vars slots h old result
 
--- After Opened the position is that of this content, which stands for the state there.
+-- After Opened this content stands for the state, at the position or with the next image at the position.
 abbrev pub FindsIn : Setting → List ℕ → Event → Reply → WorldModel → Type 0
-FindsIn set content event.Reopen (reply.Opened n) m' = StandsFor set.vars set.slots m'.position (present set.program m') content
+FindsIn set content event.Reopen (reply.Opened n) m' = IsFoundAt set.vars set.slots content (present set.program m') m'.position
 FindsIn set content _ _ m' = ⊤
 
 -- A world that carries a history carries the next one after the event, at the next point of the run. What a Reopen finds is what a
@@ -228,10 +233,10 @@ FormattedIsStore {D} view =
     (program : Program) (vars slots : ℕ) (position : _) (disk : D) → FitsOn vars slots (view disk).capacity
     → LeavesOnly (view disk) (StandsFor vars slots position (first_state vars)) → IsStore program vars slots no_history (view disk)
 
--- The new program may follow on the old one over a store with this history: over what is registered after each prefix that may be
--- found, and what the transactions of that prefix tested.
+-- The new program may follow on the old one over a store with this history: over each prefix that may be found, what is registered
+-- after it, and what its transactions tested and retired.
 abbrev pub MayFollow : Program → ℕ → History → Program → Type 0
-MayFollow old vars h new = (n : ℕ) → IsSafePrefix old vars h n → Follows old (state_at old vars h n).names (names_tested old (first_state vars) (take n h.accepted)) new
+MayFollow old vars h new = (n : ℕ) → IsSafePrefix old vars h n → Follows old (first_state vars) (take n h.accepted) new
 
 -- A store of a program is one of each that may follow on it, with the same history.
 abbrev pub FollowingKeepsStore : {D : Type 0} → (D → DeviceView) → Type 0

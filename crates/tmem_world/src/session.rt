@@ -1,9 +1,11 @@
 // A session: the core, and the journal that makes durable what it accepts.
 ghost use Rattle.std.specs.Prelude.{◌≡◌, ◌*◌, ◌+◌, ℕ, Some, length, IfSome, IsErrOf};
+ghost use Rattle.std.proofs.Props.{props};
 ghost use Rattle.tmem_disk.specs.Disk.{IsWriteOrSync};
-ghost use Rattle.tmem_record.specs.State.{State, fold};
+ghost use Rattle.tmem_record.specs.State.{State, StaysWithin, fold};
 ghost use Rattle.tmem_core.specs.Held.{state_of, waiting_of, durable_of, is_shut_of, table_of};
 ghost use Rattle.tmem_journal.specs.Held.{device_of, layout_of, is_closed_of, state_of as durable_state};
+ghost use Rattle.tmem_world.specs.Facts.{StaysWithin-prop};
 ghost use Rattle.tmem_record.specs.Layout.{image_place, image_size, slot_place};
 
 use crate::slot::Slot;
@@ -26,6 +28,9 @@ pub(crate) struct Session<D: Disk, T: Invariants> {
     ghost shut: { is_shut_of core ≡ is_closed_of journal },
     ghost over: { length (state_of core).values ≡ (layout_of journal).vars },
     ghost waits: { fold (durable_state journal) (waiting_of core) ≡ state_of core },
+
+    // Each state from the durable one on, as one effect after another is made durable, is within the limits.
+    ghost within: { StaysWithin (durable_state journal) (waiting_of core) } by { Prim.hlevel (props, StaysWithin-prop) },
 }
 
 impl<D: Disk, T: Invariants + Drop> Session<D, T> {

@@ -7,9 +7,9 @@ ghost use Rattle.tmem_invariants.specs.Meanings.{Meanings};
 ghost use Rattle.tmem_tree.specs.Shapes.{AreMeant as HaveFootprints, AreWithin, names_of};
 ghost use Rattle.tmem_core.specs.Program.{Program, IsProgramOf};
 ghost use Rattle.tmem_gate.specs.Calls.{Uses};
-ghost use Rattle.tmem_journal.specs.Stands.{Position, StandsFor};
+ghost use Rattle.tmem_journal.specs.Stands.{Position};
 ghost use Rattle.tmem_journal.specs.Calls.{FitsOn, fault_alone};
-ghost use Rattle.tmem_opening.specs.Opening.{Mending, OpeningRefused, RecoversEither, without_device};
+ghost use Rattle.tmem_opening.specs.Opening.{FindsState, Mending, OpeningRefused, RecoversEither, without_device};
 ghost use Rattle.tmem_world.specs.Parts.{what, layout_in, table_in};
 ghost use Rattle.tmem_world.specs.Slots.{FitsSlot};
 ghost use Rattle.tmem_world.specs.Facts.{FitsSlot-prop};
@@ -23,7 +23,7 @@ use std::alloc::{AllocError, Global};
 use tmem_disk::{Disk, Fault, Name};
 use tmem_event::{ATTEMPTS, Event, Reply};
 use tmem_invariants::Invariants;
-use tmem_journal::{Layout, refused_stands_for_none, stands_for_one};
+use tmem_journal::{Layout, refused_stands_for_none, spent_stands_at_last, stands_for_one};
 use tmem_opening::Opening;
 use tmem_tree::{Plan, Shape, StoredSteps, Tx};
 
@@ -59,10 +59,12 @@ impl<D: Disk + Drop, T: Invariants + Drop, S: StoredSteps + Drop> World<D, T, S>
     /// invariants and stored steps. Refused by `Geometry` where the numbers are out of limits, the device is smaller than
     /// their layout, or it was formatted for others; by `NotFormatted` where it lacks the open block 0 with its letters;
     /// else by `Damaged` where its content stands for no state; by `Missing` with the first registered name, by bytes,
-    /// that the table lacks; by `Broken` with the first registered invariant, in the table's order, that is false; by
-    /// `Memory`, before the device is touched or where the state that was found is sound; by `Device` where a call of the
-    /// device failed. The device is handed back with the refusal. Gates that read open behind the log are closed, and nothing
-    /// else is written: nothing at all before a refusal by `Geometry`, `NotFormatted` or `Damaged`.
+    /// that the table lacks; by `Broken` with the first registered invariant, in the table's order, that is false; by `Spent`
+    /// where its image is of format version 1 and of the last generation, so that none of version 2 can follow; by `Memory`,
+    /// before the device is touched or where the state that was found is sound; by `Device` where a call of the device failed.
+    /// The device is handed back with the refusal. Gates that read open behind the log are closed, and where the image is of
+    /// version 1, the state is written as the next image, of version 2, before the invariants are looked at. Nothing else is
+    /// written: nothing at all before a refusal by `Geometry`, `NotFormatted` or `Damaged`.
     pub fn open(
         alloc: Global,
         disk: D,
@@ -73,7 +75,7 @@ impl<D: Disk + Drop, T: Invariants + Drop, S: StoredSteps + Drop> World<D, T, S>
     ) -> Result<World<D, T, S>, (Fault, D)>
         requires { T.vars table ≡ vars }
         ensures found { IfOk result (λ w. (s : State) × (position : Position) × ((program : Program) → Means w program → Represents program w (opening s position (D.view disk).failures))
-            × ((view_of w).keeps_model → StandsFor vars slots position s (D.view disk).seen)) }
+            × ((view_of w).keeps_model → FindsState vars slots (D.view disk) (view_of w) position s)) }
         ensures steps { IfOk result (λ w. steps_of w ≡ steps) }
         ensures table { IfOk result (λ w. held_table w ≡ table) }
         ensures fits { IfOk result (λ w. ((numbers_of w).vars ≡ vars) × ((numbers_of w).slots ≡ slots) × HoldsSession w × FitsOn vars slots (D.view disk).capacity) }
@@ -81,14 +83,16 @@ impl<D: Disk + Drop, T: Invariants + Drop, S: StoredSteps + Drop> World<D, T, S>
         ensures refused { IfErr result (λ e. OpeningRefused (IsProgramOf T.Invariants table) vars slots (D.view disk) e.0 (D.view e.1)) }
 
         // Where every crash left one of two states, and both are sound, one of them is found, unless memory or the device
-        // fails.
+        // fails, or no image of version 2 can follow.
         ensures recovers { RecoversEither (BeginsAt (D.view disk).failures) (AreMeant S.StoredSteps T.Invariants steps table) vars slots (D.view disk) (device_after result) (without_device result) }
 
-        // Gates behind the log may be closed, and nothing else is written, whatever the answer.
+        // Gates behind the log may be closed, and an image of version 2 be written where that which is found is of version 1.
+        // Nothing else is written, whatever the answer.
         ensures mends { Mending vars slots (D.view disk) (device_after result) }
 
         // A store is opened with its history: what is found is the state after a prefix of it that has every acknowledged
-        // transaction, and that state is sound, unless memory or the device fails. The world begins the next session of the
+        // transaction, and that state is sound, unless memory or the device fails, or no image of version 2 can follow. The
+        // world begins the next session of the
         // history's chain there. A crash at any moment leaves what is safe for the same history.
         ensures chain { (program : Program) (h : History) → AreMeant S.StoredSteps T.Invariants steps table program
             → IsStore program vars slots h (D.view disk) → (device_after result).keeps_model → OpensStore program vars slots h (D.view disk) result }
@@ -304,6 +308,7 @@ impl<D: Disk + Drop, T: Invariants + Drop, S: StoredSteps + Drop> World<D, T, S>
         ensures { IsAnswered self.old Event.Reopen result self.new }
     {
         stands_for_one();
+        spent_stands_at_last();
         clear(&mut self.slots);
         let layout = self.layout;
         let (disk, table) = self.held.take().unwrap().into_parts();

@@ -9,7 +9,7 @@ use std::test::Fail;
 use tmem_disk::{DeviceFault, Disk, Fault, Fill, Name, SimDisk};
 use tmem_image::{ALL_PAGES, ImageRoom, ImageState, choose, load, write_spare};
 use tmem_journal::{Journal, Layout, format};
-use tmem_record::{NameSet, State};
+use tmem_record::{NameSet, State, Version};
 
 /// An act, with what it is answered, or a mark between acts. Those of a session are for a journal that is open, all others for a
 /// device.
@@ -27,8 +27,8 @@ pub(super) enum Act<'a> {
     Size(u64),
     /// A read from a place on gives these bytes.
     Reads(u64, &'a [u8]),
-    /// It holds these bytes at these places, and zeros elsewhere.
-    HoldsBytes(&'a [(u64, &'a [u8])]),
+    /// It holds these bytes at these places and then those, and zeros elsewhere.
+    HoldsBytes(&'a [(u64, &'a [u8])], &'a [(u64, &'a [u8])]),
     /// A read of so many bytes from a place on fails.
     ReadFails(u64, usize),
     /// These bytes are written from a place on.
@@ -99,7 +99,7 @@ pub(super) enum Act<'a> {
 }
 
 /// What the acts are done to.
-type Device = CountDisk<SimDisk>;
+pub(super) type Device = CountDisk<SimDisk>;
 
 /// Between two acts.
 #[derive(Drop)]
@@ -200,17 +200,23 @@ fn made(alloc: Global, size: u64) -> Result<Device, Fault> {
 }
 
 /// A device of so many bytes, these at these places and zeros elsewhere, that is synced.
-fn made_with(alloc: Global, size: u64, parts: &[(u64, &[u8])]) -> Result<Device, Fault> {
+pub(super) fn made_with(alloc: Global, size: u64, parts: &[(u64, &[u8])]) -> Result<Device, Fault> {
     let mut disk = made(alloc, size)?;
-    for (at, bytes) in parts {
-        if write(&mut disk, *at, bytes) != Some(Ok(())) {
-            return Err(Fault::Device);
-        }
-    }
+    put_parts(&mut disk, parts)?;
     match disk.sync() {
         Ok(()) => Ok(disk),
         Err(_) => Err(Fault::Device),
     }
+}
+
+/// Writes these bytes at these places.
+fn put_parts(disk: &mut Device, parts: &[(u64, &[u8])]) -> Result<(), Fault> {
+    for (at, bytes) in parts {
+        if write(disk, *at, bytes) != Some(Ok(())) {
+            return Err(Fault::Device);
+        }
+    }
+    Ok(())
 }
 
 /// The store after an act, and whether it is answered so.
@@ -316,8 +322,9 @@ fn is_so_of_device(alloc: Global, disk: &mut Device, act: &Act) -> Result<bool, 
 /// Whether its whole content is so.
 fn is_content(alloc: Global, disk: &mut Device, act: &Act) -> Result<bool, Fault> {
     match act {
-        Act::HoldsBytes(parts) => {
+        Act::HoldsBytes(parts, changed) => {
             let mut wanted = made_with(alloc, disk.size(), parts)?;
+            put_parts(&mut wanted, changed)?;
             Ok(content(alloc, disk)? == content(alloc, &mut wanted)?)
         }
         _ => Ok(false),
@@ -547,16 +554,18 @@ fn is_loaded(
     }
 }
 
-/// Whether an image holds what formatting wrote where its generation is 1, and else `state`.
+/// Whether an image is of the second version, and holds what formatting wrote where its generation is 1, and else `state`.
 fn is_whole(alloc: Global, image: &ImageState) -> Result<bool, Fault> {
-    if image.generation == 1 {
+    if image.version != Version::Two {
+        Ok(false)
+    } else if image.generation == 1 {
         Ok(is_alike(&image.state, &no_state(alloc)?))
     } else {
         Ok(is_alike(&image.state, &state(alloc)?))
     }
 }
 
-fn is_alike(had: &State, wanted: &State) -> bool {
+pub(super) fn is_alike(had: &State, wanted: &State) -> bool {
     had.count() == wanted.count()
         && had.names() == wanted.names()
         && had.values() == wanted.values()

@@ -1,7 +1,8 @@
 //! Batches that tests flush.
 ghost use Rattle.std.specs.Bool.{OnTrue};
 ghost use Rattle.std.specs.Prelude.{◌≡◌, ◌<◌, [], ◌∷◌, All};
-ghost use Rattle.tmem_journal.specs.Held.{layout_of};
+ghost use Rattle.tmem_journal.specs.Held.{layout_of, state_of};
+ghost use Rattle.tmem_record.specs.State.{AreApart, StaysWithin};
 
 use std::alloc::Global;
 use tmem_disk::{Disk, Fault, Name};
@@ -43,10 +44,7 @@ pub(super) fn flush_two<D: Disk>(
     let mut batch = Batch::new(alloc)?;
     let are_pushed = batch.push(&first) && batch.push(&second);
     let are_within = is_within(journal, &first) && is_within(journal, &second);
-    if !are_pushed || !are_within || !journal.state().has_room_for(&[]) {
-        return Err(Fault::Full);
-    }
-    if journal.count() >= u64::MAX - 1 {
+    if !are_pushed || !are_within || !has_room_for_two(journal, &first, &second) {
         return Err(Fault::Full);
     }
     journal.flush(&batch)
@@ -59,21 +57,44 @@ pub(super) fn flush_name<D: Disk>(
     name: &Name,
 ) -> Result<u64, Fault> {
     let mut effect = Effect::new();
-    effect.names.put(name);
+    effect.check(name);
     flush(alloc, journal, &effect)
 }
 
 /// Flushes one record. `Full` where it is none that may be flushed.
-fn flush<D: Disk>(alloc: Global, journal: &mut Journal<D>, effect: &Effect) -> Result<u64, Fault> {
-    let has_room = journal.state().has_room_for(effect.names.as_slice());
+fn flush<D: Disk>(alloc: Global, journal: &mut Journal<D>, effect: &Effect) -> Result<u64, Fault>
+    requires { AreApart effect.now.names effect.now.retired }
+{
     let mut batch = Batch::new(alloc)?;
-    if effect.is_empty() || !batch.push(effect) || !has_room || journal.count() == u64::MAX {
+    if effect.is_empty() || !batch.push(effect) {
         return Err(Fault::Full);
     }
-    if !is_within(journal, effect) {
+    if !has_room(journal, effect) || !is_within(journal, effect) {
         return Err(Fault::Full);
     }
     journal.flush(&batch)
+}
+
+/// Whether a journal stays within the limits with this effect.
+fn has_room<D: Disk>(journal: &Journal<D>, effect: &Effect) -> bool
+    ensures { OnTrue result (StaysWithin (state_of journal.now) (effect.now ∷ [])) }
+{
+    let state = journal.state();
+    // brings in that there are not too many names
+    let _ = state.names();
+    state.count() < u64::MAX && state.has_room_for(effect)
+}
+
+/// The same with two effects that have no names.
+fn has_room_for_two<D: Disk>(journal: &Journal<D>, first: &Effect, second: &Effect) -> bool
+    requires first { (first.now.names ≡ []) × (first.now.retired ≡ []) }
+    requires second { (second.now.names ≡ []) × (second.now.retired ≡ []) }
+    ensures { OnTrue result (StaysWithin (state_of journal.now) (first.now ∷ second.now ∷ [])) }
+{
+    let state = journal.state();
+    // brings in that there are not too many names
+    let _ = state.names();
+    state.count() < u64::MAX - 1
 }
 
 /// Whether an effect is over the variables of a journal.
@@ -88,6 +109,7 @@ fn is_within<D: Disk>(journal: &Journal<D>, effect: &Effect) -> bool
 fn effect_to(var: u16, number: i64) -> Effect
     ensures writes { result.writes ≡ (var, number) ∷ [] }
     ensures names { result.names ≡ [] }
+    ensures retired { result.retired ≡ [] }
 {
     let mut effect = Effect::new();
     effect.writes.put(var, number);

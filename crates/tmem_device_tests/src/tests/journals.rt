@@ -2,8 +2,8 @@
 //!
 //! A device of 13824 bytes has room for four variables and two slots, and one of 22016 bytes for four slots.
 use super::acts::Act::{
-    Case, Checkpoints, Closes, CountsAnew, Flushes, Formats, Holds, IsClosed, Made, Makes, Opens,
-    Reads, Restarts, Row, StopAtWrite, Syncs, Writes,
+    Case, Checkpoints, Closes, CountsAnew, Flushes, FlushesTwo, Formats, Holds, HoldsAll, IsClosed,
+    Made, Makes, Opens, Reads, Restarts, Row, StopAtWrite, Syncs, Writes,
 };
 use super::acts::{Act, play};
 use std::test::Fail;
@@ -26,6 +26,15 @@ static FLUSHES: &[Act<'static>] = &[
     Opens(4, 2, Ok(2)),
     Holds(2, 6),
     IsClosed(false),
+    Case("a batch of two records is found again"),
+    Makes(13824),
+    Formats(4, 2, Ok(())),
+    Row,
+    Opens(4, 2, Ok(0)),
+    FlushesTwo(1, 2, 9, Ok(2)),
+    Closes,
+    Opens(4, 2, Ok(2)),
+    HoldsAll(&[(0, 0), (1, 9), (2, 9), (3, 0)]),
     Case("a full log takes no batch"),
     Makes(13824),
     Formats(4, 2, Ok(())),
@@ -219,7 +228,7 @@ static REFUSALS: &[Act<'static>] = &[
     Row,
     Writes(10, &[1]),
     Opens(4, 2, Err("damaged")),
-    // image copy 0: its gate, its generation, 65 names, a byte behind them and one behind the values
+    // image copy 0: its gate, its generation, 65 names, a byte behind them, its version and one byte behind the values
     Case("a damaged image is refused"),
     Makes(13824),
     Formats(4, 2, Ok(())),
@@ -231,6 +240,9 @@ static REFUSALS: &[Act<'static>] = &[
     Opens(4, 2, Err("damaged")),
     Row,
     Writes(529, &[65]),
+    Opens(4, 2, Err("damaged")),
+    Row,
+    Writes(2558, &[1]),
     Opens(4, 2, Err("damaged")),
     Row,
     Writes(2559, &[1]),
@@ -367,11 +379,12 @@ static CONTENTS: &[Act<'static>] = &[
     Makes(22016),
     Formats(4, 4, Ok(())),
     Row,
-    Reads(0, &[0xA5, 0x54, 0x4D, 0x45, 0x4D, 1, 4, 0, 4, 0]),
+    Reads(0, &[0xA5, 0x54, 0x4D, 0x45, 0x4D, 2, 4, 0, 4, 0]),
     Reads(
         512,
         &[0xA5, 1, 0, 0, 0, 0, 0, 0, 0, 0, 0, 0, 0, 0, 0, 0, 0, 0],
     ),
+    Reads(2558, &[0, 2, 0]),
     Case("slot 0 after a flush"),
     Makes(22016),
     Formats(4, 4, Ok(())),
@@ -383,7 +396,7 @@ static CONTENTS: &[Act<'static>] = &[
         5632,
         &[
             0xA5, 1, 0, 0, 0, 0, 0, 0, 0, 0, 0, 0, 0, 0, 0, 0, 0, 1, 0, 1, 0, 0, 5, 0, 0, 0, 0, 0,
-            0, 0, 0,
+            0, 0, 0, 0,
         ],
     ),
     Case("image 1 after a checkpoint, and the slots, which are closed"),
@@ -400,7 +413,7 @@ static CONTENTS: &[Act<'static>] = &[
         3072,
         &[0xA5, 2, 0, 0, 0, 0, 0, 0, 0, 2, 0, 0, 0, 0, 0, 0, 0, 0],
     ),
-    Reads(5120, &[2, 0, 0, 0, 0, 0, 0, 0]),
+    Reads(5118, &[0, 2, 2, 0, 0, 0, 0, 0, 0, 0]),
     Reads(512, &[0xA5, 1]),
     Reads(5632, &[0]),
     Reads(9728, &[0]),
@@ -443,7 +456,7 @@ static CONTENTS: &[Act<'static>] = &[
         9728,
         &[
             0xA5, 1, 0, 0, 0, 0, 0, 0, 0, 0, 0, 0, 0, 0, 0, 0, 0, 1, 0, 1, 0, 0, 5, 0, 0, 0, 0, 0,
-            0, 0, 0,
+            0, 0, 0, 0,
         ],
     ),
     Syncs,
@@ -453,7 +466,7 @@ static CONTENTS: &[Act<'static>] = &[
         13824,
         &[
             0xA5, 1, 0, 0, 0, 0, 0, 0, 0, 0, 0, 0, 0, 0, 0, 0, 0, 1, 0, 1, 0, 0, 5, 0, 0, 0, 0, 0,
-            0, 0, 0,
+            0, 0, 0, 0,
         ],
     ),
     Syncs,

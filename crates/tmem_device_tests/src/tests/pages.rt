@@ -2,7 +2,7 @@
 //!
 //! A device of 14848 bytes has room for 128 variables and two slots. Copy 0 of the image begins at 512, with its pages at 2560 and
 //! 3072; copy 1 begins at 3584, with its pages at 5632 and 6144; and slot 0 begins at 6656. A batch of one record with one write
-//! has 30 bytes.
+//! has 31 bytes.
 use super::acts::Act::{
     Case, Checkpoints, Closes, CountsAnew, FlushesBoth, FlushesName, FlushesRun, FlushesTo,
     FlushesTwo, Formats, HoldsAll, HoldsNames, HoldsRun, Made, MadeBytes, Makes, Opens, Row, Wrote,
@@ -27,7 +27,7 @@ static PAGES: &[Act<'static>] = &[
     Closes,
     Wrote(&[
         // the bytes of the batch, and its gate
-        (6657, 30),
+        (6657, 31),
         (6656, 1),
         // both pages of copy 1, its header and its gate, and the gate of the slot
         (5632, 512),
@@ -41,7 +41,7 @@ static PAGES: &[Act<'static>] = &[
         (3072, 512),
         (513, 2047),
         (512, 1),
-        (6657, 30),
+        (6657, 31),
         (6656, 1),
         // page 1 alone, in each of the copies
         (3584, 1),
@@ -84,7 +84,7 @@ static PAGES: &[Act<'static>] = &[
         (3072, 512),
         (513, 2047),
         (512, 1),
-        (6657, 23),
+        (6657, 24),
         (6656, 1),
         (3584, 1),
         (3585, 2047),
@@ -120,9 +120,9 @@ static PAGES: &[Act<'static>] = &[
         (3072, 512),
         (513, 2047),
         (512, 1),
-        (6657, 30),
+        (6657, 31),
         (6656, 1),
-        (10753, 30),
+        (10753, 31),
         (10752, 1),
         (3584, 1),
         (5632, 512),
@@ -186,7 +186,7 @@ static LARGE: &[Act<'static>] = &[
     FlushesTo(1023, 1, Ok(1)),
     Closes,
     Made(None, 39, 8),
-    MadeBytes(20512),
+    MadeBytes(20513),
     Row,
     CountsAnew,
     Opens(1024, 64, Ok(0)),
@@ -196,7 +196,7 @@ static LARGE: &[Act<'static>] = &[
     Checkpoints(Ok(())),
     Closes,
     Made(None, 44, 12),
-    MadeBytes(23074),
+    MadeBytes(23075),
     // the next session knows nothing of the pages
     Row,
     Opens(1024, 64, Ok(0)),
@@ -209,7 +209,7 @@ static LARGE: &[Act<'static>] = &[
     Checkpoints(Ok(())),
     Closes,
     Made(None, 22, 7),
-    MadeBytes(10273),
+    MadeBytes(10274),
 ];
 
 #[test]

@@ -1,10 +1,10 @@
-//! Stores of format version 1, as they lie on a device, and what a journal finds in them.
+//! Stores of format version 1, as they lie on a device, and what the opening of a journal makes of them.
 //!
-//! Each is a list of places, with the bytes from there on. Every other byte is 0. They stay as they are when the format changes: it is
-//! from them that a later program is known to open what an earlier one left. The first three have four variables and four slots, in 22016
+//! Each is a list of places, with the bytes from there on. Every other byte is 0. A program of version 1 made them. The first three have four variables and four slots, in 22016
 //! bytes: copy 1 of the image begins at 3072, slot 0 at 5632.
 use super::acts::Act::{
-    Case, Closes, CountsAnew, Holds, HoldsAll, HoldsBytes, HoldsNames, Made, MakesWith, Opens, Row,
+    Case, Checkpoints, Closes, CountsAnew, FlushesTo, Holds, HoldsAll, HoldsBytes, HoldsNames,
+    Made, MakesWith, Opens, Reads, Row, Writes, Wrote,
 };
 use super::acts::{Act, play};
 use std::test::Fail;
@@ -90,6 +90,54 @@ pub(super) const TWO_BATCHES: &[(u64, &[u8])] = &[
     ),
 ];
 
+/// What the opening of each of them changes: the copy of the image that was not chosen, which is of the second version then, and the gate
+/// of each log slot that was in use.
+const FRESH_AFTER: &[(u64, &[u8])] = &[(3072, &[0xA5, 2]), (5119, &[2])];
+
+const FIRST_AFTER: &[(u64, &[u8])] = &[
+    (3072, &[0xA5, 2]),
+    (3081, &[1]),
+    (5119, &[2, 5]),
+    (5632, &[0]),
+];
+
+const SHORTER_AFTER: &[(u64, &[u8])] = &[
+    (513, &[3]),
+    (521, &[3]),
+    (
+        529,
+        &[
+            2, 6, b'n', b'o', b'n', b'n', b'e', b'g', 7, b'o', b'r', b'd', b'e', b'r', b'e', b'd',
+        ],
+    ),
+    (2559, &[2]),
+    (5632, &[0]),
+];
+
+const TWO_BATCHES_AFTER: &[(u64, &[u8])] = &[
+    (513, &[3]),
+    (521, &[6]),
+    (
+        529,
+        &[
+            3, 6, b'n', b'o', b'n', b'n', b'e', b'g', 7, b'o', b'r', b'd', b'e', b'r', b'e', b'd',
+            3, b's', b'u', b'm',
+        ],
+    ),
+    (2559, &[2]),
+    // 60, 40, -5, 7, 0 and 1; and the last two
+    (2560, &[60]),
+    (2568, &[40]),
+    (2576, &[0xFB, 0xFF, 0xFF, 0xFF, 0xFF, 0xFF, 0xFF, 0xFF]),
+    (2584, &[7]),
+    (2600, &[1]),
+    (3064, &[0xFF, 0xFF, 0xFF, 0xFF, 0xFF, 0xFF, 0xFF, 0x7F]),
+    (3079, &[0x80]),
+    (6656, &[0]),
+    (10752, &[0]),
+];
+
+// Each is opened once more, and nothing is written then.
 static OPENED: &[Act<'static>] = &[
     Case("a store that was formatted"),
     Row,
@@ -99,8 +147,15 @@ static OPENED: &[Act<'static>] = &[
     Holds(0, 0),
     HoldsNames(&[]),
     Closes,
+    Made(None, 3, 3),
+    Wrote(&[(5120, 512), (3073, 2047), (3072, 1)]),
+    HoldsBytes(FRESH, FRESH_AFTER),
+    CountsAnew,
+    Opens(4, 4, Ok(0)),
+    Holds(0, 0),
+    HoldsNames(&[]),
+    Closes,
     Made(None, 0, 1),
-    HoldsBytes(FRESH),
     Case("a first record"),
     Row,
     MakesWith(22016, FIRST),
@@ -110,8 +165,16 @@ static OPENED: &[Act<'static>] = &[
     HoldsAll(&[(1, 0), (2, 0), (3, 0)]),
     HoldsNames(&[]),
     Closes,
+    Made(None, 4, 4),
+    Wrote(&[(5120, 512), (3073, 2047), (3072, 1), (5632, 1)]),
+    HoldsBytes(FIRST, FIRST_AFTER),
+    CountsAnew,
+    Opens(4, 4, Ok(1)),
+    Holds(1, 5),
+    HoldsAll(&[(1, 0), (2, 0), (3, 0)]),
+    HoldsNames(&[]),
+    Closes,
     Made(None, 0, 1),
-    HoldsBytes(FIRST),
     Case("a shorter batch over a longer one"),
     Row,
     MakesWith(22016, SHORTER_OVER_LONGER),
@@ -120,8 +183,15 @@ static OPENED: &[Act<'static>] = &[
     Holds(3, 0),
     HoldsNames(&["nonneg", "ordered"]),
     Closes,
+    Made(None, 5, 5),
+    Wrote(&[(512, 1), (2560, 512), (513, 2047), (512, 1), (5632, 1)]),
+    HoldsBytes(SHORTER_OVER_LONGER, SHORTER_AFTER),
+    CountsAnew,
+    Opens(4, 4, Ok(3)),
+    Holds(3, 0),
+    HoldsNames(&["nonneg", "ordered"]),
+    Closes,
     Made(None, 0, 1),
-    HoldsBytes(SHORTER_OVER_LONGER),
     Case("two images and two batches"),
     Row,
     MakesWith(23040, TWO_BATCHES),
@@ -141,11 +211,92 @@ static OPENED: &[Act<'static>] = &[
     ]),
     HoldsNames(&["nonneg", "ordered", "sum"]),
     Closes,
+    Made(None, 7, 5),
+    Wrote(&[
+        (512, 1),
+        (2560, 512),
+        (3072, 512),
+        (513, 2047),
+        (512, 1),
+        (6656, 1),
+        (10752, 1),
+    ]),
+    HoldsBytes(TWO_BATCHES, TWO_BATCHES_AFTER),
+    CountsAnew,
+    Opens(65, 4, Ok(6)),
+    Holds(6, 60),
+    HoldsAll(&[
+        (1, 40),
+        (2, -5),
+        (3, 7),
+        (5, 1),
+        (63, i64::MAX),
+        (64, i64::MIN),
+    ]),
+    HoldsNames(&["nonneg", "ordered", "sum"]),
+    Closes,
     Made(None, 0, 1),
-    HoldsBytes(TWO_BATCHES),
+    // behind a migration too, nothing is known of any page
+    Case("the checkpoint behind a migration writes all pages"),
+    Row,
+    MakesWith(23040, TWO_BATCHES),
+    CountsAnew,
+    Opens(65, 4, Ok(6)),
+    FlushesTo(64, 9, Ok(7)),
+    Checkpoints(Ok(())),
+    Closes,
+    Wrote(&[
+        (512, 1),
+        (2560, 512),
+        (3072, 512),
+        (513, 2047),
+        (512, 1),
+        (6656, 1),
+        (10752, 1),
+        (6657, 31),
+        (6656, 1),
+        (3584, 1),
+        (5632, 512),
+        (6144, 512),
+        (3585, 2047),
+        (3584, 1),
+        (6656, 1),
+    ]),
+    Opens(65, 4, Ok(7)),
+    Holds(7, 60),
+    HoldsAll(&[(1, 40), (63, i64::MAX), (64, 9)]),
+    HoldsNames(&["nonneg", "ordered", "sum"]),
+    // behind the last generation there is no image of the second version
+    Case("the last generation"),
+    MakesWith(22016, FRESH),
+    Row,
+    Writes(513, &[0xFF, 0xFF, 0xFF, 0xFF, 0xFF, 0xFF, 0xFF, 0xFF]),
+    CountsAnew,
+    Opens(4, 4, Err("spent")),
+    Made(None, 0, 1),
+    Opens(4, 4, Err("spent")),
+    // a stale gate behind the log is closed first
+    Row,
+    Writes(513, &[0xFF, 0xFF, 0xFF, 0xFF, 0xFF, 0xFF, 0xFF, 0xFF]),
+    Writes(13824, &[0xA5, 1]),
+    CountsAnew,
+    Opens(4, 4, Err("spent")),
+    Made(None, 1, 2),
+    Reads(13824, &[0, 1]),
+    // what is damaged is so at the last generation too
+    Row,
+    Writes(513, &[0xFF, 0xFF, 0xFF, 0xFF, 0xFF, 0xFF, 0xFF, 0xFF]),
+    Writes(5, &[2]),
+    Opens(4, 4, Err("damaged")),
+    Row,
+    Writes(513, &[0xFE, 0xFF, 0xFF, 0xFF, 0xFF, 0xFF, 0xFF, 0xFF]),
+    Opens(4, 4, Ok(0)),
+    Checkpoints(Err("spent")),
+    Closes,
+    Reads(3073, &[0xFF, 0xFF, 0xFF, 0xFF, 0xFF, 0xFF, 0xFF, 0xFF]),
 ];
 
 #[test]
-fn a_store_of_version_1_is_opened(rt: HostRuntime) -> Result<(), Fail> {
+fn a_store_of_version_1_becomes_one_of_version_2(rt: HostRuntime) -> Result<(), Fail> {
     play(&rt, rt.alloc(), OPENED)
 }

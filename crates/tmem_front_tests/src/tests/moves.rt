@@ -42,6 +42,8 @@ pub(super) enum Task {
     Never,
     /// Registers the invariant.
     Register,
+    /// Retires it.
+    Retire,
 }
 
 /// What a thread does next, mostly one call of the front by its pass.
@@ -217,6 +219,7 @@ impl Task {
                 need_one(alloc, 2)?,
             ]?)),
             Task::Register => Ok(Tx::Check { name: always() }),
+            Task::Retire => Ok(Tx::Retire { name: always() }),
         }
     }
 }

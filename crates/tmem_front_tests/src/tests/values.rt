@@ -1,6 +1,8 @@
 //! What a store has at one moment.
 use super::moves::Answer::{Committed, Done, Holds, Number, Refused};
-use super::moves::Move::{Count, CountValues, HasInvariant, Look, OtherPass, TryCommit, ValuesAre};
+use super::moves::Move::{
+    Count, CountValues, Flush, HasInvariant, Look, OtherPass, TryCommit, ValuesAre,
+};
 use super::moves::{Refusal, Task};
 use super::scenes::Line::{Before, Scene, Vars};
 use super::scenes::{Line, play};
@@ -24,12 +26,17 @@ static SCENES: &[Line<'static>] = &[
     Vars(1024),
     Before(CountValues(0), Number(0)),
     Before(CountValues(1024), Number(1024)),
-    Scene("an invariant is there once it is registered"),
+    Scene("an invariant is there once it is registered, and until it is retired"),
     Before(HasInvariant, Holds(false)),
     Before(TryCommit(Task::Register), Committed(0)),
     Before(OtherPass, Done),
     Before(HasInvariant, Holds(true)),
     Before(Count, Number(1)),
+    Before(TryCommit(Task::Retire), Committed(1)),
+    Before(HasInvariant, Holds(false)),
+    Before(Count, Number(2)),
+    Before(Flush, Number(2)),
+    Before(HasInvariant, Holds(false)),
 ];
 
 #[test]

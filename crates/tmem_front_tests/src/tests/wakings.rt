@@ -95,6 +95,11 @@ static SCENES: &[Line<'static>] = &[
     // it writes to no variable
     Last(TryCommit(Task::Register), Committed(0)),
     After(Look, Number(1)),
+    Scene("a retirement wakes a flusher"),
+    Second(RunFlusher(1), Done),
+    Last(Sleep(50), Done),
+    Last(TryCommit(Task::Retire), Committed(0)),
+    After(Look, Number(1)),
     Scene("a commit wakes each thread that waits for one"),
     Before(TryCommit(Task::Write(0, 1)), Committed(0)),
     Before(Flush, Number(1)),

@@ -43,7 +43,7 @@ fn is_before(one: &str, other: &str) -> Result<bool, Fault> {
     Ok(Name::new(one)? < Name::new(other)?)
 }
 
-const LINES: [(Fault, &'static str); 17] = [
+const LINES: [(Fault, &'static str); 18] = [
     (Fault::Memory, "fault 1 memory"),
     (Fault::Device, "fault 2 device"),
     (Fault::Closed, "fault 3 closed"),
@@ -56,6 +56,7 @@ const LINES: [(Fault, &'static str); 17] = [
     (Fault::BadPlan(Cause::TooDeep), "fault 12 badplan 1"),
     (Fault::BadPlan(Cause::TooManyWrites), "fault 12 badplan 3"),
     (Fault::BadPlan(Cause::UnknownName), "fault 12 badplan 9"),
+    (Fault::BadPlan(Cause::TooManyRetires), "fault 12 badplan 10"),
     (Fault::BadName, "fault 13 badname"),
     (Fault::BadFootprint, "fault 14 badfootprint"),
     (Fault::Spent, "fault 15 spent"),

@@ -63,7 +63,8 @@ enum Task {
     Write,
     /// Has each form. It writes a 5 to variable 0, and aborts with 7 where the number is not 0.
     EachForm(i64),
-    /// Has 512 nodes, is 32 deep, writes this number to 64 variables, and checks 8 times that variable 0 is not negative.
+    /// Has 512 nodes, is 32 deep, writes this number to 64 variables, and retires 8 times and then checks 8 times that variable 0 is not
+    /// negative.
     Largest(i64),
     /// Reads 500 variables.
     Reads,
@@ -124,6 +125,7 @@ fn each_form(alloc: Global, aborts: i64) -> Result<Tx, AllocError> {
             args,
             out: 2
         },
+        Tx::Retire { name: names()[0] },
         Tx::Check { name: names()[0] },
         Tx::When {
             reg: 3,
@@ -139,9 +141,12 @@ fn largest(alloc: Global, number: i64) -> Result<Tx, AllocError> {
         all.push(Tx::Write { var, reg: 0 })?;
     }
     for _ in 0..8 {
+        all.push(Tx::Retire { name: names()[0] })?;
+    }
+    for _ in 0..8 {
         all.push(Tx::Check { name: names()[0] })?;
     }
-    for _ in 0..408 {
+    for _ in 0..400 {
         all.push(Tx::Skip)?;
     }
     let mut tx = Tx::Seq(all);
@@ -312,7 +317,7 @@ fn play_with<T: Invariants + Drop, S: StoredSteps + Drop, R: Abort + Clock + Wai
     }
 }
 
-// at: 512 nodes, depth 32, 64 writes, 8 checks, 500 reads, 1024 variables, 64 slots, 256 waiting
+// at: 512 nodes, depth 32, 64 writes, 8 checks, 8 retirements, 500 reads, 1024 variables, 64 slots, 256 waiting
 #[test]
 fn each_call_of_a_front_settles_each_form_at_each_limit(rt: HostRuntime) -> Result<(), Fail> {
     let alloc = rt.alloc();

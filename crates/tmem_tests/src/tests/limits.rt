@@ -3,7 +3,7 @@
 ghost use Rattle.std.specs.Prelude.{◌≡◌, length};
 ghost use Rattle.tmem_tests.specs.Examples.{is_last_not_negative};
 
-use super::names::{add, has_all, numbered, register_all};
+use super::names::{add, has_all, has_none, numbered, register_all, retire_all};
 use super::{commit, committed, formatted, write};
 use std::alloc::Global;
 use std::process::Abort;
@@ -11,7 +11,7 @@ use std::test::Fail;
 use tmem_disk::{Fault, SimDisk};
 use tmem_front::OpenedFront;
 use tmem_invariants::{Invariants, Table};
-use tmem_record::{BATCH_ROOM, Batch, Decoded, Effect, decode_batch, encode_batch};
+use tmem_record::{BATCH_ROOM, Batch, Decoded, Effect, Version, decode_batch, encode_batch};
 use tmem_tree::{Steps, StoredSteps};
 use tmem_world::{Event, Reply, Settled, World};
 
@@ -26,6 +26,8 @@ enum Session {
     Fills,
     /// Finds them in the log. After a checkpoint it finds them in an image.
     Checkpoints,
+    /// Retires all names, and opens the device again.
+    Retires,
     /// Finds them as a front.
     IsFront,
 }
@@ -75,6 +77,20 @@ fn checkpoint_and_reopen<T: Invariants + Drop, S: StoredSteps + Drop>(
     Ok(())
 }
 
+/// Retires all names, so that nothing is tested any more, makes that durable, and finds no name again.
+fn retire_and_reopen<T: Invariants + Drop, S: StoredSteps + Drop>(
+    rt: &impl Abort,
+    alloc: Global,
+    world: &mut World<SimDisk, T, S>,
+) -> Result<(), Fault> {
+    retire_all(rt, alloc, world, 64)?;
+    assert!(rt; commit(world, write(alloc, 15, -1)?) == committed(72, -1));
+    assert!(rt; world.step(Event::Flush) == Reply::Durable(73));
+    assert!(rt; world.step(Event::Reopen) == Reply::Opened(73));
+    assert!(rt; has_none(world)?);
+    Ok(())
+}
+
 /// A session of a world.
 fn play<T: Invariants + Drop, S: StoredSteps + Drop>(
     rt: &impl Abort,
@@ -82,11 +98,13 @@ fn play<T: Invariants + Drop, S: StoredSteps + Drop>(
     world: &mut World<SimDisk, T, S>,
     session: Session,
 ) -> Result<(), Fault> {
-    if matches!(session, Session::Fills) {
-        fill(rt, alloc, world)?;
-        flush_and_reopen(rt, alloc, world)
-    } else {
-        checkpoint_and_reopen(rt, alloc, world)
+    match session {
+        Session::Fills => {
+            fill(rt, alloc, world)?;
+            flush_and_reopen(rt, alloc, world)
+        }
+        Session::Retires => retire_and_reopen(rt, alloc, world),
+        _ => checkpoint_and_reopen(rt, alloc, world),
     }
 }
 
@@ -188,10 +206,11 @@ fn play_sessions(rt: &impl Abort, alloc: Global, sessions: &[Session]) -> Result
     Ok(())
 }
 
-// at: 1024 variables, 64 slots, 64 records, 64 names, 64 invariants, 16 footprint variables
+// at: 1024 variables, 64 slots, 64 records, 64 names, 64 invariants, 16 footprint variables, 8 checks, 8 retirements
 #[test]
 fn a_store_at_its_limits_is_found_in_the_log_and_in_an_image(rt: HostRuntime) -> Result<(), Fail> {
-    play_sessions(&rt, rt.alloc(), &[Session::Fills, Session::Checkpoints])?;
+    let sessions = [Session::Fills, Session::Checkpoints, Session::Retires];
+    play_sessions(&rt, rt.alloc(), &sessions)?;
     Ok(())
 }
 
@@ -225,8 +244,8 @@ fn is_read_again(alloc: Global) -> Result<bool, Fault> {
     }
     let mut buffer = [0; BATCH_ROOM];
     let length = encode_batch(&batch, 1, 0, &mut buffer);
-    match decode_batch(alloc, &buffer[..length], VARS)? {
-        Some(decoded) => Ok(length == 786 && is_batch_of_64(&decoded)),
+    match decode_batch(alloc, &buffer[..length], VARS, Version::Two)? {
+        Some(decoded) => Ok(length == 850 && is_batch_of_64(&decoded)),
         None => Ok(false),
     }
 }
@@ -239,7 +258,7 @@ fn is_batch_of_64(decoded: &Decoded) -> bool {
         }
         n += 1;
     }
-    (decoded.generation, decoded.first, decoded.length, n) == (1, 0, 786, 64)
+    (decoded.generation, decoded.first, decoded.length, n) == (1, 0, 850, 64)
 }
 
 // at: 1024 variables, 64 records

@@ -1,5 +1,5 @@
 //! A second version of a program goes on with the store of the first one: its table has another order and an invariant more, and it has
-//! a step more.
+//! a step more. It retires an invariant of the first one, and a third version does not have that any more.
 ghost use Rattle.std.specs.Prelude.{◌≡◌, length};
 ghost use Rattle.tmem_builtins.specs.Invariants.{is_not_negative};
 ghost use Rattle.tmem_tests.specs.Examples.{first_of};
@@ -20,6 +20,9 @@ const FIRST: &[(u8, u16)] = &[(0, 0), (1, 1)];
 
 /// Those of the second.
 const SECOND: &[(u8, u16)] = &[(2, 2), (1, 1), (0, 0)];
+
+/// Those of the third.
+const THIRD: &[(u8, u16)] = &[(0, 0), (2, 2)];
 
 /// Writes -1 to variables 0 and 1.
 fn write_both(alloc: Global) -> Result<Tx, Fault> {
@@ -85,6 +88,30 @@ fn go_on<T: Invariants + Drop, S: StoredSteps + Drop>(
     assert!(rt; commit(world, Tx::Check { name }) == committed(6, 0));
     assert!(rt; commit(world, write(alloc, 2, -1)?) == refused(2)?);
     assert!(rt; world.step(Event::Flush) == Reply::Durable(7));
+    assert!(rt; commit(world, write(alloc, 1, -1)?) == refused(1)?);
+    let name = numbered(1)?;
+    assert!(rt; commit(world, Tx::Retire { name }) == committed(7, 0));
+    assert!(rt; world.step(Event::Flush) == Reply::Durable(8));
+    Ok(())
+}
+
+/// What the third one finds, and does.
+fn end<T: Invariants + Drop, S: StoredSteps + Drop>(
+    rt: &impl Abort,
+    alloc: Global,
+    world: &mut World<SimDisk, T, S>,
+) -> Result<(), Fault> {
+    assert!(rt; commit(world, Tx::Read { var: 0, reg: 0 }) == Reply::Settled(seen(8, 5)));
+    assert!(rt; commit(world, write(alloc, 1, -1)?) == committed(8, -1));
+    assert!(rt; commit(world, write_both(alloc)?) == refused(0)?);
+    assert!(rt; commit(world, write(alloc, 2, -1)?) == refused(2)?);
+    // it does not know the name
+    let retires = Tx::Retire { name: numbered(1)? };
+    let bad = Event::Begin {
+        slot: 0,
+        tx: retires,
+    };
+    assert!(rt; world.step(bad) == Reply::Fault(Fault::BadPlan(Cause::UnknownName)));
     Ok(())
 }
 
@@ -107,18 +134,19 @@ fn begin_on<T: Invariants + Drop, S: StoredSteps + Drop>(
     Ok(world.into_disk())
 }
 
-/// Plays the second version on the device that the first one left.
+/// Plays a later version on the device that the one before it left, and hands that back.
 fn go_on_with<T: Invariants + Drop, S: StoredSteps + Drop>(
     rt: &impl Abort,
     alloc: Global,
     disk: SimDisk,
     table: T,
     steps: S,
-) -> Result<(), Fault>
+    is_third: bool,
+) -> Result<SimDisk, Fault>
     requires { T.vars table ≡ 4 }
 {
     match World::open(alloc, disk, 4, 4, table, steps) {
-        Ok(world) => go_on_in(rt, alloc, world),
+        Ok(world) => go_on_in(rt, alloc, world, is_third),
         Err((fault, _disk)) => Err(fault),
     }
 }
@@ -128,8 +156,14 @@ fn go_on_in<T: Invariants + Drop, S: StoredSteps + Drop>(
     rt: &impl Abort,
     alloc: Global,
     mut world: World<SimDisk, T, S>,
-) -> Result<(), Fault> {
-    go_on(rt, alloc, &mut world)
+    is_third: bool,
+) -> Result<SimDisk, Fault> {
+    if is_third {
+        end(rt, alloc, &mut world)?;
+    } else {
+        go_on(rt, alloc, &mut world)?;
+    }
+    Ok(world.into_disk())
 }
 
 /// The first version, on a new device that it hands back.
@@ -157,7 +191,7 @@ fn play_first(rt: &impl Abort, alloc: Global) -> Result<SimDisk, Fault> {
 }
 
 /// The second version, on the device that the first one left.
-fn play_second(rt: &impl Abort, alloc: Global, disk: SimDisk) -> Result<(), Fault> {
+fn play_second(rt: &impl Abort, alloc: Global, disk: SimDisk) -> Result<SimDisk, Fault> {
     let mut entries = Vec::new(alloc);
     for (number, var) in SECOND {
         let test = Box::new(
@@ -181,12 +215,30 @@ fn play_second(rt: &impl Abort, alloc: Global, disk: SimDisk) -> Result<(), Faul
         steps.push(StepEntry::new(1, step)?)?;
     }
     let steps = Steps::of(steps)?;
-    go_on_with(rt, alloc, disk, Table::of(alloc, entries, 4)?, steps)
+    go_on_with(rt, alloc, disk, Table::of(alloc, entries, 4)?, steps, false)
+}
+
+/// The third version, on the device that the second one left.
+fn play_third(rt: &impl Abort, alloc: Global, disk: SimDisk) -> Result<SimDisk, Fault> {
+    let mut entries = Vec::new(alloc);
+    for (number, var) in THIRD {
+        let test = Box::new(
+            alloc,
+            |values: &[i64]| -> bool
+                requires { length values.now ≡ 1 }
+                ensures { result ≡ is_not_negative values.now }
+            { nonneg(values) },
+        )?;
+        add(&mut entries, *number, vec![in alloc; *var]?, test)?;
+    }
+    let steps = Steps::of(Vec::new(alloc))?;
+    go_on_with(rt, alloc, disk, Table::of(alloc, entries, 4)?, steps, true)
 }
 
 #[test]
-fn a_store_outlives_a_version_of_its_program(rt: HostRuntime) -> Result<(), Fail> {
+fn a_store_outlives_two_versions_of_its_program(rt: HostRuntime) -> Result<(), Fail> {
     let disk = play_first(&rt, rt.alloc())?;
-    play_second(&rt, rt.alloc(), disk)?;
+    let disk = play_second(&rt, rt.alloc(), disk)?;
+    play_third(&rt, rt.alloc(), disk)?;
     Ok(())
 }

@@ -2,7 +2,9 @@ use Rattle.std.proofs.Common.{◌≡◌, ◌<◌, [], ℕ, List, true, false, sy
 use Rattle.std.proofs.lemmas.List.Elements.{All-weaker}
 use Rattle.tmem_record.specs.Names.{has_name}
 use Rattle.tmem_tentative.specs.Cursors.{outcome_of}
-use Rattle.tmem_tentative.specs.Fits.{IsForVariables, IsForNames, IsWithin, IsNamed}
+use Rattle.tmem_tentative.specs.Fits.{IsForVariables, IsForNames, IsEndingFor, IsWithin, IsNamed}
+use Rattle.tmem_tentative.specs.declared.attempt.Ending.{Ending}
+use Rattle.tmem_tentative.specs.declared.attempt.Ending.TheVariants.{Normal, Retry, Abort, Broken}
 use Rattle.tmem_bench.proofs.on_core.settle.Goals as goal
 
 pub peek-requires : goal.peek-requires
@@ -27,7 +29,19 @@ decide-requires-clause-variables g c =
 unnamed : (names : List (List ℕ)) (name : List ℕ) → has_name [] name ≡ true → has_name names name ≡ true
 unnamed names name has = absurd cc
 
+ending_unnamed : (names : List (List ℕ)) (end : Ending) → IsEndingFor [] end → IsEndingFor names end
+ending_unnamed names Normal is = tt
+ending_unnamed names Retry is = tt
+ending_unnamed names (Abort code) is = tt
+ending_unnamed names (Broken name) is = unnamed names name is
+
 pub decide-requires-clause-names : goal.decide-requires-clause-names
 decide-requires-clause-names g c =
     let ended = subst (λ p. IsNamed [] (outcome_of c.advance.new.self p)) c.in-Ended.is (c.in_ok-var.ensures.named [] c.requires.names) in
-    All-weaker _ _ (unnamed _) _ (subst (IsForNames []) (sym c.attempt.ensures.attempt) ended)
+    let named = subst (IsForNames []) (sym c.attempt.ensures.attempt) ended in
+    record {
+      proposed = All-weaker _ _ (unnamed _) _ named.proposed;
+      retired = All-weaker _ _ (unnamed _) _ named.retired;
+      apart = named.apart;
+      ending = ending_unnamed _ _ named.ending;
+    }

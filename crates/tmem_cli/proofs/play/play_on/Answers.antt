@@ -40,7 +40,7 @@ returns-clause-played g c =
     (ok_both c.play_entries-outcome.result did.played did.chain
     (λ played chain premise. (
       so.uses.model (did.kept.model premise),
-      PlaysOn-of (g.D.Disk.view c.args.disk) w new vars slots over log means set c.count.result found.1 found.0 _ _ _ c.args.entries.items (found.3 (did.kept.model premise)) at (c.count.ensures program (opening found.0 found.1 0) at) c.in-Ok-print_line.ensures.line played premise
+      PlaysOn-of (g.D.Disk.view c.args.disk) w new vars slots over log means set c.count.result found.1 found.0 _ _ _ c.args.entries.items (found.3 (did.kept.model premise)).was at (c.count.ensures program (opening found.0 found.1 0) at) c.in-Ok-print_line.ensures.line played premise
           (λ h store.
           let opened = so.chain program h c.requires.meant store (did.kept.model premise) in
           let n = opened.found.0 in
@@ -101,5 +101,5 @@ returns-in-Err-clause-failed g c =
           (λ p is. subst (IsProgramOf g.T.Invariants c.args.table) (sym is) c.requires.meant.invariants) c.in-Err.ensures.refused,
       λ h store premise.
           let opened = c.in-Err.ensures.chain (builtin_program vars) h c.requires.meant store premise in
-          record { store = opened.found.1; any_moment = opened.any_moment },
+          record { store = opened.found.2; any_moment = opened.any_moment },
     )

@@ -28,7 +28,7 @@ returns-in_ok-disk-in-None-clause-failed g c =
     (IfErr-weaker c.play_on.result.1 _ _
     (λ failure why. elim why [
       | inl stops ↦ inl stops.0
-      | inr refused ↦ elim (first_stops c.stands_for_one.ensures layout.vars layout.slots layout.fits (memory_of disk) (memory_of c.play_on.result.0) empty c.refused_stands_for_none.ensures refused.0 (omega (arith, c.in_ok-disk-in-None.ensures.capacity)) tt refused.2) [
+      | inr refused ↦ elim (first_stops c.stands_for_one.ensures layout.vars layout.slots layout.fits (memory_of disk) (memory_of c.play_on.result.0) empty c.refused_stands_for_none.ensures c.spent_stands_at_last.ensures refused.0 (omega (arith, c.in_ok-disk-in-None.ensures.capacity)) tt refused.2) [
         | inl memory ↦ inr (inl (refused.1 ∙ ap Refused memory))
         | inr device ↦ inr (inr (refused.1 ∙ ap Refused device))
       ]

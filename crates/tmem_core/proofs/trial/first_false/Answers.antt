@@ -1,8 +1,10 @@
 use Rattle.std.proofs.Common.{subst, sym, ◌∙◌}
+use Rattle.tmem_record.specs.Names.{without_names}
 use Rattle.tmem_record.specs.State.{written}
 use Rattle.tmem_record.proofs.Laws.{length-written}
 use Rattle.tmem_invariants.specs.Places.{ArePlacesOf}
 use Rattle.tmem_invariants.proofs.Laws.{first_false-untouched}
+use Rattle.tmem_core.proofs.Known.{AllHold-kept}
 use Rattle.tmem_core.proofs.Trials.{differ, olds_within, state_back}
 use Rattle.tmem_core.proofs.trial.first_false.Goals as goal
 
@@ -23,13 +25,15 @@ pub returns-clause-first : goal.returns-clause-first
 returns-clause-first g c = λ m stated held.
     let s = c.args.state.now in
     let e = c.args.effect.now in
-    let all = rw (c.values-2.ensures, c.overwrite.ensures, c.as_slice-writes.ensures.writes) at (c.test_touched-place.ensures.all m s.names e.names s.values stated c.requires.registered c.requires.proposed) in
-    all (differ s.values e.writes) held
+    let kept = without_names s.names e.retired in
+    let all = rw (c.values-2.ensures, c.overwrite.ensures, c.as_slice-writes.ensures.writes) at (c.test_touched-place.ensures.all m kept e.names s.values stated c.requires.kept c.requires.proposed) in
+    all (differ s.values e.writes) (AllHold-kept m s e s.values held)
 
 pub returns-then-not-is_touched-clause-first : goal.returns-then-not-is_touched-clause-first
 returns-then-not-is_touched-clause-first g c = λ m stated held.
     let s = c.args.state.now in
     let e = c.args.effect.now in
     let names = g.T.Invariants.names c.args.table.now in
-    let untouched = rw c.as_slice-writes.ensures.writes at (sym (c.is_touched.ensures m s.names stated c.requires.registered) ∙ c.if-not-is_touched.true) in
-    sym (first_false-untouched m names s.names e.names e.writes s.values (written s.values e.writes) (differ s.values e.writes) held (subst (ArePlacesOf e.names names) c.if-proposed-eq0.true c.requires.proposed) untouched)
+    let kept = without_names s.names e.retired in
+    let untouched = rw c.as_slice-writes.ensures.writes at (sym (c.is_touched.ensures m kept stated c.requires.kept) ∙ c.if-not-is_touched.true) in
+    sym (first_false-untouched m names kept e.names e.writes s.values (written s.values e.writes) (differ s.values e.writes) (AllHold-kept m s e s.values held) (subst (ArePlacesOf e.names names) c.if-proposed-eq0.true c.requires.proposed) untouched)

@@ -5,7 +5,7 @@ use Rattle.serde_json.specs.View.{view}
 use Rattle.tmem_tree.specs.declared.tx.Tx.TheVariants.{Put}
 use Rattle.tmem_forms.specs.TxForms.{tagged, IsTx}
 use Rattle.tmem_forms.proofs.Laws.{passed_on, NoTx}
-use Rattle.tmem_forms.proofs.Levels.{NoPut, NoAccess, NoAbort, NoCheck, no_put, no_read, no_write, no_abort, no_check, IsTx-Put, IsTx-Read, IsTx-Write, IsTx-Abort, IsTx-Check, tagged_as}
+use Rattle.tmem_forms.proofs.Levels.{NoPut, NoAccess, NoAbort, NoCheck, no_put, no_read, no_write, no_abort, no_check, no_retire, IsTx-Put, IsTx-Read, IsTx-Write, IsTx-Abort, IsTx-Check, IsTx-Retire, tagged_as}
 use Rattle.tmem_forms.proofs.tx.leaf_of.Goals as goal
 
 pub returns-in_err-reg-in-put-clause-refused : goal.returns-in_err-reg-in-put-clause-refused
@@ -33,6 +33,11 @@ returns-in_err-name-in-check-clause-refused c =
     passed_on (NoCheck (view c.args.body.now)) (NoTx (tagged c.args.key.now (view c.args.body.now))) c.from_residual-in_err-name-in-check.result c.in_err-name-in-check.field-0.0 c.from_residual-in_err-name-in-check.ensures.1 c.in_err-name-in-check.ensures.refused
     (no_check c.args.key.now (view c.args.body.now) c.in-check.is)
 
+pub returns-in_err-name-in-retire-clause-refused : goal.returns-in_err-name-in-retire-clause-refused
+returns-in_err-name-in-retire-clause-refused c =
+    passed_on (NoCheck (view c.args.body.now)) (NoTx (tagged c.args.key.now (view c.args.body.now))) c.from_residual-in_err-name-in-retire.result c.in_err-name-in-retire.field-0.0 c.from_residual-in_err-name-in-retire.ensures.1 c.in_err-name-in-retire.ensures.refused
+    (no_retire c.args.key.now (view c.args.body.now) c.in-retire.is)
+
 pub returns-in_ok-reg-in-put-clause-ok : goal.returns-in_ok-reg-in-put-clause-ok
 returns-in_ok-reg-in-put-clause-ok c =
     let e = c.in_ok-reg-in-put.ensures in
@@ -59,3 +64,8 @@ pub returns-in_ok-name-in-check-clause-ok : goal.returns-in_ok-name-in-check-cla
 returns-in_ok-name-in-check-clause-ok c =
     let e = c.in_ok-name-in-check.ensures in
     tagged_as _ _ _ _ _ c.in-check.is e.ok.0 (IsTx-Check _ e.ok.1)
+
+pub returns-in_ok-name-in-retire-clause-ok : goal.returns-in_ok-name-in-retire-clause-ok
+returns-in_ok-name-in-retire-clause-ok c =
+    let e = c.in_ok-name-in-retire.ensures in
+    tagged_as _ _ _ _ _ c.in-retire.is e.ok.0 (IsTx-Retire _ e.ok.1)

@@ -16,11 +16,11 @@ returns-clause-found g c = λ k.
     let opened = subst (λ (l : List ℕ). IsOpenAt 0 l) c.deref.ensures.value (c.reads_open.ensures.0 c.if-not-reads_open.false) in
     let behind = ap (λ (n : ℕ). take (n - 1) (drop 1 bytes)) (sym (c.in_ok-bytes.ensures.length ∙ c.requires.room.bytes)) ∙ ap (λ (l : List ℕ). take (length l - 1) (drop 1 l)) (sym c.deref-2.ensures.value) in
     some_for _ _ _ _ c.read_image.result c.ok_or.result c.ok_or.ensures.value c.read_image.ensures.number c.read_image.ensures.fits c.read_image.ensures.found
-    (λ image number fits same. image_found vars copy size seen bytes refl read image.generation image.state opened number fits (behind ∙ same))
+    (λ image number fits same. image_found vars copy size seen bytes refl read image.version image.generation image.state opened number fits (behind ∙ same))
 
 pub returns-clause-refused : goal.returns-clause-refused
 returns-clause-refused g c =
-    none_for _ c.read_image.result c.ok_or.result c.ok_or.ensures.value c.read_image.ensures.none (λ other k generation s holds.
+    none_for _ c.read_image.result c.ok_or.result c.ok_or.ensures.value c.read_image.ensures.none (λ other k v generation s holds.
     let vars = c.args.layout.vars in
     let copy = c.args.copy in
     let size = image_size vars in
@@ -28,4 +28,4 @@ returns-clause-refused g c =
     let bytes = c.in_ok-bytes.bytes.items in
     let read = c.in_ok-bytes.ensures.bytes k ∙ ap (λ (p : ℕ). slice_range seen p (p + length c.args.room.bytes.items)) c.image.ensures ∙ ap (λ (n : ℕ). slice_range seen (image_place vars copy) (image_place vars copy + n)) c.requires.room.bytes in
     let behind = ap (λ (l : List ℕ). take (length l - 1) (drop 1 l)) c.deref-2.ensures.value ∙ ap (λ (n : ℕ). take (n - 1) (drop 1 bytes)) (c.in_ok-bytes.ensures.length ∙ c.requires.room.bytes) in
-    other generation s holds.number holds.fits (behind ∙ image_there vars copy size seen bytes refl read generation s holds))
+    other v generation s holds.number holds.fits (behind ∙ image_there vars copy size seen bytes refl read v generation s holds))

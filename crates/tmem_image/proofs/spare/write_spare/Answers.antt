@@ -7,6 +7,7 @@ use Rattle.tmem_disk.proofs.Laws.{LeavesOnly-moment}
 use Rattle.tmem_gate.specs.Calls.{WritesWithin}
 use Rattle.tmem_gate.specs.Changes.{outcome_of}
 use Rattle.tmem_record.specs.Layout.{pages_of, image_place}
+use Rattle.tmem_record.specs.declared.version.Version.TheVariants.{Two}
 use Rattle.tmem_image.specs.Pages.{HoldsOthers, pages_place}
 use Rattle.tmem_image.specs.Spare.{placed}
 use Rattle.tmem_image.specs.Spelling.{IsImage}
@@ -110,6 +111,6 @@ returns-in_err-write_pages-clause-kept g c =
 pub returns-clause-kept : goal.returns-clause-kept
 returns-clause-kept g c =
     let it = c.write_pages.ensures in
-    let long : length c.header_of.result ≡ 2047 = ap length c.header_of.ensures.bytes ∙ length-header_body c.args.generation c.args.state.now c.header_of.ensures.names in
+    let long : length c.header_of.result ≡ 2047 = ap length c.header_of.ensures.bytes ∙ length-header_body Two c.args.generation c.args.state.now c.header_of.ensures.names in
     kept_put c.args.layout.vars c.args.copy c.image-at.result c.args.pages c.image-at.ensures c.args.state.now.values _ _ (g.met.D.Disk.is_device c.args.disk.now) (g.met.D.Disk.is_device c.shut.new.disk) c.shut.ensures.uses.model c.requires.others c.shut.ensures.spares.within
     c.values-2.result.now c.values-2.ensures (512 * pages_of c.args.layout.vars) _ it.uses.model it.elsewhere it.kept (g.met.D.Disk.is_device c.write_pages.new.disk) (length c.header_of.result) long _ c.put_cell.ensures.uses.model c.put_cell.ensures.puts.elsewhere

@@ -1,24 +1,23 @@
 use Rattle.std.proofs.Common.{◌≡◌, length, take, sym, ◌∙◌, ap, subst, arith}
-use Rattle.tmem_record.specs.State.{State, apply}
+use Rattle.tmem_record.specs.State.{State, apply, IsWithin}
 use Rattle.tmem_record.proofs.Laws.{length-values-fold}
-use Rattle.tmem_redolog.specs.Log.{IsWithin}
 use Rattle.tmem_redolog.proofs.Laws.{fold_next, within_next, of_variables}
 use Rattle.tmem_journal.proofs.accepting.accept_all.Goals as goal
 
 pub accept-requires-clause-within : goal.accept-requires-clause-within
 accept-requires-clause-within c = λ k d below.
     let same : length c.loop-effect.state.values ≡ length c.args.state.now.values = ap (λ (s : State). length s.values) c.loop-effect.invariant ∙ length-values-fold c.args.state.now (take c.loop-effect.effect-index c.args.effects.now) in
-    omega (arith, same, of_variables c.args.state.now c.args.effects.now c.loop-effect.effect-index c.effect-item.result c.loop-effect-test.true c.effect-item.is (length c.args.state.now.values) c.requires.within k d below)
+    omega (arith, same, of_variables c.args.state.now c.args.effects.now c.loop-effect.effect-index c.effect-item.result c.loop-effect-test.true c.effect-item.is (length c.args.state.now.values) c.requires.variables k d below)
 
 pub accept-requires-clause-countable : goal.accept-requires-clause-countable
 accept-requires-clause-countable c =
     (subst (λ (s : State). IsWithin (apply s c.effect-item.result)) (sym c.loop-effect.invariant)
-    (within_next c.args.state.now c.args.effects.now c.loop-effect.effect-index c.effect-item.result c.loop-effect-test.true c.effect-item.is (record { count = c.requires.countable; names = c.requires.room }))).count
+    (within_next c.args.state.now c.args.effects.now c.loop-effect.effect-index c.effect-item.result c.loop-effect-test.true c.effect-item.is c.requires.within)).count
 
 pub accept-requires-clause-room : goal.accept-requires-clause-room
 accept-requires-clause-room c =
     (subst (λ (s : State). IsWithin (apply s c.effect-item.result)) (sym c.loop-effect.invariant)
-    (within_next c.args.state.now c.args.effects.now c.loop-effect.effect-index c.effect-item.result c.loop-effect-test.true c.effect-item.is (record { count = c.requires.countable; names = c.requires.room }))).names
+    (within_next c.args.state.now c.args.effects.now c.loop-effect.effect-index c.effect-item.result c.loop-effect-test.true c.effect-item.is c.requires.within)).names
 
 pub loop-effect-preserved : goal.loop-effect-preserved
 loop-effect-preserved c = c.accept.ensures ∙ ap (λ (s : State). apply s c.effect-item.result) c.loop-effect.invariant ∙ sym (fold_next c.args.state.now c.args.effects.now c.loop-effect.effect-index c.effect-item.result c.loop-effect-test.true c.effect-item.is)

@@ -1,6 +1,6 @@
 use Rattle.std.proofs.Common.{◌-◌, inl, inr, rules}
 use Rattle.tmem_gate.specs.Changes.{outcome_of}
-use Rattle.tmem_journal.specs.Stands.{position_in}
+use Rattle.tmem_journal.specs.Stands.{position_at}
 use Rattle.tmem_journal.proofs.FormattedStands.{on_ok}
 use Rattle.tmem_journal.proofs.Logged.{other_one}
 use Rattle.tmem_journal.proofs.Renewed.{after_writing, not_written, while_writing, sure_emptied, after_emptying, while_emptying, copy_within, renewed_within, settled, pages_aside, pages_in_front, pages_written}
@@ -12,13 +12,13 @@ returns-in_err-write_spare-clause-elsewhere g c = copy_within c.args.layout.vars
 pub returns-in_err-write_spare-clause-any_moment : goal.returns-in_err-write_spare-clause-any_moment
 returns-in_err-write_spare-clause-any_moment g c =
     let layout = c.args.layout in
-    let p = position_in c.args.copy c.args.log.now in
+    let p = position_at c.args.version c.args.copy c.args.log.now in
     while_writing layout.vars layout.slots p c.args.state.now c.requires.number _ _ c.write_spare.ensures.uses.model c.requires.stands (outcome_of c.write_spare.result) c.write_spare.ensures.puts.any_moment
 
 pub returns-in_err-write_spare-clause-stands : goal.returns-in_err-write_spare-clause-stands
 returns-in_err-write_spare-clause-stands g c =
     let layout = c.args.layout in
-    let p = position_in c.args.copy c.args.log.now in
+    let p = position_at c.args.version c.args.copy c.args.log.now in
     after_writing layout.vars layout.slots p c.args.state.now c.requires.number _ _ c.write_spare.ensures.uses.model c.requires.stands (outcome_of c.write_spare.result) c.write_spare.ensures.puts.stands
 
 pub returns-clause-elsewhere : goal.returns-clause-elsewhere
@@ -27,33 +27,33 @@ returns-clause-elsewhere g c = renewed_within c.args.layout.vars c.args.layout.s
 pub returns-clause-any_moment : goal.returns-clause-any_moment
 returns-clause-any_moment g c =
     let layout = c.args.layout in
-    let p = position_in c.args.copy c.args.log.now in
+    let p = position_at c.args.version c.args.copy c.args.log.now in
     let first = while_writing layout.vars layout.slots p c.args.state.now c.requires.number _ _ c.write_spare.ensures.uses.model c.requires.stands (outcome_of c.write_spare.result) c.write_spare.ensures.puts.any_moment in
     while_emptying layout.vars layout.slots p c.args.state.now c.requires.number _ _ c.write_spare.ensures.uses.model c.requires.stands _ c.empty.ensures.uses.model c.in_ok-write_spare.ensures.puts.stands c.write_spare.ensures.puts.elsewhere.time.later first (c.empty.ensures.closes.time c.in_ok-write_spare.ensures.durable)
 
 pub returns-clause-stands : goal.returns-clause-stands
 returns-clause-stands g c =
     let layout = c.args.layout in
-    let p = position_in c.args.copy c.args.log.now in
+    let p = position_at c.args.version c.args.copy c.args.log.now in
     after_emptying layout.vars layout.slots p c.args.state.now c.requires.number _ _ c.write_spare.ensures.uses.model c.requires.stands _ c.empty.ensures.uses.model c.in_ok-write_spare.ensures.puts.stands (c.empty.ensures.closes.stop c.in_ok-write_spare.ensures.durable)
 
 pub returns-clause-sure : goal.returns-clause-sure
 returns-clause-sure g c =
     let layout = c.args.layout in
-    let p = position_in c.args.copy c.args.log.now in
+    let p = position_at c.args.version c.args.copy c.args.log.now in
     on_ok (λ synced. sure_emptied layout.vars layout.slots p c.args.state.now c.requires.number _ _ c.write_spare.ensures.uses.model c.requires.stands _ c.empty.ensures.uses.model c.in_ok-write_spare.ensures.puts.stands (c.empty.ensures.closes.stop c.in_ok-write_spare.ensures.durable))
     c.empty.result (c.empty.ensures.durable c.in_ok-write_spare.ensures.durable)
 
 pub returns-in_err-write_spare-clause-certain : goal.returns-in_err-write_spare-clause-certain
 returns-in_err-write_spare-clause-certain g c = λ is.
     let layout = c.args.layout in
-    let p = position_in c.args.copy c.args.log.now in
+    let p = position_at c.args.version c.args.copy c.args.log.now in
     inl (not_written layout.vars layout.slots p c.args.state.now c.requires.number _ _ c.write_spare.ensures.uses.model c.requires.stands c.write_spare.result (search rules) c.write_spare.ensures.puts.stands)
 
 pub returns-clause-certain : goal.returns-clause-certain
 returns-clause-certain g c = λ is.
     let layout = c.args.layout in
-    let p = position_in c.args.copy c.args.log.now in
+    let p = position_at c.args.version c.args.copy c.args.log.now in
     inr (sure_emptied layout.vars layout.slots p c.args.state.now c.requires.number _ _ c.write_spare.ensures.uses.model c.requires.stands _ c.empty.ensures.uses.model c.in_ok-write_spare.ensures.puts.stands (c.empty.ensures.closes.stop c.in_ok-write_spare.ensures.durable))
 
 pub write_spare-requires-clause-settled : goal.write_spare-requires-clause-settled
@@ -68,7 +68,7 @@ returns-clause-durable g c = c.empty.ensures.durable c.in_ok-write_spare.ensures
 pub returns-clause-written : goal.returns-clause-written
 returns-clause-written g c =
     let layout = c.args.layout in
-    let p = position_in c.args.copy c.args.log.now in
+    let p = position_at c.args.version c.args.copy c.args.log.now in
     on_ok (λ synced. pages_in_front layout.vars (1 - c.args.copy) 0 0 _ c.args.state.now.values (other_one c.args.copy) _ _ c.empty.ensures.uses.model c.empty.ensures.closes.elsewhere (pages_written layout.vars p c.args.state.now (g.D.Disk.view c.args.disk.now) (g.D.Disk.view c.write_spare.new.disk) c.in_ok-write_spare.ensures.puts.stands))
     c.empty.result (c.empty.ensures.durable c.in_ok-write_spare.ensures.durable)
 

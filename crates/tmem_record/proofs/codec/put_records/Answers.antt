@@ -2,6 +2,7 @@ use Rattle.std.proofs.Common.{ap, arith}
 use Rattle.std.proofs.lemmas.List.Sums.{sum_by_more}
 use Rattle.tmem_record.specs.Batch.{record_length}
 use Rattle.tmem_record.specs.Spelling.{record_bytes}
+use Rattle.tmem_record.specs.Versions.{Two}
 use Rattle.tmem_record.proofs.CodecWrites.{part_more}
 use Rattle.tmem_record.proofs.codec.put_records.Goals as goal
 
@@ -10,5 +11,5 @@ loop-effect-preserved c =
     let more = sum_by_more record_length c.args.effects.now c.loop-effect.effect-index c.effect-item.result c.loop-effect-test.true in
     record {
       place = omega (arith, more, ap record_length c.effect-item.is, c.put_record-at.ensures.next, c.loop-effect.invariant.place);
-      front = part_more record_bytes c.args.effects.now c.loop-effect.effect-index c.effect-item.result c.loop-effect-test.true _ _ _ _ c.loop-effect.invariant.front c.put_record-at.ensures.front (ap record_bytes c.effect-item.is);
+      front = part_more (record_bytes Two) c.args.effects.now c.loop-effect.effect-index c.effect-item.result c.loop-effect-test.true _ _ _ _ c.loop-effect.invariant.front c.put_record-at.ensures.front (ap (record_bytes Two) c.effect-item.is);
     }

@@ -16,7 +16,7 @@ returns-then-log-layout-clause-puts g c = not_begun _ _ _ _ _ (g.met.D.Disk.is_d
 pub returns-then-is_ok-clause-puts : goal.returns-then-is_ok-clause-puts
 returns-then-is_ok-clause-puts g c =
     let room : c.args.log.now.used < c.args.layout.slots = omega (arith, c.requires.used, c.if-log-layout.false) in
-    append_put (placed c.args.layout c.args.log.now c.args.first c.args.batch.now) room c.requires.batch c.requires.number c.slot.result _ _ _ (outcome_of c.put_cell-put.result) c.slot.ensures c.encode_batch-len.ensures.bytes c.put_cell-put.ensures.puts
+    append_put (placed c.args.layout c.args.log.now c.args.first c.args.batch.now) room c.requires.batch c.slot.result _ _ _ (outcome_of c.put_cell-put.result) c.slot.ensures c.encode_batch-len.ensures.bytes c.put_cell-put.ensures.puts
 
 pub returns-then-is_ok-clause-behind : goal.returns-then-is_ok-clause-behind
 returns-then-is_ok-clause-behind g c = still_closed c.args.layout.vars c.args.log.now.used _ _ c.put_cell-put.ensures.uses.model (returns-then-is_ok-clause-puts g c).elsewhere
@@ -24,7 +24,7 @@ returns-then-is_ok-clause-behind g c = still_closed c.args.layout.vars c.args.lo
 pub returns-else-is_ok-clause-puts : goal.returns-else-is_ok-clause-puts
 returns-else-is_ok-clause-puts g c =
     let room : c.args.log.now.used < c.args.layout.slots = omega (arith, c.requires.used, c.if-log-layout.false) in
-    append_put (placed c.args.layout c.args.log.now c.args.first c.args.batch.now) room c.requires.batch c.requires.number c.slot.result _ _ _ (outcome_of c.put_cell-put.result) c.slot.ensures c.encode_batch-len.ensures.bytes c.put_cell-put.ensures.puts
+    append_put (placed c.args.layout c.args.log.now c.args.first c.args.batch.now) room c.requires.batch c.slot.result _ _ _ (outcome_of c.put_cell-put.result) c.slot.ensures c.encode_batch-len.ensures.bytes c.put_cell-put.ensures.puts
 
 pub returns-else-is_ok-clause-behind : goal.returns-else-is_ok-clause-behind
 returns-else-is_ok-clause-behind g c = still_closed c.args.layout.vars c.args.log.now.used _ _ c.put_cell-put.ensures.uses.model (returns-else-is_ok-clause-puts g c).elsewhere

@@ -3,17 +3,17 @@ use Rattle.std.proofs.lemmas.Bool.{false≢true}
 use Rattle.std.proofs.lemmas.List.{take_all}
 use Rattle.tmem_record.specs.State.{State, apply, fold}
 use Rattle.tmem_record.proofs.Laws.{length-values-fold}
-use Rattle.tmem_redolog.specs.Log.{IsWithin}
-use Rattle.tmem_redolog.proofs.Replaying.{fold_next, within_next, of_variables}
+use Rattle.tmem_redolog.specs.Log.{StaysWithin, IsWithin}
+use Rattle.tmem_redolog.proofs.Replaying.{fold_next, within_next, stays_next, of_variables}
 use Rattle.tmem_redolog.proofs.replay.accept_all.Goals as goal
 
 pub loop-effect-init : goal.loop-effect-init
-loop-effect-init c = record { state = refl; within = λ some. absurd (omega (arith, some)) }
+loop-effect-init c = record { state = refl; within = c.requires.within }
 
 pub accept_one-requires : goal.accept_one-requires
 accept_one-requires c = λ k d below.
     let same : length c.loop-effect.state.values ≡ length c.args.state.now.values = ap (λ (s : State). length s.values) c.loop-effect.invariant.state ∙ length-values-fold c.args.state.now (take c.loop-effect.effect-index c.args.effects.now) in
-    omega (arith, same, of_variables c.args.state.now c.args.effects.now c.loop-effect.effect-index c.effect-item.result c.loop-effect-test.true c.effect-item.is (length c.args.state.now.values) c.requires.within k d below)
+    omega (arith, same, of_variables c.args.state.now c.args.effects.now c.loop-effect.effect-index c.effect-item.result c.loop-effect-test.true c.effect-item.is (length c.args.state.now.values) c.requires.variables k d below)
 
 pub returns-then-not-accept_one-clause-accepted : goal.returns-then-not-accept_one-clause-accepted
 returns-then-not-accept_one-clause-accepted c = (
@@ -27,13 +27,13 @@ pub loop-effect-preserved : goal.loop-effect-preserved
 loop-effect-preserved c = record {
   state = c.if-not-accept_one.ensures.state ∙ ap (λ (s : State). apply s c.effect-item.result) c.loop-effect.invariant.state
       ∙ sym (fold_next c.args.state.now c.args.effects.now c.loop-effect.effect-index c.effect-item.result c.loop-effect-test.true c.effect-item.is);
-  within = λ some. subst IsWithin (sym c.if-not-accept_one.ensures.state) (c.accept_one.ensures.accepted.0 c.if-not-accept_one.false);
+  within = stays_next c.args.state.now c.args.effects.now c.loop-effect.effect-index c.effect-item.result c.loop-effect-test.true c.effect-item.is c.loop-effect.invariant.within
+      (subst (λ (s : State). IsWithin (apply s c.effect-item.result)) c.loop-effect.invariant.state (c.accept_one.ensures.accepted.0 c.if-not-accept_one.false));
 }
 
 pub returns-clause-accepted : goal.returns-clause-accepted
 returns-clause-accepted c =
-    let whole = c.loop-effect.invariant.state ∙ ap (fold c.args.state.now) (take_all c.loop-effect.effect-index c.args.effects.now (omega arith)) in
-    (λ yes. subst IsWithin whole (c.loop-effect.invariant.within (omega (arith, c.requires.some))), λ within. refl)
+    (λ yes. subst (StaysWithin c.args.state.now) (take_all c.loop-effect.effect-index c.args.effects.now (omega arith)) c.loop-effect.invariant.within, λ within. refl)
 
 pub returns-clause-state : goal.returns-clause-state
 returns-clause-state c = c.loop-effect.invariant.state ∙ ap (fold c.args.state.now) (take_all c.loop-effect.effect-index c.args.effects.now (omega arith))

@@ -17,7 +17,7 @@ returns-then-not-are_stale-clause-refused g c = λ k batches holds.
     let seen = (g.D.Disk.view c.args.disk.now).seen in
     let few : c.args.layout.vars ≤ 2 ^ 16 = omega (arith, c.args.layout.fits.vars_fit) in
     let is = is_log c.args.layout.vars c.args.layout.slots c.slot.result _ seen c.in_ok-log.log.items c.deref-bytes.result.now c.slot.ensures c.requires.room (c.in_ok-log.ensures.bytes k) c.deref-bytes.ensures.value in
-    false≢true (sym c.if-not-are_stale.true ∙ c.are_stale.ensures.1 (no_log c.args.layout.vars c.args.layout.slots c.args.generation few holds.generation_fits c.args.state.now seen c.deref-bytes.result.now is
+    false≢true (sym c.if-not-are_stale.true ∙ c.are_stale.ensures.1 (no_log c.args.version c.args.layout.vars c.args.layout.slots c.args.generation few holds.generation_fits c.args.state.now seen c.deref-bytes.result.now is
     c.in_ok-used.used c.replay.new.state c.in_ok-used.ensures.few c.in_ok-used.ensures.ends (c.in_ok-used.ensures.reached seen is) batches holds))
 
 pub returns-clause-found : goal.returns-clause-found
@@ -26,5 +26,5 @@ returns-clause-found g c = λ k.
     let few : c.args.layout.vars ≤ 2 ^ 16 = omega (arith, c.args.layout.fits.vars_fit) in
     let fits : c.args.generation < 2 ^ 64 = omega (arith, c.ranges.generation) in
     let is = is_log c.args.layout.vars c.args.layout.slots c.slot.result _ seen c.in_ok-log.log.items c.deref-bytes.result.now c.slot.ensures c.requires.room (c.in_ok-log.ensures.bytes k) c.deref-bytes.ensures.value in
-    log_found c.args.layout.vars c.args.layout.slots c.args.generation few fits c.args.state.now seen c.deref-bytes.result.now is c.in_ok-used.used c.replay.new.state c.in_ok-used.ensures.few c.in_ok-used.ensures.ends
+    log_found c.args.version c.args.layout.vars c.args.layout.slots c.args.generation few fits c.args.state.now seen c.deref-bytes.result.now is c.in_ok-used.used c.replay.new.state c.in_ok-used.ensures.few c.in_ok-used.ensures.ends
     (c.in_ok-used.ensures.reached seen is) c.in_ok-used.ensures.within (c.are_stale.ensures.0 c.if-not-are_stale.false)

@@ -15,9 +15,10 @@ walk-requires g c =
     (record {
       registers = c.tree.ensures.limits.registers;
       steps = c.requires;
-      known = c.shapes.ensures.known;
+      known = c.tree.ensures.shaped;
       writes = omega (arith, c.tree.ensures.limits.writes);
       checks = omega (arith, c.tree.ensures.limits.checks);
+      retires = omega (arith, c.tree.ensures.limits.retires);
     })
 
 pub returns : goal.returns
@@ -30,10 +31,10 @@ returns g c =
     subst (λ f. IsMadeOf f left c.outcome.result)
     (simp (c.new.ensures.empty, c.new-2.ensures, c.tree.ensures.tree) at (c.in_ok-flow.ensures.flow m footprint stated (subst (λ shapes. AreOf shapes footprint) (sym c.shapes.ensures.shapes) of)))
     (c.outcome.ensures left) in
-    let fits = made_fits_plan (g.met.S.StoredSteps.has_meanings c.args.steps.now) reads plan answers left c.outcome.result (made (footprint_in plan.shapes) (own_of plan.shapes)) in
+    let fits = made_fits_plan (g.met.S.StoredSteps.has_meanings c.args.steps.now) c.tree.ensures.shaped reads answers left c.outcome.result (made (footprint_in plan.shapes) (own_of plan.shapes)) in
     record {
       right = λ m tests stated meant gave. made_right m tests plan.tree reads answers left c.outcome.result gave (made tests.footprint (meant_of tests plan.shapes meant) m stated);
-      fits = fits.fits c.tree.ensures.limits.writes c.tree.ensures.limits.checks;
+      fits = fits.fits c.tree.ensures.limits.writes c.tree.ensures.limits.checks c.tree.ensures.limits.retires;
       within = fits.within;
       named = fits.named;
       filled = fits.filled;

@@ -1,6 +1,7 @@
 use Rattle.std.proofs.Common.{arith, drop}
+use Rattle.tmem_record.proofs.Laws.{length-without_name-le}
 use Rattle.tmem_tree.proofs.Laws.{count-Seq}
-use Rattle.tmem_tree.specs.Limits.{is_write, is_check, has_bad_register, has_bad_step, has_bad_arguments, has_unknown_name}
+use Rattle.tmem_tree.specs.Limits.{is_write, is_check, is_retire, has_bad_register, has_bad_step, has_bad_arguments, lacks_shape}
 use Rattle.tmem_tree.specs.Shapes.{names_of}
 use Rattle.tmem_tentative.specs.Logs.{run_state_of}
 use Rattle.tmem_tentative.proofs.EvalFits.{length-write}
@@ -14,11 +15,15 @@ walk-loop-t-init g t c =
       grind (arith, count-Seq has_bad_register c.in-Seq.txs),
       grind (arith, count-Seq (has_bad_step arities) c.in-Seq.txs),
       grind (arith, count-Seq (has_bad_arguments arities) c.in-Seq.txs),
-      grind (arith, count-Seq (has_unknown_name (names_of given.shapes.now)) c.in-Seq.txs),
+      grind (arith, count-Seq (lacks_shape (names_of given.shapes.now)) c.in-Seq.txs),
       λ m footprint stated of. grind (arith, eval-Seq m footprint given.reads.now.entries c.in-Seq.txs (run_state_of c.args.log.now (drop c.args.tests.now.used given.answers.now))),
       grind (arith, count-Seq is_write c.in-Seq.txs),
       grind (arith, count-Seq is_check c.in-Seq.txs),
+      grind (arith, count-Seq is_retire c.in-Seq.txs),
     )
 
 pub walk-returns-in-Write-clause-room : goal.walk-returns-in-Write-clause-room
 walk-returns-in-Write-clause-room g t c = grind (arith, length-write)
+
+pub walk-returns-in-Retire-clause-names : goal.walk-returns-in-Retire-clause-names
+walk-returns-in-Retire-clause-names g t c = grind (arith, length-without_name-le)

@@ -124,8 +124,8 @@ walk_on-returns-else-ne-2-clause-runs g t c =
 
 pub walk_on-returns-in_default-clause-runs : goal.walk_on-returns-in_default-clause-runs
 walk_on-returns-in_default-clause-runs g t c =
-    leaf_runs c.args.course.now.attempt c.act.new.course.attempt c.requires c.act.ensures.leaf c.act.ensures.path c.act.ensures.room c.act.ensures.names c.act.ensures.stays c.act.ensures.leads
+    leaf_runs c.args.course.now.attempt c.act.new.course.attempt c.requires c.act.ensures.leaf c.act.ensures.path c.act.ensures.room c.act.ensures.names c.act.ensures.retired c.act.ensures.stays c.act.ensures.leads
 
 pub walk_part-returns-then-is_leaf-clause-runs : goal.walk_part-returns-then-is_leaf-clause-runs
 walk_part-returns-then-is_leaf-clause-runs g t c =
-    leaf_runs c.args.course.now.attempt c.act.new.course.attempt c.requires c.act.ensures.leaf c.act.ensures.path c.act.ensures.room c.act.ensures.names c.act.ensures.stays c.act.ensures.leads
+    leaf_runs c.args.course.now.attempt c.act.new.course.attempt c.requires c.act.ensures.leaf c.act.ensures.path c.act.ensures.room c.act.ensures.names c.act.ensures.retired c.act.ensures.stays c.act.ensures.leads

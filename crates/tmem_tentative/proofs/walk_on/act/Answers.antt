@@ -1,4 +1,5 @@
 use Rattle.std.proofs.Common.{sym, ap, ◌∙◌, map, arith, option_to_list}
+use Rattle.tmem_record.proofs.Laws.{length-without_name-le}
 use Rattle.tmem_tree.specs.Run.{register}
 use Rattle.tmem_tree.specs.declared.tx.Tx.TheVariants.{Step}
 use Rattle.tmem_tentative.specs.Eval.{answered}
@@ -25,3 +26,6 @@ returns-in-Step-clause-leads g c = λ m footprint stated of saves.
     rw c.in-Step.is (leaf_leads m footprint (Step index c.in-Step.args out) old.attempt log saves (option_to_list old.pending) (out_of c.call.result log old.probe)
     (λ ask is. c.call.ensures.tests_none (out_is_stopped c.call.result log old.probe ask is c.call.ensures.needs_none)) c.call.ensures.reads
     (λ reads left covers. sym (c.call.ensures.flow m stated left old.probe ∙ ap (λ items. answered (m index (map (register old.attempt.registers) items)) (run_state_of old.attempt left) out) c.deref.ensures.value)))
+
+pub returns-in-Retire-clause-names : goal.returns-in-Retire-clause-names
+returns-in-Retire-clause-names g c = grind (arith, length-without_name-le)

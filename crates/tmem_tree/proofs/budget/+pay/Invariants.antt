@@ -1,6 +1,6 @@
 use Rattle.std.proofs.Common.{◌≡◌, ◌+◌, ◌≤◌, drop}
 use Rattle.std.specs.Prelude.{◌↔◌}
-use Rattle.tmem_tree.specs.Limits.{depth, count, is_node, is_write, is_check}
+use Rattle.tmem_tree.specs.Limits.{depth, count, is_node, is_write, is_check, is_retire, is_step}
 use Rattle.tmem_tree.specs.Shapes.{names_of}
 use Rattle.tmem_tree.specs.Plans.{is_bad}
 use Rattle.tmem_tree.proofs.Laws.{depth_in, count_in}
@@ -15,5 +15,7 @@ invariant-loop-t g l =
       nodes : l.left.nodes + count is_node l.tx ≡ l.fn.budget.nodes + count_in is_node rest;
       writes : l.left.writes + count is_write l.tx ≡ l.fn.budget.writes + count_in is_write rest;
       checks : l.left.checks + count is_check l.tx ≡ l.fn.budget.checks + count_in is_check rest;
+      retires : l.left.retires + count is_retire l.tx ≡ l.fn.budget.retires + count_in is_retire rest;
+      steps : l.left.steps + count is_step l.tx ≡ l.fn.budget.steps + count_in is_step rest;
       good : count bad l.tx ≡ count_in bad rest;
     }

@@ -1,18 +1,20 @@
 use Rattle.std.proofs.Common.{◌≡◌, take, refl, arith}
 use Rattle.std.proofs.lemmas.List.{take_all}
-use Rattle.tmem_tree.specs.Limits.{is_check, has_unknown_name}
+use Rattle.tmem_tree.specs.Limits.{is_check, checks_name, lacks_shape}
 use Rattle.tmem_tree.specs.Shapes.{names_of}
 use Rattle.tmem_tree.proofs.Laws.{count_in, count-Seq}
-use Rattle.tmem_tree.proofs.Known.{known_kept, known_kept_in, count_in-take_more, count_in-drop_more}
+use Rattle.tmem_tree.proofs.Known.{shapes_kept, shapes_kept_in, count_in-take_more, count_in-drop_more}
 use Rattle.tmem_tree.proofs.shapes.+collect.Goals as goal
 
 pub loop-t-init : goal.loop-t-init
 loop-t-init t c = record {
   room = grind (arith, count-Seq is_check c.in-Seq.txs);
   known = refl;
-  others = grind (arith, count-Seq (has_unknown_name (names_of c.args.shapes.now)) c.in-Seq.txs, c.requires.known);
+  others = grind (arith, count-Seq (lacks_shape (names_of c.args.shapes.now)) c.in-Seq.txs, c.requires.known);
   kept = λ name there. there;
   among = λ all. all;
+  checked = λ name. grind (arith, count-Seq (checks_name name) c.in-Seq.txs);
+  once = λ distinct. distinct;
 }
 
 pub loop-t-preserved : goal.loop-t-preserved
@@ -26,27 +28,29 @@ loop-t-preserved t c =
     let more = c.collect.ensures in
     record {
       room = omega (arith, count_in-drop_more is_check items at tx c.loop-t-test.true c.t-item.is, was.room, more.room);
-      known = omega (arith, count_in-take_more (has_unknown_name new) items at tx c.loop-t-test.true c.t-item.is, known_kept_in old new more.kept (take at items) was.known, more.known);
-      others = omega (arith, count_in-drop_more (has_unknown_name (names_of c.args.shapes.now)) items at tx c.loop-t-test.true c.t-item.is, was.others);
+      known = omega (arith, count_in-take_more (lacks_shape new) items at tx c.loop-t-test.true c.t-item.is, shapes_kept_in old new more.kept (take at items) was.known, more.known);
+      others = omega (arith, count_in-drop_more (lacks_shape (names_of c.args.shapes.now)) items at tx c.loop-t-test.true c.t-item.is, was.others);
       kept = λ name there. more.kept name (was.kept name there);
       among = λ all. more.among (was.among all);
+      checked = λ name. omega (arith, count_in-drop_more (checks_name name) items at tx c.loop-t-test.true c.t-item.is, was.checked name, more.checked name);
+      once = λ distinct. more.once (was.once distinct);
     }
 
 pub returns-after-loop-t-clause-known : goal.returns-after-loop-t-clause-known
 returns-after-loop-t-clause-known t c =
-    let known = has_unknown_name (names_of c.loop-t.into) in
+    let known = lacks_shape (names_of c.loop-t.into) in
     let whole : take c.loop-t.t-index c.deref-t-items.result.now ≡ c.deref-t-items.result.now = take_all c.loop-t.t-index c.deref-t-items.result.now (omega arith) in
     let all : count_in known c.deref-t-items.result.now ≡ 0 = rw whole at c.loop-t.invariant.known in
     grind (arith, count-Seq known c.in-Seq.txs, all)
 
 pub returns-in-When-clause-known : goal.returns-in-When-clause-known
 returns-in-When-clause-known t c =
-    let first = known_kept _ _ c.collect-in-When-2.ensures.kept _ c.collect-in-When.ensures.known in
+    let first = shapes_kept _ _ c.collect-in-When-2.ensures.kept _ c.collect-in-When.ensures.known in
     let second = c.collect-in-When-2.ensures.known in
     grind (arith, first, second)
 
 pub returns-in-OrElse-clause-known : goal.returns-in-OrElse-clause-known
 returns-in-OrElse-clause-known t c =
-    let first = known_kept _ _ c.collect-in-OrElse-2.ensures.kept _ c.collect-in-OrElse.ensures.known in
+    let first = shapes_kept _ _ c.collect-in-OrElse-2.ensures.kept _ c.collect-in-OrElse.ensures.known in
     let second = c.collect-in-OrElse-2.ensures.known in
     grind (arith, first, second)

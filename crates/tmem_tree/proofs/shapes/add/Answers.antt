@@ -1,6 +1,8 @@
-use Rattle.std.proofs.Common.{◌≡◌, not, Some, option_map, All, Contains, sym, ap, subst, ◌∙◌}
+use Rattle.std.proofs.Common.{◌≡◌, not, false, Some, option_map, All, Contains, sym, ap, subst, ◌∙◌}
 use Rattle.std.proofs.lemmas.List.Elements.{All-push}
-use Rattle.tmem_tree.specs.Shapes.{shape_in}
+use Rattle.tmem_disk.specs.Name.{has_name}
+use Rattle.tmem_tree.specs.Shapes.{shape_in, names_of}
+use Rattle.tmem_tree.proofs.Checked.{has_name-others, distinct_pushed}
 use Rattle.tmem_tree.proofs.Found.{IsSome-shown, is_some-shown, is_some-shape_in, found_shape, has_name-pushed}
 use Rattle.tmem_tree.proofs.shapes.add.Goals as goal
 
@@ -23,3 +25,17 @@ returns-then-is_none-clause-among c all =
 pub returns-else-is_none-clause-known : goal.returns-else-is_none-clause-known
 returns-else-is_none-clause-known c =
     rw (← c.as_slice.ensures) (sym (is_some-shape_in c.as_slice.result.now c.args.name.now) ∙ sym (is_some-shown _ c.find.result _ c.find.ensures) ∙ c.is_none.ensures ∙ ap not c.if-is_none.false)
+
+pub returns-then-is_none-clause-checked : goal.returns-then-is_none-clause-checked
+returns-then-is_none-clause-checked c = λ other.
+    let at : shape_in c.args.shapes.now c.args.name.now ≡ Some c.unwrap.result.now = sym c.find-then-is_none.ensures ∙ ap (option_map (λ shape. shape.now)) c.unwrap.ensures in
+    let found = found_shape c.args.shapes.now c.args.name.now c.unwrap.result.now at in
+    rw c.push.ensures (has_name-others c.args.into.now c.unwrap.result.now c.args.name.now other found.1)
+
+pub returns-then-is_none-clause-once : goal.returns-then-is_none-clause-once
+returns-then-is_none-clause-once c = λ distinct.
+    let at : shape_in c.args.shapes.now c.args.name.now ≡ Some c.unwrap.result.now = sym c.find-then-is_none.ensures ∙ ap (option_map (λ shape. shape.now)) c.unwrap.ensures in
+    let found = found_shape c.args.shapes.now c.args.name.now c.unwrap.result.now at in
+    let none : has_name (names_of c.args.into.now) c.args.name.now ≡ false =
+    rw (← c.as_slice.ensures) (sym (is_some-shape_in c.as_slice.result.now c.args.name.now) ∙ sym (is_some-shown _ c.find.result _ c.find.ensures) ∙ c.is_none.ensures ∙ ap not c.if-is_none.true) in
+    rw c.push.ensures (distinct_pushed c.args.into.now c.unwrap.result.now c.args.name.now found.1 none distinct)

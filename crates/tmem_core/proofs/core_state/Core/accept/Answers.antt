@@ -1,12 +1,9 @@
-use Rattle.std.proofs.Common.{bit_or, length, sym, subst, ◌∙◌}
-use Rattle.std.proofs.Math.Bool.{or_comm}
+use Rattle.std.proofs.Common.{length, sym, subst, ◌∙◌, arith}
 use Rattle.std.proofs.lemmas.List.Elements.{All-push}
-use Rattle.tmem_record.specs.State.{State}
-use Rattle.tmem_record.proofs.Laws.{length-values-apply, AreRegistered-with_names, has_name-with_names}
+use Rattle.tmem_record.specs.State.{State, apply, IsWithin}
+use Rattle.tmem_record.proofs.Laws.{length-values-apply, AreRegistered-apply}
 use Rattle.tmem_invariants.specs.Meanings.{AllHold}
 use Rattle.tmem_invariants.specs.Places.{ArePlacesOf}
-use Rattle.tmem_invariants.proofs.Laws.{ArePlacesOf-join}
-use Rattle.tmem_record.specs.Names.{has_name, with_names}
 use Rattle.tmem_record.specs.Loggable.{IsLoggable}
 use Rattle.tmem_core.proofs.Known.{AreAmong}
 use Rattle.tmem_core.specs.History.{effects_of}
@@ -22,18 +19,24 @@ invariant_of-self-clause-each g c =
     let core = c.args.self.now in
     let e = c.args.effect.now in
     let vars = length core.state.values in
-    let is : IsLoggable vars e = record { effect = c.is_empty.ensures.is_effect vars (writes_within vars e.writes c.requires.variables); not_empty = sym c.is_empty.ensures.empty ∙ c.if-is_empty.false } in
+    let is : IsLoggable vars e = record { effect = c.is_empty.ensures.is_effect vars (writes_within vars e.writes c.requires.variables) c.requires.apart; not_empty = sym c.is_empty.ensures.empty ∙ c.if-is_empty.false } in
     rw (c.accept.ensures, c.push.ensures, length-values-apply core.state e) (All-push (IsLoggable vars) core.waiting e core.each is)
 
 pub invariant_of-self-clause-registered : goal.invariant_of-self-clause-registered
 invariant_of-self-clause-registered g c =
-    let is = c.is_empty.ensures.is_effect (length c.args.self.now.state.values) (writes_within (length c.args.self.now.state.values) c.args.effect.now.writes c.requires.variables) in
-    rw c.accept.ensures (AreRegistered-with_names c.args.self.now.state.names c.args.effect.now.names is.names.names c.requires.room c.args.self.now.registered)
+    let s = c.args.self.now.state in
+    let e = c.args.effect.now in
+    let is = c.is_empty.ensures.is_effect (length s.values) (writes_within (length s.values) e.writes c.requires.variables) c.requires.apart in
+    rw c.accept.ensures (AreRegistered-apply s e is.names.names c.requires.room c.args.self.now.registered)
 
 pub invariant_of-self-clause-folded : goal.invariant_of-self-clause-folded
 invariant_of-self-clause-folded g c =
     let core = c.args.self.now in
-    rw (c.accept.ensures, c.push.ensures, c.with.ensures) (folded-push core.opened.value (effects_of core.history) core.durable core.waiting core.state core.folded c.args.effect.now core.counted)
+    let within : IsWithin (apply core.state c.args.effect.now) = record { count = omega (arith, c.count-number.ensures, c.if-number.false); names = c.requires.room } in
+    rw (c.accept.ensures, c.push.ensures, c.with.ensures) (folded-push core.opened.value (effects_of core.history) core.durable core.waiting core.state core.folded c.args.effect.now core.counted within)
+
+pub invariant_of-self-clause-countable : goal.invariant_of-self-clause-countable
+invariant_of-self-clause-countable g c = rw c.accept.ensures (omega (arith, c.count-number.ensures, c.if-number.false))
 
 pub invariant_of-self-clause-sized : goal.invariant_of-self-clause-sized
 invariant_of-self-clause-sized g c =
@@ -48,8 +51,4 @@ invariant_of-self-clause-sound g c = λ m stated. subst (λ (s : State). AllHold
 
 pub invariant_of-self-clause-placed : goal.invariant_of-self-clause-placed
 invariant_of-self-clause-placed g c =
-    let core = c.args.self.now in
-    let e = c.args.effect.now in
-    let names = g.T.Invariants.names core.table in
-    subst (λ (s : State). ArePlacesOf s.names names (bit_or core.places c.args.proposed)) (sym c.accept.ensures)
-    (ArePlacesOf-join core.state.names e.names (with_names core.state.names e.names) names core.places c.args.proposed (λ name. has_name-with_names core.state.names e.names name ∙ or_comm (has_name e.names name) (has_name core.state.names name)) core.placed c.requires.proposed)
+    subst (λ (s : State). ArePlacesOf s.names (g.T.Invariants.names c.args.self.now.table) c.args.places) (sym c.accept.ensures) c.requires.places

@@ -1,5 +1,5 @@
-use Rattle.std.proofs.Common.{◌≡◌, None, Some, sym, subst, ◌∙◌}
-use Rattle.tmem_record.specs.State.{State}
+use Rattle.std.proofs.Common.{◌≡◌, ◌≤◌, None, Some, length, sym, subst, ◌∙◌, arith}
+use Rattle.tmem_record.specs.State.{State, IsWithin}
 use Rattle.tmem_invariants.specs.Meanings.{AllHold}
 use Rattle.tmem_invariants.specs.Places.{ArePlacesOf}
 use Rattle.tmem_core.proofs.Folded.{folded-none}
@@ -28,4 +28,7 @@ invariant_of-result-clause-known g c =
     subst (λ (x : State). AreAmong (g.T.Invariants.names c.args.table) x.names) (sym c.in-Ok.ensures.state) (rw c.in_default.is at c.fault_against.ensures.known)
 
 pub invariant_of-result-clause-folded : goal.invariant_of-result-clause-folded
-invariant_of-result-clause-folded g c = rw (c.count-durable.ensures, c.in-Ok.ensures.waiting, c.of-opened.ensures) (folded-none _)
+invariant_of-result-clause-folded g c =
+    let s = c.in-Ok.state in
+    let within : IsWithin s = record { count = omega (arith, c.count-durable.ensures); names = subst (λ (x : State). length x.names ≤ 64) (sym c.in-Ok.ensures.state) c.names.ensures.are_registered.few } in
+    rw (c.count-durable.ensures, c.in-Ok.ensures.waiting, c.of-opened.ensures) (folded-none s within)

@@ -1,45 +1,60 @@
-use Rattle.std.proofs.Common.{◌≡◌, None, sym, ap, ◌∙◌}
+use Rattle.std.proofs.Common.{◌≡◌, None, IfOk, sym, ap, subst, ◌∙◌}
+use Rattle.tmem_record.specs.Names.{without_names}
 use Rattle.tmem_record.specs.State.{apply}
 use Rattle.tmem_invariants.specs.Meanings.{first_false}
-use Rattle.tmem_core.specs.Held.{CoreView}
-use Rattle.tmem_core.specs.SettleAnswer.{sound_answer, unless_refused}
-use Rattle.tmem_core.proofs.Known.{AllHold-with_names, AreAmong-with_names, few-with_names}
+use Rattle.tmem_core.specs.Held.{CoreView, state_of, durable_of}
+use Rattle.tmem_core.specs.SettleAnswer.{sound_answer, unless_refused, TellsOneOf}
+use Rattle.tmem_core.proofs.Known.{AllHold-apply, AreAmong-apply, few-apply, places-apply}
+use Rattle.tmem_core.proofs.SettleAnswers.{sound_tells}
 use Rattle.tmem_core.proofs.core_state.Core.settle_normal.Goals as goal
+
+pub accept-requires-clause-places : goal.accept-requires-clause-places
+accept-requires-clause-places g c =
+    let core = c.args.self.now in
+    let state = ap (λ (v : CoreView _). v.state) c.first_broken.ensures.view in
+    let table = ap (λ (v : CoreView _). v.table) c.first_broken.ensures.view in
+    rw (state, table) (places-apply (g.T.Invariants.names core.table) core.state c.args.effect.now _ _ c.places_kept-kept.ensures (rw c.as_slice.ensures.names at c.places_of-proposed.ensures))
 
 pub accept-requires-clause-room : goal.accept-requires-clause-room
 accept-requires-clause-room g c =
     let core = c.args.self.now in
     let state = ap (λ (v : CoreView _). v.state) c.first_broken.ensures.view in
-    rw state (few-with_names (g.T.Invariants.names core.table) core.state.names c.args.effect.now.names core.registered.ascending core.known c.requires.names (g.met.T.Invariants.few core.table))
+    rw state (few-apply (g.T.Invariants.names core.table) core.state c.args.effect.now core.registered.ascending core.known c.requires.names (g.met.T.Invariants.few core.table))
 
 pub accept-requires-clause-known : goal.accept-requires-clause-known
 accept-requires-clause-known g c =
     let core = c.args.self.now in
     let state = ap (λ (v : CoreView _). v.state) c.first_broken.ensures.view in
     let table = ap (λ (v : CoreView _). v.table) c.first_broken.ensures.view in
-    rw (state, table) (AreAmong-with_names (g.T.Invariants.names core.table) core.state.names c.args.effect.now.names core.known c.requires.names)
+    rw (state, table) (AreAmong-apply (g.T.Invariants.names core.table) core.state c.args.effect.now core.known c.requires.names)
 
 pub accept-requires-clause-sound : goal.accept-requires-clause-sound
 accept-requires-clause-sound g c = λ m stated.
     let core = c.args.self.now in
     let e = c.args.effect.now in
+    let names = g.T.Invariants.names core.table in
     let state = ap (λ (v : CoreView _). v.state) c.first_broken.ensures.view in
     let table = ap (λ (v : CoreView _). v.table) c.first_broken.ensures.view in
     let broken = c.first_broken.ensures.first m (rw table at stated) in
-    let none : first_false m (g.T.Invariants.names core.table) core.state.names e.names (apply core.state e).values ≡ None = sym broken ∙ c.in-None.is in
-    rw state (AllHold-with_names m (g.T.Invariants.names core.table) core.state.names e.names (apply core.state e).values core.known c.requires.names none)
+    let none : first_false m names (without_names core.state.names e.retired) e.names (apply core.state e).values ≡ None = sym broken ∙ c.in-None.is in
+    rw state (AllHold-apply names core.state e core.known c.requires.names m none)
 
 pub returns-in-Some-clause-answer : goal.returns-in-Some-clause-answer
 returns-in-Some-clause-answer g c = λ p are registers.
     let s = c.args.self.now.state in
     let e = c.args.effect.now in
-    let broken = sym c.in-Some.is ∙ c.first_broken.ensures.first p.tests are.tests ∙ ap (λ ns. first_false p.tests ns s.names e.names (apply s e).values) (sym are.names) in
+    let broken = sym c.in-Some.is ∙ c.first_broken.ensures.first p.tests are.tests ∙ ap (λ ns. first_false p.tests ns (without_names s.names e.retired) e.names (apply s e).values) (sym are.names) in
     ap (λ o. unless_refused o (sound_answer s c.args.self.now.durable e registers)) broken
 
 pub returns-in-None-clause-answer : goal.returns-in-None-clause-answer
 returns-in-None-clause-answer g c = λ p are registers.
     let s = c.args.self.now.state in
     let e = c.args.effect.now in
-    let broken = sym c.in-None.is ∙ c.first_broken.ensures.first p.tests are.tests ∙ ap (λ ns. first_false p.tests ns s.names e.names (apply s e).values) (sym are.names) in
+    let broken = sym c.in-None.is ∙ c.first_broken.ensures.first p.tests are.tests ∙ ap (λ ns. first_false p.tests ns (without_names s.names e.retired) e.names (apply s e).values) (sym are.names) in
     c.accept.ensures.answer registers ∙ ap (λ (v : CoreView _). sound_answer v.state v.durable e registers) c.first_broken.ensures.view
     ∙ ap (λ o. unless_refused o (sound_answer s c.args.self.now.durable e registers)) broken
+
+pub returns-in-None-clause-named : goal.returns-in-None-clause-named
+returns-in-None-clause-named g c = λ registers.
+    let names = g.T.Invariants.names c.args.self.now.table in
+    subst (λ answer. IfOk answer (TellsOneOf names)) (sym (c.accept.ensures.answer registers)) (sound_tells names (state_of c.first_broken.new.self) (durable_of c.first_broken.new.self) c.args.effect.now registers)

@@ -20,10 +20,15 @@ returns-then-not-has_room-clause-rest g c =
     let is = taken_full (drop (c.args.from - core.durable) core.waiting) c.loop-index.batch c.loop-index.invariant.1 (λ room. false≢true (c.if-not-has_room.ensures.1 room)) in
     rest_of core.waiting c.loop-index.batch (c.args.from - core.durable) _ is (omega (arith, c.requires.known))
 
-pub push-requires : goal.push-requires
-push-requires g c =
+pub push-requires-clause-not_empty : goal.push-requires-clause-not_empty
+push-requires-clause-not_empty g c =
     let core = c.args.self.now in
     (All-there (IsLoggable _) core.waiting c.loop-index.index c.get.result.now core.each c.get.ensures).not_empty
+
+pub push-requires-clause-apart : goal.push-requires-clause-apart
+push-requires-clause-apart g c =
+    let core = c.args.self.now in
+    (All-there (IsLoggable _) core.waiting c.loop-index.index c.get.result.now core.each c.get.ensures).effect.apart
 
 pub loop-index-preserved : goal.loop-index-preserved
 loop-index-preserved g c =

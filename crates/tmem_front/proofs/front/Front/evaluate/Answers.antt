@@ -1,6 +1,4 @@
-use Rattle.std.proofs.Common.{◌≡◌, ◌<◌, ℕ, true, length, ap, subst, ◌∙◌}
-use Rattle.tmem_disk.specs.Name.{has_name}
-use Rattle.tmem_tree.specs.Shapes.{names_of, footprint_in}
+use Rattle.std.proofs.Common.{◌<◌, ℕ, length, ap, subst, ◌∙◌}
 use Rattle.tmem_tentative.specs.Cursors.{outcome_of, attempt_of, probe_of}
 use Rattle.tmem_tentative.specs.Fits.{IsForVariables, IsWithin, IsNamed, IsFilled}
 use Rattle.tmem_tree.proofs.Laws.{footprint_in-AreMeant}
@@ -26,10 +24,8 @@ probe-held-requires-clause-named g c =
 pub probe-held-requires-clause-filled : goal.probe-held-requires-clause-filled
 probe-held-requires-clause-filled g c =
     let shapes = c.args.plan.now.shapes in
-    let probe = probe_of c.advance.new.self in
-    let named : has_name (names_of shapes) probe.name ≡ true = subst (λ p. IsNamed (names_of shapes) (outcome_of c.advance.new.self p)) c.in-Probe.is (c.in_ok-var.ensures.named (names_of shapes) c.shapes-shapes.ensures.known) in
-    let filled : length probe.values ≡ length (footprint_in shapes probe.name) = subst (λ p. IsFilled (footprint_in shapes) (outcome_of c.advance.new.self p)) c.in-Probe.is c.in_ok-var.ensures.filled in
-    rw c.probe.ensures (filled ∙ ap length (footprint_in-AreMeant g.N.ProgramNaming.program.tests shapes probe.name c.requires.shapes named))
+    let filled = subst (λ p. IsFilled shapes (outcome_of c.advance.new.self p)) c.in-Probe.is c.in_ok-var.ensures.filled in
+    rw c.probe.ensures (filled.1 ∙ ap length (footprint_in-AreMeant g.N.ProgramNaming.program.tests shapes (probe_of c.advance.new.self).name c.requires.shapes filled.0))
 
 pub returns-in-Ended-clause-variables : goal.returns-in-Ended-clause-variables
 returns-in-Ended-clause-variables g c =

@@ -3,22 +3,19 @@ use Rattle.std.specs.Prelude.{All}
 use Rattle.tmem_disk.specs.Disk.{LeavesOnly}
 use Rattle.tmem_record.specs.State.{State, fold}
 use Rattle.tmem_record.specs.declared.effect.Effect.{Effect}
-use Rattle.tmem_record.proofs.Laws.{count-fold, length-values-fold}
+use Rattle.tmem_record.proofs.Laws.{length-values-fold}
 use Rattle.tmem_image.specs.Image.{other_copy}
 use Rattle.tmem_redolog.specs.Appends.{placed}
 use Rattle.tmem_redolog.specs.declared.log.Log.{Log}
 use Rattle.tmem_journal.specs.Stands.{Position, position_in, next_slot, StandsFor}
-use Rattle.tmem_journal.proofs.Logged.{position_at, other_one}
+use Rattle.tmem_journal.proofs.Logged.{before_slot, other_one}
 use Rattle.tmem_journal.proofs.Renewed.{pages_folded}
 use Rattle.tmem_journal.proofs.Unique.{same_position}
 use Rattle.tmem_journal.proofs.Flushed.{full_is_not, sure_either, sure_ok, sure_err, moments_ok, moments_err}
 use Rattle.tmem_journal.proofs.journal.Journal.flush.Goals as goal
 
 pub append-requires-clause-batch : goal.append-requires-clause-batch
-append-requires-clause-batch g c = c.effects-effects.ensures.is_batch c.args.self.now.layout.vars c.requires.some c.requires.within
-
-pub append-requires-clause-number : goal.append-requires-clause-number
-append-requires-clause-number g c = omega (arith, c.count-first.ensures, c.requires.countable, count-fold c.args.self.now.state c.args.batch.now)
+append-requires-clause-batch g c = c.effects-effects.ensures.is_batch c.args.self.now.layout.vars c.requires.some c.requires.variables
 
 pub invariant_of-self-in-Ok-clause-sized : goal.invariant_of-self-in-Ok-clause-sized
 invariant_of-self-in-Ok-clause-sized g c = ap (λ (x : State). length x.values) c.accept_all.ensures ∙ length-values-fold c.args.self.now.state c.effects-effects.result.now ∙ c.args.self.now.sized
@@ -33,7 +30,7 @@ invariant_of-self-in-Ok-clause-stands g c =
     let new = g.D.Disk.view c.append.new.disk in
     let p = placed j.layout j.log c.count-first.result c.args.batch.now in
     let is = c.accept_all.ensures ∙ ap (fold j.state) c.effects-effects.ensures.effects in
-    sure_either _ (sure_ok old new p j.copy j.state (sym c.count-first.ensures) c.requires.room c.append.ensures.uses.model (j.sure c.if-self.false) c.accept_all.new.state is c.in-Ok.ensures.puts.stands)
+    sure_either _ (sure_ok old new p j.copy j.state (sym c.count-first.ensures) c.requires.within c.append.ensures.uses.model (j.sure c.if-self.false) c.accept_all.new.state is c.in-Ok.ensures.puts.stands)
 
 pub invariant_of-self-in-Ok-clause-sure : goal.invariant_of-self-in-Ok-clause-sure
 invariant_of-self-in-Ok-clause-sure g c = λ running.
@@ -42,9 +39,9 @@ invariant_of-self-in-Ok-clause-sure g c = λ running.
     let new = g.D.Disk.view c.append.new.disk in
     let p = placed j.layout j.log c.count-first.result c.args.batch.now in
     let is = c.accept_all.ensures ∙ ap (fold j.state) c.effects-effects.ensures.effects in
-    let after = same_position (position_in j.copy c.append.new.log) (next_slot (position_at j.copy p)) refl c.append.ensures.generation c.in-Ok.ensures.next in
+    let after = same_position (position_in j.copy c.append.new.log) (next_slot (before_slot j.copy p)) refl refl c.append.ensures.generation c.in-Ok.ensures.next in
     subst (λ (q : Position). LeavesOnly new (StandsFor j.layout.vars j.layout.slots q c.accept_all.new.state)) (sym after)
-    (sure_ok old new p j.copy j.state (sym c.count-first.ensures) c.requires.room c.append.ensures.uses.model (j.sure running) c.accept_all.new.state is c.in-Ok.ensures.puts.stands)
+    (sure_ok old new p j.copy j.state (sym c.count-first.ensures) c.requires.within c.append.ensures.uses.model (j.sure running) c.accept_all.new.state is c.in-Ok.ensures.puts.stands)
 
 pub invariant_of-self-in-Ok-clause-ahead : goal.invariant_of-self-in-Ok-clause-ahead
 invariant_of-self-in-Ok-clause-ahead g c = λ running k above below.
@@ -61,7 +58,7 @@ invariant_of-self-in-Err-clause-stands g c =
     let new = g.D.Disk.view c.append.new.disk in
     let p = placed j.layout j.log c.count-first.result c.args.batch.now in
     let not_full = full_is_not c.in-Err.fault j.log.used j.layout.slots c.if-self-2.false c.in-Err.ensures.full in
-    sure_err old new p j.copy j.state (sym c.count-first.ensures) c.requires.room c.append.ensures.uses.model (j.sure c.if-self.false) _ c.in-Err.fault c.in-Err.ensures.errors not_full (ap (fold j.state) c.in_doubt.ensures) c.in-Err.ensures.puts.stands
+    sure_err old new p j.copy j.state (sym c.count-first.ensures) c.requires.within c.append.ensures.uses.model (j.sure c.if-self.false) _ c.in-Err.fault c.in-Err.ensures.errors not_full (ap (fold j.state) c.in_doubt.ensures) c.in-Err.ensures.puts.stands
 
 pub returns-in-Ok-clause-any_moment : goal.returns-in-Ok-clause-any_moment
 returns-in-Ok-clause-any_moment g c =
@@ -70,7 +67,7 @@ returns-in-Ok-clause-any_moment g c =
     let new = g.D.Disk.view c.append.new.disk in
     let p = placed j.layout j.log c.count-first.result c.args.batch.now in
     let is = c.accept_all.ensures ∙ ap (fold j.state) c.effects-effects.ensures.effects in
-    moments_ok old new p j.copy j.state (sym c.count-first.ensures) c.requires.room c.append.ensures.uses.model (j.sure c.if-self.false) c.accept_all.new.state _ _ is c.in-Ok.ensures.puts.any_moment
+    moments_ok old new p j.copy j.state (sym c.count-first.ensures) c.requires.within c.append.ensures.uses.model (j.sure c.if-self.false) c.accept_all.new.state _ _ is c.in-Ok.ensures.puts.any_moment
 
 pub returns-in-Err-clause-any_moment : goal.returns-in-Err-clause-any_moment
 returns-in-Err-clause-any_moment g c =
@@ -79,12 +76,12 @@ returns-in-Err-clause-any_moment g c =
     let new = g.D.Disk.view c.append.new.disk in
     let p = placed j.layout j.log c.count-first.result c.args.batch.now in
     let not_full = full_is_not c.in-Err.fault j.log.used j.layout.slots c.if-self-2.false c.in-Err.ensures.full in
-    moments_err old new p j.copy j.state (sym c.count-first.ensures) c.requires.room c.append.ensures.uses.model (j.sure c.if-self.false) _ _ c.in-Err.fault c.in-Err.ensures.errors not_full (ap (fold j.state) c.in_doubt.ensures) c.in-Err.ensures.puts.any_moment
+    moments_err old new p j.copy j.state (sym c.count-first.ensures) c.requires.within c.append.ensures.uses.model (j.sure c.if-self.false) _ _ c.in-Err.fault c.in-Err.ensures.errors not_full (ap (fold j.state) c.in_doubt.ensures) c.in-Err.ensures.puts.any_moment
 
 pub pages_changed-pages-requires : goal.pages_changed-pages-requires
 pages_changed-pages-requires g c =
     subst (λ (es : List Effect). All (λ (e : Effect). All (λ (w : ℕ × ℤ). w.0 < 1024) e.writes) es) (sym c.effects-effects.ensures.effects)
-    (λ i d below j e less. omega (arith, c.requires.within i d below j e less, c.args.self.now.layout.fits.vars_fit))
+    (λ i d below j e less. omega (arith, c.requires.variables i d below j e less, c.args.self.now.layout.fits.vars_fit))
 
 pub invariant_of-self-in-Ok-clause-chosen_pages : goal.invariant_of-self-in-Ok-clause-chosen_pages
 invariant_of-self-in-Ok-clause-chosen_pages g c = λ running.

@@ -16,8 +16,8 @@ returns-in-Err-clause-refused g c =
     let so = c.in-Err.ensures in
     let old = g.D.Disk.view c.args.disk in
     let new = g.D.Disk.view c.in-Err.disk in
-    let mends = mending c.args.vars c.args.slots old new (g.met.D.Disk.is_device c.in-Err.disk) so.seen so.any_moment so.elsewhere so.looks in
-    journal_refused _ c.args.vars c.args.slots old new c.in-Err.fault mends so.uses so.refused so.refused_looks
+    let mends = mending c.args.vars c.args.slots old new (g.met.D.Disk.is_device c.in-Err.disk) so.recovers so.mends in
+    journal_refused _ c.args.vars c.args.slots old new c.in-Err.fault mends (g.met.D.Disk.is_device c.in-Err.disk) so.uses so.refused so.refused_looks so.spent_mends
     (λ is. subst (λ x. SameDevice old (g.D.Disk.view x)) (sym (so.memory is)) (same old))
 
 pub returns-in-Ok-made-clause-opened : goal.returns-in-Ok-made-clause-opened
@@ -30,7 +30,7 @@ returns-in-Ok-made-clause-opened g c =
       fits = search rules;
       holds = search rules;
       uses = search rules;
-      mends = mending c.args.vars c.args.slots (g.D.Disk.view c.args.disk) (journal.device_of c.in-Ok.journal) (g.met.D.Disk.is_device (journal.disk_of c.in-Ok.journal)) opened.seen opened.any_moment opened.elsewhere opened.looks;
+      mends = mending c.args.vars c.args.slots (g.D.Disk.view c.args.disk) (journal.device_of c.in-Ok.journal) (g.met.D.Disk.is_device (journal.disk_of c.in-Ok.journal)) opened.recovers opened.mends;
     }
 
 pub returns-in-Err-made-clause-refused : goal.returns-in-Err-made-clause-refused
@@ -38,9 +38,9 @@ returns-in-Err-made-clause-refused g c =
     let j = c.in-Ok.journal in
     let opened = c.in-Ok.ensures in
     let old = g.D.Disk.view c.args.disk in
-    let mends = mending c.args.vars c.args.slots old (journal.device_of j) (g.met.D.Disk.is_device (journal.disk_of j)) opened.seen opened.any_moment opened.elsewhere opened.looks in
+    let mends = mending c.args.vars c.args.slots old (journal.device_of j) (g.met.D.Disk.is_device (journal.disk_of j)) opened.recovers opened.mends in
     subst (λ x. OpeningRefused (IsProgramOf g.T.Invariants c.args.table) c.args.vars c.args.slots old fault.Memory (g.D.Disk.view x)) (sym c.into_disk-in-Err-made.ensures)
-    (given_up g.T.Invariants c.args.table c.args.vars c.args.slots old (journal.device_of j) opened.uses opened.fits.2 mends (journal.position_of j) (journal.state_of j) opened.found
+    (given_up g.T.Invariants c.args.table c.args.vars c.args.slots old (journal.device_of j) opened.uses opened.fits.2 mends (journal.position_of j) (journal.state_of j) (λ k. record { was = opened.found k; stands = opened.stands k })
     (λ m stated. subst (λ (x : State). IsSound m (g.T.Invariants.names c.args.table) x.names x.values) c.state.ensures (c.in-Ok-new.ensures.sound m stated)))
 
 pub returns-in-Err-new-clause-refused : goal.returns-in-Err-new-clause-refused
@@ -50,9 +50,9 @@ returns-in-Err-new-clause-refused g c =
     let opened = c.in-Ok.ensures in
     let so = c.in-Err-new.ensures in
     let old = g.D.Disk.view c.args.disk in
-    let mends = mending c.args.vars c.args.slots old (journal.device_of j) (g.met.D.Disk.is_device (journal.disk_of j)) opened.seen opened.any_moment opened.elsewhere opened.looks in
+    let mends = mending c.args.vars c.args.slots old (journal.device_of j) (g.met.D.Disk.is_device (journal.disk_of j)) opened.recovers opened.mends in
     subst (λ x. OpeningRefused theirs c.args.vars c.args.slots old c.in-Err-new.fault (g.D.Disk.view x)) (sym c.into_disk.ensures)
-    (core_refused theirs c.args.vars c.args.slots old (journal.device_of j) c.in-Err-new.fault mends opened.uses opened.fits.2 so.refused (journal.position_of j) (journal.state_of j) opened.found
+    (core_refused theirs c.args.vars c.args.slots old (journal.device_of j) c.in-Err-new.fault mends opened.uses opened.fits.2 so.refused (journal.position_of j) (journal.state_of j) (λ k. record { was = opened.found k; stands = opened.stands k })
     (λ no p are. (
       subst (λ (x : State). opening_fault p x ≡ Some c.in-Err-new.fault) c.state.ensures (so.fault p are no),
       subst (λ (x : State). ¬ IsSound p.tests p.names x.names x.values) c.state.ensures

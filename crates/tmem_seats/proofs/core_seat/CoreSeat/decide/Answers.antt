@@ -30,7 +30,7 @@ enter-requires-clause-room g c =
     let es = taken_by c.decide-decision.result c.args.attempt.now in
     let more : (state_of c.decide-decision.new.self).count ≡ (state_of c.self.inside.core).count + length es =
     ap (λ (v : core.CoreView _). v.state.count) (c.decide-decision.ensures.settles.view ∙ ap (accepting es) c.note_durable.ensures) ∙ count-fold (state_of c.self.inside.core) es in
-    omega (arith, more, ap (λ (s : State). s.count) was.state, count-after g.N.StoreNaming.opening g.N.Naming.name.start side.accepted was.starts, ap (λ (v : CoreView). length v.accepted) c.trim-durable.ensures.core)
+    omega (arith, c.decide-decision.new.self.countable, more, ap (λ (s : State). s.count) was.state, count-after g.N.StoreNaming.opening g.N.Naming.name.start side.accepted was.starts, ap (λ (v : CoreView). length v.accepted) c.trim-durable.ensures.core)
 
 pub invariant_of-self : goal.invariant_of-self
 invariant_of-self g c =

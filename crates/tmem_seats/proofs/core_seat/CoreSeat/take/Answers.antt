@@ -1,4 +1,4 @@
-use Rattle.std.proofs.Common.{◌≡◌, All, ◌+◌, ◌-◌, ◌≤◌, ℕ, List, length, drop, arith, sym, ap, ◌∙◌, subst}
+use Rattle.std.proofs.Common.{◌≡◌, All, ◌+◌, ◌-◌, ℕ, List, length, drop, arith, sym, ap, ◌∙◌, subst}
 use Rattle.tmem_record.specs.Loggable.{IsLoggable}
 use Rattle.tmem_record.specs.Prefix.{IsPrefix}
 use Rattle.tmem_record.specs.State.{State}
@@ -42,8 +42,8 @@ returns-clause-goes_on g c =
     let long : length aimed ≡ length durable + length batch = omega (arith, c.aim.ensures.number, c.trim_beside-durable.ensures.exact, c.len.ensures.len) in
     goes_on g.N.Naming.name.start opening accepted durable aimed batch _ c.trim_beside-durable.ensures.begins begins (its_aim g c) long (sym (its_waiting g c) ∙ c.take.ensures.rest) c.take.ensures.few
     (subst (λ (k : ℕ). All (IsLoggable k) batch) (ap (λ (s : State). length s.values) (its_state g c) ∙ values-after opening accepted) c.take.ensures.each)
-    (omega (arith, c.count-count.ensures, c.take.ensures.reached, c.aim.ensures.number, c.len.ensures.len))
-    (subst (λ (s : State). length s.names ≤ 64) (its_state g c) c.note_durable.new.self.registered.few)
+    (omega (arith, c.note_durable.new.self.countable, c.take.ensures.reached, c.aim.ensures.number, c.len.ensures.len))
+    c.self.invariant.within
 
 pub returns-clause-oldest : goal.returns-clause-oldest
 returns-clause-oldest g c =

@@ -1,7 +1,7 @@
-use Rattle.std.proofs.Common.{◌≡◌, inl, inr, List, length, refl, sym, ap, ◌∙◌, subst, arith}
+use Rattle.std.proofs.Common.{◌≡◌, inl, inr, List, refl, sym, ap, ◌∙◌, subst, arith}
 use Rattle.std.proofs.Math.Logic.{∥∥₁_map}
 use Rattle.tmem_record.specs.Prefix.{IsPrefix}
-use Rattle.tmem_record.specs.State.{State, fold}
+use Rattle.tmem_record.specs.State.{State, StaysWithin}
 use Rattle.tmem_record.specs.declared.layout.Layout.{Layout}
 use Rattle.tmem_record.proofs.Laws.{IsPrefix-self}
 use Rattle.tmem_spine.specs.declared.view.Entry.{Entry}
@@ -10,22 +10,13 @@ use Rattle.tmem_spine.specs.Views.{JournalView}
 use Rattle.tmem_seats.specs.Histories.{after}
 use Rattle.tmem_seats.proofs.Seated.{count-after}
 use Rattle.tmem_seats.proofs.Refusals.{flush_refusal}
-use Rattle.tmem_seats.proofs.Written.{aimed_state, Leaves, written_ok, written_err, written_number, moments, long_aimed, both, state_left, ok_number}
+use Rattle.tmem_seats.proofs.Written.{Leaves, written_ok, written_err, written_number, moments, long_aimed, both, state_left, ok_number}
 use Rattle.tmem_seats.proofs.journal_seat.JournalSeat.write.Goals as goal
 
-pub flush-flushed-requires-clause-countable : goal.flush-flushed-requires-clause-countable
-flush-flushed-requires-clause-countable g c =
-    let opening = g.N.StoreNaming.opening in
+pub flush-flushed-requires-clause-within : goal.flush-flushed-requires-clause-within
+flush-flushed-requires-clause-within g c =
     let seat = c.args.self.now in
-    let state = ap (λ (s : State). fold s seat.batch) seat.state ∙ aimed_state g.N.Naming.name.start opening seat.side.durable seat.side.aimed seat.batch c.requires.goes_on in
-    omega (arith, ap (λ (s : State). s.count) state, count-after opening g.N.Naming.name.start seat.side.aimed seat.starts, c.requires.goes_on.countable)
-
-pub flush-flushed-requires-clause-room : goal.flush-flushed-requires-clause-room
-flush-flushed-requires-clause-room g c =
-    let opening = g.N.StoreNaming.opening in
-    let seat = c.args.self.now in
-    let state = ap (λ (s : State). fold s seat.batch) seat.state ∙ aimed_state g.N.Naming.name.start opening seat.side.durable seat.side.aimed seat.batch c.requires.goes_on in
-    omega (arith, ap (λ (s : State). length s.names) state, c.requires.goes_on.room)
+    subst (λ (s : State). StaysWithin s seat.batch) (sym seat.state) c.requires.goes_on.room
 
 pub harden-requires : goal.harden-requires
 harden-requires g c =

@@ -25,7 +25,7 @@ returns-in_ok-reserve-in-Going g c =
     let same_answers : answers new ≡ answers old = search rules in
     let at : (m : StepMeanings) (tests : Meanings) → g.S.StoredSteps.is_stated c.args.steps.now m → FitsShapes tests plan → IsAt m tests plan.tree old → IsAt m tests plan.tree new = λ m tests stated fits at.
     at_still m tests plan.tree old new (goes m tests.footprint stated (meant_of tests plan.shapes fits) at.stands) same_given same_answers at in
-    let fit = stands_fit plan new c.go_on.result (g.met.S.StoredSteps.has_meanings c.args.steps.now) stands c.go_on.ensures.answered in
+    let fit = stands_fit plan new c.go_on.result (g.met.S.StoredSteps.has_meanings c.args.steps.now) c.tree-tree.ensures.shaped stands c.go_on.ensures.answered in
     record {
       stands = stands;
       at = at;
@@ -33,7 +33,7 @@ returns-in_ok-reserve-in-Going g c =
       answers = same_answers;
       answered = c.go_on.ensures.answered;
       right = λ m tests stated fits old_at. at_right m tests plan.tree new c.go_on.result (at m tests stated fits old_at) c.go_on.ensures.answered;
-      fits = fit.fits c.tree-tree.ensures.limits.writes c.tree-tree.ensures.limits.checks;
+      fits = fit.fits c.tree-tree.ensures.limits.writes c.tree-tree.ensures.limits.checks c.tree-tree.ensures.limits.retires;
       within = fit.within;
       named = fit.named;
       filled = fit.filled;
@@ -44,7 +44,7 @@ returns-in_ok-reserve-in-Going g c =
 pub returns-in-Waits : goal.returns-in-Waits
 returns-in-Waits g c =
     let cursor = c.args.self.now in
-    let fit = stands_fit c.args.plan.now cursor (Need c.in-Waits.var) (g.met.S.StoredSteps.has_meanings c.args.steps.now) c.requires.stands c.in-Waits.is in
+    let fit = stands_fit c.args.plan.now cursor (Need c.in-Waits.var) (g.met.S.StoredSteps.has_meanings c.args.steps.now) c.tree-tree.ensures.shaped c.requires.stands c.in-Waits.is in
     record {
       stands = c.requires.stands;
       at = λ m tests stated fits at. at;
@@ -52,7 +52,7 @@ returns-in-Waits g c =
       answers = refl;
       answered = c.in-Waits.is;
       right = λ m tests stated fits at. at_right m tests c.args.plan.now.tree cursor (Need c.in-Waits.var) at c.in-Waits.is;
-      fits = fit.fits c.tree-tree.ensures.limits.writes c.tree-tree.ensures.limits.checks;
+      fits = fit.fits c.tree-tree.ensures.limits.writes c.tree-tree.ensures.limits.checks c.tree-tree.ensures.limits.retires;
       within = fit.within;
       named = fit.named;
       filled = fit.filled;
@@ -63,7 +63,7 @@ returns-in-Waits g c =
 pub returns-in-Tests : goal.returns-in-Tests
 returns-in-Tests g c =
     let cursor = c.args.self.now in
-    let fit = stands_fit c.args.plan.now cursor Probe (g.met.S.StoredSteps.has_meanings c.args.steps.now) c.requires.stands c.in-Tests.is in
+    let fit = stands_fit c.args.plan.now cursor Probe (g.met.S.StoredSteps.has_meanings c.args.steps.now) c.tree-tree.ensures.shaped c.requires.stands c.in-Tests.is in
     record {
       stands = c.requires.stands;
       at = λ m tests stated fits at. at;
@@ -71,7 +71,7 @@ returns-in-Tests g c =
       answers = refl;
       answered = c.in-Tests.is;
       right = λ m tests stated fits at. at_right m tests c.args.plan.now.tree cursor Probe at c.in-Tests.is;
-      fits = fit.fits c.tree-tree.ensures.limits.writes c.tree-tree.ensures.limits.checks;
+      fits = fit.fits c.tree-tree.ensures.limits.writes c.tree-tree.ensures.limits.checks c.tree-tree.ensures.limits.retires;
       within = fit.within;
       named = fit.named;
       filled = fit.filled;
@@ -82,7 +82,7 @@ returns-in-Tests g c =
 pub returns-in-Ended : goal.returns-in-Ended
 returns-in-Ended g c =
     let cursor = c.args.self.now in
-    let fit = stands_fit c.args.plan.now cursor Ended (g.met.S.StoredSteps.has_meanings c.args.steps.now) c.requires.stands c.in-Ended.is in
+    let fit = stands_fit c.args.plan.now cursor Ended (g.met.S.StoredSteps.has_meanings c.args.steps.now) c.tree-tree.ensures.shaped c.requires.stands c.in-Ended.is in
     record {
       stands = c.requires.stands;
       at = λ m tests stated fits at. at;
@@ -90,7 +90,7 @@ returns-in-Ended g c =
       answers = refl;
       answered = c.in-Ended.is;
       right = λ m tests stated fits at. at_right m tests c.args.plan.now.tree cursor Ended at c.in-Ended.is;
-      fits = fit.fits c.tree-tree.ensures.limits.writes c.tree-tree.ensures.limits.checks;
+      fits = fit.fits c.tree-tree.ensures.limits.writes c.tree-tree.ensures.limits.checks c.tree-tree.ensures.limits.retires;
       within = fit.within;
       named = fit.named;
       filled = fit.filled;

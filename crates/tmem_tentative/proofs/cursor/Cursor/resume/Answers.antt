@@ -1,11 +1,12 @@
-use Rattle.std.proofs.Common.{◌≡◌, ◌<◌, true, All, refl, sym, ◌∙◌, subst}
+use Rattle.std.proofs.Common.{◌≡◌, ◌<◌, true, length, All, refl, sym, ◌∙◌, subst}
 use Rattle.std.specs.Map.{keys_of}
-use Rattle.tmem_record.specs.Names.{has_name}
+use Rattle.tmem_record.specs.Names.{has_name, AreApart}
 use Rattle.tmem_tentative.specs.declared.attempt.Attempt.{Attempt}
 use Rattle.tmem_tentative.specs.declared.attempt.Outcome.TheVariants as outcome
 use Rattle.tmem_tentative.specs.declared.attempt.Progress.TheVariants.{Ended}
 use Rattle.tmem_tentative.specs.Cursors.{IsAt, given, answers, unused, outcome_of, Answered}
-use Rattle.tmem_tentative.specs.Fits.{IsWithin, IsNamed}
+use Rattle.tmem_tree.specs.Shapes.{names_of, footprint_in}
+use Rattle.tmem_tentative.specs.Fits.{IsWithin, IsNamed, IsFilled}
 use Rattle.tmem_tentative.proofs.CursorStands.{at_made}
 use Rattle.tmem_tentative.proofs.MadeOutcomes.{copy_made}
 use Rattle.tmem_tentative.proofs.RightOutcomes.{made_right}
@@ -18,6 +19,12 @@ returns-in-Need-clause-within g c = λ vars fits.
 pub returns-in-Probe-clause-named : goal.returns-in-Probe-clause-named
 returns-in-Probe-clause-named g c = λ names fits.
     subst (λ (probe : _). has_name names probe.name ≡ true) (sym c.copy.ensures) (subst (λ p. IsNamed names (outcome_of c.advance.new.self p)) c.in-Probe.is (c.in_ok-var.ensures.named names fits))
+
+pub returns-in-Probe-clause-filled : goal.returns-in-Probe-clause-filled
+returns-in-Probe-clause-filled g c =
+    let shapes = c.args.plan.now.shapes in
+    subst (λ (probe : _). (has_name (names_of shapes) probe.name ≡ true) × (length probe.values ≡ length (footprint_in shapes probe.name))) (sym c.copy.ensures)
+    (subst (λ p. IsFilled shapes (outcome_of c.advance.new.self p)) c.in-Probe.is c.in_ok-var.ensures.filled)
 
 pub returns-in-Ended-clause-right : goal.returns-in-Ended-clause-right
 returns-in-Ended-clause-right g c = λ m tests stated fits old_at.
@@ -40,4 +47,9 @@ returns-in-Ended-clause-within g c = λ vars fits.
 pub returns-in-Ended-clause-named : goal.returns-in-Ended-clause-named
 returns-in-Ended-clause-named g c = λ names fits.
     let is = subst (λ p. IsNamed names (outcome_of c.advance.new.self p)) c.in-Ended.is (c.in_ok-var.ensures.named names fits) in
-    subst (λ e. All (λ name. has_name names name ≡ true) e.names) (sym c.copy-in-Ended.ensures) is
+    record {
+      proposed = subst (λ e. All (λ name. has_name names name ≡ true) e.names) (sym c.copy-in-Ended.ensures) is.proposed;
+      retired = subst (λ e. All (λ name. has_name names name ≡ true) e.retired) (sym c.copy-in-Ended.ensures) is.retired;
+      apart = subst (λ e. AreApart e.names e.retired) (sym c.copy-in-Ended.ensures) is.apart;
+      ending = is.ending;
+    }

@@ -1,5 +1,5 @@
 use Rattle.std.proofs.Common.{◌∙◌, sym}
-use Rattle.tmem_tree.proofs.Alike.{alike_by, limits_kept, short_kept, steps_kept, variables_kept, names_kept}
+use Rattle.tmem_tree.proofs.Alike.{alike_by, limits_kept, short_kept, steps_kept, variables_kept, names_kept, still_shaped}
 use Rattle.tmem_tree.proofs.plan.Plan.set_number.Goals as goal
 
 pub invariant_of-self : goal.invariant_of-self
@@ -8,7 +8,7 @@ invariant_of-self c =
     let was = c.self.invariant in
     record {
       limits = limits_kept same was.limits;
-      known = names_kept same _ was.known;
+      shaped = still_shaped same _ was.shaped;
       choices = was.choices ∙ sym same.choices;
       short = (λ yes. (short_kept same).1 (was.short.0 yes), λ short. was.short.1 ((short_kept same).0 short));
     }

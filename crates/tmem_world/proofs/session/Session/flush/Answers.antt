@@ -1,23 +1,17 @@
-use Rattle.std.proofs.Common.{rules, ◌≡◌, ◌∙◌, ◌<◌, ◌^◌, ℕ, length, drop, sym, ap, subst, arith, refl}
+use Rattle.std.proofs.Common.{rules, ◌≡◌, ◌∙◌, ℕ, length, drop, sym, ap, subst, arith, refl}
 use Rattle.std.specs.Prelude.{Result}
 use Rattle.tmem_disk.specs.declared.fault.Fault.{Fault}
-use Rattle.tmem_record.specs.State.{State, fold}
-use Rattle.tmem_core.specs.Held.{state_of, waiting_of}
+use Rattle.tmem_record.specs.State.{State, StaysWithin, fold}
+use Rattle.tmem_core.specs.Held.{waiting_of}
 use Rattle.tmem_journal.specs.Held as journal
 use Rattle.tmem_journal.specs.Journals as journals
 use Rattle.tmem_world.specs.Sessions.{waiting_after}
-use Rattle.tmem_world.proofs.TakenBatches.{room_taken, countable_taken, rest_waits, number_taken, behind, handed}
+use Rattle.tmem_world.proofs.TakenBatches.{within_taken, within_rest, rest_waits, number_taken, behind, handed}
 use Rattle.tmem_world.proofs.WrittenSlots.{flush_called}
 use Rattle.tmem_world.proofs.session.Session.flush.Goals as goal
 
-pub flush-flushed-requires-clause-countable : goal.flush-flushed-requires-clause-countable
-flush-flushed-requires-clause-countable g c =
-    let o = c.args.self.now in
-    let fits : (state_of o.core).count < 2 ^ 64 = omega (arith, c.count.ensures) in
-    countable_taken o c.durable-durable.result c.durable-durable.ensures c.take.new.batch c.take.ensures.rest fits
-
-pub flush-flushed-requires-clause-room : goal.flush-flushed-requires-clause-room
-flush-flushed-requires-clause-room g c = room_taken c.args.self.now c.durable-durable.result c.durable-durable.ensures c.take.new.batch c.take.ensures.rest
+pub flush-flushed-requires-clause-within : goal.flush-flushed-requires-clause-within
+flush-flushed-requires-clause-within g c = within_taken c.args.self.now c.durable-durable.result c.durable-durable.ensures c.take.new.batch c.take.ensures.rest
 
 pub note_durable-requires-clause-known : goal.note_durable-requires-clause-known
 note_durable-requires-clause-known g c =
@@ -37,6 +31,14 @@ invariant_of-self-clause-waits g c =
     let flushed = subst (λ (x : Result ℕ Fault). journals.Flushes o.journal c.take.new.batch x c.flush-flushed.new.self) c.in-Ok.is c.flush-flushed.ensures.flushed in
     let left = ap (λ v. v.waiting) c.note_durable.ensures ∙ behind o c.durable-durable.result c.durable-durable.ensures c.take.new.batch c.take.ensures.rest c.in-Ok.number flushed.1 in
     ap (fold (journal.state_of c.flush-flushed.new.self)) left ∙ ap (λ (s : State). fold s (drop (length c.take.new.batch) (waiting_of o.core))) flushed.2.state ∙ rest_waits o c.durable-durable.result c.durable-durable.ensures c.take.new.batch c.take.ensures.rest ∙ sym (ap (λ v. v.state) c.note_durable.ensures)
+
+pub invariant_of-self-clause-within : goal.invariant_of-self-clause-within
+invariant_of-self-clause-within g c =
+    let o = c.args.self.now in
+    let flushed = subst (λ (x : Result ℕ Fault). journals.Flushes o.journal c.take.new.batch x c.flush-flushed.new.self) c.in-Ok.is c.flush-flushed.ensures.flushed in
+    let left = ap (λ v. v.waiting) c.note_durable.ensures ∙ behind o c.durable-durable.result c.durable-durable.ensures c.take.new.batch c.take.ensures.rest c.in-Ok.number flushed.1 in
+    subst (StaysWithin (journal.state_of c.flush-flushed.new.self)) (sym left)
+    (subst (λ (s : State). StaysWithin s (drop (length c.take.new.batch) (waiting_of o.core))) (sym flushed.2.state) (within_rest o c.durable-durable.result c.durable-durable.ensures c.take.new.batch c.take.ensures.rest))
 
 pub returns-in-Ok-clause-flushed : goal.returns-in-Ok-clause-flushed
 returns-in-Ok-clause-flushed g c =

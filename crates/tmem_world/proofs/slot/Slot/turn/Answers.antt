@@ -32,10 +32,9 @@ probe-held-requires-clause-filled g c =
     let plan = c.in-Some.plan in
     let probe = probe_of c.advance.new.self in
     let fits = plan_fits _ _ _ _ _ c.args.self.now plan c.in-Some.is c.requires in
-    let own = rw c.in-Ok-Probe.field-0-is at (c.in-Ok-Probe.ensures.named (names_of plan.shapes) fits.own) in
     let filled = rw c.in-Ok-Probe.field-0-is at c.in-Ok-Probe.ensures.filled in
     subst (λ (p : Asked). (place : ℕ) → slice_get (t.names table) place ≡ Some p.name → length p.values ≡ length (slice_index_or (t.footprints table) place [])) (sym c.probe-probe.ensures)
-    (filled_in (t.names table) (t.footprints table) (t.is_stated table) (g.met.T.Invariants.has_meanings table) (g.met.T.Invariants.over table) plan.shapes fits.shapes probe.name probe.values own filled)
+    (filled_in (t.names table) (t.footprints table) (t.is_stated table) (g.met.T.Invariants.has_meanings table) (g.met.T.Invariants.over table) plan.shapes fits.shapes probe.name probe.values filled.0 filled.1)
 
 pub returns-in-Ok-Need-clause-begun : goal.returns-in-Ok-Need-clause-begun
 returns-in-Ok-Need-clause-begun g c = λ plan is going.
@@ -78,4 +77,4 @@ returns-in-Ok-Ended-clause-fits g c = λ shapes held.
     let within = rw c.in-Ok-Ended.field-0-is at (c.in-Ok-Ended.ensures.within vars fits.variables) in
     let named = rw c.in-Ok-Ended.field-0-is at (c.in-Ok-Ended.ensures.named names fits.names) in
     with_plan_fits vars (g.S.StoredSteps.arities c.args.steps.now) (g.S.StoredSteps.is_stated c.args.steps.now) names (λ tests. AreMeant tests shapes) _ c.in-Some.plan c.in-Some.is
-    (record { variables = fits.variables; steps = fits.steps; names = fits.names; own = fits.own; shapes = fits.shapes; stands = c.advance.ensures.stands; ended = λ ended. (within, named) })
+    (record { variables = fits.variables; steps = fits.steps; names = fits.names; shapes = fits.shapes; stands = c.advance.ensures.stands; ended = λ ended. (within, named) })

@@ -69,7 +69,7 @@ invariant_of-self-2 g c =
     let shapes = λ (tests : Meanings) (asked : tested tests). so.shapes tests (subst (AreMeant tests) (sym c.deref.ensures.value) asked) in
     let variables = so.variables (subst (AreWithin w.layout.vars) (sym c.deref.ensures.value) w.within) in
     let held : FitsSlot w.layout.vars arities stated known tested c.index_mut.result.now = subst (FitsSlot w.layout.vars arities stated known tested) (sym c.index_mut.ensures.value) (w.fit c.args.slot c.index_mut.result.now (omega (arith, w.sized))) in
-    let fits = begun_fits w.layout.vars arities stated known tested c.in-Ok.plan c.index_mut.result.now c.begin.new.self c.begin.result variables (subst (FitsSteps arities) (sym is) so.steps) (subst (FitsNames known) (sym is) named) (subst (FitsNames (names_of c.in-Ok.plan.shapes)) (sym is) so.known) shapes now.plan now.stands now.going now.same now.stays held in
+    let fits = begun_fits w.layout.vars arities stated known tested c.in-Ok.plan c.index_mut.result.now c.begin.new.self c.begin.result variables (subst (FitsSteps arities) (sym is) so.steps) (subst (FitsNames known) (sym is) named) shapes now.plan now.stands now.going now.same now.stays held in
     record {
       sized = length-set w.slots.items c.args.slot c.begin.new.self ∙ w.sized;
       here = w.here;

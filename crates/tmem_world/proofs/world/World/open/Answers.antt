@@ -3,11 +3,10 @@ use Rattle.tmem_disk.specs.Disk.{AtEachMoment}
 use Rattle.tmem_disk.specs.declared.fault.Fault.TheVariants.{Memory}
 use Rattle.tmem_core.specs.Program.{IsProgramOf}
 use Rattle.tmem_journal.specs.Held as journal
-use Rattle.tmem_journal.specs.Stands.{StandsFor}
 use Rattle.tmem_opening.specs.Held.{found_of, position_of, device_of}
-use Rattle.tmem_opening.specs.Opening.{Mending}
-use Rattle.tmem_opening.proofs.Laws.{only_failed, handed_back}
-use Rattle.tmem_world.specs.Chain.{IsSafe}
+use Rattle.tmem_opening.specs.Opening.{FindsState, Mending}
+use Rattle.tmem_opening.proofs.Laws.{only_failed, spent_content, handed_back}
+use Rattle.tmem_world.specs.Chain.{IsSafe, state_at}
 use Rattle.tmem_world.proofs.Chains.{state_is, sound_is, not_refused, opening_moments, refused_back, given_back, begins}
 use Rattle.tmem_world.proofs.Laws.{opens_chain}
 use Rattle.tmem_world.proofs.OpenedPoints.{opens}
@@ -20,9 +19,9 @@ returns-in-Err-clause-chain g c = λ program h means store keeps.
     let safe = store.device.each (so.uses.model keeps) old.seen ((g.met.D.Disk.is_device c.args.disk).seen_may_stay (so.uses.model keeps)) in
     refused_back _ c.in-Err.fault c.in-Err.disk refl program c.args.vars c.args.slots h old store
     (only_failed so
-    (λ f by. not_refused c.stands_for_one.ensures program c.args.vars c.args.slots store.fits.layout h old store safe c.refused_stands_for_none.ensures f (by keeps store.fits))
-    (λ un. (un.3 program means.invariants).1 (sound_is c.stands_for_one.ensures program c.args.vars c.args.slots store.fits.layout h old store safe un.0 un.1 (un.2 keeps))))
-    so.uses.capacity so.uses.model so.mends
+    (λ f other by. not_refused c.stands_for_one.ensures program c.args.vars c.args.slots store.fits.layout h old store safe c.refused_stands_for_none.ensures f other (by keeps store.fits))
+    (λ un. (un.3 program means.invariants).1 (sound_is c.stands_for_one.ensures program c.args.vars c.args.slots store.fits.layout h old store safe (un.2 keeps).was.position un.1 (un.2 keeps).was.stands)))
+    (λ is. spent_content so is keeps store.fits) so.uses.capacity so.uses.model so.mends
 
 -- of a world that is given up
 pub returns-in-Err-empty_slots-clause-mends : goal.returns-in-Err-empty_slots-clause-mends
@@ -52,7 +51,7 @@ returns-clause-found g c =
       λ program means.
           opens program x c.begin-session.result.0 begun.core begun.journal _ refl c.in-Ok-empty_slots.ensures.len c.in-Ok-empty_slots.ensures.emptied (g.D.Disk.view c.args.disk).failures so.uses.failures
           c.args.table so.sound (subst (λ k. IsProgramOf g.T.Invariants k program) (ap (λ k. k.table) begun.core ∙ so.holds) means.invariants),
-      λ k. so.found (subst (λ j. (journal.device_of j).keeps_model) begun.journal k),
+      λ k. subst (λ j. FindsState c.args.vars c.args.slots (g.D.Disk.view c.args.disk) (journal.device_of j) (position_of x) (found_of x)) (sym begun.journal) (so.found (subst (λ j. (journal.device_of j).keeps_model) begun.journal k)),
     )
 
 pub returns-clause-recovers : goal.returns-clause-recovers
@@ -79,21 +78,22 @@ returns-clause-chain g c = λ program h means store keeps.
     let begun = c.begin-session.ensures in
     let keeps' = subst (λ j. (journal.device_of j).keeps_model) begun.journal keeps in
     let safe = store.device.each (so.uses.model keeps') old.seen ((g.met.D.Disk.is_device c.args.disk).seen_may_stay (so.uses.model keeps')) in
-    let is = state_is c.stands_for_one.ensures program c.args.vars c.args.slots store.fits.layout h old store safe (position_of x) (found_of x) (so.found keeps') in
+    let was = (so.found keeps').was in
+    let is = state_is c.stands_for_one.ensures program c.args.vars c.args.slots store.fits.layout h old store safe was.position (found_of x) was.stands in
     let point = opens program x c.begin-session.result.0 begun.core begun.journal _ refl c.in-Ok-empty_slots.ensures.len c.in-Ok-empty_slots.ensures.emptied old.failures so.uses.failures c.args.table so.sound means.invariants in
     let same = ap (λ l. l.vars) c.layout.ensures ∙ ap (λ j. (journal.layout_of j).vars) begun.journal ∙ so.fits.0 in
     let log = ap (λ l. l.slots) c.layout.ensures ∙ ap (λ j. (journal.layout_of j).slots) begun.journal ∙ so.fits.1 in
-    let stands = subst (λ s. StandsFor c.args.vars c.args.slots (position_of x) s old.seen) is.1 (so.found keeps') in
+    let stands = subst (λ s. FindsState c.args.vars c.args.slots old (device_of x) (position_of x) s) is.1 (so.found keeps') in
     record {
       any_moment = subst (λ j. AtEachMoment old (journal.device_of j) (IsSafe program c.args.vars c.args.slots h)) (sym begun.journal)
-          (opening_moments program c.args.vars c.args.slots h old (device_of x) store so.uses.model so.mends.any_moment);
+          (opening_moments program c.args.vars c.args.slots h old (device_of x) store so.uses.model so.mends.recovers.any_moment);
       found = (
         (found_of x).count,
         position_of x,
         is.0,
         begins _ program h c.args.vars same (found_of x) (position_of x) old.failures is.0 is.1 point,
-        stands,
-        opens_chain (record { vars = c.layout.result.vars; slots = c.layout.result.slots; arities = g.S.StoredSteps.arities c.args.steps; program = program }) h c.args.vars c.args.slots same log (found_of x).count (position_of x) old.seen old.failures is.0 stands
+        subst (λ j. FindsState c.args.vars c.args.slots old (journal.device_of j) (position_of x) (state_at program c.args.vars h (found_of x).count)) (sym begun.journal) stands,
+        opens_chain (record { vars = c.layout.result.vars; slots = c.layout.result.slots; arities = g.S.StoredSteps.arities c.args.steps; program = program }) h c.args.vars c.args.slots same log (found_of x).count (position_of x) old.seen old.failures is.0 stands.was
             (g.met.D.Disk.is_device c.args.disk).failures_fit,
       );
     }

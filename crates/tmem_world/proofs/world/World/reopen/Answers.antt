@@ -19,6 +19,7 @@ returns-in-Err g c =
     let it = was (λ x y. OpeningRefused (IsProgramOf g.T.Invariants y) w.layout.vars w.layout.slots (g.D.Disk.view x) c.in-Err.fault new) so.refused in
     refused_answered w _ (record { numbers = refl; steps = refl; table = was (λ x y. c.in-Err.table ≡ y) so.back; model = it.uses.model }) c.clear.ensures.emptied (c.clear.ensures.len ∙ w.sized) c.in-Err.fault (λ none. none) it
     (was (λ x y. RecoversEither {A = Opening g.row.D.Denot g.row.T.Denot g.D.Disk g.T.Invariants} FoundIs (IsProgramOf g.T.Invariants y) w.layout.vars w.layout.slots (g.D.Disk.view x) new (Err c.in-Err.fault)) so.recovers)
+    c.spent_stands_at_last.ensures (g.met.D.Disk.is_device (device_of w))
 
 pub returns-in-Ok : goal.returns-in-Ok
 returns-in-Ok g c =

@@ -1,0 +1,52 @@
+-- What follows from the definitions of a journal alone: how an opening goes on, and which states it keeps.
+use Rattle.std.proofs.Common.{◌≡◌, ℕ, ◌≤◌, ◌+◌, ◌*◌, ◌^◌, List, sym, ◌∙◌, ap, subst, arith}
+use Rattle.std.proofs.Math.Logic.{∥∥₁_map, ∥∥₁_elim, ∥∥₁_prop}
+use Rattle.std.proofs.Props.{props}
+use Rattle.tmem_disk.specs.Disk.{DeviceView}
+use Rattle.tmem_disk.proofs.Laws.{AtEachMoment-more}
+use Rattle.tmem_gate.proofs.Laws.{WritesWithin-wider}
+use Rattle.tmem_record.specs.Layout.{image_place, image_size, slot_place}
+use Rattle.tmem_record.specs.State.{State}
+use Rattle.tmem_record.specs.declared.version.Version.{Version}
+use Rattle.tmem_record.specs.declared.version.Version.TheVariants.{Two}
+use Rattle.tmem_journal.specs.Mended.{Mends, MendsDevice, Recovers, RecoversDevice, IsFoundAt}
+use Rattle.tmem_journal.specs.Stands.{Position, migrated_from, migrated, StandsFor, StandsForState, NeedsNoMigration}
+use Rattle.tmem_journal.proofs.Unique.{one_state_at_most}
+
+-- a store of version 2 goes on where it stands
+pub migrated-two : (p : Position) → p.version ≡ Two → migrated p ≡ p
+migrated-two p is = ap (λ (v : Version). migrated_from v p) is
+
+-- so what was found in one stands at the position that is answered
+pub found_in_place : (vars slots : ℕ) (c : List ℕ) (s : State) (now : Position) → NeedsNoMigration vars slots c → IsFoundAt vars slots c s now → StandsFor vars slots now s c
+found_in_place vars slots c s now current found =
+    subst (λ (p : Position). StandsFor vars slots p s c) (sym (found.goes_on ∙ migrated-two found.position (current found.position s found.stands))) found.stands
+
+-- a content that stands for a state of version 2 stands for none of version 1
+pub needs_none : (vars slots : ℕ) → vars ≤ 2 ^ 16 → (p : Position) (s : State) (c : List ℕ) → p.version ≡ Two → StandsFor vars slots p s c → NeedsNoMigration vars slots c
+needs_none vars slots few p s c is stands = λ q t other. ∥∥₁_elim stands (hlevel props) (λ held. ∥∥₁_elim other (hlevel props) (λ it.
+    sym (ap (λ (x : Position). x.version) (one_state_at_most vars slots few c p q s t held it).0) ∙ is))
+
+-- each content recovers itself
+pub Recovers-refl : (vars slots : ℕ) (c : List ℕ) → Recovers vars slots c c
+Recovers-refl vars slots c = λ s stands. stands
+
+pub Recovers-trans : (vars slots : ℕ) (a b c : List ℕ) → Recovers vars slots a b → Recovers vars slots b c → Recovers vars slots a c
+Recovers-trans vars slots a b c first second = λ s stands. second s (first s stands)
+
+-- what closed gates behind the log recovers each state
+pub Recovers-mends : (vars slots : ℕ) (b c : List ℕ) → Mends vars slots b c → Recovers vars slots b c
+Recovers-mends vars slots b c mends = λ s stands. ∥∥₁_elim stands ∥∥₁_prop (λ it. ∥∥₁_map (mends.states it.0 s ∣ it.1 ∣₁) (λ held. (it.0, held)))
+
+-- what stands for the one state of a content recovers it
+pub Recovers-one : (vars slots : ℕ) → vars ≤ 2 ^ 16 → (p : Position) (s : State) (b c : List ℕ) → StandsFor vars slots p s b → StandsForState vars slots s c → Recovers vars slots b c
+Recovers-one vars slots few p s b c found now = λ t stands. ∥∥₁_elim found ∥∥₁_prop (λ held. ∥∥₁_elim stands ∥∥₁_prop (λ it.
+    subst (λ (x : State). StandsForState vars slots x c) (one_state_at_most vars slots few b p it.0 s t held it.1).1 now))
+
+-- a device on which gates behind the log were closed keeps each state
+pub RecoversDevice-mends : (vars slots : ℕ) (old new : DeviceView) → MendsDevice vars slots old new → RecoversDevice vars slots old new
+RecoversDevice-mends vars slots old new mends = record {
+  any_moment = AtEachMoment-more old new _ _ mends.any_moment (λ k c from. (from.0, from.1, Recovers-mends vars slots from.0 c from.2));
+  seen = λ k. Recovers-mends vars slots old.seen new.seen (mends.seen k);
+  elsewhere = WritesWithin-wider (slot_place vars 0) (4096 * slots) (image_place vars 0) (2 * image_size vars + 4096 * slots) (omega arith) (omega arith) old new mends.elsewhere;
+}

@@ -1,0 +1,56 @@
+use Rattle.std.proofs.Common.{◌≡◌, sym, subst, arith}
+use Rattle.tmem_disk.proofs.Laws.{LeavesOnly-synced}
+use Rattle.tmem_record.specs.declared.version.Version.TheVariants.{Two}
+use Rattle.tmem_journal.specs.Mended.{MendsDevice, IsFoundAt}
+use Rattle.tmem_journal.specs.Stands.{position_at, position_in, StandsFor}
+use Rattle.tmem_journal.proofs.Recovers.{RecoversDevice-mends}
+use Rattle.tmem_journal.proofs.Migrated.{mends_given, migrating, if_ok_2, if_err, not_migrated}
+use Rattle.tmem_journal.proofs.migrating.recover_current.Goals as goal
+
+pub migrate-requires-clause-stands : goal.migrate-requires-clause-stands
+migrate-requires-clause-stands g c =
+    let found = c.in_ok-found.found in
+    let it = c.in_ok-found.ensures in
+    LeavesOnly-synced _ _ it.synced (λ k. (it.mends.seen k).states (position_at found.version found.copy found.log) found.state (it.found k))
+
+pub returns-in_err-found-clause-recovers : goal.returns-in_err-found-clause-recovers
+returns-in_err-found-clause-recovers g c = RecoversDevice-mends c.args.layout.vars c.args.layout.slots _ _ c.recover.ensures.mends
+
+pub returns-clause-recovers : goal.returns-clause-recovers
+returns-clause-recovers g c =
+    let layout = c.args.layout in
+    let found = c.in_ok-found.found in
+    let it = c.in_ok-found.ensures in
+    let then = c.migrate.ensures in
+    migrating layout.vars layout.slots (omega (arith, layout.fits.vars_fit)) (position_at found.version found.copy found.log) found.state _ _ _ (g.met.D.Disk.is_device c.args.disk.now) (g.met.D.Disk.is_device c.migrate.new.disk) it.uses.model then.uses.model
+    it.mends it.found then.elsewhere then.any_moment then.stands
+
+pub returns-clause-mends : goal.returns-clause-mends
+returns-clause-mends g c = λ current.
+    let layout = c.args.layout in
+    let found = c.in_ok-found.found in
+    let it = c.in_ok-found.ensures in
+    let old = g.D.Disk.view c.args.disk.now in
+    mends_given layout.vars layout.slots old (g.D.Disk.view c.migrate.new.disk) (λ k.
+    let is : found.version ≡ Two = current (position_at found.version found.copy found.log) found.state (it.found (c.migrate.ensures.uses.model k)) in
+    subst (λ d. MendsDevice layout.vars layout.slots old (g.D.Disk.view d)) (sym (c.migrate.ensures.current is)) it.mends)
+
+pub returns-clause-found : goal.returns-clause-found
+returns-clause-found g c = λ k.
+    let layout = c.args.layout in
+    let found = c.in_ok-found.found in
+    let seen = (g.D.Disk.view c.args.disk.now).seen in
+    let p = position_at found.version found.copy found.log in
+    if_ok_2 _ _ (λ f. IsFoundAt layout.vars layout.slots seen f.state (position_in f.copy f.log))
+    (λ f state position. record {
+      position = p;
+      stands = subst (λ s. StandsFor layout.vars layout.slots p s seen) (sym state) (c.in_ok-found.ensures.found (c.migrate.ensures.uses.model k));
+      goes_on = position;
+    })
+    c.migrate.result c.migrate.ensures.state c.migrate.ensures.position
+
+pub returns-clause-refused : goal.returns-clause-refused
+returns-clause-refused g c =
+    let found = c.in_ok-found.found in
+    if_err _ _ (λ f why. not_migrated c.args.layout.vars c.args.layout.slots _ (position_at found.version found.copy found.log) found.state (g.D.Disk.view c.args.disk.now).seen f (λ k. c.in_ok-found.ensures.found (c.migrate.ensures.uses.model k)) why)
+    c.migrate.result c.migrate.ensures.refused

@@ -1,0 +1,5 @@
+use Rattle.tmem_record.proofs.NamesLaws.{AreChecks-nil}
+use Rattle.tmem_record.proofs.codec.retired_of.Goals as goal
+
+pub returns-in-One-clause-are_checks : goal.returns-in-One-clause-are_checks
+returns-in-One-clause-are_checks c = rw c.requires AreChecks-nil

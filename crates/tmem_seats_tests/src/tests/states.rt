@@ -1,0 +1,111 @@
+//! A state whose registered names are as many as there may be.
+use std::alloc::Global;
+use std::test::Fail;
+use tmem_disk::{Fault, Name};
+use tmem_record::{Effect, NameSet, State};
+
+/// A name for each number, above those of lesser numbers.
+fn numbered(n: u8) -> Result<Name, Fault> {
+    let letters = [b'a' + n / 26, b'a' + n % 26];
+    Name::new(std::str::from_utf8(&letters).unwrap_or(""))
+}
+
+/// A state with 64 names.
+fn full_state(alloc: Global) -> Result<State, Fault> {
+    let mut names = NameSet::new(alloc)?;
+    for n in 0..64 {
+        if !names.push(&numbered(n)?) {
+            return Err(Fault::Full);
+        }
+    }
+    Ok(State::of(5, names, Vec::new(alloc)))
+}
+
+/// An effect that checks the first names and then retires the others.
+fn effect_of(checks: &[u8], retires: &[u8]) -> Result<Effect, Fault> {
+    let mut effect = Effect::new();
+    for n in checks {
+        if effect.names.as_slice().len() >= 8 {
+            return Err(Fault::Full);
+        }
+        effect.check(&numbered(*n)?);
+    }
+    for n in retires {
+        if effect.retired.as_slice().len() >= 8 {
+            return Err(Fault::Full);
+        }
+        effect.retire(&numbered(*n)?);
+    }
+    Ok(effect)
+}
+
+/// Accepts an effect where there is room for its names, and answers whether there is.
+fn is_accepted(state: &mut State, effect: &Effect) -> bool {
+    let is_room = state.has_room_for(effect);
+    if is_room && effect.writes.as_slice().is_empty() && state.count() < u64::MAX {
+        state.accept(effect);
+    }
+    is_room
+}
+
+/// What a full state is after an effect with these checks and retirements: its count, how many names it has, and which of the names
+/// 0, 1, 63 and 64 are registered. Nothing where there is no room.
+fn after(
+    alloc: Global,
+    checks: &[u8],
+    retires: &[u8],
+) -> Result<Option<(u64, usize, [bool; 4])>, Fault> {
+    let mut state = full_state(alloc)?;
+    let effect = effect_of(checks, retires)?;
+    if !is_accepted(&mut state, &effect) {
+        return Ok(None);
+    }
+    let has = [
+        state.has(&numbered(0)?),
+        state.has(&numbered(1)?),
+        state.has(&numbered(63)?),
+        state.has(&numbered(64)?),
+    ];
+    Ok(Some((state.count(), state.names().len(), has)))
+}
+
+/// The numbers of the names that are checked and of those that are retired, and what a full state is after them.
+const EFFECTS: &[(&[u8], &[u8], Option<(u64, usize, [bool; 4])>)] = &[
+    (&[], &[], Some((6, 64, [true, true, true, false]))),
+    // one that is registered, and one that is not
+    (&[63], &[], Some((6, 64, [true, true, true, false]))),
+    (&[64], &[], None),
+    (&[], &[63], Some((6, 63, [true, true, false, false]))),
+    (&[], &[64], Some((6, 64, [true, true, true, false]))),
+    // one in place of another
+    (&[64], &[0], Some((6, 64, [false, true, true, true]))),
+    (&[64], &[63], Some((6, 64, [true, true, false, true]))),
+    (&[64, 65], &[0], None),
+    (
+        &[64, 65],
+        &[0, 1],
+        Some((6, 64, [false, false, true, true])),
+    ),
+    // in place of one that is not registered
+    (&[64], &[65], None),
+    // as many as one effect may have
+    (
+        &[64, 65, 66, 67, 68, 69, 70, 71],
+        &[0, 1, 2, 3, 4, 5, 6, 7],
+        Some((6, 64, [false, false, true, true])),
+    ),
+    (
+        &[],
+        &[0, 1, 58, 59, 60, 61, 62, 63],
+        Some((6, 56, [false, false, false, false])),
+    ),
+];
+
+#[test]
+fn a_full_state_takes_a_name_in_place_of_another(rt: HostRuntime) -> Result<(), Fail> {
+    for (row, (checks, retires, wanted)) in EFFECTS.iter().enumerate() {
+        let had = after(rt.alloc(), checks, retires)?;
+        assert!(rt; had == *wanted, "row {row}: {had:?}");
+    }
+    Ok(())
+}

@@ -1,0 +1,14 @@
+use Rattle.std.proofs.Common.{Result, Ok, Err}
+use Rattle.std.specs.Prelude.{IfOk}
+use Rattle.tmem_disk.specs.declared.fault.Fault.{Fault}
+use Rattle.tmem_front.specs.Held.{found_of}
+use Rattle.tmem_threads.specs.Counting.{AreTotals}
+use Rattle.tmem_threads.proofs.store.count_with.Goals as goal
+
+-- what holds of the state that was found holds of one
+of_one : {A S : Type 0} (r : Result A Fault) (P : S → A → Type 0) (s : S) → IfOk r (P s) → IfOk r (λ a. (x : S) × P x a)
+of_one (Ok a) P s is = (s, is)
+of_one (Err f) P s is = is
+
+pub returns-in-Ok : goal.returns-in-Ok
+returns-in-Ok g c = of_one c.count_in.result (λ s. AreTotals s c.args.work) (found_of c.in-Ok.opened) c.count_in.ensures
