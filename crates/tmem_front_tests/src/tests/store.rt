@@ -1,5 +1,7 @@
 //! A front that the threads of a scene share, and how each move is played on it.
 ghost use Rattle.std.specs.Prelude.{◌≡◌, ◌<◌, length, IfOk};
+ghost use Rattle.std.proofs.Props.{props};
+ghost use Rattle.tmem_tentative.specs.CursorFacts.{IsEndingFor-prop};
 ghost use Rattle.tmem_tentative.specs.Fits.{IsForVariables, IsForNames};
 ghost use Rattle.tmem_tree.specs.Plans.{FitsSteps, FitsVariables, FitsNames, FitsShapes};
 
@@ -81,7 +83,7 @@ struct Kept<N: StoreNaming> {
     of: PhantomData<N>,
 
     ghost variables: { IsForVariables (length N.opening.values) attempt },
-    ghost names: { IsForNames N.program.names attempt },
+    ghost names: { IsForNames N.program.names attempt } by { Prim.hlevel (props, IsEndingFor-prop) },
 }
 
 /// A pace of so many turns.
