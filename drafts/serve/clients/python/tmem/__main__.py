@@ -1,0 +1,7 @@
+"""`python3 -m tmem STORE`: the shell."""
+
+import sys
+
+from .shell import main
+
+sys.exit(main())
