@@ -14,13 +14,14 @@ use tmem_core::Settled;
 use tmem_disk::{Disk, Fault};
 use tmem_front::{Front, Gathering, Pace, Pass, StoreNaming};
 use tmem_invariants::Invariants;
+use tmem_record::MAX_RECORDS;
 use tmem_tree::{Plan, StoredSteps, Tx};
 
 // A job goes on for so long.
 const JOB_MILLIS: u64 = 1000;
 
 // A batch has so many records at most.
-const RECORDS: u16 = 64;
+const RECORDS: u16 = MAX_RECORDS as u16;
 
 /// Whether a job that began then is over, or the clock cannot be read.
 pub fn is_over<R: Clock>(rt: &R, start: Instant) -> bool {

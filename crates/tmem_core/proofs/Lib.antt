@@ -2,6 +2,7 @@ pub mod Folded
 pub mod Known
 pub mod Laws
 pub mod Limits
+pub mod NamesLeft
 pub mod SameRuns
 pub mod SerialLaws
 pub mod Opens

@@ -1,6 +1,8 @@
 -- Tests that a table can be asked.
-use Rattle.std.proofs.Common.{◌≡◌, ℕ, zero, suc, true, List, [], ◌∷◌, length, map, Some, sym, ap, ◌∙◌}
+use Rattle.std.proofs.Common.{◌≡◌, ℕ, zero, suc, Bool, true, List, [], ◌∷◌, length, map, find, Some, sym, ap, ◌∙◌}
+use Rattle.std.proofs.lemmas.List.Folds.{find_at}
 use Rattle.std.proofs.lemmas.Option.{get_or_from_slice_get, slice_get_within}
+use Rattle.std.specs.List.{position_or_len}
 use Rattle.std.specs.Prelude.{slice_get, slice_index_or}
 use Rattle.tmem_invariants.specs.Meanings.{Meanings}
 use Rattle.tmem_invariants.specs.TableNames.{has_name}
@@ -10,6 +12,11 @@ use Rattle.tmem_invariants.proofs.Laws.{has_name-from_Contains}
 pub has_name-at : (names : List (List ℕ)) (place : ℕ) (name : List ℕ) → slice_get names place ≡ Some name → has_name names name ≡ true
 has_name-at names place name at =
     has_name-from_Contains names name (place, slice_get_within names place name at, get_or_from_slice_get names place name name at)
+
+-- so is one that is found among them
+pub has_name-find : (test : List ℕ → Bool) (names : List (List ℕ)) (name : List ℕ) → find test names ≡ Some name → has_name names name ≡ true
+has_name-find test names name is =
+    has_name-at names (position_or_len test names) name (sym (find_at test names) ∙ is)
 
 -- what a list of footprints has at the place of a name
 footprint_at : (f : List ℕ → List ℕ) (names : List (List ℕ)) (place : ℕ) (name : List ℕ) → slice_get names place ≡ Some name → slice_index_or (map f names) place [] ≡ f name

@@ -8,7 +8,10 @@ use Rattle.tmem_tree.specs.declared.tx.Tx.{Tx}
 use Rattle.tmem_tree.specs.Run as run
 use Rattle.tmem_tree.specs.Run.{run, start}
 use Rattle.tmem_tentative.specs.Right.{IsRight, EndsAs}
+use Rattle.tmem_tentative.specs.Fits.{IsEndingFor}
 use Rattle.tmem_tentative.specs.declared.attempt.Attempt.{Attempt}
+use Rattle.tmem_tentative.specs.declared.attempt.Ending.{Ending}
+use Rattle.tmem_tentative.specs.declared.attempt.Ending.TheVariants as ended
 use Rattle.tmem_tree.specs.declared.settled.Settled.{Settled}
 use Rattle.tmem_tree.specs.declared.settled.Settled.TheVariants.{Committed, Seen}
 use Rattle.tmem_core.specs.Program.{Program, IsProgramOf}
@@ -19,8 +22,9 @@ use Rattle.tmem_core.specs.declared.decision.Decision.{Decision}
 use Rattle.tmem_core.specs.declared.core_state.Core.{Core}
 use Rattle.tmem_invariants.specs.declared.named.Invariants.{Ghosts}
 use Rattle.tmem_core.specs.Verdict.{map_of, first_broken, unless_broken, verdict, verdict_on, verdict_normal, effect_on, accepted}
-use Rattle.tmem_core.specs.SettleAnswer.{is_stale, sound_answer, unless_refused, normal_answer, ending_answer, allowed, judged, IsAdded, IsRefusal, TellsOneOf, accepted_by}
+use Rattle.tmem_core.specs.SettleAnswer.{is_stale, sound_answer, unless_refused, normal_answer, ending_answer, settle_answer, allowed, judged, IsAdded, IsRefusal, TellsOneOf, accepted_by}
 use Rattle.tmem_core.proofs.Present.{agrees}
+use Rattle.tmem_core.proofs.Probed.{has_name-find}
 
 -- the verdict on an effect that breaks no invariant
 abbrev sound_verdict : State → Effect → List ℤ → Settled
@@ -76,13 +80,34 @@ refused_with (Ok decision) registers refused = tt
 refused_with (Err f) registers refused = refused
 
 -- the answer to an effect that breaks no invariant tells no name
-pub sound_tells : (names : List (List ℕ)) (s : State) (durable : ℕ) (e : Effect) (registers : List ℤ) → IfOk (sound_answer s durable e registers) (TellsOneOf names)
+sound_tells : (names : List (List ℕ)) (s : State) (durable : ℕ) (e : Effect) (registers : List ℤ) → IfOk (sound_answer s durable e registers) (TellsOneOf names)
 sound_tells names s durable e registers = on (is_empty e) (s.count - durable == 256) (s.count == 18446744073709551615) where
   on : (empty full spent : Bool) → IfOk (cond empty (Ok (Seen s.count registers)) (cond full (Err fault.Full) (cond spent (Err fault.Spent) (Ok (Committed s.count registers))))) (TellsOneOf names)
   on true full spent = tt
   on false true spent = tt
   on false false true = tt
   on false false false = tt
+
+-- Where an answer tells the name of an invariant, that is one of the program's: the name at which the attempt was broken, or the first
+-- of them that its effect would break.
+pub TellsOneOf-answer : (p : Program) (shut : Bool) (s : State) (durable : ℕ) (a : Attempt) → IsEndingFor p.names a.ending → IfOk (settle_answer p shut s durable a) (TellsOneOf p.names)
+TellsOneOf-answer p shut s durable a known =
+    on shut (is_stale s a.reads.entries) (ending_answer p a.ending s durable a.effect a.registers) (by_ending a.ending known)
+  where
+    by_normal : (o : Option (List ℕ)) → first_broken p s a.effect ≡ o → IfOk (unless_refused o (sound_answer s durable a.effect a.registers)) (TellsOneOf p.names)
+    by_normal (Some name) is = has_name-find _ p.names name is
+    by_normal None is = sound_tells p.names s durable a.effect a.registers
+
+    by_ending : (e : Ending) → IsEndingFor p.names e → IfOk (ending_answer p e s durable a.effect a.registers) (TellsOneOf p.names)
+    by_ending ended.Normal known = by_normal (first_broken p s a.effect) refl
+    by_ending ended.Retry known = tt
+    by_ending (ended.Abort code) known = tt
+    by_ending (ended.Broken name) known = known
+
+    on : (shut stale : Bool) (answer : Result Settled Fault) → IfOk answer (TellsOneOf p.names) → IfOk (cond shut (Err fault.Closed) (cond stale (Err fault.Conflict) answer)) (TellsOneOf p.names)
+    on true stale answer tells = tt
+    on false true answer tells = tt
+    on false false answer tells = tells
 
 -- to accept nothing changes nothing
 pub accepting-none : {T : Type 0} (v : CoreView T) → v ≡ accepting [] v
@@ -92,15 +117,14 @@ module _ {T : Type 0} {t : Ghosts T} (old new : Core T t) (a : Attempt) where
   -- an attempt is settled by its ending, where the core runs and no value that was read differs
   pub settles : (x : Result Settled Fault) → is_shut_of old ≡ false → is_stale (state_of old) a.reads.entries ≡ false
       → ((p : Program) → IsProgramOf t (table_of old) p → x ≡ ending_answer p a.ending (state_of old) (durable_of old) a.effect a.registers)
-      → IfOk x (TellsOneOf (t.names (table_of old))) → IfErr x IsRefusal → view_of new ≡ accepting (accepted_by x a.effect) (view_of old) → Settles old new a x
-  settles x runs fresh by_ending named refused view = record {
+      → IfErr x IsRefusal → view_of new ≡ accepting (accepted_by x a.effect) (view_of old) → Settles old new a x
+  settles x runs fresh by_ending refused view = record {
     answer = λ p are. by_ending p are ∙ sym (running (λ b. cond b (Err fault.Closed) (cond (is_stale (state_of old) a.reads.entries) (Err fault.Conflict) (by_its_ending p)))
         ∙ ap (λ b. cond b (Err fault.Conflict) (by_its_ending p)) fresh);
     verdict = λ p tx are right. by_ending p are ∙ (judges_attempt p tx (state_of old) (durable_of old) a fresh right).0
         ∙ sym (running (λ b. judged b (state_of old) (durable_of old) a.reads.entries (verdict p tx (state_of old)))
         ∙ ap (λ b. cond b (Err fault.Conflict) (allowed (verdict p tx (state_of old)) (durable_of old))) fresh);
     added = λ p tx are right. subst (IsAdded p tx (state_of old) a) (sym (by_ending p are)) (judges_attempt p tx (state_of old) (durable_of old) a fresh right).1;
-    named = named;
     refused = refused;
     view = view;
   } where

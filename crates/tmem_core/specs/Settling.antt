@@ -1,5 +1,5 @@
 -- What settling an attempt does to a core, and what it answers.
-use Rattle.std.specs.Prelude.{◌≡◌, Result, IfOk, IfErr}
+use Rattle.std.specs.Prelude.{◌≡◌, Result, IfErr}
 use Rattle.tmem_disk.specs.declared.fault.Fault.{Fault}
 use Rattle.tmem_tree.specs.declared.tx.Tx.{Tx}
 use Rattle.tmem_tree.specs.declared.settled.Settled.{Settled}
@@ -9,7 +9,7 @@ use Rattle.tmem_tentative.specs.declared.attempt.Attempt.{Attempt}
 use Rattle.tmem_core.specs.declared.core_state.Core.{Core}
 use Rattle.tmem_core.specs.Held.{view_of, state_of, durable_of, is_shut_of, table_of, accepting}
 use Rattle.tmem_core.specs.Program.{Program, IsProgramOf}
-use Rattle.tmem_core.specs.SettleAnswer.{settle_answer, judged, IsRefusal, IsAdded, TellsOneOf, accepted_by}
+use Rattle.tmem_core.specs.SettleAnswer.{settle_answer, judged, IsRefusal, IsAdded, accepted_by}
 use Rattle.tmem_core.specs.Verdict.{verdict as verdict_of}
 
 -- A core settles an attempt, and answers so.
@@ -21,8 +21,6 @@ pub record Settles {T : Type 0} {t : Ghosts T} (old new : Core T t) (a : Attempt
       → settled ≡ judged (is_shut_of old) (state_of old) (durable_of old) a.reads.entries (verdict_of p tx (state_of old))
   -- What is accepted is what such a plan adds.
   pub added : (p : Program) (tx : Tx) → IsProgramOf t (table_of old) p → IsRight p.steps p.tests tx a → IsAdded p tx (state_of old) a settled
-  -- A name that it tells is one of the table's.
-  pub named : IfOk settled (TellsOneOf (t.names (table_of old)))
   -- These are all that may refuse it.
   pub refused : IfErr settled IsRefusal
   -- The core accepts the effect where the answer says so, and is as before otherwise.

@@ -24,6 +24,10 @@ names_tested p s (tx ∷ txs) = map (λ probe. probe.0) (probes p.steps p.tests 
 abbrev pub names_left : Program → State → List Tx → List (List ℕ)
 names_left p s txs = without_names (s.names ++ flat_map (λ (e : Effect). e.names) (serial_effects p s txs)) (serial_state p s txs).names
 
+-- Where none of these plans retires a name, each name that was registered is registered after them.
+abbrev pub NamesOnlyGrow : Type 0
+NamesOnlyGrow = (p : Program) (s : State) (txs : List Tx) → All (λ (e : Effect). e.retired ≡ []) (serial_effects p s txs) → names_left p s txs ≡ []
+
 -- where the new table has a name, the old one has it too, with the same meaning
 abbrev pub StaysAs : Program → Program → List ℕ → Type 0
 StaysAs old new name = IsTrue (has_name new.names name) → IsTrue (has_name old.names name) × MeansAs old.tests new.tests name

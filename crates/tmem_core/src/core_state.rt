@@ -28,7 +28,6 @@ use tmem_tree::Settled;
 
 /// The present state, and the effects that are accepted and not known durable. Contracts speak of its parts by the words
 /// of `specs/Held`.
-#[derive(Drop)]
 pub struct Core<T: Invariants> {
     table: T,
     state: State,
@@ -76,11 +75,28 @@ pub struct Core<T: Invariants> {
     pub ghost each: { All (IsLoggable (length state.values)) waiting } by { Prim.hlevel (props, IsLoggable-prop) },
 }
 
+// By hand, so that a function that drops one makes one call.
+impl<T: Invariants + Drop> Drop for Core<T> {
+    fn drop(self) {
+        let Core {
+            table: _table,
+            state: _state,
+            places: _places,
+            waiting: _waiting,
+            durable: _durable,
+            is_shut: _is_shut,
+            olds: _olds,
+            opened: _opened,
+            history: _history,
+        } = self;
+    }
+}
+
 impl<T: Invariants + Drop> Core<T> {
     ghost use Rattle.tmem_core.specs.Held.{view_of, state_of, waiting_of, durable_of, is_shut_of, table_of, new_view, accepting, knowing};
     ghost use Rattle.tmem_core.specs.Opening.{opening_fault};
     ghost use Rattle.tmem_core.specs.Program.{Program, IsProgramOf};
-    ghost use Rattle.tmem_core.specs.SettleAnswer.{normal_answer, sound_answer, accepted_by, IsRefusal, TellsOneOf};
+    ghost use Rattle.tmem_core.specs.SettleAnswer.{normal_answer, sound_answer, accepted_by, IsRefusal};
     ghost use Rattle.tmem_core.specs.Decisions.{answer_of, RetriesAt};
     ghost use Rattle.tmem_core.specs.Settling.{Settles};
 
@@ -126,7 +142,17 @@ impl<T: Invariants + Drop> Core<T> {
     pub fn into_table(self) -> T
         ensures { result ≡ table_of self }
     {
-        let Core { table, .. } = self;
+        let Core {
+            table,
+            state: _state,
+            places: _places,
+            waiting: _waiting,
+            durable: _durable,
+            is_shut: _is_shut,
+            olds: _olds,
+            opened: _opened,
+            history: _history,
+        } = self;
         table
     }
 
@@ -229,7 +255,6 @@ impl<T: Invariants + Drop> Core<T> {
         requires apart { AreApart effect.now.names effect.now.retired }
         ensures answer { (p : Program) → IsProgramOf T.Invariants (table_of self.old) p
             → (registers : List ℤ) → answer_of result registers ≡ normal_answer p (state_of self.old) (durable_of self.old) effect.now registers }
-        ensures named { (registers : List ℤ) → IfOk (answer_of result registers) (TellsOneOf (T.names (table_of self.old))) }
         ensures refused { IfErr result IsRefusal }
         ensures retries { RetriesAt (state_of self.old).count result }
         ensures view { (registers : List ℤ) → view_of self.new ≡ accepting (accepted_by (answer_of result registers) effect.now) (view_of self.old) }
@@ -262,7 +287,6 @@ impl<T: Invariants + Drop> Core<T> {
         requires proposed { ArePlacesOf effect.now.names (T.names (table_of self.old)) proposed }
         ensures first { (m : Meanings) → T.is_stated (table_of self.old) m
             → result ≡ first_false m (T.names (table_of self.old)) (without_names (state_of self.old).names effect.now.retired) effect.now.names (apply (state_of self.old) effect.now).values }
-        ensures named { IfSome result (λ name. has_name (T.names (table_of self.old)) name ≡ true) }
         ensures view { view_of self.new ≡ view_of self.old }
     {
         let (state, olds) = (&mut self.state, &mut self.olds);

@@ -19,7 +19,6 @@ use std::alloc::Global;
 /// and the device runs on. A call fails in no other case. While the device runs, each call counts, also one that fails;
 /// while it stands at a stop, none does, so what is armed stays armed over `restart`. Where a call meets both, the stop
 /// wins, and the failure is spent.
-#[derive(Drop)]
 pub struct SimDisk {
     present: Vec<u8>,
     platter: Platter,
@@ -30,6 +29,19 @@ pub struct SimDisk {
     ghost marked: { length platter.marks.items ≡ length present.items },
     ghost fits: { length present.items < 2 ^ 64 },
     ghost counted: { failures.count < 2 ^ 64 },
+}
+
+// By hand, so that a function that drops one makes one call.
+impl Drop for SimDisk {
+    fn drop(self) {
+        let SimDisk {
+            present: _present,
+            platter: _platter,
+            failures: _failures,
+            power: _power,
+            past: _past,
+        } = self;
+    }
 }
 
 impl SimDisk {

@@ -9,5 +9,5 @@ mod pieces;
 mod tx;
 
 pub use error::FormError;
-pub use pieces::{byte_of, pair_of, short_of};
+pub use pieces::{byte_of, integer_of, pair_of, short_of};
 pub use tx::tx_of;

@@ -58,7 +58,7 @@ pub fn byte_of(value: &Value) -> Result<u8, FormError>
 }
 
 /// A whole number of 64 bits with a sign, written without a point or an exponent.
-pub(crate) fn integer_of(value: &Value) -> Result<i64, FormError>
+pub fn integer_of(value: &Value) -> Result<i64, FormError>
     ensures ok { IfOk result (λ n. view value.now ≡ integer n) }
     ensures in_range { IfOk result (λ n. FitsSigned w64 n) }
     ensures refused { IfErr result (λ e. Refuses e ((n : ℤ) → FitsSigned w64 n → ¬ (view value.now ≡ integer n))) }

@@ -1,7 +1,6 @@
 // How a store is closed.
 ghost use Rattle.std.specs.Prelude.{◌≡◌, ◌⊎◌, Some, IfErr, IfSome};
 ghost use Rattle.tmem_seats.specs.Flushing.{IsFlusherRefusal};
-ghost use Rattle.tmem_seats.specs.Histories.{IsLeftOpen};
 
 use crate::front::Front;
 use std::sync::Wait;
@@ -64,14 +63,5 @@ impl<D: Disk + Drop, N: StoreNaming, T: Invariants + Drop, S: StoredSteps + Drop
         ensures { IfSome result (λ fault. (fault ≡ Fault.Device) ⊎ (fault ≡ Fault.Unknown)) }
     {
         self.core.lock(rt).failure().fault()
-    }
-
-    /// The device, once nobody uses the store any more. Every crash leaves the state after a history of the store, or after it and
-    /// what a flush of unknown outcome aimed at.
-    pub fn into_disk(self) -> D
-        ensures { ∥ IsLeftOpen N.opening (D.view result) ∥₁ }
-    {
-        let Front { journal, .. } = self;
-        journal.into_inner().into_disk()
     }
 }

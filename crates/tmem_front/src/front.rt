@@ -15,7 +15,7 @@ ghost use Rattle.tmem_spine.specs.History.{count, longer};
 ghost use Rattle.tmem_spine.specs.Views.{new_pass};
 ghost use Rattle.tmem_spine.specs.declared.spine.TheConstants.{MOST_PASSES};
 ghost use Rattle.tmem_core.specs.SettleAnswer.{is_stale};
-ghost use Rattle.tmem_seats.specs.Histories.{after, IsPossibleValue};
+ghost use Rattle.tmem_seats.specs.Histories.{after, IsLeftOpen, IsPossibleValue};
 ghost use Rattle.tmem_front.specs.Settling.{Settles, SettlesPlan};
 
 use crate::conditions::Conditions;
@@ -33,7 +33,6 @@ use tmem_tentative::{Attempt, Cursor, Probe, Progress};
 use tmem_tree::{Plan, Shape, StoredSteps, Tx};
 
 /// A store that threads share. A pass is used with its own front, and a plan or an attempt with the front that made it.
-#[derive(Drop)]
 pub struct Front<D: Disk, N: StoreNaming, T: Invariants, S: StoredSteps> {
     pub(crate) alloc: Global,
     pub(crate) vars: u16,
@@ -61,6 +60,25 @@ pub struct Front<D: Disk, N: StoreNaming, T: Invariants, S: StoredSteps> {
 
     /// The steps answer what they mean.
     pub ghost stated: { ∥ S.is_stated steps N.program.steps ∥₁ },
+}
+
+// By hand, so that a function that drops one makes one call.
+impl<D: Disk + Drop, N: StoreNaming, T: Invariants + Drop, S: StoredSteps + Drop> Drop
+    for Front<D, N, T, S> {
+    fn drop(self) {
+        let Front {
+            alloc: _alloc,
+            vars: _vars,
+            steps: _steps,
+            shapes: _shapes,
+            spine: _spine,
+            core: _core,
+            conditions: _conditions,
+            journal: _journal,
+            pool: _pool,
+            returned: _returned,
+        } = self;
+    }
 }
 
 impl<D: Disk + Drop, N: StoreNaming, T: Invariants + Drop, S: StoredSteps + Drop> Front<
@@ -359,5 +377,25 @@ impl<D: Disk + Drop, N: StoreNaming, T: Invariants + Drop, S: StoredSteps + Drop
         ensures least { IfErr result (λ fault. (cause : Cause) × (fault ≡ Fault.BadPlan cause) × IsLeastBroken (S.arities self.now.steps) self.now.vars N.program.names tx cause) }
     {
         Plan::new(tx, &self.steps, self.vars, &self.shapes)
+    }
+
+    /// The device, once nobody uses the store any more. Every crash leaves the state after a history of the store, or after it and
+    /// what a flush of unknown outcome aimed at.
+    pub fn into_disk(self) -> D
+        ensures { ∥ IsLeftOpen N.opening (D.view result) ∥₁ }
+    {
+        let Front {
+            alloc: _alloc,
+            vars: _vars,
+            steps: _steps,
+            shapes: _shapes,
+            spine: _spine,
+            core: _core,
+            conditions: _conditions,
+            journal,
+            pool: _pool,
+            returned: _returned,
+        } = self;
+        journal.into_inner().into_disk()
     }
 }

@@ -20,7 +20,6 @@ use tmem_tree::StoredSteps;
 
 /// A store that was opened. A program hands it to a function that is generic in `StoreNaming`, and calls that at
 /// `Brand`: the name is that of the spine, with the state that was found and what its closures mean.
-#[derive(Drop)]
 pub struct OpenedFront<D: Disk, T: Invariants, S: StoredSteps> {
     alloc: Global,
     steps: S,
@@ -30,6 +29,19 @@ pub struct OpenedFront<D: Disk, T: Invariants, S: StoredSteps> {
 
     /// The history starts at the state that was found.
     pub ghost starts: { spine.start ≡ (opened_at opening).count },
+}
+
+// By hand, so that a function that drops one makes one call.
+impl<D: Disk + Drop, T: Invariants + Drop, S: StoredSteps + Drop> Drop for OpenedFront<D, T, S> {
+    fn drop(self) {
+        let OpenedFront {
+            alloc: _alloc,
+            steps: _steps,
+            opening: _opening,
+            spine: _spine,
+            conditions: _conditions,
+        } = self;
+    }
 }
 
 impl<D: Disk + Drop, T: Invariants + Drop, S: StoredSteps + Drop> OpenedFront<D, T, S> {

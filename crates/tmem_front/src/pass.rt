@@ -11,7 +11,6 @@ use tmem_tentative::Cursor;
 /// A caller's seat, and the memory of its last attempt, which the next one takes again. Contracts see what the seat
 /// knows: its mark, what is accepted and what is durable as far as it knows, and its own effects. It may go to another
 /// thread, and is used with the front that gave it.
-#[derive(Drop)]
 pub struct Pass<N: Naming> {
     pub(crate) seat: tmem_spine::Pass<N>,
     pub(crate) cursor: Cursor,
@@ -19,6 +18,18 @@ pub struct Pass<N: Naming> {
     pub(crate) number: u64,
     // whether the pool of the front has it
     pub(crate) is_pooled: bool,
+}
+
+// By hand, so that a function that drops one makes one call.
+impl<N: Naming> Drop for Pass<N> {
+    fn drop(self) {
+        let Pass {
+            seat: _seat,
+            cursor: _cursor,
+            number: _number,
+            is_pooled: _is_pooled,
+        } = self;
+    }
 }
 
 impl<N: Naming> Model for Pass<N> {

@@ -11,13 +11,13 @@ ghost use Rattle.tmem_image.specs.Image.{IsGeneration};
 ghost use Rattle.tmem_image.specs.Framed.{IsPadded};
 
 use tmem_record::bytes::{is_blank, is_zero, number_at, value_at};
-use tmem_record::{NameSet, State, Version, read_name_set};
+use tmem_record::{HEADER_SIZE, NameSet, State, Version, read_name_set};
 
-/// An image's header without its gate.
-pub(crate) const HEADER_ROOM: usize = 2047;
+/// How long an image's header is without its gate.
+pub const HEADER_ROOM: usize = HEADER_SIZE - 1;
 
-/// Where in it the mark of the version stands: in the last byte.
-pub(crate) const MARK_AT: usize = 2046;
+/// Where the mark of the version stands in an image's header without its gate: in the last byte.
+pub const MARK_AT: usize = HEADER_ROOM - 1;
 
 // How many of its bytes stand in front of the names.
 const NAMES_AT: usize = 16;

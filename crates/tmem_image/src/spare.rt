@@ -12,14 +12,11 @@ ghost use Rattle.tmem_image.specs.Pages.{HoldsOthers, pages_place};
 ghost use Rattle.tmem_image.specs.Spare.{IsSettled, Spares, placed, With, Without, AwaitsGate};
 
 use crate::page_sets::has_page;
-use crate::spelling::{PAGE_SIZE, header_of, page_of};
+use crate::spelling::{header_of, page_of};
 use tmem_disk::{DeviceFault, Disk, Fault};
 use tmem_gate::device::{sync, write};
 use tmem_gate::{close_if_open, put_cell};
-use tmem_record::{Layout, State};
-
-// How long a header is, with its gate.
-const HEADER_SIZE: u64 = 2048;
+use tmem_record::{HEADER_SIZE, Layout, PAGE_SIZE, State};
 
 /// Writes an image of this generation and state to a copy, in version 2 of the format: closes its gate where it reads open,
 /// and syncs; writes these pages, then the header without its gate, and syncs; opens the gate, and syncs. `Device` where a
@@ -62,7 +59,7 @@ pub fn write_spare<D: Disk>(
     let at = layout.image(copy);
     recall_values(state.values());
     shut(disk, at)?;
-    write_pages(disk, layout, at + HEADER_SIZE, state.values(), pages)?;
+    write_pages(disk, layout, at + HEADER_SIZE as u64, state.values(), pages)?;
     put_cell(disk, at, &header_of(generation, state))
 }
 

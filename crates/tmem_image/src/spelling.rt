@@ -7,13 +7,7 @@ ghost use Rattle.tmem_image.specs.Spelling.{header_body, page_bytes, page_values
 
 use crate::reading::{HEADER_ROOM, MARK_AT};
 use tmem_record::bytes::put;
-use tmem_record::{State, Version, write_names};
-
-/// How long a page is.
-pub(crate) const PAGE_SIZE: usize = 512;
-
-/// How many values a page has.
-pub(crate) const PAGE_VALUES: usize = 64;
+use tmem_record::{PAGE_SIZE, PAGE_VALUES, State, Version, write_names};
 
 /// Spells a header of version 2 without its gate.
 pub(crate) fn header_of(generation: u64, state: &State) -> [u8; HEADER_ROOM]

@@ -11,11 +11,12 @@ use Rattle.tmem_gate.specs.Changes.{Either, Becomes, Meanwhile, outcome_of}
 use Rattle.tmem_record.specs.State.{State, fold, StaysWithin}
 use Rattle.tmem_record.specs.Layout.{IsLayout}
 use Rattle.tmem_redolog.specs.Appends.{Placed, Without, With, IsAppendFault}
-use Rattle.tmem_journal.specs.Stands.{Position, next_slot, HoldsState, StandsFor, StandsForEither}
+use Rattle.tmem_journal.specs.Stands.{Position, next_slot, HoldsState, StandsFor, StandsForEither, IsCurrent}
 use Rattle.tmem_journal.specs.Calls.{doubted}
 use Rattle.tmem_journal.specs.Journals.{IsOpeningFailure}
 use Rattle.tmem_journal.specs.Refusals.{IsRefusedBy, IsWhyRead, IsWhyFound, IsWhy}
 use Rattle.tmem_journal.proofs.Logged.{before_slot, state_without, state_with}
+use Rattle.tmem_journal.proofs.Recovers.{current_at}
 use Rattle.tmem_journal.proofs.Unique.{one_state_at_most}
 use Rattle.tmem_journal.proofs.Refused.{none_where_refused}
 
@@ -57,6 +58,17 @@ module _ (old new : DeviceView) (p : Placed) (copy : ℕ) (s : State) (count : s
   sure_err t Device which other is left = record { each = λ k c may. ∥∥₁_map (without (model k) c (left.each k c may)) (λ held. (here, inl held)) }
   sure_err t Unknown which other is left = record { each = λ k c may. either (model k) t is c (left.each k c may) }
   sure_err t _ which other is left = absurd (⊎_elim (λ a. cc) (λ b. ⊎_elim (λ x. cc) (λ y. cc) b) which)
+
+  -- each image that a crash leaves then is of version 2
+  pub current_err : (f : Fault) → IsAppendFault f → (f ≡ LogFull → ⊥) → LeavesOnly new (Becomes (Without p) (With p) old (outcome_of (Err f))) → LeavesOnly new (IsCurrent p.vars p.slots)
+  current_err LogFull which other left = absurd (other refl)
+  current_err Device which other left = record { each = λ k c may. current_at (without (model k) c (left.each k c may)) refl }
+  current_err Unknown which other left = record {
+    each = λ k c may.
+        let from = left.each k c may in
+        ⊎_elim (λ no. current_at (without (model k) c (from.0, from.1, no)) refl) (λ yes. current_at (with (model k) c (from.0, from.1, yes)) refl) from.2;
+  }
+  current_err _ which other left = absurd (⊎_elim (λ a. cc) (λ b. ⊎_elim (λ x. cc) (λ y. cc) b) which)
 
   -- while it is made durable
   pub moments_ok : (t t' t'' : State) → t ≡ fold s p.batch → AtEachMoment old new (MadeBy (Either (Without p) (With p)) old) → AtEachMoment old new (λ c. ∥ StandsForEither p.vars p.slots s t' c ⊎ StandsForEither p.vars p.slots t t'' c ∥₁)

@@ -2,15 +2,15 @@
 use Rattle.std.proofs.Common.{◌≡◌, ℕ, ◌≤◌, ◌+◌, ◌*◌, ◌^◌, List, sym, ◌∙◌, ap, subst, arith}
 use Rattle.std.proofs.Math.Logic.{∥∥₁_map, ∥∥₁_elim, ∥∥₁_prop}
 use Rattle.std.proofs.Props.{props}
-use Rattle.tmem_disk.specs.Disk.{DeviceView}
+use Rattle.tmem_disk.specs.Disk.{DeviceView, LeavesOnly}
 use Rattle.tmem_disk.proofs.Laws.{AtEachMoment-more}
 use Rattle.tmem_gate.proofs.Laws.{WritesWithin-wider}
 use Rattle.tmem_record.specs.Layout.{image_place, image_size, slot_place}
 use Rattle.tmem_record.specs.State.{State}
 use Rattle.tmem_record.specs.declared.version.Version.{Version}
 use Rattle.tmem_record.specs.declared.version.Version.TheVariants.{Two}
-use Rattle.tmem_journal.specs.Mended.{Mends, MendsDevice, Recovers, RecoversDevice, IsFoundAt}
-use Rattle.tmem_journal.specs.Stands.{Position, migrated_from, migrated, StandsFor, StandsForState, NeedsNoMigration}
+use Rattle.tmem_journal.specs.Mended.{Mends, MendsDevice, Recovers, RecoversDevice, IsFoundAt, SameBesideCopy}
+use Rattle.tmem_journal.specs.Stands.{Position, migrated_from, migrated, StandsFor, StandsForState, IsCurrent, NeedsNoMigration}
 use Rattle.tmem_journal.proofs.Unique.{one_state_at_most}
 
 -- a store of version 2 goes on where it stands
@@ -26,6 +26,14 @@ found_in_place vars slots c s now current found =
 pub needs_none : (vars slots : ℕ) → vars ≤ 2 ^ 16 → (p : Position) (s : State) (c : List ℕ) → p.version ≡ Two → StandsFor vars slots p s c → NeedsNoMigration vars slots c
 needs_none vars slots few p s c is stands = λ q t other. ∥∥₁_elim stands (hlevel props) (λ held. ∥∥₁_elim other (hlevel props) (λ it.
     sym (ap (λ (x : Position). x.version) (one_state_at_most vars slots few c p q s t held it).0) ∙ is))
+
+-- and it is current
+pub current_at : {vars slots : ℕ} {p : Position} {s : State} {c : List ℕ} → StandsFor vars slots p s c → p.version ≡ Two → IsCurrent vars slots c
+current_at {p = p} {s = s} stands two = ∥∥₁_map stands (λ held. (p, s, two, held))
+
+-- so is each that a crash leaves
+pub sure_current : {vars slots : ℕ} {p : Position} {s : State} {d : DeviceView} → LeavesOnly d (StandsFor vars slots p s) → p.version ≡ Two → LeavesOnly d (IsCurrent vars slots)
+sure_current sure two = record { each = λ k c left. current_at (sure.each k c left) two }
 
 -- each content recovers itself
 pub Recovers-refl : (vars slots : ℕ) (c : List ℕ) → Recovers vars slots c c
@@ -50,3 +58,17 @@ RecoversDevice-mends vars slots old new mends = record {
   seen = λ k. Recovers-mends vars slots old.seen new.seen (mends.seen k);
   elsewhere = WritesWithin-wider (slot_place vars 0) (4096 * slots) (image_place vars 0) (2 * image_size vars + 4096 * slots) (omega arith) (omega arith) old new mends.elsewhere;
 }
+
+-- what closed gates behind the log alone changes no byte beside a copy
+pub SameBesideCopy-mends : (vars slots copy : ℕ) (b c : List ℕ) → Mends vars slots b c → SameBesideCopy vars slots copy b c
+SameBesideCopy-mends vars slots copy b c mends = λ i beside none. mends.others i none
+
+-- and a copy may be written then
+pub SameBesideCopy-after : (vars slots copy : ℕ) (a b c : List ℕ) → Mends vars slots a b → SameBesideCopy vars slots copy b c → SameBesideCopy vars slots copy a c
+SameBesideCopy-after vars slots copy a b c mends then = λ i beside none.
+    then i beside (λ k below gate is. (mends.closed k below (record { not_open = λ was. none k below was is })).not_open gate) ∙ mends.others i none
+
+-- the copy that a content chooses is one
+pub one_copy : (vars slots : ℕ) → vars ≤ 2 ^ 16 → (p q : Position) (s t : State) (c : List ℕ) → StandsFor vars slots p s c → StandsFor vars slots q t c → p.copy ≡ q.copy
+one_copy vars slots few p q s t c stands other = ∥∥₁_elim stands (hlevel props) (λ held. ∥∥₁_elim other (hlevel props) (λ it.
+    ap (λ (x : Position). x.copy) (one_state_at_most vars slots few c p q s t held it).0))

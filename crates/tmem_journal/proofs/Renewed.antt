@@ -1,12 +1,12 @@
 -- What a crash leaves of a device, while an image of the next generation is written to the other copy, and while the log
 -- is emptied behind it.
-use Rattle.std.proofs.Common.{◌≡◌, ◌⊎◌, inl, inr, ⊎_elim, ℕ, ℤ, ◌+◌, ◌*◌, ◌≤◌, ◌<◌, ◌^◌, List, [], bit_or, refl, sym, ap, subst, arith}
+use Rattle.std.proofs.Common.{◌≡◌, ◌⊎◌, inl, inr, ⊎_elim, ℕ, ℤ, ◌+◌, ◌*◌, ◌≤◌, ◌<◌, ◌^◌, List, [], bit_or, refl, sym, ◌∙◌, ap, subst, arith}
 use Rattle.std.specs.Prelude.{Result, IsErrOf, slice_get}
 use Rattle.std.proofs.Math.Logic.{∥∥₁_map}
 use Rattle.tmem_disk.specs.Disk.{DeviceView, LeavesOnly, AtEachMoment, Elapses, IsSynced, SameOutside}
 use Rattle.tmem_disk.specs.declared.fault.Fault.{Fault}
 use Rattle.tmem_disk.specs.declared.fault.Fault.TheVariants.{Device}
-use Rattle.tmem_disk.proofs.Laws.{AtEachMoment-trans, LeavesOnly-more, Rewritten-keeps}
+use Rattle.tmem_disk.proofs.Laws.{AtEachMoment-trans, LeavesOnly-more, Rewritten-keeps, slice_get-before, slice_get-after}
 use Rattle.tmem_gate.specs.Calls.{MadeBy, WritesWithin}
 use Rattle.tmem_gate.specs.Changes.{Outcome, IsMade, NotMade, InDoubt, NotBegun, Either, Becomes, Meanwhile, outcome_of}
 use Rattle.tmem_gate.specs.Gate.{IsOpenOver}
@@ -27,9 +27,11 @@ use Rattle.tmem_redolog.specs.Closes.{bytes_from, Keeps}
 use Rattle.tmem_redolog.specs.Log.{HoldsLog}
 use Rattle.tmem_redolog.proofs.Laws.{HoldsLog-front, emptied, LogWithin-last}
 use Rattle.tmem_journal.specs.BlockSpelling.{block_body}
-use Rattle.tmem_journal.specs.Stands.{Position, next_image, HoldsState, StandsFor, StandsForState, StandsForEither}
+use Rattle.tmem_journal.specs.Mended.{SameBesideCopy}
+use Rattle.tmem_journal.specs.Stands.{Position, next_image, HoldsState, StandsFor, StandsForState, StandsForEither, IsCurrent}
 use Rattle.tmem_journal.proofs.Lengths.{length-block_body}
 use Rattle.tmem_journal.proofs.Logged.{copy_cases, copy_below, other_one, image_before, state_closed}
+use Rattle.tmem_journal.proofs.Recovers.{current_at}
 
 -- on a synced device each gate is settled
 pub settled : {at : ℕ} (d : DeviceView) → IsSynced d → IsSettled at d
@@ -150,6 +152,23 @@ module _ (vars slots : ℕ) (p : Position) (s : State) (fits : p.generation + 1 
   after_writing InDoubt puts = record { each = λ k c may. either (model k) c (puts.each k c may) }
   after_writing NotBegun puts = record { each = λ k c may. before (model k) c (puts.each k c may) }
 
+  -- whatever was answered, the image is of version 2, where the old one was
+  without_current : p.version ≡ Two → old.keeps_model → (c : List ℕ) → MadeBy (Without next) old c → IsCurrent vars slots c
+  without_current two k c from = ∥∥₁_map (sure.each k from.0 from.1) (λ held. (p, s, two, kept_state vars slots p s from.0 c held from.2))
+
+  with_current : old.keeps_model → (c : List ℕ) → MadeBy (With next) old c → IsCurrent vars slots c
+  with_current k c from = current_at (with k c from) refl
+
+  pub current_writing : p.version ≡ Two → (o : Outcome) → LeavesOnly mid (Becomes (Without next) (With next) old o) → LeavesOnly mid (IsCurrent vars slots)
+  current_writing two IsMade puts = record { each = λ k c may. with_current (model k) c (puts.each k c may) }
+  current_writing two NotMade puts = record { each = λ k c may. without_current two (model k) c (puts.each k c may) }
+  current_writing two InDoubt puts = record {
+    each = λ k c may.
+        let from = puts.each k c may in
+        ⊎_elim (λ no. without_current two (model k) c (from.0, from.1, no)) (λ yes. with_current (model k) c (from.0, from.1, yes)) from.2;
+  }
+  current_writing two NotBegun puts = record { each = λ k c may. current_at (sure.each (model k) c (puts.each k c may)) two }
+
   -- where it was not written, the old image is chosen
   pub not_written : (r : Result (Unit {0}) Fault) → IsErrOf r Device → LeavesOnly mid (Becomes (Without next) (With next) old (outcome_of r)) → LeavesOnly mid (StandsFor vars slots p s)
   not_written r is puts =
@@ -194,6 +213,22 @@ pub renewed_within : (vars slots copy : ℕ) → copy ≤ 1 → (old mid new : D
 renewed_within vars slots copy one old mid new model first second =
     WritesWithin-trans (image_place vars 0) (2 * image_size vars + 4096 * slots) old mid new model (copy_within vars slots copy one old mid first)
     (WritesWithin-wider (slot_place vars 0) (bytes_from 0 slots) (image_place vars 0) (2 * image_size vars + 4096 * slots) (omega arith) (omega arith) mid new second)
+
+-- where a copy is written, no byte beside it changes
+pub beside_copy : (vars slots copy : ℕ) (b c : List ℕ) → SameOutside (image_place vars copy) (image_size vars) b c → SameBesideCopy vars slots copy b c
+beside_copy vars slots copy b c same = λ i beside none. ⊎_elim
+    (λ before. slice_get-before (image_place vars copy) (image_size vars) b c i before same)
+    (λ after. slice_get-after (image_place vars copy) (image_size vars) b c i after same)
+    beside
+
+-- nor does one where the log is emptied then, but for open gates
+pub beside_emptied : (vars slots copy generation : ℕ) → copy ≤ 1 → (a b c : List ℕ) → SameOutside (image_place vars copy) (image_size vars) a b → Keeps vars slots generation 0 b c → SameBesideCopy vars slots copy a c
+beside_emptied vars slots copy generation one a b c same keeps = λ i beside none.
+    keeps.others i (λ k above below gate. none k below (sym (slice_get-after (image_place vars copy) (image_size vars) a b (slot_place vars k) (ends (image_place vars copy) (image_size vars) k (copy_below vars copy one)) same) ∙ gate))
+    ∙ beside_copy vars slots copy a b same i beside none
+  where
+    ends : (place size slot : ℕ) → place + size ≤ 512 + 2 * size + 4096 * 0 → place + size ≤ 512 + 2 * size + 4096 * slot
+    ends place size slot below = omega (arith, below)
 
 -- what the pages of a copy hold, they hold where the other copy is written
 pub pages_aside : (vars copy set : ℕ) (values : List ℤ) → copy ≤ 1 → (old new : DeviceView) → (new.keeps_model → old.keeps_model) → WritesWithin (image_place vars (other_copy copy)) (image_size vars) old new

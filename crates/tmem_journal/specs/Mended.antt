@@ -1,5 +1,5 @@
 -- What an opening makes of a content: recovery closes gates behind the log, and a migration writes an image of version 2.
-use Rattle.std.specs.Prelude.{◌≡◌, ◌≢◌, ◌<◌, ◌≤◌, ◌+◌, ◌*◌, ℕ, List, slice_get}
+use Rattle.std.specs.Prelude.{◌≡◌, ◌≢◌, ◌<◌, ◌≤◌, ◌⊎◌, ◌+◌, ◌*◌, ℕ, List, slice_get}
 use Rattle.tmem_disk.specs.Disk.{DeviceView, SameOutside, AtEachMoment}
 use Rattle.tmem_gate.specs.Calls.{LooksOnly, WritesWithin}
 use Rattle.tmem_gate.specs.Gate.{IsOpenAt, IsClosed}
@@ -52,6 +52,14 @@ pub record RecoversDevice (vars slots : ℕ) (old new : DeviceView) : Type 0 whe
   pub any_moment : AtEachMoment old new (RecoveredBy vars slots old)
   pub seen : new.keeps_model → Recovers vars slots old.seen new.seen
   pub elsewhere : WritesWithin (image_place vars 0) (2 * image_size vars + 4096 * slots) old new
+
+-- at this place there is no byte of that image copy
+abbrev pub IsBesideCopy : ℕ → ℕ → ℕ → Type 0
+IsBesideCopy vars copy i = (i < image_place vars copy) ⊎ (image_place vars copy + image_size vars ≤ i)
+
+-- each byte of the second content is that of the first, but in one image copy, and for gates of log slots that the first has open
+abbrev pub SameBesideCopy : ℕ → ℕ → ℕ → List ℕ → List ℕ → Type 0
+SameBesideCopy vars slots copy b c = (i : ℕ) → IsBesideCopy vars copy i → IsNoOpenGate vars slots b i → slice_get c i ≡ slice_get b i
 
 -- A content stood for this state, and the store goes on at this position: where the content stood for it, or with the next image
 -- where it was of version 1.

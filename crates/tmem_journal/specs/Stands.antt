@@ -87,6 +87,10 @@ StandsForState vars slots s c = ∥ ((p : Position) × HoldsState vars slots p s
 abbrev pub StandsForEither : ℕ → ℕ → State → State → List ℕ → Type 0
 StandsForEither vars slots s t c = ∥ ((p : Position) × (HoldsState vars slots p s c ⊎ HoldsState vars slots p t c)) ∥₁
 
+-- the content stands for a state by an image of version 2
+abbrev pub IsCurrent : ℕ → ℕ → List ℕ → Type 0
+IsCurrent vars slots c = ∥ ((p : Position) × (s : State) × (p.version ≡ Two) × HoldsState vars slots p s c) ∥₁
+
 -- the content stands for no state by an image of version 1: opening it writes no image
 abbrev pub NeedsNoMigration : ℕ → ℕ → List ℕ → Type 0
 NeedsNoMigration vars slots c = (p : Position) (s : State) → StandsFor vars slots p s c → p.version ≡ Two

@@ -8,10 +8,10 @@ ghost use Rattle.tmem_journal.specs.Parts.{IsBlockFault};
 
 use tmem_disk::Fault;
 use tmem_record::bytes::{put, short_at};
-use tmem_record::{Layout, Version};
+use tmem_record::{BLOCK_SIZE, Layout, Version};
 
-// Block 0 without its gate.
-const BLOCK_ROOM: usize = 511;
+// How long block 0 is without its gate.
+const BLOCK_ROOM: usize = BLOCK_SIZE - 1;
 
 /// Spells what stands behind the gate of block 0.
 pub(crate) fn spell_block(version: Version, vars: u16, slots: u16) -> [u8; BLOCK_ROOM]

@@ -13,14 +13,9 @@ use crate::block::spell_block;
 use crate::calls::put_cell;
 use tmem_disk::{Disk, Fault};
 use tmem_gate::device::{sync, write};
+use tmem_image::{HEADER_ROOM, MARK_AT};
 use tmem_record::bytes::put;
 use tmem_record::{Layout, Version};
-
-// An image's header without its gate.
-const HEADER_ROOM: usize = 2047;
-
-// Where the version's mark stands in it.
-const MARK_AT: usize = 2046;
 
 // How many bytes are erased by one write at the most.
 const PIECE: usize = 16384;

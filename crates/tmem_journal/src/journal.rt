@@ -11,8 +11,8 @@ ghost use Rattle.tmem_record.specs.Layout.{image_place, image_size, slot_place, 
 ghost use Rattle.tmem_image.specs.Image.{IsGeneration, other_copy};
 ghost use Rattle.tmem_image.specs.Pages.{HoldsOthers, pages_place};
 ghost use Rattle.tmem_image.specs.Spare.{placed, AwaitsGate};
-ghost use Rattle.tmem_journal.specs.Stands.{next_image, position_in, StandsFor, StandsForState, StandsForEither, NeedsNoMigration};
-ghost use Rattle.tmem_journal.specs.Mended.{MendsDevice, RecoversDevice, IsFoundAt};
+ghost use Rattle.tmem_journal.specs.Stands.{Position, next_image, position_in, StandsFor, StandsForState, StandsForEither, IsCurrent, NeedsNoMigration};
+ghost use Rattle.tmem_journal.specs.Mended.{MendsDevice, RecoversDevice, IsFoundAt, SameBesideCopy};
 ghost use Rattle.tmem_journal.specs.Calls.{FitsOn, effects_in, doubted, fault_alone};
 
 use crate::accepting::accept_all;
@@ -38,7 +38,6 @@ struct Changed {
 
 /// A device, and the state that it stands for: the accepted transactions that are durable. Once a call of the device has
 /// failed in `flush` or in `checkpoint` it is closed, and writes nothing more.
-#[derive(Drop)]
 pub struct Journal<D: Disk> {
     disk: D,
     layout: Layout,
@@ -76,6 +75,9 @@ pub struct Journal<D: Disk> {
     /// Every crash leaves a content that stands for this state, or for the one with the doubtful batch.
     pub ghost stands: { LeavesOnly (D.view disk) (StandsForEither layout.vars layout.slots state (fold state (effects_in doubt))) },
 
+    /// The image of that content is of version 2: no opening of this device writes one.
+    pub ghost current: { LeavesOnly (D.view disk) (IsCurrent layout.vars layout.slots) },
+
     /// While it is open, one that stands for this state, at its position.
     pub ghost sure: { is_closed ≡ false → LeavesOnly (D.view disk) (StandsFor layout.vars layout.slots (position_in copy log) state) },
 
@@ -90,6 +92,23 @@ pub struct Journal<D: Disk> {
 
     /// So it does in the other copy.
     pub ghost spare_pages: { is_closed ≡ false → LeavesOnly (D.view disk) (HoldsOthers (pages_place layout.vars (other_copy copy)) layout.vars changed.spare state.values) },
+}
+
+// By hand, so that a function that drops one makes one call.
+impl<D: Disk + Drop> Drop for Journal<D> {
+    fn drop(self) {
+        let Journal {
+            disk: _disk,
+            layout: _layout,
+            state: _state,
+            copy: _copy,
+            changed: _changed,
+            log: _log,
+            is_closed: _is_closed,
+            buffer: _buffer,
+            doubt: _doubt,
+        } = self;
+    }
 }
 
 impl<D: Disk> Journal<D> {
@@ -127,6 +146,11 @@ impl<D: Disk> Journal<D> {
         // where the content stands for no state; nor is anything else written before `Spent`.
         ensures mends { NeedsNoMigration vars slots (D.view disk).seen → MendsDevice vars slots (D.view disk) (device_after result) }
         ensures spent_mends { IfErr result (λ e. e.0 ≡ Fault.Spent → MendsDevice vars slots (D.view disk) (D.view e.1)) }
+
+        // Where the content stands for a state, a read gives what it gave before, but in the image copy that is not chosen, and for
+        // gates of the log that it gave open.
+        ensures migrates { (device_after result).keeps_model → (p : Position) (s : StateOf) → StandsFor vars slots p s (D.view disk).seen
+            → SameBesideCopy vars slots (other_copy p.copy) (D.view disk).seen (device_after result).seen }
 
         // Nothing at all is written before a refusal other than `Device` and `Spent`.
         ensures refused_looks { IfErr result (λ e. e.0 ≢ Fault.Device → e.0 ≢ Fault.Spent → LooksOnly (D.view disk) (D.view e.1)) }
@@ -198,8 +222,18 @@ impl<D: Disk> Journal<D> {
     pub fn into_disk(self) -> D
         ensures { result ≡ disk_of self }
     {
-        let Journal { disk, .. } = self;
-        disk
+        let Journal {
+            disk: device,
+            layout: _layout,
+            state: _state,
+            copy: _copy,
+            changed: _changed,
+            log: _log,
+            is_closed: _is_closed,
+            buffer: _buffer,
+            doubt: _doubt,
+        } = self;
+        device
     }
 
     /// Makes a batch durable, and answers how many transactions are durable then. The batch is not empty, its effects are

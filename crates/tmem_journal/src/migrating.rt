@@ -4,11 +4,12 @@ ghost use Rattle.tmem_disk.specs.Disk.{AtEachMoment, IsSynced, LeavesOnly};
 ghost use Rattle.tmem_gate.specs.Calls.{Uses, LooksOnly, WritesWithin};
 ghost use Rattle.tmem_gate.specs.Gate.{StandsClosed};
 ghost use Rattle.tmem_record.specs.Layout.{image_place, image_size, slot_place, end_place};
-ghost use Rattle.tmem_image.specs.Image.{IsGeneration};
+ghost use Rattle.tmem_record.specs.State.{State};
+ghost use Rattle.tmem_image.specs.Image.{IsGeneration, other_copy};
 ghost use Rattle.tmem_image.specs.Room.{IsImageRoom};
 ghost use Rattle.tmem_redolog.specs.Room.{IsLogRoom};
-ghost use Rattle.tmem_journal.specs.Stands.{position_at, position_in, migrated, StandsFor, StandsForState, NeedsNoMigration, IsSpentAt};
-ghost use Rattle.tmem_journal.specs.Mended.{MendsDevice, RecoversDevice, IsFoundAt};
+ghost use Rattle.tmem_journal.specs.Stands.{Position, position_at, position_in, migrated, StandsFor, StandsForState, NeedsNoMigration, IsSpentAt};
+ghost use Rattle.tmem_journal.specs.Mended.{MendsDevice, RecoversDevice, IsFoundAt, SameBesideCopy};
 ghost use Rattle.tmem_journal.specs.Refusals.{IsWhyFound, IsRefusedBy};
 
 use crate::recovery::{Found, recover};
@@ -38,6 +39,10 @@ pub(crate) fn recover_current<D: Disk>(
     // Without a migration nothing but gates behind the log is written.
     ensures mends { NeedsNoMigration layout.vars layout.slots (D.view disk.old).seen → MendsDevice layout.vars layout.slots (D.view disk.old) (D.view disk.new) }
     ensures spent_mends { IfErr result (λ f. f ≡ Fault.Spent → MendsDevice layout.vars layout.slots (D.view disk.old) (D.view disk.new)) }
+
+    // In a migration a read gives what it gave before, but in the copy that is not chosen, and for open gates of the log.
+    ensures migrates { (D.view disk.new).keeps_model → (p : Position) (s : State) → StandsFor layout.vars layout.slots p s (D.view disk.old).seen
+        → SameBesideCopy layout.vars layout.slots (other_copy p.copy) (D.view disk.old).seen (D.view disk.new).seen }
     ensures refused_looks { IfErr result (λ f. f ≢ Fault.Device → f ≢ Fault.Spent → LooksOnly (D.view disk.old) (D.view disk.new)) }
     ensures synced { OnOk result (IsSynced (D.view disk.new)) }
     ensures sure { IfOk result (λ f. LeavesOnly (D.view disk.new) (StandsFor layout.vars layout.slots (position_in f.copy f.log) f.state)) }
@@ -69,6 +74,7 @@ fn migrate<D: Disk>(disk: &mut D, layout: Layout, found: Found) -> Result<Found,
     ensures spent { IfErr result (λ f. f ≡ Fault.Spent → disk.new ≡ disk.old) }
     ensures current { found.version ≡ Version.Two → disk.new ≡ disk.old }
     ensures elsewhere { WritesWithin (image_place layout.vars 0) (2 * image_size layout.vars + 4096 * layout.slots) (D.view disk.old) (D.view disk.new) }
+    ensures beside { (D.view disk.new).keeps_model → SameBesideCopy layout.vars layout.slots (other_copy found.copy) (D.view disk.old).seen (D.view disk.new).seen }
     ensures any_moment { AtEachMoment (D.view disk.old) (D.view disk.new) (StandsForState layout.vars layout.slots found.state) }
     ensures stands { LeavesOnly (D.view disk.new) (StandsForState layout.vars layout.slots found.state) }
     ensures synced { OnOk result (IsSynced (D.view disk.new)) }

@@ -8,7 +8,8 @@ ghost use Rattle.tmem_image.specs.Image.{other_copy};
 ghost use Rattle.tmem_image.specs.Pages.{HoldsOthers, pages_place};
 ghost use Rattle.tmem_image.specs.Spare.{placed, AwaitsGate};
 ghost use Rattle.tmem_redolog.specs.Closes.{empty_log};
-ghost use Rattle.tmem_journal.specs.Stands.{position_at, next_image, StandsFor, StandsForState};
+ghost use Rattle.tmem_journal.specs.Stands.{position_at, next_image, StandsFor, StandsForState, IsCurrent};
+ghost use Rattle.tmem_journal.specs.Mended.{SameBesideCopy};
 
 use tmem_disk::{DeviceFault, Disk, Fault};
 use tmem_image::write_spare;
@@ -47,9 +48,13 @@ pub(crate) fn renew<D: Disk>(
     ensures elsewhere { WritesWithin (image_place layout.vars 0) (2 * image_size layout.vars + 4096 * layout.slots)
         (D.view disk.old) (D.view disk.new) }
 
+    // Beside that copy a read gives what it gave before, but for gates of the log that it gave open.
+    ensures beside { (D.view disk.new).keeps_model → SameBesideCopy layout.vars layout.slots (other_copy copy) (D.view disk.old).seen (D.view disk.new).seen }
+
     // After `Ok` the image that was written is the chosen one, and its log is empty: each slot stands closed.
     ensures any_moment { AtEachMoment (D.view disk.old) (D.view disk.new) (StandsForState layout.vars layout.slots state.now) }
     ensures stands { LeavesOnly (D.view disk.new) (StandsForState layout.vars layout.slots state.now) }
+    ensures current { version ≡ Version.Two → LeavesOnly (D.view disk.new) (IsCurrent layout.vars layout.slots) }
     ensures sure { OnOk result (LeavesOnly (D.view disk.new)
         (StandsFor layout.vars layout.slots (next_image (position_at version copy log.old)) state.now)) }
 

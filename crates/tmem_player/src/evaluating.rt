@@ -13,10 +13,7 @@ use std::io::{self, Write};
 use tmem_builtins::{names, nonneg, ordered, sum};
 use tmem_disk::{Fault, Name};
 use tmem_tentative::{Attempt, Cursor, Ending, Outcome, Probe, Reads, evaluate};
-use tmem_tree::{Footprint, MAX_CHECKS, Plan, Shape, StoredSteps, Tx};
-
-/// How often an evaluation is asked at most: once for each variable and for each Check, and once more.
-const MOST_TURNS: u16 = 1033;
+use tmem_tree::{Footprint, MAX_CHECKS, MAX_TURNS, Plan, REGISTERS, Shape, StoredSteps, Tx};
 
 /// Evaluates a transaction in both ways, where the variables have these values, and each further one 0. Prints what it comes
 /// to, and how often each way called a stored step; or that the two differ.
@@ -137,7 +134,7 @@ fn by_evaluate<S: StoredSteps, W: Write>(
     let mut reads = Reads::new(alloc);
     let mut answers = [false; MAX_CHECKS];
     let mut answered = 0;
-    for _ in 0..MOST_TURNS {
+    for _ in 0..=MAX_TURNS {
         let given = &answers[..answered];
         match evaluated(alloc, plan, steps, &reads, given, calls, out)? {
             Outcome::Need(var) => read(&mut reads, var, value_of(values, var), out)?,
@@ -206,7 +203,7 @@ fn by_cursor<S: StoredSteps, W: Write>(
     requires { FitsSteps (S.arities steps.now) plan.now.tree }
 {
     let mut cursor = new_cursor(alloc, plan, out)?;
-    for _ in 0..MOST_TURNS {
+    for _ in 0..=MAX_TURNS {
         match gone_on(&mut cursor, plan, steps, values, out)? {
             None => {}
             Some(attempt) => return Ok(Some(attempt)),
@@ -325,9 +322,9 @@ fn print_reads<W: Write>(reads: &Reads, out: &mut W) -> io::Result<()> {
 }
 
 // Prints the registers of an attempt, where one is not 0.
-fn print_registers<W: Write>(registers: &[i64; 16], out: &mut W) -> io::Result<()> {
+fn print_registers<W: Write>(registers: &[i64; REGISTERS], out: &mut W) -> io::Result<()> {
     out.write_all(b" registers=")?;
-    if *registers != [0; 16] {
+    if *registers != [0; REGISTERS] {
         print_numbers(registers, out)?;
     }
     Ok(())

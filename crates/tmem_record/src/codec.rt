@@ -12,6 +12,7 @@ ghost use Rattle.tmem_record.specs.Spelling.{number_bytes, value_bytes, write_by
 use crate::batch::{BATCH_BYTES, Batch};
 use crate::bytes::put;
 use crate::effect::Effect;
+use crate::layout::SLOT_SIZE;
 use crate::name_set::{MAX_NAMES, NameSet};
 use crate::names::{MAX_CHECKS, Names, holds};
 use crate::records::{MAX_RECORDS, Records};
@@ -22,7 +23,7 @@ use std::alloc::Global;
 use tmem_disk::{Fault, Name};
 
 /// How many bytes a batch may have: as many as a log slot has behind its gate.
-pub const BATCH_ROOM: usize = 4095;
+pub const BATCH_ROOM: usize = SLOT_SIZE - 1;
 
 /// How many bytes the longest name takes: its length, and 16 letters.
 pub const NAME_ROOM: usize = 17;

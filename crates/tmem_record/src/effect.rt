@@ -53,7 +53,9 @@ impl Effect {
         self.retired.remove(name);
     }
 
-    /// Retires a name: it is added at the end of those that are retired, unless it is there, and no longer checked.
+    /// Retires a name: it is added at the end of those that are retired, unless it is there, and no longer checked. (In a frame of
+    /// its own, as few runs retire one.)
+    #[inline(never)]
     pub fn retire(&mut self, name: &Name)
         requires { has_name self.old.retired name.now ≡ false → length self.old.retired < MAX_RETIRES }
         ensures writes { self.new.writes ≡ self.old.writes }
@@ -66,6 +68,7 @@ impl Effect {
     }
 
     /// Copies the writes and the names of another effect.
+    #[inline(always)]
     pub fn copy_from(&mut self, other: &Effect)
         ensures { self.new ≡ other.now }
     {

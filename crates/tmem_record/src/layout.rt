@@ -16,6 +16,15 @@ pub const MOST_SLOTS: u16 = 64;
 /// How long block 0 is.
 pub const BLOCK_SIZE: usize = 512;
 
+/// How long the header of an image is, with its gate.
+pub const HEADER_SIZE: usize = 2048;
+
+/// How long a page of an image is.
+pub const PAGE_SIZE: usize = 512;
+
+/// How many values a page has.
+pub const PAGE_VALUES: usize = 64;
+
 /// How long a log slot is.
 pub const SLOT_SIZE: usize = 4096;
 
@@ -49,14 +58,14 @@ impl Layout {
     pub fn pages(self) -> u64
         ensures { result ≡ pages_of self.vars }
     {
-        (self.vars as u64 + 63) / 64
+        (self.vars as u64 + (PAGE_VALUES as u64 - 1)) / PAGE_VALUES as u64
     }
 
     /// How long an image copy is, with its gate.
     pub fn image_size(self) -> u64
         ensures { result ≡ image_size self.vars }
     {
-        2048 + 512 * self.pages()
+        HEADER_SIZE as u64 + PAGE_SIZE as u64 * self.pages()
     }
 
     /// Where an image copy begins.
@@ -64,14 +73,14 @@ impl Layout {
         requires { copy ≤ 1 }
         ensures { result ≡ image_place self.vars copy }
     {
-        512 + copy as u64 * self.image_size()
+        BLOCK_SIZE as u64 + copy as u64 * self.image_size()
     }
 
     /// Where a log slot begins.
     pub fn slot(self, k: u16) -> u64
         ensures { result ≡ slot_place self.vars k }
     {
-        512 + 2 * self.image_size() + 4096 * k as u64
+        BLOCK_SIZE as u64 + 2 * self.image_size() + SLOT_SIZE as u64 * k as u64
     }
 
     /// The first place behind the last slot.

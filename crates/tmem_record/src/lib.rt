@@ -23,7 +23,10 @@ pub use codec::{
     read_batch, read_head, read_name, read_name_set, write_name, write_names,
 };
 pub use effect::Effect;
-pub use layout::{BLOCK_SIZE, LEAST_SLOTS, Layout, MOST_SLOTS, MOST_VARS, SLOT_SIZE};
+pub use layout::{
+    BLOCK_SIZE, HEADER_SIZE, LEAST_SLOTS, Layout, MOST_SLOTS, MOST_VARS, PAGE_SIZE, PAGE_VALUES,
+    SLOT_SIZE,
+};
 pub use name_set::{MAX_NAMES, NameSet};
 pub use names::{MAX_CHECKS, MAX_RETIRES, Names};
 pub use records::{MAX_RECORDS, Records};

@@ -132,6 +132,10 @@ fn keep_others(items: &mut [Name], len: usize, name: &Name) -> usize
 pub(crate) fn count_others(those: &[Name], names: &[Name]) -> usize
     ensures { result ≡ count_by (λ name. not (has_name those.now name)) names.now }
 {
+    // most effects retire none
+    if those.is_empty() {
+        return names.len();
+    }
     let mut count = 0;
     for name in names {
         if !holds(those, name) {

@@ -11,11 +11,21 @@ use std::marker::Model;
 use tmem_disk::Name;
 
 /// How many transactions were accepted, the registered names, and the value of each variable.
-#[derive(Drop)]
 pub struct State {
     count: u64,
     names: NameSet,
     values: Vec<i64>,
+}
+
+// By hand, so that a function that drops one makes one call.
+impl Drop for State {
+    fn drop(self) {
+        let State {
+            count: _count,
+            names: _names,
+            values: _values,
+        } = self;
+    }
 }
 
 impl Model for State {
@@ -110,6 +120,7 @@ impl State {
 
     /// Accepts a transaction: its variables are set, the names that it retires are removed, those that it checks are added,
     /// and the count grows by 1.
+    #[inline(always)]
     pub fn accept(&mut self, effect: &Effect)
         requires within { All (λ w. w.0 < length self.old.values) effect.now.writes }
         requires countable { self.old.count + 1 < 2 ^ 64 }

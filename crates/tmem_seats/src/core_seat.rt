@@ -28,7 +28,6 @@ use tmem_tentative::{Attempt, Probe, Reads};
 
 /// The core, beside its seat. Contracts see what it accepted, how many are known durable, how many passes it gave out,
 /// whether it is shut, whether it then still waits for a flush, and how its device failed.
-#[derive(Drop)]
 pub struct CoreSeat<N: StoreNaming, T: Invariants> {
     core: Core<T>,
     side: CoreSide<N>,
@@ -38,6 +37,20 @@ pub struct CoreSeat<N: StoreNaming, T: Invariants> {
     is_draining: bool,
     failure: Failure,
     sleepers: Sleepers,
+}
+
+// By hand, so that a function that drops one makes one call.
+impl<N: StoreNaming, T: Invariants + Drop> Drop for CoreSeat<N, T> {
+    fn drop(self) {
+        let CoreSeat {
+            core: _core,
+            side: _side,
+            looks: _looks,
+            is_draining: _is_draining,
+            failure: _failure,
+            sleepers: _sleepers,
+        } = self;
+    }
 }
 
 impl<N: StoreNaming, T: Invariants> Model for CoreSeat<N, T> {

@@ -24,7 +24,6 @@ use tmem_record::Batch;
 use tmem_spine::{JournalSide, Pass, Spine};
 
 /// The journal, beside its seat. Contracts speak of its parts by the words of `specs/Held`.
-#[derive(Drop)]
 pub struct JournalSeat<D: Disk, N: StoreNaming> {
     journal: Journal<D>,
     side: JournalSide<N>,
@@ -45,6 +44,17 @@ pub struct JournalSeat<D: Disk, N: StoreNaming> {
 
     /// It is over the variables of the opening state.
     pub ghost over: { (layout_of journal).vars ≡ length N.opening.values },
+}
+
+// By hand, so that a function that drops one makes one call.
+impl<D: Disk + Drop, N: StoreNaming> Drop for JournalSeat<D, N> {
+    fn drop(self) {
+        let JournalSeat {
+            journal: _journal,
+            side: _side,
+            batch: _batch,
+        } = self;
+    }
 }
 
 impl<D: Disk, N: StoreNaming> JournalSeat<D, N> {
@@ -70,7 +80,11 @@ impl<D: Disk, N: StoreNaming> JournalSeat<D, N> {
         ensures { LeavesOnly (D.view result)
             (StandsForEither (length N.opening.values) (layout_of (journal_of self)).slots (after N.opening (side_of self).durable) (after N.opening (side_of self).aimed)) }
     {
-        let JournalSeat { journal, .. } = self;
+        let JournalSeat {
+            journal,
+            side: _side,
+            batch: _batch,
+        } = self;
         journal.into_disk()
     }
 

@@ -41,7 +41,6 @@ pub(crate) enum Stage {
 /// answered, and takes no step twice but the look at a footprint. The plan and the steps are handed in at each call, and are to be
 /// those that it began with: `StandsIn` in `specs/` says so, of a plan and of what the steps mean. `IsAt` says besides that the
 /// answers are those of the tests that the names mean.
-#[derive(Drop)]
 pub struct Cursor {
     // what was done so far, and where it goes on
     course: Course,
@@ -51,6 +50,18 @@ pub struct Cursor {
     // what it was answered
     answers: Snapshot<Answers>,
     ghost room: { wanted stage ≤ spare course.attempt.reads },
+}
+
+// By hand, so that a function that drops one makes one call.
+impl Drop for Cursor {
+    fn drop(self) {
+        let Cursor {
+            course: _course,
+            saves: _saves,
+            stage: _stage,
+            answers: _answers,
+        } = self;
+    }
 }
 
 impl Cursor {
@@ -240,7 +251,13 @@ impl Cursor {
         ensures attempt { result ≡ attempt_of self }
         ensures right { (m : StepMeanings) (tests : Meanings) (plan : Tx) → IsAt m tests plan self → IsOutcome m tests plan (given self) (length (answers self)) (Outcome.Ended result) }
     {
-        self.course.attempt
+        let Cursor {
+            course,
+            saves: _saves,
+            stage: _stage,
+            answers: _answers,
+        } = self;
+        course.attempt
     }
 
     /// Whether it has ended.
@@ -251,6 +268,7 @@ impl Cursor {
     }
 
     // Goes on from its place. There is room for the value that it may need.
+    #[inline(always)]
     fn go_on<S: StoredSteps>(&mut self, tree: &Tx, plan: &Plan, steps: &S) -> Progress
         requires tree { tree.now ≡ plan.now.tree }
         requires limits { IsWithinLimits plan.now.tree }

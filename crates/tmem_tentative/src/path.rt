@@ -3,6 +3,7 @@
 ghost use Rattle.std.specs.Prelude.{◌≡◌, ◌<◌, [], ◌∷◌, length, None, MatchOption};
 
 use std::marker::Model;
+use tmem_tree::MAX_DEPTH;
 
 /// The children that lead to a place in a tree, from the root on. They are held in place, the last one last, so that the
 /// first is put and taken at no cost.
@@ -14,7 +15,7 @@ pub(crate) struct Path {
 }
 
 // A path has no entry for the leaf that it leads to.
-const PATH_ROOM: usize = 32;
+const PATH_ROOM: usize = MAX_DEPTH as usize;
 
 impl Model for Path {
     ghost use Rattle.std.specs.Prelude.{ℕ, List, ◌≤◌, drop};

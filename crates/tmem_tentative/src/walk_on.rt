@@ -229,6 +229,7 @@ fn act<S: StoredSteps>(tx: &Tx, plan: &Plan, steps: &S, course: &mut Course) -> 
 }
 
 // A Read of one variable.
+#[inline(always)]
 fn read(log: &mut Attempt, var: u16, reg: u8) -> Flow
     requires { reg < 16 }
     ensures effect { log.new.effect ≡ log.old.effect }
@@ -310,6 +311,6 @@ fn value_seen(log: &Attempt, var: u16) -> Option<i64>
 {
     match log.effect.writes.get(var) {
         Some(number) => Some(number),
-        None => value_read(&log.reads, var),
+        None => log.reads.get(&var).copied(),
     }
 }

@@ -6,6 +6,7 @@ mod limits;
 mod names;
 mod stops;
 mod tables;
+mod turns;
 mod versions;
 
 use std::alloc::Global;

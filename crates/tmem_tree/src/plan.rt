@@ -25,7 +25,6 @@ use tmem_record::MAX_CHECKS;
 pub const MAX_SHORT: u32 = 64;
 
 /// A transaction that breaks no limit. Contracts see it as its tree, and the footprints of the invariants that it checks.
-#[derive(Drop)]
 pub struct Plan {
     tx: Tx,
     shapes: Shapes,
@@ -33,6 +32,18 @@ pub struct Plan {
     open_choices: usize,
     // whether it calls no stored step and has few nodes
     is_short: bool,
+}
+
+// By hand, so that a function that drops one makes one call.
+impl Drop for Plan {
+    fn drop(self) {
+        let Plan {
+            tx: _tx,
+            shapes: _shapes,
+            open_choices: _open_choices,
+            is_short: _is_short,
+        } = self;
+    }
 }
 
 impl Model for Plan {

@@ -115,7 +115,7 @@ module _ (m : WorldModel) where
   reopens : (set : Setting) → IsNumbered set.program m → (r : Reply) (m' : WorldModel) → AllowsReopen set m r m' → Moves m event.Reopen r m'
   reopens set numbers (reply.Opened n) m' is =
       let from : m.durable ≤ n = ⊎_elim (λ (same : n ≡ m.durable). omega (arith, same)) (λ (same : n ≡ m.doubtful). omega (arith, same, numbers.durable)) is.0 in
-      subst (Moves m event.Reopen (reply.Opened n)) (sym is.1.3) (record {
+      subst (Moves m event.Reopen (reply.Opened n)) (sym is.1.4) (record {
         opened = refl;
         accepted = λ found count. take_behind found m.accepted n (n - m.opened.count) (omega (arith, count, numbers.opened, from));
         acknowledged = omega arith;
@@ -123,7 +123,6 @@ module _ (m : WorldModel) where
       })
   reopens set numbers (reply.Fault fault.Memory) m' is = stays m _ (reply.Fault fault.Memory) m' _ is (λ txs. refl) refl refl (omega arith) (omega arith)
   reopens set numbers (reply.Fault fault.Device) m' is = stays m _ (reply.Fault fault.Device) m' _ is (λ txs. refl) refl refl (omega arith) (omega arith)
-  reopens set numbers (reply.Fault fault.Spent) m' is = stays m _ (reply.Fault fault.Spent) m' _ is.1 (λ txs. refl) refl refl (omega arith) (omega arith)
   reopens set numbers (reply.Fault _) m' is = absurd is
   reopens set numbers _ m' is = absurd is
 

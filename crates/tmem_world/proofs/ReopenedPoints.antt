@@ -1,11 +1,11 @@
 -- The point of a run after the device was opened again.
-use Rattle.std.proofs.Common.{◌≡◌, ◌≢◌, ◌⊎◌, inl, inr, ⊎_elim, ℕ, ◌+◌, ◌-◌, ◌≤◌, ◌^◌, Bool, true, false, List, length, take, refl, sym, ◌∙◌, ap, subst, arith}
+use Rattle.std.proofs.Common.{◌≡◌, ◌⊎◌, inl, inr, ⊎_elim, ℕ, ◌+◌, ◌-◌, ◌≤◌, ◌^◌, Bool, true, false, List, length, take, refl, sym, ◌∙◌, ap, subst, arith}
 use Rattle.std.specs.Prelude.{All, Result, Ok, Err, None}
 use Rattle.std.proofs.Math.Logic.{∥∥₁_elim}
 use Rattle.std.proofs.Props.{props}
 use Rattle.std.proofs.lemmas.Bool.{cases_eq}
 use Rattle.std.proofs.lemmas.List.{length-take-le, take-take}
-use Rattle.tmem_disk.specs.Disk.{DeviceView, IsDevice}
+use Rattle.tmem_disk.specs.Disk.{DeviceView, IsDevice, LeavesOnly}
 use Rattle.tmem_disk.specs.declared.fault.Fault.{Fault}
 use Rattle.tmem_disk.specs.declared.fault.Fault.TheVariants as fault
 use Rattle.tmem_event.specs.declared.event.Event.TheVariants as event
@@ -16,7 +16,6 @@ use Rattle.tmem_world.specs.declared.held.Held.{Held}
 use Rattle.tmem_world.specs.declared.held.Held.TheVariants.{With, Without}
 use Rattle.tmem_world.specs.declared.world.World.{World}
 use Rattle.tmem_record.specs.State.{State}
-use Rattle.tmem_record.specs.declared.version.Version.TheVariants.{One, Two}
 use Rattle.tmem_invariants.specs.Meanings.{IsSound}
 use Rattle.tmem_core.specs.Program.{Program, IsProgramOf}
 use Rattle.tmem_core.specs.Held.{state_of, is_shut_of}
@@ -25,8 +24,7 @@ use Rattle.tmem_core.specs.Verdict.{serial_state}
 use Rattle.tmem_gate.specs.Calls.{failures_after}
 use Rattle.tmem_journal.specs.Journals.{IsOpeningFailure}
 use Rattle.tmem_journal.specs.Mended.{IsFoundAt}
-use Rattle.tmem_journal.specs.Refusals.{IsRefusedBy}
-use Rattle.tmem_journal.specs.Stands.{Position, StandsFor, migrated}
+use Rattle.tmem_journal.specs.Stands.{Position, StandsFor, IsCurrent, migrated}
 use Rattle.tmem_journal.specs.Laws.{StandsForOne, SpentStandsAtLast}
 use Rattle.tmem_journal.specs.Held as journal
 use Rattle.tmem_journal.specs.declared.journal.Journal as owner
@@ -41,6 +39,7 @@ use Rattle.tmem_world.specs.EachPlayed.{IsAnswered}
 use Rattle.tmem_world.specs.WorldModel.{Setting, WorldModel, SessionStatus, no_transactions, Open, cut, AllowsReopen, KeepsPosition}
 use Rattle.tmem_world.specs.Represents.{Represents, Means, KeepsSetting, HasSession, held_of, held_table, device_of, view_of, session_of, setting_of}
 use Rattle.tmem_world.proofs.DroppedPoints.{no_slots_held, gone}
+use Rattle.tmem_world.proofs.Mending.{current_after, current_not_spent, world_current}
 use Rattle.tmem_world.proofs.Points.{in_point, mending_moments}
 use Rattle.tmem_world.proofs.OpenedPoints.{begun, opens}
 use Rattle.tmem_world.proofs.Prefixes.{fits_in}
@@ -50,9 +49,9 @@ use Rattle.tmem_world.proofs.Serial.{committed-take, count-cut, none_waits}
 abbrev found_at : WorldModel → ℕ → Position → WorldModel
 found_at m n position = record m { accepted = take (n - m.opened.count) m.accepted; durable = n; doubtful = n; position = position; slots = no_transactions; session = Open }
 
--- opening was refused by want of memory, or since a call of the device failed, or since no image can follow
-failed : (set : Setting) (m : WorldModel) (f : Fault) → (f ≡ fault.Spent → m.session ≢ Open) → IsOpeningFailure f → AllowsReopen set m (reply.Fault f) (dropped_by f m)
-failed set m f shut which = ⊎_elim (same fault.Memory refl) (⊎_elim (same fault.Device refl) (λ is. same fault.Spent (shut is, refl) is)) which
+-- opening was refused by want of memory, or since a call of the device failed
+failed : (set : Setting) (m : WorldModel) (f : Fault) → (f ≡ fault.Spent → ⊥) → IsOpeningFailure f → AllowsReopen set m (reply.Fault f) (dropped_by f m)
+failed set m f never which = ⊎_elim (same fault.Memory refl) (⊎_elim (same fault.Device refl) (λ is. absurd (never is))) which
   where
     same : (g : Fault) → AllowsReopen set m (reply.Fault g) (dropped_by g m) → f ≡ g → AllowsReopen set m (reply.Fault f) (dropped_by f m)
     same g so is = subst (λ (x : Fault). AllowsReopen set m (reply.Fault x) (dropped_by x m)) (sym is) so
@@ -96,7 +95,7 @@ module _ {D T S : Type 0} {d t z : _} (program : Program) (w w' : World D T S d 
         (no_slots_held program w'.slots.items sized emptied) (ap (λ (j : owner.Journal D d). (journal.device_of j).failures) kept ∙ failures ∙ r.failures) in
         subst (λ (i : ℕ). (m' : WorldModel) × AllowsReopen (setting_of w program) m (reply.Opened i) m' × Represents program w' m') (sym counted) (
           m',
-          (which, (position_of x, still, (content, subst (λ (s : State). StandsFor w.layout.vars w.layout.slots (position_of x) s content) is read), refl)),
+          (which, (position_of x, still, refl, (content, subst (λ (s : State). StandsFor w.layout.vars w.layout.slots (position_of x) s content) is read), refl)),
           point,
         )
 
@@ -134,21 +133,6 @@ module _ {D T : Type 0} {d t : _} (one : StandsForOne) (program : Program) (m : 
       subst (λ (x : SessionStatus). KeepsPosition x m.position p) (sym has.status) (position_by (is_shut_of o.core) o refl device keeps over log stands has.position)
   position_kept (Without left) has device keeps over log stands = subst (λ (x : SessionStatus). KeepsPosition x m.position p) (sym has) tt
 
--- The content of an open session is of version 2, so it is not refused for want of a generation.
-module _ {D T : Type 0} {d t : _} (last : SpentStandsAtLast) (program : Program) (m : WorldModel) (vars slots : ℕ) (small : vars ≤ 2 ^ 16) where
-  spent_by : (shut : Bool) (o : core.Session D T d t) → is_shut_of o.core ≡ shut → IsDevice (journal.device_of o.journal) → (journal.device_of o.journal).keeps_model
-      → (journal.layout_of o.journal).vars ≡ vars → (journal.layout_of o.journal).slots ≡ slots → IsRefusedBy vars slots (journal.device_of o.journal).seen fault.Spent → session_of shut ≢ Open
-  spent_by true o is device keeps over log refused = λ is. cc
-  spent_by false o is device keeps over log refused =
-      let at = last vars slots (journal.position_of o.journal) (journal.state_of o.journal) (journal.device_of o.journal).seen small refused (open_at vars slots o is device keeps over log) in
-      let two : Two ≡ One = at.version in λ is. cc
-
-  pub spent_shut : (h : Held D T d t) → HasSession program h m → IsDevice (d.view (disk_in h)) → (d.view (disk_in h)).keeps_model → (layout_in h).vars ≡ vars → (layout_in h).slots ≡ slots
-      → IsRefusedBy vars slots (d.view (disk_in h)).seen fault.Spent → m.session ≢ Open
-  spent_shut (With o) has device keeps over log refused =
-      subst (λ (x : SessionStatus). x ≢ Open) (sym has.status) (spent_by (is_shut_of o.core) o refl device keeps over log refused)
-  spent_shut (Without left) has device keeps over log refused = λ is. (let no = sym has ∙ is in cc)
-
 -- what is so of the device and the table that were taken out of a world is so of those that it held
 pub taken : {D T S : Type 0} {d t z : _} (w : World D T S d t z) (h : Held D T d t) (disk : D) (table : T) → held_of w ≡ h → disk ≡ disk_in h → table ≡ table_in h → (P : D → T → Type 0) → P disk table → P (device_of w) (held_table w)
 taken {D} {T} {d = d} {t = t} w h disk table held is same P it =
@@ -157,6 +141,11 @@ taken {D} {T} {d = d} {t = t} w h disk table held is same P it =
 -- a world has so few variables
 few : {D T S : Type 0} {d t z : _} (w : World D T S d t z) → w.layout.vars ≤ 2 ^ 16
 few w = omega (arith, w.layout.fits.vars_fit)
+
+-- what an opening of a world again leaves is of version 2, also where it was refused
+pub stays_current : {D T S : Type 0} {d t z : _} (w : World D T S d t z) (new : DeviceView) → StandsForOne → IsDevice (view_of w) → (new.keeps_model → (view_of w).keeps_model) → Mending w.layout.vars w.layout.slots (view_of w) new
+    → LeavesOnly new (IsCurrent w.layout.vars w.layout.slots)
+stays_current w new one device model mends = current_after w.layout.vars w.layout.slots one (few w) (view_of w) new device model (world_current w) mends
 
 -- A world was opened again.
 module _ {D T S : Type 0} {d t z : _} (w w' : World D T S d t z) (kept : KeepsSetting w w') (emptied : All (λ (s : Slot). s.plan ≡ None) w'.slots.items) (sized : length w'.slots.items ≡ 16) where
@@ -177,7 +166,7 @@ module _ {D T S : Type 0} {d t z : _} (w w' : World D T S d t z) (kept : KeepsSe
         step = λ program means m r keeps. (
           dropped_by f m,
           failed (setting_of w program) m f
-              (λ spent. spent_shut last program m w.layout.vars w.layout.slots (few w) (held_of w) r.session device (it.uses.model keeps) w.same_vars w.same_slots (spent_content it spent keeps (fits_in w)))
+              (λ spent. current_not_spent w.layout.vars w.layout.slots last (few w) (view_of w) device (it.uses.model keeps) (world_current w) (spent_content it spent keeps (fits_in w)))
               (finds_cut program m r means (view_of w') (Err f) recovers keeps),
           point program m r,
         );

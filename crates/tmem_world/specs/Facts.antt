@@ -1,25 +1,15 @@
 -- That some words have one proof at most.
 use Rattle.std.specs.Prelude.{ℕ, List, [], ◌∷◌, Option, Some, None}
-use mathlib.Core.Bool.{Bool-set}
 use Rattle.std.proofs.Props.{props}
 use Rattle.tmem_record.specs.State.{State, StaysWithin, apply}
 use Rattle.tmem_record.specs.declared.effect.Effect.{Effect}
 use Rattle.tmem_invariants.specs.Meanings.{Meanings}
 use Rattle.tmem_tree.specs.Plans.{PlanView}
 use Rattle.tmem_tree.specs.StepAnswers.{StepMeanings}
-use Rattle.tmem_tentative.specs.CursorFacts.{StandsIn-prop}
-use Rattle.tmem_tentative.specs.Fits.{IsEndingFor}
-use Rattle.tmem_tentative.specs.declared.attempt.Ending.{Ending}
-use Rattle.tmem_tentative.specs.declared.attempt.Ending.TheVariants.{Normal, Retry, Abort, Broken}
+use Rattle.tmem_tentative.specs.CursorFacts.{StandsIn-prop, IsEndingFor-prop}
 use Rattle.tmem_tentative.specs.declared.cursor.Cursor.{Cursor}
 use Rattle.tmem_world.specs.declared.slot.Slot.{Slot}
 use Rattle.tmem_world.specs.Slots.{FitsOption, FitsSlot}
-
-IsEndingFor-prop : (names : List (List ℕ)) (end : Ending) → IsProp (IsEndingFor names end)
-IsEndingFor-prop names Normal = hlevel
-IsEndingFor-prop names Retry = hlevel
-IsEndingFor-prop names (Abort code) = hlevel
-IsEndingFor-prop names (Broken name) = Bool-set _ _
 
 FitsOption-prop : (vars : ℕ) (arities : List ℕ) (stated : StepMeanings → Type 0) (names : List (List ℕ)) (tested : Meanings → Type 0) (plan : Option PlanView) (cursor : Cursor) → IsProp (FitsOption vars arities stated names tested plan cursor)
 FitsOption-prop vars arities stated names tested None cursor = hlevel

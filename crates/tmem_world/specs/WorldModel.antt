@@ -1,5 +1,5 @@
 -- What a list of events may be answered.
-use Rattle.std.specs.Prelude.{◌≡◌, ◌≢◌, ◌<◌, ◌≤◌, ◌⊎◌, ⊤, ℕ, ◌+◌, ◌-◌, ◌^◌, ℤ, Bool, true, false, List, [], ◌∷◌, ◌++◌, Option, Some, None, Result, Ok, Err, take, drop, replicate, nat_eq, MatchBool, slice_index_or, slice_set}
+use Rattle.std.specs.Prelude.{◌≡◌, ◌<◌, ◌≤◌, ◌⊎◌, ⊤, ℕ, ◌+◌, ◌-◌, ◌^◌, ℤ, Bool, true, false, List, [], ◌∷◌, ◌++◌, Option, Some, None, Result, Ok, Err, take, drop, replicate, nat_eq, MatchBool, slice_index_or, slice_set}
 use Rattle.tmem_disk.specs.Disk.{after_fault}
 use Rattle.tmem_disk.specs.declared.fault.Fault.{Fault}
 use Rattle.tmem_disk.specs.declared.fault.Fault.TheVariants as fault
@@ -8,6 +8,7 @@ use Rattle.tmem_record.specs.Writes.{look}
 use Rattle.tmem_record.specs.declared.effect.Effect.{Effect}
 use Rattle.tmem_tree.specs.declared.tx.Tx.{Tx}
 use Rattle.tmem_core.specs.Program.{Program}
+use Rattle.tmem_record.specs.declared.version.Version.TheVariants.{Two}
 use Rattle.tmem_journal.specs.Stands.{Position, StandsFor, next_slot, next_image}
 use Rattle.tmem_tree.specs.Plans.{BreaksNone, IsLeastBroken}
 use Rattle.tmem_tree.specs.Run.{start}
@@ -215,16 +216,14 @@ abbrev pub IsReadOff : Setting → State → Position → Type 0
 IsReadOff set s position = (content : List ℕ) × StandsFor set.vars set.slots position s content
 
 -- Opening the device again finds the durable number or the doubtful one, and keeps the transactions below it. Which
--- image is chosen, and how many log slots are used, is read off the content that the opening leaves: after one that wrote an image of
--- version 2, that is this image, with an empty log. An image of version 1 and of the last generation can have none behind it, and
--- that of an open session is of version 2.
+-- image is chosen, and how many log slots are used, is read off the content that the opening leaves. That image is of version 2, since
+-- the first opening found such an image or wrote one: so no later opening is refused for want of a generation.
 abbrev pub AllowsReopen : Setting → WorldModel → Reply → WorldModel → Type 0
 AllowsReopen set m (reply.Opened n) m' =
     ((n ≡ m.durable) ⊎ (n ≡ m.doubtful))
-    × ((position : Position) × KeepsPosition m.session m.position position × IsReadOff set (cut set.program m n) position × (m' ≡ record m { accepted = take (n - m.opened.count) m.accepted; durable = n; doubtful = n; position = position; slots = no_transactions; session = Open }))
+    × ((position : Position) × KeepsPosition m.session m.position position × (position.version ≡ Two) × IsReadOff set (cut set.program m n) position × (m' ≡ record m { accepted = take (n - m.opened.count) m.accepted; durable = n; doubtful = n; position = position; slots = no_transactions; session = Open }))
 AllowsReopen set m (reply.Fault fault.Memory) m' = m' ≡ dropped m
 AllowsReopen set m (reply.Fault fault.Device) m' = m' ≡ record (dropped m) { failures = after_fault m.failures }
-AllowsReopen set m (reply.Fault fault.Spent) m' = (m.session ≢ Open) × (m' ≡ dropped m)
 AllowsReopen set m _ m' = ⊥
 
 -- without a session every event but opening is refused

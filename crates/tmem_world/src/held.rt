@@ -1,5 +1,7 @@
 // What a world holds between two events.
 ghost use Rattle.std.specs.Prelude.{◌≡◌, ◌≤◌};
+ghost use Rattle.tmem_disk.specs.Disk.{LeavesOnly};
+ghost use Rattle.tmem_journal.specs.Stands.{IsCurrent};
 ghost use Rattle.tmem_record.specs.Layout.{end_place};
 
 use crate::session::Session;
@@ -15,6 +17,9 @@ pub(crate) struct Left<D: Disk, T: Invariants> {
     pub(crate) table: T,
     ghost room: { end_place layout.vars layout.slots ≤ (D.view disk).capacity },
     ghost over: { T.vars table ≡ layout.vars },
+
+    // The session wrote an image of version 2, or found one.
+    ghost current: { LeavesOnly (D.view disk) (IsCurrent layout.vars layout.slots) },
 }
 
 /// A session, open or closed, or what is left without one.

@@ -28,7 +28,6 @@ use tmem_opening::Opening;
 use tmem_tree::{Plan, Shape, StoredSteps, Tx};
 
 /// Durable transactional memory for one thread: it plays events over the present state and a device.
-#[derive(Drop)]
 pub struct World<D: Disk, T: Invariants, S: StoredSteps> {
     alloc: Global,
     layout: Layout,
@@ -46,6 +45,20 @@ pub struct World<D: Disk, T: Invariants, S: StoredSteps> {
     ghost meant: { (tests : Meanings) → T.is_stated (table_in (what held here)) tests → HaveFootprints tests shapes.items },
     ghost within: { AreWithin layout.vars shapes.items },
     ghost fit: { All (FitsSlot layout.vars (S.arities steps) (S.is_stated steps) (names_of shapes.items) (λ tests. HaveFootprints tests shapes.items)) slots.items } by { Prim.hlevel (props, FitsSlot-prop) },
+}
+
+// By hand, so that a function that drops one makes one call.
+impl<D: Disk + Drop, T: Invariants + Drop, S: StoredSteps + Drop> Drop for World<D, T, S> {
+    fn drop(self) {
+        let World {
+            alloc: _alloc,
+            layout: _layout,
+            steps: _steps,
+            shapes: _shapes,
+            held: _held,
+            slots: _slots,
+        } = self;
+    }
 }
 
 impl<D: Disk + Drop, T: Invariants + Drop, S: StoredSteps + Drop> World<D, T, S> {
@@ -221,7 +234,14 @@ impl<D: Disk + Drop, T: Invariants + Drop, S: StoredSteps + Drop> World<D, T, S>
     pub fn into_disk(self) -> D
         ensures { result ≡ device_of self }
     {
-        let World { held, .. } = self;
+        let World {
+            alloc: _alloc,
+            layout: _layout,
+            steps: _steps,
+            shapes: _shapes,
+            held,
+            slots: _slots,
+        } = self;
         held.unwrap().into_parts().0
     }
 

@@ -1,3 +1,4 @@
+use Rattle.std.proofs.Common.{refl}
 use Rattle.tmem_disk.proofs.Laws.{LeavesOnly-more}
 use Rattle.tmem_image.specs.Image.{other_copy}
 use Rattle.tmem_image.specs.Pages.{pages_place}
@@ -21,3 +22,9 @@ pub renew-requires-clause-others : goal.renew-requires-clause-others
 renew-requires-clause-others g c =
     let layout = c.args.layout in
     record { each = λ k content left. HoldsOthers-all (pages_place layout.vars (other_copy c.args.found.copy)) layout.vars c.args.found.state.values content layout.fits.vars_fit }
+
+pub returns-in-Two-clause-beside : goal.returns-in-Two-clause-beside
+returns-in-Two-clause-beside g c = λ k i beside none. refl
+
+pub returns-then-found-eq18446744073709551615-clause-beside : goal.returns-then-found-eq18446744073709551615-clause-beside
+returns-then-found-eq18446744073709551615-clause-beside g c = λ k i beside none. refl

@@ -1,9 +1,10 @@
 use Rattle.std.proofs.Common.{◌≡◌, sym, subst, arith}
 use Rattle.tmem_disk.proofs.Laws.{LeavesOnly-synced}
 use Rattle.tmem_record.specs.declared.version.Version.TheVariants.{Two}
-use Rattle.tmem_journal.specs.Mended.{MendsDevice, IsFoundAt}
+use Rattle.tmem_image.specs.Image.{other_copy}
+use Rattle.tmem_journal.specs.Mended.{MendsDevice, IsFoundAt, SameBesideCopy}
 use Rattle.tmem_journal.specs.Stands.{position_at, position_in, StandsFor}
-use Rattle.tmem_journal.proofs.Recovers.{RecoversDevice-mends}
+use Rattle.tmem_journal.proofs.Recovers.{RecoversDevice-mends, SameBesideCopy-mends, SameBesideCopy-after, one_copy}
 use Rattle.tmem_journal.proofs.Migrated.{mends_given, migrating, if_ok_2, if_err, not_migrated}
 use Rattle.tmem_journal.proofs.migrating.recover_current.Goals as goal
 
@@ -54,3 +55,18 @@ returns-clause-refused g c =
     let found = c.in_ok-found.found in
     if_err _ _ (λ f why. not_migrated c.args.layout.vars c.args.layout.slots _ (position_at found.version found.copy found.log) found.state (g.D.Disk.view c.args.disk.now).seen f (λ k. c.in_ok-found.ensures.found (c.migrate.ensures.uses.model k)) why)
     c.migrate.result c.migrate.ensures.refused
+
+pub returns-in_err-found-clause-migrates : goal.returns-in_err-found-clause-migrates
+returns-in_err-found-clause-migrates g c = λ k p s stands. SameBesideCopy-mends c.args.layout.vars c.args.layout.slots (other_copy p.copy) _ _ (c.recover.ensures.mends.seen k)
+
+pub returns-clause-migrates : goal.returns-clause-migrates
+returns-clause-migrates g c = λ k p s stands.
+    let layout = c.args.layout in
+    let found = c.in_ok-found.found in
+    let it = c.in_ok-found.ensures in
+    let old = g.D.Disk.view c.args.disk.now in
+    let new = g.D.Disk.view c.migrate.new.disk in
+    let mid = c.migrate.ensures.uses.model k in
+    let copy = one_copy layout.vars layout.slots (omega (arith, layout.fits.vars_fit)) (position_at found.version found.copy found.log) p found.state s old.seen (it.found mid) stands in
+    subst (λ n. SameBesideCopy layout.vars layout.slots (other_copy n) old.seen new.seen) copy
+    (SameBesideCopy-after layout.vars layout.slots (other_copy found.copy) _ _ _ (it.mends.seen mid) (c.migrate.ensures.beside k))

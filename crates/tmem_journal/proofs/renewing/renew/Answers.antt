@@ -1,9 +1,10 @@
-use Rattle.std.proofs.Common.{◌-◌, inl, inr, rules}
+use Rattle.std.proofs.Common.{◌-◌, ◌+◌, refl, inl, inr, rules}
 use Rattle.tmem_gate.specs.Changes.{outcome_of}
 use Rattle.tmem_journal.specs.Stands.{position_at}
 use Rattle.tmem_journal.proofs.FormattedStands.{on_ok}
 use Rattle.tmem_journal.proofs.Logged.{other_one}
-use Rattle.tmem_journal.proofs.Renewed.{after_writing, not_written, while_writing, sure_emptied, after_emptying, while_emptying, copy_within, renewed_within, settled, pages_aside, pages_in_front, pages_written}
+use Rattle.tmem_journal.proofs.Recovers.{sure_current}
+use Rattle.tmem_journal.proofs.Renewed.{after_writing, current_writing, beside_copy, beside_emptied, not_written, while_writing, sure_emptied, after_emptying, while_emptying, copy_within, renewed_within, settled, pages_aside, pages_in_front, pages_written}
 use Rattle.tmem_journal.proofs.renewing.renew.Goals as goal
 
 pub returns-in_err-write_spare-clause-elsewhere : goal.returns-in_err-write_spare-clause-elsewhere
@@ -80,3 +81,23 @@ returns-clause-aside g c = λ set values holds.
     let vars = c.args.layout.vars in
     pages_in_front vars c.args.copy set 0 _ values c.requires.one _ _ c.empty.ensures.uses.model c.empty.ensures.closes.elsewhere
     (pages_aside vars c.args.copy set values c.requires.one _ _ c.write_spare.ensures.uses.model c.write_spare.ensures.puts.elsewhere holds)
+
+pub returns-in_err-write_spare-clause-current : goal.returns-in_err-write_spare-clause-current
+returns-in_err-write_spare-clause-current g c = λ two.
+    let layout = c.args.layout in
+    let p = position_at c.args.version c.args.copy c.args.log.now in
+    current_writing layout.vars layout.slots p c.args.state.now c.requires.number _ _ c.write_spare.ensures.uses.model c.requires.stands two (outcome_of c.write_spare.result) c.write_spare.ensures.puts.stands
+
+pub returns-clause-current : goal.returns-clause-current
+returns-clause-current g c = λ two.
+    let layout = c.args.layout in
+    let p = position_at c.args.version c.args.copy c.args.log.now in
+    sure_current (sure_emptied layout.vars layout.slots p c.args.state.now c.requires.number _ _ c.write_spare.ensures.uses.model c.requires.stands _ c.empty.ensures.uses.model c.in_ok-write_spare.ensures.puts.stands (c.empty.ensures.closes.stop c.in_ok-write_spare.ensures.durable)) refl
+
+pub returns-in_err-write_spare-clause-beside : goal.returns-in_err-write_spare-clause-beside
+returns-in_err-write_spare-clause-beside g c = λ k. beside_copy c.args.layout.vars c.args.layout.slots (1 - c.args.copy) _ _ (c.write_spare.ensures.puts.elsewhere.seen k)
+
+pub returns-clause-beside : goal.returns-clause-beside
+returns-clause-beside g c = λ k.
+    let layout = c.args.layout in
+    beside_emptied layout.vars layout.slots (1 - c.args.copy) (c.args.log.now.generation + 1) (other_one c.args.copy) _ _ _ (c.write_spare.ensures.puts.elsewhere.seen (c.empty.ensures.uses.model k)) (c.empty.ensures.closes.seen k)

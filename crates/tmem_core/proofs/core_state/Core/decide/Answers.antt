@@ -1,21 +1,20 @@
-use Rattle.std.proofs.Common.{sym, ◌∙◌, subst}
-use Rattle.tmem_tentative.specs.Fits.{IsEndingFor}
+use Rattle.std.proofs.Common.{sym, ◌∙◌}
 use Rattle.tmem_core.proofs.SettleAnswers.{settles, accepting-none, refused_with}
 use Rattle.tmem_core.proofs.core_state.Core.decide.Goals as goal
 
 pub returns-in-Normal-clause-settles : goal.returns-in-Normal-clause-settles
 returns-in-Normal-clause-settles g c =
     let a = c.args.attempt.now in
-    settles c.args.self.now c.settle_normal.new.self a _ c.if-self.false (sym c.is_stale.ensures ∙ c.if-is_stale.false) (λ p are. rw c.in-Normal.is (c.settle_normal.ensures.answer p are a.registers)) (c.settle_normal.ensures.named a.registers) (refused_with _ a.registers c.settle_normal.ensures.refused) (c.settle_normal.ensures.view a.registers)
+    settles c.args.self.now c.settle_normal.new.self a _ c.if-self.false (sym c.is_stale.ensures ∙ c.if-is_stale.false) (λ p are. rw c.in-Normal.is (c.settle_normal.ensures.answer p are a.registers)) (refused_with _ a.registers c.settle_normal.ensures.refused) (c.settle_normal.ensures.view a.registers)
 
 pub returns-in-Retry-clause-settles : goal.returns-in-Retry-clause-settles
 returns-in-Retry-clause-settles g c =
-    settles c.args.self.now c.args.self.now c.args.attempt.now _ c.if-self.false (sym c.is_stale.ensures ∙ c.if-is_stale.false) (λ p are. rw c.in-Retry.is) tt tt (accepting-none _)
+    settles c.args.self.now c.args.self.now c.args.attempt.now _ c.if-self.false (sym c.is_stale.ensures ∙ c.if-is_stale.false) (λ p are. rw c.in-Retry.is) tt (accepting-none _)
 
 pub returns-in-Abort-clause-settles : goal.returns-in-Abort-clause-settles
 returns-in-Abort-clause-settles g c =
-    settles c.args.self.now c.args.self.now c.args.attempt.now _ c.if-self.false (sym c.is_stale.ensures ∙ c.if-is_stale.false) (λ p are. rw c.in-Abort.is) tt tt (accepting-none _)
+    settles c.args.self.now c.args.self.now c.args.attempt.now _ c.if-self.false (sym c.is_stale.ensures ∙ c.if-is_stale.false) (λ p are. rw c.in-Abort.is) tt (accepting-none _)
 
 pub returns-in-Broken-clause-settles : goal.returns-in-Broken-clause-settles
 returns-in-Broken-clause-settles g c =
-    settles c.args.self.now c.args.self.now c.args.attempt.now _ c.if-self.false (sym c.is_stale.ensures ∙ c.if-is_stale.false) (λ p are. rw c.in-Broken.is) (subst (IsEndingFor (g.T.Invariants.names c.args.self.now.table)) c.in-Broken.is c.requires.names.ending) tt (accepting-none _)
+    settles c.args.self.now c.args.self.now c.args.attempt.now _ c.if-self.false (sym c.is_stale.ensures ∙ c.if-is_stale.false) (λ p are. rw c.in-Broken.is) tt (accepting-none _)

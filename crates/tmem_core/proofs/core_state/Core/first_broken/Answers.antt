@@ -1,10 +1,6 @@
 use Rattle.std.proofs.Common.{length}
 use Rattle.tmem_core.proofs.Places.{writes_within}
-use Rattle.tmem_core.proofs.Probed.{has_name-at}
 use Rattle.tmem_core.proofs.core_state.Core.first_broken.Goals as goal
 
 pub first_false-requires-clause-variables : goal.first_false-requires-clause-variables
 first_false-requires-clause-variables g c = writes_within (length c.args.self.now.state.values) c.args.effect.now.writes c.requires.variables
-
-pub returns-in-Some-clause-named : goal.returns-in-Some-clause-named
-returns-in-Some-clause-named g c = has_name-at (g.T.Invariants.names c.args.self.now.table) _ _ c.name.ensures

@@ -1,11 +1,10 @@
-use Rattle.std.proofs.Common.{◌≡◌, None, IfOk, sym, ap, subst, ◌∙◌}
+use Rattle.std.proofs.Common.{◌≡◌, None, sym, ap, ◌∙◌}
 use Rattle.tmem_record.specs.Names.{without_names}
 use Rattle.tmem_record.specs.State.{apply}
 use Rattle.tmem_invariants.specs.Meanings.{first_false}
-use Rattle.tmem_core.specs.Held.{CoreView, state_of, durable_of}
-use Rattle.tmem_core.specs.SettleAnswer.{sound_answer, unless_refused, TellsOneOf}
+use Rattle.tmem_core.specs.Held.{CoreView}
+use Rattle.tmem_core.specs.SettleAnswer.{sound_answer, unless_refused}
 use Rattle.tmem_core.proofs.Known.{AllHold-apply, AreAmong-apply, few-apply, places-apply}
-use Rattle.tmem_core.proofs.SettleAnswers.{sound_tells}
 use Rattle.tmem_core.proofs.core_state.Core.settle_normal.Goals as goal
 
 pub accept-requires-clause-places : goal.accept-requires-clause-places
@@ -53,8 +52,3 @@ returns-in-None-clause-answer g c = λ p are registers.
     let broken = sym c.in-None.is ∙ c.first_broken.ensures.first p.tests are.tests ∙ ap (λ ns. first_false p.tests ns (without_names s.names e.retired) e.names (apply s e).values) (sym are.names) in
     c.accept.ensures.answer registers ∙ ap (λ (v : CoreView _). sound_answer v.state v.durable e registers) c.first_broken.ensures.view
     ∙ ap (λ o. unless_refused o (sound_answer s c.args.self.now.durable e registers)) broken
-
-pub returns-in-None-clause-named : goal.returns-in-None-clause-named
-returns-in-None-clause-named g c = λ registers.
-    let names = g.T.Invariants.names c.args.self.now.table in
-    subst (λ answer. IfOk answer (TellsOneOf names)) (sym (c.accept.ensures.answer registers)) (sound_tells names (state_of c.first_broken.new.self) (durable_of c.first_broken.new.self) c.args.effect.now registers)

@@ -1,4 +1,4 @@
-use Rattle.std.proofs.Common.{ℕ, ◌≡◌, ◌+◌, ◌-◌, ◌<◌, ◌^◌, sym, ap, subst, arith}
+use Rattle.std.proofs.Common.{ℕ, ◌≡◌, ◌+◌, ◌-◌, ◌<◌, ◌^◌, refl, sym, ap, subst, arith}
 use Rattle.std.proofs.Math.Logic.{∥∥₁_map}
 use Rattle.tmem_disk.specs.Disk.{LeavesOnly}
 use Rattle.tmem_image.specs.Image.{IsGeneration, other_copy}
@@ -49,3 +49,9 @@ invariant_of-self-clause-spare_pages g c = λ running.
     let j = c.args.self.now in
     let back : j.copy ≡ other_copy (1 - j.copy) = omega (arith, j.one) in
     subst (λ (copy : ℕ). LeavesOnly (g.D.Disk.view c.renew.new.disk) (HoldsOthers (pages_place j.layout.vars copy) j.layout.vars j.changed.chosen j.state.values)) back (c.renew.ensures.aside j.changed.chosen j.state.values (j.chosen_pages running))
+
+pub invariant_of-self-clause-current : goal.invariant_of-self-clause-current
+invariant_of-self-clause-current g c = c.renew.ensures.current refl
+
+pub invariant_of-self-in-Err-clause-current : goal.invariant_of-self-in-Err-clause-current
+invariant_of-self-in-Err-clause-current g c = c.renew.ensures.current refl

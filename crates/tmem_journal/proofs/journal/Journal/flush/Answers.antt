@@ -11,7 +11,8 @@ use Rattle.tmem_journal.specs.Stands.{Position, position_in, next_slot, StandsFo
 use Rattle.tmem_journal.proofs.Logged.{before_slot, other_one}
 use Rattle.tmem_journal.proofs.Renewed.{pages_folded}
 use Rattle.tmem_journal.proofs.Unique.{same_position}
-use Rattle.tmem_journal.proofs.Flushed.{full_is_not, sure_either, sure_ok, sure_err, moments_ok, moments_err}
+use Rattle.tmem_journal.proofs.Flushed.{full_is_not, sure_either, sure_ok, sure_err, current_err, moments_ok, moments_err}
+use Rattle.tmem_journal.proofs.Recovers.{sure_current}
 use Rattle.tmem_journal.proofs.journal.Journal.flush.Goals as goal
 
 pub append-requires-clause-batch : goal.append-requires-clause-batch
@@ -94,3 +95,16 @@ invariant_of-self-in-Ok-clause-spare_pages g c = λ running.
     let j = c.args.self.now in
     pages_folded j.layout.vars (other_copy j.copy) j.log.used j.changed.spare _ 4096 j.state c.effects-effects.result.now _ (other_one j.copy) c.pages_changed-pages.ensures (sym c.accept_all.ensures)
     _ _ c.append.ensures.uses.model c.append.ensures.puts.elsewhere (j.spare_pages running)
+
+pub invariant_of-self-in-Ok-clause-current : goal.invariant_of-self-in-Ok-clause-current
+invariant_of-self-in-Ok-clause-current g c =
+    let j = c.args.self.now in
+    let p = placed j.layout j.log c.count-first.result c.args.batch.now in
+    sure_current (sure_ok (g.D.Disk.view j.disk) (g.D.Disk.view c.append.new.disk) p j.copy j.state (sym c.count-first.ensures) c.requires.within c.append.ensures.uses.model (j.sure c.if-self.false) (fold j.state c.args.batch.now) refl c.in-Ok.ensures.puts.stands) refl
+
+pub invariant_of-self-in-Err-clause-current : goal.invariant_of-self-in-Err-clause-current
+invariant_of-self-in-Err-clause-current g c =
+    let j = c.args.self.now in
+    let p = placed j.layout j.log c.count-first.result c.args.batch.now in
+    let not_full = full_is_not c.in-Err.fault j.log.used j.layout.slots c.if-self-2.false c.in-Err.ensures.full in
+    current_err (g.D.Disk.view j.disk) (g.D.Disk.view c.append.new.disk) p j.copy j.state (sym c.count-first.ensures) c.requires.within c.append.ensures.uses.model (j.sure c.if-self.false) c.in-Err.fault c.in-Err.ensures.errors not_full c.in-Err.ensures.puts.stands

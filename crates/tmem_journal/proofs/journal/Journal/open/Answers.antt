@@ -1,4 +1,4 @@
-use Rattle.std.proofs.Common.{arith}
+use Rattle.std.proofs.Common.{refl, arith}
 use Rattle.std.proofs.lemmas.Bool.{false≢true}
 use Rattle.tmem_disk.specs.declared.fault.Fault.{Fault}
 use Rattle.tmem_disk.proofs.Laws.{seen-left}
@@ -11,10 +11,14 @@ use Rattle.tmem_journal.specs.Refusals.{IsRefusedBy}
 use Rattle.tmem_journal.proofs.Flushed.{sure_either, found_either, none_refused, wanting, not_wanted, why_fits}
 use Rattle.tmem_journal.proofs.Migrated.{still_recovers}
 use Rattle.tmem_journal.proofs.Recovered.{still_mends}
+use Rattle.tmem_journal.proofs.Recovers.{sure_current}
 use Rattle.tmem_journal.proofs.journal.Journal.open.Goals as goal
 
 pub invariant_of-result-clause-stands : goal.invariant_of-result-clause-stands
 invariant_of-result-clause-stands g c = sure_either _ c.in-Ok-recover_current.ensures.sure
+
+pub invariant_of-result-clause-current : goal.invariant_of-result-clause-current
+invariant_of-result-clause-current g c = sure_current c.in-Ok-recover_current.ensures.sure refl
 
 pub returns-in-Err-clause-recovers : goal.returns-in-Err-clause-recovers
 returns-in-Err-clause-recovers g c = still_recovers c.args.vars c.args.slots _ (g.met.D.Disk.is_device c.args.disk)
@@ -94,3 +98,9 @@ pub invariant_of-result-clause-spare_pages : goal.invariant_of-result-clause-spa
 invariant_of-result-clause-spare_pages g c = λ _.
     let layout = c.in-Ok.layout in
     record { each = λ k content left. HoldsOthers-all (pages_place layout.vars (other_copy c.in-Ok-recover_current.found.copy)) layout.vars c.in-Ok-recover_current.found.state.values content layout.fits.vars_fit }
+
+pub returns-in-Ok-recover_current-clause-migrates : goal.returns-in-Ok-recover_current-clause-migrates
+returns-in-Ok-recover_current-clause-migrates g c = rw (c.in-Ok.ensures.vars, c.in-Ok.ensures.slots) at c.in-Ok-recover_current.ensures.migrates
+
+pub returns-in-Err-recover_current-clause-migrates : goal.returns-in-Err-recover_current-clause-migrates
+returns-in-Err-recover_current-clause-migrates g c = rw (c.in-Ok.ensures.vars, c.in-Ok.ensures.slots) at c.in-Err-recover_current.ensures.migrates

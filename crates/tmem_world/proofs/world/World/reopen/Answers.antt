@@ -2,11 +2,11 @@ use Rattle.std.proofs.Common.{◌≡◌, Ok, Err, refl, sym, ◌∙◌, ap, subs
 use Rattle.tmem_core.specs.Program.{IsProgramOf}
 use Rattle.tmem_journal.specs.Held as journal
 use Rattle.tmem_opening.specs.Held.{device_of as opened_device}
-use Rattle.tmem_opening.specs.Opening.{FoundIs, IsOpened, OpeningRefused, RecoversEither}
+use Rattle.tmem_opening.specs.Opening.{FoundIs, IsOpened, Mending, OpeningRefused, RecoversEither}
 use Rattle.tmem_opening.specs.declared.opening.Opening.{Opening}
 use Rattle.tmem_world.specs.Represents.{KeepsSetting, device_of}
 use Rattle.tmem_world.proofs.Points.{held_is}
-use Rattle.tmem_world.proofs.ReopenedPoints.{taken, refused_answered, found_answered}
+use Rattle.tmem_world.proofs.ReopenedPoints.{taken, stays_current, refused_answered, found_answered}
 use Rattle.tmem_world.proofs.world.World.reopen.Goals as goal
 
 pub returns-in-Err : goal.returns-in-Err
@@ -38,3 +38,12 @@ returns-in-Ok g c =
       model = λ k. it.uses.model (subst (λ j. (journal.device_of j).keeps_model) begun.journal k);
     } in
     found_answered w _ kept c.clear.ensures.emptied (c.clear.ensures.len ∙ w.sized) x it either c.begin-session.result.0 refl begun.core begun.journal c.count-count.result c.count-count.ensures c.stands_for_one.ensures (g.met.D.Disk.is_device (device_of w))
+
+pub invariant_of-left-clause-current : goal.invariant_of-left-clause-current
+invariant_of-left-clause-current g c =
+    let w = c.args.self.now in
+    let parts = c.into_parts-disk.ensures in
+    let so = c.in-Err.ensures.refused in
+    let was = taken w c.unwrap.result c.into_parts-disk.result.0 c.into_parts-disk.result.1 (held_is w.held w.here c.unwrap.result (sym c.take.ensures.value ∙ c.unwrap.ensures)) parts.disk parts.table in
+    let new = g.D.Disk.view c.in-Err.disk in
+    stays_current w new c.stands_for_one.ensures (g.met.D.Disk.is_device (device_of w)) (was (λ x y. new.keeps_model → (g.D.Disk.view x).keeps_model) so.uses.model) (was (λ x y. Mending w.layout.vars w.layout.slots (g.D.Disk.view x) new) so.mends)
