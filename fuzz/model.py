@@ -1,7 +1,7 @@
-"""A plain model of the program: the bytes of docs/FORMAT.md, in both versions, and the scripts of docs/SCRIPT.md.
+"""A plain model of the program: the bytes of docs/FORMAT.md, in both versions, and the scripts of docs/USE.md.
 
-Which refusal comes first is from docs/API.md and docs/MODEL.md. It keeps the whole content of a device as bytes, and reads it anew at each opening. Memory
-and the device never fail here."""
+Which refusal comes first is from docs/USE.md and crates/tmem_world/specs/WorldModel.antt. It keeps the whole content of a device as bytes,
+and reads it anew at each opening. Memory and the device never fail here."""
 import re
 import struct
 

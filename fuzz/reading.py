@@ -1,4 +1,4 @@
-"""Reads scripts as docs/SCRIPT.md has them."""
+"""Reads scripts as docs/USE.md has them."""
 import json
 import re
 

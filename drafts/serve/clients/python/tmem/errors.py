@@ -30,7 +30,7 @@ class Aborted(TmemError):
 
 
 class Fault(TmemError):
-    """The store answered a fault: its number and its word, as docs/SCRIPT.md lists them.
+    """The store answered a fault: its number and its word, as docs/USE.md lists them.
 
     Fault 12 (`badplan`) has a cause too, and says in words what it is. After fault 2 (`device`)
     and fault 4 (`unknown`) the transaction may or may not be in the store.

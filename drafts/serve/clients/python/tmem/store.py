@@ -118,7 +118,7 @@ class Store:
         values = self._fetch(numbers)
         return values[numbers[0]] if len(numbers) == 1 else tuple(values[number] for number in numbers)
 
-    # Transactions that the store runs by itself, as data (docs/SCRIPT.md has their forms).
+    # Transactions that the store runs by itself, as data (docs/USE.md has their forms).
 
     def do(self, tx: Any, *, timeout: float | None = None) -> Outcome:
         """Has the store run a transaction. Where it retries, waits until it does not, or until the time is over (`Timeout`)."""
