@@ -31,6 +31,13 @@ static SCENES: &[Line<'static>] = &[
     First(Await(0), Done),
     First(Shut, Done),
     First(Await(1), CLOSED),
+    Scene("what is attempted once a front is shut is closed as it is settled"),
+    Before(TryCommit(WRITE), Committed(0)),
+    Before(Shut, Done),
+    Before(Attempt(Task::AddOne), Done),
+    Before(Settle, CLOSED),
+    Before(Attempt(Task::Copy), Done),
+    Before(Settle, CLOSED),
     Scene("a flush with nothing waiting writes nothing"),
     // a flush makes two writes, so it is the first one of the second batch
     FailWrite(2),

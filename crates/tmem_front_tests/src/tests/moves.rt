@@ -42,8 +42,12 @@ pub(super) enum Task {
     Never,
     /// Registers the invariant.
     Register,
+    /// Adds 1 to variable 0, and registers it.
+    AddAndRegister,
     /// Retires it.
     Retire,
+    /// Writes a number to a variable, and retires it.
+    WriteAndRetire(u16, i64),
 }
 
 /// What a thread does next, mostly one call of the front by its pass.
@@ -218,10 +222,22 @@ impl Task {
                 add_one(alloc)?,
                 need_one(alloc, 2)?,
             ]?)),
-            Task::Register => Ok(Tx::Check { name: always() }),
-            Task::Retire => Ok(Tx::Retire { name: always() }),
+            Task::Register => Ok(check()),
+            Task::AddAndRegister => Ok(Tx::Seq(vec![in alloc; add_one(alloc)?, check()]?)),
+            Task::Retire => Ok(retire()),
+            Task::WriteAndRetire(var, number) => {
+                Ok(Tx::Seq(vec![in alloc; write(alloc, var, number)?, retire()]?))
+            }
         }
     }
+}
+
+fn check() -> Tx {
+    Tx::Check { name: always() }
+}
+
+fn retire() -> Tx {
+    Tx::Retire { name: always() }
 }
 
 fn write(alloc: Global, var: u16, number: i64) -> Result<Tx, AllocError> {

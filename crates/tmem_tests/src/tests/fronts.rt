@@ -68,6 +68,8 @@ enum Task {
     Largest(i64),
     /// Reads 500 variables.
     Reads,
+    /// Reads 510 variables, and checks that variable 0 is not negative: 512 nodes, and 513 turns.
+    ReadsAndChecks,
 }
 
 /// How it ends.
@@ -90,8 +92,12 @@ const ROWS: &[(&[Call], Task, u32, Ends)] = &[
     (ALL, Task::Reads, 1, Ends::SeesNothing),
     (NOT_AWAITING, Task::EachForm(0), 1, Ends::Commits),
     (NOT_AWAITING, Task::Largest(1), 1, Ends::Commits),
+    (NOT_AWAITING, Task::ReadsAndChecks, 1, Ends::Commits),
+    // no flush is awaited for what does not commit
+    (ALL, Task::EachForm(1), 1, Ends::Aborts(7)),
+    (ALL, Task::Largest(-1), 1, Ends::Breaks),
     // 256 wait then
-    (&[Call::TryAtomically], Task::Write, 246, Ends::Commits),
+    (&[Call::TryAtomically], Task::Write, 241, Ends::Commits),
     (REFUSED_ROOM, Task::Largest(1), 1, Ends::IsFull),
 ];
 
@@ -102,6 +108,7 @@ impl Task {
             Task::EachForm(aborts) => Ok(each_form(alloc, aborts)?),
             Task::Largest(number) => Ok(largest(alloc, number)?),
             Task::Reads => Ok(reads(alloc)?),
+            Task::ReadsAndChecks => Ok(reads_and_checks(alloc)?),
         }
     }
 }
@@ -161,6 +168,15 @@ fn reads(alloc: Global) -> Result<Tx, AllocError> {
     for var in 0..500 {
         all.push(Tx::Read { var, reg: 0 })?;
     }
+    Ok(Tx::Seq(all))
+}
+
+fn reads_and_checks(alloc: Global) -> Result<Tx, AllocError> {
+    let mut all = Vec::new(alloc);
+    for var in 1..511 {
+        all.push(Tx::Read { var, reg: 0 })?;
+    }
+    all.push(Tx::Check { name: names()[0] })?;
     Ok(Tx::Seq(all))
 }
 
