@@ -12,7 +12,6 @@ BIG = 2**63
 MOST_LINE, MOST_WAITING, MOST_KEPT = 65536, 1024, 256
 MOST_READS, MOST_WRITES, MOST_CHECKS, MOST_RETIRES = 500, 64, 8, 8
 FAULTS = {2: "device", 3: "closed", 4: "unknown", 5: "full", 7: "conflict", 12: "badplan"}
-PUTS_WANTED = "there are more numbers than Puts at the beginning"
 CAUSES = ["it is deeper than 32", "it has more than 512 nodes", "it has more than 64 writes", "it has more than 8 checks"]
 CAUSES += ["a register is not below 16", "the store has no such variable", "there is no such step"]
 CAUSES += ["a step takes another number of registers", "the store has no invariant of this name", "it retires more than 8 names"]
@@ -492,9 +491,8 @@ class Desk:
     def read_run(self, word, numbers):
         text(word, "/run", "[a-z]{1,16}")
         found = [integer(*it) for it in items(numbers, "/numbers")]
-        if word not in self.kept:
+        if word not in self.kept or len(found) > len(leading_puts(self.kept[word])):
             return None
-        want(len(found) <= len(leading_puts(self.kept[word])), PUTS_WANTED, "/numbers")
         return with_numbers(self.kept[word], found)
 
     def read_ask(self, value, at):

@@ -235,7 +235,7 @@ class Kept(ServeCase):
         self.assertEqual(self.ask({"id": 3, "run": "bump"})["registers"], [1, 1])
         self.assertEqual(self.ask({"id": 4, "run": "bump", "numbers": [41]})["registers"], [42, 41])
         self.assertEqual(self.ask({"id": 5, "run": "bump"})["registers"], [43, 1])
-        self.refused({"id": 6, "run": "bump", "numbers": [1, 2]})
+        self.assertEqual(self.ask({"id": 6, "run": "bump", "numbers": [1, 2]}), {"id": 6, "found": False})
         self.assertEqual(self.ask({"id": 7, "keep": ["bump", "skip"]}), {"id": 7, "kept": "bump"})
         self.assertEqual(self.ask({"id": 8, "run": "bump"}), {"id": 8, "seen": 4, "registers": []})
         self.assertEqual(self.ask({"id": 9, "keep": ["bump", {"put": [16, 0]}]})["cause"], 5)
