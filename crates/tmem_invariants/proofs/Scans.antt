@@ -4,7 +4,7 @@ use Rattle.std.specs.List.{list_any}
 use Rattle.std.specs.Option.{option_map}
 use Rattle.std.proofs.lemmas.Bool.{or_parts}
 use Rattle.std.proofs.lemmas.Grind.{common_steps}
-use Rattle.std.proofs.lemmas.List.{take_more, get_or-take, length-map, length-take}
+use Rattle.std.proofs.lemmas.List.{take_more, get_or-take, length-map, length-take, take-take}
 use Rattle.std.proofs.lemmas.List.Elements.{All-push}
 use Rattle.std.proofs.lemmas.List.Folds.{list_any_more, list_any_at, Any-from_list_any}
 use Rattle.std.proofs.lemmas.List.Quantifiers.{all_pairs_push}
@@ -107,3 +107,13 @@ not-AreDistinct eq same xs i x at some distinct =
     let before : found.0 < i = omega (arith, found.2, length-take i xs) in
     let there : get_or xs found.0 found.1 ≡ x = sym (get_or-take i xs found.0 found.1 before) ∙ found.3 ∙ (same found.1 x).0 found.4 in
     distinct found.0 i found.1 before (slice_get_within xs i x at) (there ∙ sym (get_or_from_slice_get xs i x found.1 at))
+
+-- nor are those up to it distinct
+pub not-AreDistinct-take : {X : Type 0} (eq : X → X → Bool) → ((a b : X) → Decides (eq a b) (a ≡ b)) → (xs : List X) (i : ℕ) (x : X) → slice_get xs i ≡ Some x → list_any (λ y. eq y x) (take i xs) ≡ true → ¬ AreDistinct (take (i + 1) xs)
+not-AreDistinct-take eq same xs i x at some =
+    let within = slice_get_within xs i x at in
+    let front : take i (take (i + 1) xs) ≡ take i xs = take-take i (i + 1) xs (omega arith) in
+    let long : i < length (take (i + 1) xs) = omega (arith, within, length-take (i + 1) xs) in
+    let here : slice_get (take (i + 1) xs) i ≡ Some x =
+    slice_get_read (take (i + 1) xs) i x long (sym (get_or-take (i + 1) xs i x (omega arith) ∙ get_or_from_slice_get xs i x x at)) in
+    not-AreDistinct eq same (take (i + 1) xs) i x here (ap (list_any (λ y. eq y x)) front ∙ some)

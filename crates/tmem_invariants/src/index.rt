@@ -5,24 +5,24 @@ ghost use Rattle.std.specs.List.{list_any};
 ghost use Rattle.tmem_invariants.specs.Places.{IsTouching, has_place, has_var};
 ghost use Rattle.tmem_invariants.specs.TableNames.{AreBelow};
 
-use crate::invariant::Invariant;
+use crate::entry::Entry;
 use crate::places::with_place;
 use std::alloc::{AllocError, Global};
 
 // The index of these invariants.
-pub(crate) fn index_of(
+pub(crate) fn index_of<E: Entry>(
     alloc: Global,
-    entries: &[Invariant],
+    entries: &[E],
     vars: u16,
 ) -> Result<Vec<u64>, AllocError>
     requires few { length entries.now ≤ 64 }
-    requires within { All (λ entry. AreBelow vars entry.footprint.items) entries.now }
+    requires within { All (λ entry. AreBelow vars (E.footprint entry)) entries.now }
     ensures long { IfOk result (λ index. length index.items ≡ vars) }
-    ensures touching { IfOk result (λ index. (var : ℕ) → IsTouching (map (λ entry. entry.footprint.items) entries.now) var (slice_index_or index.items var 0)) }
+    ensures touching { IfOk result (λ index. (var : ℕ) → IsTouching (map E.footprint entries.now) var (slice_index_or index.items var 0)) }
 {
     let mut index = vec![in alloc; 0; usize::from(vars)]?;
     for (place, entry) in entries.iter().enumerate() {
-        add_place(&mut index, &entry.footprint, place);
+        add_place(&mut index, entry.footprint(), place);
     }
     Ok(index)
 }

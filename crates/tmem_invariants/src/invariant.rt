@@ -1,14 +1,12 @@
-// One invariant.
+// One invariant that is a closure.
 
-ghost use Rattle.std.specs.Prelude.{◌≡◌, ◌↔◌, ℕ, ◌≤◌, List, length, take, IsTrue, IsOk, IfOk, IfErr};
-ghost use Rattle.tmem_invariants.specs.Answers.{MayCall, HasMeaning, IsMeant};
-ghost use Rattle.tmem_invariants.specs.Meanings.{Meanings, holds, values_at};
-ghost use Rattle.tmem_invariants.specs.TableNames.{AreBelow, AreDistinct, IsFootprint};
+ghost use Rattle.std.specs.Prelude.{◌≡◌, ◌↔◌, ℕ, ◌≤◌, length, IsOk, IfOk, IfErr};
+ghost use Rattle.tmem_invariants.specs.Answers.{MayCall, HasMeaning};
+ghost use Rattle.tmem_invariants.specs.TableNames.{AreDistinct, IsFootprint};
 
+use crate::entry::Entry;
+use crate::footprint::{MAX_FOOTPRINT, is_distinct};
 use tmem_disk::{Fault, Name};
-
-/// The most variables of a footprint.
-pub const MAX_FOOTPRINT: usize = 16;
 
 /// The closure of an invariant. It is handed the values of the footprint, in its order.
 pub type Test = Box<dyn Fn(&[i64]) -> bool + Send>;
@@ -28,16 +26,6 @@ pub struct Invariant {
     ghost distinct: { AreDistinct footprint.items },
     ghost callable: { MayCall (Test.pre test) (length footprint.items) },
     ghost stated: { HasMeaning (Test.post test) (length footprint.items) },
-}
-
-// What is stated of a closure, by its name.
-pub(crate) trait Stated {
-    // It answers what these meanings say of its name, over the footprint that they give it.
-    ghost is_stated: { Self → Meanings → Type 0 };
-}
-
-impl Stated for Invariant {
-    ghost is_stated = { λ invariant m. IsMeant m invariant.name invariant.footprint.items (Test.post invariant.test) };
 }
 
 impl Invariant {
@@ -62,53 +50,28 @@ impl Invariant {
             test,
         })
     }
+}
 
-    // Whether each variable of the footprint is below a number.
-    pub(crate) fn is_within(&self, vars: u16) -> bool
-        ensures { IsTrue result ↔ AreBelow vars self.now.footprint.items }
-    {
-        self.footprint.iter().all(|var| *var < vars)
+impl Entry for Invariant {
+    ghost name = { λ invariant. invariant.name };
+
+    ghost footprint = { λ invariant. invariant.footprint.items };
+
+    ghost answers = { λ invariant. Test.post invariant.test };
+
+    fn name(&self) -> Name {
+        self.name
     }
 
-    // What it answers on values of the footprint.
-    pub(crate) fn answer(&self, values: &[i64]) -> bool
-        requires { length values.now ≡ length self.now.footprint.items }
-        ensures { (m : Meanings) → ⟦<Invariant as Stated>⟧.is_stated self.now m → result ≡ m.test self.now.name values.now }
-    {
+    fn footprint(&self) -> &[u16] {
+        &self.footprint
+    }
+
+    fn answer(&self, values: &[i64]) -> bool {
         (self.test)(values)
     }
 
-    // Whether it is true of a map. The closure is handed the values of the footprint, and nothing else.
-    pub(crate) fn holds(&self, values: &[i64]) -> bool
-        requires { AreBelow (length values.now) self.now.footprint.items }
-        ensures { (m : Meanings) → ⟦<Invariant as Stated>⟧.is_stated self.now m → result ≡ holds m values.now self.now.name }
-    {
-        let mut handed = [0i64; MAX_FOOTPRINT];
-        let count = self.footprint.len();
-        gather(&self.footprint, values, &mut handed);
-        (self.test)(&handed[..count])
-    }
-}
+    ghost is_footprint = { λ invariant. record { not_empty = invariant.not_empty; short = invariant.short; distinct = invariant.distinct } };
 
-// Whether no variable stands twice.
-fn is_distinct(footprint: &[u16]) -> bool
-    ensures { IsTrue result ↔ AreDistinct footprint.now }
-{
-    for (i, var) in footprint.iter().enumerate() {
-        if footprint[..i].contains(var) {
-            return false;
-        }
-    }
-    true
-}
-
-// Puts the values of a footprint at the front of a buffer.
-fn gather(footprint: &[u16], values: &[i64], into: &mut [i64])
-    requires room { length footprint.now ≤ length into.old }
-    requires within { AreBelow (length values.now) footprint.now }
-    ensures { take (length footprint.now) into.new ≡ values_at values.now footprint.now }
-{
-    for (i, var) in footprint.iter().enumerate() {
-        into[i] = values[*var as usize];
-    }
+    ghost has_meaning = { λ invariant. invariant.stated };
 }

@@ -1,15 +1,15 @@
 // Invariants that are closures, in order.
 
-ghost use Rattle.std.specs.Prelude.{◌≡◌, ◌↔◌, ◌⊎◌, ℕ, ◌<◌, ◌≤◌, ◌&&◌, not, Bool, List, length, map, find, All, slice_get, slice_index_or, Some, IsTrue, IsSome, IfSome, IsOk, IfOk, IfErr, Err};
+ghost use Rattle.std.specs.Prelude.{◌≡◌, ◌↔◌, ◌⊎◌, ℕ, ◌<◌, ◌≤◌, length, map, All, slice_index_or, IsOk, IfOk, IfErr, Err};
 ghost use Rattle.tmem_invariants.specs.Answers.{IsMeant};
-ghost use Rattle.tmem_invariants.specs.Meanings.{Meanings, holds};
-ghost use Rattle.tmem_invariants.specs.Places.{AreAsked, IsTouching};
-ghost use Rattle.tmem_invariants.specs.TableNames.{AreBelow, AreTableNames, AreDistinct, has_name, name_at};
+ghost use Rattle.tmem_invariants.specs.Places.{IsTouching};
+ghost use Rattle.tmem_invariants.specs.TableNames.{AreBelow, AreTableNames, AreDistinct};
 
+use crate::entries::{are_within, have_distinct_names, place_of, test_places};
+use crate::entry::Entry;
 use crate::index::{index_of, places_touched};
-use crate::invariant::{Invariant, Stated, Test};
+use crate::invariant::{Invariant, Test};
 use crate::named::{Invariants, MAX_INVARIANTS};
-use crate::places::{lowest_place, without_place};
 use std::alloc::Global;
 use tmem_disk::{Fault, Name};
 
@@ -76,63 +76,6 @@ impl Table {
     {
         self.index[usize::from(var)]
     }
-}
-
-// Whether no name stands twice.
-fn have_distinct_names(entries: &[Invariant]) -> bool
-    ensures { IsTrue result ↔ AreDistinct (map (λ entry. entry.name) entries.now) }
-{
-    for (i, entry) in entries.iter().enumerate() {
-        if place_of(&entries[..i], &entry.name).is_some() {
-            return false;
-        }
-    }
-    true
-}
-
-// Whether each variable of a footprint is below a number.
-fn are_within(entries: &[Invariant], vars: u16) -> bool
-    ensures { IsTrue result ↔ All (λ entry. AreBelow vars entry.footprint.items) entries.now }
-{
-    for entry in entries {
-        if !entry.is_within(vars) {
-            return false;
-        }
-    }
-    true
-}
-
-// The place of a name.
-fn place_of(entries: &[Invariant], name: &Name) -> Option<usize>
-    ensures there { IsSome result ↔ IsTrue (has_name (map (λ entry. entry.name) entries.now) name.now) }
-    ensures place { IfSome result (λ place. slice_get (map (λ entry. entry.name) entries.now) place ≡ Some name.now) }
-{
-    for (i, entry) in entries.iter().enumerate() {
-        if entry.name == *name {
-            return Some(i);
-        }
-    }
-    None
-}
-
-// The first place of a set whose invariant is false. The set is of those that are asked for, by name.
-fn test_places(entries: &[Invariant], values: &[i64], places: u64) -> Option<usize>
-    requires { All (λ entry. AreBelow (length values.now) entry.footprint.items) entries.now }
-    ensures within { IfSome result (λ place. place < length entries.now) }
-    ensures first { (m : Meanings) (asked : List ℕ → Bool) → All (λ entry. ⟦<Invariant as Stated>⟧.is_stated entry m) entries.now
-        → AreAsked asked (map (λ entry. entry.name) entries.now) places
-        → name_at (map (λ entry. entry.name) entries.now) result ≡ find (λ name. asked name && not (holds m values.now name)) (map (λ entry. entry.name) entries.now) }
-{
-    let mut left = places;
-    while left != 0 {
-        let place = lowest_place(left);
-        let entry = entries.get(place)?;
-        if !entry.holds(values) {
-            return Some(place);
-        }
-        left = without_place(left, place);
-    }
-    None
 }
 
 impl Invariants for Table {

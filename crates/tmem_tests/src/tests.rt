@@ -5,6 +5,7 @@ mod fronts;
 mod limits;
 mod names;
 mod stops;
+mod sums;
 mod tables;
 mod turns;
 mod versions;

@@ -1,6 +1,0 @@
-use Rattle.std.proofs.Common.{All, take}
-use Rattle.tmem_invariants.specs.TableNames.{AreBelow}
-use Rattle.tmem_invariants.proofs.table.are_within.Given as goal
-
-abbrev pub invariant-loop-entry : goal.invariant-loop-entry
-invariant-loop-entry g l = All (λ entry. AreBelow l.vars entry.footprint.items) (take l.entry-index l.entries)

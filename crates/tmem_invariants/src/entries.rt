@@ -1,0 +1,75 @@
+// Searches through the invariants of a table, and tests of them.
+
+ghost use Rattle.std.specs.Prelude.{◌≡◌, ◌↔◌, ℕ, ◌<◌, ◌&&◌, not, Bool, List, length, map, find, All, slice_get, Some, IsTrue, IsSome, IfSome};
+ghost use Rattle.tmem_invariants.specs.Answers.{IsMeant};
+ghost use Rattle.tmem_invariants.specs.Meanings.{Meanings, holds};
+ghost use Rattle.tmem_invariants.specs.Places.{AreAsked};
+ghost use Rattle.tmem_invariants.specs.TableNames.{AreBelow, AreDistinct, has_name, name_at};
+
+use crate::entry::{Entry, is_true};
+use crate::places::{lowest_place, without_place};
+use tmem_disk::Name;
+
+// Whether no name stands twice.
+pub(crate) fn have_distinct_names<E: Entry>(entries: &[E]) -> bool
+    ensures { IsTrue result ↔ AreDistinct (map E.name entries.now) }
+{
+    for (i, entry) in entries.iter().enumerate() {
+        if place_of(&entries[..i], &entry.name()).is_some() {
+            return false;
+        }
+    }
+    true
+}
+
+// Whether each variable of a footprint is below a number.
+pub(crate) fn are_within<E: Entry>(entries: &[E], vars: u16) -> bool
+    ensures { IsTrue result ↔ All (λ entry. AreBelow vars (E.footprint entry)) entries.now }
+{
+    for entry in entries {
+        if !is_within(entry, vars) {
+            return false;
+        }
+    }
+    true
+}
+
+// Whether each variable of its footprint is below a number.
+fn is_within<E: Entry>(entry: &E, vars: u16) -> bool
+    ensures { IsTrue result ↔ AreBelow vars (E.footprint entry.now) }
+{
+    entry.footprint().iter().all(|var| *var < vars)
+}
+
+// The place of a name.
+pub(crate) fn place_of<E: Entry>(entries: &[E], name: &Name) -> Option<usize>
+    ensures there { IsSome result ↔ IsTrue (has_name (map E.name entries.now) name.now) }
+    ensures place { IfSome result (λ place. slice_get (map E.name entries.now) place ≡ Some name.now) }
+{
+    for (i, entry) in entries.iter().enumerate() {
+        if entry.name() == *name {
+            return Some(i);
+        }
+    }
+    None
+}
+
+// The first place of a set whose invariant is false. The set is of those that are asked for, by name.
+pub(crate) fn test_places<E: Entry>(entries: &[E], values: &[i64], places: u64) -> Option<usize>
+    requires { All (λ entry. AreBelow (length values.now) (E.footprint entry)) entries.now }
+    ensures within { IfSome result (λ place. place < length entries.now) }
+    ensures first { (m : Meanings) (asked : List ℕ → Bool) → All (λ entry. IsMeant m (E.name entry) (E.footprint entry) (E.answers entry)) entries.now
+        → AreAsked asked (map E.name entries.now) places
+        → name_at (map E.name entries.now) result ≡ find (λ name. asked name && not (holds m values.now name)) (map E.name entries.now) }
+{
+    let mut left = places;
+    while left != 0 {
+        let place = lowest_place(left);
+        let entry = entries.get(place)?;
+        if !is_true(entry, values) {
+            return Some(place);
+        }
+        left = without_place(left, place);
+    }
+    None
+}

@@ -1,0 +1,27 @@
+-- What a linear invariant means: the least <= the sum <= the most, as whole numbers.
+use Rattle.std.specs.Prelude.{◌≡◌, ℤ, pos, ◌+ℤ◌, ◌*ℤ◌, if◌then◌else◌, ◌&&◌, Bool, List, [], ◌∷◌, Option}
+use Rattle.std.specs.Ordering.{int_eq}
+use Rattle.std.specs.Borrow.{Bor}
+use Rattle.tmem_linear.specs.Bounds.{is_from, is_to}
+use Rattle.tmem_linear.specs.declared.weight.Weight.{Weight}
+use Rattle.tmem_linear.specs.declared.weight.Weight.TheVariants.{Value, Nonzero}
+
+-- what a value adds to the sum: a number times the value, or a number where the value is not 0
+abbrev pub counted : Weight → ℤ → ℤ
+counted (Value number) value = number *ℤ value
+counted (Nonzero number) value = if int_eq value (pos 0) then pos 0 else number
+
+-- the sum of the values, each as its weight says
+abbrev pub sum_of : List Weight → List ℤ → ℤ
+sum_of [] values = pos 0
+sum_of (weight ∷ weights) [] = pos 0
+sum_of (weight ∷ weights) (value ∷ values) = counted weight value +ℤ sum_of weights values
+
+-- the sum is within the bounds
+abbrev pub is_within : List Weight → Option ℤ → Option ℤ → List ℤ → Bool
+is_within weights least most values =
+    is_from least (sum_of weights values) && is_to most (sum_of weights values)
+
+-- the answer on a list of values
+abbrev pub Answers : List Weight → Option ℤ → Option ℤ → Bor (List ℤ) → Bool → Type 0
+Answers weights least most values answer = answer ≡ is_within weights least most values.now
