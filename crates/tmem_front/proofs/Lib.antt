@@ -3,3 +3,4 @@ pub mod Sharing
 mod Again
 mod Looks
 mod Planned
+mod Refused

@@ -23,7 +23,7 @@ impl<D: Disk + Drop, N: StoreNaming, T: Invariants + Drop, S: StoredSteps + Drop
         ensures refused { IfErr result IsFlusherRefusal }
     {
         self.core.lock(rt).drain();
-        let flushed = self.flush_all(rt);
+        let flushed = self.flush_waiting(rt);
         self.shut(rt);
         match self.fault(rt) {
             Some(fault) => Err(fault),
@@ -32,7 +32,7 @@ impl<D: Disk + Drop, N: StoreNaming, T: Invariants + Drop, S: StoredSteps + Drop
     }
 
     // Makes durable what waits, until nothing does. Nothing is committed meanwhile.
-    fn flush_all<R: Wait>(&self, rt: &R) -> Result<(), Fault>
+    fn flush_waiting<R: Wait>(&self, rt: &R) -> Result<(), Fault>
         ensures refused { IfErr result IsFlusherRefusal }
     {
         for _ in rt.forever() {

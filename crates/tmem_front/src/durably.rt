@@ -1,5 +1,6 @@
 // Transactions that are awaited.
-ghost use Rattle.std.specs.Prelude.{◌≡◌, ◌≢◌, ◌↔◌, ◌<◌, ℕ, Ok, Err, IfOk, IfErr, IfSome, IfNone, OnOk};
+ghost use Rattle.std.specs.Prelude.{◌≡◌, ◌≢◌, ◌↔◌, ◌<◌, ℕ, false, Ok, Err, IfOk, IfErr, IfSome, IfNone, OnOk, IsTrue};
+ghost use Rattle.tmem_seats.specs.Flushing.{IsFlusherRefusal};
 ghost use Rattle.tmem_tree.specs.Plans.{FitsSteps, FitsVariables, FitsNames, FitsShapes};
 ghost use Rattle.tmem_spine.specs.History.{count};
 ghost use Rattle.tmem_front.specs.Settling.{IsWithin, SeesMore, SettlesDurably};
@@ -57,6 +58,37 @@ impl<D: Disk + Drop, N: StoreNaming, T: Invariants + Drop, S: StoredSteps + Drop
             Ok(()) => Ok(()),
             Err(_) => Err(Fault::Unknown),
         }
+    }
+
+    /// Makes durable all that is committed when it begins, batch by batch, and with it all that the pass knows: what it committed, and
+    /// what its answers were made on, a `Retry`, an `Aborted` and a `Refused` too. The pass saw all that then. Where the log is full it
+    /// makes a checkpoint. Answers how many are durable. Refused as `flush_with_room`.
+    pub fn flush_all<R: Wait>(&self, rt: &R, pass: &mut Pass<N>) -> Result<u64, Fault>
+        ensures all { OnOk result (pass.new.seen ≡ pass.new.known) }
+        ensures durable { IfOk result (λ number. number ≡ count N.name.start pass.new.seen) }
+        ensures refused { IfErr result IsFlusherRefusal }
+        ensures sees { SeesMore pass.old pass.new }
+    {
+        let known = self.count(rt, pass);
+        for _ in rt.forever() {
+            if self.sees_all(pass, known) {
+                return Ok(pass.seen());
+            }
+            self.flush_with_room(rt)?;
+        }
+        unreachable!()
+    }
+
+    // Whether the pass sees all that it knows, which are so many.
+    #[tactic(auto, using(crate::proofs::Looks::sees_what_it_knows, crate::proofs::Looks::knows_as_before))]
+    fn sees_all(&self, pass: &mut Pass<N>, known: u64) -> bool
+        requires { known ≡ count N.name.start pass.old.known }
+        ensures all { IsTrue result → pass.new.seen ≡ pass.new.known }
+        ensures same { result ≡ false → pass.new.known ≡ pass.old.known }
+        ensures sees { SeesMore pass.old pass.new }
+    {
+        let _durable = self.look(pass);
+        known <= pass.seen()
     }
 }
 

@@ -27,7 +27,7 @@ use std::sync::{Mutex, MutexGuard, Wait};
 use tmem_core::{Decision, Settled};
 use tmem_disk::{Cause, Disk, Fault};
 use tmem_invariants::Invariants;
-use tmem_seats::{CoreSeat, Failure, JournalSeat, StoreNaming, with_registers};
+use tmem_seats::{CoreSeat, Failure, JournalSeat, LogCounts, StoreNaming, with_registers};
 use tmem_spine::{Pass as SpinePass, Spine};
 use tmem_tentative::{Attempt, Cursor, Probe, Progress};
 use tmem_tree::{Plan, Shape, StoredSteps, Tx};
@@ -317,6 +317,11 @@ impl<D: Disk + Drop, N: StoreNaming, T: Invariants + Drop, S: StoredSteps + Drop
         let written = journal.checkpoint();
         self.tell(rt, &mut journal, Failure::of(&written));
         written
+    }
+
+    /// How many flushes and checkpoints were made since it was opened, and how many slots of the log are free.
+    pub fn log<R: Wait>(&self, rt: &R) -> LogCounts {
+        self.journal.lock(rt).log()
     }
 
     // With the core's lock too, for as long as a batch is taken.

@@ -86,13 +86,14 @@ impl<D: Disk + Drop, T: Invariants + Drop, S: StoredSteps + Drop> OpenedFront<D,
         })
     }
 
-    /// The store under its name.
+    /// The store under its name, with the steps that it was opened with.
     pub fn named<N: StoreNaming>(self) -> Front<D, N, T, S>
         requires spine { spine_of self ≡ N.name }
         requires opening { found_of self ≡ N.opening }
         requires stated { T.is_stated (table_of self) N.program.tests }
         requires names { T.names (table_of self) ≡ N.program.names }
         requires steps { S.is_stated (steps_of self) N.program.steps }
+        ensures { result.steps ≡ steps_of self }
     {
         let OpenedFront {
             alloc,

@@ -1,5 +1,5 @@
 // What a store has at one moment.
-ghost use Rattle.std.specs.Prelude.{◌≡◌, Some, false, IfOk, IfErr, MatchBool, map, nat_le, slice_get};
+ghost use Rattle.std.specs.Prelude.{◌≡◌, ◌++◌, Some, false, IfOk, IfErr, OnOk, MatchBool, map, nat_le, slice_get};
 ghost use Rattle.std.specs.List.{list_any};
 ghost use Rattle.tmem_record.specs.Names.{has_name};
 ghost use Rattle.tmem_record.specs.Prefix.{IsPrefix};
@@ -9,11 +9,23 @@ ghost use Rattle.tmem_front.specs.Settling.{KnowsMore};
 
 use crate::front::Front;
 use crate::pass::Pass;
+use std::alloc::AllocError;
 use std::sync::Wait;
 use tmem_disk::{Cause, Disk, Fault, Name};
 use tmem_invariants::Invariants;
-use tmem_seats::StoreNaming;
+use tmem_seats::{CoreSeat, StoreNaming};
 use tmem_tree::StoredSteps;
+
+/// What a store has at one moment.
+#[derive(Debug, Drop)]
+pub struct Moment {
+    /// How many transactions are accepted.
+    pub count: u64,
+    /// The values of the variables that were asked for, in their order.
+    pub values: Vec<i64>,
+    /// Whether each invariant that was asked for is registered, in their order.
+    pub has: Vec<bool>,
+}
 
 impl<D: Disk + Drop, N: StoreNaming, T: Invariants + Drop, S: StoredSteps + Drop> Front<
     D,
@@ -52,15 +64,52 @@ impl<D: Disk + Drop, N: StoreNaming, T: Invariants + Drop, S: StoredSteps + Drop
         ensures there { IfOk result (λ _. list_any (λ var. nat_le self.now.vars var) vars.now ≡ false) }
         ensures refused { IfErr result (λ fault. MatchBool (list_any (λ var. nat_le self.now.vars var) vars.now) (fault ≡ Fault.BadPlan Cause.BadVariable) (fault ≡ Fault.Memory)) }
     {
+        let Moment { values, .. } = self.moment(rt, pass, vars, &[])?;
+        Ok(values)
+    }
+
+    /// What the store has at one moment: after all that the pass then knows. It tells how many transactions are accepted, the values of
+    /// variables, and which of some invariants are registered. Refused as `values`.
+    pub fn moment<R: Wait>(
+        &self,
+        rt: &R,
+        pass: &mut Pass<N>,
+        vars: &[u16],
+        names: &[Name],
+    ) -> Result<Moment, Fault>
+        ensures count { IfOk result (λ moment. moment.count ≡ count N.name.start pass.new.known) }
+        ensures values { IfOk result (λ moment. map (λ n. Some n) moment.values.items ≡ map (λ var. slice_get (after N.opening pass.new.known).values var) vars.now) }
+        ensures has { IfOk result (λ moment. moment.has.items ≡ map (λ name. has_name (after N.opening pass.new.known).names name) names.now) }
+        ensures knows { KnowsMore pass.old pass.new }
+        ensures there { IfOk result (λ _. list_any (λ var. nat_le self.now.vars var) vars.now ≡ false) }
+        ensures refused { IfErr result (λ fault. MatchBool (list_any (λ var. nat_le self.now.vars var) vars.now) (fault ≡ Fault.BadPlan Cause.BadVariable) (fault ≡ Fault.Memory)) }
+    {
         if has_other(vars, self.vars) {
             return Err(Fault::BadPlan(Cause::BadVariable));
         }
         let mut values = Vec::with_capacity(self.alloc, vars.len())?;
+        let mut has = Vec::with_capacity(self.alloc, names.len())?;
         let mut core = self.core.lock(rt);
-        let _count = core.meet(&self.spine, &mut pass.seat);
+        let count = core.meet(&self.spine, &mut pass.seat);
         core.peek_all(vars, &mut values)?;
-        Ok(values)
+        push_registered(&core, names, &mut has)?;
+        Ok(Moment { count, values, has })
     }
+}
+
+// Pushes whether each of these names is registered, in their order.
+fn push_registered<N: StoreNaming, T: Invariants + Drop>(
+    core: &CoreSeat<N, T>,
+    names: &[Name],
+    has: &mut Vec<bool>,
+) -> Result<(), AllocError>
+    ensures { OnOk result (has.new.items ≡ has.old.items ++ map (λ name. has_name (after N.opening core.now.accepted).names name) names.now) }
+{
+    for name in names {
+        let is_there = core.has(name);
+        has.push(is_there)?;
+    }
+    Ok(())
 }
 
 // Whether one of them is not among the first so many variables.

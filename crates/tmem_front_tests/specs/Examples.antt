@@ -21,6 +21,14 @@ adds_and_needs index args = if nat_eq index 0 then sum_of args else at_least arg
 abbrev pub adding : Program
 adding = record { steps = adds_and_needs; names = codes "always" ∷ []; tests = all_true }
 
+-- the same with an invariant over variables 1 and 2
+abbrev pub over_two : Program
+over_two = record {
+  steps = adds_and_needs;
+  names = codes "always" ∷ [];
+  tests = record { footprint = λ name. 1 ∷ 2 ∷ []; test = λ name values. true };
+}
+
 -- what stands alone stands once
 pub alone : (name : List ℕ) → AreDistinct (name ∷ [])
 alone name = AllPairs-cons (λ (x y : List ℕ). x ≢ y) name [] (All-nil (λ (other : List ℕ). name ≢ other)) (λ i j d before within. absurd (not-suc-le-zero within))

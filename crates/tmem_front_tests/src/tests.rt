@@ -16,5 +16,6 @@ mod skipping;
 mod stage_disk;
 mod store;
 mod threads;
+mod turns;
 mod values;
 mod wakings;

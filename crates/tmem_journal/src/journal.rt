@@ -218,6 +218,13 @@ impl<D: Disk> Journal<D> {
         self.is_closed
     }
 
+    /// How many slots of the log are free.
+    pub fn free_slots(&self) -> u16
+        ensures { result + (position_of self.now).used ≡ (layout_of self.now).slots }
+    {
+        self.layout.slots - self.log.used
+    }
+
     /// The device.
     pub fn into_disk(self) -> D
         ensures { result ≡ disk_of self }

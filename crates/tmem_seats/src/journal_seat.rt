@@ -23,12 +23,26 @@ use tmem_journal::Journal;
 use tmem_record::Batch;
 use tmem_spine::{JournalSide, Pass, Spine};
 
+/// What was done to the log of a store since it was opened, and what is free there.
+#[derive(Clone, Copy, Debug)]
+pub struct LogCounts {
+    /// Flushes: batches that were written.
+    pub flushes: u64,
+    /// Checkpoints that were made.
+    pub checkpoints: u64,
+    /// Slots that are free.
+    pub free_slots: u16,
+}
+
 /// The journal, beside its seat. Contracts speak of its parts by the words of `specs/Held`.
 pub struct JournalSeat<D: Disk, N: StoreNaming> {
     journal: Journal<D>,
     side: JournalSide<N>,
     // the batch of a flush, with room from the start
     batch: Batch,
+    // how many flushes and how many checkpoints were made
+    flushes: u64,
+    checkpoints: u64,
 
     /// The journal's state is what the durable effects make of the opening state.
     pub ghost state: { state_of journal ≡ after N.opening side.durable },
@@ -53,6 +67,8 @@ impl<D: Disk + Drop, N: StoreNaming> Drop for JournalSeat<D, N> {
             journal: _journal,
             side: _side,
             batch: _batch,
+            flushes: _flushes,
+            checkpoints: _checkpoints,
         } = self;
     }
 }
@@ -72,6 +88,8 @@ impl<D: Disk, N: StoreNaming> JournalSeat<D, N> {
             journal,
             side,
             batch,
+            flushes: 0,
+            checkpoints: 0,
         }
     }
 
@@ -84,6 +102,8 @@ impl<D: Disk, N: StoreNaming> JournalSeat<D, N> {
             journal,
             side: _side,
             batch: _batch,
+            flushes: _flushes,
+            checkpoints: _checkpoints,
         } = self;
         journal.into_disk()
     }
@@ -148,6 +168,7 @@ impl<D: Disk, N: StoreNaming> JournalSeat<D, N> {
         let flushed = self.journal.flush(&self.batch);
         if flushed.is_ok() {
             spine.harden(&mut self.side, self.batch.len() as u64);
+            self.flushes = self.flushes.wrapping_add(1);
         }
         flushed
     }
@@ -164,6 +185,17 @@ impl<D: Disk, N: StoreNaming> JournalSeat<D, N> {
         ensures { result ≡ count N.name.start (side_of self.now).durable }
     {
         self.journal.count()
+    }
+
+    /// How many flushes and checkpoints were made, and how many slots of the log are free.
+    pub fn log(&self) -> LogCounts
+        ensures { result.free_slots + (position_of (journal_of self.now)).used ≡ (layout_of (journal_of self.now)).slots }
+    {
+        LogCounts {
+            flushes: self.flushes,
+            checkpoints: self.checkpoints,
+            free_slots: self.journal.free_slots(),
+        }
     }
 
     /// Under both locks, after a call of the device, which met this failure or none: the core learns how many are durable, or is
@@ -204,7 +236,9 @@ impl<D: Disk, N: StoreNaming> JournalSeat<D, N> {
         ensures any_moment { is_closed_of (journal_of self.old) ≡ false → AtEachMoment (device_of (journal_of self.old)) (device_of (journal_of self.new))
             (StandsForState (layout_of (journal_of self.old)).vars (layout_of (journal_of self.old)).slots (after N.opening (side_of self.old).durable)) }
     {
-        self.journal.checkpoint()
+        let written = self.journal.checkpoint();
+        count_done(&mut self.checkpoints, written.is_ok());
+        written
     }
 
     /// Makes durable what the journal aims at, as `write` does. Where the log is full, makes a checkpoint and then writes: so it is
@@ -234,5 +268,12 @@ impl<D: Disk, N: StoreNaming> JournalSeat<D, N> {
             }
             written => written,
         }
+    }
+}
+
+// Counts one more that was done.
+fn count_done(count: &mut u64, is_done: bool) {
+    if is_done {
+        *count = count.wrapping_add(1);
     }
 }

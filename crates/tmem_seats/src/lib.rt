@@ -14,5 +14,5 @@ mod sleepers;
 
 pub use core_seat::{CoreSeat, with_registers};
 pub use failure::Failure;
-pub use journal_seat::JournalSeat;
+pub use journal_seat::{JournalSeat, LogCounts};
 pub use naming::{ProgramNaming, StoreNaming};

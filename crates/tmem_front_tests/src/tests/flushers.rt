@@ -2,7 +2,8 @@
 use super::moves::Answer::{Committed, Done, Holds, Nothing, Number, Refused, Value};
 use super::moves::Move::{
     AddDurably, Await, AwaitHeld, Checkpoint, Commit, CommitAndFlush, Count, FaultOf, Fill, Flush,
-    FlushWithRoom, HoldTurns, Look, Peek, Release, RunFlusher, Shut, Sleep, TryCommit, ValuesAre,
+    FlushAll, FlushWithRoom, HoldTurns, Look, OtherPass, Peek, Release, RunFlusher, Seen, Shut,
+    Sleep, TryCommit, ValuesAre,
 };
 use super::moves::{Answer, Refusal, Task};
 use super::scenes::Line::{
@@ -149,6 +150,26 @@ static SCENES: &[Line<'static>] = &[
     Last(TryCommit(WRITE), Committed(1)),
     Last(Release, Done),
     After(Look, Number(2)),
+    Scene("all that is committed is made durable, by as many batches as that takes"),
+    Slots(2),
+    Before(FlushAll, Number(0)),
+    Before(Fill(200), Number(200)),
+    Before(FlushAll, Number(200)),
+    Before(Seen, Number(200)),
+    Before(TryCommit(WRITE), Committed(200)),
+    // what the other one committed too
+    Before(OtherPass, Done),
+    Before(FlushAll, Number(201)),
+    Before(Seen, Number(201)),
+    Before(Shut, Done),
+    Before(FlushAll, Number(201)),
+    Scene("all is made durable up to the batch that fails"),
+    // each batch makes two syncs, behind that of the opening
+    FailSync(4),
+    Before(Fill(100), Number(100)),
+    Before(FlushAll, Refused(Refusal::Unknown)),
+    Before(Seen, Number(64)),
+    Before(FlushAll, Refused(Refusal::Closed)),
     Scene("a flusher that fails ends each wait"),
     FailSync(2),
     First(RunFlusher(u64::MAX), Refused(Refusal::Unknown)),

@@ -48,6 +48,9 @@ pub(super) enum Task {
     Retire,
     /// Writes a number to a variable, and retires it.
     WriteAndRetire(u16, i64),
+    /// Reads variable 0 and adds that to itself, reads 508 variables behind variable 2, and registers the invariant: 512 nodes, and 513
+    /// turns where that is over variables 1 and 2.
+    ReadAndRegister,
 }
 
 /// What a thread does next, mostly one call of the front by its pass.
@@ -96,6 +99,9 @@ pub(super) enum Move {
     ValuesAre([u16; 3], [i64; 3]),
     Flush,
     FlushWithRoom,
+    FlushAll,
+    /// Whether so many flushes and checkpoints were made, and so many slots are free.
+    LogIs([u64; 3]),
     /// A flusher whose pace has so many turns.
     RunFlusher(u64),
     Checkpoint,
@@ -223,6 +229,7 @@ impl Task {
                 need_one(alloc, 2)?,
             ]?)),
             Task::Register => Ok(check()),
+            Task::ReadAndRegister => read_and_register(alloc),
             Task::AddAndRegister => Ok(Tx::Seq(vec![in alloc; add_one(alloc)?, check()]?)),
             Task::Retire => Ok(retire()),
             Task::WriteAndRetire(var, number) => {
@@ -270,6 +277,20 @@ fn add_to(alloc: Global, var: u16) -> Result<Tx, AllocError> {
 fn add_behind(alloc: Global, var: u16, least: i64, other: u16) -> Result<Tx, AllocError> {
     let (first, second) = (need(alloc, var, least)?, add_to(alloc, other)?);
     Ok(Tx::Seq(vec![in alloc; first, second]?))
+}
+
+fn read_and_register(alloc: Global) -> Result<Tx, AllocError> {
+    let step = Tx::Step {
+        index: 0,
+        args: vec![in alloc; 0, 0]?,
+        out: 1,
+    };
+    let mut txs = vec![in alloc; Tx::Read { var: 0, reg: 0 }, step]?;
+    for var in 3..511 {
+        txs.push(Tx::Read { var, reg: 3 })?;
+    }
+    txs.push(check())?;
+    Ok(Tx::Seq(txs))
 }
 
 fn need_last(alloc: Global, last: u16) -> Result<Tx, AllocError> {

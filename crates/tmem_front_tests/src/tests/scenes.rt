@@ -66,7 +66,7 @@ pub(super) enum Line<'a> {
 
 /// A part of a scene.
 #[derive(Clone, Copy, Debug, PartialEq)]
-enum Part {
+pub(super) enum Part {
     Before,
     Thread(usize),
     Crowd,
@@ -157,7 +157,7 @@ fn device_of(lines: &[Line]) -> Device {
 
 /// What went wrong first.
 #[derive(Clone, Copy, Debug)]
-enum Wrong {
+pub(super) enum Wrong {
     /// No store was made, or no pass given out.
     NotBegun(Fault),
     /// A part was answered like this at the line of this number, counted from the scene's own.
@@ -332,8 +332,8 @@ fn play_in<
     before.or(threads).or(after)
 }
 
-// A scene in a store.
-fn play_on<
+/// A scene in a store. Answers what went wrong first.
+pub(super) fn play_on<
     D: Disk + Drop + Send,
     N: StoreNaming + Send + Sync,
     T: Invariants + Drop + Send,

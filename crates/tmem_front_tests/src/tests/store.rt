@@ -174,6 +174,7 @@ impl<D: Disk + Drop, N: StoreNaming, T: Invariants + Drop, S: StoredSteps + Drop
             Move::HasInvariant => Answer::Holds(self.front.has(stage.rt, pass, &always())),
             Move::ValuesAre(vars, want) => self.values_are(stage, pass, &vars, &want),
             Move::CountValues(most) => Answer::number(self.count_values(stage, pass, most)),
+            Move::FlushAll => Answer::number(self.front.flush_all(stage.rt, pass)),
             other => self.answer_alone(stage, other),
         }
     }
@@ -185,6 +186,7 @@ impl<D: Disk + Drop, N: StoreNaming, T: Invariants + Drop, S: StoredSteps + Drop
             Move::Peek(var) => self.peek(stage, var),
             Move::Flush => Answer::number(self.front.flush_once(stage.rt)),
             Move::FlushWithRoom => Answer::number(self.front.flush_with_room(stage.rt)),
+            Move::LogIs(want) => Answer::Holds(self.log(stage) == want),
             Move::RunFlusher(left) => self.run_flusher(stage, left),
             Move::Checkpoint => Answer::done(self.front.checkpoint(stage.rt)),
             Move::Shut => self.shut(stage),
@@ -523,6 +525,12 @@ impl<D: Disk + Drop, N: StoreNaming, T: Invariants + Drop, S: StoredSteps + Drop
             Ok(_plan) => Answer::Value(self.front.peek(stage.rt, var)),
             Err(fault) => Answer::refused(fault),
         }
+    }
+
+    // How many flushes and checkpoints were made, and how many slots are free.
+    fn log<R: Wait>(&self, stage: &Stage<R>) -> [u64; 3] {
+        let log = self.front.log(stage.rt);
+        [log.flushes, log.checkpoints, u64::from(log.free_slots)]
     }
 
     fn run_flusher<R: Wait>(&self, stage: &Stage<R>, left: u64) -> Answer {

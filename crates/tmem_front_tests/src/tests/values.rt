@@ -1,10 +1,11 @@
-//! What a store has at one moment.
+//! What a store has at one moment, and what was done to its log.
 use super::moves::Answer::{Committed, Done, Holds, Number, Refused};
 use super::moves::Move::{
-    Count, CountValues, Flush, HasInvariant, Look, OtherPass, TryCommit, ValuesAre,
+    Checkpoint, Count, CountValues, Flush, FlushWithRoom, HasInvariant, LogIs, Look, OtherPass,
+    TryCommit, ValuesAre,
 };
 use super::moves::{Refusal, Task};
-use super::scenes::Line::{Before, Scene, Vars};
+use super::scenes::Line::{Before, FailWrite, Scene, Slots, Vars};
 use super::scenes::{Line, play};
 use std::test::Fail;
 
@@ -37,6 +38,30 @@ static SCENES: &[Line<'static>] = &[
     Before(Count, Number(2)),
     Before(Flush, Number(2)),
     Before(HasInvariant, Holds(false)),
+    Scene("flushes and checkpoints are counted, and slots that are free"),
+    Slots(2),
+    Before(LogIs([0, 0, 2]), Holds(true)),
+    Before(TryCommit(Task::Write(1, 7)), Committed(0)),
+    Before(Flush, Number(1)),
+    // nothing waits, so nothing is written
+    Before(Flush, Number(1)),
+    Before(LogIs([1, 0, 1]), Holds(true)),
+    Before(TryCommit(Task::Write(1, 8)), Committed(1)),
+    Before(Flush, Number(2)),
+    Before(TryCommit(Task::Write(1, 9)), Committed(2)),
+    Before(Flush, Refused(Refusal::LogFull)),
+    Before(LogIs([2, 0, 0]), Holds(true)),
+    Before(Checkpoint, Done),
+    Before(LogIs([2, 1, 2]), Holds(true)),
+    Before(FlushWithRoom, Number(3)),
+    Before(LogIs([3, 1, 1]), Holds(true)),
+    Scene("a checkpoint that fails is not counted"),
+    // a flush makes two writes, so it is the first one of the checkpoint
+    FailWrite(2),
+    Before(TryCommit(Task::Write(0, 1)), Committed(0)),
+    Before(Flush, Number(1)),
+    Before(Checkpoint, Refused(Refusal::Device)),
+    Before(LogIs([1, 0, 3]), Holds(true)),
 ];
 
 #[test]

@@ -180,6 +180,22 @@ fn reads_and_checks(alloc: Global) -> Result<Tx, AllocError> {
     Ok(Tx::Seq(all))
 }
 
+/// Makes variable 0 this number, which is negative.
+fn write_negative(alloc: Global, number: i64) -> Result<Tx, AllocError> {
+    Ok(Tx::Seq(vec![in alloc; Tx::Put { reg: 0, number }, Tx::Write { var: 0, reg: 0 }]?))
+}
+
+/// The same, checks that it is not negative, and makes it 2.
+fn check_negative(alloc: Global, number: i64) -> Result<Tx, AllocError> {
+    Ok(Tx::Seq(vec![in alloc;
+        Tx::Put { reg: 0, number },
+        Tx::Write { var: 0, reg: 0 },
+        Tx::Check { name: names()[0] },
+        Tx::Put { reg: 0, number: 2 },
+        Tx::Write { var: 0, reg: 0 },
+    ]?))
+}
+
 /// What a plan is settled with by a call.
 fn settled<
     D: Disk + Drop,
@@ -272,6 +288,62 @@ fn end_by<
     Ok(end_of(settled(rt, front, pass, &plan, call), accepted))
 }
 
+/// The value that is told alone, of variable 0.
+fn first_alone(told: Option<Vec<(u16, i64)>>) -> Option<i64> {
+    let values = told?;
+    if values.len() == 1 && values[0].0 == 0 {
+        Some(values[0].1)
+    } else {
+        None
+    }
+}
+
+/// The value of variable 0 by which the invariant refuses a plan, where it does.
+fn why<
+    D: Disk + Drop,
+    N: StoreNaming,
+    T: Invariants + Drop,
+    S: StoredSteps + Drop,
+    R: Clock + Wait,
+>(rt: &R, front: &Front<D, N, T, S>, pass: &mut Pass<N>, tx: Tx) -> Result<Option<i64>, Fault> {
+    let name = names()[0];
+    let plan = front.plan(tx)?;
+    Ok(first_alone(front.why_refused(rt, pass, &plan, &name)?))
+}
+
+/// The value of variable 0 by which it refuses an attempt at a plan.
+fn why_attempt<
+    D: Disk + Drop,
+    N: StoreNaming,
+    T: Invariants + Drop,
+    S: StoredSteps + Drop,
+    R: Clock + Wait,
+>(rt: &R, front: &Front<D, N, T, S>, pass: &mut Pass<N>, tx: Tx) -> Result<Option<i64>, Fault> {
+    let name = names()[0];
+    let attempt = front.attempt(rt, &front.plan(tx)?)?;
+    Ok(first_alone(front.why_attempt_refused(rt, pass, &attempt, &name)?))
+}
+
+/// Asks why plans are refused, where variable 0 is 1.
+fn ask_why<
+    D: Disk + Drop,
+    N: StoreNaming,
+    T: Invariants + Drop,
+    S: StoredSteps + Drop,
+    R: Abort + Clock + Wait,
+>(rt: &R, alloc: Global, front: &Front<D, N, T, S>, pass: &mut Pass<N>) -> Result<(), Fault> {
+    let at_its_point = why(rt, front, pass, check_negative(alloc, -7)?)?;
+    assert!(rt; at_its_point == Some(-7));
+    let at_the_end = why(rt, front, pass, write_negative(alloc, -4)?)?;
+    assert!(rt; at_the_end == Some(-4));
+    let of_an_attempt = why_attempt(rt, front, pass, write_negative(alloc, -5)?)?;
+    assert!(rt; of_an_attempt == Some(-5));
+    // it does not
+    assert!(rt; why(rt, front, pass, write(alloc, 0, 1)?)? == None);
+    assert!(rt; why_attempt(rt, front, pass, write(alloc, 0, 1)?)? == None);
+    Ok(())
+}
+
 /// Plays the rows.
 fn play<
     D: Disk + Drop,
@@ -291,7 +363,7 @@ fn play<
         }
     }
     assert!(rt; accepted == 256);
-    Ok(())
+    ask_why(rt, alloc, front, pass)
 }
 
 /// Plays them in a store that was opened.

@@ -1,0 +1,34 @@
+use Rattle.std.proofs.Common.{◌<◌, ℕ, length, ap, subst, ◌∙◌}
+use Rattle.tmem_tentative.specs.Cursors.{outcome_of, probe_of}
+use Rattle.tmem_tentative.specs.Fits.{IsWithin, IsNamed, IsFilled}
+use Rattle.tmem_tree.proofs.Laws.{footprint_in-AreMeant}
+use Rattle.tmem_front.proofs.Refused.{some_filled}
+use Rattle.tmem_front.proofs.front.Front.last_test.Goals as goal
+
+pub peek-value-requires : goal.peek-value-requires
+peek-value-requires g c =
+    let front = c.args.self.now in
+    let within = subst (λ p. IsWithin front.vars (outcome_of c.advance.new.self p)) c.in-Need.is (c.in_ok-var.ensures.within front.vars c.requires.variables) in
+    subst (λ (k : ℕ). c.in-Need.var < k) front.over within
+
+pub probe-held-requires-clause-named : goal.probe-held-requires-clause-named
+probe-held-requires-clause-named g c =
+    let names = g.N.ProgramNaming.program.names in
+    rw c.probe.ensures (subst (λ p. IsNamed names (outcome_of c.advance.new.self p)) c.in-Probe.is (c.in_ok-var.ensures.named names c.requires.names))
+
+pub probe-held-requires-clause-filled : goal.probe-held-requires-clause-filled
+probe-held-requires-clause-filled g c =
+    let shapes = c.args.plan.now.shapes in
+    let filled = subst (λ p. IsFilled shapes (outcome_of c.advance.new.self p)) c.in-Probe.is c.in_ok-var.ensures.filled in
+    rw c.probe.ensures (filled.1 ∙ ap length (footprint_in-AreMeant g.N.ProgramNaming.program.tests shapes (probe_of c.advance.new.self).name c.requires.shapes filled.0))
+
+pub loop-preserved : goal.loop-preserved
+loop-preserved g c =
+    let shapes = c.args.plan.now.shapes in
+    let footprint = g.N.ProgramNaming.program.tests.footprint in
+    let filled = subst (λ p. IsFilled shapes (outcome_of c.advance.new.self p)) c.in-Probe.is c.in_ok-var.ensures.filled in
+    let long = filled.1 ∙ ap length (footprint_in-AreMeant g.N.ProgramNaming.program.tests shapes (probe_of c.advance.new.self).name c.requires.shapes filled.0) in
+    record {
+      stands = λ m stated. c.answer.ensures.stands m c.args.plan.now (c.advance.ensures.stands m stated);
+      filled = some_filled c.failed_values-failed.result c.probe-in-Probe.result.now.values c.probe-in-Probe.result.now.name c.args.name.now footprint c.failed_values-failed.ensures (rw c.probe-in-Probe.ensures long);
+    }
