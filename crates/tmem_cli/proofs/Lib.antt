@@ -1,6 +1,4 @@
-mod Asking
 mod Listing
-mod Numbers
 mod Opening
 mod Outcomes
 mod Playing

@@ -19,7 +19,7 @@ use Rattle.tmem_script.specs.declared.script.Entry.{Entry}
 use Rattle.tmem_script.specs.declared.script.ScriptError.{ScriptError}
 use Rattle.tmem_script.specs.declared.script.ScriptError.TheVariants.{Memory, Unreadable, NoScript}
 use Rattle.tmem_cli.specs.declared.play.Played.{Played}
-use Rattle.tmem_cli.specs.CommandLine.{IsRequest, HasRequest}
+use Rattle.tmem_args.specs.CommandLine.{IsRequest, HasRequest}
 use Rattle.tmem_cli.specs.Outcomes.{MayBeRead, IsNoScript, IsWhyNotRead, FailsWith}
 use Rattle.tmem_cli.specs.Printed.{PlaysFrom}
 use Rattle.tmem_cli.specs.Stored.{PlaysWhere, StopsWhere}

@@ -21,7 +21,7 @@ use Rattle.tmem_threads.specs.declared.store.TheConstants.{VARS, SLOTS}
 use Rattle.tmem_threads.specs.declared.store.Totals.{Totals}
 use Rattle.tmem_threads.specs.declared.workers.Work.{Work}
 use Rattle.tmem_cli.specs.declared.play.Played.{Played}
-use Rattle.tmem_cli.specs.CommandLine.{AsksToPlay, AsksToCount, AsksToBench, AsksForHelp, IsWorkIn, path_in, disk_in}
+use Rattle.tmem_args.specs.CommandLine.{AsksToPlay, AsksToCount, AsksToBench, AsksForHelp, AreNumbersIn, path_in, disk_in}
 use Rattle.tmem_cli.specs.Printed.{line, totals_text}
 use Rattle.tmem_cli.specs.Stored.{IsMade, PlaysWhere, StopsPlaying}
 
@@ -81,7 +81,7 @@ CountsUp work disk before after =
 
 -- the same of as many workers and turns as the words say, in the store that they name
 abbrev pub CountsAs : List Text → Option (List ℕ) → Option (List ℕ) → Type 0
-CountsAs words before after = (work : Work) × IsWorkIn words work × CountsUp work (disk_in words) before after
+CountsAs words before after = (work : Work) × AreNumbersIn words work.workers work.turns × CountsUp work (disk_in words) before after
 
 -- why they did not: the output failed, or a fault was met
 abbrev pub IsWhyNotCounted : Failure → Type 0

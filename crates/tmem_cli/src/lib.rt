@@ -1,12 +1,11 @@
 //! What the program `tmem` does: it plays scripts of durable transactions, and prints a line for each event; or it lets threads
 //! count up, and prints their totals; or it times the jobs of a service.
 //!
-//! `args` says which words a command line may have, and `words` does what they say: `play` plays a script on a device,
-//! `count` lets threads count up there, and `bench` has the jobs timed. `device` makes or opens the device, and `print` prints
-//! the lines. `chain` has a law of what a crash of a run leaves.
+//! `words` does what the words of a command line say: `play` plays a script on a device, `count` lets threads count up there, and
+//! `bench` has the jobs timed. `device` makes or opens the device, and `print` prints the lines. `chain` has a law of what a crash
+//! of a run leaves.
 #![tactic(auto)]
 
-mod args;
 mod bench;
 mod chain;
 mod count;
@@ -15,7 +14,6 @@ mod play;
 mod print;
 mod words;
 
-pub use args::reads_plainly;
 pub use chain::crash_leaves_run;
 pub use play::{Played, play_on};
 pub use words::run_words;

@@ -6,10 +6,9 @@ ghost use Rattle.tmem_script.specs.Errors.{IsUnread};
 ghost use Rattle.tmem_script.specs.Scripts.{IsScriptText};
 ghost use Rattle.tmem_script.specs.Statuses.{status_of};
 ghost use Rattle.tmem_script.specs.declared.failure.Failure.TheVariants.{Output};
-ghost use Rattle.tmem_cli.specs.CommandLine.{AreRefused, AsksToPlay, IsRequest, disk_in, path_in};
+ghost use Rattle.tmem_args.specs.CommandLine.{AreRefused, AsksToPlay, IsRequest, disk_in, path_in};
 ghost use Rattle.tmem_cli.specs.Outcomes.{IsDone, IsStopped, HasNoScript, CountsUp, IsWhyNotCounted, IsWhyNotPlayed, IsWhyNotRead, IsWhyNotTimed, MayBeRead, PlaysRead, TimesJobs};
 
-use crate::args::{Asked, Counting, Paths, asked_of};
 use crate::bench::run_bench;
 use crate::count::count_on;
 use crate::play::{Played, play};
@@ -21,7 +20,9 @@ use std::io::{Read, Write};
 use std::rt::Clock;
 use std::sync::Wait;
 use std::thread::Threads;
+use tmem_args::{Asked, Counting, Paths, asked_of};
 use tmem_script::{Failure, Script, ScriptError, WordsError, report};
+use tmem_threads::Work;
 
 /// Does what the words of a command line say, the program's name first, and answers the status: 0 where help or the
 /// version was printed, a script was played to its end, threads counted up, or jobs were timed; 1 where that failed on the
@@ -137,10 +138,14 @@ fn count<W: Write>(
     counting: Counting,
     out: &mut W,
 ) -> Result<(), Failure>
-    ensures counted { OnOk result (CountsUp counting.entry.work (option_map (λ text. text.now) counting.entry.disk) (W.contents out.old) (W.contents out.new)) }
+    ensures counted { OnOk result (CountsUp (record { workers = counting.entry.workers; turns = counting.entry.turns }) (option_map (λ text. text.now) counting.entry.disk) (W.contents out.old) (W.contents out.new)) }
     ensures failed { IfErr result IsWhyNotCounted }
 {
-    let totals = count_on(rt, counting.work, counting.disk)?;
+    let work = Work {
+        workers: counting.workers,
+        turns: counting.turns,
+    };
+    let totals = count_on(rt, work, counting.disk)?;
     print_line(out, TotalsText(totals))?;
     flush(out)
 }

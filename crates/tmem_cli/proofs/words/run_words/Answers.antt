@@ -1,7 +1,7 @@
 use Rattle.std.proofs.Common.{◌≡◌, [], map, string_bytes, inl, inr, subst, arith}
 use Rattle.clap.specs.Kinds.{HasKind}
-use Rattle.tmem_cli.specs.CommandLine.{IsAsked, why_not_done}
-use Rattle.tmem_cli.specs.declared.args.Asked.TheVariants.{Run}
+use Rattle.tmem_args.specs.CommandLine.{IsAsked, why_not_done}
+use Rattle.tmem_args.specs.declared.args.Asked.TheVariants.{Run}
 use Rattle.tmem_cli.proofs.Outcomes.{FailsWith-along, is_there, no_request, of_failure, of_status, request_among}
 use Rattle.tmem_cli.proofs.words.run_words.Goals as goal
 

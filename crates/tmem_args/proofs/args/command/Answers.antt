@@ -1,6 +1,6 @@
 use Rattle.clap.specs.Simple.{with_subcommand}
-use Rattle.tmem_cli.specs.CommandLine.{bench_words, program_alone, run_words, threads_words}
-use Rattle.tmem_cli.proofs.args.command.Goals as goal
+use Rattle.tmem_args.specs.CommandLine.{bench_words, program_alone, run_words, threads_words}
+use Rattle.tmem_args.proofs.args.command.Goals as goal
 
 pub returns : goal.returns
 returns c =

@@ -1,6 +1,6 @@
 use Rattle.std.proofs.Common.{refl, inl, inr}
 use Rattle.clap.proofs.OnLiterals.{clap_on_literals}
-use Rattle.tmem_cli.proofs.args.reads_plainly.Goals as goal
+use Rattle.tmem_args.proofs.args.reads_plainly.Goals as goal
 
 pub returns : goal.returns
 unfolding clap_on_literals

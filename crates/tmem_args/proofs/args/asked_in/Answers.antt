@@ -1,7 +1,7 @@
 use Rattle.std.proofs.Common.{None, codes, ◌∙◌}
 use Rattle.clap.specs.Walk.{first_of}
-use Rattle.tmem_cli.proofs.Asking.{given, names_no_other}
-use Rattle.tmem_cli.proofs.args.asked_in.Goals as goal
+use Rattle.tmem_args.proofs.Asking.{given, names_no_other}
+use Rattle.tmem_args.proofs.args.asked_in.Goals as goal
 
 pub returns-in_default-subcommand : goal.returns-in_default-subcommand
 returns-in_default-subcommand c words met =

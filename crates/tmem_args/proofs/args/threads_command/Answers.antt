@@ -4,9 +4,9 @@ use Rattle.clap.specs.Simple.{App, app_of, app_of_fields, new_app, with_rule}
 use Rattle.clap.specs.declared.builder.command.Command.TheOpen.{Command-F}
 use Rattle.clap.specs.declared.builder.command.Command.TheViews.{out-Command as fields_of}
 use Rattle.clap.specs.declared.builder.command.Command.{Command}
-use Rattle.tmem_cli.specs.CommandLine.{disk_words, number_word}
-use Rattle.tmem_cli.proofs.Asking.{more, more_local}
-use Rattle.tmem_cli.proofs.args.threads_command.Goals as goal
+use Rattle.tmem_args.specs.CommandLine.{disk_words, number_word}
+use Rattle.tmem_args.proofs.Asking.{more, more_local}
+use Rattle.tmem_args.proofs.args.threads_command.Goals as goal
 
 pub returns-clause-app : goal.returns-clause-app
 returns-clause-app c =

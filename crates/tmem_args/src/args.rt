@@ -5,28 +5,27 @@ ghost use Rattle.clap.specs.Kinds.{FailsBy};
 ghost use Rattle.clap.specs.Matches.{found_of};
 ghost use Rattle.clap.specs.Simple.{App, Shape, app_of, subcommand_of, subcommand_rows_of, with_subcommand as adding};
 ghost use Rattle.clap.specs.Walk.{Text, first_of, one_of, rows_of, rule_of};
-ghost use Rattle.tmem_cli.specs.CommandLine.{IsAsked, IsNumberOf, ReadsPlainly, bench_words, command_line, disk_words, number_word, parsed_word, program_alone, run_words, script_word, threads_words, why_not_done};
+ghost use Rattle.tmem_args.specs.CommandLine.{IsAsked, IsNumberOf, ReadsPlainly, bench_words, command_line, disk_words, number_word, parsed_word, program_alone, run_words, script_word, threads_words, why_not_done};
 
 use clap::builder::ValueParser;
 use clap::{Arg, ArgMatches, Command, value_parser};
 use std::alloc::{AllocError, Global};
-use tmem_threads::Work;
 
 // What `--version` prints behind the program's name.
 const VERSION: &str = "0.1.0";
 
 /// The files that a command line names.
 #[derive(Clone, Copy)]
-pub(crate) struct Paths<'a> {
+pub struct Paths<'a> {
     /// The script, or none for standard input.
-    pub(crate) script: Option<&'a str>,
+    pub script: Option<&'a str>,
     /// The store, or none for a device in memory.
-    pub(crate) disk: Option<&'a str>,
+    pub disk: Option<&'a str>,
 }
 
 /// What the words ask for.
 #[derive(Clone, Copy)]
-pub(crate) enum Asked<'a> {
+pub enum Asked<'a> {
     /// A script is to be played.
     Run(Paths<'a>),
     /// Threads are to count up.
@@ -37,15 +36,18 @@ pub(crate) enum Asked<'a> {
 
 /// How threads are to count up.
 #[derive(Clone, Copy)]
-pub(crate) struct Counting<'a> {
-    pub(crate) work: Work,
+pub struct Counting<'a> {
+    /// How many threads there are, from 1 to 16.
+    pub workers: u16,
+    /// How often each of them adds 1, from 1 to 1000.
+    pub turns: u16,
     /// The store, or none for a device in memory.
-    pub(crate) disk: Option<&'a str>,
+    pub disk: Option<&'a str>,
 }
 
 /// What is asked for. Refused with what is to be told of the words: help or the version where it was asked for, else what is
 /// wrong with them.
-pub(crate) fn asked_of<'a>(alloc: Global, words: &'a [String]) -> Result<Asked<'a>, clap::Error>
+pub fn asked_of<'a>(alloc: Global, words: &'a [String]) -> Result<Asked<'a>, clap::Error>
     ensures asked { IfOk result (IsAsked (map string_bytes words.now)) }
     ensures refused { FailsBy (why_not_done (map string_bytes words.now)) result }
 {
@@ -93,15 +95,13 @@ fn paths_of<'a>(run: &ArgMatches<'a>) -> Paths<'a>
 
 // What `threads` is given.
 fn counting_of<'a>(threads: &ArgMatches<'a>) -> Counting<'a>
-    ensures workers { IsNumberOf (one_of (codes "workers") (rows_of (found_of threads.now))) result.work.workers }
-    ensures turns { IsNumberOf (one_of (codes "turns") (rows_of (found_of threads.now))) result.work.turns }
+    ensures workers { IsNumberOf (one_of (codes "workers") (rows_of (found_of threads.now))) result.workers }
+    ensures turns { IsNumberOf (one_of (codes "turns") (rows_of (found_of threads.now))) result.turns }
     ensures disk { option_map (λ text. text.now) result.disk ≡ first_of (codes "disk") (rows_of (found_of threads.now)) }
 {
     Counting {
-        work: Work {
-            workers: number_in(threads, "workers"),
-            turns: number_in(threads, "turns"),
-        },
+        workers: number_in(threads, "workers"),
+        turns: number_in(threads, "turns"),
         disk: disk_of(threads),
     }
 }

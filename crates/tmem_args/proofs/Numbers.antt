@@ -4,7 +4,7 @@ use Rattle.std.specs.Prelude.{unwrap_or}
 use Rattle.std.specs.Str.Parse.{ParsesUnsigned}
 use Rattle.clap.specs.Matches.{ReadsOne}
 use Rattle.clap.specs.Walk.{Text}
-use Rattle.tmem_cli.specs.CommandLine.{IsNumberOf}
+use Rattle.tmem_args.specs.CommandLine.{IsNumberOf}
 
 module _ (E : Type 0) (G : List ℕ → Result ℕ E → Type 0) (only : (u : List ℕ) (x : Result ℕ E) → G u x → ParsesUnsigned 16 10 u x) where
   -- what a text is read as is its number

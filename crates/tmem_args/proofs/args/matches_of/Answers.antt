@@ -3,8 +3,8 @@ use Rattle.std.proofs.lemmas.Result.{IfOk-weaker}
 use Rattle.clap.specs.Faults.{fault_of, is_simple_and_free}
 use Rattle.clap.specs.Kinds.{FailsBy}
 use Rattle.clap.specs.Simple.{app_of, is_simple, subcommand_of}
-use Rattle.tmem_cli.specs.CommandLine.{command_line}
-use Rattle.tmem_cli.proofs.args.matches_of.Goals as goal
+use Rattle.tmem_args.specs.CommandLine.{command_line}
+use Rattle.tmem_args.proofs.args.matches_of.Goals as goal
 
 pub returns-clause-met : goal.returns-clause-met
 returns-clause-met c =

@@ -9,9 +9,8 @@ use Rattle.clap.specs.Simple.{App, Shape, new_shape, new_rule, with_subcommand, 
 use Rattle.clap.specs.Faults.{fault_of}
 use Rattle.clap.specs.declared.error.kind.ErrorKind.{ErrorKind}
 use Rattle.clap.specs.declared.error.kind.ErrorKind.TheVariants.{DisplayHelp, DisplayVersion}
-use Rattle.tmem_threads.specs.declared.workers.Work.{Work}
-use Rattle.tmem_cli.specs.declared.args.Asked.{Asked}
-use Rattle.tmem_cli.specs.declared.args.Asked.TheVariants.{Run, Threads, Bench}
+use Rattle.tmem_args.specs.declared.args.Asked.{Asked}
+use Rattle.tmem_args.specs.declared.args.Asked.TheVariants.{Run, Threads, Bench}
 
 -- the path of a script
 abbrev pub script_word : Rule
@@ -112,16 +111,16 @@ IsNumberOf (Some text) n =
     IsNumeral 10 (without_leading_plus text) → digits_value 10 (without_leading_plus text) < 2 ^ 16 → n ≡ digits_value 10 (without_leading_plus text)
 
 -- how many workers there are to be, and how often each of them is to add
-pub record IsWorkIn (words : List Text) (work : Work) : Type 0 where
-  pub workers : IsNumberOf (number_text_in (codes "workers") words) work.workers
-  pub turns : IsNumberOf (number_text_in (codes "turns") words) work.turns
+pub record AreNumbersIn (words : List Text) (workers turns : ℕ) : Type 0 where
+  pub many : IsNumberOf (number_text_in (codes "workers") words) workers
+  pub often : IsNumberOf (number_text_in (codes "turns") words) turns
 
 -- what was read from the words is what they ask for
 abbrev pub IsAsked : List Text → Asked → Type 0
 IsAsked words (Run paths) =
     NamesNoOther words × (option_map (λ text. text.now) paths.script ≡ path_in words) × (option_map (λ text. text.now) paths.disk ≡ disk_in words)
 IsAsked words (Threads counting) =
-    (command_in words ≡ Some (codes "threads")) × IsWorkIn words counting.work × (option_map (λ text. text.now) counting.disk ≡ disk_in words)
+    (command_in words ≡ Some (codes "threads")) × AreNumbersIn words counting.workers counting.turns × (option_map (λ text. text.now) counting.disk ≡ disk_in words)
 IsAsked words (Bench disk) = (command_in words ≡ Some (codes "bench")) × (option_map (λ text. text.now) disk ≡ disk_in words)
 
 -- a script is to be played: that of this path, or of standard input, on the store of that path, or on a device in memory

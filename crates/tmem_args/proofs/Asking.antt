@@ -12,7 +12,7 @@ use Rattle.std.specs.Box.{box_value}
 use Rattle.clap.specs.declared.parser.matches.SubCommand.{SubCommand}
 use Rattle.clap.specs.declared.parser.matches.ArgMatches.{ArgMatches}
 use Rattle.clap.specs.declared.parser.matches.ArgMatches.TheViews.{out-ArgMatches, out-SubCommand}
-use Rattle.tmem_cli.specs.CommandLine.{NamesNoOther, command_in, command_line}
+use Rattle.tmem_args.specs.CommandLine.{NamesNoOther, command_in, command_line}
 
 -- a command with one more subcommand, which has none itself
 pub joined : (old sub new : Command) (before : App) (s : Shape) → AddsSubcommand old sub new → (fields_of sub).has_globals ≡ false → app_of old ≡ before

@@ -2,9 +2,9 @@ use Rattle.std.proofs.Common.{subst}
 use Rattle.std.specs.Str.Parse.{ParsesUnsigned, ExplainsUnsignedError, HasUnsignedDigitsIfOk}
 use Rattle.clap.specs.Matches.{found_of}
 use Rattle.clap.proofs.WalkLemmas.{one_text-rows}
-use Rattle.tmem_cli.specs.CommandLine.{IsNumberOf}
-use Rattle.tmem_cli.proofs.Numbers.{read_number}
-use Rattle.tmem_cli.proofs.args.number_in.Goals as goal
+use Rattle.tmem_args.specs.CommandLine.{IsNumberOf}
+use Rattle.tmem_args.proofs.Numbers.{read_number}
+use Rattle.tmem_args.proofs.args.number_in.Goals as goal
 
 pub returns : goal.returns
 returns c =

@@ -1,0 +1,7 @@
+//! The words of the command line of `tmem`: which there may be, and what they ask for. `clap` reads them, and `specs/CommandLine` says
+//! what they mean in its terms.
+#![tactic(auto)]
+
+mod args;
+
+pub use args::{Asked, Counting, Paths, asked_of, reads_plainly};
