@@ -1,0 +1,2 @@
+mod LeadingPuts
+mod Numbers

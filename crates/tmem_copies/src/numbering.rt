@@ -1,0 +1,23 @@
+// Plans with other numbers.
+ghost use Rattle.std.specs.Prelude.{◌≡◌, ◌≤◌, ◌++◌, ℕ, List, length, drop};
+ghost use Rattle.tmem_tree.specs.Numbers.{numbers as numbers_of};
+ghost use Rattle.tmem_tree.specs.Plans.{FitsSteps, FitsVariables, FitsNames};
+ghost use Rattle.tmem_copies.specs.Leading.{first_puts};
+ghost use Rattle.tmem_copies.specs.Numbering.{with_numbers};
+
+use tmem_tree::Plan;
+
+/// The first `Put`s of a plan take these numbers, in the order in which they stand. A number that has no `Put` to stand for is left out.
+/// Nothing else changes.
+pub fn set_numbers(plan: &mut Plan, numbers: &[i64])
+    ensures tree { plan.new.tree ≡ with_numbers numbers.now plan.old.tree }
+    ensures numbers { length numbers.now ≤ first_puts plan.old.tree → numbers_of plan.new.tree ≡ numbers.now ++ drop (length numbers.now) (numbers_of plan.old.tree) }
+    ensures shapes { plan.new.shapes ≡ plan.old.shapes }
+    ensures steps { (arities : List ℕ) → FitsSteps arities plan.old.tree → FitsSteps arities plan.new.tree }
+    ensures variables { (vars : ℕ) → FitsVariables vars plan.old → FitsVariables vars plan.new }
+    ensures names { (names : List (List ℕ)) → FitsNames names plan.old.tree → FitsNames names plan.new.tree }
+{
+    for (place, number) in numbers.iter().enumerate() {
+        let _ = plan.set_number(place, *number);
+    }
+}

@@ -1,0 +1,8 @@
+-- What contracts see of the lines of what was read.
+use Rattle.std.specs.Prelude.{ℕ, Bool, List}
+
+-- the line that was cut off last, what is held behind it, and whether a line began before that and is too long already
+pub record LinesView : Type 0 where
+  pub line : List ℕ
+  pub rest : List ℕ
+  pub is_long : Bool

@@ -1,0 +1,19 @@
+//! A copy of the bytes as a device in memory, which an opening may write to.
+ghost use Rattle.std.specs.Prelude.{◌≡◌, ◌⊎◌, length, IfOk, IfErr};
+ghost use Rattle.tmem_disk.specs.SimParts.{view_of};
+
+use std::alloc::Global;
+use tmem_disk::{Disk, Fault, SimDisk};
+
+/// A device in memory that holds these bytes.
+pub(crate) fn disk_of(alloc: Global, bytes: &[u8]) -> Result<SimDisk, Fault>
+    ensures seen { IfOk result (λ disk. (view_of disk).seen ≡ bytes.now) }
+    ensures capacity { IfOk result (λ disk. (view_of disk).capacity ≡ length bytes.now) }
+    ensures errors { IfErr result (λ fault. (fault ≡ Fault.Memory) ⊎ (fault ≡ Fault.Device)) }
+{
+    let mut disk = SimDisk::new(alloc, bytes.len() as u64)?;
+    match disk.write_at(0, bytes) {
+        Ok(()) => Ok(disk),
+        Err(_) => Err(Fault::Device),
+    }
+}

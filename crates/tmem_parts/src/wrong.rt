@@ -1,0 +1,115 @@
+//! Where bytes are not as the format says.
+use std::fmt;
+
+/// A place where bytes are not as the format says, and why.
+#[derive(Clone, Copy)]
+pub struct Wrong {
+    /// The byte, counted from the first one of the store.
+    pub at: u64,
+    pub why: Why,
+}
+
+impl fmt::Display for Wrong {
+    fn fmt<W: fmt::Write>(&self, f: &mut fmt::Formatter<W>) -> fmt::Result {
+        write!(f, "byte {}: {}", self.at, self.why)
+    }
+}
+
+/// What is wrong with the bytes at a place.
+#[derive(Clone, Copy)]
+pub enum Why {
+    /// There are no more bytes.
+    Ends,
+    /// The gate of block 0 is closed.
+    BlockClosed,
+    /// It is not the letter of `TMEM` that stands there.
+    Letters,
+    /// No version of the format has this number.
+    BlockVersion,
+    /// The number of variables is out of its limits.
+    Vars,
+    /// The number of log slots is out of its limits.
+    Slots,
+    /// A byte that has to be 0 is not.
+    NotZero,
+    /// No image copy is open.
+    NoImage,
+    /// Both image copies are open, with this generation.
+    SameGeneration,
+    /// The generation is 0.
+    NoGeneration,
+    /// There are more names than may be registered.
+    TooManyNames,
+    /// No name stands here.
+    NoName,
+    /// The name does not come behind the one before it.
+    NotAscending,
+    /// The header of an image ends with the mark of no version.
+    Mark,
+    /// The image is of an earlier version than block 0.
+    Earlier,
+    /// The image is of version 1 and of the last generation, so that none of version 2 can follow.
+    Last,
+    /// The number of the first record does not follow on.
+    First,
+    /// The number of records is out of its limits.
+    Records,
+    /// A record has too many writes.
+    TooManyWrites,
+    /// There is no such variable.
+    Variable,
+    /// The variable is written twice by its record, or the name stands twice there.
+    Twice,
+    /// A record checks too many names.
+    TooManyChecks,
+    /// A record retires too many names.
+    TooManyRetires,
+    /// The record changes nothing.
+    Nothing,
+    /// The batch is longer than one may be.
+    TooLong,
+    /// An open slot behind the log is not of an earlier generation.
+    NotStale,
+    /// After the records of this batch the count or the names are past their limits.
+    PastLimits,
+}
+
+impl fmt::Display for Why {
+    fn fmt<W: fmt::Write>(&self, f: &mut fmt::Formatter<W>) -> fmt::Result {
+        f.pad(self.words())
+    }
+}
+
+impl Why {
+    fn words(self) -> &'static str {
+        match self {
+            Why::Ends => "the bytes end here",
+            Why::BlockClosed => "the gate of block 0 is closed",
+            Why::Letters => "it is not the letter of TMEM that stands here",
+            Why::BlockVersion => "no version of the format has this number",
+            Why::Vars => "the number of variables is not 1 to 1024",
+            Why::Slots => "the number of log slots is not 2 to 64",
+            Why::NotZero => "the byte is not 0",
+            Why::NoImage => "neither image copy is open",
+            Why::SameGeneration => "both image copies are of this generation",
+            Why::NoGeneration => "the generation is 0",
+            Why::TooManyNames => "there are more than 64 names",
+            Why::NoName => "no name stands here",
+            Why::NotAscending => "the name does not come behind the one before it",
+            Why::Mark => "no version of an image has this mark",
+            Why::Earlier => "the image is of an earlier version than block 0",
+            Why::Last => "the generation is the last one, and the image is of version 1",
+            Why::First => "the number of the first record does not follow on",
+            Why::Records => "the number of records is not 1 to 64",
+            Why::TooManyWrites => "the record has more than 64 writes",
+            Why::Variable => "there is no such variable",
+            Why::Twice => "it stands twice in the record",
+            Why::TooManyChecks => "the record checks more than 8 names",
+            Why::TooManyRetires => "the record retires more than 8 names",
+            Why::Nothing => "the record changes nothing",
+            Why::TooLong => "the records have more than 4077 bytes",
+            Why::NotStale => "an open slot behind the log is not of an earlier generation",
+            Why::PastLimits => "the records take the count or the names past their limits",
+        }
+    }
+}

@@ -1,0 +1,11 @@
+mod Asked
+mod Distinct
+mod Each
+mod Members
+mod Misfits
+mod Puts
+mod Reading
+mod Registers
+mod Same
+mod Texts
+mod Wrongs

@@ -1,0 +1,9 @@
+pub mod Answers
+pub mod Attempts
+pub mod Errors
+pub mod Fits
+pub mod Forms
+pub mod Proposals
+pub mod Refusals
+pub mod Requests
+pub mod Wrong

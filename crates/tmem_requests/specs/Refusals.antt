@@ -1,0 +1,58 @@
+-- The line that says that a line is no request, what is wrong with it, and where.
+use Rattle.std.specs.Prelude.{ℕ, List, ◌++◌, flat_map, codes}
+use Rattle.std.specs.Fmt.{decimal}
+use Rattle.tmem_requests.specs.declared.place.Place.{Place}
+use Rattle.tmem_requests.specs.declared.place.Place.TheVariants.{Pointer, Column}
+use Rattle.tmem_requests.specs.declared.place.Step.{Step}
+use Rattle.tmem_requests.specs.declared.place.Step.TheVariants.{Key, Item}
+use Rattle.tmem_requests.specs.declared.refusal.NoRequest.{NoRequest}
+use Rattle.tmem_requests.specs.declared.why.Why.{Why}
+use Rattle.tmem_requests.specs.declared.why.Why.TheVariants as why
+
+-- what is wrong, in words
+abbrev pub why_text : Why → List ℕ
+why_text why.TooLong = codes "the line is longer than 65536 bytes"
+why_text why.NotJson = codes "this is not JSON"
+why_text why.NotObject = codes "this is not an object"
+why_text why.NoId = codes "there is no id"
+why_text why.NoAsk = codes "nothing is asked for"
+why_text why.TwoAsks = codes "two things are asked for"
+why_text why.UnknownKey = codes "a key of this object is not known"
+why_text why.NotInteger = codes "this is not a whole number of 64 bits"
+why_text why.NotVariable = codes "this is not a whole number from 0 to 65535, as a variable is"
+why_text why.NotRegister = codes "this is not a whole number from 0 to 255, as a register is"
+why_text why.NotCode = codes "this is not a whole number from 0 to 65535, as a code is"
+why_text why.NotArray = codes "this is not an array"
+why_text why.NotTwo = codes "this is not an array of two"
+why_text why.NotThree = codes "this is not an array of three"
+why_text why.NotWord = codes "this is not one to sixteen letters from a to z"
+why_text why.NotQuestion = codes "this is none of look, state, checkpoint and stats"
+why_text why.NotTransaction = codes "this is not a transaction"
+why_text why.NotStep = codes "this is not the name of a step"
+why_text why.TooManyReads = codes "more than 500 variables are read"
+why_text why.TooManyWrites = codes "more than 64 variables are written"
+why_text why.TooManyChecks = codes "more than 8 names are checked"
+why_text why.TooManyRetires = codes "more than 8 names are retired"
+why_text why.VariableTwice = codes "a variable stands twice in this list"
+why_text why.NameTwice = codes "a name stands twice in this list"
+why_text why.CheckedAndRetired = codes "a name is both checked and retired"
+why_text why.NoSuchVariable = codes "the store has no such variable"
+why_text why.NoSuchName = codes "the store has no invariant of this name"
+why_text why.AlwaysHolds = codes "an invariant that always holds cannot be retired"
+why_text why.NotRequest = codes "this is not a request"
+
+-- a step of a JSON pointer (RFC 6901)
+abbrev pub step_text : Step → List ℕ
+step_text (Key key) = codes "/" ++ key.now
+step_text (Item number) = codes "/" ++ decimal number
+
+-- where it is wrong
+abbrev pub place_text : Place → List ℕ
+place_text (Pointer steps) = flat_map step_text steps.items
+place_text (Column column) = codes "line 1 column " ++ decimal column
+
+-- the line, without its line break
+abbrev pub no_request_line : ℕ → NoRequest → List ℕ
+no_request_line line refusal =
+    codes "{\"line\":" ++ decimal line ++ codes ",\"fault\":0,\"word\":\"norequest\",\"why\":\"" ++ why_text refusal.why
+    ++ codes "\",\"at\":\"" ++ place_text refusal.at ++ codes "\"}"

@@ -1,0 +1,87 @@
+//! What was found wrong with a value, and the way there.
+ghost use Rattle.std.specs.Prelude.{◌≡◌, Some, IsOk, IfErr};
+ghost use Rattle.serde_json.specs.Data.{Data};
+ghost use Rattle.tmem_forms.specs.Errors.{Refuses};
+ghost use Rattle.tmem_requests.specs.Wrong.{IsTrueOf, IsWrong, Scope, TellsTruth, inner, next};
+
+use crate::place::{Place, Step};
+use crate::refusal::NoRequest;
+use crate::why::Why;
+use std::alloc::Global;
+use tmem_forms::FormError;
+
+/// What is wrong with a value or with one that it holds, and the steps that lead there. Where that is not known, or memory does not
+/// suffice for a step, no more is told than that the whole is no request.
+#[derive(Drop)]
+pub(crate) struct Wrong {
+    why: Why,
+    steps: Vec<Step>,
+}
+
+impl Wrong {
+    /// That the value itself is wrong.
+    pub(crate) fn here(alloc: Global, why: Why) -> Wrong
+        ensures { (scope : Scope) (d : Data) → IsWrong scope why d → IsTrueOf scope d result }
+    {
+        Wrong {
+            why,
+            steps: Vec::new(alloc),
+        }
+    }
+
+    /// The same of a value whose form was not read. Where memory did not suffice to read it, nothing is known to be wrong with it.
+    pub(crate) fn refused(alloc: Global, error: FormError, why: Why) -> Wrong
+        ensures { (scope : Scope) (d : Data) → Refuses error (IsWrong scope why d) → IsTrueOf scope d result }
+    {
+        match error {
+            FormError::Memory(_) => Wrong::here(alloc, Why::NotRequest),
+            FormError::NoForm => Wrong::here(alloc, why),
+        }
+    }
+
+    // The same of the value that this step begins at.
+    fn behind(self, step: Step) -> Wrong
+        ensures { (scope : Scope) (d e : Data) → next step d ≡ Some e → IsTrueOf (inner scope) e self → IsTrueOf scope d result }
+    {
+        let Wrong { why, mut steps } = self;
+        match why {
+            Why::NotRequest => Wrong::unknown(steps),
+            _ => match steps.insert(0, step) {
+                Ok(()) => Wrong { why, steps },
+                Err(_) => Wrong::unknown(steps),
+            },
+        }
+    }
+
+    // That it is not known what is wrong.
+    fn unknown(mut steps: Vec<Step>) -> Wrong
+        ensures { (scope : Scope) (d : Data) → IsTrueOf scope d result }
+    {
+        steps.clear();
+        Wrong {
+            why: Why::NotRequest,
+            steps,
+        }
+    }
+
+    /// What is told of it.
+    pub(crate) fn into_refusal(self) -> NoRequest
+        ensures { (scope : Scope) (d : Data) → IsTrueOf scope d self → TellsTruth scope d result }
+    {
+        NoRequest {
+            why: self.why,
+            at: Place::Pointer(self.steps),
+        }
+    }
+}
+
+/// Hands on what was found in the value that a step leads to.
+pub(crate) fn inside(step: Step, found: Result<(), Wrong>) -> Result<(), Wrong>
+    ensures fine { IsOk found → IsOk result }
+    ensures told { (scope : Scope) (d e : Data) → next step d ≡ Some e → IfErr found (λ w. IsTrueOf (inner scope) e w) → IfErr result (λ w. IsTrueOf scope d w) }
+{
+    match found {
+        Ok(()) => Ok(()),
+        Err(wrong) => Err(wrong.behind(step)),
+    }
+}

@@ -1,0 +1,9 @@
+pub mod Arrays
+pub mod Distinct
+pub mod Each
+pub mod Found
+pub mod Linears
+pub mod Named
+pub mod Objects
+pub mod Refusals
+pub mod SumTerms

@@ -1,0 +1,20 @@
+use Rattle.std.proofs.Common.{◌≡◌, ℕ, Some, map, String, Global, sym, ap, ◌∙◌, subst, arith}
+use Rattle.serde_json.specs.View.{view, members_view}
+use Rattle.tmem_disk.specs.Distinct.{AreDistinct}
+use Rattle.tmem_shape.proofs.Named.{names_found, names_same}
+use Rattle.tmem_shape.proofs.Objects.{object_found}
+use Rattle.tmem_shape.proofs.names.names_of.Goals as goal
+
+pub returns-in-Some-first_repeated-clause-refused :
+    goal.returns-in-Some-first_repeated-clause-refused
+returns-in-Some-first_repeated-clause-refused c = λ names has.
+    let d = view c.args.value.now in
+    let v = view c.in-Some.found.now in
+    let members = c.in_ok-members.members in
+    let found : c.as_object.result ≡ Some members = grind arith in
+    let is = object_found v c.as_object.result members c.as_object.ensures found in
+    let read = c.in_ok-names.names.items in
+    let all = names_found d v (members_view members.now.entries) c.args.vars names (sym c.in-Some.ensures) is has in
+    let same = names_same read names (sym c.in_ok-names.ensures.ok ∙ all) in
+    let variables = c.deref-2.ensures.value ∙ c.in_ok-variables.ensures ∙ ap (map (λ (n : String Global × ℕ). n.1)) c.deref.ensures.value ∙ same in
+    c.in-Some-first_repeated.ensures.distinct (subst AreDistinct (sym variables) has.distinct)

@@ -1,0 +1,4 @@
+pub mod Errors
+pub mod Keys
+pub mod Shapes
+pub mod Words

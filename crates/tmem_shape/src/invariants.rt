@@ -1,0 +1,174 @@
+//! Invariants.
+ghost use Rattle.std.specs.Prelude.{◌≡◌, ℕ, ℤ, List, Bool, Option, map, IsNone, IfSome, IfOk, IfErr, MatchOption};
+ghost use Rattle.std.specs.List.{AllZip};
+ghost use Rattle.serde_json.specs.Data.{string};
+ghost use Rattle.serde_json.specs.View.{view};
+ghost use Rattle.tmem_disk.specs.Name.{IsName};
+ghost use Rattle.tmem_invariants.specs.TableNames.{AreDistinct, has_name};
+ghost use Rattle.tmem_linear.specs.declared.linear.Linear.{Linear};
+ghost use Rattle.tmem_shape.specs.Errors.{Refuses};
+ghost use Rattle.tmem_shape.specs.Keys.{key_text};
+ghost use Rattle.tmem_shape.specs.Shapes.{HasAlways, HasBound, HasInvariants, HasName, IsInvariant};
+
+use crate::error::ShapeError;
+use crate::key::Key;
+use crate::members::{check_keys, member};
+use crate::numbers::integer_of;
+use crate::place::Place;
+use crate::terms::sum_of;
+use crate::why::Why;
+use serde_json::Value;
+use std::alloc::Global;
+use tmem_builtins::names;
+use tmem_disk::Name;
+use tmem_invariants::MAX_INVARIANTS;
+use tmem_linear::Linear;
+
+/// The invariants of a shape with so many variables.
+pub(crate) fn invariants_of(
+    alloc: Global,
+    value: &Value,
+    vars: u16,
+) -> Result<Vec<Linear>, ShapeError>
+    ensures ok { IfOk result (λ invariants. HasInvariants vars invariants.items (view value.now)) }
+    ensures refused { IfErr result (λ e. Refuses e ((invariants : List Linear) → ¬ HasInvariants vars invariants (view value.now))) }
+{
+    let found = member(value, Key::Invariants, Place::Whole)?;
+    let items = found.as_array().ok_or(ShapeError::NoShape {
+        why: Why::NotArray,
+        at: Place::Member(Key::Invariants),
+    })?;
+    if items.len() > MAX_INVARIANTS {
+        return Err(ShapeError::NoShape {
+            why: Why::TooManyInvariants,
+            at: Place::Member(Key::Invariants),
+        });
+    }
+    let invariants = linears_of(alloc, items, vars)?;
+    if let Some(i) = name_repeated(&invariants) {
+        return Err(ShapeError::NoShape {
+            why: Why::NameTwice,
+            at: Place::InvariantMember(i, Key::Name),
+        });
+    }
+    Ok(invariants)
+}
+
+// The invariants, in order.
+fn linears_of(alloc: Global, items: &[Value], vars: u16) -> Result<Vec<Linear>, ShapeError>
+    ensures ok { IfOk result (λ invariants. AllZip (IsInvariant vars) invariants.items (map view items.now)) }
+    ensures refused { IfErr result (λ e. Refuses e ((invariants : List Linear) → ¬ AllZip (IsInvariant vars) invariants (map view items.now))) }
+{
+    let mut invariants = Vec::with_capacity(alloc, items.len())?;
+    for (i, item) in items.iter().enumerate() {
+        invariants.push(linear_of(alloc, item, i, vars)?)?;
+    }
+    Ok(invariants)
+}
+
+// The place of the first invariant whose name an earlier one has, if there is one.
+fn name_repeated(invariants: &[Linear]) -> Option<usize>
+    ensures { MatchOption result (AreDistinct (map (λ linear. linear.name) invariants.now)) (λ place. ¬ AreDistinct (map (λ linear. linear.name) invariants.now)) }
+{
+    for (i, linear) in invariants.iter().enumerate() {
+        if is_named(&invariants[..i], &linear.name) {
+            return Some(i);
+        }
+    }
+    None
+}
+
+// Whether one of these has a name.
+fn is_named(invariants: &[Linear], name: &Name) -> bool
+    ensures { result ≡ has_name (map (λ linear. linear.name) invariants.now) name.now }
+{
+    invariants.iter().any(|linear| linear.name == *name)
+}
+
+// One invariant.
+fn linear_of(
+    alloc: Global,
+    value: &Value,
+    invariant: usize,
+    vars: u16,
+) -> Result<Linear, ShapeError>
+    ensures ok { IfOk result (λ linear. IsInvariant vars linear (view value.now)) }
+    ensures refused { IfErr result (λ e. Refuses e ((linear : Linear) → ¬ IsInvariant vars linear (view value.now))) }
+{
+    check_keys(
+        alloc,
+        value,
+        &[Key::Name, Key::Sum, Key::Least, Key::Most, Key::Always],
+        Some(invariant),
+    )?;
+    let name = name_of(value, invariant)?;
+    let (footprint, weights) = sum_of(alloc, value, invariant, vars)?;
+    let least = bound_of(value, Key::Least, invariant)?;
+    let most = bound_of(value, Key::Most, invariant)?;
+    if least.is_none() && most.is_none() {
+        return Err(ShapeError::NoShape {
+            why: Why::NoBound,
+            at: Place::Invariant(invariant),
+        });
+    }
+    let always = always_of(value, invariant)?;
+    Ok(Linear::new(name, footprint, weights, least, most, always))
+}
+
+// The name of an invariant.
+fn name_of(value: &Value, invariant: usize) -> Result<Name, ShapeError>
+    ensures ok { IfOk result (λ name. HasName name (view value.now)) }
+    ensures refused { IfErr result (λ e. Refuses e ((name : List ℕ) → ¬ HasName name (view value.now))) }
+{
+    let found = member(value, Key::Name, Place::Invariant(invariant))?;
+    let name = word_of(found).ok_or(ShapeError::NoShape {
+        why: Why::NotWord,
+        at: Place::InvariantMember(invariant, Key::Name),
+    })?;
+    if names().contains(&name) {
+        return Err(ShapeError::NoShape {
+            why: Why::Taken,
+            at: Place::InvariantMember(invariant, Key::Name),
+        });
+    }
+    Ok(name)
+}
+
+// One to sixteen letters.
+fn word_of(value: &Value) -> Option<Name>
+    ensures some { IfSome result (λ name. (view value.now ≡ string name) × IsName name) }
+    ensures none { IsNone result → (name : List ℕ) → IsName name → ¬ (view value.now ≡ string name) }
+{
+    let text = value.as_str()?;
+    Name::new(text).ok()
+}
+
+// The bound at a key, if there is one.
+fn bound_of(value: &Value, key: Key, invariant: usize) -> Result<Option<i64>, ShapeError>
+    ensures ok { IfOk result (λ bound. HasBound (key_text key) bound (view value.now)) }
+    ensures refused { IfErr result (λ e. Refuses e ((bound : Option ℤ) → ¬ HasBound (key_text key) bound (view value.now))) }
+{
+    let Some(found) = value.get(key.as_str()) else {
+        return Ok(None);
+    };
+    let number = integer_of(found).ok_or(ShapeError::NoShape {
+        why: Why::NotBound,
+        at: Place::InvariantMember(invariant, key),
+    })?;
+    Ok(Some(number))
+}
+
+// Whether it is registered as the store is made.
+fn always_of(value: &Value, invariant: usize) -> Result<bool, ShapeError>
+    ensures ok { IfOk result (λ always. HasAlways always (view value.now)) }
+    ensures refused { IfErr result (λ e. Refuses e ((always : Bool) → ¬ HasAlways always (view value.now))) }
+{
+    match value.get("always") {
+        None => Ok(false),
+        Some(Value::Bool(true)) => Ok(true),
+        Some(_) => Err(ShapeError::NoShape {
+            why: Why::NotTrue,
+            at: Place::InvariantMember(invariant, Key::Always),
+        }),
+    }
+}

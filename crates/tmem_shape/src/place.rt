@@ -1,0 +1,83 @@
+//! Where in the text of a shape something is wrong.
+use crate::key::Key;
+use std::fmt;
+
+/// A place in the text of a shape. It prints as the JSON pointer (RFC 6901) of a value or of a key, or as a line and a column
+/// where the text is not JSON. Items are counted from 0, lines and columns from 1.
+#[derive(Debug, Drop)]
+pub enum Place {
+    /// A line and a column of the text.
+    Text { line: usize, column: usize },
+    /// The value of the whole text.
+    Whole,
+    /// What stands at this key of the whole.
+    Member(Key),
+    /// A key of the whole that it may not have.
+    Unknown(String),
+    /// An invariant.
+    Invariant(usize),
+    /// What stands at this key of an invariant.
+    InvariantMember(usize, Key),
+    /// A key of an invariant that it may not have.
+    InvariantUnknown(usize, String),
+    /// A term of an invariant's sum.
+    Term(usize, usize),
+    /// An item of such a term.
+    TermItem(usize, usize, usize),
+    /// The variable of this name.
+    Name(String),
+}
+
+impl Place {
+    // The place of an invariant, or of the whole.
+    pub(crate) fn of(invariant: Option<usize>) -> Place {
+        match invariant {
+            Some(i) => Place::Invariant(i),
+            None => Place::Whole,
+        }
+    }
+
+    // The place of a key that an invariant, or the whole, may not have.
+    pub(crate) fn unknown_in(invariant: Option<usize>, key: String) -> Place {
+        match invariant {
+            Some(i) => Place::InvariantUnknown(i, key),
+            None => Place::Unknown(key),
+        }
+    }
+}
+
+impl fmt::Display for Place {
+    fn fmt<W: fmt::Write>(&self, f: &mut fmt::Formatter<W>) -> fmt::Result {
+        match self {
+            Place::Text { line, column } => write!(f, "line {line} column {column}"),
+            Place::Whole => Ok(()),
+            Place::Member(key) => write!(f, "/{}", key.as_str()),
+            Place::Unknown(key) => write_step(f, key.as_str()),
+            Place::Invariant(i) => write!(f, "/invariants/{i}"),
+            Place::InvariantMember(i, key) => write!(f, "/invariants/{i}/{}", key.as_str()),
+            Place::InvariantUnknown(i, key) => {
+                write!(f, "/invariants/{i}")?;
+                write_step(f, key.as_str())
+            }
+            Place::Term(i, term) => write!(f, "/invariants/{i}/sum/{term}"),
+            Place::TermItem(i, term, item) => write!(f, "/invariants/{i}/sum/{term}/{item}"),
+            Place::Name(name) => {
+                write!(f, "/names")?;
+                write_step(f, name.as_str())
+            }
+        }
+    }
+}
+
+// A step of a pointer to a key: a `~` in it is written `~0`, and a `/` `~1`.
+fn write_step<W: fmt::Write>(f: &mut fmt::Formatter<W>, key: &str) -> fmt::Result {
+    write!(f, "/")?;
+    for letter in key.chars() {
+        match letter {
+            '~' => write!(f, "~0")?,
+            '/' => write!(f, "~1")?,
+            _ => write!(f, "{letter}")?,
+        }
+    }
+    Ok(())
+}

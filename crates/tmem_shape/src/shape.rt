@@ -1,0 +1,115 @@
+//! The shape of a store.
+ghost use Rattle.std.specs.Prelude.{◌≡◌, None, Some, IsUtf8, IfOk, IfErr};
+ghost use Rattle.serde_json.specs.Read.{read};
+ghost use Rattle.serde_json.specs.View.{view};
+ghost use Rattle.tmem_shape.specs.Errors.{Refuses};
+
+use crate::error::ShapeError;
+use crate::invariants::invariants_of;
+use crate::key::Key;
+use crate::members::check_keys;
+use crate::names::names_of;
+use crate::numbers::number_at;
+use crate::place::Place;
+use crate::why::Why;
+use serde_json::Value;
+use std::alloc::{AllocError, Global};
+use tmem_disk::Name;
+use tmem_linear::Linear;
+use tmem_record::{LEAST_SLOTS, MOST_SLOTS, MOST_VARS};
+
+/// What a store is: its variables, its log, its invariants, and names of variables.
+#[derive(Drop)]
+pub struct Shape {
+    /// How many variables there are, from 1 to 1024.
+    pub vars: u16,
+    /// How many slots the log has, from 2 to 64.
+    pub slots: u16,
+    /// The invariants, in order: at most 64, over these variables, and no name twice.
+    pub invariants: Vec<Linear>,
+    /// Variables that have names, in the order of the names' bytes. None has two.
+    pub names: Vec<(String, u16)>,
+}
+
+impl Shape {
+    ghost use Rattle.std.specs.Prelude.{map, filter, true};
+    ghost use Rattle.tmem_shape.specs.Shapes.{IsShape, IsShapeText};
+    ghost use Rattle.tmem_shape.specs.declared.shape.Shape.{Shape};
+
+    /// Reads a shape from its text, and refuses a text that is none, with why and where.
+    pub fn from_slice(alloc: Global, text: &[u8]) -> Result<Shape, ShapeError>
+        ensures ok { IfOk result (λ shape. IsShapeText shape text.now) }
+        ensures refused { IfErr result (λ e. Refuses e ((shape : Shape) → ¬ IsShapeText shape text.now)) }
+    {
+        let value = value_of(alloc, text)?;
+        Shape::from_value(alloc, &value)
+    }
+
+    fn from_value(alloc: Global, value: &Value) -> Result<Shape, ShapeError>
+        ensures ok { IfOk result (λ shape. IsShape shape (view value.now)) }
+        ensures refused { IfErr result (λ e. Refuses e ((shape : Shape) → ¬ IsShape shape (view value.now))) }
+    {
+        check_keys(
+            alloc,
+            value,
+            &[Key::Vars, Key::Slots, Key::Invariants, Key::Names],
+            None,
+        )?;
+        let vars = number_at(value, Key::Vars, 1, MOST_VARS)?;
+        let slots = number_at(value, Key::Slots, LEAST_SLOTS, MOST_SLOTS)?;
+        let invariants = invariants_of(alloc, value, vars)?;
+        let names = names_of(alloc, value, vars)?;
+        Ok(Shape {
+            vars,
+            slots,
+            invariants,
+            names,
+        })
+    }
+
+    /// The names of the invariants, in order.
+    pub fn invariant_names(&self, alloc: Global) -> Result<Vec<Name>, AllocError>
+        ensures { IfOk result (λ names. names.items ≡ map (λ linear. linear.name) self.now.invariants.items) }
+    {
+        let mut names = Vec::with_capacity(alloc, self.invariants.len())?;
+        for linear in &self.invariants {
+            names.push(linear.name)?;
+        }
+        Ok(names)
+    }
+
+    /// The names of those that are registered as the store is made, in order.
+    pub fn always_names(&self, alloc: Global) -> Result<Vec<Name>, AllocError>
+        ensures { IfOk result (λ names. names.items ≡ map (λ linear. linear.name) (filter (λ linear. linear.always) self.now.invariants.items)) }
+    {
+        let mut names = Vec::with_capacity(alloc, self.invariants.len())?;
+        for linear in &self.invariants {
+            if linear.always {
+                names.push(linear.name)?;
+            }
+        }
+        Ok(names)
+    }
+}
+
+// The value of a text.
+fn value_of(alloc: Global, text: &[u8]) -> Result<Value, ShapeError>
+    ensures utf8 { IfOk result (λ value. IsUtf8 text.now) }
+    ensures ok { IfOk result (λ value. read text.now ≡ Some (view value)) }
+    ensures refused { IfErr result (λ e. Refuses e (IsUtf8 text.now → read text.now ≡ None)) }
+{
+    let error = match Value::from_slice(alloc, text) {
+        Ok(value) => return Ok(value),
+        Err(error) => error,
+    };
+    if error.is_memory() {
+        return Err(ShapeError::Memory(AllocError));
+    }
+    Err(ShapeError::NoShape {
+        why: Why::NotJson,
+        at: Place::Text {
+            line: error.line(),
+            column: error.column(),
+        },
+    })
+}
