@@ -97,6 +97,8 @@ static SCENES: &[Line<'static>] = &[
     First(TryCommit(Task::Write(1, 2)), Committed(1)),
     First(ReleasePass, Done),
     Second(AwaitHeld(1), Done),
+    // the last thread has taken its pass by then, so that none is left
+    Second(Sleep(300), Done),
     Second(AcquireWithin(30), Late),
     Second(Peek(1), Value(0)),
     Second(Release, Done),
