@@ -26,13 +26,15 @@ test:
 mutants:
 	.ci/mutants $(CRATES)
 
-# Compares the program with a plain model (fuzz/) on hostile contents and scripts: as many as CASES says, made of SEED. Case K alone:
-# fuzz/fuzz crates/tmem/out/unproved CASES SEED K
+# Compares the program with plain models (fuzz/): on hostile contents and scripts, as many as CASES says, and on random requests, made of
+# SEED. Case K alone: fuzz/fuzz crates/tmem/out/unproved CASES SEED K, and so for fuzz/serve
 CASES = 20000
+REQUESTS = 400
 SEED = 1
 
 fuzz: $(UNPROVED)
 	@fuzz/fuzz $(UNPROVED) $(CASES) $(SEED)
+	@fuzz/serve $(UNPROVED) $(REQUESTS) $(SEED)
 
 # Proves the program, and times the jobs of a service. bench/check compares what it prints with a simulated clock.
 bench: build

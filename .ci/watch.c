@@ -1,6 +1,7 @@
 /* Loaded before a program's libraries. It appends a line for each call to the file CALLS: what is called, the name of the file,
    the place in it and how many bytes. And it lets calls fail, as these variables say:
    FAILING=N  the Nth call that writes, syncs or names a file
+   KILLED=N   the program is killed at that call, and half of a write is done then
    SHORT=N    no call moves more than N bytes of a file
    THREADS=N  N threads can be started
    STOPPED=1  no clock can be read
@@ -14,6 +15,7 @@
 #include <fcntl.h>
 #include <pthread.h>
 #include <sched.h>
+#include <signal.h>
 #include <stdio.h>
 #include <stdlib.h>
 #include <string.h>
@@ -55,7 +57,8 @@ static void say_of(const char *call, int file, long at, long count) {
 }
 
 static int fails(void) {
-  if (++made != number("FAILING")) return 0;
+  if (++made == number("KILLED")) kill(getpid(), SIGKILL);
+  if (made != number("FAILING")) return 0;
   errno = EIO;
   return 1;
 }
@@ -68,6 +71,7 @@ static size_t few(size_t count) {
 ssize_t pwrite(int file, const void *bytes, size_t count, off_t at) {
   REAL(pwrite);
   say_of("write", file, at, count);
+  if (made + 1 == number("KILLED")) real(file, bytes, count / 2, at);
   return fails() ? -1 : real(file, bytes, few(count), at);
 }
 

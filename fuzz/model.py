@@ -140,8 +140,12 @@ class Opened:
                 content[layout.slot(k)] = 0
         if self.version < newest:
             self.next_image()
+        self.look_at_names()
+
+    def look_at_names(self):
+        """Refuses a state with a registered name that the program lacks, or one whose invariant is false."""
         for name in sorted(self.names):
-            if name not in known(layout.vars):
+            if name not in known(self.layout.vars):
                 raise Refused(f"fault 10 missing {name}")
         broken = self.broken(self.names, self.values)
         if broken:
@@ -228,6 +232,30 @@ class Opened:
     def broken(self, names, values):
         """The first of these invariants that is false."""
         return next((it for it in TABLE if it in names and not holds(it, values.__getitem__)), None)
+
+
+class Recovered(Opened):
+    """What an opening finds that knows nothing of what the names mean."""
+
+    def look_at_names(self):
+        pass
+
+
+def recovery(content):
+    """What an opening of a content finds, by the numbers of its own block 0, as `tmem show --json` tells it: a state, or the number of a
+    fault."""
+    if len(content) < 512:
+        return {"fault": 17}
+    if content[:5] != bytes([OPEN]) + b"TMEM":
+        return {"fault": 8}
+    layout, version = Layout(*struct.unpack_from("<HH", content, 6)), content[5]
+    if not layout.is_allowed() or not 1 <= version <= NEWEST or content[:512] != block(layout, version):
+        return {"fault": 9}
+    try:
+        found = Recovered(bytearray(content), layout)
+    except Refused as refused:
+        return {"fault": int(str(refused).split()[1])}
+    return {"count": found.count, "names": found.names, "values": found.values}
 
 
 class Run:

@@ -1,5 +1,5 @@
 //! `tmem`: plays scripts of durable transactions, and prints a line for each event; or lets threads count up; or times the jobs
-//! of a service.
+//! of a service; or shows, makes or serves a store.
 #![tactic(auto)]
 
 mod command_line;

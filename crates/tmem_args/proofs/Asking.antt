@@ -44,8 +44,17 @@ module _ (matches : ArgMatches) (words : List Text) (same : subcommand_rows_of m
   pub named : command_in words ≡ subcommand_name_of matches
   named = ap (option_map (λ p. p.0)) (sym same) ∙ name_of (out-ArgMatches matches).subcommand
 
-  pub names_no_other : (subcommand_name_of matches ≡ Some (codes "threads") → ⊥) → (subcommand_name_of matches ≡ Some (codes "bench") → ⊥) → NamesNoOther words
-  names_no_other no_threads no_bench = (λ is. no_threads (sym named ∙ is), λ is. no_bench (sym named ∙ is))
+  pub names_no_other : (subcommand_name_of matches ≡ Some (codes "threads") → ⊥) → (subcommand_name_of matches ≡ Some (codes "bench") → ⊥)
+      → (subcommand_name_of matches ≡ Some (codes "show") → ⊥) → (subcommand_name_of matches ≡ Some (codes "init") → ⊥)
+      → (subcommand_name_of matches ≡ Some (codes "serve") → ⊥) → NamesNoOther words
+  names_no_other no_threads no_bench no_show no_init no_serve =
+      record {
+        threads = λ is. no_threads (sym named ∙ is);
+        bench = λ is. no_bench (sym named ∙ is);
+        show = λ is. no_show (sym named ∙ is);
+        init = λ is. no_init (sym named ∙ is);
+        serve = λ is. no_serve (sym named ∙ is);
+      }
 
   -- what was read of its rows is what the words give it
   pub given : {A : Type 0} (f : List Row → Option A) (rows : Option (List Row)) → rows ≡ option_map (λ p. p.1) (subcommand_rows_of matches)

@@ -1,5 +1,5 @@
 -- What a command line asks for, in the terms of the parser that reads it.
-use Rattle.std.specs.Prelude.{◌≡◌, ◌≢◌, ◌⊎◌, ◌<◌, ◌^◌, ⊤, ℕ, pos, List, [], ◌∷◌, Option, Some, None, true, codes, option_and_then, option_map}
+use Rattle.std.specs.Prelude.{◌≡◌, ◌≢◌, ◌⊎◌, ◌<◌, ◌^◌, ⊤, ℕ, pos, List, [], ◌∷◌, Bool, Option, Some, None, true, false, codes, option_and_then, option_map}
 use Rattle.std.specs.Str.Parse.{IsNumeral, digits_value, without_leading_plus}
 use Rattle.clap.specs.Kinds.{Kinds}
 use Rattle.clap.specs.Walk.{Rule, Text, first_of, one_of}
@@ -7,10 +7,14 @@ use Rattle.clap.specs.declared.builder.value_parser.ValueParser.{ValueParser}
 use Rattle.clap.specs.declared.builder.value_parser.ValueParser.TheVariants as vp
 use Rattle.clap.specs.Simple.{App, Shape, new_shape, new_rule, with_subcommand, subcommand_of}
 use Rattle.clap.specs.Faults.{fault_of}
+use Rattle.clap.specs.declared.builder.action.ArgAction.TheVariants.{SetTrue}
 use Rattle.clap.specs.declared.error.kind.ErrorKind.{ErrorKind}
 use Rattle.clap.specs.declared.error.kind.ErrorKind.TheVariants.{DisplayHelp, DisplayVersion}
 use Rattle.tmem_args.specs.declared.args.Asked.{Asked}
-use Rattle.tmem_args.specs.declared.args.Asked.TheVariants.{Run, Threads, Bench}
+use Rattle.tmem_args.specs.declared.args.Asked.TheVariants.{Run, Threads, Bench, Show, Init, Serve}
+use Rattle.tmem_args.specs.declared.args.Showing.{Showing}
+use Rattle.tmem_args.specs.declared.args.Making.{Making}
+use Rattle.tmem_args.specs.declared.args.Serving.{Serving}
 
 -- the path of a script
 abbrev pub script_word : Rule
@@ -41,13 +45,43 @@ threads_words =
 abbrev pub bench_words : Shape
 bench_words = record (new_shape (codes "bench")) { rules = disk_words ∷ [] }
 
+-- the path of a store, which has to be there
+abbrev pub store_word : Rule
+store_word = record (new_rule (codes "store")) { value_names = 1; required = true }
+
+-- a word that is given or not
+abbrev pub flag_word : Text → Rule
+flag_word id = record (new_rule id) { long = Some id; action = Some SetTrue }
+
+-- `show`, with the path of a store, and how it is to be shown
+abbrev pub show_words : Shape
+show_words = record (new_shape (codes "show")) { rules = store_word ∷ flag_word (codes "json") ∷ flag_word (codes "hex") ∷ [] }
+
+-- the path of a file that has a shape, which has to be there
+abbrev pub file_word : Rule
+file_word = record (new_rule (codes "file")) { value_names = 1; required = true }
+
+-- `init`, with the path of a store and that of a shape, and whether it is to be made in place
+abbrev pub init_words : Shape
+init_words = record (new_shape (codes "init")) { rules = store_word ∷ file_word ∷ flag_word (codes "in-place") ∷ [] }
+
+-- `--shape`, with the path of a shape
+abbrev pub shape_words : Rule
+shape_words = record (new_rule (codes "shape")) { long = Some (codes "shape"); value_names = 1 }
+
+-- `serve`, with the path of a store, and maybe with that of its shape
+abbrev pub serve_words : Shape
+serve_words = record (new_shape (codes "serve")) { rules = store_word ∷ shape_words ∷ [] }
+
 -- the program, which takes a request for its version and wants a subcommand, before it has one
 abbrev pub program_alone : App
 program_alone = record { top = record (new_shape (codes "tmem")) { has_version = true; subcommand_required = true }; subs = [] }
 
 -- what the words may be: one of these subcommands, or a request for help or the version
 abbrev pub command_line : App
-command_line = with_subcommand (with_subcommand (with_subcommand program_alone run_words) threads_words) bench_words
+command_line =
+    let earlier = with_subcommand (with_subcommand (with_subcommand program_alone run_words) threads_words) bench_words in
+    with_subcommand (with_subcommand (with_subcommand earlier show_words) init_words) serve_words
 
 -- what is wrong with the words, or which request they are; nothing where something is to be done
 abbrev pub why_not_done : List Text → Kinds
@@ -65,9 +99,25 @@ AsksToCount words = (why_not_done words ≡ []) × (command_in words ≡ Some (c
 abbrev pub AsksToBench : List Text → Type 0
 AsksToBench words = (why_not_done words ≡ []) × (command_in words ≡ Some (codes "bench"))
 
--- the words name neither of the other subcommands
-abbrev pub NamesNoOther : List Text → Type 0
-NamesNoOther words = (command_in words ≢ Some (codes "threads")) × (command_in words ≢ Some (codes "bench"))
+-- a store is to be shown
+abbrev pub AsksToShow : List Text → Type 0
+AsksToShow words = (why_not_done words ≡ []) × (command_in words ≡ Some (codes "show"))
+
+-- a store is to be made
+abbrev pub AsksToInit : List Text → Type 0
+AsksToInit words = (why_not_done words ≡ []) × (command_in words ≡ Some (codes "init"))
+
+-- a store is to be served
+abbrev pub AsksToServe : List Text → Type 0
+AsksToServe words = (why_not_done words ≡ []) × (command_in words ≡ Some (codes "serve"))
+
+-- the words name none of the other subcommands
+pub record NamesNoOther (words : List Text) : Type 0 where
+  pub threads : command_in words ≢ Some (codes "threads")
+  pub bench : command_in words ≢ Some (codes "bench")
+  pub show : command_in words ≢ Some (codes "show")
+  pub init : command_in words ≢ Some (codes "init")
+  pub serve : command_in words ≢ Some (codes "serve")
 
 -- a script is to be played: there is no other subcommand
 abbrev pub AsksToPlay : List Text → Type 0
@@ -100,9 +150,13 @@ path_in words = option_and_then (λ found. first_of (codes "script") found.1) (s
 abbrev pub disk_in : List Text → Option Text
 disk_in words = option_and_then (λ found. first_of (codes "disk") found.1) (subcommand_of command_line words)
 
--- the text of a number in the words, as it is read
-abbrev pub number_text_in : Text → List Text → Option Text
-number_text_in id words = option_and_then (λ found. one_of id found.1) (subcommand_of command_line words)
+-- the path of the store that is to be shown
+abbrev pub store_in : List Text → Option Text
+store_in words = option_and_then (λ found. first_of (codes "store") found.1) (subcommand_of command_line words)
+
+-- the text of an argument in the words, as it is read
+abbrev pub text_in : Text → List Text → Option Text
+text_in id words = option_and_then (λ found. one_of id found.1) (subcommand_of command_line words)
 
 -- The number of a text: the value of its digits, which a plus may precede, where that has 16 bits; and 0 where there is none.
 abbrev pub IsNumberOf : Option Text → ℕ → Type 0
@@ -110,10 +164,40 @@ IsNumberOf None n = n ≡ 0
 IsNumberOf (Some text) n =
     IsNumeral 10 (without_leading_plus text) → digits_value 10 (without_leading_plus text) < 2 ^ 16 → n ≡ digits_value 10 (without_leading_plus text)
 
+-- the path of the file that a store is made of
+abbrev pub file_in : List Text → Option Text
+file_in words = option_and_then (λ found. first_of (codes "file") found.1) (subcommand_of command_line words)
+
+-- the path of the shape of a store that is to be served
+abbrev pub shape_in : List Text → Option Text
+shape_in words = option_and_then (λ found. first_of (codes "shape") found.1) (subcommand_of command_line words)
+
+-- what the text of a flag says
+pub record IsFlagOf (text : Option Text) (flag : Bool) : Type 0 where
+  pub given : text ≡ Some (codes "true") → flag ≡ true
+  pub left_out : text ≡ Some (codes "false") → flag ≡ false
+
 -- how many workers there are to be, and how often each of them is to add
 pub record AreNumbersIn (words : List Text) (workers turns : ℕ) : Type 0 where
-  pub many : IsNumberOf (number_text_in (codes "workers") words) workers
-  pub often : IsNumberOf (number_text_in (codes "turns") words) turns
+  pub many : IsNumberOf (text_in (codes "workers") words) workers
+  pub often : IsNumberOf (text_in (codes "turns") words) turns
+
+-- which store is to be shown, and how
+pub record IsShowingIn (words : List Text) (showing : Showing) : Type 0 where
+  pub store : option_map (λ text. text.now) showing.store ≡ store_in words
+  pub json : IsFlagOf (text_in (codes "json") words) showing.is_json
+  pub hex : IsFlagOf (text_in (codes "hex") words) showing.has_hex
+
+-- which store is to be made, of which file, and whether in place
+pub record IsMakingIn (words : List Text) (making : Making) : Type 0 where
+  pub store : option_map (λ text. text.now) making.store ≡ store_in words
+  pub file : option_map (λ text. text.now) making.file ≡ file_in words
+  pub in_place : IsFlagOf (text_in (codes "in-place") words) making.is_in_place
+
+-- which store is to be served, and with which shape
+pub record IsServingIn (words : List Text) (serving : Serving) : Type 0 where
+  pub store : option_map (λ text. text.now) serving.store ≡ store_in words
+  pub shape : option_map (λ text. text.now) serving.shape ≡ shape_in words
 
 -- what was read from the words is what they ask for
 abbrev pub IsAsked : List Text → Asked → Type 0
@@ -122,6 +206,9 @@ IsAsked words (Run paths) =
 IsAsked words (Threads counting) =
     (command_in words ≡ Some (codes "threads")) × AreNumbersIn words counting.workers counting.turns × (option_map (λ text. text.now) counting.disk ≡ disk_in words)
 IsAsked words (Bench disk) = (command_in words ≡ Some (codes "bench")) × (option_map (λ text. text.now) disk ≡ disk_in words)
+IsAsked words (Show showing) = (command_in words ≡ Some (codes "show")) × IsShowingIn words showing
+IsAsked words (Init making) = (command_in words ≡ Some (codes "init")) × IsMakingIn words making
+IsAsked words (Serve serving) = (command_in words ≡ Some (codes "serve")) × IsServingIn words serving
 
 -- a script is to be played: that of this path, or of standard input, on the store of that path, or on a device in memory
 pub record Plays (words : List Text) (script disk : Option Text) : Type 0 where
@@ -132,8 +219,8 @@ pub record Plays (words : List Text) (script disk : Option Text) : Type 0 where
 -- threads are to count up: with these numbers, in a new store of that path, or on a device in memory
 pub record Counts (words : List Text) (workers turns : Text) (disk : Option Text) : Type 0 where
   pub asks : AsksToCount words
-  pub many : number_text_in (codes "workers") words ≡ Some workers
-  pub often : number_text_in (codes "turns") words ≡ Some turns
+  pub many : text_in (codes "workers") words ≡ Some workers
+  pub often : text_in (codes "turns") words ≡ Some turns
   pub store : disk_in words ≡ disk
 
 -- the jobs of a service are to be timed: in a file of this path, or of the usual one
@@ -141,10 +228,32 @@ pub record Benches (words : List Text) (disk : Option Text) : Type 0 where
   pub asks : AsksToBench words
   pub store : disk_in words ≡ disk
 
+-- the store of this path is to be shown: as JSON or as text, with its bytes or without
+pub record Shows (words : List Text) (store json hex : Text) : Type 0 where
+  pub asks : AsksToShow words
+  pub path : store_in words ≡ Some store
+  pub as_json : text_in (codes "json") words ≡ Some json
+  pub with_hex : text_in (codes "hex") words ≡ Some hex
+
+-- a store of this path is to be made of that file, in place or not
+pub record Makes (words : List Text) (store file in_place : Text) : Type 0 where
+  pub asks : AsksToInit words
+  pub path : store_in words ≡ Some store
+  pub from : file_in words ≡ Some file
+  pub flag : text_in (codes "in-place") words ≡ Some in_place
+
+-- the store of this path is to be served, with the shape of that file, or with the one beside it
+pub record Serves (words : List Text) (store : Text) (shape : Option Text) : Type 0 where
+  pub asks : AsksToServe words
+  pub path : store_in words ≡ Some store
+  pub with_shape : shape_in words ≡ shape
+
 -- how the plain command lines are read: `run` plays what stands on standard input, `run` with a path that file, each in
 -- memory or, behind `--disk`, on the store of that path; help and the version are requests; no command, an unknown one,
 -- `--disk` with no path and `--disk` twice are neither. `threads` takes two numbers, from 1 to 16 and from 1 to 1000: other ones,
--- what is no number, and fewer than two are neither. `bench` takes no number.
+-- what is no number, and fewer than two are neither. `bench` takes no number. `show` takes the path of a store, and both of its flags or none, in any
+-- order. `init` takes the path of a store and that of a file, and maybe its flag, and `serve` the path of a store, and maybe that of a
+-- shape.
 pub record ReadsPlainly (name : Text) : Type 0 where
   pub input : Plays (name ∷ codes "run" ∷ []) None None
   pub file : Plays (name ∷ codes "run" ∷ codes "first.json" ∷ []) (Some (codes "first.json")) None
@@ -169,3 +278,15 @@ pub record ReadsPlainly (name : Text) : Type 0 where
   pub bench : Benches (name ∷ codes "bench" ∷ []) None
   pub bench_on_store : Benches (name ∷ codes "bench" ∷ codes "--disk" ∷ codes "store" ∷ []) (Some (codes "store"))
   pub bench_by_number : AreRefused (name ∷ codes "bench" ∷ codes "4" ∷ [])
+  pub show : Shows (name ∷ codes "show" ∷ codes "store" ∷ []) (codes "store") (codes "false") (codes "false")
+  pub show_as_json : Shows (name ∷ codes "show" ∷ codes "store" ∷ codes "--json" ∷ []) (codes "store") (codes "true") (codes "false")
+  pub show_with_hex : Shows (name ∷ codes "show" ∷ codes "--hex" ∷ codes "store" ∷ []) (codes "store") (codes "false") (codes "true")
+  pub show_all : Shows (name ∷ codes "show" ∷ codes "--hex" ∷ codes "store" ∷ codes "--json" ∷ []) (codes "store") (codes "true") (codes "true")
+  pub show_nothing : AreRefused (name ∷ codes "show" ∷ [])
+  pub show_two : AreRefused (name ∷ codes "show" ∷ codes "a" ∷ codes "b" ∷ [])
+  pub init : Makes (name ∷ codes "init" ∷ codes "store" ∷ codes "shape.json" ∷ []) (codes "store") (codes "shape.json") (codes "false")
+  pub init_in_place : Makes (name ∷ codes "init" ∷ codes "--in-place" ∷ codes "store" ∷ codes "shape.json" ∷ []) (codes "store") (codes "shape.json") (codes "true")
+  pub init_no_file : AreRefused (name ∷ codes "init" ∷ codes "store" ∷ [])
+  pub serve : Serves (name ∷ codes "serve" ∷ codes "store" ∷ []) (codes "store") None
+  pub serve_with_shape : Serves (name ∷ codes "serve" ∷ codes "store" ∷ codes "--shape" ∷ codes "a.json" ∷ []) (codes "store") (Some (codes "a.json"))
+  pub serve_nothing : AreRefused (name ∷ codes "serve" ∷ [])

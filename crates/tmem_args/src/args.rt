@@ -5,10 +5,10 @@ ghost use Rattle.clap.specs.Kinds.{FailsBy};
 ghost use Rattle.clap.specs.Matches.{found_of};
 ghost use Rattle.clap.specs.Simple.{App, Shape, app_of, subcommand_of, subcommand_rows_of, with_subcommand as adding};
 ghost use Rattle.clap.specs.Walk.{Text, first_of, one_of, rows_of, rule_of};
-ghost use Rattle.tmem_args.specs.CommandLine.{IsAsked, IsNumberOf, ReadsPlainly, bench_words, command_line, disk_words, number_word, parsed_word, program_alone, run_words, script_word, threads_words, why_not_done};
+ghost use Rattle.tmem_args.specs.CommandLine.{IsAsked, IsNumberOf, ReadsPlainly, IsFlagOf, bench_words, command_line, disk_words, file_word, flag_word, init_words, number_word, parsed_word, program_alone, run_words, script_word, serve_words, shape_words, show_words, store_word, threads_words, why_not_done};
 
 use clap::builder::ValueParser;
-use clap::{Arg, ArgMatches, Command, value_parser};
+use clap::{Arg, ArgAction, ArgMatches, Command, value_parser};
 use std::alloc::{AllocError, Global};
 
 // What `--version` prints behind the program's name.
@@ -32,6 +32,43 @@ pub enum Asked<'a> {
     Threads(Counting<'a>),
     /// The jobs of a service are to be timed, in the file of this path or of the usual one.
     Bench(Option<&'a str>),
+    /// A store is to be shown.
+    Show(Showing<'a>),
+    /// A store is to be made.
+    Init(Making<'a>),
+    /// A store is to be served.
+    Serve(Serving<'a>),
+}
+
+/// Which store is to be made, and of what.
+#[derive(Clone, Copy)]
+pub struct Making<'a> {
+    /// Its file or block device.
+    pub store: Option<&'a str>,
+    /// The file of its shape.
+    pub file: Option<&'a str>,
+    /// On what is there.
+    pub is_in_place: bool,
+}
+
+/// Which store is to be served.
+#[derive(Clone, Copy)]
+pub struct Serving<'a> {
+    /// Its file or block device.
+    pub store: Option<&'a str>,
+    /// The file of its shape, or none for the one beside it.
+    pub shape: Option<&'a str>,
+}
+
+/// Which store is to be shown, and how.
+#[derive(Clone, Copy)]
+pub struct Showing<'a> {
+    /// Its file or block device.
+    pub store: Option<&'a str>,
+    /// As a JSON object, and not as text.
+    pub is_json: bool,
+    /// With the bytes of each part.
+    pub has_hex: bool,
 }
 
 /// How threads are to count up.
@@ -73,6 +110,15 @@ fn asked_in<'a>(matches: &ArgMatches<'a>) -> Asked<'a>
     if let Some(bench) = matches.subcommand_matches("bench") {
         return Asked::Bench(disk_of(bench));
     }
+    if let Some(show) = matches.subcommand_matches("show") {
+        return Asked::Show(showing_of(show));
+    }
+    if let Some(init) = matches.subcommand_matches("init") {
+        return Asked::Init(making_of(init));
+    }
+    if let Some(serve) = matches.subcommand_matches("serve") {
+        return Asked::Serve(serving_of(serve));
+    }
     let Some((_, run)) = matches.subcommand() else {
         return Asked::Run(Paths {
             script: None,
@@ -106,6 +152,57 @@ fn counting_of<'a>(threads: &ArgMatches<'a>) -> Counting<'a>
     }
 }
 
+// What `show` is given.
+fn showing_of<'a>(show: &ArgMatches<'a>) -> Showing<'a>
+    ensures store { option_map (λ text. text.now) result.store ≡ first_of (codes "store") (rows_of (found_of show.now)) }
+    ensures json { IsFlagOf (one_of (codes "json") (rows_of (found_of show.now))) result.is_json }
+    ensures hex { IsFlagOf (one_of (codes "hex") (rows_of (found_of show.now))) result.has_hex }
+{
+    Showing {
+        store: text_of(show, "store"),
+        is_json: flag_in(show, "json"),
+        has_hex: flag_in(show, "hex"),
+    }
+}
+
+// What `init` is given.
+fn making_of<'a>(init: &ArgMatches<'a>) -> Making<'a>
+    ensures store { option_map (λ text. text.now) result.store ≡ first_of (codes "store") (rows_of (found_of init.now)) }
+    ensures file { option_map (λ text. text.now) result.file ≡ first_of (codes "file") (rows_of (found_of init.now)) }
+    ensures in_place { IsFlagOf (one_of (codes "in-place") (rows_of (found_of init.now))) result.is_in_place }
+{
+    Making {
+        store: text_of(init, "store"),
+        file: text_of(init, "file"),
+        is_in_place: flag_in(init, "in-place"),
+    }
+}
+
+// What `serve` is given.
+fn serving_of<'a>(serve: &ArgMatches<'a>) -> Serving<'a>
+    ensures store { option_map (λ text. text.now) result.store ≡ first_of (codes "store") (rows_of (found_of serve.now)) }
+    ensures shape { option_map (λ text. text.now) result.shape ≡ first_of (codes "shape") (rows_of (found_of serve.now)) }
+{
+    Serving {
+        store: text_of(serve, "store"),
+        shape: text_of(serve, "shape"),
+    }
+}
+
+// Whether a flag is given.
+fn flag_in(matches: &ArgMatches, id: &str) -> bool
+    ensures { IsFlagOf (one_of id.now (rows_of (found_of matches.now))) result }
+{
+    matches.get_flag(id)
+}
+
+// The text of an argument.
+fn text_of<'a>(matches: &ArgMatches<'a>, id: &str) -> Option<&'a str>
+    ensures { option_map (λ text. text.now) result ≡ first_of id.now (rows_of (found_of matches.now)) }
+{
+    matches.get_str(id)
+}
+
 // The path behind `--disk`.
 fn disk_of<'a>(matches: &ArgMatches<'a>) -> Option<&'a str>
     ensures { option_map (λ text. text.now) result ≡ first_of (codes "disk") (rows_of (found_of matches.now)) }
@@ -125,7 +222,10 @@ fn command<'a>(alloc: Global) -> Result<Command<'a>, AllocError>
 {
     let with_run = with_subcommand(program(alloc), run_command(alloc));
     let with_threads = with_subcommand(with_run, threads_command(alloc));
-    with_subcommand(with_threads, bench_command(alloc))
+    let with_bench = with_subcommand(with_threads, bench_command(alloc));
+    let with_show = with_subcommand(with_bench, show_command(alloc));
+    let with_init = with_subcommand(with_show, init_command(alloc));
+    with_subcommand(with_init, serve_command(alloc))
 }
 
 // The program with no subcommand yet.
@@ -191,6 +291,86 @@ fn bench_command<'a>(alloc: Global) -> Result<Command<'a>, AllocError>
             alloc,
             "The file of the timed stores, which must not be there yet, and is removed again [default: tmem-bench.store]",
         ))
+}
+
+fn show_command<'a>(alloc: Global) -> Result<Command<'a>, AllocError>
+    ensures app { IfOk result (λ command. app_of command ≡ record { top = show_words; subs = [] }) }
+    ensures local { IfOk result (λ command. (fields_of command).has_globals ≡ false) }
+{
+    Command::new(alloc, "show")
+        .about("Shows what is in a store, without changing it")
+        .arg(store_arg(alloc))?
+        .arg(flag_arg(alloc, "json", "Print one JSON object"))?
+        .arg(flag_arg(alloc, "hex", "Print the bytes of each part too"))
+}
+
+fn init_command<'a>(alloc: Global) -> Result<Command<'a>, AllocError>
+    ensures app { IfOk result (λ command. app_of command ≡ record { top = init_words; subs = [] }) }
+    ensures local { IfOk result (λ command. (fields_of command).has_globals ≡ false) }
+{
+    Command::new(alloc, "init")
+        .about("Makes a store of a shape, and puts the shape beside it")
+        .arg(store_arg(alloc))?
+        .arg(file_arg(alloc))?
+        .arg(flag_arg(
+            alloc,
+            "in-place",
+            "Make it on a blank file or block device that is there, and put nothing beside it",
+        ))
+}
+
+fn serve_command<'a>(alloc: Global) -> Result<Command<'a>, AllocError>
+    ensures app { IfOk result (λ command. app_of command ≡ record { top = serve_words; subs = [] }) }
+    ensures local { IfOk result (λ command. (fields_of command).has_globals ≡ false) }
+{
+    Command::new(alloc, "serve")
+        .about("Answers the requests on standard input from a store")
+        .arg(store_arg(alloc))?
+        .arg(shape_arg(alloc))
+}
+
+// The file of a shape, which has to be given.
+fn file_arg<'a>(alloc: Global) -> Arg<'a>
+    ensures rule { rule_of result ≡ file_word }
+    ensures local { result.global ≡ false }
+{
+    Arg::new(alloc, "file")
+        .required(true)
+        .value_name("FILE")
+        .help("The file with the shape")
+}
+
+// `--shape` with a path.
+fn shape_arg<'a>(alloc: Global) -> Arg<'a>
+    ensures rule { rule_of result ≡ shape_words }
+    ensures local { result.global ≡ false }
+{
+    Arg::new(alloc, "shape")
+        .long("shape")
+        .value_name("FILE")
+        .help("The file with its shape [default: STORE.json]")
+}
+
+// The path of a store, which has to be given.
+fn store_arg<'a>(alloc: Global) -> Arg<'a>
+    ensures rule { rule_of result ≡ store_word }
+    ensures local { result.global ≡ false }
+{
+    Arg::new(alloc, "store")
+        .required(true)
+        .value_name("STORE")
+        .help("The file of the store, or the block device")
+}
+
+// A flag of this name.
+fn flag_arg<'a>(alloc: Global, id: &'a str, help: &'a str) -> Arg<'a>
+    ensures rule { rule_of result ≡ flag_word id.entry.now }
+    ensures local { result.global ≡ false }
+{
+    Arg::new(alloc, id)
+        .long(id)
+        .action(ArgAction::SetTrue)
+        .help(help)
 }
 
 // The path of a script.

@@ -22,7 +22,7 @@ pub fn device_in_file<R: AllocGlobal + Files<File = File>>(
     path: &str,
 ) -> Result<FileDisk, Fault> {
     match fs::exists(rt, path) {
-        Ok(true) => FileDisk::open(rt, path),
+        Ok(true) => FileDisk::open(rt, path, Layout::new(ACCOUNTS, SLOTS)?.end()),
         Ok(false) => new_file(rt, path),
         Err(_) => Err(Fault::Device),
     }

@@ -11,8 +11,8 @@ use std::alloc::Global;
 use std::rt::Clock;
 use tmem_core::Core;
 use tmem_disk::{Fault, Name};
+use tmem_effect::{NameSet, State};
 use tmem_invariants::Invariants;
-use tmem_record::{NameSet, State};
 use tmem_tentative::{Cursor, Progress};
 use tmem_tree::{MAX_TURNS, Plan, StoredSteps};
 

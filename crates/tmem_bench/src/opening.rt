@@ -50,7 +50,7 @@ fn open_once<R: Clock + Files<File = File> + AllocGlobal + Threads + Wait + Sync
     path: &str,
 ) -> Result<Figures, BenchError> {
     let start = now(rt)?;
-    let disk = FileDisk::open(rt, path)?;
+    let disk = FileDisk::open(rt, path, u64::MAX)?;
     with_bank(rt, MANY, On::Store(disk, Task::Open))?;
     Ok(Figures::once(since(rt, start)?))
 }

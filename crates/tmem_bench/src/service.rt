@@ -12,9 +12,9 @@ use std::time::{Duration, Instant};
 use tmem_builtins::put;
 use tmem_core::Settled;
 use tmem_disk::{Disk, Fault};
+use tmem_effect::MAX_RECORDS;
 use tmem_front::{Front, Gathering, Pace, Pass, StoreNaming};
 use tmem_invariants::Invariants;
-use tmem_record::MAX_RECORDS;
 use tmem_tree::{Plan, StoredSteps, Tx};
 
 // A job goes on for so long.

@@ -2,6 +2,7 @@ mod Listing
 mod Opening
 mod Outcomes
 mod Playing
+mod Shaped
 mod Showing
 mod Stored
 mod Stores

@@ -2,7 +2,7 @@
 use Rattle.std.proofs.Common.{◌≡◌, ℕ, List, [], ◌∷◌, ℤ, None, refl, ap}
 use Rattle.std.specs.Prelude.{option_map}
 use Rattle.tmem_disk.specs.declared.fault.Fault.TheVariants.{Broken}
-use Rattle.tmem_record.specs.State.{first_state}
+use Rattle.tmem_effect.specs.State.{first_state}
 use Rattle.tmem_invariants.specs.Meanings.{Meanings, first_false}
 use Rattle.tmem_core.specs.Opening.{opening_fault}
 use Rattle.tmem_core.specs.Program.{Program}

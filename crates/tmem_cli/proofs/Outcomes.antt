@@ -8,7 +8,7 @@ use Rattle.clap.specs.Kinds.{Kinds, IsAmong, HasKind}
 use Rattle.clap.specs.Values.{kind_of}
 use Rattle.clap.specs.declared.error.Error.{Error}
 use Rattle.clap.specs.declared.error.kind.ErrorKind.{ErrorKind}
-use Rattle.tmem_record.specs.State.{State, first_state}
+use Rattle.tmem_effect.specs.State.{State, first_state}
 use Rattle.tmem_world.specs.WorldModel.{WorldModel}
 use Rattle.tmem_journal.specs.Stands.{Position, first_position}
 use Rattle.tmem_script.specs.Errors.{IsUnread}

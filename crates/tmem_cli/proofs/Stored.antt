@@ -4,8 +4,8 @@ use Rattle.std.proofs.lemmas.Option.{none-some}
 use Rattle.tmem_disk.specs.Disk.{DeviceView}
 use Rattle.tmem_disk.specs.declared.fault.Fault.{Fault}
 use Rattle.tmem_disk.specs.declared.fault.Fault.TheVariants as fault
-use Rattle.tmem_record.specs.State.{State, first_state}
-use Rattle.tmem_record.specs.declared.version.Version.TheVariants.{One, Two}
+use Rattle.tmem_effect.specs.State.{State, first_state}
+use Rattle.tmem_effect.specs.declared.version.Version.TheVariants.{One, Two}
 use Rattle.tmem_record.specs.Layout.{IsLayout, end_place}
 use Rattle.tmem_journal.specs.Calls.{FitsOn}
 use Rattle.tmem_journal.specs.Laws.{StandsForOne, RefusedStandsForNone, SpentStandsAtLast}

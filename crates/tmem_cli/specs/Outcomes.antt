@@ -4,7 +4,7 @@ use Rattle.clap.specs.Walk.{Text}
 use Rattle.std.specs.Io.KnownBytes.{Appends}
 use Rattle.tmem_disk.specs.declared.fault.Fault.{Fault}
 use Rattle.tmem_record.specs.Layout.{IsLayout}
-use Rattle.tmem_record.specs.State.{State}
+use Rattle.tmem_effect.specs.State.{State}
 use Rattle.tmem_script.specs.Scripts.{IsScriptText}
 use Rattle.tmem_script.specs.Statuses.{status_of}
 use Rattle.tmem_script.specs.declared.failure.Failure.{Failure}
@@ -21,8 +21,9 @@ use Rattle.tmem_threads.specs.declared.store.TheConstants.{VARS, SLOTS}
 use Rattle.tmem_threads.specs.declared.store.Totals.{Totals}
 use Rattle.tmem_threads.specs.declared.workers.Work.{Work}
 use Rattle.tmem_cli.specs.declared.play.Played.{Played}
-use Rattle.tmem_args.specs.CommandLine.{AsksToPlay, AsksToCount, AsksToBench, AsksForHelp, AreNumbersIn, path_in, disk_in}
+use Rattle.tmem_args.specs.CommandLine.{AsksToPlay, AsksToCount, AsksToBench, AsksToShow, AsksToInit, AsksToServe, AsksForHelp, AreNumbersIn, path_in, disk_in}
 use Rattle.tmem_cli.specs.Printed.{line, totals_text}
+use Rattle.tmem_cli.specs.Shaped.{MakesStore, ServesStore}
 use Rattle.tmem_cli.specs.Stored.{IsMade, PlaysWhere, StopsPlaying}
 
 -- A text that may have been read: from the input what was left there, where that is known, and from a file any.
@@ -101,20 +102,34 @@ failure_of (bench.Refused fault) = failure.Refused fault
 failure_of bench.Output = failure.Output
 failure_of bench.Clock = failure.Clock
 
+-- why a store was not shown: the output failed, or it was not read, or memory was refused
+abbrev pub IsWhyNotShown : Failure → Type 0
+IsWhyNotShown f = IsWhyNotCounted f
+
+-- a store was to be shown, made or served
+abbrev pub AsksOfStore : List Text → Type 0
+AsksOfStore words = AsksToShow words ⊎ (AsksToInit words ⊎ AsksToServe words)
+
+-- it was shown, made or served to the end of the input
+abbrev pub DoesWithStore : List Text → Option (List ℕ) → Option (List ℕ) → Option (List ℕ) → Option (List ℕ) → Type 0
+DoesWithStore words left rest before after = AsksToShow words ⊎ ((AsksToInit words × MakesStore) ⊎ (AsksToServe words × ServesStore left rest before after))
+
 -- Status 0: help or the version was asked for; or a script was, and it was played to its end, where a path is given on the device
--- that is handed back; or threads were, and they counted up; or the jobs of a service were, and they were timed.
-abbrev pub IsDone : List Text → Option (List ℕ) → Option Played → Option (List ℕ) → Option (List ℕ) → Type 0
-IsDone words left device before after =
+-- that is handed back; or threads were, and they counted up; or the jobs of a service were, and they were timed; or a store was to be
+-- shown, made or served, and it was.
+abbrev pub IsDone : List Text → Option (List ℕ) → Option (List ℕ) → Option Played → Option (List ℕ) → Option (List ℕ) → Type 0
+IsDone words left rest device before after =
     AsksForHelp words
     ⊎ ((AsksToPlay words × PlaysRead (MayBeRead (path_in words) left) (disk_in words) device before after)
-    ⊎ ((AsksToCount words × CountsAs words before after) ⊎ (AsksToBench words × TimesJobs before after)))
+    ⊎ ((AsksToCount words × CountsAs words before after) ⊎ ((AsksToBench words × TimesJobs before after) ⊎ DoesWithStore words left rest before after)))
 
 -- Status 1: the same was asked for, and it failed on the way.
 abbrev pub IsStopped : List Text → Option (List ℕ) → Option Played → Type 0
 IsStopped words left device =
     AsksForHelp words
     ⊎ ((AsksToPlay words × FailsWith 1 (MayBeRead (path_in words) left) (disk_in words) device)
-    ⊎ ((AsksToCount words × ((f : Failure) × (status_of f ≡ 1) × IsWhyNotCounted f)) ⊎ (AsksToBench words × ((f : Failure) × (status_of f ≡ 1) × IsWhyNotTimed f))))
+    ⊎ ((AsksToCount words × ((f : Failure) × (status_of f ≡ 1) × IsWhyNotCounted f))
+    ⊎ ((AsksToBench words × ((f : Failure) × (status_of f ≡ 1) × IsWhyNotTimed f)) ⊎ AsksOfStore words)))
 
 -- Status 3: a script was asked for, and there was none.
 abbrev pub HasNoScript : List Text → Option (List ℕ) → Option Played → Type 0

@@ -6,7 +6,7 @@ use Rattle.std.specs.Io.KnownBytes.{Appends}
 use Rattle.tmem_disk.specs.Fault.{text_of}
 use Rattle.tmem_disk.specs.Name.{has_name}
 use Rattle.tmem_disk.specs.declared.fault.Fault.TheVariants as fault
-use Rattle.tmem_record.specs.State.{State, first_state}
+use Rattle.tmem_effect.specs.State.{State, first_state}
 use Rattle.tmem_invariants.specs.Meanings.{value_of}
 use Rattle.tmem_core.specs.Program.{Program}
 use Rattle.tmem_event.specs.declared.event.Reply.{Reply}

@@ -6,7 +6,7 @@ use Rattle.tmem_disk.specs.Disk.{DeviceView, LeavesOnly, Elapses, Rewritten}
 use Rattle.tmem_disk.specs.Start.{IsNewDevice}
 use Rattle.tmem_disk.specs.declared.fault.Fault.{Fault}
 use Rattle.tmem_disk.specs.declared.fault.Fault.TheVariants as fault
-use Rattle.tmem_record.specs.State.{State, first_state}
+use Rattle.tmem_effect.specs.State.{State, first_state}
 use Rattle.tmem_record.specs.Layout.{IsLayout, end_place}
 use Rattle.tmem_journal.specs.Mended.{IsFoundAt}
 use Rattle.tmem_journal.specs.Stands.{Position, first_position, StandsFor}

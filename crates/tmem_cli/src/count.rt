@@ -1,6 +1,6 @@
 //! Lets threads count up in a new store.
 ghost use Rattle.std.specs.Prelude.{IfOk, option_map};
-ghost use Rattle.tmem_record.specs.State.{State};
+ghost use Rattle.tmem_effect.specs.State.{State};
 ghost use Rattle.tmem_threads.specs.Counting.{AreTotals};
 ghost use Rattle.tmem_cli.specs.Outcomes.{IsMadeAt};
 

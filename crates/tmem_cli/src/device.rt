@@ -3,7 +3,7 @@ ghost use Rattle.std.specs.Prelude.{◌≡◌, ◌⊎◌, IfErr, IfOk};
 ghost use Rattle.tmem_disk.specs.Disk.{LeavesOnly};
 ghost use Rattle.tmem_disk.specs.SimParts.{view_of as memory_of};
 ghost use Rattle.tmem_record.specs.Layout.{end_place};
-ghost use Rattle.tmem_record.specs.State.{first_state};
+ghost use Rattle.tmem_effect.specs.State.{first_state};
 ghost use Rattle.tmem_journal.specs.Stands.{first_position, StandsFor};
 ghost use Rattle.tmem_file.specs.FileView.{view_of as file_of};
 ghost use Rattle.tmem_cli.specs.Stored.{IsMade, IsFoundOrMade};
@@ -39,7 +39,7 @@ pub(crate) fn device_in_file<R: Files<File = File> + AllocGlobal>(
     ensures refused { IfErr result (λ fault. (fault ≡ Fault.Memory) ⊎ (fault ≡ Fault.Device)) }
 {
     match fs::exists(rt, path) {
-        Ok(true) => Ok((FileDisk::open(rt, path)?, None)),
+        Ok(true) => Ok((FileDisk::open(rt, path, layout.end())?, None)),
         Ok(false) => {
             let (disk, zeros) = made_file(rt, path, layout)?;
             Ok((disk, Some(zeros)))

@@ -1,8 +1,9 @@
 //! What the program `tmem` does: it plays scripts of durable transactions, and prints a line for each event; or it lets threads
-//! count up, and prints their totals; or it times the jobs of a service.
+//! count up, and prints their totals; or it times the jobs of a service; or it shows what is in a store, makes one of a shape, or serves
+//! one.
 //!
-//! `words` does what the words of a command line say: `play` plays a script on a device, `count` lets threads count up there, and
-//! `bench` has the jobs timed. `device` makes or opens the device, and `print` prints the lines. `chain` has a law of what a crash
+//! `words` does what the words of a command line say: `play` plays a script on a device, `count` lets threads count up there, `bench`
+//! has the jobs timed, `show` shows a store, `init` makes one, and `serve` serves one. `device` makes or opens the device, and `print` prints the lines. `chain` has a law of what a crash
 //! of a run leaves.
 #![tactic(auto)]
 
@@ -10,8 +11,12 @@ mod bench;
 mod chain;
 mod count;
 mod device;
+mod failure;
+mod init;
 mod play;
 mod print;
+mod serve;
+mod show;
 mod words;
 
 pub use chain::crash_leaves_run;

@@ -6,13 +6,17 @@ ghost use Rattle.tmem_script.specs.Errors.{IsUnread};
 ghost use Rattle.tmem_script.specs.Scripts.{IsScriptText};
 ghost use Rattle.tmem_script.specs.Statuses.{status_of};
 ghost use Rattle.tmem_script.specs.declared.failure.Failure.TheVariants.{Output};
-ghost use Rattle.tmem_args.specs.CommandLine.{AreRefused, AsksToPlay, IsRequest, disk_in, path_in};
-ghost use Rattle.tmem_cli.specs.Outcomes.{IsDone, IsStopped, HasNoScript, CountsUp, IsWhyNotCounted, IsWhyNotPlayed, IsWhyNotRead, IsWhyNotTimed, MayBeRead, PlaysRead, TimesJobs};
+ghost use Rattle.tmem_args.specs.CommandLine.{AreRefused, AsksToPlay, AsksToServe, IsRequest, disk_in, path_in};
+ghost use Rattle.tmem_cli.specs.Outcomes.{IsDone, IsStopped, HasNoScript, CountsUp, IsWhyNotCounted, IsWhyNotPlayed, IsWhyNotRead, IsWhyNotShown, IsWhyNotTimed, MayBeRead, PlaysRead, TimesJobs};
 
 use crate::bench::run_bench;
 use crate::count::count_on;
+use crate::failure::StoreFailure;
+use crate::init::init_store;
 use crate::play::{Played, play};
 use crate::print::{TotalsText, print_line};
+use crate::serve::serve;
+use crate::show::show_store;
 use clap::error::ErrorKind;
 use std::alloc::Global;
 use std::fs::{self, File, Files};
@@ -20,13 +24,13 @@ use std::io::{Read, Write};
 use std::rt::Clock;
 use std::sync::Wait;
 use std::thread::Threads;
-use tmem_args::{Asked, Counting, Paths, asked_of};
+use tmem_args::{Asked, Counting, Making, Paths, Serving, Showing, asked_of};
 use tmem_script::{Failure, Script, ScriptError, WordsError, report};
 use tmem_threads::Work;
 
 /// Does what the words of a command line say, the program's name first, and answers the status: 0 where help or the
-/// version was printed, a script was played to its end, threads counted up, or jobs were timed; 1 where that failed on the
-/// way; 2 where the words were refused, or memory did not suffice to read them; 3 where there was no script to play. Beside it
+/// version was printed, a script was played to its end, threads counted up, jobs were timed, or a store was shown, made, or served to the
+/// end of the input; 1 where that failed on the way; 2 where the words were refused, or memory did not suffice to read them; 3 where there was no script to play. Beside it
 /// stands the device of the file that a script was played on, and how it was found.
 pub fn run_words<R: Read, W: Write, E: Write>(
     rt: &(impl Files<File = File> + AllocGlobal + Threads + Wait + Clock + Sync),
@@ -35,7 +39,7 @@ pub fn run_words<R: Read, W: Write, E: Write>(
     out: &mut W,
     err: &mut E,
 ) -> (u8, Option<Played>)
-    ensures done { result.0 ≡ 0 → IsDone (map string_bytes words.items) (R.remaining input.old) result.1 (W.contents out.old) (W.contents out.new) }
+    ensures done { result.0 ≡ 0 → IsDone (map string_bytes words.items) (R.remaining input.old) (R.remaining input.new) result.1 (W.contents out.old) (W.contents out.new) }
     ensures stopped { result.0 ≡ 1 → IsStopped (map string_bytes words.items) (R.remaining input.old) result.1 }
     ensures no_script { result.0 ≡ 3 → HasNoScript (map string_bytes words.items) (R.remaining input.old) result.1 }
     ensures refused { AreRefused (map string_bytes words.items) → result.0 ≡ 2 }
@@ -43,13 +47,13 @@ pub fn run_words<R: Read, W: Write, E: Write>(
 
     // Nothing is told where all was done. Nothing is printed where the words were refused or there was no script, and where a
     // script was to be played on a file, that failed, and no device is handed back. The input is left alone where no script was
-    // asked for, where the words were not read, and where they give the path of a script.
+    // asked for and no store is to be served, where the words were not read, and where they give the path of a script.
     ensures untold { result.0 ≡ 0 → err.new ≡ err.old }
     ensures unprinted { 2 ≤ result.0 → out.new ≡ out.old }
     ensures withheld { AsksToPlay (map string_bytes words.items) → IsSome (disk_in (map string_bytes words.items)) → 1 ≤ result.0 → result.1 ≡ None → out.new ≡ out.old }
-    ensures unasked { ¬ AsksToPlay (map string_bytes words.items) → input.new ≡ input.old }
+    ensures unasked { ¬ AsksToPlay (map string_bytes words.items) → ¬ AsksToServe (map string_bytes words.items) → input.new ≡ input.old }
     ensures unread { result.0 ≡ 2 → input.new ≡ input.old }
-    ensures other_file { IsSome (path_in (map string_bytes words.items)) → input.new ≡ input.old }
+    ensures other_file { AsksToPlay (map string_bytes words.items) → IsSome (path_in (map string_bytes words.items)) → input.new ≡ input.old }
 {
     match asked_of(rt.alloc(), words.as_slice()) {
         Ok(Asked::Run(paths)) => {
@@ -59,6 +63,12 @@ pub fn run_words<R: Read, W: Write, E: Write>(
         }
         Ok(Asked::Threads(counting)) => (conclude(count(rt, counting, out), err), None),
         Ok(Asked::Bench(path)) => (conclude(bench(rt, path, out), err), None),
+        Ok(Asked::Show(showing)) => (conclude(show(rt, showing, out), err), None),
+        Ok(Asked::Init(making)) => (conclude_store(init_store(rt, making), err), None),
+        Ok(Asked::Serve(serving)) => {
+            let served = serve(rt, serving, input, out);
+            (conclude_store(served, err), None)
+        }
         Err(refusal) => (answer(&refusal, out, err), None),
     }
 }
@@ -73,6 +83,19 @@ fn conclude<E: Write>(outcome: Result<(), Failure>, err: &mut E) -> u8
         Ok(()) => 0,
         Err(failure) => report(&failure, err),
     }
+}
+
+/// Prints why a store was not made or served to its end, if it was not, and answers the status.
+fn conclude_store<E: Write>(outcome: Result<(), StoreFailure>, err: &mut E) -> u8
+    ensures status { MatchResult outcome (λ _. result ≡ 0) (λ _. result ≡ 1) }
+    ensures untold { OnOk outcome (err.new ≡ err.old) }
+{
+    let Err(failure) = outcome else {
+        return 0;
+    };
+    // Where this fails too, nobody is left to tell.
+    let _ = writeln!(err, "tmem: {failure}");
+    1
 }
 
 /// Prints what the words are answered where nothing is to be done: what was asked for, or what is wrong with them.
@@ -160,6 +183,18 @@ fn bench<W: Write>(
     ensures failed { IfErr result IsWhyNotTimed }
 {
     run_bench(rt, path, out)?;
+    flush(out)
+}
+
+/// Shows what is in a store.
+fn show<W: Write>(
+    rt: &(impl Files<File = File> + AllocGlobal),
+    showing: Showing,
+    out: &mut W,
+) -> Result<(), Failure>
+    ensures failed { IfErr result IsWhyNotShown }
+{
+    show_store(rt, showing, out)?;
     flush(out)
 }
 

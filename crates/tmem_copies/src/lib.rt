@@ -7,8 +7,6 @@
 mod copying;
 mod leading;
 mod numbering;
-#[cfg(test)]
-mod tests;
 
 pub use copying::copy_of;
 pub use leading::begins_with_puts;

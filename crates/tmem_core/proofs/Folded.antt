@@ -3,9 +3,9 @@ use Rattle.std.proofs.Common.{◌≡◌, ℕ, ◌+◌, ◌-◌, List, [], ◌∷
 use Rattle.std.proofs.lemmas.List.{drop-append-le, drop-drop}
 use Rattle.std.proofs.Math.Seq.{drop-nil}
 use mathlib.Core.Logic.{∥∥₁_map}
-use Rattle.tmem_record.specs.State.{State, apply, IsWithin}
-use Rattle.tmem_record.specs.declared.effect.Effect.{Effect}
-use Rattle.tmem_record.proofs.Laws.{fold-push, count-fold, StaysWithin-push}
+use Rattle.tmem_effect.specs.State.{State, apply, IsWithin}
+use Rattle.tmem_effect.specs.declared.effect.Effect.{Effect}
+use Rattle.tmem_effect.proofs.Laws.{fold-push, count-fold, StaysWithin-push}
 use Rattle.tmem_core.specs.History.{IsFolded}
 
 -- nothing was accepted

@@ -8,10 +8,10 @@ use Rattle.std.proofs.lemmas.List.Folds.{Any-from_list_any, list_any_at}
 use Rattle.std.proofs.lemmas.Map.Keys.{IsDistinct-from_apart}
 use Rattle.std.proofs.lemmas.Map.Made.{length-le_from_is_member}
 use Rattle.std.proofs.lemmas.Slice.Eq.{bytes_eq-Decides}
-use Rattle.tmem_record.specs.Names.{AreAscending, has_name, with_names, without_names}
-use Rattle.tmem_record.specs.State.{State, apply}
-use Rattle.tmem_record.specs.declared.effect.Effect.{Effect}
-use Rattle.tmem_record.proofs.Laws.{All-without_names, AreAscending-apply, has_name-with_names, AreDistinct-ascending}
+use Rattle.tmem_effect.specs.Names.{AreAscending, has_name, with_names, without_names}
+use Rattle.tmem_effect.specs.State.{State, apply}
+use Rattle.tmem_effect.specs.declared.effect.Effect.{Effect}
+use Rattle.tmem_effect.proofs.Laws.{All-without_names, AreAscending-apply, has_name-with_names, AreDistinct-ascending}
 use Rattle.tmem_invariants.specs.Meanings.{Meanings, AllHold, first_false, holds}
 use Rattle.tmem_invariants.specs.Places.{ArePlacesOf}
 use Rattle.tmem_invariants.proofs.Laws.{All-at_name, ArePlacesOf-join, at_place, Contains-from_has_name, IsSound-from_none}

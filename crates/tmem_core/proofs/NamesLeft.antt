@@ -5,10 +5,10 @@ use Rattle.std.proofs.lemmas.List.Concat.{flat_map-cons}
 use Rattle.std.proofs.lemmas.List.Elements.{All-head, All-tail}
 use Rattle.std.proofs.lemmas.List.Folds.{list_any-append, list_any_at}
 use Rattle.std.proofs.lemmas.Slice.Eq.{bytes_eq-Decides}
-use Rattle.tmem_record.specs.Names.{has_name}
-use Rattle.tmem_record.specs.State.{State, apply, fold}
-use Rattle.tmem_record.specs.declared.effect.Effect.{Effect}
-use Rattle.tmem_record.proofs.Laws.{has_name-apply, without_names-filter}
+use Rattle.tmem_effect.specs.Names.{has_name}
+use Rattle.tmem_effect.specs.State.{State, apply, fold}
+use Rattle.tmem_effect.specs.declared.effect.Effect.{Effect}
+use Rattle.tmem_effect.proofs.Laws.{has_name-apply, without_names-filter}
 use Rattle.tmem_core.specs.Verdict.{serial_state, serial_effects}
 use Rattle.tmem_core.specs.Versions.{NamesOnlyGrow}
 use Rattle.tmem_core.proofs.SerialLaws.{serial_state-fold}

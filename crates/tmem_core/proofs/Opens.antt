@@ -4,7 +4,7 @@ use Rattle.std.specs.Option.{option_or, option_map}
 use Rattle.std.proofs.Math.Bool.{or_comm}
 use Rattle.std.proofs.lemmas.List.Elements.{All-head, All-tail}
 use Rattle.tmem_disk.specs.declared.fault.Fault.TheVariants.{Missing, Broken}
-use Rattle.tmem_record.specs.State.{State}
+use Rattle.tmem_effect.specs.State.{State}
 use Rattle.tmem_invariants.specs.Meanings.{Meanings, IsSound, first_false}
 use Rattle.tmem_invariants.specs.TableNames.{first_missing, has_name}
 use Rattle.tmem_invariants.proofs.Laws.{All-there, at_place, IsSound-from_none, first_false-AllHold}

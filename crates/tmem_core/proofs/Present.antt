@@ -5,8 +5,8 @@ use Rattle.std.specs.Ordering.{int_eq}
 use Rattle.std.proofs.lemmas.Option.{get_or_from_slice_get}
 use Rattle.std.proofs.lemmas.Bool.{eqb-true}
 use Rattle.std.proofs.lemmas.Bool.Decides.{Decides-int_eq}
-use Rattle.tmem_record.specs.State.{State}
-use Rattle.tmem_record.specs.Writes.{look}
+use Rattle.tmem_effect.specs.State.{State}
+use Rattle.tmem_effect.specs.Writes.{look}
 use Rattle.tmem_tentative.specs.Right.{Agrees}
 use Rattle.tmem_core.specs.SettleAnswer.{is_stale}
 use Rattle.tmem_core.specs.Verdict.{map_of}

@@ -2,8 +2,8 @@
 use Rattle.std.proofs.Common.{◌≡◌, ◌-◌, ℕ, ℤ, Bool, true, false, cond, ◌==◌, List, [], ◌∷◌, Option, Some, None, Result, Ok, Err, IfOk, IfErr, refl, sym, ap, ◌∙◌, subst, append-nil}
 use Rattle.tmem_disk.specs.declared.fault.Fault.{Fault}
 use Rattle.tmem_disk.specs.declared.fault.Fault.TheVariants as fault
-use Rattle.tmem_record.specs.State.{State, is_empty}
-use Rattle.tmem_record.specs.declared.effect.Effect.{Effect}
+use Rattle.tmem_effect.specs.State.{State, is_empty}
+use Rattle.tmem_effect.specs.declared.effect.Effect.{Effect}
 use Rattle.tmem_tree.specs.declared.tx.Tx.{Tx}
 use Rattle.tmem_tree.specs.Run as run
 use Rattle.tmem_tree.specs.Run.{run, start}

@@ -4,8 +4,8 @@ use Rattle.std.proofs.lemmas.Bool.{eqb-true, eqb-false}
 use Rattle.std.proofs.lemmas.Bool.{or_parts}
 use Rattle.std.proofs.lemmas.List.{get_or-set_other, get_or-set_same, ext_get_or}
 use Rattle.std.proofs.lemmas.List.Elements.{All-head, All-map, All-tail}
-use Rattle.tmem_record.specs.State.{State, overwrite, written}
-use Rattle.tmem_record.proofs.Laws.{length-written}
+use Rattle.tmem_effect.specs.State.{State, overwrite, written}
+use Rattle.tmem_effect.proofs.Laws.{length-written}
 use Rattle.tmem_invariants.specs.Meanings.{DifferInWritten, is_written, value_of}
 
 -- the variables that are to be written, each with its value

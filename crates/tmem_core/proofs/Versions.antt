@@ -3,10 +3,10 @@ use Rattle.std.proofs.Common.{◌≡◌, ℕ, ℤ, Bool, ◌||◌, ◌&&◌, not
 use Rattle.std.proofs.lemmas.List.Concat.{flat_map-cons}
 use Rattle.std.proofs.lemmas.List.Folds.{list_any-append}
 use Rattle.std.specs.Prelude.{if◌then◌else◌}
-use Rattle.tmem_record.specs.Names.{has_name, without_names}
-use Rattle.tmem_record.specs.State.{State, is_empty, apply, fold}
-use Rattle.tmem_record.specs.declared.effect.Effect.{Effect}
-use Rattle.tmem_record.proofs.Laws.{has_name-apply, has_name-without_names}
+use Rattle.tmem_effect.specs.Names.{has_name, without_names}
+use Rattle.tmem_effect.specs.State.{State, is_empty, apply, fold}
+use Rattle.tmem_effect.specs.declared.effect.Effect.{Effect}
+use Rattle.tmem_effect.proofs.Laws.{has_name-apply, has_name-without_names}
 use Rattle.tmem_tree.specs.Run.{RunResult, Normal, Retried, Aborted, Broken, run, start}
 use Rattle.tmem_tree.specs.StepAnswers.{StepMeanings}
 use Rattle.tmem_tree.specs.Visited.{asks}

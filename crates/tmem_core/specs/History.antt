@@ -1,7 +1,7 @@
 -- The effects that a core accepted, and the state that they make.
 use Rattle.std.specs.Prelude.{◌≡◌, ◌≤◌, ◌-◌, ◌++◌, ◌∷◌, [], ℕ, List, drop}
-use Rattle.tmem_record.specs.State.{State, fold, StaysWithin}
-use Rattle.tmem_record.specs.declared.effect.Effect.{Effect}
+use Rattle.tmem_effect.specs.State.{State, fold, StaysWithin}
+use Rattle.tmem_effect.specs.declared.effect.Effect.{Effect}
 use Rattle.tmem_core.specs.declared.history.History.{History}
 use Rattle.tmem_core.specs.declared.history.History.TheVariants.{Start, After'}
 

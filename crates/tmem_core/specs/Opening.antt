@@ -3,7 +3,7 @@ use Rattle.std.specs.Prelude.{ℕ, List, [], Option, option_map}
 use Rattle.std.specs.Option.{option_or}
 use Rattle.tmem_disk.specs.declared.fault.Fault.{Fault}
 use Rattle.tmem_disk.specs.declared.fault.Fault.TheVariants.{Memory, Missing, Broken}
-use Rattle.tmem_record.specs.State.{State}
+use Rattle.tmem_effect.specs.State.{State}
 use Rattle.tmem_invariants.specs.Meanings.{Meanings, first_false}
 use Rattle.tmem_invariants.specs.TableNames.{first_missing}
 use Rattle.tmem_core.specs.Program.{Program}

@@ -1,8 +1,8 @@
 -- Which of the effects that wait are taken together.
 use Rattle.std.specs.Prelude.{ℕ, ◌+◌, ◌≤◌, ◌<◌, ◌↔◌, List, length, take}
-use Rattle.tmem_record.specs.Batch.{records_length}
-use Rattle.tmem_record.specs.Prefix.{IsPrefix}
-use Rattle.tmem_record.specs.declared.effect.Effect.{Effect}
+use Rattle.tmem_effect.specs.Batch.{records_length}
+use Rattle.tmem_effect.specs.Prefix.{IsPrefix}
+use Rattle.tmem_effect.specs.declared.effect.Effect.{Effect}
 
 -- a batch of these effects has room for any other: it has fewer than 64, and of its 4077 bytes there are 915 left, the most
 -- that a record has

@@ -1,8 +1,8 @@
 -- What a plan is answered on a state, and the serial order of the plans that are accepted.
 use Rattle.std.specs.Prelude.{ℕ, ℤ, pos, List, [], ◌∷◌, ◌++◌, Option, Some, None, slice_index_or, if◌then◌else◌}
-use Rattle.tmem_record.specs.Names.{without_names}
-use Rattle.tmem_record.specs.State.{State, no_effect, is_empty, apply, fold}
-use Rattle.tmem_record.specs.declared.effect.Effect.{Effect}
+use Rattle.tmem_effect.specs.Names.{without_names}
+use Rattle.tmem_effect.specs.State.{State, no_effect, is_empty, apply, fold}
+use Rattle.tmem_effect.specs.declared.effect.Effect.{Effect}
 use Rattle.tmem_tree.specs.declared.tx.Tx.{Tx}
 use Rattle.tmem_tree.specs.Run as run
 use Rattle.tmem_tree.specs.Run.{run, start}

@@ -1,8 +1,8 @@
 -- When one program may follow on another over the same store.
 use Rattle.std.specs.Prelude.{◌≡◌, ℕ, ℤ, List, [], ◌∷◌, ◌++◌, map, flat_map, All, IsTrue}
-use Rattle.tmem_record.specs.Names.{without_names}
-use Rattle.tmem_record.specs.State.{State}
-use Rattle.tmem_record.specs.declared.effect.Effect.{Effect}
+use Rattle.tmem_effect.specs.Names.{without_names}
+use Rattle.tmem_effect.specs.State.{State}
+use Rattle.tmem_effect.specs.declared.effect.Effect.{Effect}
 use Rattle.tmem_tree.specs.declared.tx.Tx.{Tx}
 use Rattle.tmem_tree.specs.Visited.{probes}
 use Rattle.tmem_invariants.specs.Meanings.{Meanings}

@@ -2,15 +2,15 @@
 ghost use Rattle.std.specs.Prelude.{List, ℕ, ℤ, ◌≡◌, ◌≢◌, ◌≤◌, ◌<◌, ◌^◌, ◌↔◌, ◌+◌, ◌-◌, true, false, [], ◌++◌, length, drop, slice_get, slice_index_or, Some, All, IsTrue, IfSome, IfNone, IfOk, IfErr};
 ghost use Rattle.std.specs.Map.{keys_of};
 ghost use Rattle.std.proofs.Props.{props};
-ghost use Rattle.tmem_record.specs.Names.{has_name, without_names, AreApart, AreRegistered, AreRegistered-prop};
-ghost use Rattle.tmem_record.specs.State.{apply};
-ghost use Rattle.tmem_record.specs.declared.name_set.TheConstants.{MAX_NAMES};
+ghost use Rattle.tmem_effect.specs.Names.{has_name, without_names, AreApart, AreRegistered, AreRegistered-prop};
+ghost use Rattle.tmem_effect.specs.State.{apply};
+ghost use Rattle.tmem_effect.specs.declared.name_set.TheConstants.{MAX_NAMES};
 ghost use Rattle.tmem_invariants.specs.Meanings.{Meanings, AllHold, IsSound, first_false};
 ghost use Rattle.tmem_invariants.specs.Places.{ArePlacesOf};
 ghost use Rattle.tmem_tentative.specs.Fits.{IsForVariables, IsForNames};
 ghost use Rattle.tmem_core.specs.Opening.{fault_against, IsOpeningRefusal};
 ghost use Rattle.tmem_core.specs.SettleAnswer.{is_stale};
-ghost use Rattle.tmem_record.specs.Loggable.{IsLoggable, IsLoggable-prop};
+ghost use Rattle.tmem_effect.specs.Loggable.{IsLoggable, IsLoggable-prop};
 ghost use Rattle.tmem_core.specs.History.{IsFolded, effects_of};
 ghost use Rattle.tmem_core.specs.Taking.{IsTaken, HasRoom};
 
@@ -21,8 +21,8 @@ use crate::waiting::{MAX_WAITING, Waiting};
 use std::alloc::{AllocError, Global};
 use std::snapshot::Snapshot;
 use tmem_disk::{Fault, Name};
+use tmem_effect::{BATCH_BYTES, Batch, Effect, MAX_RECORD_BYTES, MAX_RECORDS, MAX_WRITES, State};
 use tmem_invariants::{Invariants, places_of};
-use tmem_record::{BATCH_BYTES, Batch, Effect, MAX_RECORD_BYTES, MAX_RECORDS, MAX_WRITES, State};
 use tmem_tentative::{Attempt, Ending, Probe, Reads};
 use tmem_tree::Settled;
 

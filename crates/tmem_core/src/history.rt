@@ -2,7 +2,7 @@
 ghost use Rattle.std.specs.Prelude.{◌≡◌, [], ◌∷◌, ◌++◌};
 
 use std::snapshot::Snapshot;
-use tmem_record::Effect;
+use tmem_effect::Effect;
 
 /// The accepted effects, each as it was when it was accepted.
 #[derive(Drop)]

@@ -1,13 +1,13 @@
 // What an effect would break, found on the present values themselves.
 ghost use Rattle.std.specs.Prelude.{◌≡◌, ◌≤◌, ◌<◌, pos, List, ℤ, length, take, map, slice_index_or, All, IfSome};
-ghost use Rattle.tmem_record.specs.Names.{without_names};
-ghost use Rattle.tmem_record.specs.State.{written};
+ghost use Rattle.tmem_effect.specs.Names.{without_names};
+ghost use Rattle.tmem_effect.specs.State.{written};
 ghost use Rattle.tmem_invariants.specs.Meanings.{Meanings, AllHold, first_false, value_of};
 ghost use Rattle.tmem_invariants.specs.Places.{ArePlacesOf};
 ghost use Rattle.tmem_invariants.specs.TableNames.{name_at};
 
+use tmem_effect::{Effect, MAX_WRITES, State};
 use tmem_invariants::Invariants;
-use tmem_record::{Effect, MAX_WRITES, State};
 
 /// The place, in the table's order, of the first name that is false of the map that an effect would make, of the registered
 /// names that it does not retire and of those that it proposes: both are given as the sets of their places. Where it proposes

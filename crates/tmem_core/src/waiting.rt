@@ -3,7 +3,7 @@ ghost use Rattle.std.specs.Prelude.{◌≡◌, ◌≤◌, ◌<◌, [], ◌∷◌
 
 use std::alloc::{AllocError, Global};
 use std::marker::Model;
-use tmem_record::Effect;
+use tmem_effect::Effect;
 
 /// How many accepted transactions may wait to be made durable.
 pub const MAX_WAITING: usize = 256;
@@ -19,7 +19,7 @@ pub(crate) struct Waiting {
 
 impl Model for Waiting {
     ghost use Rattle.std.specs.Prelude.{List, take, drop, length, ◌≡◌, ◌≤◌, ◌<◌, ◌++◌};
-    ghost use Rattle.tmem_record.specs.declared.effect.Effect.{Effect as EffectOf};
+    ghost use Rattle.tmem_effect.specs.declared.effect.Effect.{Effect as EffectOf};
 
     ghost Value = { List EffectOf };
 

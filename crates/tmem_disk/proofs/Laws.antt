@@ -60,14 +60,14 @@ slice_range-before at n old new a b below same = ⊎_elim
 pub slice_range-after : (at n : ℕ) (old new : List ℕ) (a b : ℕ) → at + n ≤ a → SameOutside at n old new → slice_range new a b ≡ slice_range old a b
 slice_range-after at n old new a b above same = ap (λ (l : List ℕ). take (b - a) l) (drop-longer (at + n) a new old above same.after)
 
-slice_get-take : {A : Type 0} (xs : List A) (n i : ℕ) → i < n → slice_get (take n xs) i ≡ slice_get xs i
+pub slice_get-take : {A : Type 0} (xs : List A) (n i : ℕ) → i < n → slice_get (take n xs) i ≡ slice_get xs i
 slice_get-take [] zero i below = refl
 slice_get-take [] (suc n) i below = refl
 slice_get-take (x ∷ xs) zero i below = absurd (omega arith)
 slice_get-take (x ∷ xs) (suc n) zero below = refl
 slice_get-take (x ∷ xs) (suc n) (suc i) below = slice_get-take xs n i (omega arith)
 
-slice_get-drop : {A : Type 0} (xs : List A) (n i : ℕ) → slice_get (drop n xs) i ≡ slice_get xs (n + i)
+pub slice_get-drop : {A : Type 0} (xs : List A) (n i : ℕ) → slice_get (drop n xs) i ≡ slice_get xs (n + i)
 slice_get-drop [] zero i = refl
 slice_get-drop [] (suc n) i = refl
 slice_get-drop (x ∷ xs) zero i = let same : i ≡ 0 + i = omega arith in ap (λ (k : ℕ). slice_get (x ∷ xs) k) same

@@ -1,4 +1,4 @@
-// A file as a device.
+// A file or a block device as a device.
 ghost use Rattle.std.specs.Prelude.{◌≡◌, ◌<◌, ◌≤◌, ◌+◌, ◌^◌, [], None, Some, length, slice_range, IfOk, IsOkUnless, OnOk, OnErr};
 ghost use Rattle.tmem_disk.specs.Disk.{IsCall, Elapses, overwritten, ReadsAs, SameSeenOutside, LeavesOnly, LeavesEach, StillLeaves, IsSynced, Rewritten, after_fault};
 ghost use Rattle.tmem_disk.specs.Start.{IsNewDevice};
@@ -6,7 +6,7 @@ ghost use Rattle.tmem_file.specs.Record.{reach};
 ghost use Rattle.tmem_file.specs.Recorded.{start_of, events_of};
 ghost use Rattle.tmem_file.specs.Opening.{IsOpened};
 
-use crate::naming::{lock, open_regular};
+use crate::naming::{lock, open_there};
 use crate::recorded::RecordedFile;
 use std::fs::{File, Files};
 use tmem_disk::{DeviceFault, Disk, Fault};
@@ -37,16 +37,18 @@ impl Drop for FileDisk {
 impl FileDisk {
     ghost use Rattle.tmem_file.specs.FileView.{view_of};
 
-    /// Opens a file that is there, of any size, and locks it for as long as the device lives. It is read once as a whole, and
-    /// then synced. Refused by `Device` where it is missing, is no regular file, may not be read and written, or is open as a
-    /// device already, and where a call fails.
-    pub fn open<R: Files<File = File>>(rt: &R, path: &str) -> Result<FileDisk, Fault>
+    /// Opens a file or a block device that is there, and locks it for as long as the device lives. Its first bytes are the device,
+    /// as many as there are, but no more than `most`: those are read once, and then synced, and nothing behind them is read or
+    /// written. Refused by `Device` where it is missing, is no regular file and no block device, may not be read and written, or is
+    /// open as a device already, and where a call fails.
+    pub fn open<R: Files<File = File>>(rt: &R, path: &str, most: u64) -> Result<FileDisk, Fault>
         ensures opened { IfOk result (λ disk. IsOpened (view_of disk)) }
+        ensures most { IfOk result (λ disk. (view_of disk).capacity ≤ most) }
         ensures refused { IsOkUnless result Fault.Device }
     {
-        match open_regular(rt, path)
+        match open_there(rt, path)
             .and_then(lock)
-            .and_then(RecordedFile::found)
+            .and_then(|file| RecordedFile::found(file, most))
         {
             Ok(found) => FileDisk::settle(found),
             Err(_) => Err(Fault::Device),

@@ -3,9 +3,10 @@ ghost use Rattle.std.specs.Prelude.{◌≡◌, ◌⊎◌, pos, IfOk, IfErr};
 ghost use Rattle.std.specs.Int.Signed.{◌<ℤ◌};
 ghost use Rattle.std.specs.Fd.{file_raw_fd};
 
-use std::fs::{self, File, Files, OpenOptions};
-use std::io::{self, ErrorKind};
+use std::fs::{self, File, FileType, Files, OpenOptions};
+use std::io::{self, ErrorKind, Seek, SeekFrom};
 use std::os::fd::AsRawFd;
+use std::os::unix::fs::FileTypeExt;
 use std::path::Path;
 use tmem_disk::Fault;
 
@@ -15,13 +16,23 @@ const LAST_STREAM: i32 = 2;
 // So many files that were left over of one name are passed over.
 const MOST_LEFT_OVER: u32 = 1000;
 
-/// Opens a regular file. A link to one is followed. Nothing else is opened, since to open a device file may already do
-/// something.
-pub(crate) fn open_regular<R: Files<File = File>>(rt: &R, path: &str) -> io::Result<File> {
-    if !fs::metadata(rt, path)?.is_file() {
+/// Opens a regular file or a block device. A link to one is followed. Nothing else is opened, since to open another device may
+/// already do something.
+pub(crate) fn open_there<R: Files<File = File>>(rt: &R, path: &str) -> io::Result<File> {
+    if !may_hold_store(fs::metadata(rt, path)?.file_type()) {
         return Err(io::Error::from(ErrorKind::InvalidInput));
     }
     OpenOptions::new().read(true).write(true).open(rt, path)
+}
+
+// Whether a store may be kept in a file of this type.
+fn may_hold_store(kind: FileType) -> bool {
+    kind.is_file() || kind.is_block_device()
+}
+
+/// How many bytes an open file has. The system's metadata say 0 of a block device, so it is where a seek to the end goes.
+pub(crate) fn size_of(mut file: &File) -> io::Result<u64> {
+    file.seek(SeekFrom::End(0))
 }
 
 /// Makes a file that was not there, beside a name, and answers its own name too.
@@ -50,13 +61,13 @@ pub(crate) fn open_folder<R: Files<File = File>>(rt: &R, path: &str) -> io::Resu
     }
 }
 
-/// Locks an open regular file, under a number that is none of the standard streams'. The lock lasts until the file is closed.
+/// Locks an open file or block device, under a number that is none of the standard streams'. The lock lasts until the file is closed.
 pub(crate) fn lock(file: File) -> io::Result<File>
     ensures number { IfOk result (λ file. pos 2 <ℤ file_raw_fd file) }
 {
     let file = above_streams(file)?;
     file.try_lock()?;
-    if !file.metadata()?.is_file() {
+    if !may_hold_store(file.metadata()?.file_type()) {
         return Err(io::Error::from(ErrorKind::InvalidInput));
     }
     Ok(file)

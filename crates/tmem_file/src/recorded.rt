@@ -6,6 +6,7 @@ ghost use Rattle.tmem_file.specs.Record.{Event, gave, holds, synced, lost, has_l
 ghost use Rattle.tmem_file.specs.Recorded.{bytes_of, event_of, first_of, start_of, events_of, Spoils};
 
 use crate::calls::{Range, Synced};
+use crate::naming::size_of;
 use crate::record::{Call, Calls};
 use std::fs::File;
 use std::io::{self, ErrorKind};
@@ -33,13 +34,14 @@ pub(crate) struct RecordedFile {
 }
 
 impl RecordedFile {
-    /// A file that is there, with the bytes that it gives. They may stand in the system's memory alone: the record says that
-    /// a crash leaves them only once a sync has succeeded.
-    pub(crate) fn found(file: File) -> io::Result<RecordedFile>
+    /// A file that is there, with the bytes that it gives, of which no more than so many are read. They may stand in the system's
+    /// memory alone: the record says that a crash leaves them only once a sync has succeeded.
+    pub(crate) fn found(file: File, most: u64) -> io::Result<RecordedFile>
         requires { pos 2 <ℤ file_raw_fd file }
-        ensures { IfOk result (λ found. events_of found.calls ≡ []) }
+        ensures events { IfOk result (λ found. events_of found.calls ≡ []) }
+        ensures most { IfOk result (λ found. length (start_of found.calls) ≤ most) }
     {
-        let size = file.metadata()?.len();
+        let size = size_of(&file)?.min(most);
         let found = find(&file, 0, size)?;
         Ok(RecordedFile {
             file,
@@ -66,7 +68,7 @@ impl RecordedFile {
         })
     }
 
-    /// How many bytes it held when it was opened.
+    /// How many bytes of it are the device.
     pub(crate) fn size(&self) -> u64
         ensures { result ≡ length (start_of self.now.calls) }
     {

@@ -5,7 +5,7 @@ use Rattle.std.proofs.lemmas.Bool.{false≢true}
 use Rattle.std.proofs.lemmas.List.Elements.{All-head, All-tail}
 use Rattle.std.proofs.lemmas.Slice.Eq.{bytes_eq-Decides}
 use Rattle.serde_json.proofs.Views.{view-Array}
-use Rattle.serde_json.specs.Data.{Data, array, object, member}
+use Rattle.serde_json.specs.Data.{Data, array, object, Members, member}
 use Rattle.serde_json.specs.Events.{members_len}
 use Rattle.serde_json.specs.View.{view, items_of, items_view}
 use Rattle.serde_json.specs.declared.value.Value.{Value, Array}
@@ -14,6 +14,10 @@ use Rattle.tmem_forms.specs.Errors.{Refuses}
 use Rattle.tmem_forms.specs.TxForms.{array_of, IsTx}
 use Rattle.tmem_forms.specs.declared.error.FormError.{FormError}
 use Rattle.tmem_forms.specs.declared.error.FormError.TheVariants.{Memory, NoForm}
+-- that nothing stands twice in a list
+pub use Rattle.tmem_forms.proofs.Distinct.{shown_at, distinct_more, distinct_whole, not_distinct}
+-- a test of what a map shows of the elements of a list
+pub use Rattle.tmem_forms.proofs.Shown.{any_of_map}
 
 -- the value of an array of values
 pub view_of_array : (body : Value) (v : Vec Value Global) (vs : List Value) → body ≡ Array v → vs ≡ v.items → view body ≡ array (items_view vs)
@@ -63,3 +67,7 @@ refuses_more P Q NoForm refused more = more refused
 pub passed_on : {X : Type 0} (P Q : Type 0) (r : Result X FormError) (e : FormError) → IsErrAnd r (λ y. y ≡ e) → Refuses e P → (P → Q) → IfErr r (λ y. Refuses y Q)
 passed_on P Q (Ok x) e same refused more = tt
 passed_on P Q (Err y) e same refused more = subst (λ d. Refuses d Q) (sym same) (refuses_more P Q e refused more)
+
+-- an object has one list of members
+pub same_members : (ms ns : Members) → object ms ≡ object ns → ms ≡ ns
+same_members ms ns same = cc

@@ -1,3 +1,5 @@
 mod ArrayForms
+mod Distinct
 pub mod Laws
 mod Levels
+mod Shown

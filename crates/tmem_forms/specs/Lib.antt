@@ -1,2 +1,3 @@
 pub mod Errors
+pub mod Members
 pub mod TxForms

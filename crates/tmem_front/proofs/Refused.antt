@@ -7,7 +7,7 @@ use Rattle.tmem_front.specs.Refusing.{IsFalseOn, AreEndValues, end_value}
 use Rattle.std.proofs.lemmas.List.{get_or-map, length-map}
 use Rattle.std.proofs.lemmas.List.Elements.{All-contains}
 use Rattle.std.proofs.lemmas.Simd.{map-map}
-use Rattle.tmem_record.specs.Names.{has_name}
+use Rattle.tmem_effect.specs.Names.{has_name}
 use Rattle.tmem_invariants.specs.Meanings.{Meanings}
 use Rattle.tmem_invariants.specs.TableNames.{AreBelow}
 use Rattle.tmem_invariants.proofs.Laws.{has_name-from_Contains}

@@ -5,7 +5,7 @@ use Rattle.tmem_disk.specs.declared.fault.Fault.{Fault}
 use Rattle.tmem_opening.specs.Held as opening
 use Rattle.tmem_opening.specs.declared.opening.Opening.{Opening}
 use Rattle.tmem_core.specs.Program.{Program}
-use Rattle.tmem_record.specs.State.{State}
+use Rattle.tmem_effect.specs.State.{State}
 use Rattle.tmem_spine.specs.Views.{SpineName}
 use Rattle.tmem_front.specs.declared.opened.OpenedFront.{OpenedFront}
 

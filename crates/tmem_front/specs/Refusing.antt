@@ -3,7 +3,7 @@ use Rattle.std.specs.Prelude.{◌≡◌, ℕ, ℤ, false, List, map, slice_get, 
 use Rattle.std.specs.Map.{keys_of}
 use Rattle.std.specs.Option.{option_or}
 use Rattle.tmem_invariants.specs.Meanings.{Meanings}
-use Rattle.tmem_record.specs.Writes.{look}
+use Rattle.tmem_effect.specs.Writes.{look}
 
 -- the invariant of this name is false on these variables, which are those of its footprint, in its order, each with a value
 pub record IsFalseOn (tests : Meanings) (name : List ℕ) (values : List (ℕ × ℤ)) : Type 0 where

@@ -3,8 +3,8 @@ ghost use Rattle.std.specs.Prelude.{◌≡◌, ◌≢◌, ◌≤◌, ◌<◌, �
 ghost use Rattle.std.specs.Sync.Mutex.{mutex_guard_value};
 ghost use Rattle.tmem_journal.specs.Held.{is_closed_of};
 ghost use Rattle.tmem_seats.specs.Flushing.{GoesOn, IsFlushRefusal, IsCheckpointRefusal, IsFlusherRefusal};
-ghost use Rattle.tmem_record.specs.Prefix.{IsPrefix};
-ghost use Rattle.tmem_record.specs.Names.{has_name};
+ghost use Rattle.tmem_effect.specs.Prefix.{IsPrefix};
+ghost use Rattle.tmem_effect.specs.Names.{has_name};
 ghost use Rattle.tmem_tentative.specs.Fits.{IsForVariables, IsForNames};
 ghost use Rattle.tmem_tentative.specs.Right.{IsRight};
 ghost use Rattle.tmem_tentative.specs.Cursors.{HasEnded, attempt_of};

@@ -1,6 +1,6 @@
 // What a caller of a front keeps.
 ghost use Rattle.std.specs.Prelude.{◌≡◌};
-ghost use Rattle.tmem_record.specs.Prefix.{IsPrefix};
+ghost use Rattle.tmem_effect.specs.Prefix.{IsPrefix};
 ghost use Rattle.tmem_spine.specs.History.{count};
 ghost use Rattle.tmem_spine.specs.Rule.{Owns};
 

@@ -2,7 +2,7 @@
 ghost use Rattle.std.specs.Prelude.{◌≡◌, ◌<◌, true, length, map, Some, IfOk, IfErr, IfSome};
 ghost use Rattle.std.specs.List.{Contains};
 ghost use Rattle.std.specs.Map.{keys_of};
-ghost use Rattle.tmem_record.specs.Names.{has_name};
+ghost use Rattle.tmem_effect.specs.Names.{has_name};
 ghost use Rattle.tmem_invariants.specs.TableNames.{AreBelow};
 ghost use Rattle.tmem_tentative.specs.Cursors.{HasEnded};
 ghost use Rattle.tmem_tree.specs.Plans.{FitsSteps, FitsVariables, FitsNames, FitsShapes};
@@ -16,8 +16,8 @@ use crate::pass::Pass;
 use std::alloc::{AllocError, Global};
 use std::sync::Wait;
 use tmem_disk::{Disk, Fault, Name};
+use tmem_effect::Writes;
 use tmem_invariants::Invariants;
-use tmem_record::Writes;
 use tmem_seats::{CoreSeat, StoreNaming};
 use tmem_tentative::{Attempt, Cursor, Probe, Progress, Values};
 use tmem_tree::{Plan, Shape, StoredSteps};

@@ -1,8 +1,8 @@
 // What a store has at one moment.
 ghost use Rattle.std.specs.Prelude.{◌≡◌, ◌++◌, Some, false, IfOk, IfErr, OnOk, MatchBool, map, nat_le, slice_get};
 ghost use Rattle.std.specs.List.{list_any};
-ghost use Rattle.tmem_record.specs.Names.{has_name};
-ghost use Rattle.tmem_record.specs.Prefix.{IsPrefix};
+ghost use Rattle.tmem_effect.specs.Names.{has_name};
+ghost use Rattle.tmem_effect.specs.Prefix.{IsPrefix};
 ghost use Rattle.tmem_spine.specs.History.{count};
 ghost use Rattle.tmem_seats.specs.Histories.{after};
 ghost use Rattle.tmem_front.specs.Settling.{KnowsMore};

@@ -1,8 +1,8 @@
 // The calls that wait for other threads.
 ghost use Rattle.std.specs.Prelude.{◌≡◌, ◌≢◌, ◌⊎◌, ◌<◌, ◌≤◌, true, false, [], Ok, Err, IfOk, IfErr, OnOk, length, IsTrue};
-ghost use Rattle.tmem_record.specs.declared.effect.Effect.{Effect as EffectOf};
+ghost use Rattle.tmem_effect.specs.declared.effect.Effect.{Effect as EffectOf};
 ghost use Rattle.tmem_core.specs.SettleAnswer.{accepted_by, is_stale};
-ghost use Rattle.tmem_record.specs.Prefix.{IsPrefix};
+ghost use Rattle.tmem_effect.specs.Prefix.{IsPrefix};
 ghost use Rattle.tmem_tree.specs.Plans.{IsShort, FitsSteps, FitsVariables, FitsNames, FitsShapes};
 ghost use Rattle.tmem_tentative.specs.Fits.{IsForVariables, IsForNames};
 ghost use Rattle.tmem_spine.specs.History.{count};

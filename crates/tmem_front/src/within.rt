@@ -1,6 +1,6 @@
 // The calls that wait for no longer than a time.
 ghost use Rattle.std.specs.Prelude.{◌≡◌, ◌≢◌, ◌<◌, ◌≤◌, Ok, Err, IfErr};
-ghost use Rattle.tmem_record.specs.Prefix.{IsPrefix};
+ghost use Rattle.tmem_effect.specs.Prefix.{IsPrefix};
 ghost use Rattle.tmem_spine.specs.History.{count};
 ghost use Rattle.tmem_tree.specs.Plans.{FitsSteps, FitsVariables, FitsNames, FitsShapes};
 ghost use Rattle.tmem_front.specs.Settling.{SettlesAtLast};

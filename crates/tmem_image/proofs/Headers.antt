@@ -2,9 +2,9 @@
 use Rattle.std.proofs.Common.{◌≡◌, ◌≤◌, ◌+◌, ◌-◌, ℕ, List, [], ◌∷◌, ◌++◌, length, take, drop, replicate, sym, ◌∙◌, ap, arith, append_assoc}
 use Rattle.std.proofs.lemmas.List.{take-append-drop, drop-replicate, take-replicate, drop-append-le, length-replicate, append-nil}
 use Rattle.byteorder.specs.Endian.{little_bytes}
-use Rattle.tmem_record.specs.State.{State}
-use Rattle.tmem_record.specs.Versions.{mark_of}
-use Rattle.tmem_record.specs.declared.version.Version.{Version}
+use Rattle.tmem_effect.specs.State.{State}
+use Rattle.tmem_effect.specs.Versions.{mark_of}
+use Rattle.tmem_effect.specs.declared.version.Version.{Version}
 use Rattle.tmem_record.specs.Spelling.{number_bytes, names_bytes}
 use Rattle.tmem_record.proofs.Laws.{drop_further}
 use Rattle.tmem_image.specs.Spelling.{names_body, header_body}

@@ -1,7 +1,7 @@
 -- The names of an image, and zeros up to the mark of the version.
 use Rattle.std.proofs.Common.{◌≡◌, ◌-◌, ℕ, List, ◌++◌, length, replicate, sym, ◌∙◌, ap, arith, length-append}
 use Rattle.std.proofs.lemmas.List.{length-replicate}
-use Rattle.tmem_record.specs.Names.{AreRegistered}
+use Rattle.tmem_effect.specs.Names.{AreRegistered}
 use Rattle.tmem_record.specs.Spelling.{names_bytes}
 use Rattle.tmem_record.proofs.Laws.{delimits_registered}
 use Rattle.tmem_image.specs.Spelling.{names_body}

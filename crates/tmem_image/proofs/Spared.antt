@@ -11,15 +11,15 @@ use Rattle.tmem_gate.specs.Cells.{LeftClosed, LeftOpen}
 use Rattle.tmem_gate.specs.Changes.{Outcome, IsMade, NotMade, InDoubt, NotBegun, outcome_of, Becomes, Meanwhile, Puts}
 use Rattle.tmem_gate.proofs.Laws.{gate_cases, whole_after, closed_before, by_look, WritesWithin-wider, WritesWithin-trans}
 use Rattle.tmem_record.specs.Stale.{IsStale}
-use Rattle.tmem_record.specs.State.{State}
+use Rattle.tmem_effect.specs.State.{State}
 use Rattle.tmem_record.specs.Layout.{pages_of, image_place, image_size}
 use Rattle.tmem_record.specs.Spelling.{number_bytes}
 use Rattle.tmem_record.specs.StandsAt.{StandsAt}
 use Rattle.tmem_record.proofs.Laws.{both_parts, between_is}
-use Rattle.tmem_record.specs.Names.{AreRegistered}
-use Rattle.tmem_record.specs.Versions.{mark_of}
-use Rattle.tmem_record.specs.declared.version.Version.{Version}
-use Rattle.tmem_record.specs.declared.version.Version.TheVariants.{Two}
+use Rattle.tmem_effect.specs.Names.{AreRegistered}
+use Rattle.tmem_effect.specs.Versions.{mark_of}
+use Rattle.tmem_effect.specs.declared.version.Version.{Version}
+use Rattle.tmem_effect.specs.declared.version.Version.TheVariants.{Two}
 use Rattle.tmem_image.proofs.Lengths.{length-header_body, length-pages_body}
 use Rattle.tmem_image.specs.Spelling.{names_body, header_body, pages_body, image_body, IsImage}
 use Rattle.tmem_image.specs.Image.{IsGeneration}

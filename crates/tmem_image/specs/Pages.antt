@@ -4,7 +4,7 @@ use Rattle.std.specs.Int.{bit_at}
 use Rattle.std.specs.List.{list_any}
 use Rattle.tmem_record.specs.Layout.{pages_of, image_place}
 use Rattle.tmem_record.specs.StandsAt.{StandsAt}
-use Rattle.tmem_record.specs.declared.effect.Effect.{Effect}
+use Rattle.tmem_effect.specs.declared.effect.Effect.{Effect}
 use Rattle.tmem_image.specs.Spelling.{page_bytes}
 
 -- whether a set has a page: the bit there is 1

@@ -1,12 +1,12 @@
 -- The bytes that stand behind the gate of an image copy: a header, and pages.
 use Rattle.std.specs.Prelude.{◌≡◌, ◌<◌, ℕ, ◌*◌, ◌-◌, ◌^◌, ℤ, List, [], ◌∷◌, ◌++◌, length, take, drop, flat_map, replicate, All, FitsSigned}
 use Rattle.std.specs.Int.{w64}
-use Rattle.tmem_record.specs.Names.{AreRegistered}
+use Rattle.tmem_effect.specs.Names.{AreRegistered}
 use Rattle.tmem_record.specs.Spelling.{number_bytes, value_bytes, names_bytes}
-use Rattle.tmem_record.specs.State.{State}
+use Rattle.tmem_effect.specs.State.{State}
 use Rattle.tmem_record.specs.Layout.{pages_of}
-use Rattle.tmem_record.specs.Versions.{mark_of}
-use Rattle.tmem_record.specs.declared.version.Version.{Version}
+use Rattle.tmem_effect.specs.Versions.{mark_of}
+use Rattle.tmem_effect.specs.declared.version.Version.{Version}
 
 -- how many names, each of them, and 0 up to the mark of the version
 unfoldable pub names_body : List (List ℕ) → List ℕ

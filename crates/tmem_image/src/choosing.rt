@@ -1,8 +1,8 @@
 // The copy that a device chooses.
 ghost use Rattle.std.specs.Prelude.{◌≡◌, ◌⊎◌, ◌≤◌, ◌+◌, ℕ, List, Some, IfOk, IfErr, IfSome, IfNone, OnErr, IsErrOf};
 ghost use Rattle.tmem_gate.specs.Calls.{Uses, LooksOnly, IsWhyNone};
-ghost use Rattle.tmem_record.specs.State.{State as StateOf};
-ghost use Rattle.tmem_record.specs.declared.version.Version.{Version as VersionOf};
+ghost use Rattle.tmem_effect.specs.State.{State as StateOf};
+ghost use Rattle.tmem_effect.specs.declared.version.Version.{Version as VersionOf};
 ghost use Rattle.tmem_record.specs.Layout.{image_place, end_place};
 ghost use Rattle.tmem_image.specs.Spelling.{IsImage};
 ghost use Rattle.tmem_image.specs.Image.{IsGeneration, HoldsImage, ChoosesCopy, HasHead};

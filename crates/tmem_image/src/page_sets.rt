@@ -3,7 +3,8 @@ ghost use Rattle.std.specs.Prelude.{◌≡◌, ◌<◌, ℕ, All};
 ghost use Rattle.tmem_record.specs.declared.layout.TheConstants.{MOST_VARS};
 ghost use Rattle.tmem_image.specs.Pages.{has_page, is_page_written, is_page_changed};
 
-use tmem_record::{Effect, MOST_VARS, PAGE_VALUES};
+use tmem_effect::Effect;
+use tmem_record::{MOST_VARS, PAGE_VALUES};
 
 /// The set of all pages.
 pub const ALL_PAGES: u16 = u16::MAX;

@@ -9,7 +9,7 @@ use Rattle.tmem_disk.specs.declared.fault.Fault.TheVariants.{Device, Unknown}
 use Rattle.tmem_gate.specs.Calls.{MadeBy}
 use Rattle.tmem_gate.specs.Changes.{Either, Meanwhile, outcome_of}
 use Rattle.tmem_gate.specs.Gate.{IsOpenOver}
-use Rattle.tmem_record.specs.State.{first_state}
+use Rattle.tmem_effect.specs.State.{first_state}
 use Rattle.tmem_record.specs.Layout.{IsLayout, end_place}
 use Rattle.tmem_journal.specs.Formatted.{open_cell, formatted}
 use Rattle.tmem_journal.specs.Stands.{first_position, HoldsState, StandsFor}

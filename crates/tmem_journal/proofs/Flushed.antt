@@ -8,7 +8,7 @@ use Rattle.tmem_disk.specs.declared.fault.Fault.{Fault}
 use Rattle.tmem_disk.specs.declared.fault.Fault.TheVariants.{Memory, Device, Unknown, LogFull, NotFormatted, Damaged, Geometry, Spent}
 use Rattle.tmem_gate.specs.Calls.{MadeBy}
 use Rattle.tmem_gate.specs.Changes.{Either, Becomes, Meanwhile, outcome_of}
-use Rattle.tmem_record.specs.State.{State, fold, StaysWithin}
+use Rattle.tmem_effect.specs.State.{State, fold, StaysWithin}
 use Rattle.tmem_record.specs.Layout.{IsLayout}
 use Rattle.tmem_redolog.specs.Appends.{Placed, Without, With, IsAppendFault}
 use Rattle.tmem_journal.specs.Stands.{Position, next_slot, HoldsState, StandsFor, StandsForEither, IsCurrent}

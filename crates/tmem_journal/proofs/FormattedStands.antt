@@ -8,10 +8,10 @@ use Rattle.byteorder.specs.Endian.{little_bytes}
 use Rattle.tmem_disk.specs.Disk.{DeviceView, LeavesOnly, IsSynced, ReadsAs, SameOutside, overwritten}
 use Rattle.tmem_gate.specs.Gate.{IsClosed, IsOpenOver}
 use Rattle.tmem_gate.proofs.Laws.{closed_before}
-use Rattle.tmem_record.specs.State.{first_state}
+use Rattle.tmem_effect.specs.State.{first_state}
 use Rattle.tmem_record.specs.Spelling.{number_bytes, value_bytes, names_bytes}
-use Rattle.tmem_record.specs.Versions.{mark_of}
-use Rattle.tmem_record.specs.declared.version.Version.TheVariants.{Two}
+use Rattle.tmem_effect.specs.Versions.{mark_of}
+use Rattle.tmem_effect.specs.declared.version.Version.TheVariants.{Two}
 use Rattle.tmem_record.specs.Layout.{IsLayout, pages_of, image_place, slot_place, end_place}
 use Rattle.tmem_redolog.specs.Log.{HoldsLog}
 use Rattle.tmem_redolog.proofs.Laws.{no_batches}
@@ -24,7 +24,9 @@ use Rattle.tmem_journal.specs.Stands.{first_position, HoldsState, StandsFor}
 use Rattle.tmem_journal.proofs.Lengths.{length-block_body}
 use Rattle.tmem_journal.proofs.Overwriting.{two_parts}
 use Rattle.tmem_journal.proofs.Recovering.{leaves_seen}
-use Rattle.tmem_record.proofs.Laws.{AreRegistered-nil, length-little_bytes, slice_get-take, slice_get-drop}
+use Rattle.tmem_effect.proofs.Laws.{AreRegistered-nil}
+use Rattle.tmem_disk.proofs.Laws.{slice_get-take, slice_get-drop}
+use Rattle.tmem_record.proofs.Laws.{length-little_bytes}
 
 slice_get-replicate : (n i x : ℕ) → i < n → slice_get (replicate n x) i ≡ Some x
 slice_get-replicate zero i x below = absurd (omega arith)

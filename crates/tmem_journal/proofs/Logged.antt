@@ -9,10 +9,10 @@ use Rattle.tmem_gate.proofs.Laws.{closed_before, open_before}
 use Rattle.tmem_record.specs.Layout.{image_place, image_size, slot_place}
 use Rattle.tmem_record.specs.Spelling.{number_bytes}
 use Rattle.tmem_record.specs.Stale.{IsStale}
-use Rattle.tmem_record.specs.State.{State, fold, StaysWithin}
-use Rattle.tmem_record.specs.declared.effect.Effect.{Effect}
-use Rattle.tmem_record.specs.declared.version.Version.{Version}
-use Rattle.tmem_record.specs.declared.version.Version.TheVariants.{Two}
+use Rattle.tmem_effect.specs.State.{State, fold, StaysWithin}
+use Rattle.tmem_effect.specs.declared.effect.Effect.{Effect}
+use Rattle.tmem_effect.specs.declared.version.Version.{Version}
+use Rattle.tmem_effect.specs.declared.version.Version.TheVariants.{Two}
 use Rattle.tmem_record.proofs.Laws.{length-number_bytes}
 use Rattle.tmem_image.specs.Image.{HoldsImage, other_copy}
 use Rattle.tmem_image.specs.Spelling.{image_body}

@@ -9,7 +9,7 @@ use Rattle.tmem_disk.proofs.Laws.{AtEachMoment-more, seen-left}
 use Rattle.tmem_gate.specs.Calls.{WritesWithin}
 use Rattle.tmem_gate.proofs.Laws.{WritesWithin-trans}
 use Rattle.tmem_record.specs.Layout.{image_place, image_size, slot_place}
-use Rattle.tmem_record.specs.State.{State}
+use Rattle.tmem_effect.specs.State.{State}
 use Rattle.tmem_redolog.proofs.Laws.{looks_given}
 use Rattle.tmem_journal.specs.Mended.{MendsDevice, RecoveredBy, RecoversDevice}
 use Rattle.tmem_journal.specs.Refusals.{IsRefusedBy, IsWhyFound}

@@ -8,7 +8,7 @@ use Rattle.tmem_gate.specs.Calls.{LooksOnly, MadeBy}
 use Rattle.tmem_gate.specs.Gate.{IsClosed}
 use Rattle.tmem_gate.proofs.Laws.{by_look, LooksOnly-refl, LooksOnly-trans, WritesWithin-wider, WritesWithin-trans}
 use Rattle.tmem_record.specs.Layout.{slot_place}
-use Rattle.tmem_record.specs.State.{State}
+use Rattle.tmem_effect.specs.State.{State}
 use Rattle.tmem_redolog.specs.Closes.{bytes_from, Keeps, ReadClosed, Closes}
 use Rattle.tmem_redolog.proofs.Laws.{looks_given}
 use Rattle.tmem_journal.specs.Mended.{Mends, MendedBy, MendsDevice}

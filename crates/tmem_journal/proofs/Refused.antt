@@ -9,11 +9,11 @@ use Rattle.tmem_disk.specs.declared.fault.Fault.{Fault}
 use Rattle.tmem_disk.specs.declared.fault.Fault.TheVariants.{Device, NotFormatted, Damaged, Geometry, Spent}
 use Rattle.tmem_gate.specs.Calls.{IsWhyNone}
 use Rattle.tmem_gate.specs.Gate.{IsOpenAt, IsOpenOver}
-use Rattle.tmem_record.specs.State.{State}
-use Rattle.tmem_record.specs.Prefix.{IsPrefix}
+use Rattle.tmem_effect.specs.State.{State}
+use Rattle.tmem_effect.specs.Prefix.{IsPrefix}
 use Rattle.tmem_record.specs.Spelling.{number_bytes}
-use Rattle.tmem_record.specs.Versions.{number_of}
-use Rattle.tmem_record.specs.declared.version.Version.{Version}
+use Rattle.tmem_effect.specs.Versions.{number_of}
+use Rattle.tmem_effect.specs.declared.version.Version.{Version}
 use Rattle.tmem_record.proofs.Laws.{number-spelled}
 use Rattle.tmem_record.specs.Layout.{IsLayout}
 use Rattle.tmem_record.specs.StandsAt.{StandsAt}

@@ -13,11 +13,11 @@ use Rattle.tmem_gate.specs.Gate.{IsOpenOver}
 use Rattle.tmem_gate.proofs.Laws.{open_before, open_after, WritesWithin-wider, WritesWithin-trans}
 use Rattle.tmem_record.specs.Layout.{pages_of, image_place, image_size, slot_place}
 use Rattle.tmem_record.specs.Stale.{IsStale}
-use Rattle.tmem_record.specs.State.{State, fold, IsWithin}
-use Rattle.tmem_record.specs.declared.effect.Effect.{Effect}
-use Rattle.tmem_record.specs.Versions.{number_of}
-use Rattle.tmem_record.specs.declared.version.Version.{Version}
-use Rattle.tmem_record.specs.declared.version.Version.TheVariants.{One, Two}
+use Rattle.tmem_effect.specs.State.{State, fold, IsWithin}
+use Rattle.tmem_effect.specs.declared.effect.Effect.{Effect}
+use Rattle.tmem_effect.specs.Versions.{number_of}
+use Rattle.tmem_effect.specs.declared.version.Version.{Version}
+use Rattle.tmem_effect.specs.declared.version.Version.TheVariants.{One, Two}
 use Rattle.tmem_image.specs.Image.{HoldsImage, other_copy}
 use Rattle.tmem_image.specs.Spare.{Placed, IsSettled, Without, With}
 use Rattle.tmem_image.specs.Spelling.{image_body}

@@ -3,7 +3,7 @@ use Rattle.std.specs.Prelude.{◌≤◌, ℕ, List, [], Option, Some, None, Resu
 use Rattle.std.specs.declared.snapshot.Snapshot.{Snapshot}
 use Rattle.tmem_disk.specs.declared.fault.Fault.{Fault}
 use Rattle.tmem_disk.specs.declared.fault.Fault.TheVariants.{Unknown}
-use Rattle.tmem_record.specs.declared.effect.Effect.{Effect}
+use Rattle.tmem_effect.specs.declared.effect.Effect.{Effect}
 use Rattle.tmem_record.specs.Layout.{IsLayout, end_place}
 
 -- the numbers are within the limits, and the device holds their layout

@@ -2,7 +2,7 @@
 use Rattle.std.specs.Prelude.{ℕ, Bool, List, Result, Ok, Err}
 use Rattle.tmem_disk.specs.Disk.{DeviceView}
 use Rattle.tmem_disk.specs.declared.fault.Fault.{Fault}
-use Rattle.tmem_record.specs.State.{State, fold}
+use Rattle.tmem_effect.specs.State.{State, fold}
 use Rattle.tmem_journal.specs.Calls.{effects_in}
 use Rattle.tmem_journal.specs.Stands.{Position, position_in, StandsForEither}
 use Rattle.tmem_record.specs.declared.layout.Layout.{Layout}

@@ -5,8 +5,8 @@ use Rattle.tmem_disk.specs.declared.disk.DeviceFault.TheVariants.{Write}
 use Rattle.tmem_disk.specs.declared.fault.Fault.{Fault}
 use Rattle.tmem_disk.specs.declared.fault.Fault.TheVariants as fault
 use Rattle.tmem_gate.specs.Calls.{IsReadOrWrite}
-use Rattle.tmem_record.specs.State.{State, fold}
-use Rattle.tmem_record.specs.declared.effect.Effect.{Effect}
+use Rattle.tmem_effect.specs.State.{State, fold}
+use Rattle.tmem_effect.specs.declared.effect.Effect.{Effect}
 use Rattle.tmem_journal.specs.Calls.{FitsOn}
 use Rattle.tmem_journal.specs.Held.{device_of, layout_of, state_of, doubtful_of, position_of, is_closed_of}
 use Rattle.tmem_journal.specs.Refusals.{IsWhy, IsRefusedBy}

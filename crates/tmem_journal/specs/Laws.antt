@@ -2,7 +2,7 @@
 use Rattle.std.specs.Prelude.{◌≡◌, ◌≢◌, ◌≤◌, ℕ, ◌^◌, List}
 use Rattle.tmem_disk.specs.declared.fault.Fault.{Fault}
 use Rattle.tmem_disk.specs.declared.fault.Fault.TheVariants.{Spent}
-use Rattle.tmem_record.specs.State.{State}
+use Rattle.tmem_effect.specs.State.{State}
 use Rattle.tmem_record.specs.Layout.{IsLayout}
 use Rattle.tmem_journal.specs.Stands.{Position, StandsFor, IsSpentAt}
 use Rattle.tmem_journal.specs.Refusals.{IsRefusedBy}

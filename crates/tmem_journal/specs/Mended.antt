@@ -4,7 +4,7 @@ use Rattle.tmem_disk.specs.Disk.{DeviceView, SameOutside, AtEachMoment}
 use Rattle.tmem_gate.specs.Calls.{LooksOnly, WritesWithin}
 use Rattle.tmem_gate.specs.Gate.{IsOpenAt, IsClosed}
 use Rattle.tmem_record.specs.Layout.{image_place, image_size, slot_place}
-use Rattle.tmem_record.specs.State.{State}
+use Rattle.tmem_effect.specs.State.{State}
 use Rattle.tmem_journal.specs.Stands.{Position, StandsFor, StandsForState, migrated}
 
 -- at this place there is no open gate of a log slot

@@ -2,11 +2,11 @@
 use Rattle.std.specs.Prelude.{◌≡◌, ◌⊎◌, ◌+◌, ◌≤◌, ◌^◌, ℕ, List, length}
 use Rattle.tmem_gate.specs.Gate.{IsOpenOver}
 use Rattle.tmem_record.specs.Stale.{IsStale}
-use Rattle.tmem_record.specs.State.{State}
-use Rattle.tmem_record.specs.Versions.{number_of}
-use Rattle.tmem_record.specs.declared.version.Version.{Version}
-use Rattle.tmem_record.specs.declared.version.Version.TheVariants.{One, Two}
-use Rattle.tmem_record.specs.declared.effect.Effect.{Effect}
+use Rattle.tmem_effect.specs.State.{State}
+use Rattle.tmem_effect.specs.Versions.{number_of}
+use Rattle.tmem_effect.specs.declared.version.Version.{Version}
+use Rattle.tmem_effect.specs.declared.version.Version.TheVariants.{One, Two}
+use Rattle.tmem_effect.specs.declared.effect.Effect.{Effect}
 use Rattle.tmem_record.specs.Layout.{image_place}
 use Rattle.tmem_image.specs.Image.{HoldsImage, other_copy}
 use Rattle.tmem_redolog.specs.Log.{HoldsLog, replayed}

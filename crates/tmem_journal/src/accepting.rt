@@ -1,8 +1,8 @@
 // What a batch makes of a state.
 ghost use Rattle.std.specs.Prelude.{◌≡◌, ◌<◌, length, All};
-ghost use Rattle.tmem_record.specs.State.{fold, StaysWithin};
+ghost use Rattle.tmem_effect.specs.State.{fold, StaysWithin};
 
-use tmem_record::{Effect, State};
+use tmem_effect::{Effect, State};
 
 /// Accepts effects one after another. The state is within the limits of counts and names after each of them.
 pub(crate) fn accept_all(state: &mut State, effects: &[Effect])

@@ -1,7 +1,7 @@
 // Writes the content of an empty store.
 ghost use Rattle.std.specs.Prelude.{◌≡◌, ◌⊎◌, ◌≤◌, ◌*◌, ◌++◌, drop, replicate, OnOk, IfErr, IsErrOf};
 ghost use Rattle.tmem_disk.specs.Disk.{AtEachMoment, LeavesOnly, ReadsAs, IsSynced};
-ghost use Rattle.tmem_record.specs.State.{first_state};
+ghost use Rattle.tmem_effect.specs.State.{first_state};
 ghost use Rattle.tmem_record.specs.Layout.{end_place};
 ghost use Rattle.tmem_journal.specs.Formatted.{formatted, header_bytes};
 ghost use Rattle.tmem_journal.specs.Stands.{first_position, StandsFor};
@@ -12,10 +12,11 @@ ghost use Rattle.tmem_journal.specs.Calls.{FitsOn};
 use crate::block::spell_block;
 use crate::calls::put_cell;
 use tmem_disk::{Disk, Fault};
+use tmem_effect::Version;
 use tmem_gate::device::{sync, write};
 use tmem_image::{HEADER_ROOM, MARK_AT};
+use tmem_record::Layout;
 use tmem_record::bytes::put;
-use tmem_record::{Layout, Version};
 
 // How many bytes are erased by one write at the most.
 const PIECE: usize = 16384;

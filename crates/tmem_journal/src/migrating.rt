@@ -4,7 +4,7 @@ ghost use Rattle.tmem_disk.specs.Disk.{AtEachMoment, IsSynced, LeavesOnly};
 ghost use Rattle.tmem_gate.specs.Calls.{Uses, LooksOnly, WritesWithin};
 ghost use Rattle.tmem_gate.specs.Gate.{StandsClosed};
 ghost use Rattle.tmem_record.specs.Layout.{image_place, image_size, slot_place, end_place};
-ghost use Rattle.tmem_record.specs.State.{State};
+ghost use Rattle.tmem_effect.specs.State.{State};
 ghost use Rattle.tmem_image.specs.Image.{IsGeneration, other_copy};
 ghost use Rattle.tmem_image.specs.Room.{IsImageRoom};
 ghost use Rattle.tmem_redolog.specs.Room.{IsLogRoom};
@@ -15,8 +15,9 @@ ghost use Rattle.tmem_journal.specs.Refusals.{IsWhyFound, IsRefusedBy};
 use crate::recovery::{Found, recover};
 use crate::renewing::renew;
 use tmem_disk::{Disk, Fault};
+use tmem_effect::Version;
 use tmem_image::{ALL_PAGES, ImageRoom};
-use tmem_record::{Layout, Version};
+use tmem_record::Layout;
 use tmem_redolog::LogRoom;
 
 /// Recovers the state that a device stands for, and makes one checkpoint where its image is of version 1. Refused as `recover`

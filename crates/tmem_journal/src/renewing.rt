@@ -12,8 +12,9 @@ ghost use Rattle.tmem_journal.specs.Stands.{position_at, next_image, StandsFor, 
 ghost use Rattle.tmem_journal.specs.Mended.{SameBesideCopy};
 
 use tmem_disk::{DeviceFault, Disk, Fault};
+use tmem_effect::{State, Version};
 use tmem_image::write_spare;
-use tmem_record::{Layout, State, Version};
+use tmem_record::Layout;
 use tmem_redolog::{Log, empty};
 
 /// Writes the state of a device as an image of version 2 and of the next generation to the copy that is not chosen, and empties

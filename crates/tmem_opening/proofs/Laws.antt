@@ -4,7 +4,7 @@ use Rattle.tmem_disk.specs.Disk.{DeviceView}
 use Rattle.tmem_disk.specs.declared.fault.Fault.{Fault}
 use Rattle.tmem_disk.specs.declared.fault.Fault.TheVariants as fault
 use Rattle.tmem_gate.specs.Calls.{Uses}
-use Rattle.tmem_record.specs.State.{State}
+use Rattle.tmem_effect.specs.State.{State}
 use Rattle.tmem_invariants.specs.Meanings.{Meanings, IsSound}
 use Rattle.tmem_invariants.specs.declared.named.Invariants.{Ghosts}
 use Rattle.tmem_core.specs.Program.{Program, IsProgramOf}

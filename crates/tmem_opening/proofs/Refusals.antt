@@ -6,7 +6,7 @@ use Rattle.tmem_disk.specs.Disk.{DeviceView, IsDevice, SameDevice}
 use Rattle.tmem_disk.specs.declared.fault.Fault.{Fault}
 use Rattle.tmem_disk.specs.declared.fault.Fault.TheVariants as fault
 use Rattle.tmem_gate.specs.Calls.{Uses, LooksOnly, failures_after}
-use Rattle.tmem_record.specs.State.{State}
+use Rattle.tmem_effect.specs.State.{State}
 use Rattle.tmem_invariants.specs.Meanings.{IsSound}
 use Rattle.tmem_core.specs.Opening.{IsOpeningRefusal, opening_fault}
 use Rattle.tmem_core.specs.Program.{Program}

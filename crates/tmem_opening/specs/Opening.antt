@@ -4,7 +4,7 @@ use Rattle.tmem_disk.specs.Disk.{DeviceView, LeavesOnly, AtEachMoment, SameDevic
 use Rattle.tmem_disk.specs.declared.fault.Fault.{Fault}
 use Rattle.tmem_disk.specs.declared.fault.Fault.TheVariants.{Memory, NotFormatted, Damaged, Geometry, Missing, Broken, Spent}
 use Rattle.tmem_gate.specs.Calls.{Uses, LooksOnly, WritesWithin}
-use Rattle.tmem_record.specs.State.{State}
+use Rattle.tmem_effect.specs.State.{State}
 use Rattle.tmem_record.specs.Layout.{slot_place}
 use Rattle.tmem_invariants.specs.Meanings.{Meanings, IsSound}
 use Rattle.tmem_core.specs.Opening.{opening_fault}

@@ -10,8 +10,6 @@ mod copy;
 mod image;
 mod recovery;
 mod slot;
-#[cfg(test)]
-mod tests;
 mod wrong;
 
 pub use block::{Block, block_of};

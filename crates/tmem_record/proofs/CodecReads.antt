@@ -15,15 +15,16 @@ use Rattle.std.proofs.lemmas.Slice.Eq.{bytes_eq-Decides}
 use Rattle.byteorder.specs.Endian.{little_bytes, little_number}
 use Rattle.byteorder.specs.Numbers.{little_from-lt}
 use Rattle.tmem_disk.specs.Name.{IsName}
-use Rattle.tmem_record.specs.State.{Effect, AreWrites, AreChecks, variables, look, with_write, has_name, with_name}
-use Rattle.tmem_record.specs.Prefix.{IsPrefix}
-use Rattle.tmem_record.specs.Versions.{Version, One, MayRetire}
-use Rattle.tmem_record.specs.Batch.{records_length_in, IsRecordIn, IsBatchIn}
+use Rattle.tmem_effect.specs.State.{AreWrites, AreChecks, variables, look, with_write, has_name, with_name}
+use Rattle.tmem_effect.specs.declared.effect.Effect.{Effect}
+use Rattle.tmem_effect.specs.Prefix.{IsPrefix}
+use Rattle.tmem_effect.specs.Versions.{MayRetire}
+use Rattle.tmem_effect.specs.declared.version.Version.{Version}
+use Rattle.tmem_effect.specs.declared.version.Version.TheVariants.{One}
+use Rattle.tmem_effect.specs.Batch.{records_length_in, IsRecordIn, IsBatchIn}
 use Rattle.tmem_record.specs.Spelling.{number_bytes, value_bytes, write_bytes, name_bytes, writes_bytes, names_bytes, retired_bytes, record_bytes, batch_bytes, SpellsBatch}
-use Rattle.tmem_record.proofs.PrefixLaws.{IsPrefix-append, IsPrefix-rest}
-use Rattle.tmem_record.proofs.NamesLaws.{AreChecks-push}
+use Rattle.tmem_effect.proofs.Laws.{IsPrefix-append, IsPrefix-rest, AreChecks-push, is_some-look, AreWrites-push}
 use Rattle.tmem_record.proofs.CodecWrites.{length-records}
-use Rattle.tmem_record.proofs.WritesLaws.{is_some-look, AreWrites-push}
 use Rattle.tmem_record.proofs.SpellingLaws.{IsBytes, take-spelled, Delimits, IsWriteWithin, AreWritesWithin, each_write, writes_within, same_cons, length-number_bytes, length-write_bytes, delimits_number, delimits_write, delimits_name, delimits_writes, delimits_names, delimits_all, AreRetiredIn, retired_in, delimits_retired, record_parts, delimits_record, batch_parts, head_of}
 
 -- what holds anyway holds where nothing is answered

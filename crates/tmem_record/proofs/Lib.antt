@@ -1,15 +1,7 @@
-pub mod BatchLaws
 pub mod CodecReads
 pub mod CodecWrites
 pub mod Laws
 pub mod NameSetReads
-pub mod NamesLaws
-pub mod NamesRemoved
-pub mod PrefixLaws
 pub mod SpellingLaws
-pub mod StateLaws
-pub mod Staying
-pub mod WritesLaws
-pub mod Placing
 pub mod Standing
 pub mod Pieces

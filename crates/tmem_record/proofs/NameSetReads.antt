@@ -4,9 +4,9 @@ use Rattle.std.specs.Prelude.{All, IsTrue, ◌↔◌}
 use Rattle.std.proofs.lemmas.Bool.{false≢true}
 use Rattle.std.proofs.lemmas.List.{get_or_at, get_or_append_left}
 use Rattle.tmem_disk.specs.Name.{IsName}
-use Rattle.tmem_record.specs.Names.{is_before, AreRegistered}
+use Rattle.tmem_effect.specs.Names.{is_before, AreRegistered}
 use Rattle.tmem_record.specs.Spelling.{name_bytes, names_bytes}
-use Rattle.tmem_record.proofs.NamesLaws.{AreRegistered-nil, AreRegistered-push}
+use Rattle.tmem_effect.proofs.Laws.{AreRegistered-nil, AreRegistered-push}
 use Rattle.tmem_record.proofs.CodecReads.{HasRead, Counted, read_none, read_more, one_more, names_that}
 
 -- so many names were read, and this is left

@@ -2,20 +2,9 @@
 use Rattle.std.proofs.Common.{◌≡◌, ℕ, zero, suc, ◌<◌, ◌≤◌, ◌+◌, ◌-◌, List, [], ◌∷◌, take, drop, refl, sym, ◌∙◌, ap, arith}
 use Rattle.std.specs.Prelude.{slice_get, slice_range}
 use Rattle.std.proofs.lemmas.List.{drop-take, take-take, drop-drop}
+use Rattle.tmem_disk.proofs.Laws.{slice_get-take, slice_get-drop}
 use Rattle.tmem_gate.specs.Gate.{IsOpenAt, IsClosed}
 use Rattle.tmem_record.proofs.Standing.{between_is}
-
-pub slice_get-take : {A : Type 0} → (xs : List A) (n i : ℕ) → i < n → slice_get (take n xs) i ≡ slice_get xs i
-slice_get-take [] zero i below = refl
-slice_get-take [] (suc n) i below = refl
-slice_get-take (x ∷ xs) zero i below = absurd (omega arith)
-slice_get-take (x ∷ xs) (suc n) zero below = refl
-slice_get-take (x ∷ xs) (suc n) (suc i) below = slice_get-take xs n i (omega arith)
-
-pub slice_get-drop : {A : Type 0} → (xs : List A) (n i : ℕ) → slice_get (drop n xs) i ≡ slice_get xs (n + i)
-slice_get-drop xs zero i = let e : i ≡ 0 + i = omega arith in ap (λ (k : ℕ). slice_get xs k) e
-slice_get-drop [] (suc n) i = refl
-slice_get-drop (x ∷ xs) (suc n) i = let e : suc n + i ≡ suc (n + i) = omega arith in slice_get-drop xs n i ∙ ap (λ (k : ℕ). slice_get (x ∷ xs) k) (sym e)
 
 module _ (c piece : List ℕ) (at n : ℕ) (read : piece ≡ slice_range c at (at + n)) where
   piece_is : piece ≡ take n (drop at c)

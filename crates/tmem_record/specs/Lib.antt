@@ -1,11 +1,4 @@
-pub mod Batch
 pub mod Layout
-pub mod Loggable
-pub mod Names
-pub mod Prefix
 pub mod Spelling
 pub mod Stale
 pub mod StandsAt
-pub mod State
-pub mod Versions
-pub mod Writes

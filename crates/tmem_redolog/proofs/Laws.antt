@@ -7,11 +7,11 @@ use Rattle.tmem_gate.specs.Gate.{IsClosed, IsOpenOver}
 use Rattle.tmem_gate.proofs.Laws.{closed_after, open_after}
 use Rattle.tmem_record.specs.Layout.{slot_place}
 use Rattle.tmem_record.specs.Spelling.{number_bytes, batch_bytes}
-use Rattle.tmem_record.specs.State.{State, fold}
-use Rattle.tmem_record.specs.declared.effect.Effect.{Effect}
-use Rattle.tmem_record.specs.declared.version.Version.{Version}
-use Rattle.tmem_record.specs.declared.version.Version.TheVariants.{Two}
-use Rattle.tmem_record.proofs.Laws.{length-values-fold}
+use Rattle.tmem_effect.specs.State.{State, fold}
+use Rattle.tmem_effect.specs.declared.effect.Effect.{Effect}
+use Rattle.tmem_effect.specs.declared.version.Version.{Version}
+use Rattle.tmem_effect.specs.declared.version.Version.TheVariants.{Two}
+use Rattle.tmem_effect.proofs.Laws.{length-values-fold}
 use Rattle.tmem_redolog.specs.Appends.{FollowsOn, Placed, Without, With}
 use Rattle.tmem_redolog.specs.Closes.{Keeps}
 use Rattle.tmem_redolog.specs.Log.{HoldsBatches, HoldsLog, IsStale, IsWithin, replayed}

@@ -5,10 +5,11 @@ use Rattle.std.proofs.lemmas.Bool.Decides.{nat_tests}
 use Rattle.std.proofs.lemmas.List.{take-take, take_at, take_all, take_more}
 use Rattle.tmem_gate.specs.Gate.{IsOpenAt, HasBody, IsOpenOver}
 use Rattle.tmem_record.specs.Spelling.{number_bytes, batch_bytes, SpellsBatch}
-use Rattle.tmem_record.specs.State.{State, apply, fold}
-use Rattle.tmem_record.specs.declared.effect.Effect.{Effect}
-use Rattle.tmem_record.specs.declared.version.Version.{Version}
-use Rattle.tmem_record.proofs.Laws.{fold-push, StaysWithin-first, StaysWithin-push, StaysWithin-at, length-number_bytes}
+use Rattle.tmem_effect.specs.State.{State, apply, fold}
+use Rattle.tmem_effect.specs.declared.effect.Effect.{Effect}
+use Rattle.tmem_effect.specs.declared.version.Version.{Version}
+use Rattle.tmem_effect.proofs.Laws.{fold-push, StaysWithin-first, StaysWithin-push, StaysWithin-at}
+use Rattle.tmem_record.proofs.Laws.{length-number_bytes}
 use Rattle.tmem_redolog.specs.Log.{IsStale, IsWithin, StaysWithin}
 use Rattle.tmem_redolog.specs.Scans.{MayReplay}
 use Rattle.tmem_redolog.proofs.OneLog.{begins, one_number, spells, one_batch}

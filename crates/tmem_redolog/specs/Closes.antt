@@ -4,9 +4,9 @@ use Rattle.tmem_disk.specs.Disk.{DeviceView, SameOutside, AtEachMoment, Elapses,
 use Rattle.tmem_gate.specs.Calls.{WritesWithin, MadeBy}
 use Rattle.tmem_gate.specs.Gate.{IsOpenAt, IsClosed}
 use Rattle.tmem_record.specs.Layout.{slot_place}
-use Rattle.tmem_record.specs.State.{State}
-use Rattle.tmem_record.specs.declared.effect.Effect.{Effect}
-use Rattle.tmem_record.specs.declared.version.Version.{Version}
+use Rattle.tmem_effect.specs.State.{State}
+use Rattle.tmem_effect.specs.declared.effect.Effect.{Effect}
+use Rattle.tmem_effect.specs.declared.version.Version.{Version}
 use Rattle.tmem_redolog.specs.Log.{HoldsLog}
 use Rattle.tmem_redolog.specs.declared.log.Log.{Log}
 

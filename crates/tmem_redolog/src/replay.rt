@@ -3,14 +3,15 @@ ghost use Rattle.std.specs.Prelude.{◌≡◌, ◌↔◌, ◌<◌, ◌^◌, ℕ,
 ghost use Rattle.std.specs.Bool.{OnTrue};
 ghost use Rattle.tmem_gate.specs.Gate.{IsOpenAt, HasBody, IsOpenOver};
 ghost use Rattle.tmem_record.specs.Spelling.{number_bytes};
-ghost use Rattle.tmem_record.specs.State.{apply, fold};
-ghost use Rattle.tmem_record.specs.declared.effect.Effect.{Effect as EffectOf};
+ghost use Rattle.tmem_effect.specs.State.{apply, fold};
+ghost use Rattle.tmem_effect.specs.declared.effect.Effect.{Effect as EffectOf};
 ghost use Rattle.tmem_redolog.specs.Log.{IsStale, IsWithin, StaysWithin};
 ghost use Rattle.tmem_redolog.specs.Scans.{Replays, MayReplay};
 
 use tmem_disk::Fault;
+use tmem_effect::{Effect, Records, State, Version};
 use tmem_gate::GATE_OPEN;
-use tmem_record::{Effect, HEAD_BYTES, Records, State, Version, read_batch, read_head};
+use tmem_record::{HEAD_BYTES, read_batch, read_head};
 
 // Whether the gate of a slot is open.
 fn is_open(slot: &[u8]) -> bool

@@ -4,7 +4,7 @@ ghost use Rattle.tmem_gate.specs.Calls.{Uses, LooksOnly};
 ghost use Rattle.tmem_gate.specs.Gate.{IsOpenOver};
 ghost use Rattle.tmem_record.specs.Layout.{slot_place, end_place};
 ghost use Rattle.tmem_record.specs.Spelling.{number_bytes};
-ghost use Rattle.tmem_record.specs.declared.effect.Effect.{Effect as EffectOf};
+ghost use Rattle.tmem_effect.specs.declared.effect.Effect.{Effect as EffectOf};
 ghost use Rattle.tmem_redolog.specs.Log.{HoldsLog, IsStale, IsWithin};
 ghost use Rattle.tmem_redolog.specs.Room.{IsLogRoom};
 ghost use Rattle.tmem_redolog.specs.Scans.{FindsLog, IsWhyNone, IsLogOf, slot_bytes, HoldsFrom, Reached};
@@ -13,8 +13,9 @@ use crate::log::Log;
 use crate::replay::{carries, is_stale, replay_slot};
 use crate::room::LogRoom;
 use tmem_disk::{Disk, Fault};
+use tmem_effect::{Records, State, Version};
 use tmem_gate::device::read_piece;
-use tmem_record::{Layout, Records, SLOT_SIZE, State, Version};
+use tmem_record::{Layout, SLOT_SIZE};
 
 /// Reads the log over an image of this generation and version, and brings the image's state to the state after it. The log is
 /// read in one piece, into the room that is given, and in the grammar of the image's version. `Damaged` where the device

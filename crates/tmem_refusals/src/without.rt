@@ -6,9 +6,10 @@ use crate::store::{SLOTS, VARS, device};
 use std::alloc::Global;
 use tmem_builtins::nonneg;
 use tmem_disk::{Disk, Fault, Name, SimDisk};
+use tmem_effect::{Batch, Effect};
 use tmem_gate::{close_gate, is_open, reads_open};
 use tmem_invariants::{Invariant, Invariants, Table};
-use tmem_record::{Batch, Effect, encode_batch};
+use tmem_record::encode_batch;
 use tmem_world::format;
 
 /// Makes each of them, with a line before the first and one behind each. What they are given is made before.

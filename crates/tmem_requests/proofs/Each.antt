@@ -1,6 +1,5 @@
 -- What each element of a list has, one by one.
 use Rattle.std.proofs.Common.{◌≡◌, ℕ, ◌+◌, ◌<◌, ◌≤◌, Bool, ◌||◌, List, [], ◌∷◌, ◌++◌, length, map, get_or, take, All, refl, sym, ap, ◌∙◌, subst}
-use Rattle.std.specs.List.{list_any}
 use Rattle.std.proofs.lemmas.List.{take_more, take_all, length-map, get_or-map}
 use Rattle.std.proofs.lemmas.List.Elements.{All-get_or, All-more}
 use Rattle.std.proofs.lemmas.Option.{slice_get-get_or, get_or_from_slice_get}
@@ -25,8 +24,3 @@ all_at P xs i x within is all = subst P (sym is) (All-get_or P xs i x within all
 -- what all that a map shows of them have
 pub all_of_map : {E X : Type 0} (P : X → Type 0) (f : E → X) (es : List E) → All P (map f es) → All (λ e. P (f e)) es
 all_of_map P f es all i d within = subst P (get_or-map f es i d (f d) within) (all i (f d) (simp length-map within))
-
--- a test of what a map shows of them
-pub any_of_map : {E X : Type 0} (p : X → Bool) (f : E → X) (es : List E) → list_any p (map f es) ≡ list_any (λ e. p (f e)) es
-any_of_map p f [] = refl
-any_of_map p f (e ∷ es) = ap (λ b. p (f e) || b) (any_of_map p f es)

@@ -1,5 +1,4 @@
 mod Asked
-mod Distinct
 mod Each
 mod Members
 mod Misfits

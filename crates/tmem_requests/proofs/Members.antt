@@ -12,7 +12,9 @@ use Rattle.serde_json.specs.Find.{get, get_member}
 use Rattle.serde_json.specs.View.{view, members_view}
 use Rattle.serde_json.specs.declared.value.Value.{Value, Object}
 use Rattle.tmem_disk.specs.Name.{has_name}
-use Rattle.tmem_requests.specs.Forms.{HasOnly, HasAt, IsInteger, member_keys}
+use Rattle.tmem_forms.specs.Members.{HasOnly, member_keys}
+use Rattle.tmem_requests.specs.Forms.{HasAt, IsInteger}
+use Rattle.tmem_forms.proofs.Laws.{same_members}
 use Rattle.tmem_requests.specs.Requests.{key_of, keys_by, IsBody, IsAsked, IsRequest}
 use Rattle.tmem_requests.specs.declared.request.Ask.{Ask}
 use Rattle.tmem_requests.specs.declared.request.Ask.TheVariants.{Do}
@@ -40,9 +42,6 @@ known_more keys e es here = (
 pub not_known : (keys : List (List ℕ)) (e : Entry) (es : List Entry) → has_name keys (string_bytes e.0) ≡ false → ¬ Known keys (e ∷ es)
 not_known keys e es here all =
     false≢true (sym here ∙ All-head (IsKnown keys) (string_bytes e.0) (member_keys (members_view es)) all)
-
-same_members : (ms ns : Members) → object ms ≡ object ns → ms ≡ ns
-same_members ms ns same = cc
 
 -- an object has only these keys where each of its entries has one of them
 pub known_in : (keys : List (List ℕ)) (v : Value) (m : BTreeMap (String Global) Value) → v ≡ Object m → HasOnly keys (view v) ↔ Known keys m.entries

@@ -10,9 +10,9 @@ use Rattle.std.proofs.lemmas.Slice.Eq.{bytes_eq-Decides}
 use Rattle.indexmap.specs.IndexMap.{insert_entry}
 use Rattle.tmem_disk.specs.Distinct.{AreDistinct}
 use Rattle.tmem_disk.specs.Name.{has_name}
-use Rattle.tmem_record.specs.Names.{with_name}
-use Rattle.tmem_record.specs.Writes.{with_write}
-use Rattle.tmem_requests.proofs.Distinct.{not_distinct, shown_at}
+use Rattle.tmem_effect.specs.Names.{with_name}
+use Rattle.tmem_effect.specs.Writes.{with_write}
+use Rattle.tmem_forms.proofs.Laws.{not_distinct, shown_at}
 use Rattle.tmem_requests.proofs.Each.{one_more}
 
 -- where the others are before it

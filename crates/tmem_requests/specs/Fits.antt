@@ -2,7 +2,7 @@
 use Rattle.std.specs.Prelude.{◌≡◌, ◌<◌, ℕ, Bool, true, false, List, All}
 use Rattle.std.specs.Map.{keys_of}
 use Rattle.tmem_disk.specs.Name.{has_name}
-use Rattle.tmem_record.specs.Names.{AreApart}
+use Rattle.tmem_effect.specs.Names.{AreApart}
 use Rattle.tmem_tree.specs.Limits.{count}
 use Rattle.tmem_tree.specs.declared.tx.Tx.{Tx}
 use Rattle.tmem_tree.specs.declared.tx.Tx.TheVariants.{Retire}

@@ -1,22 +1,11 @@
 -- The JSON forms of what requests are made of.
 use Rattle.std.specs.Prelude.{◌≡◌, ℕ, ℤ, true, List, [], ◌∷◌, map, All, FitsSigned, Some, unwrap_or}
 use Rattle.std.specs.Int.{w64}
-use Rattle.serde_json.specs.Data.{Data, string, object, Members, member, no_members}
+use Rattle.serde_json.specs.Data.{Data, string, object}
 use Rattle.serde_json.specs.Find.{get}
 use Rattle.tmem_disk.specs.Name.{IsName, has_name}
 use Rattle.tmem_forms.specs.TxForms.{natural, integer, array_of, tx_form, IsShort, TxInRange}
 use Rattle.tmem_tree.specs.declared.tx.Tx.{Tx}
-
--- the keys of these members
-abbrev pub member_keys : Members → List (List ℕ)
-member_keys no_members = []
-member_keys (member k d ms) = k ∷ member_keys ms
-
--- an object, each of whose keys is one of these
-pub record HasOnly (keys : List (List ℕ)) (d : Data) : Type 0 where
-  pub members : Members
-  pub is_object : d ≡ object members
-  pub known : All (λ key. has_name keys key ≡ true) (member_keys members)
 
 -- a value of this kind stands at this key
 pub record HasAt (key : List ℕ) (Is : Data → Type 0) (d : Data) : Type 0 where

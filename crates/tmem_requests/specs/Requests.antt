@@ -3,7 +3,8 @@ use Rattle.std.specs.Prelude.{◌≡◌, ℕ, ℤ, List, [], ◌∷◌, codes, b
 use Rattle.serde_json.specs.Data.{Data, string}
 use Rattle.serde_json.specs.Read.{read}
 use Rattle.tmem_forms.specs.TxForms.{IsTx}
-use Rattle.tmem_requests.specs.Forms.{HasOnly, HasAt, list_at, IsInteger, AreIntegers, AreVariables, ArePairs, IsWord, AreWords, IsKept}
+use Rattle.tmem_forms.specs.Members.{HasOnly}
+use Rattle.tmem_requests.specs.Forms.{HasAt, list_at, IsInteger, AreIntegers, AreVariables, ArePairs, IsWord, AreWords, IsKept}
 use Rattle.tmem_requests.specs.declared.proposal.Proposal.{Proposal}
 use Rattle.tmem_requests.specs.declared.request.Ask.{Ask}
 use Rattle.tmem_requests.specs.declared.request.Ask.TheVariants.{Do, Try, Get, Settle, Changed, Cancel, Keep, Run, Look, State, Checkpoint, Stats}

@@ -7,9 +7,10 @@ use Rattle.serde_json.specs.Find.{get, at, as_array, as_object}
 use Rattle.tmem_builtins.specs.Steps.{step_names}
 use Rattle.tmem_disk.specs.Distinct.{AreDistinct}
 use Rattle.tmem_disk.specs.Name.{IsName, has_name}
-use Rattle.tmem_record.specs.Names.{AreApart}
+use Rattle.tmem_effect.specs.Names.{AreApart}
 use Rattle.tmem_forms.specs.TxForms.{IsByte, IsShort, array_of, integer, natural}
-use Rattle.tmem_requests.specs.Forms.{ArePairs, AreWords, HasOnly, list_at}
+use Rattle.tmem_forms.specs.Members.{HasOnly}
+use Rattle.tmem_requests.specs.Forms.{ArePairs, AreWords, list_at}
 use Rattle.tmem_requests.specs.Requests.{keys_by}
 use Rattle.tmem_requests.specs.declared.explain.wrong.Wrong.{Wrong}
 use Rattle.tmem_requests.specs.declared.place.Place.{Place}

@@ -7,7 +7,7 @@ ghost use Rattle.tmem_requests.specs.Attempts.{IsAttemptOf};
 use crate::proposal::Proposal;
 use std::alloc::{AllocError, Global};
 use tmem_disk::Name;
-use tmem_record::{Effect, Names, Writes};
+use tmem_effect::{Effect, Names, Writes};
 use tmem_tentative::{Attempt, Ending, Reads};
 use tmem_tree::REGISTERS;
 

@@ -4,7 +4,7 @@ ghost use Rattle.std.specs.List.{list_any};
 ghost use Rattle.std.specs.Map.{keys_of};
 ghost use Rattle.tmem_disk.specs.Distinct.{AreDistinct};
 ghost use Rattle.tmem_disk.specs.Name.{has_name};
-ghost use Rattle.tmem_record.specs.Names.{AreApart};
+ghost use Rattle.tmem_effect.specs.Names.{AreApart};
 ghost use Rattle.tmem_requests.specs.Proposals.{IsProposal};
 
 use tmem_disk::Name;

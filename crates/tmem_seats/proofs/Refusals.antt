@@ -2,7 +2,7 @@
 use Rattle.std.proofs.Common.{ℕ, List, Result, Ok, Err, IfErr}
 use Rattle.tmem_disk.specs.declared.fault.Fault.{Fault}
 use Rattle.tmem_disk.specs.declared.fault.Fault.TheVariants as fault
-use Rattle.tmem_record.specs.declared.effect.Effect.{Effect}
+use Rattle.tmem_effect.specs.declared.effect.Effect.{Effect}
 use Rattle.tmem_journal.specs.declared.journal.Journal.{Journal}
 use Rattle.tmem_journal.specs.Journals.{Flushes, Checkpoints}
 use Rattle.tmem_seats.specs.Flushing.{IsFlushRefusal, IsCheckpointRefusal}

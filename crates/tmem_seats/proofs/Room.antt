@@ -5,8 +5,8 @@ use Rattle.tmem_disk.specs.Disk.{DeviceView, AtEachMoment, Elapses}
 use Rattle.tmem_disk.proofs.Laws.{AtEachMoment-more, either_time}
 use Rattle.tmem_disk.specs.declared.fault.Fault.{Fault}
 use Rattle.tmem_disk.specs.declared.fault.Fault.TheVariants as fault
-use Rattle.tmem_record.specs.State.{State}
-use Rattle.tmem_record.specs.declared.effect.Effect.{Effect}
+use Rattle.tmem_effect.specs.State.{State}
+use Rattle.tmem_effect.specs.declared.effect.Effect.{Effect}
 use Rattle.tmem_journal.specs.declared.journal.Journal.{Journal}
 use Rattle.tmem_journal.specs.Held.{device_of, layout_of, is_closed_of}
 use Rattle.tmem_journal.specs.Journals.{Flushes}

@@ -1,10 +1,10 @@
 -- The core stays what its seat says, after an attempt is settled.
 use Rattle.std.proofs.Common.{◌≡◌, All, IsTrue, ◌⊎◌, inl, inr, ⊎_elim, ℕ, Result, Ok, ◌+◌, ◌-◌, ◌≤◌, List, [], ◌∷◌, ◌++◌, length, drop, refl, sym, ap, ◌∙◌, subst, arith}
 use Rattle.std.proofs.lemmas.List.{append-nil, length-map, drop-drop, drop-append-le}
-use Rattle.tmem_record.specs.Prefix.{IsPrefix}
-use Rattle.tmem_record.specs.State.{State, fold, IsWithin, StaysWithin}
-use Rattle.tmem_record.specs.declared.effect.Effect.{Effect}
-use Rattle.tmem_record.proofs.Laws.{fold-append, count-fold, length-values-fold}
+use Rattle.tmem_effect.specs.Prefix.{IsPrefix}
+use Rattle.tmem_effect.specs.State.{State, fold, IsWithin, StaysWithin}
+use Rattle.tmem_effect.specs.declared.effect.Effect.{Effect}
+use Rattle.tmem_effect.proofs.Laws.{fold-append, count-fold, length-values-fold}
 use Rattle.tmem_core.specs.declared.core_state.Core.{Core}
 use Rattle.tmem_core.specs.Held as core
 use Rattle.tmem_core.specs.Held.{view_of, state_of, durable_of, table_of, accepting, knowing}

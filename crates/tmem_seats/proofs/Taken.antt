@@ -1,11 +1,11 @@
 -- The batch that is taken from the core goes on from what is durable to what the journal aims at.
 use Rattle.std.proofs.Common.{◌≡◌, All, ℕ, ◌+◌, ◌≤◌, ◌<◌, ◌^◌, List, ◌++◌, length, take, drop, sym, ap, ◌∙◌, subst, arith, length-append, append_assoc}
 use Rattle.std.proofs.lemmas.List.{length-map, take-map, take_at, take-append-drop}
-use Rattle.tmem_record.specs.Loggable.{IsLoggable}
-use Rattle.tmem_record.specs.Prefix.{IsPrefix}
-use Rattle.tmem_record.specs.State.{State, StaysWithin}
-use Rattle.tmem_record.specs.declared.effect.Effect.{Effect}
-use Rattle.tmem_record.proofs.Laws.{StaysWithin-front, StaysWithin-back}
+use Rattle.tmem_effect.specs.Loggable.{IsLoggable}
+use Rattle.tmem_effect.specs.Prefix.{IsPrefix}
+use Rattle.tmem_effect.specs.State.{State, StaysWithin}
+use Rattle.tmem_effect.specs.declared.effect.Effect.{Effect}
+use Rattle.tmem_effect.proofs.Laws.{StaysWithin-front, StaysWithin-back}
 use Rattle.tmem_spine.specs.declared.view.Entry.{Entry}
 use Rattle.tmem_spine.specs.History.{count, unmarked}
 use Rattle.tmem_seats.specs.Flushing.{GoesOn}

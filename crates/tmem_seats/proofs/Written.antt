@@ -6,9 +6,9 @@ use Rattle.std.proofs.Math.Logic.{∥∥₁_elim, ∥∥₁_prop}
 use Rattle.tmem_disk.specs.Disk.{AtEachMoment}
 use Rattle.tmem_disk.specs.declared.fault.Fault.{Fault}
 use Rattle.tmem_disk.specs.declared.fault.Fault.TheVariants as fault
-use Rattle.tmem_record.specs.State.{State, fold}
-use Rattle.tmem_record.specs.declared.effect.Effect.{Effect}
-use Rattle.tmem_record.proofs.Laws.{fold-append}
+use Rattle.tmem_effect.specs.State.{State, fold}
+use Rattle.tmem_effect.specs.declared.effect.Effect.{Effect}
+use Rattle.tmem_effect.proofs.Laws.{fold-append}
 use Rattle.tmem_journal.specs.declared.journal.Journal.{Journal}
 use Rattle.tmem_journal.specs.Held.{device_of, layout_of, state_of, doubtful_of, MayBe}
 use Rattle.tmem_journal.specs.Journals.{Flushes}

@@ -1,6 +1,6 @@
 -- What lies under the journal's lock.
 use Rattle.std.specs.Prelude.{List}
-use Rattle.tmem_record.specs.declared.effect.Effect.{Effect}
+use Rattle.tmem_effect.specs.declared.effect.Effect.{Effect}
 use Rattle.tmem_journal.specs.declared.journal.Journal.{Journal}
 use Rattle.tmem_spine.specs.Views.{JournalView}
 use Rattle.tmem_seats.specs.declared.journal_seat.JournalSeat.{JournalSeat}

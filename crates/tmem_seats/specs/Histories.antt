@@ -2,9 +2,9 @@
 use Rattle.std.specs.Prelude.{◌≡◌, ℕ, ℤ, true, List, [], length, map, Some, slice_get}
 use Rattle.tmem_disk.specs.Disk.{DeviceView, LeavesOnly}
 use Rattle.tmem_journal.specs.Stands.{StandsForEither}
-use Rattle.tmem_record.specs.Prefix.{IsPrefix}
-use Rattle.tmem_record.specs.State.{State, fold, first_state}
-use Rattle.tmem_record.specs.declared.effect.Effect.{Effect}
+use Rattle.tmem_effect.specs.Prefix.{IsPrefix}
+use Rattle.tmem_effect.specs.State.{State, fold, first_state}
+use Rattle.tmem_effect.specs.declared.effect.Effect.{Effect}
 use Rattle.tmem_invariants.specs.Meanings.{IsSound}
 use Rattle.tmem_tree.specs.declared.step.StepAnswer.TheVariants.{Retry}
 use Rattle.tmem_core.specs.Program.{Program}

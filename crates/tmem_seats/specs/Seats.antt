@@ -1,6 +1,6 @@
 -- What lies under the core's lock, and what it stands for.
 use Rattle.std.specs.Prelude.{◌≡◌, ◌⊎◌, ℕ, ◌-◌, ◌<◌, ◌≤◌, Bool, true, false, List, drop}
-use Rattle.tmem_record.specs.State.{State, StaysWithin}
+use Rattle.tmem_effect.specs.State.{State, StaysWithin}
 use Rattle.tmem_core.specs.declared.core_state.Core.{Core}
 use Rattle.tmem_core.specs.Held as core
 use Rattle.tmem_core.specs.Program.{Program, IsProgramOf}

@@ -1,7 +1,7 @@
 // What lies under the core's lock.
 ghost use Rattle.std.specs.Prelude.{◌≡◌, ◌↔◌, ◌+◌, ◌^◌, ◌<◌, ◌≤◌, slice_get, map, IfOk, IfErr, OnOk, Some, ◌++◌, ◌∷◌, [], true, false, length, MatchBool, All, IsTrue, IfSome, IfNone};
-ghost use Rattle.tmem_record.specs.Prefix.{IsPrefix};
-ghost use Rattle.tmem_record.specs.Names.{has_name};
+ghost use Rattle.tmem_effect.specs.Prefix.{IsPrefix};
+ghost use Rattle.tmem_effect.specs.Names.{has_name};
 ghost use Rattle.tmem_tentative.specs.declared.attempt.Attempt.{Attempt as AttemptOf};
 ghost use Rattle.tmem_tentative.specs.Fits.{IsForVariables, IsForNames};
 ghost use Rattle.tmem_core.specs.Held.{state_of, waiting_of, durable_of, is_shut_of, table_of};
@@ -21,8 +21,8 @@ use crate::sleepers::Sleepers;
 use std::marker::Model;
 use tmem_core::{Core, Decision, MAX_WAITING, Settled};
 use tmem_disk::{Fault, Name};
+use tmem_effect::{Batch, Effect};
 use tmem_invariants::Invariants;
-use tmem_record::{Batch, Effect};
 use tmem_spine::{CoreSide, JournalSide, Pass, Spine};
 use tmem_tentative::{Attempt, Probe, Reads};
 

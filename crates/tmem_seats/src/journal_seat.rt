@@ -1,8 +1,8 @@
 // What lies under the journal's lock.
 ghost use Rattle.std.specs.Prelude.{◌≡◌, ◌≢◌, ◌⊎◌, ◌≤◌, ◌<◌, ◌+◌, ◌*◌, ◌↔◌, ℕ, true, false, [], length, IsTrue, Err, IfOk, IfErr};
 ghost use Rattle.tmem_disk.specs.Disk.{LeavesOnly, AtEachMoment};
-ghost use Rattle.tmem_record.specs.Prefix.{IsPrefix};
-ghost use Rattle.tmem_record.specs.declared.effect.Effect.{Effect as EffectOf};
+ghost use Rattle.tmem_effect.specs.Prefix.{IsPrefix};
+ghost use Rattle.tmem_effect.specs.declared.effect.Effect.{Effect as EffectOf};
 ghost use Rattle.tmem_gate.specs.Calls.{Uses, WritesWithin};
 ghost use Rattle.tmem_record.specs.Layout.{slot_place, image_place, image_size};
 ghost use Rattle.tmem_journal.specs.Held.{device_of, layout_of, state_of, doubtful_of, position_of, is_closed_of};
@@ -18,9 +18,9 @@ use crate::core_seat::CoreSeat;
 use crate::failure::Failure;
 use crate::naming::StoreNaming;
 use tmem_disk::{Disk, Fault};
+use tmem_effect::Batch;
 use tmem_invariants::Invariants;
 use tmem_journal::Journal;
-use tmem_record::Batch;
 use tmem_spine::{JournalSide, Pass, Spine};
 
 /// What was done to the log of a store since it was opened, and what is free there.

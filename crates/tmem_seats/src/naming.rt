@@ -12,7 +12,7 @@ pub trait ProgramNaming {
 /// Which store it is, in the types of all that belongs to it: its spine, the state that it was opened on, and what its
 /// program brought. That is known once the store is opened.
 pub trait StoreNaming: Naming + ProgramNaming {
-    ghost use Rattle.tmem_record.specs.State.{State};
+    ghost use Rattle.tmem_effect.specs.State.{State};
 
     ghost opening: { State };
 }

@@ -1,5 +1,5 @@
 // The passes that sleep until a variable that they read is written.
-use tmem_record::Effect;
+use tmem_effect::Effect;
 use tmem_tentative::Reads;
 
 /// What each pass that sleeps has read, by the number of the pass, of which there are at most 32. It is a signature of 64 bits, one for

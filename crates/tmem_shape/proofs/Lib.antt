@@ -1,6 +1,4 @@
 pub mod Arrays
-pub mod Distinct
-pub mod Each
 pub mod Found
 pub mod Linears
 pub mod Named

@@ -5,7 +5,7 @@ use Rattle.serde_json.specs.Data.{Data, object, Members, no_members, member}
 use Rattle.serde_json.specs.Find.{get}
 use Rattle.tmem_forms.specs.TxForms.{natural}
 use Rattle.tmem_shape.specs.Shapes.{AreNamesOf, HasNames, IsNamed, IsVariableName, names_form}
-use Rattle.tmem_shape.proofs.Objects.{same_members}
+use Rattle.tmem_forms.proofs.Laws.{same_members}
 
 abbrev pub Names : Type 0
 Names = List (String Global × ℕ)

@@ -8,8 +8,9 @@ use Rattle.serde_json.specs.Find.{as_object}
 use Rattle.serde_json.specs.View.{members_view}
 use Rattle.serde_json.specs.declared.value.Value.{Value}
 use Rattle.tmem_disk.specs.Name.{has_name}
+use Rattle.tmem_forms.proofs.Laws.{same_members}
 use Rattle.tmem_invariants.proofs.Laws.{All-at_name}
-use Rattle.tmem_shape.specs.Keys.{AreAmong, HasOnly, member_keys}
+use Rattle.tmem_forms.specs.Members.{AreAmong, HasOnly, member_keys}
 
 -- an object's members as a list
 abbrev pub Entries : Type 0
@@ -27,9 +28,6 @@ is_object (object ns) ms found = cc
 pub object_found : (d : Data) (o : Option (Bor (BTreeMap (String Global) Value))) (m : Bor (BTreeMap (String Global) Value)) → option_map (λ m. members_view m.now.entries) o ≡ as_object d → o ≡ Some m → d ≡ object (members_view m.now.entries)
 object_found d o m found some =
     is_object d (members_view m.now.entries) (sym (ap (option_map (λ (m : Bor (BTreeMap (String Global) Value)). members_view m.now.entries)) some) ∙ found)
-
-pub same_members : (ms ns : Members) → object ms ≡ object ns → ms ≡ ns
-same_members ms ns same = cc
 
 -- ---- the keys of an object's entries, one by one
 

@@ -12,7 +12,7 @@ use Rattle.tmem_invariants.specs.TableNames.{AreBelow, AreDistinct, IsFootprint}
 use Rattle.tmem_linear.specs.declared.linear.Linear.{Linear}
 use Rattle.tmem_linear.specs.declared.weight.Weight.{Weight}
 use Rattle.tmem_linear.specs.declared.weight.Weight.TheVariants.{Value, Nonzero}
-use Rattle.tmem_shape.specs.Keys.{HasOnly}
+use Rattle.tmem_forms.specs.Members.{HasOnly}
 use Rattle.tmem_shape.specs.declared.shape.Shape.{Shape}
 
 -- a whole number within bounds stands at a key

@@ -13,8 +13,6 @@ mod numbers;
 mod place;
 mod shape;
 mod terms;
-#[cfg(test)]
-mod tests;
 mod why;
 
 pub use error::ShapeError;

@@ -4,7 +4,8 @@ ghost use Rattle.serde_json.specs.Find.{get};
 ghost use Rattle.serde_json.specs.View.{view, members_view};
 ghost use Rattle.tmem_disk.specs.Name.{has_name};
 ghost use Rattle.tmem_shape.specs.Errors.{Refuses};
-ghost use Rattle.tmem_shape.specs.Keys.{AreAmong, HasOnly, key_text, member_keys};
+ghost use Rattle.tmem_forms.specs.Members.{AreAmong, HasOnly, member_keys};
+ghost use Rattle.tmem_shape.specs.Keys.{key_text};
 
 use crate::error::ShapeError;
 use crate::key::Key;

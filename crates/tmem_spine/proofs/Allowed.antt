@@ -3,8 +3,8 @@ use Rattle.std.proofs.Common.{◌≡◌, ◌≢◌, ℕ, zero, suc, ◌+◌, ◌
 use Rattle.std.proofs.lemmas.List.{length-take-le}
 use mathlib.Core.Option.{none}
 use Rattle.atomic_table.specs.Table.{step, keeps, Allows}
-use Rattle.tmem_record.specs.Prefix.{IsPrefix}
-use Rattle.tmem_record.proofs.Laws.{IsPrefix-self, IsPrefix-length, IsPrefix-trans}
+use Rattle.tmem_effect.specs.Prefix.{IsPrefix}
+use Rattle.tmem_effect.proofs.Laws.{IsPrefix-self, IsPrefix-length, IsPrefix-trans}
 use Rattle.tmem_spine.specs.declared.view.Entry.{Entry}
 use Rattle.tmem_spine.specs.declared.view.Role.{Role}
 use Rattle.tmem_spine.specs.declared.view.Role.TheVariants.{Core, Journal, Pass, Spent}

@@ -4,7 +4,7 @@ use mathlib.Core.Option.{Option, some, some-injective, some-ne-none}
 use lib.ListN.{get_elem?}
 use Rattle.atomic_table.specs.Table.{State, Joins}
 use Rattle.atomic_table.proofs.Lists.{at_set, set_else}
-use Rattle.tmem_record.specs.Prefix.{IsPrefix}
+use Rattle.tmem_effect.specs.Prefix.{IsPrefix}
 use Rattle.tmem_spine.specs.declared.view.Role.{Role}
 use Rattle.tmem_spine.specs.declared.view.Role.TheVariants.{Start, Core, Journal, Pass, Spent}
 use Rattle.tmem_spine.specs.History.{count}

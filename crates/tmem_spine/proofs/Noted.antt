@@ -4,9 +4,9 @@ use mathlib.Core.Option.{some, some-injective, some-ne-none}
 use lib.ListN.{get_elem?}
 use Rattle.atomic_table.specs.Table.{Splits, Joins, opening}
 use Rattle.atomic_table.proofs.Lists.{at_set}
-use Rattle.tmem_record.specs.Prefix.{IsPrefix}
-use Rattle.tmem_record.specs.declared.effect.Effect.{Effect}
-use Rattle.tmem_record.proofs.Laws.{IsPrefix-self}
+use Rattle.tmem_effect.specs.Prefix.{IsPrefix}
+use Rattle.tmem_effect.specs.declared.effect.Effect.{Effect}
+use Rattle.tmem_effect.proofs.Laws.{IsPrefix-self}
 use Rattle.tmem_spine.specs.declared.view.Entry.{Entry}
 use Rattle.tmem_spine.specs.declared.view.Role.TheVariants.{Start, Core, Journal, Pass, Note}
 use Rattle.tmem_spine.specs.declared.view.View.{View}

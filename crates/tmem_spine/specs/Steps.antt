@@ -1,8 +1,8 @@
 -- The six kinds of step: what each tells its seat. A step relates the view before, the number found and the view after.
 use Rattle.std.specs.Prelude.{◌≡◌, ℕ, ◌-◌, ◌≤◌, [], ◌∷◌, ◌++◌, take}
 use Rattle.atomic_table.specs.Table.{Me, Step}
-use Rattle.tmem_record.specs.Prefix.{IsPrefix}
-use Rattle.tmem_record.specs.declared.effect.Effect.{Effect}
+use Rattle.tmem_effect.specs.Prefix.{IsPrefix}
+use Rattle.tmem_effect.specs.declared.effect.Effect.{Effect}
 use Rattle.tmem_spine.specs.declared.view.Entry.{Entry}
 use Rattle.tmem_spine.specs.declared.view.View.{View}
 use Rattle.tmem_spine.specs.History.{count, longer}

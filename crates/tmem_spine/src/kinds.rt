@@ -18,7 +18,7 @@ pub trait Choice {
 }
 
 impl Choice for Brand {
-    ghost use Rattle.tmem_record.specs.State.{no_effect};
+    ghost use Rattle.tmem_effect.specs.State.{no_effect};
     ghost use Rattle.tmem_spine.specs.History.{entry as entry_of};
 
     ghost entry = { entry_of 0 no_effect };

@@ -1,7 +1,7 @@
 // The two words, and the calls by which the core, the journal and the passes step on them.
 ghost use Rattle.std.specs.Prelude.{◌≡◌, ℕ, ◌+◌, ◌-◌, ◌^◌, ◌<◌, ◌≤◌, [], ◌∷◌, ◌++◌, length, take, IfSome, IfNone};
-ghost use Rattle.tmem_record.specs.Prefix.{IsPrefix};
-ghost use Rattle.tmem_record.specs.declared.effect.Effect.{Effect as EffectOf};
+ghost use Rattle.tmem_effect.specs.Prefix.{IsPrefix};
+ghost use Rattle.tmem_effect.specs.declared.effect.Effect.{Effect as EffectOf};
 ghost use Rattle.tmem_spine.specs.History.{count, entry, longer, Has, HasAt};
 ghost use Rattle.tmem_spine.specs.Views.{new_pass};
 
@@ -11,7 +11,7 @@ use crate::view::{Law, View};
 use atomic_table::Table;
 use std::alloc::Global;
 use std::marker::{Brand, PhantomData};
-use tmem_record::Effect;
+use tmem_effect::Effect;
 
 /// How many passes a spine gives out over its life. A pass that was dropped is not given out again.
 pub const MOST_PASSES: u64 = 32;

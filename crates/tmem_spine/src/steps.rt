@@ -1,6 +1,6 @@
 // One step on the table each.
 ghost use Rattle.std.specs.Prelude.{◌≡◌, ◌+◌, ◌-◌, ◌^◌, ◌<◌, ◌≤◌, [], ◌∷◌, ◌++◌, length, take};
-ghost use Rattle.tmem_record.specs.Prefix.{IsPrefix};
+ghost use Rattle.tmem_effect.specs.Prefix.{IsPrefix};
 ghost use Rattle.tmem_spine.specs.declared.view.Role.TheVariants as role;
 ghost use Rattle.tmem_spine.specs.History.{count, entry, longer, HasAt};
 ghost use Rattle.tmem_spine.specs.Notes.{gives, pass_from};
@@ -13,7 +13,7 @@ use crate::naming::Naming;
 use crate::place::Place;
 use crate::spine::Spine;
 use std::marker::PhantomData;
-use tmem_record::Effect;
+use tmem_effect::Effect;
 
 impl<N: Naming> Spine<N> {
     // The core gives out a pass.

@@ -1,7 +1,7 @@
 // What a seat knows, in one shape for all seats. No value of these types is made: they exist in the proofs alone.
 use atomic_table::TableRule;
 use std::collections::LinkedList;
-use tmem_record::Effect;
+use tmem_effect::Effect;
 
 /// An accepted effect, under the mark of the pass for which it was accepted.
 #[derive(Drop)]

@@ -1,7 +1,7 @@
 -- The answers that tests gave, and one more.
 use Rattle.std.proofs.Common.{◌≡◌, ℕ, ℤ, Bool, List, [], ◌∷◌, ◌++◌, length, Option, Some, None}
 use Rattle.tmem_invariants.specs.Meanings.{Meanings}
-use Rattle.tmem_record.specs.Writes.{look}
+use Rattle.tmem_effect.specs.Writes.{look}
 use Rattle.tmem_tree.specs.declared.tx.Tx.{Tx}
 use Rattle.tmem_tree.specs.Run.{start}
 use Rattle.tmem_tree.specs.StepAnswers.{StepMeanings}

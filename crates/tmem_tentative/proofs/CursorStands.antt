@@ -4,8 +4,8 @@ use mathlib.Core.Logic.{∥∥₁_elim}
 use Rattle.std.proofs.lemmas.Bool.{eqb-true}
 use Rattle.indexmap.specs.IndexMap.{insert_entry}
 use Rattle.tmem_invariants.specs.Meanings.{Meanings}
-use Rattle.tmem_record.specs.State.{no_effect}
-use Rattle.tmem_record.specs.Writes.{look}
+use Rattle.tmem_effect.specs.State.{no_effect}
+use Rattle.tmem_effect.specs.Writes.{look}
 use Rattle.tmem_tree.specs.Limits.{choices}
 use Rattle.tmem_tree.specs.Plans.{PlanView, IsWithinLimits, FitsSteps, HasShapes}
 use Rattle.tmem_tree.specs.Run.{no_registers}

@@ -16,10 +16,10 @@ use Rattle.tmem_tree.specs.declared.step.StepAnswer.TheVariants as answer
 use Rattle.tmem_tree.specs.StepAnswers.{StepMeanings}
 use Rattle.tmem_tree.specs.Visited.{Ask, Visit, Probe}
 use Rattle.tmem_invariants.specs.TableNames.{AreBelow}
-use Rattle.tmem_record.specs.declared.effect.Effect.{Effect}
-use Rattle.tmem_record.specs.Names.{has_name, with_name, without_name, AreApart}
-use Rattle.tmem_record.specs.Writes.{look, with_write}
-use Rattle.tmem_record.proofs.Laws.{AreApart-check, AreApart-retire, All-with_name, All-without_names, length-without_name-le}
+use Rattle.tmem_effect.specs.declared.effect.Effect.{Effect}
+use Rattle.tmem_effect.specs.Names.{has_name, with_name, without_name, AreApart}
+use Rattle.tmem_effect.specs.Writes.{look, with_write}
+use Rattle.tmem_effect.proofs.Laws.{AreApart-check, AreApart-retire, All-with_name, All-without_names, length-without_name-le}
 use Rattle.tmem_tree.specs.Limits.{one_if, count, count_all, is_write, is_check, is_retire, has_bad_variable, has_unknown_name, lacks_shape}
 use Rattle.tmem_tree.specs.Run.{register, is_zero}
 use Rattle.tmem_tentative.proofs.ReadEntries.{write_is_insert}

@@ -1,6 +1,6 @@
 -- Reads and looks at a footprint, by what is seen of one variable.
 use Rattle.std.proofs.Common.{◌≡◌, ℕ, ℤ, List, [], ◌∷◌, ◌++◌, Option, Some, None, refl, sym, ap, ◌∙◌, append_assoc}
-use Rattle.tmem_record.specs.Writes.{look}
+use Rattle.tmem_effect.specs.Writes.{look}
 use Rattle.tmem_tree.specs.Visited.{Visit}
 use Rattle.tmem_tentative.specs.Eval.{RunState, Flow, Goes, Stops, Looked, Lacks, Found, put, read, seen_of, noted_of, before, look_first, looked}
 

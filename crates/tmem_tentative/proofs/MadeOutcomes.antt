@@ -5,18 +5,18 @@ use Rattle.std.proofs.Props.{props}
 use Rattle.std.proofs.lemmas.Map.Keys.{IsDistinct-prop}
 use mathlib.Core.Logic.{∥∥₁_elim}
 use mathlib.Core.Bool.{Bool-set}
-use Rattle.tmem_record.specs.declared.effect.Effect.{Effect}
+use Rattle.tmem_effect.specs.declared.effect.Effect.{Effect}
 use Rattle.tmem_tree.specs.declared.tx.Tx.{Tx}
 use Rattle.tmem_tree.specs.StepAnswers.{StepMeanings}
-use Rattle.tmem_record.proofs.Laws.{AreApart-none}
+use Rattle.tmem_effect.proofs.Laws.{AreApart-none}
 use Rattle.tmem_tree.specs.Limits.{count, is_write, is_check, is_retire}
 use Rattle.tmem_tree.specs.Plans.{PlanView, FitsVariables, FitsNames, HasShapes}
 use Rattle.tmem_tree.specs.Shapes.{names_of, footprint_in}
 use Rattle.tmem_tree.specs.declared.shape.Shape.{Shape}
 use Rattle.tmem_tree.proofs.Laws.{has_shapes}
 use Rattle.tmem_tree.specs.Visited.{Visit}
-use Rattle.tmem_record.specs.State.{no_effect}
-use Rattle.tmem_record.specs.Writes.{look}
+use Rattle.tmem_effect.specs.State.{no_effect}
+use Rattle.tmem_effect.specs.Writes.{look}
 use Rattle.tmem_tentative.specs.Eval.{Flow, Stops, Retries, Leaves, Gives_up, Breaks, eval}
 use Rattle.tmem_tentative.specs.Ends.{start_state, ended_as, IsEndOf, IsMadeOf}
 use Rattle.tmem_tentative.specs.Fits.{IsFit, IsWithin, IsNamed, IsFilled, IsBlankUnlessNormal, IsEndingFor}

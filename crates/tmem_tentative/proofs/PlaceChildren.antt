@@ -1,6 +1,6 @@
 -- A run of a child, as a run of its tree.
 use Rattle.std.proofs.Common.{◌≡◌, ℕ, ℤ, ◌+◌, ◌<◌, ◌≤◌, Bool, false, List, [], ◌∷◌, length, get_or, cond, refl, sym, ap, ◌∙◌, subst, arith}
-use Rattle.tmem_record.specs.declared.effect.Effect.{Effect}
+use Rattle.tmem_effect.specs.declared.effect.Effect.{Effect}
 use Rattle.tmem_tree.specs.declared.shape.Shape.{Shape}
 use Rattle.tmem_tree.specs.declared.tx.Tx.{Tx}
 use Rattle.tmem_tree.specs.declared.tx.Tx.TheVariants.{When', OrElse'}

@@ -2,7 +2,7 @@
 use Rattle.std.proofs.Common.{◌≡◌, ℕ, ℤ, Bool, true, false, List, [], ◌∷◌, ◌++◌, Option, Some, nat_eq, cond, refl, sym, ap, ◌∙◌}
 use Rattle.std.proofs.lemmas.Bool.{eqb-true, eq-eqb}
 use Rattle.indexmap.specs.IndexMap.{insert_entry}
-use Rattle.tmem_record.specs.Writes.{look, with_write}
+use Rattle.tmem_effect.specs.Writes.{look, with_write}
 use Rattle.tmem_tree.specs.Visited.{has, noted, each_once}
 use Rattle.tmem_tentative.specs.Right.{valued}
 

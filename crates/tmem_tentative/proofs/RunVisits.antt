@@ -8,7 +8,7 @@ use Rattle.tmem_tree.specs.declared.tx.Tx.TheVariants.{Seq', Put, Read, Write, S
 use Rattle.tmem_tree.specs.declared.step.StepAnswer.{StepAnswer}
 use Rattle.tmem_tree.specs.declared.step.StepAnswer.TheVariants as answer
 use Rattle.tmem_tree.specs.StepAnswers.{StepMeanings}
-use Rattle.tmem_record.specs.Writes.{look, with_write}
+use Rattle.tmem_effect.specs.Writes.{look, with_write}
 use Rattle.tmem_tree.specs.Run as run
 use Rattle.tmem_tree.specs.Run.{View, RunResult, Normal, Retried, Aborted, Broken, run, run_all, register, is_zero, then_run, or_else}
 use Rattle.tmem_tree.specs.Visited.{Ask, Visit, Probe, asks, asks_all, read_of, unwritten, then_ask, else_ask, visits_in}

@@ -3,7 +3,7 @@ use Rattle.std.proofs.Common.{◌≡◌, ℕ, ◌<◌, Bool, true, false, ◌||�
 use Rattle.std.specs.Option.{option_map_or}
 use Rattle.std.proofs.lemmas.List.Elements.{All-nil, All-head, All-tail}
 use Rattle.std.proofs.lemmas.Slice.Eq.{bytes_eq-Decides}
-use Rattle.tmem_record.specs.Names.{has_name}
+use Rattle.tmem_effect.specs.Names.{has_name}
 use Rattle.tmem_invariants.specs.Meanings.{Meanings}
 use Rattle.tmem_invariants.specs.TableNames.{AreBelow}
 use Rattle.tmem_tree.specs.Shapes.{AreMeant, AreWithin, footprint_in, names_of, shape_in}

@@ -4,7 +4,7 @@ use Rattle.std.specs.Coded.{codes, Coded, Coded-set, ×_prop, le_prop}
 use Rattle.std.proofs.Props.{props}
 use mathlib.Core.Bool.{Bool-set}
 use Rattle.tmem_invariants.specs.Meanings.{Meanings}
-use Rattle.tmem_record.specs.declared.effect.Effect.{Effect}
+use Rattle.tmem_effect.specs.declared.effect.Effect.{Effect}
 use Rattle.tmem_tree.specs.declared.tx.Tx.{Tx, Row_of-Tx, end_of-Tx, more_of-Tx}
 use Rattle.tmem_tree.specs.declared.tx.Tx.TheVariants.{Seq', When', OrElse'}
 use Rattle.tmem_tree.specs.Limits.{is_write, is_check, is_retire}

@@ -1,6 +1,6 @@
 -- How an evaluation of a whole transaction begins, and the attempt that one makes that has ended.
 use Rattle.std.specs.Prelude.{◌≡◌, Bool, List, []}
-use Rattle.tmem_record.specs.State.{no_effect}
+use Rattle.tmem_effect.specs.State.{no_effect}
 use Rattle.tmem_tree.specs.Run.{no_registers}
 use Rattle.tmem_tree.specs.Visited.{Visit, Probe}
 use Rattle.tmem_tentative.specs.Eval.{RunState, Flow, Goes, Stops, Retries, Leaves, Gives_up, Breaks}

@@ -6,9 +6,9 @@ use Rattle.tmem_tree.specs.declared.tx.Tx.TheVariants.{Skip, Seq', Put, Read, Wr
 use Rattle.tmem_tree.specs.declared.step.StepAnswer.{StepAnswer}
 use Rattle.tmem_tree.specs.declared.step.StepAnswer.TheVariants as answer
 use Rattle.tmem_tree.specs.StepAnswers.{StepMeanings}
-use Rattle.tmem_record.specs.Names.{with_name, without_name}
-use Rattle.tmem_record.specs.Writes.{look, with_write}
-use Rattle.tmem_record.specs.declared.effect.Effect.{Effect}
+use Rattle.tmem_effect.specs.Names.{with_name, without_name}
+use Rattle.tmem_effect.specs.Writes.{look, with_write}
+use Rattle.tmem_effect.specs.declared.effect.Effect.{Effect}
 use Rattle.tmem_tree.specs.Run.{is_zero, register}
 use Rattle.tmem_tree.specs.Visited.{Ask, Visit, Probe}
 

@@ -2,9 +2,9 @@
 use Rattle.std.specs.Prelude.{◌≡◌, ⊤, ℕ, ℤ, ◌<◌, ◌≤◌, true, List, length, None, nat_eq, All}
 use Rattle.std.specs.List.{IsDistinct}
 use Rattle.std.specs.Map.{keys_of}
-use Rattle.tmem_record.specs.Names.{has_name, AreApart}
-use Rattle.tmem_record.specs.Writes.{look}
-use Rattle.tmem_record.specs.declared.effect.Effect.{Effect}
+use Rattle.tmem_effect.specs.Names.{has_name, AreApart}
+use Rattle.tmem_effect.specs.Writes.{look}
+use Rattle.tmem_effect.specs.declared.effect.Effect.{Effect}
 use Rattle.tmem_tree.specs.declared.shape.Shape.{Shape}
 use Rattle.tmem_tree.specs.Shapes.{names_of, footprint_in}
 use Rattle.tmem_tentative.specs.declared.attempt.Outcome.{Outcome}

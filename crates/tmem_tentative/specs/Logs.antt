@@ -1,7 +1,7 @@
 -- The log as a state.
 use Rattle.std.specs.Prelude.{◌≡◌, ⊤, ℕ, ℤ, ◌+◌, ◌≤◌, Bool, true, List, length, Option, Some, None}
-use Rattle.tmem_record.specs.Names.{has_name}
-use Rattle.tmem_record.specs.declared.effect.Effect.{Effect}
+use Rattle.tmem_effect.specs.Names.{has_name}
+use Rattle.tmem_effect.specs.declared.effect.Effect.{Effect}
 use Rattle.tmem_tree.specs.declared.tx.Tx.{Tx}
 use Rattle.tmem_tree.specs.Limits.{count, is_write, is_check, is_retire, has_bad_register}
 use Rattle.tmem_tree.specs.Plans.{FitsSteps, HasShapes}

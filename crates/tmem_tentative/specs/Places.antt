@@ -4,8 +4,8 @@ use Rattle.indexmap.specs.IndexMap.{insert_entry}
 use Rattle.tmem_tree.specs.declared.tx.Tx.{Tx, Row_of-Tx, end_of-Tx, more_of-Tx}
 use Rattle.tmem_tree.specs.declared.tx.Tx.TheVariants.{Seq', When', OrElse'}
 use Rattle.tmem_tree.specs.StepAnswers.{StepMeanings}
-use Rattle.tmem_record.specs.Writes.{look}
-use Rattle.tmem_record.specs.declared.effect.Effect.{Effect}
+use Rattle.tmem_effect.specs.Writes.{look}
+use Rattle.tmem_effect.specs.declared.effect.Effect.{Effect}
 use Rattle.tmem_tree.specs.Limits.{depth, choices, count, count_all, is_write, is_check, is_retire, has_bad_register}
 use Rattle.tmem_tree.specs.Plans.{FitsSteps, HasShapes}
 use Rattle.tmem_tree.specs.Visited.{Ask, Visit, Probe}

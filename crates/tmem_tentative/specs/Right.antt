@@ -2,8 +2,8 @@
 use Rattle.std.specs.Prelude.{◌≡◌, ⊤, ℕ, zero, suc, ℤ, Bool, List, [], ◌∷◌, map, Option, Some, None}
 use Rattle.tmem_tree.specs.declared.tx.Tx.{Tx}
 use Rattle.tmem_tree.specs.StepAnswers.{StepMeanings}
-use Rattle.tmem_record.specs.State.{no_effect}
-use Rattle.tmem_record.specs.Writes.{look}
+use Rattle.tmem_effect.specs.State.{no_effect}
+use Rattle.tmem_effect.specs.Writes.{look}
 use Rattle.tmem_tree.specs.Run as run
 use Rattle.tmem_tree.specs.Run.{run, start, no_registers}
 use Rattle.tmem_invariants.specs.Meanings.{Meanings}

@@ -1,6 +1,6 @@
 -- What a cursor has to have room for.
 use Rattle.std.specs.Prelude.{ℕ}
-use Rattle.tmem_record.specs.State.{no_effect}
+use Rattle.tmem_effect.specs.State.{no_effect}
 use Rattle.tmem_tree.specs.Run.{no_registers}
 use Rattle.tmem_tentative.specs.declared.save.Save.{Save}
 use Rattle.tmem_tentative.specs.declared.cursor.Stage.{Stage}

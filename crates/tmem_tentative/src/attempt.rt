@@ -5,8 +5,8 @@ ghost use Rattle.std.specs.Prelude.{◌≡◌, ◌<◌, ◌≤◌, [], ◌∷◌
 use indexmap::IndexMap;
 use std::marker::Model;
 use tmem_disk::Name;
+use tmem_effect::Effect;
 use tmem_invariants::MAX_FOOTPRINT;
-use tmem_record::Effect;
 use tmem_tree::REGISTERS;
 
 /// The variables that were read, in order of first read, each with its value.

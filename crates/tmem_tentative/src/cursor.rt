@@ -21,7 +21,7 @@ use crate::walk_on::walk_on;
 use std::alloc::{AllocError, Global};
 use std::snapshot::Snapshot;
 use tmem_disk::Fault;
-use tmem_record::Effect;
+use tmem_effect::Effect;
 use tmem_tree::{Plan, REGISTERS, StoredSteps, Tx};
 
 // What a cursor does next.

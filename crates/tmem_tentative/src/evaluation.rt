@@ -14,7 +14,7 @@ use crate::flow::Flow;
 use crate::walk::{Given, Tests, walk};
 use std::alloc::Global;
 use tmem_disk::Fault;
-use tmem_record::Effect;
+use tmem_effect::Effect;
 use tmem_tree::{Plan, REGISTERS, StoredSteps};
 
 /// Runs a plan, for these steps, as far as the reads and the answers allow. A Read, and a Check for each variable of its footprint,

@@ -3,7 +3,7 @@
 ghost use Rattle.std.specs.Prelude.{◌≡◌};
 ghost use Rattle.tmem_tentative.specs.Stages.{no_save};
 
-use tmem_record::Effect;
+use tmem_effect::Effect;
 use tmem_tree::REGISTERS;
 
 /// The registers and the effect of a run, as a choice found them.

@@ -4,8 +4,8 @@ ghost use Rattle.std.specs.Prelude.{◌≡◌, ℕ, ◌+◌, ◌<◌, ◌≤◌,
 ghost use Rattle.std.specs.List.{list_any};
 ghost use Rattle.std.specs.Option.{option_to_list};
 ghost use Rattle.tmem_tree.specs.StepAnswers.{StepMeanings};
-ghost use Rattle.tmem_record.specs.Names.{has_name};
-ghost use Rattle.tmem_record.specs.Writes.{look};
+ghost use Rattle.tmem_effect.specs.Names.{has_name};
+ghost use Rattle.tmem_effect.specs.Writes.{look};
 ghost use Rattle.tmem_tree.specs.Limits.{count, is_write, is_check, is_retire, is_no_register};
 ghost use Rattle.tmem_tree.specs.Run.{register};
 ghost use Rattle.tmem_tree.specs.Shapes.{names_of, footprint_in};
@@ -17,7 +17,7 @@ use crate::attempt::{Attempt, Ending, Probe, Reads, Values};
 use crate::flow::Flow;
 use std::alloc::{AllocError, Global};
 use tmem_disk::{Fault, Name};
-use tmem_record::Effect;
+use tmem_effect::Effect;
 use tmem_tree::{MAX_ARGUMENTS, REGISTERS, Shape, StepAnswer, StoredSteps, Tx, footprint_of};
 
 /// What a run is handed.

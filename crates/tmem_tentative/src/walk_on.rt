@@ -3,10 +3,10 @@
 ghost use Rattle.std.specs.Prelude.{◌≡◌, ◌↔◌, ℕ, ℤ, ◌+◌, ◌<◌, ◌≤◌, Bool, true, List, [], None, length, drop, option_to_list, IsTrue, if◌then◌else◌};
 ghost use Rattle.std.specs.List.{list_any};
 ghost use Rattle.tmem_tree.specs.StepAnswers.{StepMeanings};
-ghost use Rattle.tmem_record.specs.Writes.{look};
-ghost use Rattle.tmem_record.specs.declared.effect.Effect.{Effect};
+ghost use Rattle.tmem_effect.specs.Writes.{look};
+ghost use Rattle.tmem_effect.specs.declared.effect.Effect.{Effect};
 ghost use Rattle.tmem_tree.specs.Limits.{count, is_write, is_check, is_retire};
-ghost use Rattle.tmem_record.specs.Names.{has_name};
+ghost use Rattle.tmem_effect.specs.Names.{has_name};
 ghost use Rattle.tmem_tree.specs.Run.{register, is_zero};
 ghost use Rattle.tmem_tree.specs.Shapes.{footprint_in, names_of};
 ghost use Rattle.tmem_tree.specs.Visited.{Ask};

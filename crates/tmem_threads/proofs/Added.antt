@@ -6,10 +6,10 @@ use Rattle.std.proofs.lemmas.List.Elements.{All-nil, All-cons, All-append, All-w
 use Rattle.std.proofs.Math.Logic.{∥∥₁_map, ∥∥₁_elim, ∥∥₁_prop}
 use Rattle.tmem_disk.specs.declared.fault.Fault.{Fault}
 use Rattle.tmem_disk.specs.declared.fault.Fault.TheVariants as fault
-use Rattle.tmem_record.specs.Prefix.{IsPrefix}
-use Rattle.tmem_record.proofs.Laws.{IsPrefix-length}
-use Rattle.tmem_record.specs.State.{State, is_empty}
-use Rattle.tmem_record.specs.declared.effect.Effect.{Effect}
+use Rattle.tmem_effect.specs.Prefix.{IsPrefix}
+use Rattle.tmem_effect.proofs.Laws.{IsPrefix-length}
+use Rattle.tmem_effect.specs.State.{State, is_empty}
+use Rattle.tmem_effect.specs.declared.effect.Effect.{Effect}
 use Rattle.tmem_tentative.specs.declared.attempt.Attempt.{Attempt}
 use Rattle.tmem_tentative.specs.declared.attempt.Ending as ending
 use Rattle.tmem_tentative.specs.declared.attempt.Ending.TheVariants as ended

@@ -6,8 +6,8 @@ use Rattle.tmem_builtins.specs.Builtins.{builtin_steps, builtin_tests}
 use Rattle.tmem_core.specs.Program.{Program}
 use Rattle.tmem_disk.specs.declared.fault.Fault.{Fault}
 use Rattle.tmem_seats.specs.Histories.{IsPossibleValue}
-use Rattle.tmem_record.specs.State.{State}
-use Rattle.tmem_record.specs.declared.effect.Effect.{Effect}
+use Rattle.tmem_effect.specs.State.{State}
+use Rattle.tmem_effect.specs.declared.effect.Effect.{Effect}
 use Rattle.tmem_spine.specs.History.{count}
 use Rattle.tmem_spine.specs.Views.{PassView}
 use Rattle.tmem_tree.specs.declared.settled.Settled.{Settled}

@@ -3,7 +3,7 @@ ghost use Rattle.std.specs.Prelude.{◌≡◌, ◌<◌, ◌≤◌, ◌∷◌, []
 ghost use Rattle.tmem_builtins.specs.Builtins.{builtin_steps, builtin_names, builtin_tests};
 ghost use Rattle.tmem_front.specs.Held.{found_of, spine_of, steps_of as held_steps, table_of as held_table};
 ghost use Rattle.tmem_seats.specs.Histories.{IsPossibleValue};
-ghost use Rattle.tmem_record.specs.State.{State};
+ghost use Rattle.tmem_effect.specs.State.{State};
 ghost use Rattle.tmem_spine.specs.History.{count};
 ghost use Rattle.tmem_threads.specs.Counting.{AreTotals, counting};
 ghost use Rattle.tmem_threads.specs.declared.store.TheConstants.{VARS};

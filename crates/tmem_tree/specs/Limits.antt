@@ -1,7 +1,7 @@
 -- How deep a transaction is, how many of its choices are open at once, and how many of its nodes pass a test.
 use Rattle.std.specs.Prelude.{ℕ, ◌+◌, ◌<◌, max, Bool, true, false, not, ◌||◌, ◌==◌, nat_le, bytes_eq, List, length, slice_index_or, if◌then◌else◌}
 use Rattle.std.specs.List.{list_any}
-use Rattle.tmem_record.specs.Names.{has_name}
+use Rattle.tmem_effect.specs.Names.{has_name}
 use Rattle.tmem_tree.specs.declared.tx.Tx.{Tx, Row_of-Tx, end_of-Tx, more_of-Tx}
 use Rattle.tmem_tree.specs.declared.tx.Tx.TheVariants.{Seq', Put, Read, Write, Step, When', OrElse', Check, Retire}
 

@@ -12,10 +12,10 @@ use Rattle.tmem_tree.specs.declared.step.StepAnswer.{StepAnswer}
 use Rattle.tmem_tree.specs.declared.step.StepAnswer.TheVariants as answer
 use Rattle.tmem_tree.specs.StepAnswers.{StepMeanings}
 use Rattle.tmem_invariants.specs.Meanings.{Meanings, holds_on}
-use Rattle.tmem_record.specs.State.{no_effect}
-use Rattle.tmem_record.specs.Names.{with_name, without_name}
-use Rattle.tmem_record.specs.Writes.{with_write}
-use Rattle.tmem_record.specs.declared.effect.Effect.{Effect}
+use Rattle.tmem_effect.specs.State.{no_effect}
+use Rattle.tmem_effect.specs.Names.{with_name, without_name}
+use Rattle.tmem_effect.specs.Writes.{with_write}
+use Rattle.tmem_effect.specs.declared.effect.Effect.{Effect}
 
 -- a map of all variables, the 16 registers, and the effect so far
 pub record View : Type 0 where

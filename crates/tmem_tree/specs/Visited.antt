@@ -6,7 +6,7 @@ use Rattle.tmem_tree.specs.declared.tx.Tx.{Tx, Row_of-Tx, end_of-Tx, more_of-Tx}
 use Rattle.tmem_tree.specs.declared.tx.Tx.TheVariants.{Skip, Seq', Put, Read, Write, Step, When', OrElse', Retry, Abort, Check, Retire}
 use Rattle.tmem_tree.specs.StepAnswers.{StepMeanings}
 use Rattle.tmem_invariants.specs.Meanings.{Meanings}
-use Rattle.tmem_record.specs.Writes.{look}
+use Rattle.tmem_effect.specs.Writes.{look}
 use Rattle.tmem_tree.specs.Run.{View, RunResult, Normal, Retried, Aborted, Broken, run, start, is_zero, register}
 
 -- a variable is visited; or the invariant of this name is tested on these values of its footprint

@@ -9,7 +9,7 @@ use crate::limits::{MAX_NODES, MAX_WRITES, has_bad_part};
 use crate::shape::Shape;
 use crate::steps::StoredSteps;
 use crate::tx::Tx;
-use tmem_record::{MAX_CHECKS, MAX_RETIRES};
+use tmem_effect::{MAX_CHECKS, MAX_RETIRES};
 
 /// How many nodes, writes, checks, retirements and steps may still come.
 #[derive(Clone, Copy)]

@@ -24,5 +24,5 @@ pub use settled::Settled;
 pub use shape::{Footprint, Shape, footprint_of, shapes_of};
 pub use step::{MAX_ARGUMENTS, Step, StepAnswer, StepEntry};
 pub use steps::{MAX_STEPS, Steps, StoredSteps};
-pub use tmem_record::{MAX_CHECKS, MAX_RETIRES};
+pub use tmem_effect::{MAX_CHECKS, MAX_RETIRES};
 pub use tx::Tx;

@@ -10,8 +10,8 @@ use crate::shape::{Shape, find};
 use crate::steps::StoredSteps;
 use crate::tx::Tx;
 use tmem_disk::Cause;
+use tmem_effect::MAX_CHECKS;
 use tmem_invariants::MAX_FOOTPRINT;
-use tmem_record::MAX_CHECKS;
 
 /// How many registers a transaction has.
 pub const REGISTERS: usize = 16;
@@ -23,7 +23,7 @@ pub const MAX_DEPTH: u32 = 32;
 pub const MAX_NODES: u32 = 512;
 
 /// The most `Write` nodes.
-pub const MAX_WRITES: u32 = tmem_record::MAX_WRITES as u32;
+pub const MAX_WRITES: u32 = tmem_effect::MAX_WRITES as u32;
 
 /// An evaluation that is never refused memory takes no more turns: each but the last reads a variable, for a `Read` or for a
 /// `Check`, or asks for the test of a `Check`.

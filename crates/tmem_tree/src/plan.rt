@@ -19,7 +19,7 @@ use crate::steps::StoredSteps;
 use crate::tx::Tx;
 use std::marker::Model;
 use tmem_disk::{Cause, Fault};
-use tmem_record::MAX_CHECKS;
+use tmem_effect::MAX_CHECKS;
 
 /// The most nodes of a short plan.
 pub const MAX_SHORT: u32 = 64;

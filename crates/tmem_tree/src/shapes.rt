@@ -12,7 +12,7 @@ use crate::shape::{Footprint, Shape, find};
 use crate::tx::Tx;
 use std::marker::Model;
 use tmem_disk::Name;
-use tmem_record::MAX_CHECKS;
+use tmem_effect::MAX_CHECKS;
 
 /// Shapes, no more than a transaction has checks. They are held in place.
 #[derive(Drop)]

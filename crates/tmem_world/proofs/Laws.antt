@@ -4,7 +4,7 @@ use Rattle.std.proofs.lemmas.List.{length-take-le}
 use Rattle.tmem_disk.specs.Disk.{DeviceView, IsDevice}
 use Rattle.tmem_core.specs.Program.{Program, IsProgramOf}
 use Rattle.tmem_core.proofs.Laws.{count-committed}
-use Rattle.tmem_record.specs.State.{first_state}
+use Rattle.tmem_effect.specs.State.{first_state}
 use Rattle.tmem_record.specs.Layout.{image_place, image_size}
 use Rattle.tmem_record.specs.declared.layout.Layout.{Layout}
 use Rattle.tmem_gate.proofs.Laws.{WritesWithin-refl, WritesWithin-trans}

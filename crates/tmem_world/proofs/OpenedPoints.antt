@@ -1,8 +1,8 @@
 -- Where a run begins.
 use Rattle.std.proofs.Common.{◌≡◌, ℕ, ◌-◌, List, [], length, refl, sym, ◌∙◌, ap, subst, arith, drop, take, zero, suc}
 use Rattle.std.specs.Prelude.{All, None}
-use Rattle.tmem_record.specs.State.{State}
-use Rattle.tmem_record.specs.declared.effect.Effect.{Effect}
+use Rattle.tmem_effect.specs.State.{State}
+use Rattle.tmem_effect.specs.declared.effect.Effect.{Effect}
 use Rattle.tmem_tree.specs.declared.tx.Tx.{Tx}
 use Rattle.tmem_invariants.specs.Meanings.{Meanings, IsSound}
 use Rattle.tmem_core.specs.Program.{Program, IsProgramOf}

@@ -19,7 +19,7 @@ use Rattle.tmem_world.specs.declared.held.Held.{Held}
 use Rattle.tmem_world.specs.declared.held.Held.TheVariants.{With, Without}
 use Rattle.std.proofs.lemmas.Bool.{false≢true}
 use Rattle.tmem_world.specs.Parts.{what, disk_in, layout_in, table_in, IsWith}
-use Rattle.tmem_record.specs.State.{State}
+use Rattle.tmem_effect.specs.State.{State}
 use Rattle.tmem_journal.specs.Held as journal
 use Rattle.tmem_journal.specs.Journals as journals
 use Rattle.tmem_journal.specs.Mended.{RecoveredBy}

@@ -2,12 +2,12 @@
 use Rattle.std.proofs.Common.{◌≡◌, ℕ, zero, suc, ◌+◌, ◌-◌, ◌≤◌, List, [], ◌∷◌, ◌++◌, length, take, drop, refl, sym, ◌∙◌, ap, arith}
 use Rattle.std.proofs.lemmas.List.{take-append-drop, take-take, drop-take, drop-drop, drop_at, drop_all, drop-append-le, length-take, length-drop, length-append}
 use Rattle.std.proofs.Math.Seq.{take-append_seam}
-use Rattle.tmem_record.specs.State.{State, fold}
-use Rattle.tmem_record.specs.declared.effect.Effect.{Effect}
+use Rattle.tmem_effect.specs.State.{State, fold}
+use Rattle.tmem_effect.specs.declared.effect.Effect.{Effect}
 use Rattle.tmem_tree.specs.declared.tx.Tx.{Tx}
 use Rattle.tmem_core.specs.Program.{Program}
 use Rattle.tmem_core.specs.Verdict.{effect_of, accepted_of, state_after, serial_state, serial_effects, IsCommitted, AreCommitted, verdict}
-use Rattle.tmem_record.proofs.Laws.{fold-append}
+use Rattle.tmem_effect.proofs.Laws.{fold-append}
 use Rattle.tmem_core.proofs.Laws.{accepted_of-committed, serial_effects-push, serial_state-fold, length-serial_effects, count-committed}
 
 module _ (program : Program) where

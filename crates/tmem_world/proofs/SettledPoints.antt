@@ -6,8 +6,8 @@ use Rattle.std.specs.List.{AllZip}
 use Rattle.std.proofs.lemmas.List.{set-get_or, append-nil, take-append-le, take_all}
 use Rattle.tmem_disk.specs.declared.fault.Fault.{Fault}
 use Rattle.tmem_disk.specs.declared.fault.Fault.TheVariants as fault
-use Rattle.tmem_record.specs.State.{State, fold}
-use Rattle.tmem_record.specs.declared.effect.Effect.{Effect}
+use Rattle.tmem_effect.specs.State.{State, fold}
+use Rattle.tmem_effect.specs.declared.effect.Effect.{Effect}
 use Rattle.tmem_tree.specs.declared.tx.Tx.{Tx}
 use Rattle.tmem_tree.specs.Plans.{PlanView}
 use Rattle.tmem_core.specs.Program.{Program, IsProgramOf}

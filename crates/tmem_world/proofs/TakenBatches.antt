@@ -8,9 +8,9 @@ use Rattle.tmem_journal.specs.Held as journal
 use Rattle.tmem_journal.specs.Journals as journals
 use Rattle.tmem_world.specs.declared.session.Session as core
 use Rattle.tmem_world.specs.Sessions.{Flushes, waiting_after}
-use Rattle.tmem_record.specs.State.{StaysWithin, fold}
-use Rattle.tmem_record.specs.declared.effect.Effect.{Effect}
-use Rattle.tmem_record.proofs.Laws.{fold-append, count-fold, StaysWithin-front, StaysWithin-back}
+use Rattle.tmem_effect.specs.State.{StaysWithin, fold}
+use Rattle.tmem_effect.specs.declared.effect.Effect.{Effect}
+use Rattle.tmem_effect.proofs.Laws.{fold-append, count-fold, StaysWithin-front, StaysWithin-back}
 
 -- these were taken of what waits, from the durable number on
 module _ {D T : Type 0} {d t : _} (o : core.Session D T d t) (from : ℕ) (is : from ≡ durable_of o.core) (es : List Effect) (taken : drop (from - durable_of o.core) (waiting_of o.core) ≡ es ++ drop (from + length es - durable_of o.core) (waiting_of o.core)) where

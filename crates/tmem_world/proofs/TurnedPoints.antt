@@ -5,7 +5,7 @@ use Rattle.std.proofs.Math.Logic.{∥∥₁_elim}
 use Rattle.std.proofs.Props.{props}
 use Rattle.indexmap.proofs.CallerLemmas.{insert_entry-new}
 use Rattle.tmem_disk.specs.declared.fault.Fault.{Fault}
-use Rattle.tmem_record.specs.State.{State}
+use Rattle.tmem_effect.specs.State.{State}
 use Rattle.tmem_invariants.specs.Meanings.{Meanings}
 use Rattle.tmem_disk.specs.Name.{has_name}
 use Rattle.tmem_tree.specs.declared.tx.Tx.{Tx}

@@ -5,7 +5,7 @@ use Rattle.tmem_disk.specs.Disk.{DeviceView, IsDevice, AtEachMoment}
 use Rattle.tmem_disk.specs.declared.fault.Fault.{Fault}
 use Rattle.tmem_disk.specs.declared.fault.Fault.TheVariants as fault
 use Rattle.tmem_record.specs.Layout.{image_place, image_size, slot_place}
-use Rattle.tmem_record.specs.declared.effect.Effect.{Effect}
+use Rattle.tmem_effect.specs.declared.effect.Effect.{Effect}
 use Rattle.tmem_gate.specs.Calls.{Uses, WritesWithin}
 use Rattle.tmem_core.specs.Held.{state_of, table_of}
 use Rattle.tmem_gate.proofs.Laws.{WritesWithin-refl, WritesWithin-wider}

@@ -1,8 +1,8 @@
 -- That some words have one proof at most.
 use Rattle.std.specs.Prelude.{ℕ, List, [], ◌∷◌, Option, Some, None}
 use Rattle.std.proofs.Props.{props}
-use Rattle.tmem_record.specs.State.{State, StaysWithin, apply}
-use Rattle.tmem_record.specs.declared.effect.Effect.{Effect}
+use Rattle.tmem_effect.specs.State.{State, StaysWithin, apply}
+use Rattle.tmem_effect.specs.declared.effect.Effect.{Effect}
 use Rattle.tmem_invariants.specs.Meanings.{Meanings}
 use Rattle.tmem_tree.specs.Plans.{PlanView}
 use Rattle.tmem_tree.specs.StepAnswers.{StepMeanings}

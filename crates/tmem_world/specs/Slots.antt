@@ -2,8 +2,8 @@
 use Rattle.std.specs.Prelude.{◌≡◌, ⊤, ℕ, List, [], ◌∷◌, ◌++◌, length, Option, Some, None, nat_eq, IsSome}
 use Rattle.indexmap.specs.IndexMap.{insert_entry}
 use Rattle.tmem_disk.specs.declared.fault.Fault.TheVariants.{Memory}
-use Rattle.tmem_record.specs.State.{State}
-use Rattle.tmem_record.specs.Writes.{look}
+use Rattle.tmem_effect.specs.State.{State}
+use Rattle.tmem_effect.specs.Writes.{look}
 use Rattle.tmem_invariants.specs.Meanings.{Meanings}
 use Rattle.tmem_tree.specs.declared.tx.Tx.{Tx}
 use Rattle.tmem_tree.specs.Plans.{PlanView, FitsSteps, FitsVariables, FitsNames, FitsShapes}

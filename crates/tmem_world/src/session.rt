@@ -2,7 +2,7 @@
 ghost use Rattle.std.specs.Prelude.{◌≡◌, ◌*◌, ◌+◌, ℕ, Some, length, IfSome, IsErrOf};
 ghost use Rattle.std.proofs.Props.{props};
 ghost use Rattle.tmem_disk.specs.Disk.{IsWriteOrSync};
-ghost use Rattle.tmem_record.specs.State.{State, StaysWithin, fold};
+ghost use Rattle.tmem_effect.specs.State.{State, StaysWithin, fold};
 ghost use Rattle.tmem_core.specs.Held.{state_of, waiting_of, durable_of, is_shut_of, table_of};
 ghost use Rattle.tmem_journal.specs.Held.{device_of, layout_of, is_closed_of, state_of as durable_state};
 ghost use Rattle.tmem_world.specs.Facts.{StaysWithin-prop};
@@ -11,11 +11,11 @@ ghost use Rattle.tmem_record.specs.Layout.{image_place, image_size, slot_place};
 use crate::slot::Slot;
 use tmem_core::Core;
 use tmem_disk::{DeviceFault, Disk, Fault};
+use tmem_effect::Batch;
 use tmem_event::Reply;
 use tmem_invariants::Invariants;
 use tmem_journal::Journal;
 use tmem_opening::Opening;
-use tmem_record::Batch;
 use tmem_tree::Shape;
 
 /// What a world keeps from an opening to the next one, or to a crash. The core is shut once the journal is closed.

@@ -1,8 +1,8 @@
 // One thread plays a list of events over a core and a journal.
 ghost use Rattle.std.specs.Prelude.{◌≡◌, ◌<◌, ◌⊎◌, ◌↔◌, ℕ, true, false, Some, None, [], length, All, IsTrue, IsSome, IfOk, IfErr, OnOk, replicate, slice_index_or, pos};
 ghost use Rattle.std.proofs.Props.{props};
-ghost use Rattle.tmem_record.specs.State.{State};
-ghost use Rattle.tmem_record.specs.Names.{has_name};
+ghost use Rattle.tmem_effect.specs.State.{State};
+ghost use Rattle.tmem_effect.specs.Names.{has_name};
 ghost use Rattle.tmem_invariants.specs.Meanings.{Meanings};
 ghost use Rattle.tmem_tree.specs.Shapes.{AreMeant as HaveFootprints, AreWithin, names_of};
 ghost use Rattle.tmem_core.specs.Program.{Program, IsProgramOf};

@@ -71,6 +71,8 @@ const AGAIN: &[Act<'static>] = &[
     Reads(0, b"xy\0\0\0\0"),
 ];
 
+const IN_PART: &[Act<'static>] = &[Size(4096), Reads(4093, b"\0ab")];
+
 const EMPTY: &[Act<'static>] = &[Size(0)];
 
 /// Whether another file may be made beside a new one, until that is placed.
@@ -107,21 +109,26 @@ fn is_made_and_placed(rt: &HostRuntime, folder: &str, path: &str) -> Result<bool
     Ok(was_new? && is_placed(rt, folder, path, &mut disk)?)
 }
 
-/// Whether a file is opened, and answers these acts so.
-fn is_opened(rt: &HostRuntime, path: &str, acts: &[Act]) -> Result<bool, Fault> {
-    let mut disk = FileDisk::open(rt, path)?;
+/// Whether a file is opened with so many bytes at most, and answers these acts so.
+fn is_opened(rt: &HostRuntime, path: &str, most: u64, acts: &[Act]) -> Result<bool, Fault> {
+    let mut disk = FileDisk::open(rt, path, most)?;
     Ok(are_so(rt.alloc(), &mut disk, acts)?)
 }
 
-/// The same, and whether the next opening finds it.
+/// The same, and whether the next openings find it, and the first bytes of it alone where no more are asked for.
 fn is_found_again(rt: &HostRuntime, folder: &str, path: &str) -> Result<bool, Fault> {
-    Ok(is_made_and_placed(rt, folder, path)? && is_opened(rt, path, AGAIN)?)
+    Ok(
+        is_made_and_placed(rt, folder, path)?
+            && is_opened(rt, path, SIZE, AGAIN)?
+            && is_opened(rt, path, u64::MAX, AGAIN)?
+            && is_opened(rt, path, 4096, IN_PART)?,
+    )
 }
 
 /// Whether a path is neither opened nor, where it is asked, made.
 fn is_refused(rt: &HostRuntime, path: &str, is_made: bool) -> bool {
     let refused = Some(Fault::Device);
-    FileDisk::open(rt, path).err() == refused
+    FileDisk::open(rt, path, u64::MAX).err() == refused
         && (!is_made || NewFile::create(rt, path, SIZE).err() == refused)
 }
 
@@ -144,7 +151,7 @@ fn is_empty_alone_opened(rt: &HostRuntime, folder: &str, path: &PathBuf) -> Resu
     Ok(
         are_refused(rt, folder, path)?
             && fs::write(rt, path.as_str(), "".as_bytes()).is_ok()
-            && is_opened(rt, path.as_str(), EMPTY)?,
+            && is_opened(rt, path.as_str(), SIZE, EMPTY)?,
     )
 }
 

@@ -2,12 +2,12 @@
 ghost use Rattle.std.specs.Bool.{OnTrue};
 ghost use Rattle.std.specs.Prelude.{◌≡◌, ◌<◌, [], ◌∷◌, All};
 ghost use Rattle.tmem_journal.specs.Held.{layout_of, state_of};
-ghost use Rattle.tmem_record.specs.State.{AreApart, StaysWithin};
+ghost use Rattle.tmem_effect.specs.State.{AreApart, StaysWithin};
 
 use std::alloc::Global;
 use tmem_disk::{Disk, Fault, Name};
+use tmem_effect::{Batch, Effect};
 use tmem_journal::Journal;
-use tmem_record::{Batch, Effect};
 
 /// Flushes one record that writes a number to a variable.
 pub(super) fn flush_to<D: Disk>(

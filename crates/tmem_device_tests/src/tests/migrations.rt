@@ -5,8 +5,8 @@ use std::alloc::Global;
 use std::process::Abort;
 use std::test::Fail;
 use tmem_disk::{DeviceFault, Fault, Fill};
+use tmem_effect::State;
 use tmem_journal::Journal;
-use tmem_record::State;
 
 /// A store of so many bytes, with so many variables and four slots, and how many writes and syncs its first opening makes.
 struct Old<'a> {

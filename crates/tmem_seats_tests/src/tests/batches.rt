@@ -1,11 +1,12 @@
 //! The bytes of records, of both versions of the format.
-ghost use Rattle.tmem_record.specs.State.{AreApart};
+ghost use Rattle.tmem_effect.specs.State.{AreApart};
 
 use std::alloc::{AllocError, Global};
 use std::test::Fail;
 use tmem_disk::{Fault, Name};
-use tmem_record::Version::{One, Two};
-use tmem_record::{BATCH_ROOM, Batch, Decoded, Effect, Version, decode_batch, encode_batch};
+use tmem_effect::Version::{One, Two};
+use tmem_effect::{Batch, Effect, Version};
+use tmem_record::{BATCH_ROOM, Decoded, decode_batch, encode_batch};
 
 /// A record: what is written, checked and retired for it, its bytes, and its writes as they are read again.
 struct Record<'a> {

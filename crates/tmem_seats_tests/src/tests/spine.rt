@@ -6,7 +6,7 @@ ghost use Rattle.tmem_spine.specs.Views.{new_core, new_journal};
 use std::marker::Brand;
 use std::test::Fail;
 use std::thread::{Threads, join};
-use tmem_record::Effect;
+use tmem_effect::Effect;
 use tmem_spine::{CoreSide, JournalSide, Naming, Opened, Pass, Spine};
 
 const START: u64 = 5;

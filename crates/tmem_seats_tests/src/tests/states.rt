@@ -2,7 +2,7 @@
 use std::alloc::Global;
 use std::test::Fail;
 use tmem_disk::{Fault, Name};
-use tmem_record::{Effect, NameSet, State};
+use tmem_effect::{Effect, NameSet, State};
 
 /// A name for each number, above those of lesser numbers.
 fn numbered(n: u8) -> Result<Name, Fault> {

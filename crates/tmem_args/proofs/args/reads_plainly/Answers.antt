@@ -5,11 +5,11 @@ use Rattle.tmem_args.proofs.args.reads_plainly.Goals as goal
 pub returns : goal.returns
 unfolding clap_on_literals
 returns c = λ name. record {
-  input = record { asks = (refl, (λ e. cc, λ e. cc)); path = refl; store = refl };
-  file = record { asks = (refl, (λ e. cc, λ e. cc)); path = refl; store = refl };
-  input_on_store = record { asks = (refl, (λ e. cc, λ e. cc)); path = refl; store = refl };
-  file_on_store = record { asks = (refl, (λ e. cc, λ e. cc)); path = refl; store = refl };
-  store_first = record { asks = (refl, (λ e. cc, λ e. cc)); path = refl; store = refl };
+  input = record { asks = (refl, record { threads = λ e. cc; bench = λ e. cc; show = λ e. cc; init = λ e. cc; serve = λ e. cc }); path = refl; store = refl };
+  file = record { asks = (refl, record { threads = λ e. cc; bench = λ e. cc; show = λ e. cc; init = λ e. cc; serve = λ e. cc }); path = refl; store = refl };
+  input_on_store = record { asks = (refl, record { threads = λ e. cc; bench = λ e. cc; show = λ e. cc; init = λ e. cc; serve = λ e. cc }); path = refl; store = refl };
+  file_on_store = record { asks = (refl, record { threads = λ e. cc; bench = λ e. cc; show = λ e. cc; init = λ e. cc; serve = λ e. cc }); path = refl; store = refl };
+  store_first = record { asks = (refl, record { threads = λ e. cc; bench = λ e. cc; show = λ e. cc; init = λ e. cc; serve = λ e. cc }); path = refl; store = refl };
   help = inl tt;
   version = inl tt;
   none = (λ e. cc, λ is. elim is [ inl e ↦ e | inr e ↦ e ]);
@@ -28,4 +28,16 @@ returns c = λ name. record {
   bench = record { asks = (refl, refl); store = refl };
   bench_on_store = record { asks = (refl, refl); store = refl };
   bench_by_number = (λ e. cc, λ is. elim is [ inl e ↦ e | inr e ↦ e ]);
+  show = record { asks = (refl, refl); path = refl; as_json = refl; with_hex = refl };
+  show_as_json = record { asks = (refl, refl); path = refl; as_json = refl; with_hex = refl };
+  show_with_hex = record { asks = (refl, refl); path = refl; as_json = refl; with_hex = refl };
+  show_all = record { asks = (refl, refl); path = refl; as_json = refl; with_hex = refl };
+  show_nothing = (λ e. cc, λ is. elim is [ inl e ↦ e | inr e ↦ e ]);
+  show_two = (λ e. cc, λ is. elim is [ inl e ↦ e | inr e ↦ e ]);
+  init = record { asks = (refl, refl); path = refl; from = refl; flag = refl };
+  init_in_place = record { asks = (refl, refl); path = refl; from = refl; flag = refl };
+  init_no_file = (λ e. cc, λ is. elim is [ inl e ↦ e | inr e ↦ e ]);
+  serve = record { asks = (refl, refl); path = refl; with_shape = refl };
+  serve_with_shape = record { asks = (refl, refl); path = refl; with_shape = refl };
+  serve_nothing = (λ e. cc, λ is. elim is [ inl e ↦ e | inr e ↦ e ]);
 }

@@ -1,6 +1,6 @@
 use Rattle.std.proofs.Common.{◌≡◌, ◌<◌, [], ℕ, List, true, false, sym, subst}
 use Rattle.std.proofs.lemmas.List.Elements.{All-weaker}
-use Rattle.tmem_record.specs.Names.{has_name}
+use Rattle.tmem_effect.specs.Names.{has_name}
 use Rattle.tmem_tentative.specs.Cursors.{outcome_of}
 use Rattle.tmem_tentative.specs.Fits.{IsForVariables, IsForNames, IsEndingFor, IsWithin, IsNamed}
 use Rattle.tmem_tentative.specs.declared.attempt.Ending.{Ending}

@@ -1,7 +1,7 @@
 use Rattle.std.proofs.Common.{subst, sym, ◌∙◌}
-use Rattle.tmem_record.specs.Names.{without_names}
-use Rattle.tmem_record.specs.State.{written}
-use Rattle.tmem_record.proofs.Laws.{length-written}
+use Rattle.tmem_effect.specs.Names.{without_names}
+use Rattle.tmem_effect.specs.State.{written}
+use Rattle.tmem_effect.proofs.Laws.{length-written}
 use Rattle.tmem_invariants.specs.Places.{ArePlacesOf}
 use Rattle.tmem_invariants.proofs.Laws.{first_false-untouched}
 use Rattle.tmem_core.proofs.Known.{AllHold-kept}

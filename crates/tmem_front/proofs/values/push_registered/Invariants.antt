@@ -1,5 +1,5 @@
 use Rattle.std.proofs.Common.{◌≡◌, ◌++◌, ℕ, List, map, take}
-use Rattle.tmem_record.specs.Names.{has_name}
+use Rattle.tmem_effect.specs.Names.{has_name}
 use Rattle.tmem_seats.specs.Histories.{after}
 use Rattle.tmem_front.proofs.values.push_registered.Given as goal
 

@@ -7,7 +7,7 @@ use Rattle.tmem_disk.proofs.Laws.{LeavesOnly-moment}
 use Rattle.tmem_gate.specs.Calls.{WritesWithin}
 use Rattle.tmem_gate.specs.Changes.{outcome_of}
 use Rattle.tmem_record.specs.Layout.{pages_of, image_place}
-use Rattle.tmem_record.specs.declared.version.Version.TheVariants.{Two}
+use Rattle.tmem_effect.specs.declared.version.Version.TheVariants.{Two}
 use Rattle.tmem_image.specs.Pages.{HoldsOthers, pages_place}
 use Rattle.tmem_image.specs.Spare.{placed}
 use Rattle.tmem_image.specs.Spelling.{IsImage}

@@ -1,6 +1,6 @@
 use Rattle.std.proofs.Common.{◌≡◌, length, take, sym, ◌∙◌, ap, subst, arith}
-use Rattle.tmem_record.specs.State.{State, apply, IsWithin}
-use Rattle.tmem_record.proofs.Laws.{length-values-fold}
+use Rattle.tmem_effect.specs.State.{State, apply, IsWithin}
+use Rattle.tmem_effect.proofs.Laws.{length-values-fold}
 use Rattle.tmem_redolog.proofs.Laws.{fold_next, within_next, of_variables}
 use Rattle.tmem_journal.proofs.accepting.accept_all.Goals as goal
 

@@ -1,5 +1,5 @@
 use Rattle.std.proofs.Common.{◌≡◌, take}
-use Rattle.tmem_record.specs.State.{fold}
+use Rattle.tmem_effect.specs.State.{fold}
 use Rattle.tmem_journal.proofs.accepting.accept_all.Given as goal
 
 abbrev pub invariant-loop-effect : goal.invariant-loop-effect

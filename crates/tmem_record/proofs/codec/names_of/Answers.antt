@@ -1,5 +1,5 @@
 use Rattle.std.proofs.Common.{rules, ◌≡◌, ◌+◌, true, false, arith}
-use Rattle.tmem_record.specs.Names.{has_name, with_name}
+use Rattle.tmem_effect.specs.Names.{has_name, with_name}
 use Rattle.tmem_record.proofs.CodecReads.{ReadNames, or_none, checks, no_bytes, too_many, none_more, checked_twice, name_more, all_found}
 use Rattle.tmem_record.proofs.codec.names_of.Goals as goal
 

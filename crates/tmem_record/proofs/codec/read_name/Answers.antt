@@ -1,5 +1,5 @@
 use Rattle.std.proofs.Common.{rules}
-use Rattle.tmem_record.specs.Prefix.{IsPrefix}
+use Rattle.tmem_effect.specs.Prefix.{IsPrefix}
 use Rattle.tmem_record.specs.Spelling.{name_bytes}
 use Rattle.tmem_record.proofs.CodecReads.{name_begins, no_name_begins}
 use Rattle.tmem_record.proofs.codec.read_name.Goals as goal

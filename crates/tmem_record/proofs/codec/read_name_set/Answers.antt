@@ -1,6 +1,6 @@
 use Rattle.std.proofs.Common.{rules, ◌≡◌, ◌<◌, ◌+◌, ◌++◌, ◌∷◌, [], true, length, arith}
 use Rattle.std.specs.Prelude.{All, IsTrue, ◌↔◌}
-use Rattle.tmem_record.specs.Names.{is_before}
+use Rattle.tmem_effect.specs.Names.{is_before}
 use Rattle.tmem_record.proofs.CodecReads.{or_none, no_bytes, too_many, none_more, all_found}
 use Rattle.tmem_record.proofs.NameSetReads.{ReadNameSet, registered, none_read, name_more, not_above}
 use Rattle.tmem_record.proofs.codec.read_name_set.Goals as goal

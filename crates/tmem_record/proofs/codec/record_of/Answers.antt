@@ -1,6 +1,7 @@
 use Rattle.std.proofs.Common.{◌≡◌, ◌≤◌, ◌^◌, sym, ◌∙◌, ap, subst, true, arith}
 use Rattle.std.proofs.lemmas.Bool.{false≢true}
-use Rattle.tmem_record.specs.State.{Effect, AreApart, is_empty}
+use Rattle.tmem_effect.specs.State.{AreApart, is_empty}
+use Rattle.tmem_effect.specs.declared.effect.Effect.{Effect}
 use Rattle.tmem_record.proofs.CodecReads.{or_none, no_writes_there, no_names_there, none_retired_there, one_record, record_found}
 use Rattle.tmem_record.proofs.codec.record_of.Goals as goal
 

@@ -1,7 +1,7 @@
 use Rattle.std.proofs.Common.{◌≤◌, ◌+◌, ◌^◌, ℕ, ℤ, List, sym, ◌∙◌, ap, subst, arith}
 use Rattle.std.specs.Int.{w64}
 use Rattle.std.proofs.lemmas.Int.{to_z-of_z}
-use Rattle.tmem_record.specs.Writes.{with_write}
+use Rattle.tmem_effect.specs.Writes.{with_write}
 use Rattle.tmem_record.specs.Spelling.{write_bytes}
 use Rattle.tmem_record.proofs.SpellingLaws.{IsWriteWithin, AreWritesWithin}
 use Rattle.tmem_record.proofs.CodecReads.{of_writes, ReadWrites, or_none, written, no_bytes, too_many, read_none, no_writes, none_more, written_twice, write_more, all_found}

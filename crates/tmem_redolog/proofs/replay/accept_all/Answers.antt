@@ -1,8 +1,8 @@
 use Rattle.std.proofs.Common.{◌≡◌, length, take, refl, sym, ◌∙◌, ap, subst, arith}
 use Rattle.std.proofs.lemmas.Bool.{false≢true}
 use Rattle.std.proofs.lemmas.List.{take_all}
-use Rattle.tmem_record.specs.State.{State, apply, fold}
-use Rattle.tmem_record.proofs.Laws.{length-values-fold}
+use Rattle.tmem_effect.specs.State.{State, apply, fold}
+use Rattle.tmem_effect.proofs.Laws.{length-values-fold}
 use Rattle.tmem_redolog.specs.Log.{StaysWithin, IsWithin}
 use Rattle.tmem_redolog.proofs.Replaying.{fold_next, within_next, stays_next, of_variables}
 use Rattle.tmem_redolog.proofs.replay.accept_all.Goals as goal

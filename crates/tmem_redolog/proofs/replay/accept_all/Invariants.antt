@@ -1,5 +1,5 @@
 use Rattle.std.proofs.Common.{◌≡◌, take}
-use Rattle.tmem_record.specs.State.{fold}
+use Rattle.tmem_effect.specs.State.{fold}
 use Rattle.tmem_redolog.specs.Log.{StaysWithin}
 use Rattle.tmem_redolog.proofs.replay.accept_all.Given as goal
 

@@ -2,8 +2,8 @@ use Rattle.std.proofs.Common.{◌≤◌, ◌<◌, ◌^◌, ℕ, List, length, sy
 use Rattle.std.proofs.lemmas.Result.{err_from_is_err_and}
 use Rattle.tmem_gate.specs.Gate.{IsOpenOver}
 use Rattle.tmem_record.specs.Spelling.{number_bytes}
-use Rattle.tmem_record.specs.State.{State}
-use Rattle.tmem_record.proofs.Laws.{StaysWithin-last, length-values-fold}
+use Rattle.tmem_effect.specs.State.{State}
+use Rattle.tmem_effect.proofs.Laws.{StaysWithin-last, length-values-fold}
 use Rattle.tmem_redolog.specs.Log.{IsWithin}
 use Rattle.tmem_redolog.specs.Scans.{Replays, MayReplay}
 use Rattle.tmem_redolog.proofs.Scanned.{reached_first, reached_by, none_replayed}

@@ -1,5 +1,5 @@
 use Rattle.std.proofs.Common.{take}
-use Rattle.tmem_record.specs.Names.{AreApart}
+use Rattle.tmem_effect.specs.Names.{AreApart}
 use Rattle.tmem_requests.proofs.limits.are_apart.Given as goal
 
 abbrev pub invariant-loop-name : goal.invariant-loop-name

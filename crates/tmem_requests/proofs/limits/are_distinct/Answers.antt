@@ -3,7 +3,7 @@ use Rattle.std.specs.List.{list_any}
 use Rattle.std.specs.Map.{keys_of}
 use Rattle.std.proofs.lemmas.Bool.Decides.{Decides-eqb}
 use Rattle.std.proofs.lemmas.List.{length-map, take-map}
-use Rattle.tmem_requests.proofs.Distinct.{distinct_more, distinct_whole, not_distinct, shown_at}
+use Rattle.tmem_forms.proofs.Laws.{distinct_more, distinct_whole, not_distinct, shown_at}
 use Rattle.tmem_requests.proofs.Each.{read_at}
 use Rattle.tmem_requests.proofs.limits.are_distinct.Goals as goal
 

@@ -1,7 +1,7 @@
 use Rattle.std.proofs.Common.{bytes_eq, Some, refl, sym, ap, ◌∙◌}
 use Rattle.std.proofs.lemmas.Option.{slice_get-get_or}
 use Rattle.std.proofs.lemmas.Slice.Eq.{bytes_eq-Decides}
-use Rattle.tmem_requests.proofs.Distinct.{distinct_more, distinct_whole, not_distinct}
+use Rattle.tmem_forms.proofs.Laws.{distinct_more, distinct_whole, not_distinct}
 use Rattle.tmem_requests.proofs.limits.are_distinct_names.Goals as goal
 
 pub returns-then-has_name : goal.returns-then-has_name

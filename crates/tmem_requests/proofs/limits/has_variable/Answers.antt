@@ -1,7 +1,7 @@
 use Rattle.std.proofs.Common.{ℕ, ℤ, nat_eq, sym, ◌∙◌, rules, tests}
 use Rattle.std.proofs.lemmas.Iterator.{YieldsList-from_slice}
 use Rattle.std.proofs.lemmas.Iterator.Search.{any_from_yields_List}
-use Rattle.tmem_requests.proofs.Each.{any_of_map}
+use Rattle.tmem_forms.proofs.Laws.{any_of_map}
 use Rattle.tmem_requests.proofs.limits.has_variable.Goals as goal
 
 pub returns : goal.returns

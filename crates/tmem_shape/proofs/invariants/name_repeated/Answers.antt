@@ -3,7 +3,7 @@ use Rattle.std.specs.List.{list_any}
 use Rattle.std.proofs.lemmas.List.{length-map, take-map}
 use Rattle.std.proofs.lemmas.Slice.Eq.{bytes_eq-Decides}
 use Rattle.tmem_linear.specs.declared.linear.Linear.{Linear}
-use Rattle.tmem_shape.proofs.Distinct.{distinct_more, distinct_whole, not_distinct, shown_at}
+use Rattle.tmem_forms.proofs.Laws.{distinct_more, distinct_whole, not_distinct, shown_at}
 use Rattle.tmem_shape.proofs.invariants.name_repeated.Goals as goal
 
 pub returns-then-is_named : goal.returns-then-is_named

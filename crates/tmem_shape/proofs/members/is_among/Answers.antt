@@ -3,7 +3,7 @@ use Rattle.std.proofs.lemmas.Iterator.{YieldsList-from_slice}
 use Rattle.std.proofs.lemmas.Iterator.Search.{any_from_yields_List}
 use Rattle.tmem_shape.specs.Keys.{key_text}
 use Rattle.tmem_shape.specs.declared.key.Key.{Key}
-use Rattle.tmem_shape.proofs.Each.{any_of_map}
+use Rattle.tmem_forms.proofs.Laws.{any_of_map}
 use Rattle.tmem_shape.proofs.members.is_among.Goals as goal
 
 pub returns : goal.returns

@@ -1,7 +1,8 @@
 use Rattle.std.proofs.Common.{◌≡◌, ℕ, true, List, map}
 use Rattle.serde_json.specs.View.{members_view}
 use Rattle.tmem_disk.specs.Name.{has_name}
-use Rattle.tmem_shape.specs.Keys.{AreAmong, key_text, member_keys}
+use Rattle.tmem_forms.specs.Members.{AreAmong, member_keys}
+use Rattle.tmem_shape.specs.Keys.{key_text}
 use Rattle.tmem_shape.proofs.members.unknown_key.Given as goal
 
 abbrev pub invariant-loop-key : goal.invariant-loop-key

@@ -1,5 +1,5 @@
 use Rattle.std.proofs.Common.{arith, drop}
-use Rattle.tmem_record.proofs.Laws.{length-without_name-le}
+use Rattle.tmem_effect.proofs.Laws.{length-without_name-le}
 use Rattle.tmem_tree.proofs.Laws.{count-Seq}
 use Rattle.tmem_tree.specs.Limits.{is_write, is_check, is_retire, has_bad_register, has_bad_step, has_bad_arguments, lacks_shape}
 use Rattle.tmem_tree.specs.Shapes.{names_of}

@@ -1,6 +1,6 @@
 use Rattle.std.proofs.Common.{◌≡◌, ◌+◌, [], ◌∷◌, ◌++◌, Some, ◌∙◌, rules, arith, sym, ap, drop, slice_index}
 use Rattle.std.proofs.lemmas.Grind.{common_steps}
-use Rattle.tmem_record.specs.Writes.{look}
+use Rattle.tmem_effect.specs.Writes.{look}
 use Rattle.tmem_tentative.specs.Eval.{looked, seen_of}
 use Rattle.tmem_tentative.specs.Logs.{run_state_of}
 use Rattle.tmem_tentative.proofs.EvalLooks.{ahead, ahead_seen}

@@ -1,5 +1,5 @@
 use Rattle.std.proofs.Common.{arith}
-use Rattle.tmem_record.proofs.Laws.{length-without_name-le}
+use Rattle.tmem_effect.proofs.Laws.{length-without_name-le}
 use Rattle.tmem_tentative.proofs.walk.settle.Goals as goal
 
 pub returns-in-Some-true-clause-retired : goal.returns-in-Some-true-clause-retired

@@ -1,5 +1,5 @@
 use Rattle.std.proofs.Common.{sym, ap, ◌∙◌, map, arith, option_to_list}
-use Rattle.tmem_record.proofs.Laws.{length-without_name-le}
+use Rattle.tmem_effect.proofs.Laws.{length-without_name-le}
 use Rattle.tmem_tree.specs.Run.{register}
 use Rattle.tmem_tree.specs.declared.tx.Tx.TheVariants.{Step}
 use Rattle.tmem_tentative.specs.Eval.{answered}

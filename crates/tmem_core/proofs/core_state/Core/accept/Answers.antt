@@ -1,10 +1,10 @@
 use Rattle.std.proofs.Common.{length, sym, subst, ◌∙◌, arith}
 use Rattle.std.proofs.lemmas.List.Elements.{All-push}
-use Rattle.tmem_record.specs.State.{State, apply, IsWithin}
-use Rattle.tmem_record.proofs.Laws.{length-values-apply, AreRegistered-apply}
+use Rattle.tmem_effect.specs.State.{State, apply, IsWithin}
+use Rattle.tmem_effect.proofs.Laws.{length-values-apply, AreRegistered-apply}
 use Rattle.tmem_invariants.specs.Meanings.{AllHold}
 use Rattle.tmem_invariants.specs.Places.{ArePlacesOf}
-use Rattle.tmem_record.specs.Loggable.{IsLoggable}
+use Rattle.tmem_effect.specs.Loggable.{IsLoggable}
 use Rattle.tmem_core.proofs.Known.{AreAmong}
 use Rattle.tmem_core.specs.History.{effects_of}
 use Rattle.tmem_core.proofs.Folded.{folded-push}

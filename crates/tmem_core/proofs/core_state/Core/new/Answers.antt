@@ -1,5 +1,5 @@
 use Rattle.std.proofs.Common.{◌≡◌, ◌≤◌, None, Some, length, sym, subst, ◌∙◌, arith}
-use Rattle.tmem_record.specs.State.{State, IsWithin}
+use Rattle.tmem_effect.specs.State.{State, IsWithin}
 use Rattle.tmem_invariants.specs.Meanings.{AllHold}
 use Rattle.tmem_invariants.specs.Places.{ArePlacesOf}
 use Rattle.tmem_core.proofs.Folded.{folded-none}

@@ -1,6 +1,6 @@
 use Rattle.std.proofs.Common.{◌≡◌, ℕ, ◌+◌, ◌-◌, length, drop, arith, subst}
 use Rattle.std.proofs.lemmas.List.Elements.{All-drop}
-use Rattle.tmem_record.specs.Loggable.{IsLoggable}
+use Rattle.tmem_effect.specs.Loggable.{IsLoggable}
 use Rattle.tmem_core.specs.History.{IsFolded, effects_of}
 use Rattle.tmem_core.proofs.Folded.{folded-drop}
 use Rattle.tmem_core.proofs.core_state.Core.note_durable.Goals as goal

@@ -1,8 +1,8 @@
 use Rattle.std.proofs.Common.{◌≡◌, ℕ, List, [], length, sym, subst, ◌∙◌, arith}
 use Rattle.std.proofs.lemmas.Bool.{eqb-true}
 use Rattle.std.proofs.lemmas.List.{nil_from_length}
-use Rattle.tmem_record.specs.Names.{without_names}
-use Rattle.tmem_record.proofs.Laws.{has_name-without_names}
+use Rattle.tmem_effect.specs.Names.{without_names}
+use Rattle.tmem_effect.proofs.Laws.{has_name-without_names}
 use Rattle.tmem_invariants.specs.Places.{ArePlacesOf}
 use Rattle.tmem_invariants.proofs.Laws.{ArePlacesOf-without}
 use Rattle.tmem_core.proofs.core_state.Core.places_kept.Goals as goal

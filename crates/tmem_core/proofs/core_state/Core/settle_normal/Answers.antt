@@ -1,6 +1,6 @@
 use Rattle.std.proofs.Common.{◌≡◌, None, sym, ap, ◌∙◌}
-use Rattle.tmem_record.specs.Names.{without_names}
-use Rattle.tmem_record.specs.State.{apply}
+use Rattle.tmem_effect.specs.Names.{without_names}
+use Rattle.tmem_effect.specs.State.{apply}
 use Rattle.tmem_invariants.specs.Meanings.{first_false}
 use Rattle.tmem_core.specs.Held.{CoreView}
 use Rattle.tmem_core.specs.SettleAnswer.{sound_answer, unless_refused}

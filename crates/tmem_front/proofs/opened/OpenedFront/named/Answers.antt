@@ -1,5 +1,5 @@
 use Rattle.std.proofs.Common.{◌≡◌, ℕ, length, ap, sym, subst, ◌∙◌, rules}
-use Rattle.tmem_record.specs.State.{State}
+use Rattle.tmem_effect.specs.State.{State}
 use Rattle.tmem_tree.specs.Shapes.{AreWithin}
 use Rattle.tmem_core.specs.Held.{state_of}
 use Rattle.tmem_front.proofs.opened.OpenedFront.named.Goals as goal

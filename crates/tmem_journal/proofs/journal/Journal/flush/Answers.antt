@@ -1,9 +1,9 @@
 use Rattle.std.proofs.Common.{ℕ, ℤ, ◌<◌, List, length, arith, refl, sym, ◌∙◌, ap, subst}
 use Rattle.std.specs.Prelude.{All}
 use Rattle.tmem_disk.specs.Disk.{LeavesOnly}
-use Rattle.tmem_record.specs.State.{State, fold}
-use Rattle.tmem_record.specs.declared.effect.Effect.{Effect}
-use Rattle.tmem_record.proofs.Laws.{length-values-fold}
+use Rattle.tmem_effect.specs.State.{State, fold}
+use Rattle.tmem_effect.specs.declared.effect.Effect.{Effect}
+use Rattle.tmem_effect.proofs.Laws.{length-values-fold}
 use Rattle.tmem_image.specs.Image.{other_copy}
 use Rattle.tmem_redolog.specs.Appends.{placed}
 use Rattle.tmem_redolog.specs.declared.log.Log.{Log}

@@ -1,7 +1,7 @@
 use Rattle.std.proofs.Common.{◌≡◌, ℕ, ◌+◌, ◌++◌, Bool, Result, length, sym, ap, ◌∙◌, subst, arith, rules}
 use Rattle.tmem_disk.specs.declared.fault.Fault.{Fault}
-use Rattle.tmem_record.specs.State.{State}
-use Rattle.tmem_record.proofs.Laws.{count-fold, IsPrefix-self}
+use Rattle.tmem_effect.specs.State.{State}
+use Rattle.tmem_effect.proofs.Laws.{count-fold, IsPrefix-self}
 use Rattle.tmem_core.specs.Held as core
 use Rattle.tmem_core.specs.Held.{state_of, durable_of, is_shut_of, table_of, accepting}
 use Rattle.tmem_core.specs.Decisions.{taken_by}

@@ -1,7 +1,7 @@
 use Rattle.std.proofs.Common.{◌≡◌, List, length, ap, ◌∙◌, subst}
-use Rattle.tmem_record.specs.State.{State}
+use Rattle.tmem_effect.specs.State.{State}
 use Rattle.tmem_core.specs.Held.{state_of}
-use Rattle.tmem_record.proofs.Laws.{IsPrefix-self}
+use Rattle.tmem_effect.proofs.Laws.{IsPrefix-self}
 use Rattle.tmem_spine.specs.declared.view.Entry.{Entry}
 use Rattle.tmem_seats.specs.Histories.{after, IsSoundState}
 use Rattle.tmem_seats.specs.Seats.{CoreSeatView}

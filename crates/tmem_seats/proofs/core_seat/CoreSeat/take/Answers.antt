@@ -1,8 +1,8 @@
 use Rattle.std.proofs.Common.{◌≡◌, All, ◌+◌, ◌-◌, ℕ, List, length, drop, arith, sym, ap, ◌∙◌, subst}
-use Rattle.tmem_record.specs.Loggable.{IsLoggable}
-use Rattle.tmem_record.specs.Prefix.{IsPrefix}
-use Rattle.tmem_record.specs.State.{State}
-use Rattle.tmem_record.specs.declared.effect.Effect.{Effect}
+use Rattle.tmem_effect.specs.Loggable.{IsLoggable}
+use Rattle.tmem_effect.specs.Prefix.{IsPrefix}
+use Rattle.tmem_effect.specs.State.{State}
+use Rattle.tmem_effect.specs.declared.effect.Effect.{Effect}
 use Rattle.tmem_core.specs.Held as core
 use Rattle.tmem_core.specs.Held.{state_of, waiting_of, durable_of}
 use Rattle.tmem_core.specs.Taking.{IsTaken}

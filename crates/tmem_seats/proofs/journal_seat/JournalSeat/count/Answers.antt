@@ -1,5 +1,5 @@
 use Rattle.std.proofs.Common.{ap, ◌∙◌}
-use Rattle.tmem_record.specs.State.{State}
+use Rattle.tmem_effect.specs.State.{State}
 use Rattle.tmem_seats.proofs.Seated.{count-after}
 use Rattle.tmem_seats.proofs.journal_seat.JournalSeat.count.Goals as goal
 

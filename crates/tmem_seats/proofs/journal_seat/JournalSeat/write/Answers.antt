@@ -1,9 +1,9 @@
 use Rattle.std.proofs.Common.{◌≡◌, inl, inr, List, refl, sym, ap, ◌∙◌, subst, arith}
 use Rattle.std.proofs.Math.Logic.{∥∥₁_map}
-use Rattle.tmem_record.specs.Prefix.{IsPrefix}
-use Rattle.tmem_record.specs.State.{State, StaysWithin}
+use Rattle.tmem_effect.specs.Prefix.{IsPrefix}
+use Rattle.tmem_effect.specs.State.{State, StaysWithin}
 use Rattle.tmem_record.specs.declared.layout.Layout.{Layout}
-use Rattle.tmem_record.proofs.Laws.{IsPrefix-self}
+use Rattle.tmem_effect.proofs.Laws.{IsPrefix-self}
 use Rattle.tmem_spine.specs.declared.view.Entry.{Entry}
 use Rattle.tmem_spine.specs.History.{count}
 use Rattle.tmem_spine.specs.Views.{JournalView}

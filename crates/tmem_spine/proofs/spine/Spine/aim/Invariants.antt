@@ -1,4 +1,4 @@
-use Rattle.tmem_record.specs.State.{no_effect}
+use Rattle.tmem_effect.specs.State.{no_effect}
 use Rattle.tmem_spine.specs.History.{entry}
 use Rattle.tmem_spine.proofs.spine.Spine.aim.Given as goal
 

@@ -1,6 +1,6 @@
 use Rattle.std.proofs.Common.{◌≡◌, ◌<◌, true, length, All, refl, sym, ◌∙◌, subst}
 use Rattle.std.specs.Map.{keys_of}
-use Rattle.tmem_record.specs.Names.{has_name, AreApart}
+use Rattle.tmem_effect.specs.Names.{has_name, AreApart}
 use Rattle.tmem_tentative.specs.declared.attempt.Attempt.{Attempt}
 use Rattle.tmem_tentative.specs.declared.attempt.Outcome.TheVariants as outcome
 use Rattle.tmem_tentative.specs.declared.attempt.Progress.TheVariants.{Ended}

@@ -1,6 +1,6 @@
 use Rattle.std.proofs.Common.{◌≡◌, ◌++◌, sym, ◌∙◌, ap, subst}
-use Rattle.tmem_record.specs.State.{State, IsWithin, StaysWithin, fold}
-use Rattle.tmem_record.proofs.Laws.{fold-append}
+use Rattle.tmem_effect.specs.State.{State, IsWithin, StaysWithin, fold}
+use Rattle.tmem_effect.proofs.Laws.{fold-append}
 use Rattle.tmem_core.proofs.Laws.{StaysWithin-taken}
 use Rattle.tmem_core.specs.Held.{state_of, waiting_of}
 use Rattle.tmem_core.specs.SettleAnswer.{accepted_by}

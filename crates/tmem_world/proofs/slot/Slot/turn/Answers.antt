@@ -3,8 +3,8 @@ use Rattle.std.specs.Prelude.{slice_get, slice_index_or}
 use Rattle.std.proofs.lemmas.Int.{to_z-of_z}
 use Rattle.std.proofs.lemmas.Option.{get_or_from_slice_get}
 use Rattle.indexmap.specs.IndexMap.{insert_entry}
-use Rattle.tmem_record.specs.Names.{has_name}
-use Rattle.tmem_record.specs.Writes.{look}
+use Rattle.tmem_effect.specs.Names.{has_name}
+use Rattle.tmem_effect.specs.Writes.{look}
 use Rattle.tmem_tree.specs.Shapes.{AreMeant, names_of}
 use Rattle.tmem_tentative.specs.Cursors.{probe_of}
 use Rattle.tmem_tentative.specs.declared.attempt.Outcome.TheVariants as outcome

@@ -1,0 +1,157 @@
+"""The examples print what stands beside them; the shell and the one in C too; and the package installs."""
+
+import glob
+import importlib.util
+import os
+import shutil
+import signal
+import subprocess
+import sys
+import tempfile
+import time
+import unittest
+
+from support import TOP, HubCase, StoreCase
+
+SHELL = """\
+> get a held
+a = 0
+held = 0
+> set a 9 held 2
+a = 9
+held = 2
+> add held 5 a -3 7 1
+held = 7
+a = 6
+7 = 1
+> check solvent
+registered: solvent
+> add a -7
+refused: solvent would not hold: a = -1
+> get a
+a = 6
+> retire solvent
+registered: none
+> set nope 1
+the store has no variable nope
+> set 8 1
+the store has the variables 0 to 7, and not 8
+> set a
+set VARIABLE VALUE ..
+> set a x
+x is no number
+> set a 9223372036854775808
+9223372036854775808 is no signed integer of 64 bits
+> foo
+no word foo: .help lists them
+> .state
+4 transactions, registered: none
+a = 6
+b = 0
+x = 0
+y = 0
+held = 7
+7 = 1
+> .names
+a 0
+b 1
+held 4
+x 2
+y 3
+> .checkpoint
+checkpointed
+> .quit
+"""
+
+
+def run(words, **more):
+    it = subprocess.run(words, stdout=subprocess.PIPE, stderr=subprocess.PIPE, text=True, timeout=120, check=False, **more)
+    return it.returncode, it.stdout, it.stderr
+
+
+class Examples(unittest.TestCase):
+    def test_they_print_what_stands_beside_them(self):
+        found = sorted(glob.glob(os.path.join(TOP, "examples", "*.py")))
+        self.assertEqual(len(found), 4)
+        for path in found:
+            with self.subTest(path=path), tempfile.TemporaryDirectory() as room, open(f"{path}.stdout", encoding="utf-8") as wanted:
+                self.assertEqual(run([sys.executable, path], cwd=room), (0, wanted.read(), ""))
+
+
+class Shell(StoreCase):
+    def test_its_lines(self):
+        self.store.close()
+        given = "".join(line[2:] + "\n" for line in SHELL.splitlines() if line.startswith("> "))
+        wanted = "".join(line + "\n" for line in SHELL.splitlines() if not line.startswith("> "))
+        self.assertEqual(run([sys.executable, "-m", "tmem", self.path], input=given), (1, wanted, ""))
+        good = "set a 5\n\nadd a 1\n.quit\nset a 9\n"
+        self.assertEqual(run([sys.executable, "-m", "tmem", self.path], input=good), (0, "a = 5\na = 6\n", ""))
+
+    def test_it_ends_with_the_store(self):
+        self.store.close()
+        shell = subprocess.Popen([sys.executable, "-m", "tmem", self.path], stdin=subprocess.PIPE, stdout=subprocess.PIPE, stderr=subprocess.PIPE, text=True)
+        shell.stdin.write("get a\n")
+        shell.stdin.flush()
+        self.assertEqual(shell.stdout.readline(), "a = 0\n")
+        (child,) = subprocess.run(["ps", "-o", "pid=", "--ppid", str(shell.pid)], stdout=subprocess.PIPE, check=True).stdout.split()
+        os.kill(int(child), signal.SIGKILL)
+        printed, told = shell.communicate("get a\nget a\n", 60)
+        self.assertEqual((printed, shell.returncode), ("", 1))
+        self.assertIn("status -9", told)
+
+    def test_it_says_where_there_is_no_store(self):
+        status, printed, told = run([sys.executable, "-m", "tmem", self.path + ".none"], input="")
+        self.assertEqual((status, printed), (1, ""))
+        self.assertIn("tmem", told)
+
+    def test_completion(self):
+        self.store.close()
+        script = "import sys, readline, tmem.shell as it, tmem; s = it.Shell(tmem.open(sys.argv[1])); it.prepare(s)\n"
+        script += "c = readline.get_completer(); print([c('h', 0), c('h', 1), c('.st', 0), c('.st', 1), c('.st', 2), c('ge', 0)])"
+        history = os.path.join(self.folder, "history")
+        env = {**os.environ, "TMEM_HISTORY": history}
+        self.assertEqual(run([sys.executable, "-c", script, self.path], env=env), (0, "['held ', None, '.state ', '.stats ', None, 'get ']\n", ""))
+        self.assertTrue(os.path.exists(history))
+        # Where no history can be kept, nothing is said of it.
+        self.assertEqual(run([sys.executable, "-c", script, self.path], env={**env, "TMEM_HISTORY": f"{history}/none"})[::2], (0, ""))
+
+
+class InC(HubCase):
+    shape = {"vars": 2, "slots": 4, "invariants": []}
+
+    @unittest.skipUnless(shutil.which("cc"), "there is no C compiler")
+    def test_leases(self):
+        program = os.path.join(self.folder, "leases")
+        source = os.path.join(os.path.dirname(TOP), "c", "leases.c")
+        self.assertEqual(run(["cc", "-Wall", "-Wextra", "-Werror", "-o", program, source]), (0, "", ""))
+        socket = f"{self.path}.sock"
+        self.assertEqual(run([program, socket, "7"]), (0, "client 7 has lease 0\nand has given it back\n", ""))
+        self.store.run(lambda t: t.__setitem__(0, 5))
+        self.assertEqual(run([program, socket, "7"]), (0, "client 7 has lease 1\nand has given it back\n", ""))
+        self.store.run(lambda t: t.__setitem__(1, 6))
+        waiter = self.in_thread(run, [program, socket, "7"])
+        time.sleep(0.3)
+        self.assertTrue(waiter.is_running())
+        self.store.run(lambda t: t.__setitem__(0, 0))
+        self.assertEqual(waiter.result(), (0, "client 7 has lease 0\nand has given it back\n", ""))
+        self.assertEqual(self.store.get(0, 1), (0, 6))
+        self.assertEqual(run([program, socket])[0], 2)
+
+
+class Installed(unittest.TestCase):
+    @unittest.skipUnless(importlib.util.find_spec("ensurepip"), "this Python makes no environment with pip")
+    def test_it_installs_without_a_network(self):
+        with tempfile.TemporaryDirectory() as room:
+            shutil.copytree(TOP, f"{room}/source", ignore=shutil.ignore_patterns("__pycache__"))
+            self.assertEqual(run([sys.executable, "-m", "venv", f"{room}/venv"])[0], 0)
+            python = f"{room}/venv/bin/python3"
+            install = [python, "-m", "pip", "--disable-pip-version-check", "install", "-q", "--no-index", f"{room}/source"]
+            self.assertEqual(run(install)[0], 0)
+            env = {key: value for key, value in os.environ.items() if key != "PYTHONPATH"}
+            where = run([python, "-c", "import tmem; print(tmem.__file__)"], cwd=room, env=env)
+            self.assertIn(f"{room}/venv/lib", where[1])
+            self.assertEqual(run([python, "-m", "tmem.hub", "--help"], cwd=room, env=env)[0], 0)
+
+
+if __name__ == "__main__":
+    unittest.main()

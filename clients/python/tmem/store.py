@@ -1,0 +1,283 @@
+"""A store, as a program uses it."""
+
+from __future__ import annotations
+
+import asyncio
+import inspect
+import json
+import os
+import subprocess
+import tempfile
+import time
+from concurrent.futures import Future
+from concurrent.futures import TimeoutError as NotYet
+from dataclasses import dataclass
+from typing import Any, Callable, Mapping, Sequence
+
+from .errors import Closed, Timeout, TmemError, raise_for
+from .link import Link, Process, Program, Socket, command
+from .transaction import CONFLICT, Answer, Ask, Body, Names, Transaction, Variable, integer, key_of, steps, values_of
+
+MOST_HINTS = 256
+
+
+@dataclass(frozen=True)
+class Outcome:
+    """What became of a transaction that the store ran: its number, or of one that changed nothing how many there were before it;
+    and its registers, without the zeros at their end."""
+
+    committed: bool
+    number: int
+    registers: Sequence[int]
+
+
+@dataclass(frozen=True)
+class State:
+    """A state of the store: after how many transactions, which invariants are registered, and all values."""
+
+    count: int
+    names: Sequence[str]
+    values: Sequence[int]
+
+
+class Store:
+    """An open store. Threads share it, and so do the tasks of an event loop.
+
+    Every answer is given once all that it tells is durable, so what a call has returned no crash takes back. `with` closes the
+    store at its end.
+    """
+
+    def __init__(self, link: Link) -> None:
+        self._link = link
+        first = link.opened()
+        self.opened: int = first["opened"]
+        self._names = Names(first["vars"], first["names"])
+        self._hints: dict[Any, list[int]] = {}
+
+    def __enter__(self) -> Store:
+        return self
+
+    def __exit__(self, *_: object) -> None:
+        self.close()
+
+    def close(self) -> None:
+        """Closes the store. What waits in other threads gets `Closed`."""
+        self._link.close()
+
+    @property
+    def names(self) -> list[str]:
+        """The names of variables, in alphabetical order."""
+        return self._names.all()
+
+    def number(self, variable: Variable) -> int:
+        """The number of a variable, as transactions that the store runs have it."""
+        return self._names.number(variable)
+
+    # Transactions that are functions.
+
+    def run(self, body: Body, *args: Any, timeout: float | None = None, **kwargs: Any) -> Any:
+        """Runs `body(t, *args, **kwargs)` as a transaction, and returns what it returns once that is durable.
+
+        Where it retries, waits until a variable that it read has changed, and runs it again; after a conflict runs it again at
+        once. `timeout` says for how many seconds: then it gets `Timeout`. (An attempt that has begun is always brought to its
+        end, so after `Timeout` it is certain that nothing was changed.) An exception of the function leaves without effects.
+        """
+        until = None if timeout is None else time.monotonic() + timeout
+        running = steps(self._applied(body, args, kwargs), self._names, self._hints_of(body), self._fetch)
+        answer = None
+        try:
+            while True:
+                ask = running.send(answer)
+                answer = self._wait_for(ask, until) if "changed" in ask else self._ask(ask)
+                if answer.get("fault") == CONFLICT:
+                    _check_time(until)
+        except StopIteration as end:
+            return end.value
+
+    async def run_async(self, body: Body, *args: Any, timeout: float | None = None, **kwargs: Any) -> Any:
+        """As `run`, in an event loop, which goes on meanwhile. `body` is a plain function here too.
+
+        It is left and run again where it needs a variable that is not there yet, so it runs once more for each that it did not
+        read the last time. A task that is cancelled while it waits for a change has changed nothing; one that is cancelled while
+        it commits may have."""
+        until = None if timeout is None else time.monotonic() + timeout
+        running = steps(self._applied(body, args, kwargs), self._names, self._hints_of(body), None)
+        answer = None
+        try:
+            while True:
+                ask = running.send(answer)
+                answer = await (self._wait_for_async(ask, until) if "changed" in ask else self._ask_async(ask))
+                if answer.get("fault") == CONFLICT:
+                    _check_time(until)
+        except StopIteration as end:
+            return end.value
+
+    def get(self, *variables: Variable) -> Any:
+        """The value of a variable, or the values of several at one moment, all of it durable."""
+        numbers = [self._names.number(it) for it in variables]
+        values = self._fetch(numbers)
+        return values[numbers[0]] if len(numbers) == 1 else tuple(values[number] for number in numbers)
+
+    # Transactions that the store runs by itself, as data (docs/USE.md has their forms).
+
+    def do(self, tx: Any, *, timeout: float | None = None) -> Outcome:
+        """Has the store run a transaction. Where it retries, waits until it does not, or until the time is over (`Timeout`)."""
+        return self._outcome(self._await({"do": tx}, timeout))
+
+    def try_once(self, tx: Any) -> Outcome | None:
+        """Has the store run a transaction once: None where it retries."""
+        answer = self._ask({"try": tx})
+        return None if "retry" in answer else self._outcome(answer)
+
+    def keep(self, word: str, tx: Any) -> None:
+        """Has the store keep a transaction under a word, of 1 to 16 letters a to z. It is kept as long as the store is served."""
+        _expect("kept", self._ask({"keep": [word, tx]}), self._names)
+
+    def call(self, word: str, *numbers: int, timeout: float | None = None) -> Outcome:
+        """Has the store run a kept transaction, as `do`. The numbers stand for those of the Puts that it begins with."""
+        return self._outcome(self._await(calling(word, *numbers), timeout))
+
+    def submit(self, ask: Ask) -> Future[Answer]:
+        """Sends a request as it is, without its id, and returns its answer to come. Many may be on their way: they share flushes."""
+        return self._link.send(ask)[1]
+
+    # A look at the whole.
+
+    def state(self) -> State:
+        """The whole state, at one moment."""
+        answer = _expect("values", self._ask({"ask": "state"}), self._names)
+        return State(answer["count"], answer["names"], answer["values"])
+
+    def durable(self) -> int:
+        """How many transactions are durable."""
+        return _expect("durable", self._ask({"ask": "look"}), self._names)["durable"]
+
+    def checkpoint(self) -> None:
+        """Writes the state as a new image, and frees the log."""
+        _expect("checkpointed", self._ask({"ask": "checkpoint"}), self._names)
+
+    def stats(self) -> Mapping[str, int]:
+        """What was counted since the store is served."""
+        return _expect("stats", self._ask({"ask": "stats"}), self._names)["stats"]
+
+    # How requests are sent and awaited.
+
+    def _applied(self, body: Body, args: Sequence[Any], kwargs: Mapping[str, Any]) -> Callable[[Transaction], Any]:
+        def applied(t: Transaction) -> Any:
+            result = body(t, *args, **kwargs)
+            if inspect.iscoroutine(result) or inspect.isgenerator(result) or inspect.isasyncgen(result):
+                # (nothing of it has run)
+                if not inspect.isasyncgen(result):
+                    result.close()
+                raise TypeError("a transaction is a plain function: it awaits and yields nothing")
+            return result
+
+        return applied
+
+    def _hints_of(self, body: Body) -> list[int]:
+        """The variables that a function read the last time."""
+        if len(self._hints) > MOST_HINTS:
+            self._hints.clear()
+        try:
+            return self._hints.setdefault(key_of(body), [])
+        except TypeError:
+            # (it cannot be a key)
+            return []
+
+    def _fetch(self, numbers: list[int]) -> dict[int, int]:
+        return values_of(_expect("values", self._ask({"get": numbers}), self._names))
+
+    def _outcome(self, answer: Answer) -> Outcome:
+        if "committed" in answer:
+            return Outcome(True, answer["committed"], answer["registers"])
+        return Outcome(False, _expect("seen", answer, self._names)["seen"], answer["registers"])
+
+    def _ask(self, ask: Ask) -> Answer:
+        return self._link.send(ask)[1].result()
+
+    async def _ask_async(self, ask: Ask) -> Answer:
+        return await asyncio.wrap_future(self._link.send(ask)[1])
+
+    def _await(self, ask: Ask, timeout: float | None) -> Answer:
+        """The answer to a transaction that the store may have to hold back; after the time it is taken back, unless it is done."""
+        number, answer = self._link.send(ask)
+        try:
+            return answer.result(timeout)
+        except NotYet:
+            pass
+        finally:
+            # (also where this thread is interrupted)
+            self._forget(number, answer)
+        if "cancelled" in answer.result():
+            raise Timeout("the transaction retried until its time was over")
+        return answer.result()
+
+    def _wait_for(self, ask: Ask, until: float | None) -> Answer:
+        number, answer = self._link.send(ask)
+        try:
+            return _expect("values", answer.result(_left(until)), self._names)
+        except NotYet:
+            raise Timeout("no variable that was read has changed in time") from None
+        finally:
+            self._forget(number, answer)
+
+    async def _wait_for_async(self, ask: Ask, until: float | None) -> Answer:
+        number, answer = self._link.send(ask)
+        try:
+            return _expect("values", await asyncio.wait_for(asyncio.wrap_future(answer), _left(until)), self._names)
+        except asyncio.TimeoutError:
+            raise Timeout("no variable that was read has changed in time") from None
+        finally:
+            self._forget(number, answer)
+
+    def _forget(self, number: int, answer: Future[Answer]) -> None:
+        """Takes back a request that still waits."""
+        if not answer.done():
+            try:
+                self._link.send({"cancel": number})
+            except Closed:
+                pass
+
+
+def _left(until: float | None) -> float | None:
+    return None if until is None else max(0.0, until - time.monotonic())
+
+
+def _check_time(until: float | None) -> None:
+    if until is not None and time.monotonic() >= until:
+        raise Timeout("the transaction met conflicts until its time was over")
+
+
+def _expect(key: str, answer: Answer, names: Names) -> Answer:
+    """The answer, which has this key unless it is no success."""
+    if key not in answer:
+        raise_for(answer, names.name)
+    return answer
+
+
+def calling(word: str, *numbers: int) -> Ask:
+    """The request to run a kept transaction, for `submit`."""
+    return {"run": word, "numbers": [integer(it) for it in numbers]} if numbers else {"run": word}
+
+
+def open(path: str | os.PathLike[str], *, program: Program | None = None, shape: str | os.PathLike[str] | None = None) -> Store:
+    """Opens a store: starts `tmem serve` for the file at `path`, or connects to a hub where it is `unix:PATH`.
+
+    The program is the one given (a path, or words), else that in the variable `TMEM`, else `tmem` on the path. `shape` is the
+    file with the store's shape, where it is not PATH.json."""
+    path = os.fspath(path)
+    if path.startswith("unix:"):
+        return Store(Link(Socket(path[len("unix:") :])))
+    shaped = [] if shape is None else ["--shape", os.fspath(shape)]
+    return Store(Link(Process([*command(program), "serve", path, *shaped])))
+
+
+def create(path: str | os.PathLike[str], shape: Mapping[str, Any], *, program: Program | None = None) -> None:
+    """Makes a store of a shape, by `tmem init`. Where something has the path, nothing is changed, and `TmemError` says so."""
+    with tempfile.NamedTemporaryFile("w", suffix=".json", encoding="utf-8") as file:
+        json.dump(shape, file)
+        file.flush()
+        words = [*command(program), "init", os.fspath(path), file.name]
+        ended = subprocess.run(words, stdin=subprocess.DEVNULL, stdout=subprocess.PIPE, stderr=subprocess.STDOUT, check=False)
+    if ended.returncode:
+        raise TmemError(ended.stdout.decode(errors="replace").strip() or f"tmem ended with status {ended.returncode}")

@@ -1,0 +1,87 @@
+//! Why a store was not made, or not served to its end.
+use std::alloc::{AllocError, AllocFailed};
+use std::fmt;
+use std::io::{self, ErrorKind};
+use thiserror::Error;
+use tmem_desk::Failure as DeskFailure;
+use tmem_disk::Fault;
+use tmem_init::InitError;
+use tmem_shape::ShapeError;
+
+/// Why a store was not made, or not served to its end. Its text is what the user is told.
+#[derive(Debug, Drop, Error)]
+pub(crate) enum StoreFailure {
+    /// The file of the shape cannot be read.
+    Unread,
+    /// What it has is no shape.
+    NoShape(ShapeError),
+    /// The store was not made.
+    NotMade(InitError),
+    /// The opening was refused, the device failed, or there was not enough memory.
+    Refused(Fault),
+    Output,
+}
+
+impl fmt::Display for StoreFailure {
+    fn fmt<W: fmt::Write>(&self, f: &mut fmt::Formatter<W>) -> fmt::Result {
+        match self {
+            StoreFailure::Unread => write!(f, "cannot read shape"),
+            StoreFailure::NoShape(error) => write!(f, "bad shape: {error}"),
+            StoreFailure::NotMade(error) => write!(f, "{error}"),
+            StoreFailure::Refused(fault) => write!(f, "{fault}"),
+            StoreFailure::Output => write!(f, "output failed"),
+        }
+    }
+}
+
+impl From<ShapeError> for StoreFailure {
+    fn from(error: ShapeError) -> StoreFailure {
+        match error {
+            ShapeError::Memory(_) => StoreFailure::Refused(Fault::Memory),
+            error => StoreFailure::NoShape(error),
+        }
+    }
+}
+
+impl From<io::Error> for StoreFailure {
+    fn from(error: io::Error) -> StoreFailure {
+        if error.kind() == ErrorKind::OutOfMemory {
+            StoreFailure::Refused(Fault::Memory)
+        } else {
+            StoreFailure::Unread
+        }
+    }
+}
+
+impl From<InitError> for StoreFailure {
+    fn from(error: InitError) -> StoreFailure {
+        StoreFailure::NotMade(error)
+    }
+}
+
+impl From<Fault> for StoreFailure {
+    fn from(fault: Fault) -> StoreFailure {
+        StoreFailure::Refused(fault)
+    }
+}
+
+impl From<AllocError> for StoreFailure {
+    fn from(_error: AllocError) -> StoreFailure {
+        StoreFailure::Refused(Fault::Memory)
+    }
+}
+
+impl<T: Drop> From<AllocFailed<T>> for StoreFailure {
+    fn from(_error: AllocFailed<T>) -> StoreFailure {
+        StoreFailure::Refused(Fault::Memory)
+    }
+}
+
+impl From<DeskFailure> for StoreFailure {
+    fn from(failure: DeskFailure) -> StoreFailure {
+        match failure {
+            DeskFailure::Fault(fault) => StoreFailure::Refused(fault),
+            DeskFailure::Output => StoreFailure::Output,
+        }
+    }
+}

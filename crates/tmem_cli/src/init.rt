@@ -1,0 +1,61 @@
+//! Makes a store of the shape that a file has.
+ghost use Rattle.std.specs.Prelude.{OnOk, IfOk};
+ghost use Rattle.tmem_file.specs.FileView.{view_of};
+ghost use Rattle.tmem_cli.specs.Shaped.{IsStoreOf, MakesStore};
+
+use crate::failure::StoreFailure;
+use std::fs::{self, File, Files};
+use tmem_args::Making;
+use tmem_builtins::stored_steps;
+use tmem_file::FileDisk;
+use tmem_init::{make_in_place, make_store};
+use tmem_linear::LinearTable;
+use tmem_record::Layout;
+use tmem_shape::Shape;
+
+/// Makes a store of the shape that a file has: a new one, with the shape beside it, or one on what is there.
+pub(crate) fn init_store(
+    rt: &(impl Files<File = File> + AllocGlobal),
+    making: Making,
+) -> Result<(), StoreFailure>
+    ensures { OnOk result MakesStore }
+{
+    let text = text_in(rt, making.file.unwrap_or(""))?;
+    let _made = make_of(rt, making.store.unwrap_or(""), &text, making.is_in_place)?;
+    Ok(())
+}
+
+// Makes a store of the shape of a text.
+fn make_of(
+    rt: &(impl Files<File = File> + AllocGlobal),
+    store: &str,
+    text: &[u8],
+    is_in_place: bool,
+) -> Result<FileDisk, StoreFailure>
+    ensures { IfOk result (λ disk. IsStoreOf text.now (view_of disk)) }
+{
+    let shape = Shape::from_slice(rt.alloc(), text)?;
+    let always = shape.always_names(rt.alloc())?;
+    let Shape {
+        vars,
+        slots,
+        invariants,
+        names: _names,
+    } = shape;
+    let layout = Layout::new(vars, slots)?;
+    let table = LinearTable::of(rt.alloc(), invariants, vars)?;
+    let made = if is_in_place {
+        make_in_place(rt, store, layout, table, stored_steps(), &always)?
+    } else {
+        make_store(rt, store, text, layout, table, stored_steps(), &always)?
+    };
+    Ok(made)
+}
+
+/// The text of a shape.
+pub(crate) fn text_in(
+    rt: &(impl Files<File = File> + AllocGlobal),
+    path: &str,
+) -> Result<Vec<u8>, StoreFailure> {
+    Ok(fs::read(rt, path)?)
+}

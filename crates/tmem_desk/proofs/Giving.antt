@@ -1,0 +1,42 @@
+-- What is given at the end of a piece of input, and where serving ends early.
+use Rattle.std.proofs.Common.{◌≡◌, ℕ, false, List, [], map, Option, Result, Ok, Err, sym, ap, ◌∙◌, subst}
+use Rattle.std.specs.Prelude.{All, OnOk, IfErr, is_err}
+use Rattle.std.specs.Io.KnownBytes.{Appends}
+use Rattle.tmem_disk.specs.declared.fault.Fault.{Fault}
+use Rattle.tmem_desk.specs.Asking.{Store}
+use Rattle.tmem_desk.specs.Desks.{DeskView}
+use Rattle.tmem_desk.specs.Failing.{EndsBy}
+use Rattle.tmem_desk.specs.Serving.{RunsLast, ServesEnd, with_closed}
+use Rattle.tmem_desk.specs.Told.{told_lines, TellsOnly, failed}
+use Rattle.tmem_desk.specs.declared.failure.Failure.{Failure}
+use Rattle.tmem_desk.specs.declared.failure.Failure.TheVariants as failure
+use Rattle.tmem_desk.specs.declared.told.Told.{Told}
+use Rattle.tmem_desk.proofs.Ends.{ends_by_none, tells_only}
+
+-- two facts of one success
+pub on_ok_both : {T E P Q R : Type 0} (r : Result T E) → (P → Q → R) → OnOk r P → OnOk r Q → OnOk r R
+on_ok_both (Ok x) f p q = f p q
+on_ok_both (Err e) f p q = tt
+
+-- what holds of a success, where it was no failure
+pub at_success : {T E P : Type 0} (r : Result T E) → is_err r ≡ false → OnOk r P → P
+at_success (Ok x) fine is = is
+at_success (Err e) fine is = cc
+
+-- nothing was printed
+pub ends_unprinted : {T : Type 0} (r : Result T Failure) (contents : Option (List ℕ)) → IfErr r (EndsBy (Appends contents contents))
+ends_unprinted (Ok x) contents = tt
+ends_unprinted (Err f) contents = ends_by_none contents f
+
+-- all that is told by the fault was printed
+pub ends_failed : (fault : Fault) (all given : List Told) (prints : List ℕ → Type 0) → given ≡ map (failed fault) all → prints (told_lines given) → EndsBy prints (failure.Fault fault)
+ends_failed fault all given prints is printed = (given, subst (λ (l : List Told). All (TellsOnly fault) l) (sym is) (tells_only fault all), printed)
+
+-- the end was served
+pub serves_end : (s : Store) (text : List ℕ) (v ran mid w : DeskView) (prints : List ℕ → Type 0) → RunsLast s text v ran → mid ≡ with_closed ran → prints (told_lines mid.told) → w ≡ record mid { told = [] } → ServesEnd s text v w prints
+serves_end s text v ran mid w prints runs closed printed is = record {
+  ran = ran;
+  runs = runs;
+  printed = subst (λ (d : DeskView). prints (told_lines d.told)) closed printed;
+  is = is ∙ ap (λ (d : DeskView). record d { told = [] }) closed;
+}

@@ -1,0 +1,16 @@
+mod Answering
+mod Counted
+mod Ends
+mod Giving
+mod Knowing
+mod Lasting
+mod Lists
+mod OneReading
+mod Places
+mod Retired
+mod Seen
+mod Settled
+mod StepLaws
+mod Taking
+mod Telling
+mod Waking

@@ -1,0 +1,27 @@
+use Rattle.std.proofs.Common.{◌++◌, ◌∷◌, [], ℤ, FitsSigned, w64, ap, sym, append_assoc, ◌∙◌, rules}
+use Rattle.std.proofs.lemmas.Int.{to_z-of_z}
+use Rattle.tmem_disk.specs.declared.fault.Fault.TheVariants as fault
+use Rattle.tmem_requests.specs.declared.answer.Answer.TheVariants as answer
+use Rattle.tmem_desk.specs.Held.{asked, view_of}
+use Rattle.tmem_desk.specs.Serving.{tells}
+use Rattle.tmem_desk.specs.Told.{answered}
+use Rattle.tmem_desk.proofs.Telling.{closes_more}
+use Rattle.tmem_desk.proofs.desk.Desk.close_waiting.Goals as goal
+
+pub loop-one-preserved-in_ok-tell : goal.loop-one-preserved-in_ok-tell
+loop-one-preserved-in_ok-tell g c =
+    let fits : FitsSigned w64 c.in-Some.one.id = first_of (search (rules, c.next.type_inv), search rules) in
+    record {
+      parts = append_assoc c.loop-one.yielded (c.in-Some.one ∷ []) c.next.new.self.rest.items ∙ (ap (λ ws. c.loop-one.yielded ++ ws) (sym c.in-Some.ensures.steps.0) ∙ c.loop-one.invariant.parts);
+      told = closes_more (λ w. (w.id, asked w.held)) c.loop-one.yielded c.in-Some.one (record (view_of c.args.self.now) { waiting = [] }) (view_of c.loop-one.self) (view_of c.tell.new.self) c.loop-one.invariant.told
+          (c.in_ok-tell.ensures ∙ ap (λ (id : ℤ). tells (view_of c.loop-one.self) (answered id (answer.Fault fault.Closed) ∷ [])) (to_z-of_z w64 c.in-Some.one.id fits));
+    }
+
+pub loop-one-preserved : goal.loop-one-preserved
+loop-one-preserved g c =
+    let fits : FitsSigned w64 c.in-Some.one.id = first_of (search (rules, c.next.type_inv), search rules) in
+    record {
+      parts = append_assoc c.loop-one.yielded (c.in-Some.one ∷ []) c.next.new.self.rest.items ∙ (ap (λ ws. c.loop-one.yielded ++ ws) (sym c.in-Some.ensures.steps.0) ∙ c.loop-one.invariant.parts);
+      told = closes_more (λ w. (w.id, asked w.held)) c.loop-one.yielded c.in-Some.one (record (view_of c.args.self.now) { waiting = [] }) (view_of c.loop-one.self) (view_of c.tell.new.self) c.loop-one.invariant.told
+          (c.in_ok-tell.ensures ∙ ap (λ (id : ℤ). tells (view_of c.loop-one.self) (answered id (answer.Fault fault.Closed) ∷ [])) (to_z-of_z w64 c.in-Some.one.id fits));
+    }

@@ -1,0 +1,13 @@
+use Rattle.std.proofs.Common.{zero, suc, refl}
+use Rattle.tmem_desk.specs.Asking.{store}
+use Rattle.tmem_desk.specs.Held.{view_of}
+use Rattle.tmem_desk.specs.Serving.{Round}
+use Rattle.tmem_desk.proofs.StepLaws.{Repeats-push}
+use Rattle.tmem_desk.proofs.desk.Desk.wake.Goals as goal
+
+pub loop-init : goal.loop-init
+loop-init g c = (zero, refl)
+
+pub loop-preserved : goal.loop-preserved
+loop-preserved g c =
+    (suc c.loop.invariant.0, Repeats-push (Round (store g.N.Naming.name.start g.N.StoreNaming.opening g.N.ProgramNaming.program g.N.ServedNaming.arities g.N.ServedNaming.always)) c.loop.invariant.0 (view_of c.args.self.now) (view_of c.loop.self) (view_of c.try_each.new.self) c.loop.invariant.1 c.in_ok-try_each.ensures)

@@ -1,0 +1,32 @@
+use Rattle.std.proofs.Common.{◌≡◌, ap, sym, subst}
+use Rattle.std.specs.Prelude.{All}
+use Rattle.tmem_spine.specs.History.{count}
+use Rattle.tmem_spine.specs.Views.{PassView}
+use Rattle.tmem_desk.specs.Desks.{DeskView}
+use Rattle.tmem_desk.specs.Durable.{TellsAmong}
+use Rattle.tmem_desk.specs.Serving.{with_closed}
+use Rattle.tmem_desk.proofs.Lasting.{nothing_told, texts_told, last_taken_told, finished_told, closed_told}
+use Rattle.tmem_desk.proofs.Knowing.{text_keeps, next_keeps, finished_keeps}
+use Rattle.tmem_desk.proofs.laws.nothing_told_is_lost.Goals as goal
+
+pub returns-clause-pieces : goal.returns-clause-pieces
+returns-clause-pieces c s text held v w before after served none =
+    let taken = texts_told s served.runs.takes.texts v served.runs.taken (nothing_told s v none) served.runs.takes.takes in
+    let pass : w.pass ≡ served.ran.pass = ap (λ (x : DeskView). x.pass) served.is in
+    subst (λ (p : PassView). All (TellsAmong (count s.start p.seen)) served.ran.told) (sym pass) (finished_told s served.runs.taken served.ran taken served.runs.finishes)
+
+pub returns-clause-end : goal.returns-clause-end
+returns-clause-end c s text v w before after served none =
+    let taken = last_taken_told s text v served.runs.taken (nothing_told s v none) served.runs.takes in
+    let pass : w.pass ≡ served.ran.pass = ap (λ (x : DeskView). x.pass) served.is in
+    subst (λ (p : PassView). All (TellsAmong (count s.start p.seen)) (with_closed served.ran).told) (sym pass)
+    (closed_told (count s.start served.ran.pass.seen) served.ran (finished_told s served.runs.taken served.ran taken served.runs.finishes))
+
+pub returns-clause-lines : goal.returns-clause-lines
+returns-clause-lines c s text v w t = text_keeps s text v w t
+
+pub returns-clause-turns : goal.returns-clause-turns
+returns-clause-turns c s v w t = next_keeps s v w t
+
+pub returns-clause-finished : goal.returns-clause-finished
+returns-clause-finished c s v w f = finished_keeps s v w f

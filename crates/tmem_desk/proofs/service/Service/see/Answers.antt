@@ -1,0 +1,13 @@
+use Rattle.std.proofs.Common.{◌≡◌, ℕ, ℤ, map}
+use Rattle.tmem_desk.proofs.Seen.{some_values}
+use Rattle.tmem_desk.proofs.service.Service.see.Goals as goal
+
+pub returns : goal.returns
+returns g c =
+    let these : map (λ (p : ℕ × ℤ). p.1) c.in_ok-pairs.pairs.items ≡ c.in_ok-count.field-0.values.items = cc (c.in_ok-pairs.ensures.values, c.deref.ensures.value, c.in_ok-count.values-is) in
+    record {
+      knows = c.moment.ensures.knows;
+      counts = c.in_ok-count.ensures.count;
+      asked = c.in_ok-pairs.ensures.vars;
+      seen = some_values c.in_ok-pairs.pairs.items c.in_ok-count.field-0.values.items _ these c.in_ok-count.ensures.values;
+    }

@@ -1,0 +1,24 @@
+use Rattle.std.proofs.Common.{ℕ, List, sym, subst}
+use Rattle.tmem_tree.specs.Plans.{FitsSteps}
+use Rattle.tmem_front.proofs.Laws.{knows_still}
+use Rattle.tmem_desk.specs.Asking.{store}
+use Rattle.tmem_desk.proofs.Settled.{settles_tx, knows_again}
+use Rattle.tmem_desk.proofs.service.Service.settle.Goals as goal
+
+pub try_atomically-requires-clause-steps : goal.try_atomically-requires-clause-steps
+try_atomically-requires-clause-steps g c = subst (λ (l : List ℕ). FitsSteps l c.args.ready.now.plan.tree) (sym c.args.self.now.arities) c.args.ready.now.steps
+
+pub loop-init : goal.loop-init
+loop-init g c = knows_still c.args.pass.now
+
+pub loop-preserved-in-Err-Conflict : goal.loop-preserved-in-Err-Conflict
+loop-preserved-in-Err-Conflict g c =
+    knows_again (store g.N.Naming.name.start g.N.StoreNaming.opening g.N.ProgramNaming.program g.N.ServedNaming.arities g.N.ServedNaming.always) c.args.ready.now.plan.tree c.args.pass.now c.loop.pass c.try_atomically.new.pass c.try_atomically.result c.in-Err-Conflict.field-0 c.loop.invariant c.try_atomically.ensures.settled c.in-Err-Conflict.is
+
+pub loop-preserved : goal.loop-preserved
+loop-preserved g c =
+    knows_again (store g.N.Naming.name.start g.N.StoreNaming.opening g.N.ProgramNaming.program g.N.ServedNaming.arities g.N.ServedNaming.always) c.args.ready.now.plan.tree c.args.pass.now c.loop.pass c.try_atomically.new.pass c.try_atomically.result c.in-Err-Full.field-0 c.loop.invariant c.try_atomically.ensures.settled c.in-Err-Full.is
+
+pub returns-in-Ok : goal.returns-in-Ok
+returns-in-Ok g c =
+    settles_tx (store g.N.Naming.name.start g.N.StoreNaming.opening g.N.ProgramNaming.program g.N.ServedNaming.arities g.N.ServedNaming.always) c.args.ready.now.plan.tree c.args.pass.now c.loop.pass c.try_atomically.new.pass c.try_atomically.result c.in-Ok.settled c.loop.invariant c.try_atomically.ensures.settled c.in-Ok.is

@@ -1,0 +1,11 @@
+pub mod Asking
+pub mod Counts
+pub mod Desks
+pub mod Due
+pub mod Durable
+pub mod Failing
+pub mod Held
+pub mod Keeping
+pub mod Serving
+pub mod Steps
+pub mod Told

@@ -1,0 +1,261 @@
+// The desk: what each line is answered.
+ghost use Rattle.std.specs.Prelude.{◌≡◌, [], ◌∷◌, length, None, Some, position, OnOk, IsErr};
+ghost use Rattle.std.specs.Ordering.{int_eq};
+ghost use Rattle.tmem_requests.specs.Fits.{FitsStore};
+ghost use Rattle.tmem_requests.specs.declared.request.Ask.TheVariants.{Do};
+ghost use Rattle.tmem_desk.specs.Asking.{store};
+ghost use Rattle.tmem_desk.specs.Held.{asked, view_of, empty_desk};
+ghost use Rattle.tmem_desk.specs.Serving.{Takes, MayWait, TakesShort, RefusesLong, tells, tried, cancelled};
+ghost use Rattle.tmem_desk.specs.Told.{answered, refused};
+
+use crate::counts::Counts;
+use crate::held::{Held, Waiting};
+use crate::keeping::Kept;
+use crate::naming::ServedNaming;
+use crate::service::Service;
+use crate::told::Told;
+use std::alloc::Global;
+use std::collections::VecDeque;
+use std::sync::Wait;
+use tmem_disk::{Disk, Fault};
+use tmem_front::Pass;
+use tmem_invariants::Invariants;
+use tmem_lines::MAX_LINE;
+use tmem_requests::{Answer, AnswerLine, Ask, NoRequest, NoRequestLine, Place, RequestError, Why};
+use tmem_tree::{StoredSteps, Tx};
+
+/// The most requests that may wait.
+pub const MOST_WAITING: usize = 1024;
+
+/// Who answers the requests of one client, one after another.
+#[derive(Drop)]
+pub struct Desk<N: ServedNaming> {
+    pub(crate) alloc: Global,
+    pub(crate) pass: Pass<N>,
+    // the requests that wait, in the order in which they came
+    pub(crate) waiting: VecDeque<Waiting<N>>,
+    // the transactions that are kept
+    pub(crate) kept: Vec<Kept<N>>,
+    // what is told once it is durable
+    pub(crate) told: Vec<Told>,
+    // how many lines have come
+    pub(crate) lines: u64,
+    // what was counted of the answers
+    pub(crate) counts: Counts,
+}
+
+impl<N: ServedNaming> Desk<N> {
+    /// A desk that has read nothing yet, with a pass of the front that it serves.
+    pub fn new(alloc: Global, pass: Pass<N>) -> Desk<N>
+        ensures { view_of result ≡ empty_desk pass }
+    {
+        Desk {
+            alloc,
+            pass,
+            waiting: VecDeque::new(alloc),
+            kept: Vec::new(alloc),
+            told: Vec::new(alloc),
+            lines: 0,
+            counts: Counts::new(),
+        }
+    }
+
+    // Tells what a request is answered.
+    pub(crate) fn tell(&mut self, id: i64, answer: Answer) -> Result<(), Fault>
+        ensures { OnOk result (view_of self.new ≡ tells (view_of self.old) (answered id answer ∷ [])) }
+    {
+        self.counts.note(&answer);
+        self.told.push(Told::Answer(AnswerLine { id, answer }))?;
+        Ok(())
+    }
+
+    // Tells a request why the store cannot go on.
+    fn tell_fault(&mut self, id: i64, fault: &Fault) -> Result<(), Fault>
+        ensures { IsErr result }
+    {
+        self.tell(id, Answer::Fault(*fault))?;
+        Err(*fault)
+    }
+
+    // Tells that the last line is no request.
+    fn refuse(&mut self, refusal: NoRequest) -> Result<(), Fault>
+        ensures { OnOk result (view_of self.new ≡ tells (view_of self.old) (refused self.old.lines refusal ∷ [])) }
+    {
+        let line = self.lines;
+        self.told
+            .push(Told::NoRequest(NoRequestLine { line, refusal }))?;
+        Ok(())
+    }
+
+    // Lets a request wait, unless as many wait as may.
+    fn wait(&mut self, id: i64, held: Held<N>) -> Result<(), Fault>
+        ensures { OnOk result (view_of self.new ≡ tried id (asked held) None (view_of self.old)) }
+    {
+        if self.waiting.len() >= MOST_WAITING {
+            return self.tell(id, Answer::Fault(Fault::Full));
+        }
+        self.waiting.push_back(Waiting { id, held })?;
+        Ok(())
+    }
+}
+
+impl<N: ServedNaming> Desk<N> {
+    // Takes a line, without its line break.
+    pub(crate) fn take_line<R: Wait, D: Disk + Drop, T: Invariants + Drop, S: StoredSteps + Drop>(
+        &mut self,
+        service: &Service<R, D, N, T, S>,
+        text: &[u8],
+    ) -> Result<(), Fault>
+        ensures { OnOk result (TakesShort (store N.name.start N.opening N.program N.arities N.always) text.now (view_of self.old) (view_of self.new)) }
+    {
+        self.lines = self.lines.wrapping_add(1);
+        match service.read(text) {
+            Ok(request) => self.take_or_fail(service, request.id, request.ask),
+            Err(RequestError::NoRequest(refusal)) => self.refuse(refusal),
+            Err(RequestError::Memory(_)) => Err(Fault::Memory),
+        }
+    }
+
+    // Takes a line, and runs nothing.
+    pub(crate) fn pass_line_over<R, D: Disk + Drop, T: Invariants + Drop, S: StoredSteps + Drop>(
+        &mut self,
+        service: &Service<R, D, N, T, S>,
+        text: &[u8],
+    ) -> Result<(), Fault> {
+        self.lines = self.lines.wrapping_add(1);
+        match service.read(text) {
+            Ok(request) => self.tell(request.id, Answer::Fault(Fault::Closed)),
+            Err(RequestError::NoRequest(refusal)) => self.refuse(refusal),
+            Err(RequestError::Memory(_)) => Err(Fault::Memory),
+        }
+    }
+
+    // Takes a line that is too long.
+    pub(crate) fn take_long_line(&mut self) -> Result<(), Fault>
+        ensures { OnOk result (RefusesLong (view_of self.old) (view_of self.new)) }
+    {
+        self.lines = self.lines.wrapping_add(1);
+        self.refuse(NoRequest {
+            why: Why::TooLong,
+            at: Place::Column(MAX_LINE as u64 + 1),
+        })
+    }
+
+    // Takes a request. Where the store cannot go on, that is its answer.
+    fn take_or_fail<R: Wait, D: Disk + Drop, T: Invariants + Drop, S: StoredSteps + Drop>(
+        &mut self,
+        service: &Service<R, D, N, T, S>,
+        id: i64,
+        ask: Ask,
+    ) -> Result<(), Fault>
+        requires { FitsStore (length N.opening.values) N.program.names N.always ask }
+        ensures { OnOk result (Takes (store N.name.start N.opening N.program N.arities N.always) id ask (view_of self.old) (view_of self.new)) }
+    {
+        match self.take(service, id, ask) {
+            Ok(()) => Ok(()),
+            Err(fault) => self.tell_fault(id, &fault),
+        }
+    }
+
+    // Takes a request.
+    fn take<R: Wait, D: Disk + Drop, T: Invariants + Drop, S: StoredSteps + Drop>(
+        &mut self,
+        service: &Service<R, D, N, T, S>,
+        id: i64,
+        ask: Ask,
+    ) -> Result<(), Fault>
+        requires { FitsStore (length N.opening.values) N.program.names N.always ask }
+        ensures { OnOk result (Takes (store N.name.start N.opening N.program N.arities N.always) id ask (view_of self.old) (view_of self.new)) }
+    {
+        match ask {
+            Ask::Do(tx) => self.take_do(service, id, tx),
+            Ask::Changed(reads) => self.take_held(service, id, Held::Change(reads)),
+            Ask::Cancel(other) => self.cancel(id, other),
+            Ask::Try(tx) => {
+                let answer = service.try_once(&mut self.pass, tx)?;
+                self.tell(id, answer)
+            }
+            Ask::Get(vars) => {
+                let (count, values) = service.see(&mut self.pass, &vars)?;
+                self.tell(id, Answer::Values { count, values })
+            }
+            Ask::Settle(proposal) => {
+                let answer = service.propose(&mut self.pass, &proposal)?;
+                self.tell(id, answer)
+            }
+            Ask::Look => {
+                let number = service.front.look(&mut self.pass);
+                self.tell(id, Answer::Durable(number))
+            }
+            Ask::State => {
+                let answer = service.see_all(&mut self.pass)?;
+                self.tell(id, answer)
+            }
+            Ask::Checkpoint => {
+                let answer = service.write_image()?;
+                self.tell(id, answer)
+            }
+            Ask::Keep(word, tx) => self.keep(service, id, word, tx),
+            Ask::Run(word, numbers) => self.run_kept(service, id, &word, &numbers),
+            Ask::Stats => self.tell_stats(service, id),
+        }
+    }
+
+    // Takes a transaction that may wait.
+    fn take_do<R: Wait, D: Disk + Drop, T: Invariants + Drop, S: StoredSteps + Drop>(
+        &mut self,
+        service: &Service<R, D, N, T, S>,
+        id: i64,
+        tx: Tx,
+    ) -> Result<(), Fault>
+        ensures { OnOk result (Takes (store N.name.start N.opening N.program N.arities N.always) id (Do tx) (view_of self.old) (view_of self.new)) }
+    {
+        match service.plan(tx) {
+            Ok(ready) => self.take_held(service, id, Held::Plan(ready)),
+            Err(cause) => self.tell(id, Answer::Fault(Fault::BadPlan(cause))),
+        }
+    }
+
+    // Takes what may wait: it is tried once.
+    pub(crate) fn take_held<R: Wait, D: Disk + Drop, T: Invariants + Drop, S: StoredSteps + Drop>(
+        &mut self,
+        service: &Service<R, D, N, T, S>,
+        id: i64,
+        held: Held<N>,
+    ) -> Result<(), Fault>
+        ensures { OnOk result (MayWait (store N.name.start N.opening N.program N.arities N.always) id (asked held) (view_of self.old) (view_of self.new)) }
+    {
+        match service.attempt(&mut self.pass, &held)? {
+            Some(answer) => self.tell(id, answer),
+            None => self.wait(id, held),
+        }
+    }
+
+    // The first request of the other id that waits, waits no more.
+    fn cancel(&mut self, id: i64, other: i64) -> Result<(), Fault>
+        ensures { OnOk result (view_of self.new ≡ cancelled id other (view_of self.old)) }
+    {
+        match self.place_waiting(other) {
+            Some(place) => self.cancel_at(id, other, place),
+            None => self.tell(id, Answer::Found(false)),
+        }
+    }
+
+    // The one at this place waits no more.
+    #[tactic(auto, using(crate::proofs::Telling::tells_tells))]
+    fn cancel_at(&mut self, id: i64, other: i64, place: usize) -> Result<(), Fault>
+        requires { position (λ w. int_eq w.id other) self.old.waiting.items ≡ Some place }
+        ensures { OnOk result (view_of self.new ≡ cancelled id other (view_of self.old)) }
+    {
+        self.waiting.remove(place);
+        self.tell(other, Answer::Cancelled)?;
+        self.tell(id, Answer::Found(true))
+    }
+
+    // Where the first request of an id stands among those that wait.
+    fn place_waiting(&self, id: i64) -> Option<usize>
+        ensures { result ≡ position (λ w. int_eq w.id id) self.now.waiting.items }
+    {
+        self.waiting.iter().position(|one| one.id == id)
+    }
+}

@@ -1,0 +1,142 @@
+// Transactions that are kept, and run by a word.
+ghost use Rattle.std.specs.Prelude.{◌≡◌, ◌⊎◌, None, position, bytes_eq, OnOk};
+ghost use Rattle.tmem_copies.specs.Numbering.{with_numbers};
+ghost use Rattle.tmem_requests.specs.declared.request.Ask.TheVariants.{Do, Keep, Stats as StatsOf};
+ghost use Rattle.tmem_desk.specs.Asking.{store};
+ghost use Rattle.tmem_desk.specs.Held.{view_of};
+ghost use Rattle.tmem_desk.specs.Keeping.{kept_under};
+ghost use Rattle.tmem_desk.specs.Serving.{Takes, Runs, HasNoPlan, MayWait, kept_as};
+
+use crate::desk::Desk;
+use crate::held::Held;
+use crate::naming::ServedNaming;
+use crate::ready::Ready;
+use crate::service::Service;
+use std::sync::Wait;
+use tmem_copies::{begins_with_puts, copy_of};
+use tmem_disk::{Disk, Fault, Name};
+use tmem_invariants::Invariants;
+use tmem_requests::{Answer, Stats};
+use tmem_tree::{StoredSteps, Tx};
+
+/// The most transactions that are kept.
+pub const MOST_KEPT: usize = 256;
+
+/// A transaction that is kept under a word.
+#[derive(Drop)]
+pub(crate) struct Kept<N: ServedNaming> {
+    pub(crate) word: Name,
+    pub(crate) ready: Ready<N>,
+}
+
+impl<N: ServedNaming> Desk<N> {
+    // Keeps a transaction under a word, in place of one that was kept under it.
+    pub(crate) fn keep<R, D: Disk + Drop, T: Invariants + Drop, S: StoredSteps + Drop>(
+        &mut self,
+        service: &Service<R, D, N, T, S>,
+        id: i64,
+        word: Name,
+        tx: Tx,
+    ) -> Result<(), Fault>
+        ensures { OnOk result (Takes (store N.name.start N.opening N.program N.arities N.always) id (Keep word tx) (view_of self.old) (view_of self.new)) }
+    {
+        match service.plan(tx) {
+            Ok(ready) => self.keep_ready(id, word, ready),
+            Err(cause) => self.tell(id, Answer::Fault(Fault::BadPlan(cause))),
+        }
+    }
+
+    // Keeps a plan under a word.
+    fn keep_ready(&mut self, id: i64, word: Name, ready: Ready<N>) -> Result<(), Fault>
+        ensures { OnOk result (view_of self.new ≡ kept_as id word ready.plan.tree (view_of self.old)) }
+    {
+        match self.place_kept(&word) {
+            Some(place) => {
+                self.kept[place] = Kept { word, ready };
+                self.tell(id, Answer::Kept(word))
+            }
+            None => self.keep_more(id, word, ready),
+        }
+    }
+
+    // Keeps one more, unless as many are kept as may be.
+    fn keep_more(&mut self, id: i64, word: Name, ready: Ready<N>) -> Result<(), Fault>
+        requires { position (λ k. bytes_eq k.word word) self.old.kept.items ≡ None }
+        ensures { OnOk result (view_of self.new ≡ kept_as id word ready.plan.tree (view_of self.old)) }
+    {
+        if self.kept.len() >= MOST_KEPT {
+            return self.tell(id, Answer::Fault(Fault::Full));
+        }
+        self.kept.push(Kept { word, ready })?;
+        self.tell(id, Answer::Kept(word))
+    }
+
+    // Where a transaction is kept under a word.
+    fn place_kept(&self, word: &Name) -> Option<usize>
+        ensures { result ≡ position (λ k. bytes_eq k.word word.now) self.now.kept.items }
+    {
+        self.kept.iter().position(|one| one.word == *word)
+    }
+
+    // Runs the transaction that is kept under a word as `do`, with these numbers for those of the `Put`s that it begins with.
+    pub(crate) fn run_kept<R: Wait, D: Disk + Drop, T: Invariants + Drop, S: StoredSteps + Drop>(
+        &mut self,
+        service: &Service<R, D, N, T, S>,
+        id: i64,
+        word: &Name,
+        numbers: &[i64],
+    ) -> Result<(), Fault>
+        ensures { OnOk result (Runs (store N.name.start N.opening N.program N.arities N.always) id numbers.now (kept_under word.now (view_of self.old).kept) (view_of self.old) (view_of self.new)) }
+    {
+        let Some(place) = self.place_kept(word) else {
+            return self.tell(id, Answer::Found(false));
+        };
+        let tree = self.kept[place].ready.plan.tree();
+        if !begins_with_puts(tree, numbers.len()) {
+            return self.tell(id, Answer::Found(false));
+        }
+        let copy = copy_of(self.alloc, tree)?;
+        self.run_copy(service, id, copy, numbers)
+    }
+
+    // Runs a copy of a transaction that was kept, with these numbers.
+    fn run_copy<R: Wait, D: Disk + Drop, T: Invariants + Drop, S: StoredSteps + Drop>(
+        &mut self,
+        service: &Service<R, D, N, T, S>,
+        id: i64,
+        copy: Tx,
+        numbers: &[i64],
+    ) -> Result<(), Fault>
+        ensures { OnOk result (HasNoPlan (store N.name.start N.opening N.program N.arities N.always) id copy (view_of self.old) (view_of self.new) ⊎ MayWait (store N.name.start N.opening N.program N.arities N.always) id (Do (with_numbers numbers.now copy)) (view_of self.old) (view_of self.new)) }
+    {
+        match service.plan(copy) {
+            Ok(mut ready) => {
+                ready.set_numbers(numbers);
+                self.take_held(service, id, Held::Plan(ready))
+            }
+            Err(cause) => self.tell(id, Answer::Fault(Fault::BadPlan(cause))),
+        }
+    }
+
+    // Tells what was counted.
+    pub(crate) fn tell_stats<R: Wait, D: Disk + Drop, T: Invariants + Drop, S: StoredSteps + Drop>(
+        &mut self,
+        service: &Service<R, D, N, T, S>,
+        id: i64,
+    ) -> Result<(), Fault>
+        ensures { OnOk result (Takes (store N.name.start N.opening N.program N.arities N.always) id StatsOf (view_of self.old) (view_of self.new)) }
+    {
+        let log = service.front.log(service.rt);
+        let stats = Stats {
+            committed: self.counts.committed,
+            refused: self.counts.refused,
+            conflicts: self.counts.conflicts,
+            flushes: log.flushes,
+            checkpoints: log.checkpoints,
+            waiting: self.waiting.len() as u64,
+            kept: self.kept.len() as u64,
+            free_slots: u64::from(log.free_slots),
+        };
+        self.tell(id, Answer::Stats(stats))
+    }
+}

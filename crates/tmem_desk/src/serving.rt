@@ -1,0 +1,239 @@
+// A piece of input: its lines, those that wait, and then all that is told, once that is durable.
+ghost use Rattle.std.specs.Prelude.{◌≡◌, ◌++◌, ℕ, List, [], map, OnOk, IfOk, IfErr, IsErr};
+ghost use Rattle.std.specs.Io.KnownBytes.{Appends};
+ghost use Rattle.tmem_front.specs.Settling.{SeesMore};
+ghost use Rattle.tmem_lines.specs.Lines.{StandsFor};
+ghost use Rattle.tmem_desk.specs.Asking.{store};
+ghost use Rattle.tmem_desk.specs.Failing.{EndsBy};
+ghost use Rattle.tmem_desk.specs.Held.{view_of};
+ghost use Rattle.tmem_desk.specs.Serving.{by, Finishes, TakesAll, RunsPiece, ServesPiece, TakesLast, RunsLast, ServesEnd, with_closed};
+ghost use Rattle.tmem_desk.specs.Told.{told_lines, failed};
+
+use crate::desk::Desk;
+use crate::failure::Failure;
+use crate::naming::ServedNaming;
+use crate::service::Service;
+use crate::told::{Told, print};
+use std::alloc::{AllocError, Global};
+use std::collections::VecDeque;
+use std::io::Write;
+use std::mem;
+use std::sync::Wait;
+use tmem_disk::{Disk, Fault};
+use tmem_invariants::Invariants;
+use tmem_lines::{Cut, Lines};
+use tmem_requests::{Answer, AnswerLine};
+use tmem_tree::StoredSteps;
+
+impl<N: ServedNaming> Desk<N> {
+    /// Takes a piece of input, and answers all its lines and those that need not wait any more, by one write, once all that is told is
+    /// durable. Where the store cannot go on, each request that has no answer yet is answered why, and the same is the refusal. Refused
+    /// with `Output` where the answers could not be printed.
+    pub fn serve<R: Wait, D: Disk + Drop, T: Invariants + Drop, S: StoredSteps + Drop, W: Write>(
+        &mut self,
+        service: &Service<R, D, N, T, S>,
+        lines: &mut Lines,
+        piece: &[u8],
+        out: &mut W,
+    ) -> Result<(), Failure>
+        ensures ends { IfErr result (EndsBy (Appends (W.contents out.old) (W.contents out.new))) }
+        ensures serves { OnOk result ((text : List ℕ) → StandsFor lines.old text → ServesPiece (store N.name.start N.opening N.program N.arities N.always) (text ++ piece.now) lines.new (view_of self.old) (view_of self.new) (Appends (W.contents out.old) (W.contents out.new))) }
+    {
+        if lines.add(piece).is_err() {
+            return Err(Failure::Fault(Fault::Memory));
+        }
+        match self.run(service, lines) {
+            Ok(()) => self.give(out),
+            Err(fault) => self.fail(service, lines, fault, out),
+        }
+    }
+
+    // Takes each line that has ended, tries again those that wait, and makes all durable.
+    fn run<R: Wait, D: Disk + Drop, T: Invariants + Drop, S: StoredSteps + Drop>(
+        &mut self,
+        service: &Service<R, D, N, T, S>,
+        lines: &mut Lines,
+    ) -> Result<(), Fault>
+        ensures durable { OnOk result (self.new.pass.seen ≡ self.new.pass.known) }
+        ensures runs { OnOk result ((text : List ℕ) → StandsFor lines.old text → RunsPiece (store N.name.start N.opening N.program N.arities N.always) text lines.new (view_of self.old) (view_of self.new)) }
+    {
+        self.take_lines(service, lines)?;
+        self.finish(service)
+    }
+
+    // Tries again those that wait, and makes all durable.
+    fn finish<R: Wait, D: Disk + Drop, T: Invariants + Drop, S: StoredSteps + Drop>(
+        &mut self,
+        service: &Service<R, D, N, T, S>,
+    ) -> Result<(), Fault>
+        ensures { OnOk result (Finishes (store N.name.start N.opening N.program N.arities N.always) (view_of self.old) (view_of self.new)) }
+    {
+        self.wake(service)?;
+        self.harden(service)
+    }
+
+    // Makes durable all that the pass knows.
+    fn harden<R: Wait, D: Disk + Drop, T: Invariants + Drop, S: StoredSteps + Drop>(
+        &mut self,
+        service: &Service<R, D, N, T, S>,
+    ) -> Result<(), Fault>
+        ensures all { OnOk result (self.new.pass.seen ≡ self.new.pass.known) }
+        ensures sees { SeesMore self.old.pass self.new.pass }
+        ensures desk { view_of self.new ≡ by (view_of self.old) self.new.pass }
+    {
+        service.front.flush_all(service.rt, &mut self.pass)?;
+        Ok(())
+    }
+
+    // Takes each line that has ended.
+    fn take_lines<R: Wait, D: Disk + Drop, T: Invariants + Drop, S: StoredSteps + Drop>(
+        &mut self,
+        service: &Service<R, D, N, T, S>,
+        lines: &mut Lines,
+    ) -> Result<(), Fault>
+        ensures { OnOk result ((text : List ℕ) → StandsFor lines.old text → TakesAll (store N.name.start N.opening N.program N.arities N.always) text lines.new (view_of self.old) (view_of self.new)) }
+    {
+        for _ in service.rt.forever() {
+            match lines.cut() {
+                Cut::Line => self.take_line(service, lines.line())?,
+                Cut::TooLong => self.take_long_line()?,
+                Cut::Nothing => return Ok(()),
+            }
+        }
+        unreachable!()
+    }
+
+    // Prints all that is told. All that the pass knows is durable then.
+    fn give<W: Write>(&mut self, out: &mut W) -> Result<(), Failure>
+        requires { self.old.pass.seen ≡ self.old.pass.known }
+        ensures printed { OnOk result (Appends (W.contents out.old) (W.contents out.new) (told_lines self.old.told.items)) }
+        ensures desk { OnOk result (view_of self.new ≡ record (view_of self.old) { told = [] }) }
+        ensures ends { IfErr result (EndsBy (Appends (W.contents out.old) (W.contents out.new))) }
+    {
+        print(self.alloc, &self.told, out)?;
+        self.told.clear();
+        Ok(())
+    }
+
+    /// Ends serving at the end of the input: takes what is left as a line that lacks its line break, tries again those that wait, and
+    /// answers those that still do that the store is closed. Otherwise as `serve`.
+    pub fn end<R: Wait, D: Disk + Drop, T: Invariants + Drop, S: StoredSteps + Drop, W: Write>(
+        &mut self,
+        service: &Service<R, D, N, T, S>,
+        lines: &mut Lines,
+        out: &mut W,
+    ) -> Result<(), Failure>
+        ensures ends { IfErr result (EndsBy (Appends (W.contents out.old) (W.contents out.new))) }
+        ensures serves { OnOk result ((text : List ℕ) → StandsFor lines.old text → ServesEnd (store N.name.start N.opening N.program N.arities N.always) text (view_of self.old) (view_of self.new) (Appends (W.contents out.old) (W.contents out.new))) }
+    {
+        match self.run_last(service, lines) {
+            Ok(()) => {
+                self.close_waiting()?;
+                self.give(out)
+            }
+            Err(fault) => self.fail(service, lines, fault, out),
+        }
+    }
+
+    // Takes what is left at the end of the input, tries again those that wait, and makes all durable.
+    fn run_last<R: Wait, D: Disk + Drop, T: Invariants + Drop, S: StoredSteps + Drop>(
+        &mut self,
+        service: &Service<R, D, N, T, S>,
+        lines: &mut Lines,
+    ) -> Result<(), Fault>
+        ensures durable { OnOk result (self.new.pass.seen ≡ self.new.pass.known) }
+        ensures runs { OnOk result ((text : List ℕ) → StandsFor lines.old text → RunsLast (store N.name.start N.opening N.program N.arities N.always) text (view_of self.old) (view_of self.new)) }
+    {
+        self.take_last(service, lines)?;
+        self.finish(service)
+    }
+
+    // Takes what is left at the end of the input.
+    fn take_last<R: Wait, D: Disk + Drop, T: Invariants + Drop, S: StoredSteps + Drop>(
+        &mut self,
+        service: &Service<R, D, N, T, S>,
+        lines: &mut Lines,
+    ) -> Result<(), Fault>
+        ensures { OnOk result ((text : List ℕ) → StandsFor lines.old text → TakesLast (store N.name.start N.opening N.program N.arities N.always) text (view_of self.old) (view_of self.new)) }
+    {
+        match lines.cut_last() {
+            Cut::Line => self.take_line(service, lines.line()),
+            Cut::TooLong => self.take_long_line(),
+            Cut::Nothing => Ok(()),
+        }
+    }
+
+    // Tells those that wait that the store is closed.
+    fn close_waiting(&mut self) -> Result<(), Fault>
+        ensures told { OnOk result (view_of self.new ≡ with_closed (view_of self.old)) }
+        ensures pass { OnOk result (self.new.pass ≡ self.old.pass) }
+    {
+        let waiting = mem::replace(&mut self.waiting, VecDeque::new(self.alloc));
+        for one in waiting {
+            self.tell(one.id, Answer::Fault(Fault::Closed))?;
+        }
+        Ok(())
+    }
+
+    // Answers each request that has no answer yet by why the store cannot go on.
+    fn fail<R: Wait, D: Disk + Drop, T: Invariants + Drop, S: StoredSteps + Drop, W: Write>(
+        &mut self,
+        service: &Service<R, D, N, T, S>,
+        lines: &mut Lines,
+        fault: Fault,
+        out: &mut W,
+    ) -> Result<(), Failure>
+        ensures never { IsErr result }
+        ensures ends { IfErr result (EndsBy (Appends (W.contents out.old) (W.contents out.new))) }
+    {
+        let fault = service.front.fault(service.rt).unwrap_or(fault);
+        self.pass_over(service, lines)?;
+        self.close_waiting()?;
+        let told = mem::replace(&mut self.told, Vec::new(self.alloc));
+        let Ok(failed) = all_failed(self.alloc, told, &fault) else {
+            return Err(Failure::Fault(Fault::Memory));
+        };
+        print(self.alloc, &failed, out)?;
+        Err(Failure::Fault(fault))
+    }
+
+    // Takes each line that has ended, and runs none.
+    fn pass_over<R: Wait, D: Disk + Drop, T: Invariants + Drop, S: StoredSteps + Drop>(
+        &mut self,
+        service: &Service<R, D, N, T, S>,
+        lines: &mut Lines,
+    ) -> Result<(), Fault> {
+        for _ in service.rt.forever() {
+            match lines.cut() {
+                Cut::Line => self.pass_line_over(service, lines.line())?,
+                Cut::TooLong => self.take_long_line()?,
+                Cut::Nothing => return Ok(()),
+            }
+        }
+        unreachable!()
+    }
+}
+
+// The same told by this fault.
+fn all_failed(alloc: Global, told: Vec<Told>, fault: &Fault) -> Result<Vec<Told>, AllocError>
+    ensures { IfOk result (λ all. all.items ≡ map (failed fault.now) told.items) }
+{
+    let mut all = Vec::with_capacity(alloc, told.len())?;
+    for one in told {
+        all.push(with_fault(one, fault))?;
+    }
+    Ok(all)
+}
+
+// The same answer by this fault.
+fn with_fault(told: Told, fault: &Fault) -> Told
+    ensures { result ≡ failed fault.now told }
+{
+    match told {
+        Told::Answer(AnswerLine { id, .. }) => Told::Answer(AnswerLine {
+            id,
+            answer: Answer::Fault(*fault),
+        }),
+        Told::NoRequest(line) => Told::NoRequest(line),
+    }
+}

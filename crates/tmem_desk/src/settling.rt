@@ -1,0 +1,87 @@
+// How transactions are settled for a desk, which is the only caller of its store.
+ghost use Rattle.std.specs.Prelude.{◌≡◌, ◌⊎◌, IfOk};
+ghost use Rattle.tmem_requests.specs.declared.answer.Answer.TheVariants.{Checkpointed, Fault as FaultOf};
+ghost use Rattle.tmem_requests.specs.declared.request.Ask.TheVariants.{Try};
+ghost use Rattle.tmem_front.specs.Settling.{KnowsMore};
+ghost use Rattle.tmem_desk.specs.Asking.{SettlesTx, TellsEnding, Answers, store};
+
+use crate::naming::ServedNaming;
+use crate::ready::Ready;
+use crate::service::Service;
+use std::sync::Wait;
+use tmem_core::Settled;
+use tmem_disk::{Disk, Fault};
+use tmem_front::Pass;
+use tmem_invariants::Invariants;
+use tmem_requests::Answer;
+use tmem_tree::{StoredSteps, Tx};
+
+impl<R: Wait, D: Disk + Drop, N: ServedNaming, T: Invariants + Drop, S: StoredSteps + Drop> Service<
+    '_,
+    R,
+    D,
+    N,
+    T,
+    S,
+> {
+    /// Settles a plan: it is attempted again where it met another value, and after a flush where there was no room. Refused where the
+    /// store cannot go on, and by `Memory`; nothing was committed then.
+    pub(crate) fn settle(&self, pass: &mut Pass<N>, ready: &Ready<N>) -> Result<Settled, Fault>
+        ensures { IfOk result (λ settled. SettlesTx (store N.name.start N.opening N.program N.arities N.always) ready.now.plan.tree pass.old settled pass.new) }
+    {
+        for _ in self.rt.forever() {
+            match self.front.try_atomically(self.rt, pass, &ready.plan) {
+                Ok(settled) => return Ok(settled),
+                Err(Fault::Conflict) => {}
+                Err(Fault::Full) => {
+                    self.front.flush_with_room(self.rt)?;
+                }
+                Err(fault) => return Err(fault),
+            }
+        }
+        unreachable!()
+    }
+
+    /// How it is told how a plan ended: where an invariant refused it, with the values that the failing test saw.
+    pub(crate) fn told_ending(
+        &self,
+        pass: &mut Pass<N>,
+        ready: &Ready<N>,
+        settled: Settled,
+    ) -> Result<Answer, Fault>
+        ensures tells { IfOk result (TellsEnding (store N.name.start N.opening N.program N.arities N.always) settled) }
+        ensures knows { KnowsMore pass.old pass.new }
+    {
+        let Settled::Refused(name) = settled else {
+            return Ok(Answer::Settled(settled));
+        };
+        match self.front.why_refused(self.rt, pass, &ready.plan, &name)? {
+            Some(because) => Ok(Answer::Refused { name, because }),
+            None => Ok(Answer::Settled(settled)),
+        }
+    }
+
+    /// Runs a transaction once.
+    pub(crate) fn try_once(&self, pass: &mut Pass<N>, tx: Tx) -> Result<Answer, Fault>
+        ensures { IfOk result (λ given. Answers (store N.name.start N.opening N.program N.arities N.always) (Try tx) pass.old given pass.new) }
+    {
+        match self.plan(tx) {
+            Ok(ready) => {
+                let settled = self.settle(pass, &ready)?;
+                self.told_ending(pass, &ready, settled)
+            }
+            Err(cause) => Ok(Answer::Fault(Fault::BadPlan(cause))),
+        }
+    }
+
+    /// Writes the durable state as a whole. Refused where the store cannot go on.
+    pub(crate) fn write_image(&self) -> Result<Answer, Fault>
+        ensures { IfOk result (λ given. (given ≡ Checkpointed) ⊎ (given ≡ FaultOf Fault.Spent)) }
+    {
+        match self.front.checkpoint(self.rt) {
+            Ok(()) => Ok(Answer::Checkpointed),
+            Err(Fault::Spent) => Ok(Answer::Fault(Fault::Spent)),
+            Err(fault) => Err(fault),
+        }
+    }
+}

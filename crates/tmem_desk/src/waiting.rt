@@ -1,0 +1,68 @@
+// Those that wait are tried again.
+ghost use Rattle.std.specs.Prelude.{OnOk};
+ghost use Rattle.tmem_desk.specs.Asking.{store};
+ghost use Rattle.tmem_desk.specs.Held.{view_of};
+ghost use Rattle.tmem_desk.specs.Serving.{TriesNext, Round, Wakes};
+
+use crate::desk::Desk;
+use crate::naming::ServedNaming;
+use crate::service::Service;
+use std::sync::Wait;
+use tmem_disk::{Disk, Fault};
+use tmem_invariants::Invariants;
+use tmem_tree::StoredSteps;
+
+impl<N: ServedNaming> Desk<N> {
+    // Tries those that wait again, until a round answers none of them.
+    pub(crate) fn wake<R: Wait, D: Disk + Drop, T: Invariants + Drop, S: StoredSteps + Drop>(
+        &mut self,
+        service: &Service<R, D, N, T, S>,
+    ) -> Result<(), Fault>
+        ensures { OnOk result (Wakes (store N.name.start N.opening N.program N.arities N.always) (view_of self.old) (view_of self.new)) }
+    {
+        for _ in service.rt.forever() {
+            let told = self.told.len();
+            self.try_each(service)?;
+            if self.told.len() == told {
+                return Ok(());
+            }
+        }
+        unreachable!()
+    }
+
+    // Tries each of those that wait once.
+    fn try_each<R: Wait, D: Disk + Drop, T: Invariants + Drop, S: StoredSteps + Drop>(
+        &mut self,
+        service: &Service<R, D, N, T, S>,
+    ) -> Result<(), Fault>
+        ensures { OnOk result (Round (store N.name.start N.opening N.program N.arities N.always) (view_of self.old) (view_of self.new)) }
+    {
+        for _turn in 0..self.waiting.len() {
+            self.try_first(service)?;
+        }
+        Ok(())
+    }
+
+    // Tries the first of those that wait, if one does. Where it has to wait on, it goes behind the others.
+    fn try_first<R: Wait, D: Disk + Drop, T: Invariants + Drop, S: StoredSteps + Drop>(
+        &mut self,
+        service: &Service<R, D, N, T, S>,
+    ) -> Result<(), Fault>
+        ensures { OnOk result (TriesNext (store N.name.start N.opening N.program N.arities N.always) (view_of self.old) (view_of self.new)) }
+    {
+        let Some(one) = self.waiting.pop_front() else {
+            return Ok(());
+        };
+        match service.attempt(&mut self.pass, &one.held) {
+            Ok(Some(answer)) => self.tell(one.id, answer),
+            Ok(None) => {
+                self.waiting.push_back(one)?;
+                Ok(())
+            }
+            Err(fault) => {
+                self.waiting.push_back(one)?;
+                Err(fault)
+            }
+        }
+    }
+}

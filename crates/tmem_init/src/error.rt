@@ -1,0 +1,52 @@
+//! Why no store was made.
+use std::alloc::AllocError;
+use std::fmt;
+use thiserror::Error;
+use tmem_disk::Fault;
+
+/// Why no store was made. Its text is what the user is told.
+#[derive(Clone, Copy, Debug, PartialEq, Eq, Error)]
+pub enum InitError {
+    /// Memory was refused, a call of the device failed, or an invariant that is always to hold is false where every variable is 0.
+    Refused(Fault),
+    /// Something has the store's path.
+    StoreIsThere,
+    /// Something has the path of the text beside the store, and it is not this text.
+    TextIsThere,
+    /// The file or the block device holds something else than zeros, and than what making this store would write there.
+    NotBlank,
+}
+
+impl fmt::Display for InitError {
+    fn fmt<W: fmt::Write>(&self, f: &mut fmt::Formatter<W>) -> fmt::Result {
+        match self {
+            InitError::Refused(fault) => write!(f, "{fault}"),
+            InitError::StoreIsThere => write!(f, "the store is there already"),
+            InitError::TextIsThere => write!(f, "another shape is there already"),
+            InitError::NotBlank => write!(f, "the device is not blank"),
+        }
+    }
+}
+
+impl From<Fault> for InitError {
+    ghost use Rattle.std.specs.Prelude.{◌≡◌};
+    ghost use Rattle.tmem_init.specs.declared.error.InitError.TheVariants.{Refused};
+
+    ghost from_gives = { λ fault error. error ≡ Refused fault };
+
+    fn from(fault: Fault) -> InitError {
+        InitError::Refused(fault)
+    }
+}
+
+impl From<AllocError> for InitError {
+    ghost use Rattle.std.specs.Prelude.{◌≡◌};
+    ghost use Rattle.tmem_disk.specs.declared.fault.Fault.TheVariants.{Memory};
+    ghost use Rattle.tmem_init.specs.declared.error.InitError.TheVariants.{Refused};
+
+    ghost from_gives = { λ _ error. error ≡ Refused Memory };
+
+    fn from(_error: AllocError) -> InitError {
+        InitError::Refused(Fault::Memory)
+    }
+}

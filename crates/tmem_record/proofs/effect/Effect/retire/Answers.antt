@@ -1,5 +1,0 @@
-use Rattle.tmem_record.proofs.NamesRemoved.{AreApart-retire}
-use Rattle.tmem_record.proofs.effect.Effect.retire.Goals as goal
-
-pub returns-clause-apart : goal.returns-clause-apart
-returns-clause-apart c = λ apart. rw (c.put.ensures, c.remove.ensures) (AreApart-retire _ _ _ apart)

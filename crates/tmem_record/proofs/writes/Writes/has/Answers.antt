@@ -1,6 +1,0 @@
-use Rattle.std.proofs.Common.{rules}
-use Rattle.tmem_record.proofs.WritesLaws.{is_some-look}
-use Rattle.tmem_record.proofs.writes.Writes.has.Goals as goal
-
-pub returns : goal.returns
-returns c = rw (is_some-look c.args.self.now c.args.var) (search rules)

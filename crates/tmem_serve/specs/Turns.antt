@@ -1,0 +1,64 @@
+-- How the input of a served store is answered: what was read of it, and what was printed for that.
+use Rattle.std.specs.Prelude.{◌≡◌, ℕ, List, [], ◌∷◌, ◌++◌, Option}
+use Rattle.std.specs.Io.KnownBytes.{Appends, Consumes}
+use Rattle.tmem_lines.specs.Views.{LinesView}
+use Rattle.tmem_desk.specs.Asking.{Store}
+use Rattle.tmem_desk.specs.Desks.{DeskView}
+use Rattle.tmem_desk.specs.Failing.{EndsBy}
+use Rattle.tmem_desk.specs.Serving.{ServesPiece, ServesEnd}
+use Rattle.tmem_desk.specs.declared.failure.Failure.{Failure}
+
+-- One read of the input: the bytes that it gave, and what was printed for them.
+pub record Turn : Type 0 where
+  pub piece : List ℕ
+  pub answers : List ℕ
+
+-- Turns stand with the newest first.
+
+-- all that was read in them
+abbrev pub read_in : List Turn → List ℕ
+read_in [] = []
+read_in (turn ∷ earlier) = read_in earlier ++ turn.piece
+
+-- all that was printed in them
+abbrev pub printed_in : List Turn → List ℕ
+printed_in [] = []
+printed_in (turn ∷ earlier) = printed_in earlier ++ turn.answers
+
+-- From v to w the piece of a turn was served, behind the beginning of a line that came before it, and its answers were printed. This
+-- beginning of a line is left behind it.
+pub record ServesTurn (s : Store) (before : List ℕ) (turn : Turn) (v w : DeskView) (left : List ℕ) : Type 0 where
+  pub held : LinesView
+  pub served : ServesPiece s (before ++ turn.piece) held v w (λ text. text ≡ turn.answers)
+  pub rest : left ≡ served.runs.takes.splits.rest
+
+-- From v to w these turns were served, one after another, and this beginning of a line is left.
+abbrev pub ServesTurns : Store → List Turn → DeskView → DeskView → List ℕ → Type 0
+ServesTurns s [] v w left = (w ≡ v) × (left ≡ [])
+ServesTurns s (turn ∷ earlier) v w left =
+    (mid : DeskView) × (before : List ℕ) × ServesTurns s earlier v mid before × ServesTurn s before turn mid w left
+
+-- From v an input was served to its end: all that was read of it, in these turns, and then what is left at the end. Every byte that was
+-- read was served once, in order, and nothing else was printed.
+pub record ServesInput (s : Store) (v : DeskView) (unread rest before after : Option (List ℕ)) : Type 0 where
+  pub turns : List Turn
+  pub met : DeskView
+  pub left : List ℕ
+  pub served : ServesTurns s turns v met left
+  pub last : List ℕ
+  pub w : DeskView
+  pub end : ServesEnd s left met w (λ text. text ≡ last)
+  pub read : Consumes unread rest (read_in turns)
+  pub printed : Appends before after (printed_in turns ++ last)
+
+-- From v these turns were served, and then serving ended early, at a piece that was read, or at the end: as the desk says.
+pub record StopsInput (s : Store) (v : DeskView) (unread rest before after : Option (List ℕ)) (f : Failure) : Type 0 where
+  pub turns : List Turn
+  pub met : DeskView
+  pub left : List ℕ
+  pub served : ServesTurns s turns v met left
+  pub piece : List ℕ
+  pub read : Consumes unread rest (read_in turns ++ piece)
+  pub between : Option (List ℕ)
+  pub printed : Appends before between (printed_in turns)
+  pub ends : EndsBy (Appends between after) f

@@ -1,0 +1,264 @@
+//! The fields of each part, and where a part goes wrong.
+ghost use Rattle.std.specs.Prelude.{◌<◌, ◌≤◌, IfOk};
+
+use crate::walk::{Stop, Walk};
+use std::fmt;
+use tmem_disk::Name;
+use tmem_effect::{
+    BATCH_BYTES, MAX_CHECKS, MAX_NAMES, MAX_RECORDS, MAX_RETIRES, MAX_WRITES, Version,
+};
+use tmem_gate::GATE_OPEN;
+use tmem_parts::Why;
+
+/// Where in an image copy the mark of the version stands: in the last byte of the header.
+pub(crate) const MARK_AT: usize = 2047;
+
+/// Some bytes that belong together, and what they are.
+#[derive(Clone, Copy)]
+pub(crate) struct Field {
+    /// Their place, counted from the first byte of the store.
+    pub(crate) at: u64,
+    pub(crate) length: u64,
+    pub(crate) is: Is,
+}
+
+/// What the bytes of a field are.
+#[derive(Clone, Copy)]
+pub(crate) enum Is {
+    Open,
+    Closed,
+    Letters,
+    Version(u8),
+    Vars(u16),
+    Slots(u16),
+    Zeros,
+    Generation(u64),
+    Count(u64),
+    Names(u8),
+    Name(Name),
+    Mark(u8),
+    Value(u16, i64),
+    ZeroValues(u16, u16),
+    First(u64),
+    Records(u16),
+    Writes(u8),
+    Write(u16, i64),
+    Checks(u8),
+    Retires(u8),
+    Ignored,
+}
+
+impl fmt::Display for Is {
+    fn fmt<W: fmt::Write>(&self, f: &mut fmt::Formatter<W>) -> fmt::Result {
+        match self {
+            Is::Open => write!(f, "the gate, open"),
+            Is::Closed => write!(f, "the gate, closed"),
+            Is::Letters => write!(f, "TMEM"),
+            Is::Version(number) => write!(f, "version {number}"),
+            Is::Vars(number) => write!(f, "{number} variables"),
+            Is::Slots(number) => write!(f, "{number} log slots"),
+            Is::Zeros => write!(f, "zeros"),
+            Is::Generation(number) => write!(f, "generation {number}"),
+            Is::Count(number) => write!(f, "count {number}"),
+            Is::Names(number) => write!(f, "{number} names"),
+            Is::Name(name) => write!(f, "{name}"),
+            Is::Mark(mark) => write!(f, "mark {mark}"),
+            Is::Value(var, value) => write!(f, "variable {var} is {value}"),
+            Is::ZeroValues(first, last) if first == last => write!(f, "variable {first} is 0"),
+            Is::ZeroValues(first, last) => write!(f, "variables {first} to {last} are 0"),
+            Is::First(number) => write!(f, "first record {number}"),
+            Is::Records(number) => write!(f, "{number} records"),
+            Is::Writes(number) => write!(f, "{number} writes"),
+            Is::Write(var, value) => write!(f, "variable {var} becomes {value}"),
+            Is::Checks(number) => write!(f, "{number} names are checked"),
+            Is::Retires(number) => write!(f, "{number} names are retired"),
+            Is::Ignored => write!(f, "not looked at"),
+        }
+    }
+}
+
+// Walks over a gate, and behind a closed one to the end. Answers whether it is open.
+fn walk_gate(walk: &mut Walk) -> Result<bool, Stop> {
+    if walk.byte()? == GATE_OPEN {
+        walk.pass(1, Is::Open)?;
+        return Ok(true);
+    }
+    walk.pass(1, Is::Closed)?;
+    walk.pass(usize::MAX, Is::Ignored)?;
+    Ok(false)
+}
+
+/// Walks over block 0.
+pub(crate) fn walk_block(walk: &mut Walk) -> Result<(), Stop> {
+    if !walk_gate(walk)? {
+        return Ok(());
+    }
+    walk.pass(4, Is::Letters)?;
+    let version = walk.byte()?;
+    walk.pass(1, Is::Version(version))?;
+    let vars = walk.short()?;
+    walk.pass(2, Is::Vars(vars))?;
+    let slots = walk.short()?;
+    walk.pass(2, Is::Slots(slots))?;
+    walk.zeros_to(usize::MAX)
+}
+
+/// Walks over an image copy of so many variables, which begins at a place.
+pub(crate) fn walk_image(walk: &mut Walk, at: usize, vars: u16) -> Result<(), Stop> {
+    if !walk_gate(walk)? {
+        return Ok(());
+    }
+    let generation = walk.number()?;
+    if generation == 0 {
+        return walk.wrong(Why::NoGeneration);
+    }
+    walk.pass(8, Is::Generation(generation))?;
+    let count = walk.number()?;
+    walk.pass(8, Is::Count(count))?;
+    walk_registered(walk)?;
+    walk.zeros_to(at.saturating_add(MARK_AT))?;
+    let mark = walk.byte()?;
+    if Version::of_mark(mark).is_none() {
+        return walk.wrong(Why::Mark);
+    }
+    walk.pass(1, Is::Mark(mark))?;
+    walk_values(walk, vars)?;
+    walk.zeros_to(usize::MAX)
+}
+
+// The registered names, behind how many there are.
+fn walk_registered(walk: &mut Walk) -> Result<(), Stop> {
+    let count = walk.count(MAX_NAMES, Why::TooManyNames)?;
+    walk.pass(1, Is::Names(count))?;
+    let mut last: Option<Name> = None;
+    for _ in 0..count {
+        let name = walk.name()?;
+        if last.is_some_and(|last| name <= last) {
+            return walk.wrong(Why::NotAscending);
+        }
+        pass_name(walk, name)?;
+        last = Some(name);
+    }
+    Ok(())
+}
+
+fn pass_name(walk: &mut Walk, name: Name) -> Result<(), Stop> {
+    walk.pass(1 + name.as_bytes().len(), Is::Name(name))
+}
+
+// The values: those that are not 0 one by one, and those that are 0 together.
+fn walk_values(walk: &mut Walk, vars: u16) -> Result<(), Stop> {
+    let mut var = 0;
+    while var < vars {
+        var = walk_value(walk, var, vars)?;
+    }
+    Ok(())
+}
+
+// The value of a variable, or of that and those behind it where they are 0. Answers the variable behind them.
+fn walk_value(walk: &mut Walk, var: u16, vars: u16) -> Result<u16, Stop>
+    requires { var < vars }
+    ensures behind { IfOk result (λ next. var < next) }
+    ensures within { IfOk result (λ next. next ≤ vars) }
+{
+    let value = walk.value_behind(0)?;
+    if value != 0 {
+        walk.pass(8, Is::Value(var, value))?;
+        return Ok(var + 1);
+    }
+    let zeros = walk.zero_values(vars - var);
+    walk.pass(8 * zeros as usize, Is::ZeroValues(var, var + zeros - 1))?;
+    Ok(var + zeros)
+}
+
+/// Walks over a log slot whose batch is in the grammar of a version, for so many variables.
+pub(crate) fn walk_slot(walk: &mut Walk, vars: u16, version: Version) -> Result<(), Stop> {
+    if !walk_gate(walk)? {
+        return Ok(());
+    }
+    let generation = walk.number()?;
+    walk.pass(8, Is::Generation(generation))?;
+    let first = walk.number()?;
+    walk.pass(8, Is::First(first))?;
+    let count = walk.short()?;
+    if count == 0 || count as usize > MAX_RECORDS {
+        return walk.wrong(Why::Records);
+    }
+    walk.pass(2, Is::Records(count))?;
+    let left = walk.left();
+    for _ in 0..count {
+        walk_record(walk, vars, version)?;
+    }
+    if left.saturating_sub(walk.left()) > BATCH_BYTES {
+        return walk.wrong(Why::TooLong);
+    }
+    walk.pass(usize::MAX, Is::Ignored)
+}
+
+/// Walks over a log slot of which nothing but its generation counts.
+pub(crate) fn walk_stale(walk: &mut Walk) -> Result<(), Stop> {
+    if !walk_gate(walk)? {
+        return Ok(());
+    }
+    let generation = walk.number()?;
+    walk.pass(8, Is::Generation(generation))?;
+    walk.pass(usize::MAX, Is::Ignored)
+}
+
+// A record of a batch.
+fn walk_record(walk: &mut Walk, vars: u16, version: Version) -> Result<(), Stop> {
+    let writes = walk_writes(walk, vars)?;
+    let mut names = walk.no_names();
+    let checks = walk.count(MAX_CHECKS, Why::TooManyChecks)?;
+    walk.pass(1, Is::Checks(checks))?;
+    walk_names(walk, checks, &mut names)?;
+    let retires = match version {
+        Version::One => 0,
+        Version::Two => walk_retired(walk, &mut names)?,
+    };
+    if writes == 0 && checks == 0 && retires == 0 {
+        return walk.wrong(Why::Nothing);
+    }
+    Ok(())
+}
+
+// The writes of a record. Answers how many there are.
+fn walk_writes(walk: &mut Walk, vars: u16) -> Result<u8, Stop> {
+    let count = walk.count(MAX_WRITES, Why::TooManyWrites)?;
+    walk.pass(1, Is::Writes(count))?;
+    let mut written = walk.no_variables();
+    for _ in 0..count {
+        let var = walk.short()?;
+        if var >= vars {
+            return walk.wrong(Why::Variable);
+        }
+        if written.contains(&var) {
+            return walk.wrong(Why::Twice);
+        }
+        written.push(var)?;
+        let value = walk.value_behind(2)?;
+        walk.pass(10, Is::Write(var, value))?;
+    }
+    Ok(count)
+}
+
+// The retired names of a record, none of which may be among those that it checks. Answers how many there are.
+fn walk_retired(walk: &mut Walk, names: &mut Vec<Name>) -> Result<u8, Stop> {
+    let count = walk.count(MAX_RETIRES, Why::TooManyRetires)?;
+    walk.pass(1, Is::Retires(count))?;
+    walk_names(walk, count, names)?;
+    Ok(count)
+}
+
+// So many names, none of which may be among these. They are put there.
+fn walk_names(walk: &mut Walk, count: u8, names: &mut Vec<Name>) -> Result<(), Stop> {
+    for _ in 0..count {
+        let name = walk.name()?;
+        if names.contains(&name) {
+            return walk.wrong(Why::Twice);
+        }
+        names.push(name)?;
+        pass_name(walk, name)?;
+    }
+    Ok(())
+}

@@ -1,0 +1,22 @@
+//! Shows what is in a store: what its bytes hold, part by part, and what an opening of them finds. Its file is opened for reading
+//! alone, nothing is written, and no lock is taken.
+//!
+//! `Source` reads the bytes of a file or a block device. `show` prints what `tmem_parts` says of them as text, and `show_json` as one
+//! JSON object. `fields` walks over the bytes of a part, for those who want to see each of them and where a part goes wrong; `log`
+//! says which image is chosen and which slots are of its log, and `reason` why an opening is refused, and at which byte.
+#![tactic(auto)]
+
+mod error;
+mod fields;
+mod json;
+mod log;
+mod look;
+mod reason;
+mod source;
+mod text;
+mod walk;
+
+pub use error::ShowError;
+pub use json::show_json;
+pub use source::Source;
+pub use text::show;

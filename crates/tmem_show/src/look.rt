@@ -1,0 +1,180 @@
+//! What is known of a store once its block 0 was read.
+ghost use Rattle.std.specs.Prelude.{◌≡◌, ◌≤◌, ◌<◌, length, IfOk};
+ghost use Rattle.tmem_record.specs.Layout.{end_place};
+
+use crate::fields::{Field, walk_block, walk_image, walk_slot, walk_stale};
+use crate::log::{Chosen, choose, generation_at, used};
+use crate::reason::reason;
+use crate::walk::{Stop, Walk};
+use std::alloc::Global;
+use tmem_disk::Fault;
+use tmem_effect::{Records, Version};
+use tmem_parts::{Image, Recovery, Slot, Wrong, image_of, recovery_of, slot_of};
+use tmem_record::{BLOCK_SIZE, Layout, SLOT_SIZE};
+
+/// What counts of an image copy or a slot that is open.
+#[derive(Clone, Copy)]
+pub(crate) enum Role {
+    /// An image that recovery begins with, or a slot of its log.
+    Counts,
+    /// Nothing but its generation, which is an earlier one.
+    Stale,
+    /// It is of a generation that may not be there.
+    Amiss,
+}
+
+/// The bytes of a store that has a block 0, and which image is chosen there.
+#[derive(Clone, Copy)]
+pub(crate) struct Look<'a> {
+    alloc: Global,
+    bytes: &'a [u8],
+    pub(crate) layout: Layout,
+    chosen: Option<Chosen>,
+    // the version of its log
+    version: Version,
+    // how many slots are of the log
+    used: u16,
+    ghost long: { end_place layout.vars layout.slots ≤ length bytes.now },
+}
+
+/// A part as it was walked over: its fields, and where it goes wrong.
+#[derive(Drop)]
+pub(crate) struct Walked {
+    pub(crate) at: u64,
+    pub(crate) fields: Vec<Field>,
+    pub(crate) wrong: Option<Wrong>,
+}
+
+impl<'a> Look<'a> {
+    /// Looks which image is chosen, and how far its log goes.
+    pub(crate) fn new(alloc: Global, bytes: &'a [u8], layout: Layout) -> Result<Look<'a>, Fault>
+        requires { end_place layout.vars layout.slots ≤ length bytes.now }
+        ensures { IfOk result (λ look. look.layout ≡ layout) }
+    {
+        let Ok(it) = choose(bytes, layout) else {
+            return Ok(Look {
+                alloc,
+                bytes,
+                layout,
+                chosen: None,
+                version: Version::Two,
+                used: 0,
+            });
+        };
+        let version = match image_of(alloc, bytes, layout, it.copy)? {
+            Image::Open(image) => image.version,
+            _ => Version::Two,
+        };
+        Ok(Look {
+            alloc,
+            bytes,
+            layout,
+            chosen: Some(it),
+            version,
+            used: used(bytes, layout, it.generation),
+        })
+    }
+
+    /// The bytes of a field.
+    pub(crate) fn bytes_of(&self, field: &Field) -> &'a [u8] {
+        let from = (field.at as usize).min(self.bytes.len());
+        let end = from
+            .saturating_add(field.length as usize)
+            .min(self.bytes.len());
+        &self.bytes[from..end]
+    }
+
+    /// What an image copy holds.
+    pub(crate) fn image(&self, copy: u8) -> Result<Image, Fault>
+        requires { copy ≤ 1 }
+    {
+        image_of(self.alloc, self.bytes, self.layout, copy)
+    }
+
+    /// What counts of an image copy, where it is open.
+    pub(crate) fn role_of_image(&self, copy: u8) -> Role
+        requires { copy ≤ 1 }
+    {
+        match self.chosen {
+            Some(it) if it.copy == copy => Role::Counts,
+            Some(_) => Role::Stale,
+            None => Role::Amiss,
+        }
+    }
+
+    /// What a log slot holds, whose records are read into those that are lent.
+    pub(crate) fn slot(&self, k: u16, records: &mut Records) -> Slot
+        requires { k < self.now.layout.slots }
+    {
+        slot_of(self.bytes, self.layout, k, self.version, records)
+    }
+
+    /// What counts of a log slot, where it is open.
+    pub(crate) fn role_of_slot(&self, k: u16) -> Role
+        requires { k < self.now.layout.slots }
+    {
+        if k < self.used {
+            return Role::Counts;
+        }
+        let generation = generation_at(self.bytes, self.layout.slot(k));
+        match (generation, self.chosen) {
+            (Some(generation), Some(it)) if generation < it.generation => Role::Stale,
+            _ => Role::Amiss,
+        }
+    }
+
+    /// Walks over block 0.
+    pub(crate) fn walk_block(&self) -> Result<Walked, Fault> {
+        let mut walk = Walk::new(self.alloc, self.bytes, 0, BLOCK_SIZE);
+        let outcome = walk_block(&mut walk);
+        passed(0, walk, outcome)
+    }
+
+    /// Walks over an image copy.
+    pub(crate) fn walk_image(&self, copy: u8) -> Result<Walked, Fault>
+        requires { copy ≤ 1 }
+    {
+        let at = self.layout.image(copy) as usize;
+        let end = at + self.layout.image_size() as usize;
+        let mut walk = Walk::new(self.alloc, self.bytes, at, end);
+        let outcome = walk_image(&mut walk, at, self.layout.vars);
+        passed(at, walk, outcome)
+    }
+
+    /// Walks over a log slot.
+    pub(crate) fn walk_slot(&self, k: u16) -> Result<Walked, Fault>
+        requires { k < self.now.layout.slots }
+    {
+        let at = self.layout.slot(k) as usize;
+        let mut walk = Walk::new(self.alloc, self.bytes, at, at + SLOT_SIZE);
+        let outcome = match self.role_of_slot(k) {
+            Role::Stale => walk_stale(&mut walk),
+            _ => walk_slot(&mut walk, self.layout.vars, self.version),
+        };
+        passed(at, walk, outcome)
+    }
+
+    /// What an opening finds.
+    pub(crate) fn recovery(&self) -> Recovery {
+        recovery_of(self.alloc, self.bytes, self.layout)
+    }
+
+    /// Why an opening is refused, of a store that was formatted with this version.
+    pub(crate) fn reason(&self, formatted: Version) -> Result<Wrong, Fault> {
+        reason(self.alloc, self.bytes, self.layout, formatted).map_err(|_| Fault::Memory)
+    }
+}
+
+// What a walk passed, and where it stopped.
+fn passed(at: usize, walk: Walk, outcome: Result<(), Stop>) -> Result<Walked, Fault> {
+    let wrong = match outcome {
+        Ok(()) => None,
+        Err(Stop::Wrong(wrong)) => Some(wrong),
+        Err(Stop::Memory) => return Err(Fault::Memory),
+    };
+    Ok(Walked {
+        at: at as u64,
+        fields: walk.into_fields(),
+        wrong,
+    })
+}

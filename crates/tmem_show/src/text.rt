@@ -1,0 +1,290 @@
+//! What is shown as text.
+ghost use Rattle.std.specs.Prelude.{◌≤◌, ◌<◌};
+
+use crate::error::ShowError;
+use crate::fields::Field;
+use crate::look::{Look, Role, Walked};
+use crate::source::Source;
+use std::alloc::Global;
+use std::fmt::Display;
+use std::io::{self, Write};
+use tmem_disk::{Fault, Name};
+use tmem_effect::{Effect, Records, State, Version};
+use tmem_image::ImageState;
+use tmem_parts::{Block, Image, Recovery, Slot, Why, Wrong, block_of, recovery_of};
+use tmem_record::{Head, LEAST_SLOTS, Layout};
+
+// So many bytes of a field are printed at most.
+const MOST_SHOWN: usize = 20;
+
+/// Prints what the bytes of a store hold, part by part, and what an opening of them finds; and with `hex` below each part its bytes,
+/// field by field.
+pub fn show<W: Write>(
+    alloc: Global,
+    source: &Source,
+    hex: bool,
+    out: &mut W,
+) -> Result<(), ShowError> {
+    writeln!(
+        out,
+        "{} bytes; if the store is in use, what was read may be half a flush",
+        source.size
+    )?;
+    match block_of(&source.bytes) {
+        Ok(block) => show_store(alloc, source, block, hex, out),
+        Err(wrong) => {
+            writeln!(out, "block 0 at 0: {wrong}")?;
+            show_no_store(alloc, source, wrong, out)
+        }
+    }
+}
+
+/// What is wrong where there are fewer bytes than the layout has.
+pub(crate) fn too_short(source: &Source) -> Wrong {
+    Wrong {
+        at: source.size,
+        why: Why::Ends,
+    }
+}
+
+// What an opening finds where this is wrong with block 0.
+fn show_no_store<W: Write>(
+    alloc: Global,
+    source: &Source,
+    wrong: Wrong,
+    out: &mut W,
+) -> Result<(), ShowError> {
+    match least_recovery(alloc, source) {
+        Recovery::Found(state) => Ok(show_state(out, &state)?),
+        Recovery::Refused(Fault::Memory) => Err(ShowError::Refused(Fault::Memory)),
+        Recovery::Refused(Fault::Geometry) => {
+            Ok(show_refusal(out, Fault::Geometry, too_short(source))?)
+        }
+        Recovery::Refused(fault) => Ok(show_refusal(out, fault, wrong)?),
+    }
+}
+
+/// What an opening with the least numbers finds: where block 0 tells no numbers, fewer bytes are a store of none.
+pub(crate) fn least_recovery(alloc: Global, source: &Source) -> Recovery {
+    let least = Layout {
+        vars: 1,
+        slots: LEAST_SLOTS,
+    };
+    recovery_of(alloc, &source.bytes, least)
+}
+
+// The parts of a store with this block 0.
+fn show_store<W: Write>(
+    alloc: Global,
+    source: &Source,
+    block: Block,
+    hex: bool,
+    out: &mut W,
+) -> Result<(), ShowError> {
+    let Block { version, layout } = block;
+    show_block(out, version, layout)?;
+    if (source.bytes.len() as u64) < layout.end() {
+        return Ok(show_refusal(out, Fault::Geometry, too_short(source))?);
+    }
+    match &Look::new(alloc, &source.bytes, layout) {
+        Ok(look) => show_parts(alloc, look, version, hex, out),
+        Err(fault) => Err(ShowError::Refused(*fault)),
+    }
+}
+
+// The parts behind block 0, of a store that was formatted with this version, and what an opening finds.
+fn show_parts<W: Write>(
+    alloc: Global,
+    look: &Look,
+    version: Version,
+    hex: bool,
+    out: &mut W,
+) -> Result<(), ShowError> {
+    if hex {
+        show_fields(look, &look.walk_block()?, out)?;
+    }
+    for copy in 0..2 {
+        show_image(look, copy, hex, out)?;
+    }
+    show_slots(alloc, look, hex, out)?;
+    show_recovery(look, version, out)
+}
+
+// What block 0 says.
+fn show_block<W: Write>(out: &mut W, version: Version, layout: Layout) -> io::Result<()> {
+    let (vars, slots) = (layout.vars, layout.slots);
+    writeln!(
+        out,
+        "block 0 at 0: open, version {}, {vars} variables, {slots} log slots, {} bytes in all",
+        version.number(),
+        layout.end()
+    )
+}
+
+// What an opening finds, of a store that was formatted with this version.
+fn show_recovery<W: Write>(look: &Look, version: Version, out: &mut W) -> Result<(), ShowError> {
+    match look.recovery() {
+        Recovery::Found(state) => Ok(show_state(out, &state)?),
+        Recovery::Refused(Fault::Memory) => Err(ShowError::Refused(Fault::Memory)),
+        Recovery::Refused(fault) => Ok(show_refusal(out, fault, look.reason(version)?)?),
+    }
+}
+
+// An image copy.
+fn show_image<W: Write>(look: &Look, copy: u8, hex: bool, out: &mut W) -> Result<(), ShowError>
+    requires { copy ≤ 1 }
+{
+    let walked = look.walk_image(copy)?;
+    write!(out, "image {copy} at {}: ", walked.at)?;
+    let role = match look.role_of_image(copy) {
+        Role::Counts => "chosen",
+        Role::Stale => "stale",
+        Role::Amiss => "not chosen",
+    };
+    match look.image(copy)? {
+        Image::Closed => writeln!(out, "closed")?,
+        Image::Damaged => show_wrong(out, role, &walked)?,
+        Image::Open(image) => show_open_image(out, role, &image)?,
+    }
+    if hex {
+        show_fields(look, &walked, out)?;
+    }
+    Ok(())
+}
+
+fn show_open_image<W: Write>(out: &mut W, role: &str, image: &ImageState) -> io::Result<()> {
+    let (version, generation) = (image.version.number(), image.generation);
+    let count = image.state.count();
+    write!(
+        out,
+        "open, {role}, version {version}, generation {generation}, count {count}, names="
+    )?;
+    join(out, image.state.names())?;
+    writeln!(out, "")
+}
+
+// The log slots.
+fn show_slots<W: Write>(
+    alloc: Global,
+    look: &Look,
+    hex: bool,
+    out: &mut W,
+) -> Result<(), ShowError> {
+    let mut records = Records::new(alloc)?;
+    for k in 0..look.layout.slots {
+        show_slot(look, k, &mut records, hex, out)?;
+    }
+    Ok(())
+}
+
+// A log slot.
+fn show_slot<W: Write>(
+    look: &Look,
+    k: u16,
+    records: &mut Records,
+    hex: bool,
+    out: &mut W,
+) -> Result<(), ShowError>
+    requires { k < look.now.layout.slots }
+{
+    let walked = look.walk_slot(k)?;
+    write!(out, "slot {k} at {}: ", walked.at)?;
+    let slot = look.slot(k, records);
+    match (look.role_of_slot(k), slot) {
+        (_, Slot::Closed) => writeln!(out, "closed")?,
+        (Role::Stale, _) => writeln!(out, "open, stale")?,
+        (Role::Counts, Slot::Open(head)) => show_batch(out, "in the log", head, records)?,
+        (Role::Amiss, Slot::Open(head)) => show_batch(out, "not in the log", head, records)?,
+        (Role::Counts, Slot::Damaged) => show_wrong(out, "in the log", &walked)?,
+        (Role::Amiss, Slot::Damaged) => show_wrong(out, "not in the log", &walked)?,
+    }
+    if hex {
+        show_fields(look, &walked, out)?;
+    }
+    Ok(())
+}
+
+// The batch of a slot.
+fn show_batch<W: Write>(out: &mut W, role: &str, head: Head, records: &Records) -> io::Result<()> {
+    let (generation, first) = (head.generation, head.first);
+    writeln!(
+        out,
+        "open, {role}, generation {generation}, first record {first}"
+    )?;
+    for (i, effect) in records.effects().iter().enumerate() {
+        show_record(out, first.saturating_add(i as u64), effect)?;
+    }
+    Ok(())
+}
+
+// A record, by its number.
+fn show_record<W: Write>(out: &mut W, number: u64, effect: &Effect) -> io::Result<()> {
+    write!(out, "  record {number}:")?;
+    for (var, value) in effect.writes.as_slice() {
+        write!(out, " {var}={value}")?;
+    }
+    for name in effect.names.as_slice() {
+        write!(out, " checks {name}")?;
+    }
+    for name in effect.retired.as_slice() {
+        write!(out, " retires {name}")?;
+    }
+    writeln!(out, "")
+}
+
+// Where a part that is open goes wrong.
+fn show_wrong<W: Write>(out: &mut W, role: &str, walked: &Walked) -> io::Result<()> {
+    match walked.wrong {
+        Some(wrong) => writeln!(out, "open, {role}, damaged, {wrong}"),
+        None => writeln!(out, "open, {role}, damaged"),
+    }
+}
+
+// The state that an opening finds, as `tmem run` prints it.
+fn show_state<W: Write>(out: &mut W, state: &State) -> io::Result<()> {
+    writeln!(out, "recovery: opened {}", state.count())?;
+    write!(out, "state count={} names=", state.count())?;
+    join(out, state.names())?;
+    write!(out, " values=")?;
+    join(out, state.values())?;
+    writeln!(out, "")
+}
+
+// The refusal of an opening, and where it comes from.
+fn show_refusal<W: Write>(out: &mut W, fault: Fault, wrong: Wrong) -> io::Result<()> {
+    writeln!(out, "recovery: {fault}, {wrong}")
+}
+
+// The bytes of a part, field by field.
+fn show_fields<W: Write>(look: &Look, walked: &Walked, out: &mut W) -> io::Result<()> {
+    for field in walked.fields.iter() {
+        show_field(look, field, out)?;
+    }
+    match walked.wrong {
+        Some(wrong) => writeln!(out, "  {wrong}"),
+        None => Ok(()),
+    }
+}
+
+fn show_field<W: Write>(look: &Look, field: &Field, out: &mut W) -> io::Result<()> {
+    let bytes = look.bytes_of(field);
+    write!(out, "  {}:", field.at)?;
+    for byte in bytes.iter().take(MOST_SHOWN) {
+        write!(out, " {byte:02x}")?;
+    }
+    if bytes.len() > MOST_SHOWN {
+        write!(out, " .. {} bytes", bytes.len())?;
+    }
+    writeln!(out, "  {}", field.is)
+}
+
+// Texts, with a comma between any two.
+pub(crate) fn join<W: Write, T: Display>(out: &mut W, items: &[T]) -> io::Result<()> {
+    for (i, item) in items.iter().enumerate() {
+        if i > 0 {
+            write!(out, ",")?;
+        }
+        write!(out, "{item}")?;
+    }
+    Ok(())
+}
