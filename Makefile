@@ -40,5 +40,10 @@ fuzz: $(UNPROVED)
 bench: build
 	crates/tmem/out/tmem bench
 
+# Proves the program, and times it beside Redis, LMDB, SQLite, PostgreSQL and GHC's stm, in five minutes at most. bench/packages names
+# the Debian packages that these need; one without them is left out. Leaves tables, all samples and plots in bench/out.
+bench-peers: build
+	@bench/compare crates/tmem/out/tmem
+
 .DELETE_ON_ERROR:
-.PHONY: run build test mutants fuzz bench
+.PHONY: run build test mutants fuzz bench bench-peers

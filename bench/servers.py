@@ -1,0 +1,113 @@
+"""The folder in which the peers run, and the servers of Redis and PostgreSQL in it. All ends with the `with` that began it."""
+import os
+import pwd
+import shutil
+import socket
+import subprocess
+import tempfile
+import time
+
+PATIENCE = 30
+
+
+class CannotStart(Exception):
+    """A server is not there, for this reason."""
+
+
+def bound(signal, user=None):
+    """What a command begins with so that it ends with this process, however this one ends, and so that another user runs it."""
+    if shutil.which("setpriv") is None:
+        return []
+    as_user = [f"--reuid={user}", f"--regid={user}", "--clear-groups"] if user else []
+    return ["setpriv", f"--pdeathsig={signal}", *as_user, "--"]
+
+
+class Room:
+    """A temporary folder. What is kept in memory is in a folder of its own, where the system has a file system for that."""
+
+    def __init__(self, place):
+        self.path = tempfile.mkdtemp(prefix="tmem-peers-", dir=place)
+        os.chmod(self.path, 0o711)  # the user of PostgreSQL goes through it
+        try:
+            self.memory = tempfile.mkdtemp(prefix="tmem-peers-", dir="/dev/shm")
+        except OSError:
+            self.memory = self.new("memory")
+
+    def __enter__(self):
+        return self
+
+    def __exit__(self, *_):
+        shutil.rmtree(self.path, ignore_errors=True)
+        shutil.rmtree(self.memory, ignore_errors=True)
+
+    def new(self, name, in_memory=False):
+        """A new folder."""
+        path = f"{self.memory if in_memory else self.path}/{name}"
+        os.mkdir(path)
+        return path
+
+
+class Server:
+    """A server that answers once it is made, with its output in a file."""
+
+    def __init__(self, name, command, log, is_ready):
+        self.name = name
+        with open(log, "wb") as out:
+            self.process = subprocess.Popen(command, stdin=subprocess.DEVNULL, stdout=out, stderr=out, start_new_session=True)
+        end = time.monotonic() + PATIENCE
+        while not is_ready():
+            if self.process.poll() is not None or time.monotonic() > end:
+                self.stop()
+                with open(log, encoding="utf-8", errors="replace") as text:
+                    raise CannotStart(f"{name} did not start: {text.read()[-300:].strip()}")
+            time.sleep(0.02)
+
+    def stop(self):
+        """Ends the server, and waits until it has ended."""
+        self.process.terminate()
+        try:
+            self.process.wait(PATIENCE)
+        except subprocess.TimeoutExpired:
+            self.process.kill()
+            self.process.wait()
+
+
+def listens(at):
+    """Whether somebody listens on a socket."""
+    with socket.socket(socket.AF_UNIX) as it:
+        try:
+            it.connect(at)
+        except OSError:
+            return False
+    return True
+
+
+def start_redis(room, server):
+    """Redis, which answers once its log is synced, and takes no snapshots. Answers the server, and where it is asked."""
+    folder = room.new("redis")
+    at = f"{folder}/socket"
+    words = ["--port", "0", "--unixsocket", at, "--dir", folder, "--appendonly", "yes", "--appendfsync", "always", "--save", ""]
+    return Server("redis", [*bound("KILL"), server, *words], f"{room.path}/redis.log", lambda: listens(at)), at
+
+
+def start_postgres(room, server):
+    """PostgreSQL as it is installed, but for serializable transactions and no network."""
+    folder, programs = room.new("postgres"), os.path.dirname(server)
+    user = "postgres" if os.getuid() == 0 else None
+    if user:
+        try:
+            owner = pwd.getpwnam(user)
+        except KeyError:
+            raise CannotStart("postgres does not run as root, and there is no user postgres") from None
+        os.chown(folder, owner.pw_uid, owner.pw_gid)
+    made = [*bound("KILL", user), f"{programs}/initdb", "--no-sync", "-A", "trust", "-U", "postgres", "-E", "UTF8", "--locale=C", "-D", f"{folder}/data"]
+    it = subprocess.run(made, cwd="/", stdin=subprocess.DEVNULL, stdout=subprocess.PIPE, stderr=subprocess.STDOUT, text=True)
+    if it.returncode:
+        raise CannotStart(f"postgres: initdb: {it.stdout[-300:].strip()}")
+    words = ["-D", f"{folder}/data", "-k", folder, "-c", "listen_addresses=", "-c", "default_transaction_isolation=serializable"]
+    asked = [f"{programs}/pg_isready", "-q", "-h", folder]
+    is_ready = lambda: subprocess.run(asked, stdin=subprocess.DEVNULL).returncode == 0  # noqa: E731
+    return Server("postgres", [*bound("QUIT", user), server, *words], f"{room.path}/postgres.log", is_ready), folder
+
+
+STARTS = {"redis": start_redis, "postgres": start_postgres}
