@@ -48,6 +48,8 @@ LABELS = {
     SYNCS: SYNCS,
 }
 ORDER = list(LABELS)
+# what grows, a plot each; these stores are in memory
+GROWN = ["variables", "invariants", "slots"]
 
 
 def name_of(part, job):
@@ -118,8 +120,8 @@ def of_growth():
 
 
 def all_slices():
-    """All of them, and the two syncs, thrice a round."""
-    syncs = [Slice("durable", SYNCS, SYNCS, 1, at=k) for k in range(3)]
+    """All of them, and the two syncs, six times a round."""
+    syncs = [Slice("durable", SYNCS, SYNCS, 1, at=k) for k in range(6)]
     return [*syncs, *of_tmem(), *of_peers(), *of_growth()]
 
 
@@ -150,7 +152,7 @@ def new_store(it, program, folder):
 def command_of(it, seconds, where):
     """The command of a driver. `where` has the drivers, the servers' places, the program and a new folder for this slice."""
     if it.peer == SYNCS:
-        return [where.drivers["syncs"], f"{seconds}", where.folder]
+        return [where.drivers["syncs"], f"{seconds / 2}", where.folder]
     driver, place, more = where.drivers[{"tmem serve": "serve"}.get(it.peer, it.peer)], where.folder, []
     if it.peer == "tmem serve":
         place, more = new_store(it, where.program, where.folder), [where.program]

@@ -2,7 +2,7 @@
 import math
 from xml.sax.saxutils import escape
 
-from jobs import LABELS, ORDER, SYNCS, name_of
+from jobs import GROWN, LABELS, ORDER, SYNCS, name_of
 from report import figure
 
 FONT = "font-family='Helvetica, Arial, sans-serif'"
@@ -96,6 +96,8 @@ def apart(places, least):
 
 def by_peer(rows, key, title, unit, path):
     """A line for each peer below each job, with a mark at the median."""
+    if not rows:
+        return
     groups = list(dict.fromkeys((row["part"], row["job"], row["callers"]) for row in rows))
     left, right, step = 120, 70, 17
     height = UP + DOWN + 16 + sum(24 + step * sum((row["part"], row["job"], row["callers"]) == it for row in rows) for it in groups)
@@ -163,7 +165,6 @@ def curves(rows, x, had_of):
 
 def by_callers(rows, path):
     """How an awaited add scales with callers."""
-    rows = [row for row in rows if row["part"] == "durable" and row["job"] == "add"]
     if not rows:
         return
     canvas = Canvas(640, 420, "Add, each awaited until it is durable, by callers")
@@ -186,13 +187,13 @@ def cost(row):
 
 def by_growth(rows, path):
     """What a transaction costs as variables, invariants and slots grow: a panel each, with one scale."""
-    parts = [it for it in ("variables", "invariants", "slots") if any(row["part"] == it for row in rows)]
+    parts = [it for it in GROWN if any(row["part"] == it for row in rows)]
     if not parts:
         return
     titles = {"variables": "add, 64 at once", "invariants": "transfer", "slots": "add, 64 at once, 1024 variables"}
     units = {"variables": "variables", "invariants": "invariants over 16 variables each", "slots": "log slots"}
     canvas = Canvas(60 + 340 * len(parts), 400, "Cost of a transaction as a store grows, in memory")
-    values = [it for row in rows if row["part"] in parts for it in (cost(row)["least"], cost(row)["most"])]
+    values = [it for row in rows for it in (cost(row)["least"], cost(row)["most"])]
     up = Axis(values, 340, 76)
     for place, part in enumerate(parts):
         those = [row for row in rows if row["part"] == part]
@@ -207,9 +208,8 @@ def draw_all(rows, folder):
     """All plots, of what there is."""
     durable = [row for row in rows if row["part"] == "durable" and row["job"] != SYNCS]
     memory = [row for row in rows if row["part"] in ("memory", "opening")]
-    if durable:
-        by_peer(durable, "ratio", "Durable jobs, by peer", "operations for each time that two syncs take (write 32 bytes, sync, write 1 byte, sync)", f"{folder}/jobs.svg")
-    if memory:
-        by_peer(memory, "rate", "Jobs in memory, and openings of a file, by peer", "a second", f"{folder}/memory.svg")
-    by_callers(rows, f"{folder}/callers.svg")
-    by_growth(rows, f"{folder}/growth.svg")
+    unit = "operations for each time that two syncs take (write 32 bytes, sync, write 1 byte, sync)"
+    by_peer(durable, "ratio", "Durable jobs, by peer", unit, f"{folder}/jobs.svg")
+    by_peer(memory, "rate", "Jobs in memory, and openings of a file, by peer", "a second", f"{folder}/memory.svg")
+    by_callers([row for row in durable if row["job"] == "add"], f"{folder}/callers.svg")
+    by_growth([row for row in rows if row["part"] in GROWN], f"{folder}/growth.svg")

@@ -54,12 +54,19 @@ class Server:
         self.name = name
         with open(log, "wb") as out:
             self.process = subprocess.Popen(command, stdin=subprocess.DEVNULL, stdout=out, stderr=out, start_new_session=True)
+        try:
+            self.wait_for(is_ready, log)
+        except BaseException:
+            self.stop()
+            raise
+
+    def wait_for(self, is_ready, log):
+        """Waits until it answers."""
         end = time.monotonic() + PATIENCE
         while not is_ready():
             if self.process.poll() is not None or time.monotonic() > end:
-                self.stop()
                 with open(log, encoding="utf-8", errors="replace") as text:
-                    raise CannotStart(f"{name} did not start: {text.read()[-300:].strip()}")
+                    raise CannotStart(f"{self.name} did not start: {text.read()[-300:].strip()}")
             time.sleep(0.02)
 
     def stop(self):
