@@ -42,8 +42,10 @@ bench: build
 
 # Proves the program, and times it beside Redis, LMDB, SQLite, PostgreSQL and GHC's stm, in five minutes at most. bench/packages names
 # the Debian packages that these need; one without them is left out. Leaves tables, all samples and plots in bench/out.
+ROUNDS = 5
+
 bench-peers: build
-	@bench/compare crates/tmem/out/tmem
+	@bench/compare crates/tmem/out/tmem --rounds $(ROUNDS)
 
 .DELETE_ON_ERROR:
 .PHONY: run build test mutants fuzz bench bench-peers
