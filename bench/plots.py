@@ -16,18 +16,19 @@ SHAPES = {
     "cross": "M-4,-4L4,4M-4,4L4,-4",
     "plus": "M-5,0H5M0,-5V5",
 }
-UP, DOWN, SIDE = 46, 46, 12
+UP, DOWN, SIDE = 60, 46, 12
 
 
 class Canvas:
-    """An SVG of a size, with what is put on it."""
+    """An SVG of a size, with what is put on it. Below its title it says what a mark is."""
 
-    def __init__(self, width, height, title):
+    def __init__(self, width, height, title, rounds):
         self.parts = [
             f"<svg xmlns='http://www.w3.org/2000/svg' width='{width}' height='{height}' viewBox='0 0 {width} {height}'>",
             f"<title>{escape(title)}</title><rect width='{width}' height='{height}' fill='#ffffff'/>",
         ]
         self.text(SIDE, 22, title, size=15, weight="bold")
+        self.text(SIDE, 40, f"A mark is the median of {rounds} rounds, the line through it goes from the least to the most", size=11)
 
     def text(self, x, y, words, anchor="start", size=12, weight="normal", turn=0):
         turned = f" transform='rotate({turn} {x:.1f} {y:.1f})'" if turn else ""
@@ -101,7 +102,7 @@ def by_peer(rows, key, title, unit, path):
     groups = list(dict.fromkeys((row["part"], row["job"], row["callers"]) for row in rows))
     left, right, step = 120, 70, 17
     height = UP + DOWN + 16 + sum(24 + step * sum((row["part"], row["job"], row["callers"]) == it for row in rows) for it in groups)
-    canvas, width, y = Canvas(760, height, title), 760, UP + 4
+    canvas, width, y = Canvas(760, height, title, rows[0]["samples"]), 760, UP + 4
     axis = Axis([it for row in rows for it in (row[key]["least"], row[key]["most"])], left, width - right)
     for tick in axis.ticks():
         canvas.line(axis.at(tick), UP - 6, axis.at(tick), height - DOWN, "#dddddd")
@@ -167,7 +168,7 @@ def by_callers(rows, path):
     """How an awaited add scales with callers."""
     if not rows:
         return
-    canvas = Canvas(640, 420, "Add, each awaited until it is durable, by callers")
+    canvas = Canvas(640, 420, "Add, each awaited until it is durable, by callers", rows[0]["samples"])
     lines = curves(rows, "callers", lambda row: row["ratio"])
     ticks = sorted({row["callers"] for row in rows})
     across = Axis(ticks, 90, 490, base=2)
@@ -192,7 +193,7 @@ def by_growth(rows, path):
         return
     titles = {"variables": "add, 64 at once", "invariants": "transfer", "slots": "add, 64 at once, 1024 variables"}
     units = {"variables": "variables", "invariants": "invariants over 16 variables each", "slots": "log slots"}
-    canvas = Canvas(60 + 340 * len(parts), 400, "Cost of a transaction as a store grows, in memory")
+    canvas = Canvas(60 + 340 * len(parts), 400, "Cost of a transaction as a store grows, in memory", rows[0]["samples"])
     values = [it for row in rows for it in (cost(row)["least"], cost(row)["most"])]
     up = Axis(values, 340, 76)
     for place, part in enumerate(parts):

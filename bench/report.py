@@ -7,7 +7,7 @@ import statistics
 import subprocess
 from collections import defaultdict
 
-from jobs import LABELS, NAMES, ORDER, SYNCS, name_of
+from jobs import FORMS, LABELS, NAMES, ORDER, SYNCS, name_of
 
 PARTS = {
     "durable": "Durable jobs: operations a second, and the ratio to two syncs (write 32 bytes, sync, write 1 byte, sync)",
@@ -81,6 +81,11 @@ def markdown(rows, part, key):
         texts = [f"{figure(it['median'])} ({figure(it['least'])} to {figure(it['most'])})" if it else "" for it in had]
         lines.append(f"| {name_of(part, job)}, {callers} | {' | '.join(texts)} |")
     return "\n".join(lines)
+
+
+def forms(rows):
+    """How the peers are asked, each in a line."""
+    return "\n".join(f"- {LABELS[peer]}: {FORMS[peer]}." for peer in ORDER if peer in FORMS and any(row["peer"] == peer for row in rows))
 
 
 def file_system(path):
