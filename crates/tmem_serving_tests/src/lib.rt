@@ -1,7 +1,6 @@
-//! The parts that a served store is made of: shapes, requests and answers, copies of transactions, and what is told of a
-//! store's bytes.
+//! Lines of answers that no program prints.
 //!
-//! A crate of tests alone, above those that it tests. Most of its tests are tables of texts.
+//! A crate of tests alone. `.ci/serving` tests the others, and all else that goes into a served store and comes out of it.
 #![tactic(auto)]
 
 #[cfg(test)]
