@@ -48,10 +48,8 @@ def json_of(text):
     """The value of a JSON text in UTF-8, or NoRequest."""
     try:
         return json.loads(text.decode("utf-8"), parse_int=_integer, parse_float=_number, parse_constant=_constant)
-    except json.JSONDecodeError as error:
-        raise NoRequest(error.msg, f"line {error.lineno} column {error.colno}") from None
-    except (ValueError, RecursionError) as error:
-        raise NoRequest(str(error), "line 1 column 1") from None
+    except (ValueError, RecursionError):
+        raise NoRequest("this is not JSON", "line 1 column 1") from None
 
 
 def want(condition, why, at):
@@ -419,7 +417,7 @@ class Desk:
 
     def request(self, value):
         want(isinstance(value, dict), "an object is wanted", "")
-        want("id" in value, "an id is wanted", "")
+        want("id" in value, "there is no id", "")
         id = integer(value["id"], "/id")
         others = sorted({*value} - {"id"})
         if "run" in others:

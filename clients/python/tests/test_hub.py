@@ -89,16 +89,24 @@ class HubTests(HubCase):
         self.assertEqual(second.ask(b'{"id":2,"cancel":1,"get":[0]}')["word"], "norequest")
         self.assertEqual(first.rest(), [{"id": 1, "fault": 3, "word": "closed"}])
 
-    def test_what_is_no_request_is_answered_by_its_line(self):
-        client = self.raw()
-        lines = [b"", b"1", b"[]", b"{}", b'{"id":1}', b'{"id":1.0,"get":[0]}', b'{"id":-0,"get":[0]}', b'{"id":"1","get":[0]}', b'{"id":true,"get":[0]}']
-        lines += [b'{"id":9223372036854775808,"get":[0]}', b'{"id":null,"get":[0]}', b"\xff\xfe", b"\xef\xbb\xbf{}", b'{"id":1,"get":[0]', b'{"id":1,"get":[8]}']
+    def test_what_is_no_request_is_answered_by_its_line_as_by_the_program(self):
+        lines = [b"", b"  ", b"1", b"[]", b"{}", b'{"id":1}', b'{"id":1.0,"get":[0]}', b'{"id":-0,"get":[0]}', b'{"id":"1","get":[0]}', b'{"id":true,"get":[0]}']
+        lines += [b'{"id":9223372036854775808,"get":[0]}', b'{"id":null,"get":[0]} ', b"\xff\xfe", b"\xef\xbb\xbf{}", b'{"id":1,"get":[0]', b'{"id":1,"get":[8]}']
         lines += [b"{" * 5000, b'{"id":' + b"1" * 5000 + b"}", b'{"id":1,"get":[0]}' + b" " * 65536, b'{"id":1,"ask":NaN}', b"\0", b'{"id":1,"get":[0]}x']
-        client.send(b'{"id":4,"ask":"look"}\n' + b"".join(line + b"\n" for line in lines) + b'{"id":5,"ask":"look"}')
+        lines += [b'{"id":1,"ask":"lo', b'{"id":1,"ask":"lo\\', b'{"id":1,"ask":"\\u00', b'{"id":1,,"get":[0]}', b'{"id":1,"ask":tru', b'{"id":1e', b"[" * 200, b"NaN"]
+        given = b'{"id":4,"ask":"look"}\n' + b"".join(line + b"\n" for line in lines) + b'{"id":5,"ask":"look"}'
+        client = self.raw()
+        client.send(given)
         first, *found, last = client.rest()
         self.assertEqual((first, last), ({"id": 4, "durable": 0}, {"id": 5, "durable": 0}))
         self.assertEqual([(it["line"], it["fault"], it["word"]) for it in found], [(k + 2, 0, "norequest") for k in range(len(lines))])
-        self.assertTrue(all(isinstance(it["why"], str) and isinstance(it["at"], str) for it in found))
+        path = f"{self.path}.own"
+        tmem.create(path, self.shape)
+        ended = subprocess.run([PROGRAM, "serve", path], input=given, stdout=subprocess.PIPE, check=True)
+        wanted = [json.loads(line) for line in ended.stdout.splitlines()[2:-1]]
+        for line, had, its in zip(lines, found, wanted):
+            with self.subTest(line=line[:40]):
+                self.assertEqual(had, its)
 
     def test_the_same_lines_are_answered_as_by_the_program_itself(self):
         keys = ['"id":1', '"id":2', '"id":3', '"get":[0,1]', '"get":[9]', '"do":"skip"', '"do":"retry"', '"try":"retry"', '"cancel":1', '"cancel":2']

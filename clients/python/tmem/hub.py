@@ -51,12 +51,14 @@ class NoRequest(Exception):
 
 
 class Asked(NamedTuple):
-    """Who sent a line, with which id, as which of its own lines, and why it was not handed on. What the hub asks itself has nobody."""
+    """Who sent a line, with which id, as which of its own lines, why it was not handed on, and how long it is if it is no JSON. What the hub
+    asks itself has nobody."""
 
     client: Client | None
     id: int
     line: int
     refusal: NoRequest | None = None
+    length: int | None = None
     then: Callable[[], None] | None = None
 
 
@@ -68,21 +70,20 @@ def is_id(value: Any) -> bool:
     return type(value) is int and LEAST_ID <= value <= MOST_ID
 
 
-def read(line: bytes) -> tuple[int, dict[str, Any]]:
-    """The id of a line, and its object. All else about it is for the program to judge."""
+def read(line: bytes) -> Any:
+    """The value of a line; ValueError or RecursionError if it is no JSON. All else about it is for the program to judge."""
     if len(line) > MOST_LINE:
         raise NoRequest(f"the line is longer than {MOST_LINE} bytes", f"line 1 column {MOST_LINE + 1}")
-    try:
-        value = json.loads(line.decode("utf-8"), parse_int=_integer)
-    except json.JSONDecodeError as error:
-        raise NoRequest(error.msg, f"line 1 column {error.colno}") from None
-    except (ValueError, RecursionError):
-        raise NoRequest("no JSON text", "line 1 column 1") from None
-    if not isinstance(value, dict):
-        raise NoRequest("an object is wanted", "")
-    if not is_id(value.get("id")):
-        raise NoRequest("an id is wanted, a signed integer of 64 bits", "/id" if "id" in value else "")
-    return value["id"], value
+    value = json.loads(line.decode("utf-8"), parse_int=_integer)
+    if isinstance(value, dict) and "id" not in value:
+        raise NoRequest("there is no id", "")
+    return value
+
+
+def within(rest: bytes, length: int) -> bytes:
+    """The rest of a refusal, whose column is in a line of this length."""
+    head, column, end = rest.rpartition(b" column ")
+    return head + column + b'%d"}' % max(1, min(length, int(end[:-2]))) if column else rest
 
 
 def with_last(line: bytes, **members: object) -> bytes:
@@ -159,18 +160,30 @@ class Client(asyncio.Protocol):
         """A line as the program is to have it."""
         self.count += 1
         try:
-            id, value = read(line)
+            value = read(line)
         except NoRequest as none:
             # (so that the refusal comes in the order of the lines, the program gets a line that it refuses too)
-            number = self.hub.number_for(self, 0, self.count, none)
-            self.asked[number] = 0, False
-            return b"\n"
+            return self.refused(b"\n", none)
+        except (ValueError, RecursionError):
+            # (no JSON ends so, whatever the program would have made of it; and what is wrong before stays where it is)
+            return self.refused(line + b"x\n", length=len(line))
+        if not isinstance(value, dict):
+            return self.refused(line + b"\n")
+        if not is_id(value["id"]):
+            return self.refused(with_last(line, id="null"))
+        id = value["id"]
         number = self.hub.number_for(self, id, self.count)
         self.asked[number] = id, any(key in value for key in WAITING)
         if "cancel" not in value:
             return with_last(line, id=number)
         # (a number that is none stays none, however the program would read it)
         return with_last(line, id=number, cancel=self.cancelled(value["cancel"]) if is_id(value["cancel"]) else "null")
+
+    def refused(self, line: bytes, refusal: NoRequest | None = None, length: int | None = None) -> bytes:
+        """A line that the program refuses."""
+        number = self.hub.number_for(self, 0, self.count, refusal, length)
+        self.asked[number] = 0, False
+        return line
 
     def cancelled(self, id: int) -> int:
         """The number of the request of this id that may wait, and will not from now on; or one that no request has."""
@@ -233,10 +246,10 @@ class Hub(asyncio.SubprocessProtocol):
 
     # From the clients to the program.
 
-    def number_for(self, client: Client | None, id: int, line: int, refusal: NoRequest | None = None) -> int:
+    def number_for(self, client: Client | None, id: int, line: int, refusal: NoRequest | None = None, length: int | None = None) -> int:
         """The number of a request. Its line has to be the next one that is sent."""
         self._count += 1
-        self._asked[self._count] = Asked(client, id, line, refusal)
+        self._asked[self._count] = Asked(client, id, line, refusal, length)
         return self._count
 
     def send(self, lines: bytes) -> None:
@@ -311,7 +324,7 @@ class Hub(asyncio.SubprocessProtocol):
         if asked.refusal is not None:
             return number, asked, asked.refusal.answer(asked.line)
         if key == b'{"line"':
-            return number, asked, b'{"line":%d,%s\n' % (asked.line, rest)
+            return number, asked, b'{"line":%d,%s\n' % (asked.line, rest if asked.length is None else within(rest, asked.length))
         if number in self._taken_back:
             self._taken_back.discard(number)
             rest = CLOSED if rest == CANCELLED else rest

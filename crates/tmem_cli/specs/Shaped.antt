@@ -1,5 +1,6 @@
 -- What `init` makes of the shape of a store, and how `serve` serves that.
 use Rattle.std.specs.Prelude.{ℕ, Bool, true, List, [], ◌∷◌, Option, map, filter}
+use Rattle.std.specs.Io.KnownBytes.{IsAtEnd}
 use Rattle.tmem_disk.specs.Disk.{DeviceView}
 use Rattle.tmem_core.specs.Program.{Program}
 use Rattle.tmem_invariants.specs.Meanings.{Meanings}
@@ -14,6 +15,7 @@ use Rattle.tmem_file.specs.Opening.{IsOpened}
 use Rattle.tmem_file.specs.declared.disk.FileDisk.{FileDisk}
 use Rattle.tmem_init.specs.Content.{IsNewStore}
 use Rattle.tmem_serve.specs.Stores.{OpensAndServes}
+use Rattle.tmem_cli.specs.Builtin.{builtin_arities}
 
 -- the names of invariants, and of those of them that always hold
 abbrev pub names_in : List Linear → List (List ℕ)
@@ -42,13 +44,14 @@ pub record IsStoreOf (text : List ℕ) (d : DeviceView) : Type 0 where
 abbrev pub MakesStore : Type 0
 MakesStore = (text : List ℕ) × (made : FileDisk) × IsStoreOf text (view_of made)
 
--- The text is that of a shape, and what the opening of a file found under it was served to the end of the input.
+-- The text is that of a shape, and what the opening of a file found under it was served to the end of the input, of which no byte is left.
 pub record ServesShape (text : List ℕ) (unread rest before after : Option (List ℕ)) : Type 0 where
   pub shape : Shape
   pub is : IsShapeText shape text
   pub found : FileDisk
   pub opened : IsOpened (view_of found)
-  pub served : OpensAndServes view_of (program_of shape.invariants.items) (always_in shape.invariants.items) shape.vars shape.slots shape.names.items found unread rest before after
+  pub served : OpensAndServes view_of (program_of shape.invariants.items) builtin_arities (always_in shape.invariants.items) shape.vars shape.slots shape.names.items found unread rest before after
+  pub whole : IsAtEnd rest
 
 -- a store was served under the shape of a text
 abbrev pub ServesStore : Option (List ℕ) → Option (List ℕ) → Option (List ℕ) → Option (List ℕ) → Type 0

@@ -19,6 +19,7 @@ pub(crate) enum StoreFailure {
     NotMade(InitError),
     /// The opening was refused, the device failed, or there was not enough memory.
     Refused(Fault),
+    Input,
     Output,
 }
 
@@ -29,6 +30,7 @@ impl fmt::Display for StoreFailure {
             StoreFailure::NoShape(error) => write!(f, "bad shape: {error}"),
             StoreFailure::NotMade(error) => write!(f, "{error}"),
             StoreFailure::Refused(fault) => write!(f, "{fault}"),
+            StoreFailure::Input => write!(f, "input failed"),
             StoreFailure::Output => write!(f, "output failed"),
         }
     }

@@ -1,7 +1,9 @@
 //! Serves a store over standard input and output.
 ghost use Rattle.std.specs.Prelude.{OnOk};
+ghost use Rattle.std.specs.Io.KnownBytes.{IsAtEnd};
 ghost use Rattle.tmem_file.specs.FileView.{view_of};
 ghost use Rattle.tmem_serve.specs.Stores.{OpensAndServes};
+ghost use Rattle.tmem_cli.specs.Builtin.{builtin_arities};
 ghost use Rattle.tmem_cli.specs.Shaped.{ServesShape, ServesStore, always_in, program_of};
 
 use crate::failure::StoreFailure;
@@ -14,10 +16,10 @@ use tmem_builtins::stored_steps;
 use tmem_file::FileDisk;
 use tmem_linear::LinearTable;
 use tmem_record::Layout;
-use tmem_serve::{Served, serve_store};
+use tmem_serve::{InputEnd, Served, serve_store};
 use tmem_shape::Shape;
 
-/// Opens a store with its shape, and answers the requests of the input until it ends.
+/// Opens a store with its shape, and answers the requests of the input until it ends. `Input` where a read of it failed.
 pub(crate) fn serve<I: Read, W: Write>(
     rt: &(impl Files<File = File> + AllocGlobal + Wait),
     serving: Serving,
@@ -68,7 +70,8 @@ fn serve_on<I: Read, W: Write>(
     input: &mut I,
     out: &mut W,
 ) -> Result<(), StoreFailure>
-    ensures { OnOk result (OpensAndServes view_of (program_of shape.invariants.items) (always_in shape.invariants.items) shape.vars shape.slots shape.names.items disk (I.remaining input.old) (I.remaining input.new) (W.contents out.old) (W.contents out.new)) }
+    ensures served { OnOk result (OpensAndServes view_of (program_of shape.invariants.items) builtin_arities (always_in shape.invariants.items) shape.vars shape.slots shape.names.items disk (I.remaining input.old) (I.remaining input.new) (W.contents out.old) (W.contents out.new)) }
+    ensures whole { OnOk result (IsAtEnd (I.remaining input.new)) }
 {
     let alloc = rt.alloc();
     let names = shape.invariant_names(alloc)?;
@@ -87,6 +90,8 @@ fn serve_on<I: Read, W: Write>(
         names: &names,
         always: &always,
     };
-    serve_store(rt, alloc, disk, served, table, stored_steps(), input, out)?;
-    Ok(())
+    match serve_store(rt, alloc, disk, served, table, stored_steps(), input, out)? {
+        InputEnd::Reached => Ok(()),
+        InputEnd::Failed => Err(StoreFailure::Input),
+    }
 }

@@ -5,11 +5,11 @@ ghost use Rattle.tmem_cli.specs.Outcomes.{IsWhyNotShown};
 use std::fs::{File, Files};
 use std::io::Write;
 use tmem_args::Showing;
-use tmem_disk::Fault;
 use tmem_script::Failure;
 use tmem_show::{ShowError, Source};
 
-/// Prints what is in a store. Its file is opened for reading alone, and is not locked. `Device` where it is not read.
+/// Prints what is in a store. Its file is opened for reading alone, and is not locked. `Device` where it is not read, and `Memory` where
+/// there is none.
 pub(crate) fn show_store<W: Write>(
     rt: &(impl Files<File = File> + AllocGlobal),
     showing: Showing,
@@ -17,9 +17,7 @@ pub(crate) fn show_store<W: Write>(
 ) -> Result<(), Failure>
     ensures failed { IfErr result IsWhyNotShown }
 {
-    let Ok(source) = Source::read(rt, showing.store.unwrap_or("")) else {
-        return Err(Failure::Refused(Fault::Device));
-    };
+    let source = Source::read(rt, showing.store.unwrap_or(""))?;
     let shown = if showing.is_json {
         tmem_show::show_json(rt.alloc(), &source, showing.has_hex, out)
     } else {

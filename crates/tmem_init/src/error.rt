@@ -1,11 +1,11 @@
 //! Why no store was made.
 use std::alloc::AllocError;
-use std::fmt;
+use std::{fmt, io};
 use thiserror::Error;
 use tmem_disk::Fault;
 
 /// Why no store was made. Its text is what the user is told.
-#[derive(Clone, Copy, Debug, PartialEq, Eq, Error)]
+#[derive(Clone, Copy, Debug, Error)]
 pub enum InitError {
     /// Memory was refused, a call of the device failed, or an invariant that is always to hold is false where every variable is 0.
     Refused(Fault),
@@ -13,6 +13,8 @@ pub enum InitError {
     StoreIsThere,
     /// Something has the path of the text beside the store, and it is not this text.
     TextIsThere,
+    /// What has that path cannot be read, for this reason.
+    TextUnread(io::Error),
     /// The file or the block device holds something else than zeros, and than what making this store would write there.
     NotBlank,
 }
@@ -23,6 +25,7 @@ impl fmt::Display for InitError {
             InitError::Refused(fault) => write!(f, "{fault}"),
             InitError::StoreIsThere => write!(f, "the store is there already"),
             InitError::TextIsThere => write!(f, "another shape is there already"),
+            InitError::TextUnread(why) => write!(f, "cannot read the shape that is there: {why}"),
             InitError::NotBlank => write!(f, "the device is not blank"),
         }
     }

@@ -16,8 +16,9 @@ use tmem_tree::StoredSteps;
 /// Makes a store in a new file: every variable is 0, and these invariants of the table are registered. The text that it is made of gets
 /// the store's path with `.json` behind it, and then the store gets its path, each once it is whole and synced. Where that was cut off
 /// behind the first step, it goes on with the second. Refused, before anything is made, by `Refused` with `Broken` where one of these
-/// invariants is false where every variable is 0, by `StoreIsThere` where something has the store's path, and by `TextIsThere` where
-/// something has the other one and is not this text; and by `Refused` for want of memory and where a call fails.
+/// invariants is false where every variable is 0, by `StoreIsThere` where something has the store's path, and where something has the
+/// other one, by `TextIsThere` if it is not this text, and by `TextUnread` if it cannot be read; and by `Refused` for want of memory and
+/// where a call fails.
 pub fn make_store<R: Files<File = File> + AllocGlobal, T: Invariants + Drop, S: StoredSteps + Drop>(
     rt: &R,
     path: &str,

@@ -1,5 +1,6 @@
 //! How a new store gets to its place.
-ghost use Rattle.std.specs.Prelude.{◌≡◌, ◌∷◌, ◌≤◌, ◌↔◌, ℕ, List, length, drop, take, IsTrue, IfOk, IfErr, OnOk};
+ghost use Rattle.std.specs.Prelude.{◌≡◌, ◌≢◌, ◌∷◌, ◌≤◌, ◌↔◌, ℕ, List, length, drop, take, IsTrue, IfOk, IfErr, MatchResult, OnOk};
+ghost use Rattle.std.specs.IoError.{error_kind};
 ghost use Rattle.tmem_disk.specs.Disk.{AtEachMoment, IsSynced, ReadsAs, overwritten};
 ghost use Rattle.tmem_gate.specs.Calls.{LooksOnly};
 ghost use Rattle.tmem_gate.specs.Gate.{IsOpenAt};
@@ -10,6 +11,7 @@ ghost use Rattle.tmem_init.specs.Placed.{IsBetween, IsBlankFor, IsEarly, LeftByM
 use crate::error::InitError;
 use std::alloc::Global;
 use std::fs::{self, File, Files};
+use std::io::{self, ErrorKind};
 use tmem_disk::{Disk, Fault};
 use tmem_file::{FileDisk, NewFile};
 use tmem_gate::device::read_piece;
@@ -17,8 +19,8 @@ use tmem_gate::put_cell;
 
 // Makes a file of this content, behind the text that it was made of: the text gets the path with `.json` behind it, and then the file
 // gets its path, each once it is whole and synced. Where that was cut off behind the first step, it goes on with the second. Refused,
-// before anything is made, by `StoreIsThere` where something has the path, and by `TextIsThere` where something has the other one and
-// is not this text; and by `Refused` for want of memory and where a call fails.
+// before anything is made, by `StoreIsThere` where something has the path, and as `same_text` says where something has the other one;
+// and by `Refused` for want of memory and where a call fails.
 pub(crate) fn place_store<R: Files<File = File> + AllocGlobal>(
     rt: &R,
     path: &str,
@@ -42,25 +44,31 @@ fn place_text<R: Files<File = File> + AllocGlobal>(
     text: &[u8],
 ) -> Result<(), InitError> {
     let beside = format!(in rt.alloc(); "{path}.json")?;
-    if !is_there(rt, beside.as_str()) {
-        place(rt, beside.as_str(), text)?;
-    } else if !holds(rt, beside.as_str(), text) {
-        return Err(InitError::TextIsThere);
+    if is_there(rt, beside.as_str()) {
+        return same_text(fs::read(rt, beside.as_str()), text);
     }
+    place(rt, beside.as_str(), text)?;
     Ok(())
+}
+
+// Whether the text that was found beside a store is this one. Refused by `TextIsThere` where it is another, by `TextUnread` where it
+// could not be read, and by `Refused` with `Memory`.
+fn same_text(found: io::Result<Vec<u8>>, text: &[u8]) -> Result<(), InitError>
+    ensures read { IfOk found (λ bytes. MatchResult result (λ _. bytes.items ≡ text.now) (λ e. (e ≡ InitError.TextIsThere) × (bytes.items ≢ text.now))) }
+    ensures unread { IfErr found (λ why. error_kind why ≢ ErrorKind.OutOfMemory → result ≡ Err (InitError.TextUnread why)) }
+    ensures memory { IfErr found (λ why. error_kind why ≡ ErrorKind.OutOfMemory → result ≡ Err (InitError.Refused Fault.Memory)) }
+{
+    match found {
+        Ok(bytes) if bytes.as_slice() == text => Ok(()),
+        Ok(_) => Err(InitError::TextIsThere),
+        Err(why) if why.kind() == ErrorKind::OutOfMemory => Err(InitError::Refused(Fault::Memory)),
+        Err(why) => Err(InitError::TextUnread(why)),
+    }
 }
 
 // Whether something has a path.
 fn is_there<R: Files<File = File>>(rt: &R, path: &str) -> bool {
     fs::symlink_metadata(rt, path).is_ok()
-}
-
-// Whether a file holds these bytes.
-fn holds<R: Files<File = File> + AllocGlobal>(rt: &R, path: &str, bytes: &[u8]) -> bool {
-    match fs::read(rt, path) {
-        Ok(found) => found.as_slice() == bytes,
-        Err(_) => false,
-    }
 }
 
 // Makes a new file of these bytes, which gets its path once they are synced.

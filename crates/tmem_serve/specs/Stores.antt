@@ -53,18 +53,19 @@ pub record Finds (program : Program) (vars slots : ℕ) (old new : DeviceView) (
   pub sound : IsSound program.tests program.names state.names state.values
   pub model : new.keeps_model → old.keeps_model
 
--- The store that is served is one that the opening of this device found, under this program.
-pub record IsOpenedAs {D : Type 0} (view : D → DeviceView) (program : Program) (always : List (List ℕ)) (vars slots : ℕ) (disk : D) (it : Store) : Type 0 where
+-- The store that is served is one that the opening of this device found, under this program, whose steps have so many arguments each.
+pub record IsOpenedAs {D : Type 0} (view : D → DeviceView) (program : Program) (arities : List ℕ) (always : List (List ℕ)) (vars slots : ℕ) (disk : D) (it : Store) : Type 0 where
   pub opened : D
   pub finds : Finds program vars slots (view disk) (view opened) it.opening
   pub start : it.start ≡ it.opening.count
   pub program_is : it.program ≡ program
+  pub arities_are : it.arities ≡ arities
   pub always_is : it.always ≡ always
 
 -- A store that was opened so was served to the end of the input.
-pub record OpensAndServes {D : Type 0} (view : D → DeviceView) (program : Program) (always : List (List ℕ)) (vars slots : ℕ) (names : List (String Global × ℕ)) (disk : D) (unread rest before after : Option (List ℕ)) : Type 0 where
+pub record OpensAndServes {D : Type 0} (view : D → DeviceView) (program : Program) (arities : List ℕ) (always : List (List ℕ)) (vars slots : ℕ) (names : List (String Global × ℕ)) (disk : D) (unread rest before after : Option (List ℕ)) : Type 0 where
   pub it : Store
-  pub opened : IsOpenedAs view program always vars slots disk it
+  pub opened : IsOpenedAs view program arities always vars slots disk it
   pub served : ServesStore it vars names unread rest before after
 
 -- Its opening was refused.
@@ -73,7 +74,7 @@ IsWhyNotServed AreTheirs vars slots old new f = (g : Fault) × (f ≡ failure.Fa
 
 -- Why a store was not served to the end of its input: its opening was refused, and nothing was read or printed; or it was opened, and
 -- serving ended early.
-abbrev pub IsWhyEnded : {D : Type 0} → (D → DeviceView) → (Program → Type 0) → Program → List (List ℕ) → ℕ → ℕ → List (String Global × ℕ) → D → Option (List ℕ) → Option (List ℕ) → Option (List ℕ) → Option (List ℕ) → Failure → Type 0
-IsWhyEnded {D} view AreTheirs program always vars slots names disk unread rest before after f =
+abbrev pub IsWhyEnded : {D : Type 0} → (D → DeviceView) → (Program → Type 0) → Program → List ℕ → List (List ℕ) → ℕ → ℕ → List (String Global × ℕ) → D → Option (List ℕ) → Option (List ℕ) → Option (List ℕ) → Option (List ℕ) → Failure → Type 0
+IsWhyEnded {D} view AreTheirs program arities always vars slots names disk unread rest before after f =
     ((handed : D) × IsWhyNotServed AreTheirs vars slots (view disk) (view handed) f × (rest ≡ unread) × (after ≡ before))
-    ⊎ ((it : Store) × IsOpenedAs view program always vars slots disk it × IsWhyStopped it vars names unread rest before after f)
+    ⊎ ((it : Store) × IsOpenedAs view program arities always vars slots disk it × IsWhyStopped it vars names unread rest before after f)

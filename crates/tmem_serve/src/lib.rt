@@ -6,4 +6,4 @@
 
 mod serving;
 
-pub use serving::{Served, serve_store};
+pub use serving::{InputEnd, Served, serve_store};

@@ -1,6 +1,6 @@
 //! From the opening of a store to the end of the input.
-ghost use Rattle.std.specs.Prelude.{◌≡◌, ◌≤◌, length, take, OnOk, IfErr};
-ghost use Rattle.std.specs.Io.KnownBytes.{Appends, Consumes, Keeps};
+ghost use Rattle.std.specs.Prelude.{◌≡◌, ◌≤◌, [], length, take, OnOk, OnErr, IfOk, IfErr};
+ghost use Rattle.std.specs.Io.KnownBytes.{Appends, Consumes, IsAtEnd, Keeps};
 ghost use Rattle.tmem_core.specs.Program.{Program, IsProgramOf};
 ghost use Rattle.tmem_desk.specs.Asking.{store};
 ghost use Rattle.tmem_desk.specs.Held.{view_of};
@@ -37,9 +37,18 @@ pub struct Served<'a> {
     pub always: &'a [Name],
 }
 
-/// Opens a store, and serves it until the end of the input. Refused as an opening is, before anything is read or printed; with the fault
-/// that a call of the device or want of memory ended it by, once each request of that piece of input was answered so; and with `Output`
-/// where the output failed. Input that fails is taken as ended.
+/// How the input of a served store ended.
+#[derive(Clone, Copy)]
+pub enum InputEnd {
+    /// All of it was read.
+    Reached,
+    /// A read of it failed.
+    Failed,
+}
+
+/// Opens a store, and serves it until the end of the input, or until a read of that fails: then all that was read is answered as at the
+/// end. Refused as an opening is, before anything is read or printed; with the fault that a call of the device or want of memory ended it
+/// by, once each request of that piece of input was answered so; and with `Output` where the output failed.
 pub fn serve_store<
     R: Wait,
     D: Disk + Drop,
@@ -56,7 +65,7 @@ pub fn serve_store<
     steps: S,
     input: &mut I,
     out: &mut W,
-) -> Result<(), Failure>
+) -> Result<InputEnd, Failure>
     ghost program: { Program }
     requires vars { T.vars table ≡ served.vars }
     requires names { T.names table ≡ program.names }
@@ -64,9 +73,11 @@ pub fn serve_store<
     requires tests { T.is_stated table program.tests }
     requires steps { S.is_stated steps program.steps }
 
-    // The store that the opening finds is served: each byte that is read, once and in order, as the desk answers it.
-    ensures served { OnOk result (OpensAndServes D.view program served.entry.always.now served.entry.vars served.entry.slots served.entry.variables.now disk (I.remaining input.old) (I.remaining input.new) (W.contents out.old) (W.contents out.new)) }
-    ensures ended { IfErr result (IsWhyEnded D.view (IsProgramOf T.Invariants table) program served.entry.always.now served.entry.vars served.entry.slots served.entry.variables.now disk (I.remaining input.old) (I.remaining input.new) (W.contents out.old) (W.contents out.new)) }
+    // The store that the opening finds is served: each byte that is read, once and in order, as the desk answers it. And no byte is left
+    // where all was read.
+    ensures served { OnOk result (OpensAndServes D.view program (S.arities steps) served.entry.always.now served.entry.vars served.entry.slots served.entry.variables.now disk (I.remaining input.old) (I.remaining input.new) (W.contents out.old) (W.contents out.new)) }
+    ensures whole { IfOk result (λ end. end ≡ InputEnd.Reached → IsAtEnd (I.remaining input.new)) }
+    ensures ended { IfErr result (IsWhyEnded D.view (IsProgramOf T.Invariants table) program (S.arities steps) served.entry.always.now served.entry.vars served.entry.slots served.entry.variables.now disk (I.remaining input.old) (I.remaining input.new) (W.contents out.old) (W.contents out.new)) }
 {
     match OpenedFront::open(alloc, disk, served.vars, served.slots, table, steps) {
         Ok(opened) => {
@@ -92,7 +103,7 @@ fn serve_opened<
     served: Served,
     input: &mut I,
     out: &mut W,
-) -> Result<(), Failure>
+) -> Result<InputEnd, Failure>
     requires spine { spine_of opened ≡ N.name }
     requires opening { found_of opened ≡ N.opening }
     requires names { T.names (table_of opened) ≡ N.program.names }
@@ -103,6 +114,7 @@ fn serve_opened<
     requires told { served.names.now ≡ N.program.names }
     requires always { served.always.now ≡ N.always }
     ensures served { OnOk result (ServesStore (store N.name.start N.opening N.program N.arities N.always) served.entry.vars served.entry.variables.now (I.remaining input.old) (I.remaining input.new) (W.contents out.old) (W.contents out.new)) }
+    ensures whole { IfOk result (λ end. end ≡ InputEnd.Reached → IsAtEnd (I.remaining input.new)) }
     ensures stopped { IfErr result (IsWhyStopped (store N.name.start N.opening N.program N.arities N.always) served.entry.vars served.entry.variables.now (I.remaining input.old) (I.remaining input.new) (W.contents out.old) (W.contents out.new)) }
 {
     let front = opened.named::<N>();
@@ -125,12 +137,13 @@ fn serve_front<
     served: Served,
     input: &mut I,
     out: &mut W,
-) -> Result<(), Failure>
+) -> Result<InputEnd, Failure>
     requires arities { S.arities front.now.steps ≡ N.arities }
     requires vars { served.vars ≡ length N.opening.values }
     requires told { served.names.now ≡ N.program.names }
     requires always { served.always.now ≡ N.always }
     ensures served { OnOk result (ServesStore (store N.name.start N.opening N.program N.arities N.always) served.entry.vars served.entry.variables.now (I.remaining input.old) (I.remaining input.new) (W.contents out.old) (W.contents out.new)) }
+    ensures whole { IfOk result (λ end. end ≡ InputEnd.Reached → IsAtEnd (I.remaining input.new)) }
     ensures stopped { IfErr result (IsWhyStopped (store N.name.start N.opening N.program N.arities N.always) served.entry.vars served.entry.variables.now (I.remaining input.old) (I.remaining input.new) (W.contents out.old) (W.contents out.new)) }
 {
     let service = Service::new(rt, alloc, front, served.vars, served.names, served.always);
@@ -183,27 +196,33 @@ fn serve_lines<
     desk: &mut Desk<N>,
     input: &mut I,
     out: &mut W,
-) -> Result<(), Failure>
+) -> Result<InputEnd, Failure>
     ensures served { OnOk result (ServesInput (store N.name.start N.opening N.program N.arities N.always) (view_of desk.old) (I.remaining input.old) (I.remaining input.new) (W.contents out.old) (W.contents out.new)) }
+    ensures whole { IfOk result (λ end. end ≡ InputEnd.Reached → IsAtEnd (I.remaining input.new)) }
     ensures stopped { IfErr result (StopsInput (store N.name.start N.opening N.program N.arities N.always) (view_of desk.old) (I.remaining input.old) (I.remaining input.new) (W.contents out.old) (W.contents out.new)) }
 {
     let mut lines = Lines::new(alloc);
     let mut piece = room_for_piece(alloc)?;
     for _ in rt.forever() {
-        let count = read_some(rt, input, &mut piece);
-        if count == 0 {
-            desk.end(service, &mut lines, out)?;
-            return flush(out);
+        match read_some(rt, input, &mut piece) {
+            Ok(count) => {
+                desk.serve(service, &mut lines, first_of(&piece, count), out)?;
+                flush(out)?;
+            }
+            Err(end) => {
+                desk.end(service, &mut lines, out)?;
+                flush(out)?;
+                return Ok(end);
+            }
         }
-        desk.serve(service, &mut lines, first_of(&piece, count), out)?;
-        flush(out)?;
     }
     unreachable!()
 }
 
 // The room for a piece.
 fn room_for_piece(alloc: Global) -> Result<Vec<u8>, Failure>
-    ensures { IfErr result (λ f. f ≡ failure.Fault Fault.Memory) }
+    ensures room { IfOk result (λ piece. 1 ≤ length piece.items) }
+    ensures refused { IfErr result (λ f. f ≡ failure.Fault Fault.Memory) }
 {
     match vec![in alloc; 0; PIECE] {
         Ok(piece) => Ok(piece),
@@ -219,17 +238,21 @@ fn first_of(piece: &[u8], count: usize) -> &[u8]
     &piece[..count]
 }
 
-// Reads what is there, into a piece: how many bytes, and none where the input has ended or fails. Where a signal comes between, it reads
-// once more.
-fn read_some<R: Wait, I: Read>(rt: &R, input: &mut I, piece: &mut [u8]) -> usize
-    ensures within { result ≤ length piece.new }
-    ensures bytes { Consumes (I.remaining input.old) (I.remaining input.new) (take result piece.new) }
+// Reads what is there, into a piece, and answers how many bytes; or how the input ended. Where a signal comes between, it reads once
+// more.
+fn read_some<R: Wait, I: Read>(rt: &R, input: &mut I, piece: &mut [u8]) -> Result<usize, InputEnd>
+    requires { 1 ≤ length piece.old }
+    ensures within { IfOk result (λ count. count ≤ length piece.new) }
+    ensures bytes { IfOk result (λ count. Consumes (I.remaining input.old) (I.remaining input.new) (take count piece.new)) }
+    ensures none { OnErr result (Consumes (I.remaining input.old) (I.remaining input.new) []) }
+    ensures ended { IfErr result (λ end. end ≡ InputEnd.Reached → IsAtEnd (I.remaining input.new)) }
 {
     for _ in rt.forever() {
         match input.read(piece) {
-            Ok(count) => return count,
+            Ok(0) => return Err(InputEnd::Reached),
+            Ok(count) => return Ok(count),
             Err(error) if error.kind() == ErrorKind::Interrupted => {}
-            Err(_) => return 0,
+            Err(_) => return Err(InputEnd::Failed),
         }
     }
     unreachable!()

@@ -4,9 +4,7 @@ ghost use Rattle.std.specs.Prelude.{◌<◌, ◌≤◌, IfOk};
 use crate::walk::{Stop, Walk};
 use std::fmt;
 use tmem_disk::Name;
-use tmem_effect::{
-    BATCH_BYTES, MAX_CHECKS, MAX_NAMES, MAX_RECORDS, MAX_RETIRES, MAX_WRITES, Version,
-};
+use tmem_effect::{MAX_CHECKS, MAX_NAMES, MAX_RECORDS, MAX_RETIRES, MAX_WRITES, Version};
 use tmem_gate::GATE_OPEN;
 use tmem_parts::Why;
 
@@ -185,12 +183,8 @@ pub(crate) fn walk_slot(walk: &mut Walk, vars: u16, version: Version) -> Result<
         return walk.wrong(Why::Records);
     }
     walk.pass(2, Is::Records(count))?;
-    let left = walk.left();
     for _ in 0..count {
         walk_record(walk, vars, version)?;
-    }
-    if left.saturating_sub(walk.left()) > BATCH_BYTES {
-        return walk.wrong(Why::TooLong);
     }
     walk.pass(usize::MAX, Is::Ignored)
 }

@@ -1,5 +1,5 @@
 //! What is known of a store once its block 0 was read.
-ghost use Rattle.std.specs.Prelude.{◌≡◌, ◌≤◌, ◌<◌, length, IfOk};
+ghost use Rattle.std.specs.Prelude.{◌≡◌, ◌≤◌, ◌<◌, length, IfOk, IfErr};
 ghost use Rattle.tmem_record.specs.Layout.{end_place};
 
 use crate::fields::{Field, walk_block, walk_image, walk_slot, walk_stale};
@@ -166,7 +166,9 @@ impl<'a> Look<'a> {
 }
 
 // What a walk passed, and where it stopped.
-fn passed(at: usize, walk: Walk, outcome: Result<(), Stop>) -> Result<Walked, Fault> {
+fn passed(at: usize, walk: Walk, outcome: Result<(), Stop>) -> Result<Walked, Fault>
+    ensures { IfErr result (λ fault. fault ≡ Fault.Memory) }
+{
     let wrong = match outcome {
         Ok(()) => None,
         Err(Stop::Wrong(wrong)) => Some(wrong),

@@ -1,8 +1,12 @@
 //! The bytes of a store, from its file.
+ghost use Rattle.std.specs.Prelude.{◌≡◌, ◌≢◌, ◌⊎◌, IfErr};
+ghost use Rattle.std.specs.IoError.{error_kind};
+
 use std::alloc::Global;
 use std::fs::{self, File, Files};
 use std::io::{self, ErrorKind, Read, Seek, SeekFrom};
 use std::os::unix::fs::FileTypeExt;
+use tmem_disk::Fault;
 
 // How many bytes the longest layout takes: 1024 variables and 64 log slots. None of those behind it mean anything.
 const MOST_BYTES: u64 = 512 + 2 * (2048 + 512 * 16) + 4096 * 64;
@@ -18,18 +22,39 @@ pub struct Source {
 
 impl Source {
     /// Reads the store of a file or of a block device, which is opened for reading alone and is not locked: what another program
-    /// writes meanwhile may be read in part.
-    pub fn read<R: Files<File = File> + AllocGlobal>(rt: &R, path: &str) -> io::Result<Source> {
-        let kind = fs::metadata(rt, path)?.file_type();
-        if !kind.is_file() && !kind.is_block_device() {
-            return Err(io::Error::from(ErrorKind::InvalidInput));
+    /// writes meanwhile may be read in part. Refused by `Memory` for want of memory, and by `Device` where it is neither, or a call fails.
+    pub fn read<R: Files<File = File> + AllocGlobal>(rt: &R, path: &str) -> Result<Source, Fault>
+        ensures refused { IfErr result (λ fault. (fault ≡ Fault.Memory) ⊎ (fault ≡ Fault.Device)) }
+    {
+        match read_store(rt, path) {
+            Ok(source) => Ok(source),
+            Err(error) => Err(fault_of(error)),
         }
-        let mut file = File::open(rt, path)?;
-        let size = file.seek(SeekFrom::End(0))?;
-        file.rewind()?;
-        let bytes = first_bytes(rt.alloc(), &mut file, size.min(MOST_BYTES) as usize)?;
-        Ok(Source { size, bytes })
     }
+}
+
+// What comes of a call that failed.
+fn fault_of(error: io::Error) -> Fault
+    ensures memory { error_kind error ≡ ErrorKind.OutOfMemory → result ≡ Fault.Memory }
+    ensures device { error_kind error ≢ ErrorKind.OutOfMemory → result ≡ Fault.Device }
+{
+    if error.kind() == ErrorKind::OutOfMemory {
+        Fault::Memory
+    } else {
+        Fault::Device
+    }
+}
+
+fn read_store<R: Files<File = File> + AllocGlobal>(rt: &R, path: &str) -> io::Result<Source> {
+    let kind = fs::metadata(rt, path)?.file_type();
+    if !kind.is_file() && !kind.is_block_device() {
+        return Err(io::Error::from(ErrorKind::InvalidInput));
+    }
+    let mut file = File::open(rt, path)?;
+    let size = file.seek(SeekFrom::End(0))?;
+    file.rewind()?;
+    let bytes = first_bytes(rt.alloc(), &mut file, size.min(MOST_BYTES) as usize)?;
+    Ok(Source { size, bytes })
 }
 
 // So many bytes of a reader.

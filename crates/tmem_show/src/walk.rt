@@ -68,16 +68,6 @@ impl<'a> Walk<'a> {
         Ok(())
     }
 
-    /// Passes all bytes up to a place of the part.
-    pub(crate) fn pass_to(&mut self, place: usize, is: Is) -> Result<(), Stop> {
-        self.pass(place.saturating_sub(self.at), is)
-    }
-
-    /// How many bytes are left of the part.
-    pub(crate) fn left(&self) -> usize {
-        self.end - self.at
-    }
-
     /// What is wrong with the next byte.
     pub(crate) fn wrong<T>(&self, why: Why) -> Result<T, Stop> {
         self.wrong_behind(0, why)

@@ -1,4 +1,4 @@
-use Rattle.std.proofs.Common.{ℕ, List, inr, subst, refl}
+use Rattle.std.proofs.Common.{ℕ, List, inr, subst, refl, ap}
 use Rattle.std.proofs.lemmas.Result.{on_ok_weaker}
 use Rattle.tmem_core.specs.Program.{IsProgramOf}
 use Rattle.tmem_invariants.specs.Meanings.{IsSound}
@@ -17,7 +17,7 @@ returns-in-Ok-clause-served g c =
     let it = store (spine_of o).start (found_of o) g.program (g.S.StoredSteps.arities (steps_of o)) c.args.served.always.now in
     let state = found_of o in
     let sound = so.sound g.program.tests c.requires.1.1.1.1.1.1.1.1.1.0 in
-    let opens : IsOpenedAs g.D.Disk.view g.program c.args.served.always.now c.args.served.vars c.args.served.slots c.args.disk it = record {
+    let opens : IsOpenedAs g.D.Disk.view g.program (g.S.StoredSteps.arities c.args.steps) c.args.served.always.now c.args.served.vars c.args.served.slots c.args.disk it = record {
       opened = disk_of (opening_of o).journal;
       finds = record {
         position = position_of (opening_of o);
@@ -28,6 +28,7 @@ returns-in-Ok-clause-served g c =
       };
       start = o.starts;
       program_is = refl;
+      arities_are = ap (λ steps. g.S.StoredSteps.arities steps) c.in-Ok.ensures.steps;
       always_is = refl;
     } in
     on_ok_weaker c.serve_opened.result (λ served. record { it = it; opened = opens; served = served }) c.serve_opened.ensures.served
@@ -39,7 +40,7 @@ returns-in-Ok-clause-ended g c =
     let it = store (spine_of o).start (found_of o) g.program (g.S.StoredSteps.arities (steps_of o)) c.args.served.always.now in
     let state = found_of o in
     let sound = so.sound g.program.tests c.requires.1.1.1.1.1.1.1.1.1.0 in
-    let opens : IsOpenedAs g.D.Disk.view g.program c.args.served.always.now c.args.served.vars c.args.served.slots c.args.disk it = record {
+    let opens : IsOpenedAs g.D.Disk.view g.program (g.S.StoredSteps.arities c.args.steps) c.args.served.always.now c.args.served.vars c.args.served.slots c.args.disk it = record {
       opened = disk_of (opening_of o).journal;
       finds = record {
         position = position_of (opening_of o);
@@ -50,6 +51,7 @@ returns-in-Ok-clause-ended g c =
       };
       start = o.starts;
       program_is = refl;
+      arities_are = ap (λ steps. g.S.StoredSteps.arities steps) c.in-Ok.ensures.steps;
       always_is = refl;
     } in
     let names = c.args.served.variables.now in
@@ -59,5 +61,5 @@ returns-in-Ok-clause-ended g c =
     let before = g.W.Write.contents c.args.out.now in
     let after = g.W.Write.contents c.serve_opened.new.out in
     err_more (IsWhyStopped it vars names unread rest before after)
-    (IsWhyEnded g.D.Disk.view (IsProgramOf g.T.Invariants c.args.table) g.program c.args.served.always.now vars c.args.served.slots names c.args.disk unread rest before after) c.serve_opened.result
+    (IsWhyEnded g.D.Disk.view (IsProgramOf g.T.Invariants c.args.table) g.program (g.S.StoredSteps.arities c.args.steps) c.args.served.always.now vars c.args.served.slots names c.args.disk unread rest before after) c.serve_opened.result
     (λ f so. inr (it, opens, so)) c.serve_opened.ensures.stopped
