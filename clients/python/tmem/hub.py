@@ -51,8 +51,8 @@ class NoRequest(Exception):
 
 
 class Asked(NamedTuple):
-    """Who sent a line, with which id, as which of its own lines, why it was not handed on, and how long it is if it is no JSON. What the hub
-    asks itself has nobody."""
+    """Who sent a line, with which id, as which of its own lines, why it was not handed on, and how long it was before more was put behind it.
+    What the hub asks itself has nobody."""
 
     client: Client | None
     id: int
@@ -170,7 +170,7 @@ class Client(asyncio.Protocol):
         if not isinstance(value, dict):
             return self.refused(line + b"\n")
         if not is_id(value["id"]):
-            return self.refused(with_last(line, id="null"))
+            return self.refused(with_last(line, id="null"), length=len(line))
         id = value["id"]
         number = self.hub.number_for(self, id, self.count)
         self.asked[number] = id, any(key in value for key in WAITING)
