@@ -4,7 +4,7 @@ use std::io;
 use tmem_disk::Fault;
 
 /// Why not all was printed.
-#[derive(Debug, Drop)]
+#[derive(Drop)]
 pub enum ShowError {
     /// There was no memory for what was read.
     Refused(Fault),

@@ -106,6 +106,13 @@ pub(crate) fn walk_image(walk: &mut Walk, at: usize, vars: u16) -> Result<(), St
     if !walk_gate(walk)? {
         return Ok(());
     }
+    walk_header(walk, at)?;
+    walk_values(walk, vars)?;
+    walk.zeros_to(usize::MAX)
+}
+
+// The rest of the header of an image copy.
+fn walk_header(walk: &mut Walk, at: usize) -> Result<(), Stop> {
     let generation = walk.number()?;
     if generation == 0 {
         return walk.wrong(Why::NoGeneration);
@@ -119,9 +126,7 @@ pub(crate) fn walk_image(walk: &mut Walk, at: usize, vars: u16) -> Result<(), St
     if Version::of_mark(mark).is_none() {
         return walk.wrong(Why::Mark);
     }
-    walk.pass(1, Is::Mark(mark))?;
-    walk_values(walk, vars)?;
-    walk.zeros_to(usize::MAX)
+    walk.pass(1, Is::Mark(mark))
 }
 
 // The registered names, behind how many there are.
@@ -131,8 +136,9 @@ fn walk_registered(walk: &mut Walk) -> Result<(), Stop> {
     let mut last: Option<Name> = None;
     for _ in 0..count {
         let name = walk.name()?;
-        if last.is_some_and(|last| name <= last) {
-            return walk.wrong(Why::NotAscending);
+        match last {
+            Some(last) if name <= last => return walk.wrong(Why::NotAscending),
+            _ => {}
         }
         pass_name(walk, name)?;
         last = Some(name);
@@ -202,7 +208,7 @@ pub(crate) fn walk_stale(walk: &mut Walk) -> Result<(), Stop> {
 // A record of a batch.
 fn walk_record(walk: &mut Walk, vars: u16, version: Version) -> Result<(), Stop> {
     let writes = walk_writes(walk, vars)?;
-    let mut names = walk.no_names();
+    let mut names = Vec::new(walk.alloc);
     let checks = walk.count(MAX_CHECKS, Why::TooManyChecks)?;
     walk.pass(1, Is::Checks(checks))?;
     walk_names(walk, checks, &mut names)?;
@@ -220,7 +226,7 @@ fn walk_record(walk: &mut Walk, vars: u16, version: Version) -> Result<(), Stop>
 fn walk_writes(walk: &mut Walk, vars: u16) -> Result<u8, Stop> {
     let count = walk.count(MAX_WRITES, Why::TooManyWrites)?;
     walk.pass(1, Is::Writes(count))?;
-    let mut written = walk.no_variables();
+    let mut written = Vec::new(walk.alloc);
     for _ in 0..count {
         let var = walk.short()?;
         if var >= vars {

@@ -3,15 +3,15 @@ ghost use Rattle.std.specs.Prelude.{◌≤◌, ◌<◌};
 
 use crate::error::ShowError;
 use crate::fields::Field;
-use crate::look::{Look, Role, Walked};
+use crate::look::{Look, Opening, Role, Walked, opening_without_block, too_short};
 use crate::source::Source;
-use crate::text::{join, least_recovery, too_short};
+use crate::text::join;
 use std::alloc::Global;
 use std::io::{self, Write};
 use tmem_disk::{Fault, Name};
 use tmem_effect::{Effect, Records, State, Version};
 use tmem_image::ImageState;
-use tmem_parts::{Block, Image, Recovery, Slot, Wrong, block_of};
+use tmem_parts::{Block, Image, Slot, Wrong, block_of};
 use tmem_record::{Head, Layout};
 
 /// Prints what the bytes of a store hold, and what an opening of them finds, as one JSON object in a line; and with `hex` the bytes of
@@ -28,28 +28,12 @@ pub fn show_json<W: Write>(
         Err(wrong) => {
             write!(out, "{{\"at\":0,")?;
             put_wrong(out, wrong)?;
-            write!(out, "}},\"recovery\":")?;
-            put_no_store(alloc, source, wrong, out)?;
+            let opening = opening_without_block(alloc, source, wrong)?;
+            write!(out, "}}")?;
+            put_opening(out, &opening)?;
         }
     }
     Ok(writeln!(out, "}}")?)
-}
-
-// What an opening finds where this is wrong with block 0.
-fn put_no_store<W: Write>(
-    alloc: Global,
-    source: &Source,
-    wrong: Wrong,
-    out: &mut W,
-) -> Result<(), ShowError> {
-    match least_recovery(alloc, source) {
-        Recovery::Found(state) => Ok(put_state(out, &state)?),
-        Recovery::Refused(Fault::Memory) => Err(ShowError::Refused(Fault::Memory)),
-        Recovery::Refused(Fault::Geometry) => {
-            Ok(put_refusal(out, Fault::Geometry, too_short(source))?)
-        }
-        Recovery::Refused(fault) => Ok(put_refusal(out, fault, wrong)?),
-    }
 }
 
 // The parts of a store with this block 0.
@@ -63,8 +47,8 @@ fn put_store<W: Write>(
     let Block { version, layout } = block;
     put_block(out, version, layout)?;
     if (source.bytes.len() as u64) < layout.end() {
-        write!(out, "}},\"recovery\":")?;
-        return Ok(put_refusal(out, Fault::Geometry, too_short(source))?);
+        write!(out, "}}")?;
+        return Ok(put_opening(out, &too_short(source))?);
     }
     match &Look::new(alloc, &source.bytes, layout) {
         Ok(look) => put_parts(alloc, look, version, hex, out),
@@ -85,7 +69,8 @@ fn put_parts<W: Write>(
     }
     put_images(look, hex, out)?;
     put_slots(alloc, look, hex, out)?;
-    put_recovery(look, version, out)
+    let opening = look.opening(version)?;
+    Ok(put_opening(out, &opening)?)
 }
 
 // The start of block 0, up to the end of the layout.
@@ -122,13 +107,12 @@ fn put_slots<W: Write>(
     Ok(write!(out, "]")?)
 }
 
-// What an opening finds, of a store that was formatted with this version.
-fn put_recovery<W: Write>(look: &Look, version: Version, out: &mut W) -> Result<(), ShowError> {
+// What an opening finds, or its refusal, and where that comes from.
+fn put_opening<W: Write>(out: &mut W, opening: &Opening) -> io::Result<()> {
     write!(out, ",\"recovery\":")?;
-    match look.recovery() {
-        Recovery::Found(state) => Ok(put_state(out, &state)?),
-        Recovery::Refused(Fault::Memory) => Err(ShowError::Refused(Fault::Memory)),
-        Recovery::Refused(fault) => Ok(put_refusal(out, fault, look.reason(version)?)?),
+    match opening {
+        Opening::Found(state) => put_state(out, state),
+        Opening::Refused(fault, wrong) => put_refusal(out, *fault, *wrong),
     }
 }
 
@@ -178,23 +162,30 @@ fn put_slot<W: Write>(
 {
     let walked = look.walk_slot(k)?;
     begin(out, k > 0, walked.at)?;
-    let slot = look.slot(k, records);
-    match (look.role_of_slot(k), slot) {
-        (_, Slot::Closed) => write!(out, "false")?,
-        (Role::Stale, _) => put_role(out, Role::Stale)?,
-        (role, Slot::Open(head)) => {
-            put_role(out, role)?;
-            put_batch(out, head, records)?;
-        }
-        (role, Slot::Damaged) => {
-            put_role(out, role)?;
-            put_damage(out, &walked)?;
-        }
+    match look.slot(k, records) {
+        Slot::Closed => write!(out, "false")?,
+        slot => put_open_slot(look.role_of_slot(k), slot, records, &walked, out)?,
     }
     if hex {
         put_fields(look, &walked, out)?;
     }
     Ok(write!(out, "}}")?)
+}
+
+// What counts of a slot that is open, and its batch.
+fn put_open_slot<W: Write>(
+    role: Role,
+    slot: Slot,
+    records: &Records,
+    walked: &Walked,
+    out: &mut W,
+) -> io::Result<()> {
+    put_role(out, role)?;
+    match (role, slot) {
+        (Role::Stale, _) | (_, Slot::Closed) => Ok(()),
+        (_, Slot::Open(head)) => put_batch(out, head, records),
+        (_, Slot::Damaged) => put_damage(out, walked),
+    }
 }
 
 // The start of a part, up to whether it is open.

@@ -71,8 +71,11 @@ pub(crate) fn not_stale(bytes: &[u8], layout: Layout, used: u16, generation: u64
 {
     for k in used..layout.slots {
         let at = layout.slot(k);
-        if generation_at(bytes, at).is_some_and(|it| it >= generation) {
-            return Some(amiss(at.saturating_add(1), Why::NotStale));
+        match generation_at(bytes, at) {
+            Some(it) if it >= generation => {
+                return Some(amiss(at.saturating_add(1), Why::NotStale));
+            }
+            _ => {}
         }
     }
     None

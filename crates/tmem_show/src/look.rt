@@ -5,12 +5,13 @@ ghost use Rattle.tmem_record.specs.Layout.{end_place};
 use crate::fields::{Field, walk_block, walk_image, walk_slot, walk_stale};
 use crate::log::{Chosen, choose, generation_at, used};
 use crate::reason::reason;
+use crate::source::Source;
 use crate::walk::{Stop, Walk};
 use std::alloc::Global;
 use tmem_disk::Fault;
-use tmem_effect::{Records, Version};
-use tmem_parts::{Image, Recovery, Slot, Wrong, image_of, recovery_of, slot_of};
-use tmem_record::{BLOCK_SIZE, Layout, SLOT_SIZE};
+use tmem_effect::{Records, State, Version};
+use tmem_parts::{Image, Recovery, Slot, Why, Wrong, image_of, recovery_of, slot_of};
+use tmem_record::{BLOCK_SIZE, LEAST_SLOTS, Layout, SLOT_SIZE};
 
 /// What counts of an image copy or a slot that is open.
 #[derive(Clone, Copy)]
@@ -21,6 +22,15 @@ pub(crate) enum Role {
     Stale,
     /// It is of a generation that may not be there.
     Amiss,
+}
+
+/// What an opening finds.
+#[derive(Drop)]
+pub(crate) enum Opening {
+    /// This state.
+    Found(State),
+    /// It is refused, for what is wrong there.
+    Refused(Fault, Wrong),
 }
 
 /// The bytes of a store that has a block 0, and which image is chosen there.
@@ -154,15 +164,46 @@ impl<'a> Look<'a> {
         passed(at, walk, outcome)
     }
 
-    /// What an opening finds.
-    pub(crate) fn recovery(&self) -> Recovery {
-        recovery_of(self.alloc, self.bytes, self.layout)
+    /// What an opening finds, of a store that was formatted with this version.
+    pub(crate) fn opening(&self, formatted: Version) -> Result<Opening, Fault> {
+        let fault = match recovery_of(self.alloc, self.bytes, self.layout) {
+            Recovery::Found(state) => return Ok(Opening::Found(state)),
+            Recovery::Refused(Fault::Memory) => return Err(Fault::Memory),
+            Recovery::Refused(fault) => fault,
+        };
+        match reason(self.alloc, self.bytes, self.layout, formatted) {
+            Ok(wrong) => Ok(Opening::Refused(fault, wrong)),
+            Err(_) => Err(Fault::Memory),
+        }
     }
+}
 
-    /// Why an opening is refused, of a store that was formatted with this version.
-    pub(crate) fn reason(&self, formatted: Version) -> Result<Wrong, Fault> {
-        reason(self.alloc, self.bytes, self.layout, formatted).map_err(|_| Fault::Memory)
+/// What an opening finds where this is wrong with block 0: with the least numbers, since that tells none, and fewer bytes are a store of
+/// none.
+pub(crate) fn opening_without_block(
+    alloc: Global,
+    source: &Source,
+    wrong: Wrong,
+) -> Result<Opening, Fault> {
+    let least = Layout {
+        vars: 1,
+        slots: LEAST_SLOTS,
+    };
+    match recovery_of(alloc, &source.bytes, least) {
+        Recovery::Found(state) => Ok(Opening::Found(state)),
+        Recovery::Refused(Fault::Memory) => Err(Fault::Memory),
+        Recovery::Refused(Fault::Geometry) => Ok(too_short(source)),
+        Recovery::Refused(fault) => Ok(Opening::Refused(fault, wrong)),
     }
+}
+
+/// What an opening finds where there are fewer bytes than the layout has.
+pub(crate) fn too_short(source: &Source) -> Opening {
+    let wrong = Wrong {
+        at: source.size,
+        why: Why::Ends,
+    };
+    Opening::Refused(Fault::Geometry, wrong)
 }
 
 // What a walk passed, and where it stopped.

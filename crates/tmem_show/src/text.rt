@@ -3,16 +3,15 @@ ghost use Rattle.std.specs.Prelude.{◌≤◌, ◌<◌};
 
 use crate::error::ShowError;
 use crate::fields::Field;
-use crate::look::{Look, Role, Walked};
+use crate::look::{Look, Opening, Role, Walked, opening_without_block, too_short};
 use crate::source::Source;
 use std::alloc::Global;
 use std::fmt::Display;
 use std::io::{self, Write};
-use tmem_disk::{Fault, Name};
 use tmem_effect::{Effect, Records, State, Version};
 use tmem_image::ImageState;
-use tmem_parts::{Block, Image, Recovery, Slot, Why, Wrong, block_of, recovery_of};
-use tmem_record::{Head, LEAST_SLOTS, Layout};
+use tmem_parts::{Block, Image, Slot, block_of};
+use tmem_record::{Head, Layout};
 
 // So many bytes of a field are printed at most.
 const MOST_SHOWN: usize = 20;
@@ -34,43 +33,10 @@ pub fn show<W: Write>(
         Ok(block) => show_store(alloc, source, block, hex, out),
         Err(wrong) => {
             writeln!(out, "block 0 at 0: {wrong}")?;
-            show_no_store(alloc, source, wrong, out)
+            let opening = opening_without_block(alloc, source, wrong)?;
+            Ok(show_opening(out, &opening)?)
         }
     }
-}
-
-/// What is wrong where there are fewer bytes than the layout has.
-pub(crate) fn too_short(source: &Source) -> Wrong {
-    Wrong {
-        at: source.size,
-        why: Why::Ends,
-    }
-}
-
-// What an opening finds where this is wrong with block 0.
-fn show_no_store<W: Write>(
-    alloc: Global,
-    source: &Source,
-    wrong: Wrong,
-    out: &mut W,
-) -> Result<(), ShowError> {
-    match least_recovery(alloc, source) {
-        Recovery::Found(state) => Ok(show_state(out, &state)?),
-        Recovery::Refused(Fault::Memory) => Err(ShowError::Refused(Fault::Memory)),
-        Recovery::Refused(Fault::Geometry) => {
-            Ok(show_refusal(out, Fault::Geometry, too_short(source))?)
-        }
-        Recovery::Refused(fault) => Ok(show_refusal(out, fault, wrong)?),
-    }
-}
-
-/// What an opening with the least numbers finds: where block 0 tells no numbers, fewer bytes are a store of none.
-pub(crate) fn least_recovery(alloc: Global, source: &Source) -> Recovery {
-    let least = Layout {
-        vars: 1,
-        slots: LEAST_SLOTS,
-    };
-    recovery_of(alloc, &source.bytes, least)
 }
 
 // The parts of a store with this block 0.
@@ -84,7 +50,7 @@ fn show_store<W: Write>(
     let Block { version, layout } = block;
     show_block(out, version, layout)?;
     if (source.bytes.len() as u64) < layout.end() {
-        return Ok(show_refusal(out, Fault::Geometry, too_short(source))?);
+        return Ok(show_opening(out, &too_short(source))?);
     }
     match &Look::new(alloc, &source.bytes, layout) {
         Ok(look) => show_parts(alloc, look, version, hex, out),
@@ -107,7 +73,8 @@ fn show_parts<W: Write>(
         show_image(look, copy, hex, out)?;
     }
     show_slots(alloc, look, hex, out)?;
-    show_recovery(look, version, out)
+    let opening = look.opening(version)?;
+    Ok(show_opening(out, &opening)?)
 }
 
 // What block 0 says.
@@ -121,12 +88,11 @@ fn show_block<W: Write>(out: &mut W, version: Version, layout: Layout) -> io::Re
     )
 }
 
-// What an opening finds, of a store that was formatted with this version.
-fn show_recovery<W: Write>(look: &Look, version: Version, out: &mut W) -> Result<(), ShowError> {
-    match look.recovery() {
-        Recovery::Found(state) => Ok(show_state(out, &state)?),
-        Recovery::Refused(Fault::Memory) => Err(ShowError::Refused(Fault::Memory)),
-        Recovery::Refused(fault) => Ok(show_refusal(out, fault, look.reason(version)?)?),
+// What an opening finds, or its refusal, and where that comes from.
+fn show_opening<W: Write>(out: &mut W, opening: &Opening) -> io::Result<()> {
+    match opening {
+        Opening::Found(state) => show_state(out, state),
+        Opening::Refused(fault, wrong) => writeln!(out, "recovery: {fault}, {wrong}"),
     }
 }
 
@@ -248,11 +214,6 @@ fn show_state<W: Write>(out: &mut W, state: &State) -> io::Result<()> {
     write!(out, " values=")?;
     join(out, state.values())?;
     writeln!(out, "")
-}
-
-// The refusal of an opening, and where it comes from.
-fn show_refusal<W: Write>(out: &mut W, fault: Fault, wrong: Wrong) -> io::Result<()> {
-    writeln!(out, "recovery: {fault}, {wrong}")
 }
 
 // The bytes of a part, field by field.

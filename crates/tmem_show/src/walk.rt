@@ -26,7 +26,7 @@ impl<T: Drop> From<AllocFailed<T>> for Stop {
 /// A walk over a part of some bytes.
 #[derive(Drop)]
 pub(crate) struct Walk<'a> {
-    alloc: Global,
+    pub(crate) alloc: Global,
     bytes: &'a [u8],
     // where the part ends
     end: usize,
@@ -121,8 +121,10 @@ impl<'a> Walk<'a> {
         ensures most { result ≤ most }
     {
         let left = &self.bytes[self.at..self.end];
-        let zeros = left.iter().take_while(|byte| **byte == 0).count() / 8;
-        u16::try_from(zeros).unwrap_or(u16::MAX).max(1).min(most)
+        u16::try_from(zeros_in(left) / 8)
+            .unwrap_or(u16::MAX)
+            .max(1)
+            .min(most)
     }
 
     /// The next byte as a count, which may be so much.
@@ -132,16 +134,6 @@ impl<'a> Walk<'a> {
             return self.wrong(why);
         }
         Ok(count)
-    }
-
-    /// An empty list of names.
-    pub(crate) fn no_names(&self) -> Vec<Name> {
-        Vec::new(self.alloc)
-    }
-
-    /// An empty list of variables.
-    pub(crate) fn no_variables(&self) -> Vec<u16> {
-        Vec::new(self.alloc)
     }
 
     /// The next name, behind its length.
@@ -159,10 +151,20 @@ impl<'a> Walk<'a> {
             return Ok(());
         }
         let zeros = &self.bytes[self.at..end];
-        let before = zeros.iter().take_while(|byte| **byte == 0).count();
+        let before = zeros_in(zeros);
         if before < zeros.len() {
             return self.wrong_behind(before, Why::NotZero);
         }
         self.pass(before, Is::Zeros)
     }
+}
+
+// How many zeros bytes begin with.
+fn zeros_in(bytes: &[u8]) -> usize {
+    for (i, byte) in bytes.iter().enumerate() {
+        if *byte != 0 {
+            return i;
+        }
+    }
+    bytes.len()
 }
