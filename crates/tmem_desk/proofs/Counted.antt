@@ -19,7 +19,7 @@ use Rattle.tmem_desk.specs.Due.{due, one_for, waits_for, answers_to}
 use Rattle.tmem_copies.specs.Leading.{first_puts}
 use Rattle.tmem_copies.specs.Numbering.{with_numbers}
 use Rattle.tmem_desk.specs.Keeping.{kept_under, with_kept}
-use Rattle.tmem_desk.specs.Serving.{Takes, MayWait, HasNoPlan, Runs, RunsWith, RunsCopy, kept_as, RefusesLine, RefusesLong, Round, TriesNext, TriesFirst, tells, tried, tried_again, by, counted, waits, without, cancelled}
+use Rattle.tmem_desk.specs.Serving.{Takes, MayWait, HasNoPlan, Runs, RunsWith, RunsCopy, kept_as, RefusesLine, RefusesLong, Round, TriesNext, TriesFirst, Wakes, Finishes, tells, tried, tried_again, by, counted, waits, without, cancelled, closed, with_closed}
 use Rattle.tmem_desk.specs.Steps.{Repeats}
 use Rattle.tmem_desk.specs.Told.{answered, refused}
 use Rattle.tmem_desk.specs.declared.told.Told.{Told}
@@ -165,3 +165,27 @@ refused_due s text v w other r = ap (due other) r.is ∙ tells_none other (count
 
 pub long_due : (v w : DeskView) (other : ℤ) → RefusesLong v w → due other w ≡ due other v
 long_due v w other r = ap (due other) r.is ∙ tells_none other (counted v) (counted v).lines r.refusal
+
+-- ---- at the end
+
+rounds_due : (s : Store) (n : ℕ) (v w : DeskView) (other : ℤ) → Repeats (Round s) n v w → due other w ≡ due other v
+rounds_due s zero v w other same = ap (due other) same
+rounds_due s (suc n) v w other steps = rounds_due s n steps.0 w other steps.2 ∙ round_due s v steps.0 other steps.1
+
+woken_due : (s : Store) (v w : DeskView) (other : ℤ) → Wakes s v w → due other w ≡ due other v
+woken_due s v w other t = round_due s t.met w other t.last ∙ rounds_due s t.rounds v t.met other t.before
+
+pub finished_due : (s : Store) (v w : DeskView) (other : ℤ) → Finishes s v w → due other w ≡ due other v
+finished_due s v w other f = ap (due other) f.is ∙ woken_due s v f.woken other f.wakes
+
+-- each that waits is answered
+closed_count : (other : ℤ) (ws : List (ℤ × Ask)) → count_by (answers_to other) (closed ws) ≡ count_by (waits_for other) ws
+closed_count other [] = refl
+closed_count other (w ∷ ws) =
+    let one : count_by (answers_to other) (answered w.0 (answer.Fault fault.Closed) ∷ []) ≡ 0 + cond (int_eq w.0 other) 1 0 = refl in
+    let wait : count_by (waits_for other) (w ∷ []) ≡ 0 + cond (int_eq w.0 other) 1 0 = refl in
+    omega (arith, closed_count other ws, count_append (answers_to other) (answered w.0 (answer.Fault fault.Closed) ∷ []) (closed ws), count_append (waits_for other) (w ∷ []) ws)
+
+-- so that all that is due is told
+pub closed_due : (other : ℤ) (v : DeskView) → count_by (answers_to other) (with_closed v).told ≡ due other v
+closed_due other v = omega (arith, count_append (answers_to other) v.told (closed v.waiting), closed_count other v.waiting)

@@ -28,9 +28,13 @@ pub ends_unprinted : {T : Type 0} (r : Result T Failure) (contents : Option (Lis
 ends_unprinted (Ok x) contents = tt
 ends_unprinted (Err f) contents = ends_by_none contents f
 
--- all that is told by the fault was printed
+-- all that is told by the fault tells of that alone
+pub only_failed : (fault : Fault) (all given : List Told) → given ≡ map (failed fault) all → All (TellsOnly fault) given
+only_failed fault all given is = subst (λ (l : List Told). All (TellsOnly fault) l) (sym is) (tells_only fault all)
+
+-- and was printed
 pub ends_failed : (fault : Fault) (all given : List Told) (prints : List ℕ → Type 0) → given ≡ map (failed fault) all → prints (told_lines given) → EndsBy prints (failure.Fault fault)
-ends_failed fault all given prints is printed = (given, subst (λ (l : List Told). All (TellsOnly fault) l) (sym is) (tells_only fault all), printed)
+ends_failed fault all given prints is printed = (given, only_failed fault all given is, printed)
 
 -- the end was served
 pub serves_end : (s : Store) (text : List ℕ) (v ran mid w : DeskView) (prints : List ℕ → Type 0) → RunsLast s text v ran → mid ≡ with_closed ran → prints (told_lines mid.told) → w ≡ record mid { told = [] } → ServesEnd s text v w prints

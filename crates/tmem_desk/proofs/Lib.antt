@@ -5,9 +5,7 @@ mod Giving
 mod Knowing
 mod Lasting
 mod Lists
-mod OneReading
 mod Places
-mod Retired
 mod Seen
 mod Settled
 mod StepLaws

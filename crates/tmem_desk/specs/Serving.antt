@@ -8,6 +8,7 @@ use Rattle.tmem_front.specs.Settling.{SeesMore}
 use Rattle.tmem_spine.specs.Views.{PassView}
 use Rattle.tmem_tree.specs.declared.tx.Tx.{Tx}
 use Rattle.tmem_requests.specs.Fits.{FitsStore}
+use Rattle.tmem_requests.specs.Reasons.{IsReason}
 use Rattle.tmem_requests.specs.Requests.{IsRequestText}
 use Rattle.tmem_requests.specs.declared.answer.Answer.{Answer}
 use Rattle.tmem_requests.specs.declared.answer.Answer.TheVariants as answer
@@ -137,10 +138,11 @@ pub record TakesLine (s : Store) (text : List ℕ) (v w : DeskView) : Type 0 whe
   pub is : IsAsked s id ask text
   pub takes : Takes s id ask (counted v) w
 
--- it is none, and that is told, with its number
+-- it is none, and that is told, with its number and a reason that is true
 pub record RefusesLine (s : Store) (text : List ℕ) (v w : DeskView) : Type 0 where
   pub none : (id : ℤ) (ask : Ask) → ¬ IsAsked s id ask text
   pub refusal : NoRequest
+  pub reason : IsReason (length s.opening.values) s.program.names s.always text refusal
   pub is : w ≡ tells (counted v) (refused (counted v).lines refusal ∷ [])
 
 -- it is too long to be one

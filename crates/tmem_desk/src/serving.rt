@@ -13,7 +13,7 @@ use crate::desk::Desk;
 use crate::failure::Failure;
 use crate::naming::ServedNaming;
 use crate::service::Service;
-use crate::told::{Told, print};
+use crate::told::Told;
 use std::alloc::{AllocError, Global};
 use std::collections::VecDeque;
 use std::io::Write;
@@ -110,7 +110,7 @@ impl<N: ServedNaming> Desk<N> {
         ensures desk { OnOk result (view_of self.new ≡ record (view_of self.old) { told = [] }) }
         ensures ends { IfErr result (EndsBy (Appends (W.contents out.old) (W.contents out.new))) }
     {
-        print(self.alloc, &self.told, out)?;
+        self.print(&self.told, out)?;
         self.told.clear();
         Ok(())
     }
@@ -193,7 +193,7 @@ impl<N: ServedNaming> Desk<N> {
         let Ok(failed) = all_failed(self.alloc, told, &fault) else {
             return Err(Failure::Fault(Fault::Memory));
         };
-        print(self.alloc, &failed, out)?;
+        self.print(&failed, out)?;
         Err(Failure::Fault(fault))
     }
 

@@ -1,11 +1,12 @@
 // What is told, and printed once it is durable.
 ghost use Rattle.std.specs.Prelude.{◌≡◌, ◌++◌, OnOk, IfErr};
 ghost use Rattle.std.specs.Io.KnownBytes.{Appends};
-ghost use Rattle.tmem_desk.specs.Failing.{EndsBy};
+ghost use Rattle.tmem_desk.specs.Failing.{EndsBy, MayPrint};
 ghost use Rattle.tmem_desk.specs.Told.{told_line, told_lines};
 
+use crate::desk::Desk;
 use crate::failure::Failure;
-use std::alloc::Global;
+use crate::naming::ServedNaming;
 use std::io::{self, Write};
 use tmem_disk::Fault;
 use tmem_requests::{AnswerLine, NoRequestLine};
@@ -19,18 +20,21 @@ pub enum Told {
     NoRequest(NoRequestLine),
 }
 
-/// Prints what is told, by one write.
-pub(crate) fn print<W: Write>(alloc: Global, told: &[Told], out: &mut W) -> Result<(), Failure>
-    ensures printed { OnOk result (Appends (W.contents out.old) (W.contents out.new) (told_lines told.now)) }
-    ensures ends { IfErr result (EndsBy (Appends (W.contents out.old) (W.contents out.new))) }
-{
-    let mut text = Vec::new(alloc);
-    if spell_all(told, &mut text).is_err() {
-        return Err(Failure::Fault(Fault::Memory));
+impl<N: ServedNaming> Desk<N> {
+    /// Prints what is told, by one write.
+    pub(crate) fn print<W: Write>(&self, told: &[Told], out: &mut W) -> Result<(), Failure>
+        requires { MayPrint self.now.pass told.now }
+        ensures printed { OnOk result (Appends (W.contents out.old) (W.contents out.new) (told_lines told.now)) }
+        ensures ends { IfErr result (EndsBy (Appends (W.contents out.old) (W.contents out.new))) }
+    {
+        let mut text = Vec::new(self.alloc);
+        if spell_all(told, &mut text).is_err() {
+            return Err(Failure::Fault(Fault::Memory));
+        }
+        out.write_all(&text)?;
+        out.flush()?;
+        Ok(())
     }
-    out.write_all(&text)?;
-    out.flush()?;
-    Ok(())
 }
 
 // Puts the lines of what is told behind a text.

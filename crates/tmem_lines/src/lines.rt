@@ -20,8 +20,8 @@ pub enum Cut {
     Nothing,
 }
 
-/// Cuts what is read into lines. Contracts see the line that was cut off last, what is held behind it, and whether a line began
-/// before that and is too long already.
+/// Cuts what is read into lines. Contracts see the line that was cut off last, what is held behind it, whether a line began before
+/// that and is too long already, and how many bytes are held in all.
 #[derive(Drop)]
 pub struct Lines {
     bytes: Vec<u8>,
@@ -34,12 +34,12 @@ pub struct Lines {
 }
 
 impl Model for Lines {
-    ghost use Rattle.std.specs.Prelude.{◌≤◌, drop, slice_range, vec_len};
+    ghost use Rattle.std.specs.Prelude.{◌≤◌, drop, length, slice_range, vec_len};
     ghost use Rattle.tmem_lines.specs.Views.{LinesView};
 
     ghost Value = { LinesView };
 
-    ghost view = { λ l. record { line = slice_range l.bytes.items l.from l.to; rest = drop l.next l.bytes.items; is_long = l.is_long } };
+    ghost view = { λ l. record { line = slice_range l.bytes.items l.from l.to; rest = drop l.next l.bytes.items; is_long = l.is_long; held = length l.bytes.items } };
 
     ghost invariant = { λ l. (l.from ≤ l.to) × (l.to ≤ vec_len l.bytes) × (l.next ≤ vec_len l.bytes) };
 }
@@ -58,10 +58,11 @@ impl Lines {
         }
     }
 
-    /// Adds a piece to what was read. At an `Err` it is as before.
+    /// Adds a piece to what was read, and lets go all that was cut off. At an `Err` it is as before.
     pub fn add(&mut self, piece: &[u8]) -> Result<(), AllocError>
         ensures ok { OnOk result ((text : List ℕ) → StandsFor self.old text → StandsFor self.new (text ++ piece.now)) }
         ensures err { OnErr result ((text : List ℕ) → StandsFor self.old text → StandsFor self.new text) }
+        ensures little { self.new.held ≡ length self.new.rest }
     {
         drop(self.bytes.drain(..self.next));
         self.from = 0;

@@ -131,7 +131,7 @@ beside_by key k false is other among =
 pub beside : (key k : List ℕ) → has_name aside k ≡ false → has_name (keys_by key) k ≡ true → key ≡ k
 beside key k other among = beside_by key k (bytes_eq key (codes "run")) refl other among
 
-not_aside : (ask : Ask) → has_name aside (key_of ask) ≡ false
+pub not_aside : (ask : Ask) → has_name aside (key_of ask) ≡ false
 not_aside (Do tx) = refl
 not_aside ask = refl
 
@@ -151,7 +151,7 @@ pub no_request_unasked : (d : Data) → ((k : List ℕ) → IsSome (get k d) →
 no_request_unasked d all id ask is =
     false≢true (sym (not_aside ask) ∙ all (key_of ask) (some_is (get (key_of ask) d) is.asked.value is.asked.stands))
 
-asks_by : (d v : Data) (k : List ℕ) (id : ℤ) (ask : Ask) → get k d ≡ Some v → has_name aside k ≡ false → IsRequest id ask d → key_of ask ≡ k
+pub asks_by : (d v : Data) (k : List ℕ) (id : ℤ) (ask : Ask) → get k d ≡ Some v → has_name aside k ≡ false → IsRequest id ask d → key_of ask ≡ k
 asks_by d v k id ask found other is =
     beside (key_of ask) k other (key_known (keys_by (key_of ask)) k d v is.only found)
 

@@ -33,7 +33,7 @@ same_string x y same = cc
 same_natural : (m n : ℕ) → natural m ≡ natural n → m ≡ n
 same_natural m n same = cc
 
-same_integer : (m n : ℤ) → integer m ≡ integer n → m ≡ n
+pub same_integer : (m n : ℤ) → integer m ≡ integer n → m ≡ n
 same_integer (pos m) (pos n) same = cc
 same_integer (pos m) (negsuc n) same = cc
 same_integer (negsuc m) (pos n) same = cc
@@ -47,9 +47,12 @@ same_pair p q same =
     let parts = two_same (natural p.0) (integer p.1) (natural q.0) (integer q.1) same in
     ap (λ (var : ℕ). pair var p.1) (same_natural p.0 q.0 parts.0) ∙ ap (pair q.0) (same_integer p.1 q.1 parts.1)
 
--- an array of pairs has one reading, and an array of strings
+-- an array of pairs has one reading, and an array of numbers, and one of strings
 pub same_pairs : (d : Data) (xs ys : List (ℕ × ℤ)) → d ≡ array_of (map pair_form xs) → d ≡ array_of (map pair_form ys) → xs ≡ ys
 same_pairs = same_array pair_form same_pair
+
+pub same_naturals : (d : Data) (xs ys : List ℕ) → d ≡ array_of (map natural xs) → d ≡ array_of (map natural ys) → xs ≡ ys
+same_naturals = same_array natural same_natural
 
 pub same_strings : (d : Data) (xs ys : List (List ℕ)) → d ≡ array_of (map string xs) → d ≡ array_of (map string ys) → xs ≡ ys
 same_strings = same_array string same_string

@@ -1,7 +1,8 @@
 -- Why a line was not read.
-use Rattle.std.specs.Prelude.{⊤}
+use Rattle.std.specs.Prelude.{◌≡◌, ⊤}
 use Rattle.tmem_requests.specs.declared.refusal.RequestError.{RequestError}
 use Rattle.tmem_requests.specs.declared.refusal.RequestError.TheVariants.{Memory, NoRequest}
+use Rattle.tmem_requests.specs.declared.why.Why.TheVariants.{NotJson}
 
 -- memory was refused
 abbrev pub IsWanting : RequestError → Type 0
@@ -12,3 +13,8 @@ IsWanting (NoRequest refusal) = ⊥
 abbrev pub IsNoRequest : RequestError → Type 0
 IsNoRequest (Memory e) = ⊥
 IsNoRequest (NoRequest refusal) = ⊤
+
+-- the line is not JSON
+abbrev pub IsNotJson : RequestError → Type 0
+IsNotJson (Memory e) = ⊥
+IsNotJson (NoRequest refusal) = refusal.why ≡ NotJson

@@ -4,6 +4,7 @@ pub mod Errors
 pub mod Fits
 pub mod Forms
 pub mod Proposals
+pub mod Reasons
 pub mod Refusals
 pub mod Requests
 pub mod Wrong

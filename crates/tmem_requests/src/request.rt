@@ -4,9 +4,10 @@ ghost use Rattle.serde_json.specs.Data.{Data};
 ghost use Rattle.serde_json.specs.Read.{read};
 ghost use Rattle.serde_json.specs.View.{view};
 ghost use Rattle.tmem_forms.specs.Errors.{Refuses};
-ghost use Rattle.tmem_requests.specs.Errors.{IsNoRequest};
+ghost use Rattle.tmem_requests.specs.Errors.{IsNoRequest, IsNotJson};
 ghost use Rattle.tmem_requests.specs.Fits.{FitsStore};
 ghost use Rattle.tmem_requests.specs.Forms.{HasAt, IsInteger};
+ghost use Rattle.tmem_requests.specs.Reasons.{IsNoJson};
 ghost use Rattle.tmem_requests.specs.Requests.{IsRequest, IsRequestText};
 ghost use Rattle.tmem_requests.specs.Wrong.{TellsTruth, TellsTruthOf, store};
 ghost use Rattle.tmem_requests.specs.declared.request.Ask.{Ask};
@@ -66,6 +67,7 @@ impl Request {
         ensures request { IfOk result (λ request. IsRequestText request.id request.ask line.now) }
         ensures no_request { IfErr result (λ e. IsNoRequest e → (id : ℤ) (ask : Ask) → ¬ IsRequestText id ask line.now) }
         ensures told { IfErr result (λ e. (value : Data) → IsNoRequest e → IsUtf8 line.now → read line.now ≡ Some value → TellsTruthOf value e) }
+        ensures no_json { IfErr result (λ e. IsNoJson line.now → IsNoRequest e → IsNotJson e) }
     {
         let value = Value::from_slice(alloc, line)?;
         match Request::from_value(alloc, &value) {

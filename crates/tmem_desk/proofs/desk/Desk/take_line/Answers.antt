@@ -24,4 +24,4 @@ returns-in-Ok g c =
 pub returns-in-Err-NoRequest : goal.returns-in-Err-NoRequest
 returns-in-Err-NoRequest g c =
     on_ok_weaker c.refuse.result
-    (λ is. inr (record { none = (rw c.in-Err-NoRequest.field-0-is at c.in-Err-NoRequest.ensures.none) tt; refusal = c.in-Err-NoRequest.refusal; is = is })) c.refuse.ensures
+    (λ is. inr (record { none = (rw c.in-Err-NoRequest.field-0-is at c.in-Err-NoRequest.ensures.none) tt; refusal = c.in-Err-NoRequest.refusal; reason = rw c.in-Err-NoRequest.field-0-is at c.in-Err-NoRequest.ensures.why; is = is })) c.refuse.ensures

@@ -1,4 +1,4 @@
-use Rattle.std.proofs.Common.{◌≤◌, ◌<◌, ◌+◌, ℕ, drop, false, sym, subst, refl}
+use Rattle.std.proofs.Common.{◌≤◌, ◌<◌, ◌+◌, ℕ, drop, false, length, sym, subst, refl}
 use Rattle.std.specs.Prelude.{slice_range}
 use Rattle.tmem_lines.specs.Lines.{StandsFor}
 use Rattle.tmem_lines.specs.Views.{LinesView}
@@ -11,7 +11,7 @@ returns-clause-line c _ text stands =
     let bytes = inside.bytes.items in
     let at = c.in-Some.at in
     let first = slice_range bytes inside.next (inside.next + at) in
-    let new : LinesView = record { line = first; rest = drop (inside.next + at + 1) bytes; is_long = false } in
+    let new : LinesView = record { line = first; rest = drop (inside.next + at + 1) bytes; is_long = false; held = length bytes } in
     let f = found_in c.deref.result.now bytes inside.next at c.memchr.result c.memchr.ensures c.deref.ensures.value c.in-Some.is in
     let held = subst (λ (v : LinesView). StandsFor v text) (sym c.self.view_is) stands in
     let short = c.is_too_long-is_long.ensures.short c.if-is_long.false in (
@@ -25,7 +25,7 @@ returns-then-is_long-clause-long c _ text stands =
     let bytes = inside.bytes.items in
     let at = c.in-Some.at in
     let first = slice_range bytes inside.next (inside.next + at) in
-    let new : LinesView = record { line = first; rest = drop (inside.next + at + 1) bytes; is_long = false } in
+    let new : LinesView = record { line = first; rest = drop (inside.next + at + 1) bytes; is_long = false; held = length bytes } in
     let f = found_in c.deref.result.now bytes inside.next at c.memchr.result c.memchr.ensures c.deref.ensures.value c.in-Some.is in
     let held = subst (λ (v : LinesView). StandsFor v text) (sym c.self.view_is) stands in
     cut_long inside.is_long first text new (λ is. subst (λ (n : ℕ). 65536 < n) (sym f.2) (c.is_too_long-is_long.ensures.long c.if-is_long.true is))

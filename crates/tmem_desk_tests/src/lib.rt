@@ -1,0 +1,7 @@
+//! The desk, by pieces of input and what is printed for each.
+//!
+//! A crate of tests alone.
+#![tactic(auto)]
+
+#[cfg(test)]
+mod tests;

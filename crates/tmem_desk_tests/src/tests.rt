@@ -1,0 +1,5 @@
+//! What a served store prints for pieces of input.
+mod answers;
+mod limits;
+mod pieces;
+mod store;

@@ -1,0 +1,88 @@
+//! As many requests wait as may, as many transactions are kept, and more of them commit in one piece than may be undurable.
+use super::store::{Case, serve_case};
+use std::alloc::Global;
+use std::io::Write;
+use std::process::Abort;
+use std::sync::Wait;
+use std::test::Fail;
+
+#[test]
+fn one_more_waits_than_may(rt: HostRuntime) -> Result<(), Fail> {
+    let alloc = rt.alloc();
+    let mut piece = Vec::new(alloc);
+    let mut wanted = Vec::new(alloc);
+    for id in 0..1025 {
+        writeln!(piece, "{{\"id\":{id},\"changed\":[[2,0]]}}")?;
+    }
+    writeln!(wanted, "{{\"id\":1024,\"fault\":5,\"word\":\"full\"}}")?;
+    for id in 0..1024 {
+        writeln!(wanted, "{{\"id\":{id},\"fault\":3,\"word\":\"closed\"}}")?;
+    }
+    serve_text(&rt, alloc, piece, wanted)
+}
+
+#[test]
+fn one_more_is_kept_than_may(rt: HostRuntime) -> Result<(), Fail> {
+    let alloc = rt.alloc();
+    let mut piece = Vec::new(alloc);
+    let mut wanted = Vec::new(alloc);
+    for id in 0..=u8::MAX {
+        let word = [b'a' + id / 16, b'a' + id % 16];
+        let word = std::str::from_utf8(&word).unwrap_or("");
+        writeln!(piece, "{{\"id\":{id},\"keep\":[\"{word}\",\"skip\"]}}")?;
+        writeln!(wanted, "{{\"id\":{id},\"kept\":\"{word}\"}}")?;
+    }
+    writeln!(piece, "{{\"id\":256,\"keep\":[\"z\",\"skip\"]}}")?;
+    writeln!(wanted, "{{\"id\":256,\"fault\":5,\"word\":\"full\"}}")?;
+    writeln!(piece, "{{\"id\":257,\"keep\":[\"pp\",{{\"abort\":7}}]}}")?;
+    writeln!(wanted, "{{\"id\":257,\"kept\":\"pp\"}}")?;
+    writeln!(piece, "{{\"id\":258,\"run\":\"pp\"}}")?;
+    writeln!(wanted, "{{\"id\":258,\"aborted\":7}}")?;
+    serve_text(&rt, alloc, piece, wanted)
+}
+
+// 256 are accepted that are not durable, so that the last one meets no room
+#[test]
+fn more_is_settled_in_one_piece_than_may_be_undurable(rt: HostRuntime) -> Result<(), Fail> {
+    commit_all(&rt, rt.alloc(), r#""settle":{"writes":[[2,7]]}"#)
+}
+
+#[test]
+fn more_is_run_in_one_piece_than_may_be_undurable(rt: HostRuntime) -> Result<(), Fail> {
+    commit_all(&rt, rt.alloc(), r#""do":{"write":[2,0]}"#)
+}
+
+// Serves one piece in which a request stands 257 times, that commits each time.
+fn commit_all<R: Abort + Wait>(rt: &R, alloc: Global, asked: &str) -> Result<(), Fail> {
+    let mut piece = Vec::new(alloc);
+    let mut wanted = Vec::new(alloc);
+    for id in 0..257 {
+        writeln!(piece, "{{\"id\":{id},{asked}}}")?;
+        writeln!(wanted, "{{\"id\":{id},\"committed\":{id},\"registers\":[]}}")?;
+    }
+    serve_text(rt, alloc, piece, wanted)
+}
+
+// Serves one piece in a new store.
+fn serve_text<R: Abort + Wait>(
+    rt: &R,
+    alloc: Global,
+    piece: Vec<u8>,
+    wanted: Vec<u8>,
+) -> Result<(), Fail> {
+    let piece = String::from_utf8(piece)?;
+    let case = Case {
+        name: "a limit",
+        fails: None,
+        pieces: &[piece.as_str()],
+        prints: &[],
+    };
+    let printed = match serve_case(rt, alloc, &case) {
+        Ok(printed) => printed,
+        Err(_) => Vec::new(alloc),
+    };
+    let is_wanted = printed.as_slice() == wanted.as_slice();
+    let shown = String::from_utf8(printed);
+    assert!(rt; is_wanted, "{shown:?}");
+    Ok(())
+}

@@ -1,0 +1,116 @@
+//! What waits, what is cut into pieces, and what is told where the device fails.
+use super::store::{Case, serve_all};
+use std::test::Fail;
+
+static CASES: &[Case<'static>] = &[
+    Case {
+        name: "a transaction that retries waits until it does not",
+        fails: None,
+        pieces: &[
+            "{\"id\":1,\"do\":{\"seq\":[{\"read\":[2,0]},{\"when\":[0,\"skip\",\"retry\"]}]}}\n",
+            "{\"id\":2,\"ask\":\"look\"}\n",
+            "{\"id\":3,\"do\":{\"seq\":[{\"put\":[0,8]},{\"write\":[2,0]}]}}\n",
+            "{\"id\":4,\"ask\":\"look\"}\n",
+        ],
+        prints: &[
+            "{\"id\":2,\"durable\":0}",
+            "{\"id\":3,\"committed\":0,\"registers\":[8]}",
+            "{\"id\":1,\"seen\":1,\"registers\":[8]}",
+            "{\"id\":4,\"durable\":1}",
+        ],
+    },
+    Case {
+        name: "one that waits wakes another, in the same piece",
+        fails: None,
+        pieces: &[
+            "{\"id\":1,\"changed\":[[3,0]]}\n",
+            "{\"id\":2,\"do\":{\"seq\":[{\"read\":[2,0]},{\"when\":[0,{\"write\":[3,0]},\"retry\"]}]}}\n",
+            "{\"id\":3,\"do\":{\"seq\":[{\"put\":[0,8]},{\"write\":[2,0]}]}}\n",
+            "{\"id\":4,\"ask\":\"look\"}\n",
+        ],
+        prints: &[
+            "{\"id\":3,\"committed\":0,\"registers\":[8]}",
+            "{\"id\":2,\"committed\":1,\"registers\":[8]}",
+            "{\"id\":1,\"count\":2,\"values\":[[3,8]]}",
+            "{\"id\":4,\"durable\":2}",
+        ],
+    },
+    Case {
+        name: "one that waits is cancelled, and the others wait until the end",
+        fails: None,
+        pieces: &[
+            "{\"id\":1,\"do\":\"retry\"}\n{\"id\":2,\"do\":\"retry\"}\n{\"id\":3,\"do\":\"retry\"}\n",
+            "{\"id\":4,\"cancel\":2}\n{\"id\":5,\"cancel\":2}\n",
+        ],
+        prints: &[
+            "{\"id\":2,\"cancelled\":true}",
+            "{\"id\":4,\"found\":true}",
+            "{\"id\":5,\"found\":false}",
+            "{\"id\":1,\"fault\":3,\"word\":\"closed\"}",
+            "{\"id\":3,\"fault\":3,\"word\":\"closed\"}",
+        ],
+    },
+    Case {
+        name: "lines are cut wherever the pieces end, and the last may lack its line break",
+        fails: None,
+        pieces: &[
+            "{\"id\":1,\"a",
+            "sk\":\"look\"}",
+            "\n{\"id\":2,",
+            "\"ask\":\"look\"}",
+        ],
+        prints: &["{\"id\":1,\"durable\":0}", "{\"id\":2,\"durable\":0}"],
+    },
+    Case {
+        name: "a line that is no request is told by its number",
+        fails: None,
+        pieces: &[
+            "{\"id\":1,\"ask\":\"look\"}\n[]\nx\n{\"id\":2,\"get\":[4]}\n{\"id\":3,\"ask\":\"look\"}\n",
+        ],
+        prints: &[
+            "{\"id\":1,\"durable\":0}",
+            "{\"line\":2,\"fault\":0,\"word\":\"norequest\",\"why\":\"this is not an object\",\"at\":\"\"}",
+            "{\"line\":3,\"fault\":0,\"word\":\"norequest\",\"why\":\"this is not JSON\",\"at\":\"line 1 column 1\"}",
+            "{\"line\":4,\"fault\":0,\"word\":\"norequest\",\"why\":\"the store has no such variable\",\"at\":\"/get/0\"}",
+            "{\"id\":3,\"durable\":0}",
+        ],
+    },
+    Case {
+        name: "where the device fails, each request with no answer yet is told so",
+        // a flush makes two syncs: this is the second of the second one
+        fails: Some(3),
+        pieces: &[
+            "{\"id\":1,\"do\":{\"seq\":[{\"put\":[0,8]},{\"write\":[2,0]}]}}\n",
+            "{\"id\":2,\"do\":\"retry\"}\n{\"id\":3,\"do\":{\"seq\":[{\"put\":[0,9]},{\"write\":[2,0]}]}}\n{\"id\":4,\"ask\":\"look\"}\n",
+            "{\"id\":5,\"ask\":\"look\"}\n",
+        ],
+        prints: &[
+            "{\"id\":1,\"committed\":0,\"registers\":[8]}",
+            "{\"id\":3,\"fault\":4,\"word\":\"unknown\"}",
+            "{\"id\":4,\"fault\":4,\"word\":\"unknown\"}",
+            "{\"id\":2,\"fault\":4,\"word\":\"unknown\"}",
+        ],
+    },
+    Case {
+        name: "where it fails between two lines, those behind it are told so, and none of them is run",
+        // the first piece is flushed by two syncs: this is the first of the checkpoint
+        fails: Some(2),
+        pieces: &[
+            "{\"id\":1,\"do\":{\"seq\":[{\"put\":[0,8]},{\"write\":[2,0]}]}}\n",
+            "{\"id\":2,\"do\":\"retry\"}\n{\"id\":3,\"ask\":\"checkpoint\"}\n{\"id\":4,\"ask\":\"look\"}\nx\n{\"id\":5,\"cancel\":2}\n",
+        ],
+        prints: &[
+            "{\"id\":1,\"committed\":0,\"registers\":[8]}",
+            "{\"id\":3,\"fault\":4,\"word\":\"unknown\"}",
+            "{\"id\":4,\"fault\":4,\"word\":\"unknown\"}",
+            "{\"line\":5,\"fault\":0,\"word\":\"norequest\",\"why\":\"this is not JSON\",\"at\":\"line 1 column 1\"}",
+            "{\"id\":5,\"fault\":4,\"word\":\"unknown\"}",
+            "{\"id\":2,\"fault\":4,\"word\":\"unknown\"}",
+        ],
+    },
+];
+
+#[test]
+fn pieces_are_served(rt: HostRuntime) -> Result<(), Fail> {
+    serve_all(&rt, rt.alloc(), CASES)
+}

@@ -1,0 +1,139 @@
+//! A served store in memory, and what it prints.
+ghost use Rattle.std.specs.Prelude.{◌≡◌, ◌∷◌, [], length};
+ghost use Rattle.std.specs.List.{list_any};
+ghost use Rattle.tmem_front.specs.Held.{found_of, spine_of, steps_of, table_of};
+ghost use Rattle.tmem_desk_tests.specs.Examples.{solvent, has_no_negative, is_negative};
+
+use std::alloc::Global;
+use std::marker::Brand;
+use std::process::Abort;
+use std::sync::Wait;
+use std::test::Fail;
+use tmem_builtins::stored_steps;
+use tmem_desk::{Desk, Failure, ServedNaming, Service};
+use tmem_disk::{Fault, Name, SimDisk};
+use tmem_front::{Front, OpenedFront};
+use tmem_invariants::{Invariant, Invariants, Table};
+use tmem_journal::{Layout, format};
+use tmem_lines::Lines;
+use tmem_tree::StoredSteps;
+
+const VARS: u16 = 4;
+
+const SLOTS: u16 = 2;
+
+/// Pieces of input, and what is printed for all of them.
+#[derive(Clone, Copy)]
+pub(super) struct Case<'a> {
+    pub(super) name: &'a str,
+    /// The sync of the device that fails, counted from 0 once the store is open.
+    pub(super) fails: Option<u64>,
+    pub(super) pieces: &'a [&'a str],
+    /// The lines that are printed, each with its line break.
+    pub(super) prints: &'a [&'a str],
+}
+
+/// Serves the cases of a table, each in a new store.
+pub(super) fn serve_all<R: Abort + Wait>(
+    rt: &R,
+    alloc: Global,
+    cases: &[Case],
+) -> Result<(), Fail> {
+    for case in cases {
+        let printed = match serve_case(rt, alloc, case) {
+            Ok(printed) => printed,
+            Err(_) => Vec::new(alloc),
+        };
+        let mut wanted = Vec::new(alloc);
+        for line in case.prints {
+            wanted.extend_from_slice(line.as_bytes())?;
+            wanted.push(b'\n')?;
+        }
+        let name = case.name;
+        let is_wanted = printed.as_slice() == wanted.as_slice();
+        let shown = String::from_utf8(printed);
+        assert!(rt; is_wanted, "{name}: {shown:?}");
+    }
+    Ok(())
+}
+
+/// What is printed for a case.
+pub(super) fn serve_case<R: Wait>(rt: &R, alloc: Global, case: &Case) -> Result<Vec<u8>, Fault> {
+    let test = Box::new(
+        alloc,
+        |values: &[i64]| -> bool
+            ensures { result ≡ has_no_negative values.now }
+        { !has_negative(values) },
+    )?;
+    let invariant = Invariant::new(Name::new("solvent")?, vec![in alloc; 0, 1]?, test)?;
+    let table = Table::of(alloc, vec![in alloc; invariant]?, VARS)?;
+    serve_with(rt, alloc, case, table, stored_steps())
+}
+
+// Whether a value is below zero.
+fn has_negative(values: &[i64]) -> bool
+    ensures { result ≡ list_any is_negative values.now }
+{
+    values.iter().any(|value| *value < 0)
+}
+
+// The same with this table and these steps.
+fn serve_with<R: Wait, T: Invariants + Drop, S: StoredSteps + Drop>(
+    rt: &R,
+    alloc: Global,
+    case: &Case,
+    table: T,
+    steps: S,
+) -> Result<Vec<u8>, Fault>
+    requires vars { T.vars table ≡ VARS }
+    requires names { T.names table ≡ solvent.names }
+    requires tests { T.is_stated table solvent.tests }
+    requires steps { S.is_stated steps solvent.steps }
+    requires arities { S.arities steps ≡ 2 ∷ 2 ∷ 2 ∷ [] }
+{
+    let mut disk = SimDisk::new(alloc, Layout::new(VARS, SLOTS)?.end())?;
+    format(&mut disk, VARS, SLOTS)?;
+    if let Some(k) = case.fails {
+        // an opening makes one sync
+        disk.fail_sync(k.saturating_add(1));
+    }
+    match OpenedFront::open(alloc, disk, VARS, SLOTS, table, steps) {
+        Ok(opened) => serve_named::<Brand, T, S, R>(rt, alloc, case, opened),
+        Err((fault, _disk)) => Err(fault),
+    }
+}
+
+// The same in a store that was opened.
+fn serve_named<N: ServedNaming, T: Invariants + Drop, S: StoredSteps + Drop, R: Wait>(
+    rt: &R,
+    alloc: Global,
+    case: &Case,
+    opened: OpenedFront<SimDisk, T, S>,
+) -> Result<Vec<u8>, Fault>
+    requires spine { spine_of opened ≡ N.name }
+    requires opening { found_of opened ≡ N.opening }
+    requires program { N.program ≡ solvent }
+    requires values { length (found_of opened).values ≡ VARS }
+    requires names { T.names (table_of opened) ≡ solvent.names }
+    requires stated { T.is_stated (table_of opened) solvent.tests }
+    requires steps { S.is_stated (steps_of opened) solvent.steps }
+    requires arities { S.arities (steps_of opened) ≡ N.arities }
+    requires always { N.always ≡ [] }
+{
+    let front = opened.named::<N>();
+    let names = [Name::new("solvent")?];
+    let service = Service::new(rt, alloc, &front, VARS, &names, &[]);
+    let mut desk = Desk::new(alloc, front.pass(rt)?);
+    let mut lines = Lines::new(alloc);
+    let mut out = Vec::new(alloc);
+    for piece in case.pieces {
+        if desk
+            .serve(&service, &mut lines, piece.as_bytes(), &mut out)
+            .is_err()
+        {
+            return Ok(out);
+        }
+    }
+    let _ = desk.end(&service, &mut lines, &mut out);
+    Ok(out)
+}
