@@ -5,6 +5,7 @@ mod Giving
 mod Knowing
 mod Lasting
 mod Lists
+mod Losing
 mod Places
 mod Seen
 mod Settled

@@ -1,8 +1,17 @@
 -- What is printed where serving ends early.
-use Rattle.std.specs.Prelude.{◌≡◌, ◌⊎◌, ℕ, List, All}
+use Rattle.std.specs.Prelude.{◌≡◌, ◌⊎◌, ◌+◌, ℕ, ℤ, Bool, List, [], ◌∷◌, ◌++◌, All, count_by, flat_map}
 use Rattle.tmem_disk.specs.declared.fault.Fault.{Fault}
+use Rattle.tmem_disk.specs.declared.fault.Fault.TheVariants.{Memory}
+use Rattle.tmem_lines.specs.Lines.{line, IsUnbroken, StandsFor}
+use Rattle.tmem_lines.specs.Views.{LinesView}
 use Rattle.tmem_spine.specs.Views.{PassView}
-use Rattle.tmem_desk.specs.Told.{told_lines, TellsOnly}
+use Rattle.tmem_requests.specs.declared.answer.Answer.{Answer}
+use Rattle.tmem_requests.specs.declared.request.Ask.{Ask}
+use Rattle.tmem_desk.specs.Asking.{Store}
+use Rattle.tmem_desk.specs.Desks.{DeskView}
+use Rattle.tmem_desk.specs.Due.{LinesCount, LosesNone, answers_of, due_of}
+use Rattle.tmem_desk.specs.Serving.{IsAsked, RefusesLine, Splits, by, counted, tells}
+use Rattle.tmem_desk.specs.Told.{answered, told_lines, TellsOnly}
 use Rattle.tmem_desk.specs.declared.failure.Failure.{Failure}
 use Rattle.tmem_desk.specs.declared.failure.Failure.TheVariants.{Output}
 use Rattle.tmem_desk.specs.declared.failure.Failure.TheVariants as failure
@@ -16,3 +25,67 @@ EndsBy prints Output = Unit {0}
 -- What may be printed: all that the pass knows is durable, or no request is told of anything but a fault.
 abbrev pub MayPrint : PassView → List Told → Type 0
 MayPrint pass all = (pass.seen ≡ pass.known) ⊎ ((fault : Fault) × All (TellsOnly fault) all)
+
+-- Each that was due, and each of these lines, is told once, and of nothing but why: of whatever ids, as many are told as were due and
+-- as lines count.
+pub record TellsEach (s : Store) (texts : List (List ℕ)) (v : DeskView) (fault : Fault) (prints : List ℕ → Type 0) : Type 0 where
+  pub all : List Told
+  pub only : All (TellsOnly fault) all
+  pub each : (among : ℤ → Bool) (others : Bool) (n : ℕ) → LinesCount s among others texts n → count_by (answers_of among others) all ≡ due_of among others v + n
+  pub printed : prints (told_lines all)
+
+-- Where the store cannot go on, each is told, of these lines: unless memory did not suffice, or the output failed.
+abbrev pub TellsAll : Store → (List (List ℕ) → Type 0) → DeskView → (List ℕ → Type 0) → Failure → Type 0
+TellsAll s AreLines v prints (failure.Fault fault) = (fault ≡ Memory) ⊎ ((texts : List (List ℕ)) × AreLines texts × TellsEach s texts v fault prints)
+TellsAll s AreLines v prints Output = Unit {0}
+
+-- what is left at the end of the input: nothing, or a line that lacks its line break
+abbrev pub IsLast : List ℕ → List (List ℕ) → Type 0
+IsLast text texts = ((text ≡ []) × (texts ≡ [])) ⊎ (texts ≡ text ∷ [])
+
+-- ---- on the way there
+
+-- memory did not suffice, or this holds
+abbrev pub OrMemory : Fault → Type 0 → Type 0
+OrMemory fault P = (fault ≡ Memory) ⊎ P
+
+-- what is told could not be printed
+abbrev pub IsUnprinted : Failure → Type 0
+IsUnprinted f = (f ≡ failure.Fault Memory) ⊎ (f ≡ Output)
+
+-- a request of this id is answered, and else nothing is changed but what the pass knows
+pub record AnswersOnly (id : ℤ) (v w : DeskView) : Type 0 where
+  pub given : Answer
+  pub is : w ≡ tells (by v w.pass) (answered id given ∷ [])
+
+-- the request is answered that a line is
+pub record AnswersLine (s : Store) (text : List ℕ) (v w : DeskView) : Type 0 where
+  pub id : ℤ
+  pub ask : Ask
+  pub asked : IsAsked s id ask text
+  pub only : AnswersOnly id (counted v) w
+
+-- or it is told that it is none
+abbrev pub PassesLine : Store → List ℕ → DeskView → DeskView → Type 0
+PassesLine s text v w = AnswersLine s text v w ⊎ RefusesLine s text v w
+
+-- Some lines of a text came, of which none is lost, and what is held stands for the rest.
+pub record TakesPart (s : Store) (text : List ℕ) (held : LinesView) (v w : DeskView) : Type 0 where
+  pub texts : List (List ℕ)
+  pub rest : List ℕ
+  pub is : text ≡ flat_map line texts ++ rest
+  pub unbroken : All IsUnbroken texts
+  pub stands : StandsFor held rest
+  pub loses : LosesNone s texts v w
+
+-- Each line of a text came that has ended, and none is lost.
+pub record PassesAll (s : Store) (text : List ℕ) (held : LinesView) (v w : DeskView) : Type 0 where
+  pub texts : List (List ℕ)
+  pub splits : Splits text texts held
+  pub loses : LosesNone s texts v w
+
+-- What is left at the end of the input came, and is not lost.
+pub record TakesRest (s : Store) (text : List ℕ) (v w : DeskView) : Type 0 where
+  pub texts : List (List ℕ)
+  pub last : IsLast text texts
+  pub loses : LosesNone s texts v w

@@ -1,11 +1,12 @@
 // The desk: what each line is answered.
-ghost use Rattle.std.specs.Prelude.{◌≡◌, [], ◌∷◌, length, None, Some, position, OnOk, IsErr};
+ghost use Rattle.std.specs.Prelude.{◌≡◌, [], ◌∷◌, length, None, Some, position, OnOk, IsErr, IfErr};
 ghost use Rattle.std.specs.Ordering.{int_eq};
 ghost use Rattle.tmem_requests.specs.Fits.{FitsStore};
 ghost use Rattle.tmem_requests.specs.declared.request.Ask.TheVariants.{Do};
 ghost use Rattle.tmem_desk.specs.Asking.{store};
+ghost use Rattle.tmem_desk.specs.Failing.{AnswersLine, AnswersOnly, OrMemory, PassesLine};
 ghost use Rattle.tmem_desk.specs.Held.{asked, view_of, empty_desk};
-ghost use Rattle.tmem_desk.specs.Serving.{Takes, MayWait, TakesShort, RefusesLong, tells, tried, cancelled};
+ghost use Rattle.tmem_desk.specs.Serving.{Takes, MayWait, TakesShort, RefusesLong, by, tells, tried, cancelled};
 ghost use Rattle.tmem_desk.specs.Told.{answered, refused};
 
 use crate::counts::Counts;
@@ -62,7 +63,8 @@ impl<N: ServedNaming> Desk<N> {
 
     // Tells what a request is answered.
     pub(crate) fn tell(&mut self, id: i64, answer: Answer) -> Result<(), Fault>
-        ensures { OnOk result (view_of self.new ≡ tells (view_of self.old) (answered id answer ∷ [])) }
+        ensures ok { OnOk result (view_of self.new ≡ tells (view_of self.old) (answered id answer ∷ [])) }
+        ensures err { IfErr result (λ f. f ≡ Fault.Memory) }
     {
         self.counts.note(&answer);
         self.told.push(Told::Answer(AnswerLine { id, answer }))?;
@@ -71,7 +73,8 @@ impl<N: ServedNaming> Desk<N> {
 
     // Tells a request why the store cannot go on.
     fn tell_fault(&mut self, id: i64, fault: &Fault) -> Result<(), Fault>
-        ensures { IsErr result }
+        ensures never { IsErr result }
+        ensures err { IfErr result (λ f. OrMemory f ((f ≡ fault.now) × (view_of self.new ≡ tells (view_of self.old) (answered id (Answer.Fault fault.now) ∷ [])))) }
     {
         self.tell(id, Answer::Fault(*fault))?;
         Err(*fault)
@@ -79,7 +82,8 @@ impl<N: ServedNaming> Desk<N> {
 
     // Tells that the last line is no request.
     fn refuse(&mut self, refusal: NoRequest) -> Result<(), Fault>
-        ensures { OnOk result (view_of self.new ≡ tells (view_of self.old) (refused self.old.lines refusal ∷ [])) }
+        ensures ok { OnOk result (view_of self.new ≡ tells (view_of self.old) (refused self.old.lines refusal ∷ [])) }
+        ensures err { IfErr result (λ f. f ≡ Fault.Memory) }
     {
         let line = self.lines;
         self.told
@@ -89,7 +93,8 @@ impl<N: ServedNaming> Desk<N> {
 
     // Lets a request wait, unless as many wait as may.
     fn wait(&mut self, id: i64, held: Held<N>) -> Result<(), Fault>
-        ensures { OnOk result (view_of self.new ≡ tried id (asked held) None (view_of self.old)) }
+        ensures ok { OnOk result (view_of self.new ≡ tried id (asked held) None (view_of self.old)) }
+        ensures err { IfErr result (λ f. f ≡ Fault.Memory) }
     {
         if self.waiting.len() >= MOST_WAITING {
             return self.tell(id, Answer::Fault(Fault::Full));
@@ -106,7 +111,8 @@ impl<N: ServedNaming> Desk<N> {
         service: &Service<R, D, N, T, S>,
         text: &[u8],
     ) -> Result<(), Fault>
-        ensures { OnOk result (TakesShort (store N.name.start N.opening N.program N.arities N.always) text.now (view_of self.old) (view_of self.new)) }
+        ensures ok { OnOk result (TakesShort (store N.name.start N.opening N.program N.arities N.always) text.now (view_of self.old) (view_of self.new)) }
+        ensures err { IfErr result (λ f. OrMemory f (AnswersLine (store N.name.start N.opening N.program N.arities N.always) text.now (view_of self.old) (view_of self.new))) }
     {
         self.lines = self.lines.wrapping_add(1);
         match service.read(text) {
@@ -121,7 +127,10 @@ impl<N: ServedNaming> Desk<N> {
         &mut self,
         service: &Service<R, D, N, T, S>,
         text: &[u8],
-    ) -> Result<(), Fault> {
+    ) -> Result<(), Fault>
+        ensures ok { OnOk result (PassesLine (store N.name.start N.opening N.program N.arities N.always) text.now (view_of self.old) (view_of self.new)) }
+        ensures err { IfErr result (λ f. f ≡ Fault.Memory) }
+    {
         self.lines = self.lines.wrapping_add(1);
         match service.read(text) {
             Ok(request) => self.tell(request.id, Answer::Fault(Fault::Closed)),
@@ -132,7 +141,8 @@ impl<N: ServedNaming> Desk<N> {
 
     // Takes a line that is too long.
     pub(crate) fn take_long_line(&mut self) -> Result<(), Fault>
-        ensures { OnOk result (RefusesLong (view_of self.old) (view_of self.new)) }
+        ensures ok { OnOk result (RefusesLong (view_of self.old) (view_of self.new)) }
+        ensures err { IfErr result (λ f. f ≡ Fault.Memory) }
     {
         self.lines = self.lines.wrapping_add(1);
         self.refuse(NoRequest {
@@ -149,7 +159,8 @@ impl<N: ServedNaming> Desk<N> {
         ask: Ask,
     ) -> Result<(), Fault>
         requires { FitsStore (length N.opening.values) N.program.names N.always ask }
-        ensures { OnOk result (Takes (store N.name.start N.opening N.program N.arities N.always) id ask (view_of self.old) (view_of self.new)) }
+        ensures ok { OnOk result (Takes (store N.name.start N.opening N.program N.arities N.always) id ask (view_of self.old) (view_of self.new)) }
+        ensures err { IfErr result (λ f. OrMemory f (AnswersOnly id (view_of self.old) (view_of self.new))) }
     {
         match self.take(service, id, ask) {
             Ok(()) => Ok(()),
@@ -165,7 +176,8 @@ impl<N: ServedNaming> Desk<N> {
         ask: Ask,
     ) -> Result<(), Fault>
         requires { FitsStore (length N.opening.values) N.program.names N.always ask }
-        ensures { OnOk result (Takes (store N.name.start N.opening N.program N.arities N.always) id ask (view_of self.old) (view_of self.new)) }
+        ensures ok { OnOk result (Takes (store N.name.start N.opening N.program N.arities N.always) id ask (view_of self.old) (view_of self.new)) }
+        ensures err { IfErr result (λ f. OrMemory f (view_of self.new ≡ by (view_of self.old) self.new.pass)) }
     {
         match ask {
             Ask::Do(tx) => self.take_do(service, id, tx),
@@ -208,7 +220,8 @@ impl<N: ServedNaming> Desk<N> {
         id: i64,
         tx: Tx,
     ) -> Result<(), Fault>
-        ensures { OnOk result (Takes (store N.name.start N.opening N.program N.arities N.always) id (Do tx) (view_of self.old) (view_of self.new)) }
+        ensures ok { OnOk result (Takes (store N.name.start N.opening N.program N.arities N.always) id (Do tx) (view_of self.old) (view_of self.new)) }
+        ensures err { IfErr result (λ f. OrMemory f (view_of self.new ≡ by (view_of self.old) self.new.pass)) }
     {
         match service.plan(tx) {
             Ok(ready) => self.take_held(service, id, Held::Plan(ready)),
@@ -223,7 +236,8 @@ impl<N: ServedNaming> Desk<N> {
         id: i64,
         held: Held<N>,
     ) -> Result<(), Fault>
-        ensures { OnOk result (MayWait (store N.name.start N.opening N.program N.arities N.always) id (asked held) (view_of self.old) (view_of self.new)) }
+        ensures ok { OnOk result (MayWait (store N.name.start N.opening N.program N.arities N.always) id (asked held) (view_of self.old) (view_of self.new)) }
+        ensures err { IfErr result (λ f. OrMemory f (view_of self.new ≡ by (view_of self.old) self.new.pass)) }
     {
         match service.attempt(&mut self.pass, &held)? {
             Some(answer) => self.tell(id, answer),
@@ -233,7 +247,8 @@ impl<N: ServedNaming> Desk<N> {
 
     // The first request of the other id that waits, waits no more.
     fn cancel(&mut self, id: i64, other: i64) -> Result<(), Fault>
-        ensures { OnOk result (view_of self.new ≡ cancelled id other (view_of self.old)) }
+        ensures ok { OnOk result (view_of self.new ≡ cancelled id other (view_of self.old)) }
+        ensures err { IfErr result (λ f. f ≡ Fault.Memory) }
     {
         match self.place_waiting(other) {
             Some(place) => self.cancel_at(id, other, place),
@@ -245,7 +260,8 @@ impl<N: ServedNaming> Desk<N> {
     #[tactic(auto, using(crate::proofs::Telling::tells_tells))]
     fn cancel_at(&mut self, id: i64, other: i64, place: usize) -> Result<(), Fault>
         requires { position (λ w. int_eq w.id other) self.old.waiting.items ≡ Some place }
-        ensures { OnOk result (view_of self.new ≡ cancelled id other (view_of self.old)) }
+        ensures ok { OnOk result (view_of self.new ≡ cancelled id other (view_of self.old)) }
+        ensures err { IfErr result (λ f. f ≡ Fault.Memory) }
     {
         self.waiting.remove(place);
         self.tell(other, Answer::Cancelled)?;

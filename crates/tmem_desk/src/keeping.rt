@@ -1,11 +1,12 @@
 // Transactions that are kept, and run by a word.
-ghost use Rattle.std.specs.Prelude.{◌≡◌, ◌⊎◌, None, position, bytes_eq, OnOk};
+ghost use Rattle.std.specs.Prelude.{◌≡◌, ◌⊎◌, None, position, bytes_eq, OnOk, IfErr};
 ghost use Rattle.tmem_copies.specs.Numbering.{with_numbers};
 ghost use Rattle.tmem_requests.specs.declared.request.Ask.TheVariants.{Do, Keep, Stats as StatsOf};
 ghost use Rattle.tmem_desk.specs.Asking.{store};
+ghost use Rattle.tmem_desk.specs.Failing.{OrMemory};
 ghost use Rattle.tmem_desk.specs.Held.{view_of};
 ghost use Rattle.tmem_desk.specs.Keeping.{kept_under};
-ghost use Rattle.tmem_desk.specs.Serving.{Takes, Runs, HasNoPlan, MayWait, kept_as};
+ghost use Rattle.tmem_desk.specs.Serving.{Takes, Runs, HasNoPlan, MayWait, by, kept_as};
 
 use crate::desk::Desk;
 use crate::held::Held;
@@ -38,7 +39,8 @@ impl<N: ServedNaming> Desk<N> {
         word: Name,
         tx: Tx,
     ) -> Result<(), Fault>
-        ensures { OnOk result (Takes (store N.name.start N.opening N.program N.arities N.always) id (Keep word tx) (view_of self.old) (view_of self.new)) }
+        ensures ok { OnOk result (Takes (store N.name.start N.opening N.program N.arities N.always) id (Keep word tx) (view_of self.old) (view_of self.new)) }
+        ensures err { IfErr result (λ f. f ≡ Fault.Memory) }
     {
         match service.plan(tx) {
             Ok(ready) => self.keep_ready(id, word, ready),
@@ -48,7 +50,8 @@ impl<N: ServedNaming> Desk<N> {
 
     // Keeps a plan under a word.
     fn keep_ready(&mut self, id: i64, word: Name, ready: Ready<N>) -> Result<(), Fault>
-        ensures { OnOk result (view_of self.new ≡ kept_as id word ready.plan.tree (view_of self.old)) }
+        ensures ok { OnOk result (view_of self.new ≡ kept_as id word ready.plan.tree (view_of self.old)) }
+        ensures err { IfErr result (λ f. f ≡ Fault.Memory) }
     {
         match self.place_kept(&word) {
             Some(place) => {
@@ -62,7 +65,8 @@ impl<N: ServedNaming> Desk<N> {
     // Keeps one more, unless as many are kept as may be.
     fn keep_more(&mut self, id: i64, word: Name, ready: Ready<N>) -> Result<(), Fault>
         requires { position (λ k. bytes_eq k.word word) self.old.kept.items ≡ None }
-        ensures { OnOk result (view_of self.new ≡ kept_as id word ready.plan.tree (view_of self.old)) }
+        ensures ok { OnOk result (view_of self.new ≡ kept_as id word ready.plan.tree (view_of self.old)) }
+        ensures err { IfErr result (λ f. f ≡ Fault.Memory) }
     {
         if self.kept.len() >= MOST_KEPT {
             return self.tell(id, Answer::Fault(Fault::Full));
@@ -86,7 +90,8 @@ impl<N: ServedNaming> Desk<N> {
         word: &Name,
         numbers: &[i64],
     ) -> Result<(), Fault>
-        ensures { OnOk result (Runs (store N.name.start N.opening N.program N.arities N.always) id numbers.now (kept_under word.now (view_of self.old).kept) (view_of self.old) (view_of self.new)) }
+        ensures ok { OnOk result (Runs (store N.name.start N.opening N.program N.arities N.always) id numbers.now (kept_under word.now (view_of self.old).kept) (view_of self.old) (view_of self.new)) }
+        ensures err { IfErr result (λ f. OrMemory f (view_of self.new ≡ by (view_of self.old) self.new.pass)) }
     {
         let Some(place) = self.place_kept(word) else {
             return self.tell(id, Answer::Found(false));
@@ -107,7 +112,8 @@ impl<N: ServedNaming> Desk<N> {
         copy: Tx,
         numbers: &[i64],
     ) -> Result<(), Fault>
-        ensures { OnOk result (HasNoPlan (store N.name.start N.opening N.program N.arities N.always) id copy (view_of self.old) (view_of self.new) ⊎ MayWait (store N.name.start N.opening N.program N.arities N.always) id (Do (with_numbers numbers.now copy)) (view_of self.old) (view_of self.new)) }
+        ensures ok { OnOk result (HasNoPlan (store N.name.start N.opening N.program N.arities N.always) id copy (view_of self.old) (view_of self.new) ⊎ MayWait (store N.name.start N.opening N.program N.arities N.always) id (Do (with_numbers numbers.now copy)) (view_of self.old) (view_of self.new)) }
+        ensures err { IfErr result (λ f. OrMemory f (view_of self.new ≡ by (view_of self.old) self.new.pass)) }
     {
         match service.plan(copy) {
             Ok(mut ready) => {
@@ -124,7 +130,8 @@ impl<N: ServedNaming> Desk<N> {
         service: &Service<R, D, N, T, S>,
         id: i64,
     ) -> Result<(), Fault>
-        ensures { OnOk result (Takes (store N.name.start N.opening N.program N.arities N.always) id StatsOf (view_of self.old) (view_of self.new)) }
+        ensures ok { OnOk result (Takes (store N.name.start N.opening N.program N.arities N.always) id StatsOf (view_of self.old) (view_of self.new)) }
+        ensures err { IfErr result (λ f. f ≡ Fault.Memory) }
     {
         let log = service.front.log(service.rt);
         let stats = Stats {

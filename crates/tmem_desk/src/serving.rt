@@ -4,9 +4,10 @@ ghost use Rattle.std.specs.Io.KnownBytes.{Appends};
 ghost use Rattle.tmem_front.specs.Settling.{SeesMore};
 ghost use Rattle.tmem_lines.specs.Lines.{StandsFor};
 ghost use Rattle.tmem_desk.specs.Asking.{store};
-ghost use Rattle.tmem_desk.specs.Failing.{EndsBy};
+ghost use Rattle.tmem_desk.specs.Due.{KeepsDue};
+ghost use Rattle.tmem_desk.specs.Failing.{EndsBy, IsLast, IsUnprinted, OrMemory, PassesAll, TakesPart, TakesRest, TellsAll};
 ghost use Rattle.tmem_desk.specs.Held.{view_of};
-ghost use Rattle.tmem_desk.specs.Serving.{by, Finishes, TakesAll, RunsPiece, ServesPiece, TakesLast, RunsLast, ServesEnd, with_closed};
+ghost use Rattle.tmem_desk.specs.Serving.{by, Finishes, Splits, TakesAll, RunsPiece, ServesPiece, TakesLast, RunsLast, ServesEnd, with_closed};
 ghost use Rattle.tmem_desk.specs.Told.{told_lines, failed};
 
 use crate::desk::Desk;
@@ -27,8 +28,8 @@ use tmem_tree::StoredSteps;
 
 impl<N: ServedNaming> Desk<N> {
     /// Takes a piece of input, and answers all its lines and those that need not wait any more, by one write, once all that is told is
-    /// durable. Where the store cannot go on, each request that has no answer yet is answered why, and the same is the refusal. Refused
-    /// with `Output` where the answers could not be printed.
+    /// durable. Where the store cannot go on, each request that has no answer yet is answered why, and the same is the refusal; but where
+    /// that is `Memory`, some may not be answered. Refused with `Output` where the answers could not be printed.
     pub fn serve<R: Wait, D: Disk + Drop, T: Invariants + Drop, S: StoredSteps + Drop, W: Write>(
         &mut self,
         service: &Service<R, D, N, T, S>,
@@ -37,6 +38,7 @@ impl<N: ServedNaming> Desk<N> {
         out: &mut W,
     ) -> Result<(), Failure>
         ensures ends { IfErr result (EndsBy (Appends (W.contents out.old) (W.contents out.new))) }
+        ensures told { IfErr result (λ e. (text : List ℕ) → StandsFor lines.old text → TellsAll (store N.name.start N.opening N.program N.arities N.always) (λ texts. Splits (text ++ piece.now) texts lines.new) (view_of self.old) (Appends (W.contents out.old) (W.contents out.new)) e) }
         ensures serves { OnOk result ((text : List ℕ) → StandsFor lines.old text → ServesPiece (store N.name.start N.opening N.program N.arities N.always) (text ++ piece.now) lines.new (view_of self.old) (view_of self.new) (Appends (W.contents out.old) (W.contents out.new))) }
     {
         if lines.add(piece).is_err() {
@@ -56,6 +58,7 @@ impl<N: ServedNaming> Desk<N> {
     ) -> Result<(), Fault>
         ensures durable { OnOk result (self.new.pass.seen ≡ self.new.pass.known) }
         ensures runs { OnOk result ((text : List ℕ) → StandsFor lines.old text → RunsPiece (store N.name.start N.opening N.program N.arities N.always) text lines.new (view_of self.old) (view_of self.new)) }
+        ensures err { IfErr result (λ f. (text : List ℕ) → StandsFor lines.old text → OrMemory f (TakesPart (store N.name.start N.opening N.program N.arities N.always) text lines.new (view_of self.old) (view_of self.new))) }
     {
         self.take_lines(service, lines)?;
         self.finish(service)
@@ -66,7 +69,8 @@ impl<N: ServedNaming> Desk<N> {
         &mut self,
         service: &Service<R, D, N, T, S>,
     ) -> Result<(), Fault>
-        ensures { OnOk result (Finishes (store N.name.start N.opening N.program N.arities N.always) (view_of self.old) (view_of self.new)) }
+        ensures ok { OnOk result (Finishes (store N.name.start N.opening N.program N.arities N.always) (view_of self.old) (view_of self.new)) }
+        ensures err { IfErr result (λ f. OrMemory f (KeepsDue (view_of self.old) (view_of self.new))) }
     {
         self.wake(service)?;
         self.harden(service)
@@ -91,7 +95,8 @@ impl<N: ServedNaming> Desk<N> {
         service: &Service<R, D, N, T, S>,
         lines: &mut Lines,
     ) -> Result<(), Fault>
-        ensures { OnOk result ((text : List ℕ) → StandsFor lines.old text → TakesAll (store N.name.start N.opening N.program N.arities N.always) text lines.new (view_of self.old) (view_of self.new)) }
+        ensures ok { OnOk result ((text : List ℕ) → StandsFor lines.old text → TakesAll (store N.name.start N.opening N.program N.arities N.always) text lines.new (view_of self.old) (view_of self.new)) }
+        ensures err { IfErr result (λ f. (text : List ℕ) → StandsFor lines.old text → OrMemory f (TakesPart (store N.name.start N.opening N.program N.arities N.always) text lines.new (view_of self.old) (view_of self.new))) }
     {
         for _ in service.rt.forever() {
             match lines.cut() {
@@ -109,6 +114,7 @@ impl<N: ServedNaming> Desk<N> {
         ensures printed { OnOk result (Appends (W.contents out.old) (W.contents out.new) (told_lines self.old.told.items)) }
         ensures desk { OnOk result (view_of self.new ≡ record (view_of self.old) { told = [] }) }
         ensures ends { IfErr result (EndsBy (Appends (W.contents out.old) (W.contents out.new))) }
+        ensures err { IfErr result IsUnprinted }
     {
         self.print(&self.told, out)?;
         self.told.clear();
@@ -124,6 +130,7 @@ impl<N: ServedNaming> Desk<N> {
         out: &mut W,
     ) -> Result<(), Failure>
         ensures ends { IfErr result (EndsBy (Appends (W.contents out.old) (W.contents out.new))) }
+        ensures told { IfErr result (λ e. (text : List ℕ) → StandsFor lines.old text → TellsAll (store N.name.start N.opening N.program N.arities N.always) (IsLast text) (view_of self.old) (Appends (W.contents out.old) (W.contents out.new)) e) }
         ensures serves { OnOk result ((text : List ℕ) → StandsFor lines.old text → ServesEnd (store N.name.start N.opening N.program N.arities N.always) text (view_of self.old) (view_of self.new) (Appends (W.contents out.old) (W.contents out.new))) }
     {
         match self.run_last(service, lines) {
@@ -143,6 +150,8 @@ impl<N: ServedNaming> Desk<N> {
     ) -> Result<(), Fault>
         ensures durable { OnOk result (self.new.pass.seen ≡ self.new.pass.known) }
         ensures runs { OnOk result ((text : List ℕ) → StandsFor lines.old text → RunsLast (store N.name.start N.opening N.program N.arities N.always) text (view_of self.old) (view_of self.new)) }
+        ensures err { IfErr result (λ f. (text : List ℕ) → StandsFor lines.old text → OrMemory f (TakesRest (store N.name.start N.opening N.program N.arities N.always) text (view_of self.old) (view_of self.new))) }
+        ensures rest { StandsFor lines.new [] }
     {
         self.take_last(service, lines)?;
         self.finish(service)
@@ -154,7 +163,9 @@ impl<N: ServedNaming> Desk<N> {
         service: &Service<R, D, N, T, S>,
         lines: &mut Lines,
     ) -> Result<(), Fault>
-        ensures { OnOk result ((text : List ℕ) → StandsFor lines.old text → TakesLast (store N.name.start N.opening N.program N.arities N.always) text (view_of self.old) (view_of self.new)) }
+        ensures ok { OnOk result ((text : List ℕ) → StandsFor lines.old text → TakesLast (store N.name.start N.opening N.program N.arities N.always) text (view_of self.old) (view_of self.new)) }
+        ensures err { IfErr result (λ f. (text : List ℕ) → StandsFor lines.old text → OrMemory f (TakesRest (store N.name.start N.opening N.program N.arities N.always) text (view_of self.old) (view_of self.new))) }
+        ensures rest { StandsFor lines.new [] }
     {
         match lines.cut_last() {
             Cut::Line => self.take_line(service, lines.line()),
@@ -167,6 +178,7 @@ impl<N: ServedNaming> Desk<N> {
     fn close_waiting(&mut self) -> Result<(), Fault>
         ensures told { OnOk result (view_of self.new ≡ with_closed (view_of self.old)) }
         ensures pass { OnOk result (self.new.pass ≡ self.old.pass) }
+        ensures err { IfErr result (λ f. f ≡ Fault.Memory) }
     {
         let waiting = mem::replace(&mut self.waiting, VecDeque::new(self.alloc));
         for one in waiting {
@@ -185,8 +197,10 @@ impl<N: ServedNaming> Desk<N> {
     ) -> Result<(), Failure>
         ensures never { IsErr result }
         ensures ends { IfErr result (EndsBy (Appends (W.contents out.old) (W.contents out.new))) }
+        ensures memory { fault ≡ Fault.Memory → IfErr result IsUnprinted }
+        ensures told { IfErr result (λ e. (text : List ℕ) → StandsFor lines.old text → TellsAll (store N.name.start N.opening N.program N.arities N.always) (λ texts. Splits text texts lines.new) (view_of self.old) (Appends (W.contents out.old) (W.contents out.new)) e) }
     {
-        let fault = service.front.fault(service.rt).unwrap_or(fault);
+        let fault = why_ended(fault, service.front.fault(service.rt));
         self.pass_over(service, lines)?;
         self.close_waiting()?;
         let told = mem::replace(&mut self.told, Vec::new(self.alloc));
@@ -202,7 +216,10 @@ impl<N: ServedNaming> Desk<N> {
         &mut self,
         service: &Service<R, D, N, T, S>,
         lines: &mut Lines,
-    ) -> Result<(), Fault> {
+    ) -> Result<(), Fault>
+        ensures ok { OnOk result ((text : List ℕ) → StandsFor lines.old text → PassesAll (store N.name.start N.opening N.program N.arities N.always) text lines.new (view_of self.old) (view_of self.new)) }
+        ensures err { IfErr result (λ f. f ≡ Fault.Memory) }
+    {
         for _ in service.rt.forever() {
             match lines.cut() {
                 Cut::Line => self.pass_line_over(service, lines.line())?,
@@ -211,6 +228,16 @@ impl<N: ServedNaming> Desk<N> {
             }
         }
         unreachable!()
+    }
+}
+
+// Why serving ends: what the front says, unless memory did not suffice.
+fn why_ended(fault: Fault, of_front: Option<Fault>) -> Fault
+    ensures { fault ≡ Fault.Memory → result ≡ Fault.Memory }
+{
+    match fault {
+        Fault::Memory => Fault::Memory,
+        other => of_front.unwrap_or(other),
     }
 }
 

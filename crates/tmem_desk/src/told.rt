@@ -1,7 +1,7 @@
 // What is told, and printed once it is durable.
 ghost use Rattle.std.specs.Prelude.{◌≡◌, ◌++◌, OnOk, IfErr};
 ghost use Rattle.std.specs.Io.KnownBytes.{Appends};
-ghost use Rattle.tmem_desk.specs.Failing.{EndsBy, MayPrint};
+ghost use Rattle.tmem_desk.specs.Failing.{EndsBy, IsUnprinted, MayPrint};
 ghost use Rattle.tmem_desk.specs.Told.{told_line, told_lines};
 
 use crate::desk::Desk;
@@ -26,6 +26,7 @@ impl<N: ServedNaming> Desk<N> {
         requires { MayPrint self.now.pass told.now }
         ensures printed { OnOk result (Appends (W.contents out.old) (W.contents out.new) (told_lines told.now)) }
         ensures ends { IfErr result (EndsBy (Appends (W.contents out.old) (W.contents out.new))) }
+        ensures err { IfErr result IsUnprinted }
     {
         let mut text = Vec::new(self.alloc);
         if spell_all(told, &mut text).is_err() {

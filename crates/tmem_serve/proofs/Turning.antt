@@ -1,5 +1,5 @@
 -- What was served in turns, and what is served then.
-use Rattle.std.proofs.Common.{◌≡◌, ℕ, List, [], ◌∷◌, ◌++◌, Option, Some, None, Result, Ok, Err, refl, sym, ap, ◌∙◌, append_assoc, append-nil, subst, arith}
+use Rattle.std.proofs.Common.{◌≡◌, inl, inr, ℕ, List, [], ◌∷◌, ◌++◌, Option, Some, None, Result, Ok, Err, refl, sym, ap, ◌∙◌, append_assoc, append-nil, subst, arith}
 use Rattle.std.specs.Prelude.{IfErr, IsErrAnd}
 use Rattle.std.specs.Io.KnownBytes.{Appends, Consumes, Keeps}
 use Rattle.tmem_disk.specs.declared.fault.Fault.TheVariants.{Memory}
@@ -7,13 +7,13 @@ use Rattle.tmem_lines.specs.Lines.{StandsFor}
 use Rattle.tmem_lines.specs.Views.{LinesView}
 use Rattle.tmem_desk.specs.Asking.{Store}
 use Rattle.tmem_desk.specs.Desks.{DeskView}
-use Rattle.tmem_desk.specs.Failing.{EndsBy}
+use Rattle.tmem_desk.specs.Failing.{EndsBy, IsLast, TellsAll}
 use Rattle.tmem_desk.specs.Serving.{ServesPiece, ServesEnd}
 use Rattle.tmem_desk.specs.Told.{told_lines}
 use Rattle.tmem_desk.specs.declared.failure.Failure.{Failure}
 use Rattle.tmem_desk.specs.declared.failure.Failure.TheVariants as failure
 use Rattle.tmem_desk.specs.Serving.{with_closed}
-use Rattle.tmem_serve.specs.Turns.{Turn, read_in, printed_in, ServesTurns, ServesInput, StopsInput}
+use Rattle.tmem_serve.specs.Turns.{Turn, read_in, printed_in, ServesTurns, ServesInput, StopsInput, TellsStop}
 
 -- what holds of a failure holds of a result that has it
 pub err_is : {T : Type 0} (P : Failure → Type 0) (r : Result T Failure) (e : Failure) → IsErrAnd r (λ f. f ≡ e) → P e → IfErr r P
@@ -125,9 +125,9 @@ module _ (s : Store) (v : DeskView) (unread before : Option (List ℕ)) where
       }
 
   -- or it ends early
-  pub stopped : (w : DeskView) (held : LinesView) (rest rest' after flushed : Option (List ℕ)) (piece : List ℕ) (f : Failure) → HasServed s v w held unread rest before after
-      → Consumes rest rest' piece → EndsBy (Appends after flushed) f → StopsInput s v unread rest' before flushed f
-  stopped w held rest rest' after flushed piece f so read ends = record {
+  pub stopped : (w : DeskView) (held : LinesView) (rest rest' after flushed : Option (List ℕ)) (piece : List ℕ) (f : Failure) (so : HasServed s v w held unread rest before after)
+      → Consumes rest rest' piece → EndsBy (Appends after flushed) f → TellsStop s so.left piece w (Appends after flushed) f → StopsInput s v unread rest' before flushed f
+  stopped w held rest rest' after flushed piece f so read ends told = record {
     turns = so.turns;
     met = w;
     left = so.left;
@@ -137,15 +137,16 @@ module _ (s : Store) (v : DeskView) (unread before : Option (List ℕ)) where
     between = after;
     printed = so.printed;
     ends = ends;
+    told = told;
   }
 
   -- where what was printed could not be flushed
   pub unflushed : (w : DeskView) (held : LinesView) (rest rest' after flushed : Option (List ℕ)) (piece : List ℕ) (f : Failure) → HasServed s v w held unread rest before after
       → Consumes rest rest' piece → f ≡ failure.Output → StopsInput s v unread rest' before flushed f
   unflushed w held rest rest' after flushed piece f so read is =
-      stopped w held rest rest' after flushed piece f so read (subst (EndsBy (Appends after flushed)) (sym is) tt)
+      stopped w held rest rest' after flushed piece f so read (subst (EndsBy (Appends after flushed)) (sym is) tt) (inr (subst (TellsAll s (IsLast so.left) w (Appends after flushed)) (sym is) tt))
 
   -- where there was no memory to begin with
   pub not_begun : (held : LinesView) → StandsFor held [] → StopsInput s v unread unread before before (failure.Fault Memory)
   not_begun held stands =
-      stopped v held unread unread before before [] (failure.Fault Memory) (none_served held stands) (Consumes-nil unread) ([], (λ k one within. absurd (omega (arith, within))), Appends-nil before)
+      stopped v held unread unread before before [] (failure.Fault Memory) (none_served held stands) (Consumes-nil unread) ([], (λ k one within. absurd (omega (arith, within))), Appends-nil before) (inr (inl refl))

@@ -1,11 +1,11 @@
 -- How the input of a served store is answered: what was read of it, and what was printed for that.
-use Rattle.std.specs.Prelude.{◌≡◌, ℕ, List, [], ◌∷◌, ◌++◌, Option}
+use Rattle.std.specs.Prelude.{◌≡◌, ◌⊎◌, ℕ, List, [], ◌∷◌, ◌++◌, Option}
 use Rattle.std.specs.Io.KnownBytes.{Appends, Consumes}
 use Rattle.tmem_lines.specs.Views.{LinesView}
 use Rattle.tmem_desk.specs.Asking.{Store}
 use Rattle.tmem_desk.specs.Desks.{DeskView}
-use Rattle.tmem_desk.specs.Failing.{EndsBy}
-use Rattle.tmem_desk.specs.Serving.{ServesPiece, ServesEnd}
+use Rattle.tmem_desk.specs.Failing.{EndsBy, IsLast, TellsAll}
+use Rattle.tmem_desk.specs.Serving.{ServesPiece, ServesEnd, Splits}
 use Rattle.tmem_desk.specs.declared.failure.Failure.{Failure}
 
 -- One read of the input: the bytes that it gave, and what was printed for them.
@@ -51,6 +51,11 @@ pub record ServesInput (s : Store) (v : DeskView) (unread rest before after : Op
   pub read : Consumes unread rest (read_in turns)
   pub printed : Appends before after (printed_in turns ++ last)
 
+-- Each that was due is told, and each line that has ended of what was left and of this piece; or at the end of the input what was left.
+abbrev pub TellsStop : Store → List ℕ → List ℕ → DeskView → (List ℕ → Type 0) → Failure → Type 0
+TellsStop s left piece v prints f =
+    ((held : LinesView) × TellsAll s (λ (texts : List (List ℕ)). Splits (left ++ piece) texts held) v prints f) ⊎ TellsAll s (IsLast left) v prints f
+
 -- From v these turns were served, and then serving ended early, at a piece that was read, or at the end: as the desk says.
 pub record StopsInput (s : Store) (v : DeskView) (unread rest before after : Option (List ℕ)) (f : Failure) : Type 0 where
   pub turns : List Turn
@@ -62,3 +67,4 @@ pub record StopsInput (s : Store) (v : DeskView) (unread rest before after : Opt
   pub between : Option (List ℕ)
   pub printed : Appends before between (printed_in turns)
   pub ends : EndsBy (Appends between after) f
+  pub told : TellsStop s left piece met (Appends between after) f

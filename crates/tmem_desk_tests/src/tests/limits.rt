@@ -58,7 +58,10 @@ fn commit_all<R: Abort + Wait>(rt: &R, alloc: Global, asked: &str) -> Result<(),
     let mut wanted = Vec::new(alloc);
     for id in 0..257 {
         writeln!(piece, "{{\"id\":{id},{asked}}}")?;
-        writeln!(wanted, "{{\"id\":{id},\"committed\":{id},\"registers\":[]}}")?;
+        writeln!(
+            wanted,
+            "{{\"id\":{id},\"committed\":{id},\"registers\":[]}}"
+        )?;
     }
     serve_text(rt, alloc, piece, wanted)
 }

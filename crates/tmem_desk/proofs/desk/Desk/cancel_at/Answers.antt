@@ -9,6 +9,7 @@ use Rattle.std.proofs.lemmas.Int.{to_z-of_z}
 use Rattle.std.proofs.lemmas.Result.{on_ok_weaker}
 use Rattle.tmem_desk.specs.Held.{view_of}
 use Rattle.tmem_desk.proofs.Lists.{cancels_first_at}
+use Rattle.tmem_desk.proofs.Losing.{handed}
 use Rattle.tmem_desk.proofs.desk.Desk.cancel_at.Goals as goal
 
 on_some : {X P : Type 0} (o : Option X) → OnSome o P → IsSome o → P
@@ -20,10 +21,13 @@ found_below {X} g id xs at v all found =
     let place = found_at (λ (x : X). int_eq (g x).0 id) xs at found in
     subst (λ (k : ℕ). k < length xs) place.1 place.0
 
-pub returns : goal.returns
-returns g c =
+pub returns-clause-ok : goal.returns-clause-ok
+returns-clause-ok g c =
     let below : c.args.place < length c.args.self.now.waiting.items = found_below _ c.args.other c.args.self.now.waiting.items c.args.place (view_of c.args.self.now) refl c.requires in
     on_ok_weaker c.tell-2.result
     (cancels_first_at _ c.args.id c.args.other _ _ c.args.self.now.waiting.items c.remove.new.self.items c.args.place (view_of c.args.self.now) (view_of c.tell.new.self) (view_of c.tell-2.new.self) (to_z-of_z w64 c.args.id c.ranges.id) (to_z-of_z w64 c.args.other c.ranges.other) refl c.requires
-    (on_some c.remove.result c.remove.ensures.items (c.remove.ensures.variant.1 (omega arith))) c.in_ok-tell.ensures)
-    c.tell-2.ensures
+    (on_some c.remove.result c.remove.ensures.items (c.remove.ensures.variant.1 (omega arith))) c.in_ok-tell.ensures.ok)
+    c.tell-2.ensures.ok
+
+pub returns-in_err-tell-clause-err : goal.returns-in_err-tell-clause-err
+returns-in_err-tell-clause-err g c = handed c.from_residual.result c.in_err-tell.field-0.0 _ c.from_residual.ensures.1 c.in_err-tell.ensures.err

@@ -6,6 +6,7 @@ use Rattle.tmem_desk.specs.Held.{asked, view_of}
 use Rattle.tmem_desk.specs.Serving.{tells}
 use Rattle.tmem_desk.specs.Told.{answered}
 use Rattle.tmem_desk.proofs.Telling.{closes_more}
+use Rattle.tmem_desk.proofs.Losing.{handed}
 use Rattle.tmem_desk.proofs.desk.Desk.close_waiting.Goals as goal
 
 pub loop-one-preserved-in_ok-tell : goal.loop-one-preserved-in_ok-tell
@@ -14,7 +15,7 @@ loop-one-preserved-in_ok-tell g c =
     record {
       parts = append_assoc c.loop-one.yielded (c.in-Some.one ∷ []) c.next.new.self.rest.items ∙ (ap (λ ws. c.loop-one.yielded ++ ws) (sym c.in-Some.ensures.steps.0) ∙ c.loop-one.invariant.parts);
       told = closes_more (λ w. (w.id, asked w.held)) c.loop-one.yielded c.in-Some.one (record (view_of c.args.self.now) { waiting = [] }) (view_of c.loop-one.self) (view_of c.tell.new.self) c.loop-one.invariant.told
-          (c.in_ok-tell.ensures ∙ ap (λ (id : ℤ). tells (view_of c.loop-one.self) (answered id (answer.Fault fault.Closed) ∷ [])) (to_z-of_z w64 c.in-Some.one.id fits));
+          (c.in_ok-tell.ensures.ok ∙ ap (λ (id : ℤ). tells (view_of c.loop-one.self) (answered id (answer.Fault fault.Closed) ∷ [])) (to_z-of_z w64 c.in-Some.one.id fits));
     }
 
 pub loop-one-preserved : goal.loop-one-preserved
@@ -23,5 +24,8 @@ loop-one-preserved g c =
     record {
       parts = append_assoc c.loop-one.yielded (c.in-Some.one ∷ []) c.next.new.self.rest.items ∙ (ap (λ ws. c.loop-one.yielded ++ ws) (sym c.in-Some.ensures.steps.0) ∙ c.loop-one.invariant.parts);
       told = closes_more (λ w. (w.id, asked w.held)) c.loop-one.yielded c.in-Some.one (record (view_of c.args.self.now) { waiting = [] }) (view_of c.loop-one.self) (view_of c.tell.new.self) c.loop-one.invariant.told
-          (c.in_ok-tell.ensures ∙ ap (λ (id : ℤ). tells (view_of c.loop-one.self) (answered id (answer.Fault fault.Closed) ∷ [])) (to_z-of_z w64 c.in-Some.one.id fits));
+          (c.in_ok-tell.ensures.ok ∙ ap (λ (id : ℤ). tells (view_of c.loop-one.self) (answered id (answer.Fault fault.Closed) ∷ [])) (to_z-of_z w64 c.in-Some.one.id fits));
     }
+
+pub returns-in_err-tell-clause-err : goal.returns-in_err-tell-clause-err
+returns-in_err-tell-clause-err g c = handed c.from_residual.result c.in_err-tell.field-0.0 _ c.from_residual.ensures.1 c.in_err-tell.ensures.err

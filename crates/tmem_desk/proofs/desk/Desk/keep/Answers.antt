@@ -7,8 +7,8 @@ use Rattle.tmem_desk.specs.Held.{view_of}
 use Rattle.tmem_desk.specs.Serving.{HasNoPlan, kept_as}
 use Rattle.tmem_desk.proofs.desk.Desk.keep.Goals as goal
 
-pub returns-in-Ok : goal.returns-in-Ok
-returns-in-Ok g c =
+pub returns-in-Ok-clause-ok : goal.returns-in-Ok-clause-ok
+returns-in-Ok-clause-ok g c =
     on_ok_weaker c.keep_ready.result
     (λ is.
     inr (
@@ -16,13 +16,13 @@ returns-in-Ok g c =
       subst (λ (tx : Tx). view_of c.keep_ready.new.self ≡ kept_as c.args.id c.args.word tx (view_of c.args.self.now)) c.in-Ok.ensures.plan
           (subst (λ (id : ℤ). view_of c.keep_ready.new.self ≡ kept_as id c.args.word c.in-Ok.ready.plan.tree (view_of c.args.self.now)) (to_z-of_z w64 c.args.id c.ranges.id) is),
     ))
-    c.keep_ready.ensures
+    c.keep_ready.ensures.ok
 
-pub returns-in-Err : goal.returns-in-Err
-returns-in-Err g c =
+pub returns-in-Err-clause-ok : goal.returns-in-Err-clause-ok
+returns-in-Err-clause-ok g c =
     on_ok_weaker c.tell.result
     (λ is.
     inl (
     subst (λ (id : ℤ). HasNoPlan (store g.N.Naming.name.start g.N.StoreNaming.opening g.N.ProgramNaming.program g.N.ServedNaming.arities g.N.ServedNaming.always) id c.args.tx (view_of c.args.self.now) (view_of c.tell.new.self)) (to_z-of_z w64 c.args.id c.ranges.id) (record { cause = c.in-Err.cause; least = c.in-Err.ensures.none; is = is })
     ))
-    c.tell.ensures
+    c.tell.ensures.ok

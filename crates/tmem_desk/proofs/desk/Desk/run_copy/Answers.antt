@@ -7,10 +7,11 @@ use Rattle.tmem_requests.specs.declared.request.Ask.TheVariants.{Do}
 use Rattle.tmem_desk.specs.Asking.{store}
 use Rattle.tmem_desk.specs.Held.{view_of}
 use Rattle.tmem_desk.specs.Serving.{HasNoPlan, MayWait}
+use Rattle.tmem_desk.proofs.Losing.{memory_only}
 use Rattle.tmem_desk.proofs.desk.Desk.run_copy.Goals as goal
 
-pub returns-in-Ok : goal.returns-in-Ok
-returns-in-Ok g c =
+pub returns-in-Ok-clause-ok : goal.returns-in-Ok-clause-ok
+returns-in-Ok-clause-ok g c =
     let same : c.set_numbers.new.self.plan.tree ≡ with_numbers c.args.numbers.now c.args.copy = c.set_numbers.ensures ∙ ap (with_numbers c.args.numbers.now) c.in-Ok.ensures.plan in
     on_ok_weaker c.take_held.result
     (λ waits.
@@ -18,13 +19,16 @@ returns-in-Ok g c =
     subst (λ (tx : Tx). MayWait (store g.N.Naming.name.start g.N.StoreNaming.opening g.N.ProgramNaming.program g.N.ServedNaming.arities g.N.ServedNaming.always) c.args.id (Do tx) (view_of c.args.self.now) (view_of c.take_held.new.self)) same
     (subst (λ (id : ℤ). MayWait (store g.N.Naming.name.start g.N.StoreNaming.opening g.N.ProgramNaming.program g.N.ServedNaming.arities g.N.ServedNaming.always) id (Do c.set_numbers.new.self.plan.tree) (view_of c.args.self.now) (view_of c.take_held.new.self)) (to_z-of_z w64 c.args.id c.ranges.id) waits)
     ))
-    c.take_held.ensures
+    c.take_held.ensures.ok
 
-pub returns-in-Err : goal.returns-in-Err
-returns-in-Err g c =
+pub returns-in-Err-clause-ok : goal.returns-in-Err-clause-ok
+returns-in-Err-clause-ok g c =
     on_ok_weaker c.tell.result
     (λ is.
     inl (
     subst (λ (id : ℤ). HasNoPlan (store g.N.Naming.name.start g.N.StoreNaming.opening g.N.ProgramNaming.program g.N.ServedNaming.arities g.N.ServedNaming.always) id c.args.copy (view_of c.args.self.now) (view_of c.tell.new.self)) (to_z-of_z w64 c.args.id c.ranges.id) (record { cause = c.in-Err.cause; least = c.in-Err.ensures.none; is = is })
     ))
-    c.tell.ensures
+    c.tell.ensures.ok
+
+pub returns-in-Err-clause-err : goal.returns-in-Err-clause-err
+returns-in-Err-clause-err g c = memory_only _ c.tell.result c.tell.ensures.err

@@ -23,11 +23,11 @@ counted id id' stats v w same committed refused conflicts waiting kept is = reco
   is = subst (λ (i : ℤ). w ≡ tells v (answered i (answer.Stats stats) ∷ [])) same is;
 }
 
-pub returns : goal.returns
-returns g c =
+pub returns-clause-ok : goal.returns-clause-ok
+returns-clause-ok g c =
     let waiting : c.len.result ≡ length c.args.self.now.waiting.items = omega arith in
     let kept : c.len-2.result ≡ length c.args.self.now.kept.items = omega arith in
     on_ok_weaker c.tell.result
     (counted c.args.id _ _ (view_of c.args.self.now) (view_of c.tell.new.self) (to_z-of_z w64 c.args.id c.ranges.id) refl refl refl
     (waiting ∙ sym (length-map c.args.self.now.waiting.items _)) (kept ∙ sym (length-map c.args.self.now.kept.items _)))
-    c.tell.ensures
+    c.tell.ensures.ok
