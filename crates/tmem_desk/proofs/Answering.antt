@@ -1,5 +1,5 @@
 -- What leads from one view of a desk to the next.
-use Rattle.std.proofs.Common.{◌≡◌, inl, inr, ℕ, ℤ, Bool, true, false, nat_lt, List, [], ◌∷◌, ◌++◌, length, Option, Some, None, refl, ap, sym, ◌∙◌, subst}
+use Rattle.std.proofs.Common.{◌≡◌, inr, ℕ, ℤ, Bool, true, false, nat_lt, List, [], ◌∷◌, ◌++◌, length, Option, Some, None, refl, ap, sym, ◌∙◌, subst}
 use Rattle.std.specs.Prelude.{if◌then◌else◌}
 use Rattle.tmem_disk.specs.declared.fault.Fault.TheVariants as fault
 use Rattle.tmem_effect.specs.Prefix.{IsPrefix}
@@ -12,7 +12,7 @@ use Rattle.tmem_requests.specs.declared.request.Ask.{Ask}
 use Rattle.tmem_requests.specs.declared.request.Ask.TheVariants as ask
 use Rattle.tmem_desk.specs.Asking.{Store, Tries, Answers}
 use Rattle.tmem_desk.specs.Desks.{DeskView}
-use Rattle.tmem_desk.specs.Serving.{IsAnswered, MayWait, Takes, TriesFirst, TriesNext, tells, tried, tried_again, by}
+use Rattle.tmem_desk.specs.Serving.{IsAnswered, MayWait, Takes, TriesNext, tells, tried, tried_again, by}
 use Rattle.tmem_desk.specs.Told.{answered}
 
 -- a request that is answered at once

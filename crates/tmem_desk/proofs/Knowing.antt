@@ -27,7 +27,7 @@ use Rattle.tmem_copies.specs.Numbering.{with_numbers}
 use Rattle.tmem_desk.specs.Asking.{Store, SettlesTx, IsNoPlan, IsPlan, EndsTold, Tries, Answers}
 use Rattle.tmem_desk.specs.Desks.{DeskView}
 use Rattle.tmem_desk.specs.Keeping.{kept_under, with_kept}
-use Rattle.tmem_desk.specs.Serving.{Takes, TakesLine, TakesText, TakesShort, MayWait, HasNoPlan, IsAnswered, Runs, RunsCopy, kept_as, RefusesLine, RefusesLong, Round, TriesNext, TriesFirst, Wakes, Finishes, tells, by, counted, waits, without, cancelled}
+use Rattle.tmem_desk.specs.Serving.{Takes, TakesLine, TakesText, TakesShort, MayWait, HasNoPlan, IsAnswered, Runs, RunsCopy, kept_as, RefusesLine, RefusesLong, Round, TriesNext, TriesFirst, Wakes, Finishes, tells, counted, waits, without, cancelled}
 use Rattle.tmem_desk.specs.Steps.{Repeats}
 use Rattle.tmem_desk.specs.Told.{answered}
 

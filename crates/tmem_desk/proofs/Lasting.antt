@@ -1,5 +1,5 @@
 -- What is told tells of nothing but what the pass knows by then.
-use Rattle.std.proofs.Common.{◌≡◌, ◌⊎◌, inl, inr, ⊎_elim, ℕ, zero, suc, ℤ, ◌<◌, ◌≤◌, ◌+◌, max, Bool, true, false, cond, ◌||◌, nat_le, nat_lt, ◌-◌, ◌==◌, List, [], ◌∷◌, ◌++◌, length, Option, Some, None, Result, Ok, Err, IfOk, refl, ap, sym, ◌∙◌, subst, arith, length-append}
+use Rattle.std.proofs.Common.{◌≡◌, ◌⊎◌, ⊎_elim, ℕ, zero, suc, ℤ, ◌≤◌, max, Bool, true, false, cond, ◌||◌, nat_le, nat_lt, ◌-◌, ◌==◌, List, [], ◌∷◌, ◌++◌, length, Option, Some, None, Result, Ok, Err, IfOk, refl, ap, sym, subst, arith, length-append}
 use Rattle.std.specs.Prelude.{All, IfSome, MatchBool, is_some, if◌then◌else◌}
 use Rattle.std.proofs.Props.{props}
 use Rattle.std.proofs.Math.Logic.{∥∥₁_elim}
@@ -24,18 +24,18 @@ use Rattle.tmem_core.specs.Program.{Program}
 use Rattle.tmem_core.specs.Verdict.{accepted, first_broken}
 use Rattle.tmem_core.specs.SettleAnswer.{is_stale, sound_answer, unless_refused, ending_answer, settle_answer, accepted_by}
 use Rattle.tmem_seats.specs.Histories.{after, marked}
-use Rattle.tmem_front.specs.Settling.{Settles, SettlesAtLast, KnowsMore, SeesMore, IsWithin}
+use Rattle.tmem_front.specs.Settling.{Settles, KnowsMore, SeesMore, IsWithin}
 use Rattle.tmem_requests.specs.declared.answer.Answer.{Answer}
 use Rattle.tmem_requests.specs.declared.answer.Answer.TheVariants as answer
 use Rattle.tmem_requests.specs.declared.request.Ask.{Ask}
 use Rattle.tmem_requests.specs.declared.request.Ask.TheVariants as ask
-use Rattle.tmem_desk.specs.Asking.{Store, SettlesTx, IsNoPlan, IsPlan, TellsEnding, TellsResult, EndsTold, SettlesProposal, SeesValues, SeesState, Tries, Answers}
+use Rattle.tmem_desk.specs.Asking.{Store, SettlesTx, IsNoPlan, IsPlan, TellsEnding, TellsResult, EndsTold, SeesValues, Tries, Answers}
 use Rattle.tmem_desk.specs.Desks.{DeskView}
 use Rattle.tmem_desk.specs.Durable.{IsAmong, TellsAmong}
 use Rattle.tmem_copies.specs.Leading.{first_puts}
 use Rattle.tmem_copies.specs.Numbering.{with_numbers}
 use Rattle.tmem_desk.specs.Keeping.{kept_under, with_kept}
-use Rattle.tmem_desk.specs.Serving.{Takes, TakesLine, TakesText, TakesShort, TakesAll, TakesLast, MayWait, HasNoPlan, IsAnswered, Runs, RunsCopy, kept_as, RefusesLine, RefusesLong, Round, TriesNext, TriesFirst, Wakes, Finishes, tells, tried, tried_again, by, counted, waits, without, cancelled, closed, with_closed}
+use Rattle.tmem_desk.specs.Serving.{Takes, TakesLine, TakesText, TakesShort, TakesLast, MayWait, HasNoPlan, IsAnswered, Runs, RunsCopy, kept_as, RefusesLine, RefusesLong, Round, TriesNext, TriesFirst, Wakes, Finishes, tells, tried, tried_again, by, counted, waits, without, cancelled, closed, with_closed}
 use Rattle.tmem_desk.specs.Steps.{Steps, Repeats}
 use Rattle.tmem_desk.specs.Told.{answered, refused}
 use Rattle.tmem_desk.specs.declared.told.Told.{Told}

@@ -1,7 +1,7 @@
 -- What is done to those that wait and to those that are kept, as contracts see it.
 use Rattle.std.proofs.Common.{◌≡◌, ◌⊎◌, ◌↔◌, ℕ, ℤ, ◌<◌, ◌≤◌, Bool, true, false, ◌||◌, nat_le, nat_lt, List, [], ◌∷◌, ◌++◌, length, map, set, get_or, Option, Some, None, refl, ap, sym, ◌∙◌, subst, arith}
 use Rattle.std.specs.Prelude.{MatchBool, is_some, bytes_eq, position, if◌then◌else◌}
-use Rattle.std.specs.List.{position_or_len, remove}
+use Rattle.std.specs.List.{remove}
 use Rattle.std.specs.Ordering.{int_eq}
 use Rattle.std.proofs.lemmas.Bool.{false≢true}
 use Rattle.std.proofs.lemmas.Bool.Decides.{nat_tests}
@@ -17,7 +17,7 @@ use Rattle.tmem_copies.specs.Numbering.{with_numbers}
 use Rattle.tmem_desk.specs.Asking.{Store}
 use Rattle.tmem_desk.specs.Desks.{DeskView}
 use Rattle.tmem_desk.specs.Keeping.{kept_under, with_kept}
-use Rattle.tmem_desk.specs.Serving.{HasNoPlan, MayWait, Runs, RunsWith, RunsCopy, tells, tried, cancelled, kept_as, waits, without}
+use Rattle.tmem_desk.specs.Serving.{HasNoPlan, MayWait, Runs, RunsCopy, tells, tried, cancelled, kept_as, waits, without}
 use Rattle.tmem_desk.specs.Told.{answered}
 use Rattle.tmem_desk.proofs.Places.{found_at, found_none, none_waits, first_waits, without_first, none_kept, first_kept, put_first, put_last}
 use Rattle.tmem_desk.proofs.Telling.{tells_tells}

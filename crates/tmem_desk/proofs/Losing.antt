@@ -1,5 +1,5 @@
 -- No request is lost: lines that are taken, one after another, and what is told of them where the store cannot go on.
-use Rattle.std.proofs.Common.{◌≡◌, ◌⊎◌, inl, inr, ⊎_elim, ℕ, ℤ, ◌+◌, ◌≤◌, Bool, true, false, nat_lt, List, [], ◌∷◌, ◌++◌, length, map, append_assoc, length-append, Result, Ok, Err, IfErr, refl, ap, sym, ◌∙◌, subst, arith}
+use Rattle.std.proofs.Common.{◌≡◌, inl, inr, ⊎_elim, ℕ, ℤ, ◌+◌, Bool, true, false, nat_lt, List, [], ◌∷◌, ◌++◌, length, map, append_assoc, length-append, Result, Ok, Err, IfErr, refl, ap, sym, ◌∙◌, subst, arith}
 use Rattle.std.specs.Prelude.{All, MatchBool, count_by, flat_map}
 use Rattle.std.specs.Result.{IsErrAnd}
 use Rattle.std.proofs.lemmas.Bool.{false≢true}
@@ -9,7 +9,7 @@ use Rattle.std.proofs.lemmas.List.Concat.{flat_map-append}
 use Rattle.std.proofs.lemmas.List.Elements.{All-nil, All-append, All-push}
 use Rattle.tmem_disk.specs.declared.fault.Fault.{Fault}
 use Rattle.tmem_disk.specs.declared.fault.Fault.TheVariants.{Memory}
-use Rattle.tmem_lines.specs.Lines.{line, IsLine, IsLongLine, IsUnbroken, StandsFor, IsCutOff}
+use Rattle.tmem_lines.specs.Lines.{line, IsLine, IsUnbroken, StandsFor, IsCutOff}
 use Rattle.tmem_lines.specs.Views.{LinesView}
 use Rattle.tmem_spine.specs.Views.{PassView}
 use Rattle.tmem_requests.specs.declared.answer.Answer.{Answer}
@@ -28,7 +28,7 @@ use Rattle.tmem_desk.specs.declared.failure.Failure.TheVariants as failure
 use Rattle.tmem_desk.specs.declared.told.Told.{Told}
 use Rattle.tmem_desk.proofs.Counted.{closed_due, failed_count, long_due, refused_due, taken_due, tells_one, waits_again, woken_due}
 use Rattle.tmem_desk.proofs.Ends.{tells_only}
-use Rattle.tmem_desk.proofs.Taking.{TakesSome, long_text, short_text}
+use Rattle.tmem_desk.proofs.Taking.{TakesSome, short_text}
 
 -- ---- errors that are handed on
 
@@ -270,12 +270,16 @@ rest_then s text held v mid prints (failure.Fault f) so (inl is) = inl is
 rest_then s text held v mid prints (failure.Fault f) so (inr t) =
     let none : t.0 ≡ [] = none_split t.0 t.1.rest t.1.is in
     let each : TellsEach s [] mid f prints = subst (λ (ys : List (List ℕ)). TellsEach s ys mid f prints) none t.2 in
-    inr (so.texts, so.last, record {
-      all = each.all;
-      only = each.only;
-      each = λ among others n c. omega (arith, each.each among others 0 refl, so.loses among others n c);
-      printed = each.printed;
-    })
+    inr (
+      so.texts,
+      so.last,
+      record {
+        all = each.all;
+        only = each.only;
+        each = λ among others n c. omega (arith, each.each among others 0 refl, so.loses among others n c);
+        printed = each.printed;
+      },
+    )
 
 -- what could not be printed says no more
 pub unprinted_all : (s : Store) (Are : List (List ℕ) → Type 0) (v : DeskView) (prints : List ℕ → Type 0) (e : Failure) → IsUnprinted e → TellsAll s Are v prints e

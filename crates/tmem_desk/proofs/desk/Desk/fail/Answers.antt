@@ -1,7 +1,6 @@
-use Rattle.std.proofs.Common.{◌∙◌, inr, inl, ℕ, List, refl, ap}
+use Rattle.std.proofs.Common.{◌∙◌, inr, inl, ℕ, List, ap}
 use Rattle.std.specs.Io.KnownBytes.{Appends}
 use Rattle.tmem_desk.proofs.Giving.{ends_failed, only_failed}
-use Rattle.tmem_lines.specs.Views.{LinesView}
 use Rattle.tmem_desk.specs.Asking.{store}
 use Rattle.tmem_desk.specs.Held.{view_of}
 use Rattle.tmem_desk.specs.Serving.{Splits}
@@ -27,7 +26,7 @@ returns-clause-told g c = λ text stands.
       over.texts,
       over.splits,
       tells_each s over.texts v (view_of c.pass_over.new.self) (view_of c.close_waiting.new.self) c.why_ended-fault.result c.replace-told.result.items _ (Appends (g.W.Write.contents c.args.out.now) (g.W.Write.contents c.print.new.out)) over.loses c.in_ok-close_waiting.ensures.told (ap (λ v. v.items) c.replace-told.ensures.value)
-      (c.deref.ensures.value ∙ c.in-Ok.ensures) c.in_ok-print.ensures.printed,
+          (c.deref.ensures.value ∙ c.in-Ok.ensures) c.in_ok-print.ensures.printed,
     )
 
 pub returns-in_err-print-clause-told : goal.returns-in_err-print-clause-told

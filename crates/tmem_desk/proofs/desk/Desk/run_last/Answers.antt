@@ -1,7 +1,6 @@
 use Rattle.std.proofs.lemmas.Result.{on_ok_weaker}
 use Rattle.tmem_desk.specs.Held.{view_of}
 use Rattle.tmem_desk.specs.Asking.{store}
-use Rattle.std.proofs.Common.{refl}
 use Rattle.tmem_desk.proofs.Losing.{each_text, handed, rest_taken}
 use Rattle.tmem_desk.proofs.desk.Desk.run_last.Goals as goal
 

@@ -4,7 +4,6 @@ use Rattle.tmem_desk.specs.Asking.{store}
 use Rattle.tmem_desk.specs.Held.{view_of}
 use Rattle.tmem_desk.specs.Serving.{TakesShort}
 use Rattle.tmem_desk.proofs.Taking.{short_text, long_text}
-use Rattle.tmem_desk.specs.Failing.{AnswersLine}
 use Rattle.tmem_desk.proofs.Losing.{each_text, memory_texts, rest_answered}
 use Rattle.tmem_desk.proofs.desk.Desk.take_last.Goals as goal
 

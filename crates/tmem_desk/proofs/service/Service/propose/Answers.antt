@@ -1,9 +1,8 @@
-use Rattle.std.proofs.Common.{Result, Ok, Err, IfOk, ap, subst}
+use Rattle.std.proofs.Common.{Result, Ok, Err, IfOk, subst}
 use Rattle.tmem_disk.specs.declared.fault.Fault.{Fault}
 use Rattle.tmem_tree.specs.declared.settled.Settled.{Settled}
 use Rattle.tmem_front.specs.Settling.{Settles}
 use Rattle.tmem_front.proofs.Laws.{knows_still, settles_later}
-use Rattle.tmem_requests.specs.declared.answer.Answer.TheVariants as answer
 use Rattle.tmem_desk.proofs.service.Service.propose.Goals as goal
 
 -- two facts of what was answered make a third

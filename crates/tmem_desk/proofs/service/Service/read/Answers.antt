@@ -2,7 +2,7 @@ use Rattle.std.proofs.Common.{◌≡◌, ℕ, List, Result, Ok, Err, IsOk, IfErr
 use Rattle.std.specs.Result.{IsErrAnd}
 use Rattle.std.proofs.lemmas.Bool.{false≢true}
 use Rattle.tmem_requests.specs.Fits.{FitsStore}
-use Rattle.tmem_requests.specs.Reasons.{IsReason, TellsReason}
+use Rattle.tmem_requests.specs.Reasons.{IsReason}
 use Rattle.tmem_requests.specs.declared.refusal.NoRequest.{NoRequest}
 use Rattle.tmem_requests.specs.declared.refusal.RequestError.{RequestError}
 use Rattle.tmem_requests.specs.declared.request.Ask.{Ask}

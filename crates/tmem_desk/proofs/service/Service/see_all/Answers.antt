@@ -1,4 +1,4 @@
-use Rattle.std.proofs.Common.{◌≡◌, ℕ, ℤ, Bool, List, Some, length, map, sym, ◌∙◌, subst, ap}
+use Rattle.std.proofs.Common.{◌≡◌, ℕ, ℤ, Bool, List, length, map, sym, ◌∙◌, subst, ap}
 use Rattle.std.specs.Prelude.{filter, slice_get}
 use Rattle.tmem_effect.specs.Names.{has_name}
 use Rattle.tmem_effect.proofs.Laws.{length-values-fold}
