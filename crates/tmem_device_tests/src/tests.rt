@@ -6,6 +6,5 @@ mod files;
 mod flushing;
 mod images;
 mod journals;
-mod migrations;
 mod pages;
 mod version_1;

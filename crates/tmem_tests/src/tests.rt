@@ -4,7 +4,6 @@ mod crashes;
 mod fronts;
 mod limits;
 mod names;
-mod stops;
 mod sums;
 mod tables;
 mod turns;

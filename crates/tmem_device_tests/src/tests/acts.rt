@@ -41,8 +41,9 @@ pub(super) enum Act<'a> {
     FailRead(u64),
     FailWrite(u64),
     FailSync(u64),
-    /// Arms a stop, at a write by its number from now, or by the place where it starts.
+    /// Arms a stop, at a write or a sync by its number from now, or at a write by the place where it starts.
     StopAtWrite(u64, Fill),
+    StopAtSync(u64, Fill),
     StopAtPlace(u64, Fill),
     /// Stops it now.
     StopNow(Fill),
@@ -200,7 +201,7 @@ fn made(alloc: Global, size: u64) -> Result<Device, Fault> {
 }
 
 /// A device of so many bytes, these at these places and zeros elsewhere, that is synced.
-pub(super) fn made_with(alloc: Global, size: u64, parts: &[(u64, &[u8])]) -> Result<Device, Fault> {
+fn made_with(alloc: Global, size: u64, parts: &[(u64, &[u8])]) -> Result<Device, Fault> {
     let mut disk = made(alloc, size)?;
     put_parts(&mut disk, parts)?;
     match disk.sync() {
@@ -453,6 +454,7 @@ fn is_so_of_power(disk: &mut SimDisk, act: &Act) -> bool {
         Act::FailWrite(k) => disk.fail_write(*k),
         Act::FailSync(k) => disk.fail_sync(*k),
         Act::StopAtWrite(k, fill) => disk.stop_at_write(*k, *fill),
+        Act::StopAtSync(k, fill) => disk.stop_at_sync(*k, *fill),
         Act::StopAtPlace(at, fill) => disk.stop_at_place(*at, *fill),
         Act::StopNow(fill) => disk.stop_now(*fill),
         Act::IsStopped => return disk.is_stopped(),
@@ -565,7 +567,7 @@ fn is_whole(alloc: Global, image: &ImageState) -> Result<bool, Fault> {
     }
 }
 
-pub(super) fn is_alike(had: &State, wanted: &State) -> bool {
+fn is_alike(had: &State, wanted: &State) -> bool {
     had.count() == wanted.count()
         && had.names() == wanted.names()
         && had.values() == wanted.values()

@@ -10,13 +10,13 @@ use super::acts::{Act, play};
 use std::test::Fail;
 
 /// A store that was formatted.
-pub(super) const FRESH: &[(u64, &[u8])] = &[
+const FRESH: &[(u64, &[u8])] = &[
     (0, &[0xA5, 0x54, 0x4D, 0x45, 0x4D, 1, 4, 0, 4, 0]),
     (512, &[0xA5, 1]),
 ];
 
 /// A store with one record, which writes 5 to variable 0.
-pub(super) const FIRST: &[(u64, &[u8])] = &[
+const FIRST: &[(u64, &[u8])] = &[
     (0, &[0xA5, 0x54, 0x4D, 0x45, 0x4D, 1, 4, 0, 4, 0]),
     (512, &[0xA5, 1]),
     (
@@ -30,7 +30,7 @@ pub(super) const FIRST: &[(u64, &[u8])] = &[
 
 /// A store with an image of generation 2, and one batch, whose record checks `ordered`. Behind it are bytes of the longer batch that
 /// the slot had before the checkpoint: the name `nonneg` behind the number 1.
-pub(super) const SHORTER_OVER_LONGER: &[(u64, &[u8])] = &[
+const SHORTER_OVER_LONGER: &[(u64, &[u8])] = &[
     (0, &[0xA5, 0x54, 0x4D, 0x45, 0x4D, 1, 4, 0, 4, 0]),
     (512, &[0xA5, 1]),
     (
@@ -51,7 +51,7 @@ pub(super) const SHORTER_OVER_LONGER: &[(u64, &[u8])] = &[
 
 /// A store of 65 variables and four slots, in 23040 bytes: copy 1 of the image begins at 3584, with its pages at 5632 and 6144, slot 0 at
 /// 6656 and slot 1 at 10752. It has an image of generation 2, a batch over what is left of an older one, and a batch of two records.
-pub(super) const TWO_BATCHES: &[(u64, &[u8])] = &[
+const TWO_BATCHES: &[(u64, &[u8])] = &[
     (0, &[0xA5, 0x54, 0x4D, 0x45, 0x4D, 1, 0x41, 0, 4, 0]),
     (512, &[0xA5, 1]),
     (3584, &[0xA5, 2]),
