@@ -1,15 +1,9 @@
--- What the tests' own tables and steps mean.
+-- What the tests' own tables mean.
 use Rattle.std.specs.Prelude.{ℤ, pos, ◌+ℤ◌, Bool, List, [], ◌∷◌, codes, int_le, slice_index_or}
-use Rattle.tmem_tree.specs.declared.step.StepAnswer.{StepAnswer}
-use Rattle.tmem_tree.specs.declared.step.StepAnswer.TheVariants.{Value}
 use Rattle.tmem_builtins.specs.Builtins.{builtin_steps}
 use Rattle.tmem_builtins.specs.Invariants.{is_not_negative}
 use Rattle.tmem_builtins.specs.Steps.{first, second}
 use Rattle.tmem_core.specs.Program.{Program}
-
--- its first argument
-abbrev pub first_of : List ℤ → StepAnswer
-first_of args = Value (first args)
 
 -- the last of sixteen is at least 0
 abbrev pub is_last_not_negative : List ℤ → Bool

@@ -1,14 +1,10 @@
-//! A store over an invariant that is data: a sum of variables.
+//! A table over an invariant that is data: a sum of variables.
 use super::names::numbered;
-use super::{commit, committed, opened, write};
 use std::alloc::Global;
-use std::process::Abort;
 use std::test::Fail;
 use tmem_disk::Fault;
 use tmem_invariants::{Invariants, TableOf};
 use tmem_linear::{Linear, Weight};
-use tmem_tree::{Steps, StoredSteps, Tx};
-use tmem_world::{Reply, Settled};
 
 const VARS: u16 = 1024;
 
@@ -20,31 +16,18 @@ fn less_twice_the_first(alloc: Global) -> Result<Linear, Fault> {
     Ok(Linear::new(name, footprint, weights, Some(-3), None, false))
 }
 
-/// Registers it in a new store, and writes numbers to both.
-fn keeps_the_sum<T: Invariants + Drop, S: StoredSteps + Drop>(
-    rt: &impl Abort,
-    alloc: Global,
-    table: T,
-    steps: S,
-) -> Result<(), Fault> {
-    let name = numbered(0)?;
-    let refused = Reply::Settled(Settled::Refused(name));
-    let mut world = opened(alloc, table, steps)?;
-    assert!(rt; commit(&mut world, Tx::Check { name }) == committed(0, 0));
-    // 0 - 4, 0 - 2, 1 - 2 and 1 - 4
-    assert!(rt; commit(&mut world, write(alloc, 0, 2)?) == refused);
-    assert!(rt; commit(&mut world, write(alloc, 0, 1)?) == committed(1, 1));
-    assert!(rt; commit(&mut world, write(alloc, 1023, 1)?) == committed(2, 1));
-    assert!(rt; commit(&mut world, write(alloc, 0, 2)?) == committed(3, 2));
-    Ok(())
-}
-
 // at: 1024 variables
 #[test]
-fn a_store_keeps_an_invariant_that_is_a_sum(rt: HostRuntime) -> Result<(), Fail> {
+fn a_table_tests_an_invariant_that_is_a_sum(rt: HostRuntime) -> Result<(), Fail> {
     let alloc = rt.alloc();
     let sums = vec![in alloc; less_twice_the_first(alloc)?]?;
     let table = TableOf::of(alloc, sums, VARS)?;
-    keeps_the_sum(&rt, alloc, table, Steps::of(Vec::new(alloc))?)?;
+    let mut values = [0; 1024];
+    // 0 - 4, 0 - 2, 1 - 2 and 1 - 4
+    for (last, first, is_false) in [(0, 2, true), (0, 1, false), (1, 1, false), (1, 2, false)] {
+        values[0] = first;
+        values[1023] = last;
+        assert!(rt; table.test_all(&values, 1, 0) == is_false.then_some(0));
+    }
     Ok(())
 }

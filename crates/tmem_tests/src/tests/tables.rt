@@ -2,86 +2,12 @@
 ghost use Rattle.std.specs.Prelude.{◌≡◌, length};
 ghost use Rattle.tmem_tests.specs.Examples.{is_sum_not_negative};
 
-use super::names::{add, numbered, register_all};
-use super::{commit, committed, opened, write};
+use super::names::add;
 use std::alloc::Global;
 use std::process::Abort;
 use std::test::Fail;
-use tmem_disk::{Fault, SimDisk};
+use tmem_disk::Fault;
 use tmem_invariants::{Invariants, Table};
-use tmem_tree::{Steps, StoredSteps};
-use tmem_world::{Reply, Settled, World};
-
-/// Whether a write with this number is refused by the invariant of that number, or else committed.
-fn is_kept<T: Invariants + Drop, S: StoredSteps + Drop>(
-    alloc: Global,
-    world: &mut World<SimDisk, T, S>,
-    number: u64,
-    (var, value, refused): (u16, i64, Option<u8>),
-) -> Result<bool, Fault> {
-    let tx = write(alloc, var, value)?;
-    let had = commit(world, tx);
-    Ok(had == wanted(number, value, refused)?)
-}
-
-/// What is answered to it.
-fn wanted(number: u64, value: i64, refused: Option<u8>) -> Result<Reply, Fault> {
-    match refused {
-        Some(n) => Ok(Reply::Settled(Settled::Refused(numbered(n)?))),
-        None => Ok(committed(number, value)),
-    }
-}
-
-/// Writes numbers to variables, where the next transaction has number 8: each write is refused by the invariant of this
-/// number, or else committed.
-fn keeps<T: Invariants + Drop, S: StoredSteps + Drop>(
-    rt: &impl Abort,
-    alloc: Global,
-    world: &mut World<SimDisk, T, S>,
-    writes: &[(u16, i64, Option<u8>)],
-) -> Result<(), Fault> {
-    let mut number = 8u64;
-    for (var, value, refused) in writes {
-        let is_so = is_kept(alloc, world, number, (*var, *value, *refused))?;
-        assert!(rt; is_so, "variable {var}");
-        number = number.wrapping_add(u64::from(refused.is_none()));
-    }
-    Ok(())
-}
-
-/// In a world over 64 invariants and a fresh device of four slots, registers them all, and writes numbers to variables.
-fn registers_and_keeps<T: Invariants + Drop, S: StoredSteps + Drop>(
-    rt: &impl Abort,
-    alloc: Global,
-    table: T,
-    steps: S,
-    writes: &[(u16, i64, Option<u8>)],
-) -> Result<(), Fault> {
-    let mut world = opened(alloc, table, steps)?;
-    keeps_all(rt, alloc, &mut world, writes)
-}
-
-/// The same in a world that is lent.
-fn keeps_all<T: Invariants + Drop, S: StoredSteps + Drop>(
-    rt: &impl Abort,
-    alloc: Global,
-    world: &mut World<SimDisk, T, S>,
-    writes: &[(u16, i64, Option<u8>)],
-) -> Result<(), Fault> {
-    register_all(rt, alloc, world)?;
-    keeps(rt, alloc, world, writes)
-}
-
-/// In a world over these invariants and no step, registers them all, and writes numbers to variables.
-fn keeps_under(
-    rt: &impl Abort,
-    alloc: Global,
-    table: Table,
-    writes: &[(u16, i64, Option<u8>)],
-) -> Result<(), Fault> {
-    let steps = Steps::of(Vec::new(alloc))?;
-    registers_and_keeps(rt, alloc, table, steps, writes)
-}
 
 /// A variable, the set of the neighbours' invariants over it, and the first that is false where it is -1 and all others
 /// are 0.
@@ -132,14 +58,6 @@ fn knows_neighbours(table: &Table) -> bool
     true
 }
 
-/// Whether it knows them, and a world over it keeps them.
-fn keeps_known(rt: &impl Abort, alloc: Global, table: Table) -> Result<(), Fault>
-    requires { table.vars ≡ 64 }
-{
-    assert!(rt; knows_neighbours(&table));
-    keeps_under(rt, alloc, table, &[(5, -1, Some(4)), (0, -1, Some(0))])
-}
-
 /// Each of 64 invariants is that the sum of a variable and its neighbour is not negative.
 fn keeps_neighbours(rt: &impl Abort, alloc: Global) -> Result<(), Fault> {
     let mut entries = Vec::new(alloc);
@@ -155,7 +73,8 @@ fn keeps_neighbours(rt: &impl Abort, alloc: Global) -> Result<(), Fault> {
         add(&mut entries, n, footprint, sum)?;
     }
     let table = Table::of(alloc, entries, 64)?;
-    keeps_known(rt, alloc, table)
+    assert!(rt; knows_neighbours(&table));
+    Ok(())
 }
 
 #[test]
