@@ -2,7 +2,8 @@
 use crate::service::ACCOUNTS;
 use std::alloc::{AllocGlobal, Global};
 use std::fs::{self, File, Files};
-use tmem_disk::{Fault, SimDisk};
+use tmem_disk::SimDisk;
+use tmem_fault::Fault;
 use tmem_file::{FileDisk, NewFile};
 use tmem_journal::{Layout, format};
 

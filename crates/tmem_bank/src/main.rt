@@ -21,7 +21,7 @@ use std::rt::Clock;
 use std::sync::Wait;
 use std::thread::Threads;
 use tmem_builtins::stored_steps;
-use tmem_disk::Name;
+use tmem_fault::Name;
 use tmem_invariants::{Invariant, Invariants, Table};
 use tmem_tree::StoredSteps;
 

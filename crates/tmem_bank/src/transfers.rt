@@ -6,7 +6,7 @@ ghost use Rattle.tmem_tree.specs.Plans.{FitsSteps, FitsVariables, FitsNames, Fit
 use crate::service::ACCOUNTS;
 use std::alloc::{AllocError, Global};
 use tmem_builtins::{add_to, all_of, put};
-use tmem_disk::{Fault, Name};
+use tmem_fault::{Fault, Name};
 use tmem_tree::{Plan, Tx};
 
 /// Money that goes from one account to another.

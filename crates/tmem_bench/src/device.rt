@@ -7,7 +7,8 @@ use std::alloc::AllocGlobal;
 use std::fs::{self, File, Files};
 use std::rt::Clock;
 use std::time::Duration;
-use tmem_disk::{Disk, Fault, SimDisk};
+use tmem_disk::{Disk, SimDisk};
+use tmem_fault::Fault;
 use tmem_file::{FileDisk, NewFile};
 
 // The loop of two syncs goes on for so long.

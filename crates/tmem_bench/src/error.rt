@@ -2,7 +2,7 @@
 use std::alloc::{AllocError, AllocFailed};
 use std::rt::Clock;
 use std::time::{Duration, Instant};
-use tmem_disk::Fault;
+use tmem_fault::Fault;
 
 /// Why the jobs ended before the last line.
 #[derive(Debug, Drop)]

@@ -1,7 +1,7 @@
 // What the callers of a store do.
 use std::alloc::{AllocError, Global};
 use tmem_builtins::{add_to, all_of, put, read};
-use tmem_disk::{Fault, Name};
+use tmem_fault::{Fault, Name};
 use tmem_tree::Tx;
 
 /// How many variables the store of a job has: a counter, two accounts, and others that nothing changes.

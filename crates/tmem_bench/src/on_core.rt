@@ -10,9 +10,9 @@ use crate::service::is_over;
 use std::alloc::Global;
 use std::rt::Clock;
 use tmem_core::Core;
-use tmem_disk::{Fault, Name};
-use tmem_effect::{NameSet, State};
+use tmem_fault::{Fault, Name};
 use tmem_invariants::Invariants;
+use tmem_state::{NameSet, State};
 use tmem_tentative::{Cursor, Progress};
 use tmem_tree::{MAX_TURNS, Plan, StoredSteps};
 

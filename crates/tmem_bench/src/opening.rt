@@ -10,7 +10,7 @@ use std::fs::{self, File, Files};
 use std::rt::Clock;
 use std::sync::Wait;
 use std::thread::Threads;
-use tmem_disk::Fault;
+use tmem_fault::Fault;
 use tmem_file::FileDisk;
 use tmem_journal::{Layout, format};
 

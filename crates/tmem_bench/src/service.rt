@@ -11,10 +11,11 @@ use std::thread::{self, Threads, map_indices};
 use std::time::{Duration, Instant};
 use tmem_builtins::put;
 use tmem_core::Settled;
-use tmem_disk::{Disk, Fault};
-use tmem_effect::MAX_RECORDS;
+use tmem_disk::Disk;
+use tmem_fault::Fault;
 use tmem_front::{Front, Gathering, Pace, Pass, StoreNaming};
 use tmem_invariants::Invariants;
+use tmem_state::MAX_RECORDS;
 use tmem_tree::{Plan, StoredSteps, Tx};
 
 // A job goes on for so long.

@@ -4,7 +4,7 @@ use Rattle.std.specs.List.{list_all}
 use Rattle.std.proofs.lemmas.Bool.Decides.{nat_tests}
 use Rattle.std.proofs.lemmas.List.Elements.{All-weaker}
 use Rattle.std.proofs.lemmas.List.Sums.{AllPass-from_list_all}
-use Rattle.tmem_disk.specs.Name.{IsLetter, IsName}
+use Rattle.tmem_fault.specs.Name.{IsLetter, IsName}
 
 -- a byte from a to z
 abbrev is_letter : ℕ → Bool

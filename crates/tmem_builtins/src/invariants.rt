@@ -5,7 +5,7 @@ ghost use Rattle.tmem_builtins.specs.Builtins.{builtin_names, builtin_tests};
 ghost use Rattle.tmem_builtins.specs.Invariants.{is_not_negative, add_to_hundred, are_ordered, fitting};
 
 use std::alloc::Global;
-use tmem_disk::{Fault, Name};
+use tmem_fault::{Fault, Name};
 use tmem_invariants::{Invariant, Invariants, Table, Test};
 
 /// The names of the three, ascending.

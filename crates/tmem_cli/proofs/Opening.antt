@@ -1,7 +1,7 @@
 -- The opening of a new store: nothing stands against it.
 use Rattle.std.proofs.Common.{◌≡◌, ℕ, List, [], ◌∷◌, ℤ, None, refl, ap}
 use Rattle.std.specs.Prelude.{option_map}
-use Rattle.tmem_disk.specs.declared.fault.Fault.TheVariants.{Broken}
+use Rattle.tmem_fault.specs.declared.fault.Fault.TheVariants.{Broken}
 use Rattle.tmem_effect.specs.State.{first_state}
 use Rattle.tmem_invariants.specs.Meanings.{Meanings, first_false}
 use Rattle.tmem_core.specs.Opening.{opening_fault}

@@ -2,7 +2,7 @@
 use Rattle.std.specs.Prelude.{◌≡◌, ◌⊎◌, ◌∷◌, ⊤, ℕ, List, length, Option, Some, None}
 use Rattle.clap.specs.Walk.{Text}
 use Rattle.std.specs.Io.KnownBytes.{Appends}
-use Rattle.tmem_disk.specs.declared.fault.Fault.{Fault}
+use Rattle.tmem_fault.specs.declared.fault.Fault.{Fault}
 use Rattle.tmem_record.specs.Layout.{IsLayout}
 use Rattle.tmem_effect.specs.State.{State}
 use Rattle.tmem_script.specs.Scripts.{IsScriptText}

@@ -3,9 +3,9 @@ use Rattle.std.specs.Prelude.{◌≡◌, ◌⊎◌, ℕ, List, [], ◌∷◌, �
 use Rattle.std.specs.List.{join_with_byte, range_with_len}
 use Rattle.std.specs.Fmt.{decimal, signed_decimal}
 use Rattle.std.specs.Io.KnownBytes.{Appends}
-use Rattle.tmem_disk.specs.Fault.{text_of}
-use Rattle.tmem_disk.specs.Name.{has_name}
-use Rattle.tmem_disk.specs.declared.fault.Fault.TheVariants as fault
+use Rattle.tmem_fault.specs.Fault.{text_of}
+use Rattle.tmem_fault.specs.Name.{has_name}
+use Rattle.tmem_fault.specs.declared.fault.Fault.TheVariants as fault
 use Rattle.tmem_effect.specs.State.{State, first_state}
 use Rattle.tmem_invariants.specs.Meanings.{value_of}
 use Rattle.tmem_core.specs.Program.{Program}

@@ -4,8 +4,8 @@ use Rattle.std.specs.Io.KnownBytes.{Appends}
 use Rattle.std.specs.declared.snapshot.Snapshot.{Snapshot}
 use Rattle.tmem_disk.specs.Disk.{DeviceView, LeavesOnly, Elapses, Rewritten}
 use Rattle.tmem_disk.specs.Start.{IsNewDevice}
-use Rattle.tmem_disk.specs.declared.fault.Fault.{Fault}
-use Rattle.tmem_disk.specs.declared.fault.Fault.TheVariants as fault
+use Rattle.tmem_fault.specs.declared.fault.Fault.{Fault}
+use Rattle.tmem_fault.specs.declared.fault.Fault.TheVariants as fault
 use Rattle.tmem_effect.specs.State.{State, first_state}
 use Rattle.tmem_record.specs.Layout.{IsLayout, end_place}
 use Rattle.tmem_journal.specs.Mended.{IsFoundAt}

@@ -9,7 +9,7 @@ use std::fs::{File, Files};
 use std::rt::Clock;
 use std::sync::Wait;
 use std::thread::Threads;
-use tmem_disk::Fault;
+use tmem_fault::Fault;
 use tmem_threads::{SLOTS, Totals, VARS, Work, count_up};
 use tmem_world::Layout;
 

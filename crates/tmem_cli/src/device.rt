@@ -11,7 +11,8 @@ ghost use Rattle.tmem_cli.specs.Stored.{IsMade, IsFoundOrMade};
 use std::alloc::Global;
 use std::fs::{self, File, Files};
 use std::snapshot::Snapshot;
-use tmem_disk::{Fault, SimDisk};
+use tmem_disk::SimDisk;
+use tmem_fault::Fault;
 use tmem_file::{FileDisk, NewFile};
 use tmem_world::{Layout, format, formatted_is_store};
 

@@ -4,7 +4,7 @@ use std::fmt;
 use std::io::{self, ErrorKind};
 use thiserror::Error;
 use tmem_desk::Failure as DeskFailure;
-use tmem_disk::Fault;
+use tmem_fault::Fault;
 use tmem_init::InitError;
 use tmem_shape::ShapeError;
 

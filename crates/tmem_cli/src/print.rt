@@ -10,7 +10,8 @@ ghost use Rattle.tmem_cli.specs.Printed.{line, listed, registered, values_text, 
 use std::fmt::{self, Display};
 use std::io::Write;
 use tmem_builtins::names;
-use tmem_disk::{Disk, Fault};
+use tmem_disk::Disk;
+use tmem_fault::Fault;
 use tmem_invariants::Invariants;
 use tmem_script::{Failure, ReplyLine};
 use tmem_threads::Totals;

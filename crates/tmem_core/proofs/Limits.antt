@@ -1,6 +1,6 @@
 -- The limits of counts and names, after what is accepted.
 use Rattle.std.proofs.Common.{List, ◌++◌, Result, Ok, Err, sym, subst, append-nil}
-use Rattle.tmem_disk.specs.declared.fault.Fault.{Fault}
+use Rattle.tmem_fault.specs.declared.fault.Fault.{Fault}
 use Rattle.tmem_effect.specs.State.{State, fold, IsWithin, StaysWithin}
 use Rattle.tmem_effect.specs.declared.effect.Effect.{Effect}
 use Rattle.tmem_effect.proofs.Laws.{fold-push, StaysWithin-push}

@@ -3,7 +3,7 @@ use Rattle.std.proofs.Common.{◌≡◌, ℕ, not, false, cond, List, [], ◌∷
 use Rattle.std.specs.Option.{option_or, option_map}
 use Rattle.std.proofs.Math.Bool.{or_comm}
 use Rattle.std.proofs.lemmas.List.Elements.{All-head, All-tail}
-use Rattle.tmem_disk.specs.declared.fault.Fault.TheVariants.{Missing, Broken}
+use Rattle.tmem_fault.specs.declared.fault.Fault.TheVariants.{Missing, Broken}
 use Rattle.tmem_effect.specs.State.{State}
 use Rattle.tmem_invariants.specs.Meanings.{Meanings, IsSound, first_false}
 use Rattle.tmem_invariants.specs.TableNames.{first_missing, has_name}

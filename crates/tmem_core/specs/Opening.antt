@@ -1,8 +1,8 @@
 -- What stands against a core of a state.
 use Rattle.std.specs.Prelude.{ℕ, List, [], Option, option_map}
 use Rattle.std.specs.Option.{option_or}
-use Rattle.tmem_disk.specs.declared.fault.Fault.{Fault}
-use Rattle.tmem_disk.specs.declared.fault.Fault.TheVariants.{Memory, Missing, Broken}
+use Rattle.tmem_fault.specs.declared.fault.Fault.{Fault}
+use Rattle.tmem_fault.specs.declared.fault.Fault.TheVariants.{Memory, Missing, Broken}
 use Rattle.tmem_effect.specs.State.{State}
 use Rattle.tmem_invariants.specs.Meanings.{Meanings, first_false}
 use Rattle.tmem_invariants.specs.TableNames.{first_missing}

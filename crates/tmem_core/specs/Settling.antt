@@ -1,6 +1,6 @@
 -- What settling an attempt does to a core, and what it answers.
 use Rattle.std.specs.Prelude.{◌≡◌, Result, IfErr}
-use Rattle.tmem_disk.specs.declared.fault.Fault.{Fault}
+use Rattle.tmem_fault.specs.declared.fault.Fault.{Fault}
 use Rattle.tmem_tree.specs.declared.tx.Tx.{Tx}
 use Rattle.tmem_tree.specs.declared.settled.Settled.{Settled}
 use Rattle.tmem_invariants.specs.declared.named.Invariants.{Ghosts}

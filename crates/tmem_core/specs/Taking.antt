@@ -1,6 +1,6 @@
 -- Which of the effects that wait are taken together.
 use Rattle.std.specs.Prelude.{ℕ, ◌+◌, ◌≤◌, ◌<◌, ◌↔◌, List, length, take}
-use Rattle.tmem_effect.specs.Batch.{records_length}
+use Rattle.tmem_state.specs.Batch.{records_length}
 use Rattle.tmem_effect.specs.Prefix.{IsPrefix}
 use Rattle.tmem_effect.specs.declared.effect.Effect.{Effect}
 

@@ -2,7 +2,7 @@
 ghost use Rattle.std.specs.Prelude.{◌≡◌};
 ghost use Rattle.tmem_core.specs.Decisions.{settled_of};
 
-use tmem_disk::Name;
+use tmem_fault::Name;
 use tmem_tree::{REGISTERS, Settled};
 
 /// What an attempt is answered. The registers that go with it are those of the attempt: they are not copied, so this is small.

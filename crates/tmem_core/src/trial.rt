@@ -6,8 +6,9 @@ ghost use Rattle.tmem_invariants.specs.Meanings.{Meanings, AllHold, first_false,
 ghost use Rattle.tmem_invariants.specs.Places.{ArePlacesOf};
 ghost use Rattle.tmem_invariants.specs.TableNames.{name_at};
 
-use tmem_effect::{Effect, MAX_WRITES, State};
+use tmem_effect::{Effect, MAX_WRITES};
 use tmem_invariants::Invariants;
+use tmem_state::State;
 
 /// The place, in the table's order, of the first name that is false of the map that an effect would make, of the registered
 /// names that it does not retire and of those that it proposes: both are given as the sets of their places. Where it proposes

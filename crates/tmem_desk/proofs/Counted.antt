@@ -4,8 +4,8 @@ use Rattle.std.specs.Prelude.{count_by, is_some, if◌then◌else◌, MatchBool}
 use Rattle.std.specs.Ordering.{int_eq}
 use Rattle.std.proofs.lemmas.Bool.Decides.{Decides-int_eq}
 use Rattle.std.proofs.lemmas.List.Sums.{sum_by-append}
-use Rattle.tmem_disk.specs.declared.fault.Fault.{Fault}
-use Rattle.tmem_disk.specs.declared.fault.Fault.TheVariants as fault
+use Rattle.tmem_fault.specs.declared.fault.Fault.{Fault}
+use Rattle.tmem_fault.specs.declared.fault.Fault.TheVariants as fault
 use Rattle.tmem_tree.specs.declared.tx.Tx.{Tx}
 use Rattle.tmem_requests.specs.declared.answer.Answer.{Answer}
 use Rattle.tmem_requests.specs.declared.answer.Answer.TheVariants as answer

@@ -6,7 +6,7 @@ use Rattle.std.specs.Ordering.{int_eq}
 use Rattle.std.proofs.lemmas.Bool.{false≢true}
 use Rattle.std.proofs.lemmas.Bool.Decides.{nat_tests}
 use Rattle.std.proofs.lemmas.List.{map_push, length-map}
-use Rattle.tmem_disk.specs.declared.fault.Fault.TheVariants as fault
+use Rattle.tmem_fault.specs.declared.fault.Fault.TheVariants as fault
 use Rattle.tmem_tree.specs.declared.tx.Tx.{Tx}
 use Rattle.tmem_requests.specs.declared.answer.Answer.TheVariants as answer
 use Rattle.tmem_requests.specs.declared.request.Ask.{Ask}

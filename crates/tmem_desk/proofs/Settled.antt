@@ -1,6 +1,6 @@
 -- Attempts that are made again until one is settled.
 use Rattle.std.proofs.Common.{◌≡◌, [], Result, Ok, Err, refl, sym, subst}
-use Rattle.tmem_disk.specs.declared.fault.Fault.{Fault}
+use Rattle.tmem_fault.specs.declared.fault.Fault.{Fault}
 use Rattle.tmem_core.specs.SettleAnswer.{accepted_by}
 use Rattle.tmem_front.specs.Settling.{Settles, SettlesPlan, SettlesAtLast, KnowsMore}
 use Rattle.tmem_front.proofs.Laws.{settles_at_last, knows_more_at_last, knows_more, settles_later}

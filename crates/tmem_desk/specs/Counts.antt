@@ -1,6 +1,6 @@
 -- What a desk counts of what it tells.
 use Rattle.std.specs.Prelude.{◌+◌, ◌%◌, ◌^◌, ℕ, List, [], ◌∷◌}
-use Rattle.tmem_disk.specs.declared.fault.Fault.TheVariants as fault
+use Rattle.tmem_fault.specs.declared.fault.Fault.TheVariants as fault
 use Rattle.tmem_tree.specs.declared.settled.Settled.TheVariants as settled
 use Rattle.tmem_requests.specs.declared.answer.Answer.{Answer}
 use Rattle.tmem_requests.specs.declared.answer.Answer.TheVariants as answer

@@ -1,7 +1,7 @@
 -- What is printed where serving ends early.
 use Rattle.std.specs.Prelude.{◌≡◌, ◌⊎◌, ◌+◌, ℕ, ℤ, Bool, List, [], ◌∷◌, ◌++◌, All, count_by, flat_map}
-use Rattle.tmem_disk.specs.declared.fault.Fault.{Fault}
-use Rattle.tmem_disk.specs.declared.fault.Fault.TheVariants.{Memory}
+use Rattle.tmem_fault.specs.declared.fault.Fault.{Fault}
+use Rattle.tmem_fault.specs.declared.fault.Fault.TheVariants.{Memory}
 use Rattle.tmem_lines.specs.Lines.{line, IsUnbroken, StandsFor}
 use Rattle.tmem_lines.specs.Views.{LinesView}
 use Rattle.tmem_spine.specs.Views.{PassView}

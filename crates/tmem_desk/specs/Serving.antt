@@ -2,8 +2,8 @@
 use Rattle.std.specs.Prelude.{◌≡◌, ◌⊎◌, ◌+◌, ◌%◌, ◌^◌, ◌||◌, ℕ, ℤ, Bool, true, false, nat_le, nat_lt, is_some, List, [], ◌∷◌, ◌++◌, length, map, flat_map, All, Option, Some, None, if◌then◌else◌, MatchBool}
 use Rattle.std.specs.List.{list_any}
 use Rattle.std.specs.Ordering.{int_eq}
-use Rattle.tmem_disk.specs.declared.fault.Cause.{Cause}
-use Rattle.tmem_disk.specs.declared.fault.Fault.TheVariants as fault
+use Rattle.tmem_fault.specs.declared.fault.Cause.{Cause}
+use Rattle.tmem_fault.specs.declared.fault.Fault.TheVariants as fault
 use Rattle.tmem_front.specs.Settling.{SeesMore}
 use Rattle.tmem_spine.specs.Views.{PassView}
 use Rattle.tmem_tree.specs.declared.tx.Tx.{Tx}

@@ -1,6 +1,6 @@
 -- What is printed, a line each.
 use Rattle.std.specs.Prelude.{◌≡◌, ℕ, ℤ, List, flat_map}
-use Rattle.tmem_disk.specs.declared.fault.Fault.{Fault}
+use Rattle.tmem_fault.specs.declared.fault.Fault.{Fault}
 use Rattle.tmem_lines.specs.Lines.{line}
 use Rattle.tmem_requests.specs.Answers.{answer_line}
 use Rattle.tmem_requests.specs.Refusals.{no_request_line}

@@ -1,6 +1,6 @@
 // Why serving ended early.
 use std::io;
-use tmem_disk::Fault;
+use tmem_fault::Fault;
 
 /// Why serving ended early.
 #[derive(Debug, Drop)]

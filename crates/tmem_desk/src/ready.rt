@@ -8,7 +8,8 @@ use crate::naming::ServedNaming;
 use crate::service::Service;
 use std::marker::PhantomData;
 use tmem_copies::set_numbers;
-use tmem_disk::{Cause, Disk, Fault};
+use tmem_disk::Disk;
+use tmem_fault::{Cause, Fault};
 use tmem_invariants::Invariants;
 use tmem_tree::{Plan, StoredSteps, Tx};
 

@@ -8,7 +8,8 @@ ghost use Rattle.tmem_desk.specs.Serving.{IsAsked};
 
 use crate::naming::ServedNaming;
 use std::alloc::Global;
-use tmem_disk::{Disk, Name};
+use tmem_disk::Disk;
+use tmem_fault::Name;
 use tmem_front::Front;
 use tmem_invariants::Invariants;
 use tmem_requests::{Request, RequestError};

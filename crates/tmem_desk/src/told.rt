@@ -8,7 +8,7 @@ use crate::desk::Desk;
 use crate::failure::Failure;
 use crate::naming::ServedNaming;
 use std::io::{self, Write};
-use tmem_disk::Fault;
+use tmem_fault::Fault;
 use tmem_requests::{AnswerLine, NoRequestLine};
 
 /// What a client is told, by a line.

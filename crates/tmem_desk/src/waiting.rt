@@ -10,7 +10,8 @@ use crate::desk::Desk;
 use crate::naming::ServedNaming;
 use crate::service::Service;
 use std::sync::Wait;
-use tmem_disk::{Disk, Fault};
+use tmem_disk::Disk;
+use tmem_fault::Fault;
 use tmem_invariants::Invariants;
 use tmem_tree::StoredSteps;
 

@@ -2,7 +2,6 @@ pub mod Fills
 pub mod Hull
 pub mod Laws
 pub mod Marks
-pub mod AsStr
 pub mod Past
 pub mod Ranges
 pub mod Writing

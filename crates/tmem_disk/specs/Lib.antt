@@ -1,9 +1,6 @@
 pub mod Disk
-pub mod Distinct
 pub mod Failing
-pub mod Fault
 pub mod Moments
-pub mod Name
 pub mod Power
 pub mod Sim
 pub mod SimParts

@@ -1,20 +1,15 @@
 //! The device that everything stands on: what a read of it gives, what a stop (a crash: a power cut or a kill) at any
 //! moment may leave of it, and when its calls fail. `SimDisk` is such a device in memory, which can be stopped, and
-//! whose calls can be made to fail, at chosen ones. Beside them are the refusals of the whole workspace and the names of
-//! its invariants.
+//! whose calls can be made to fail, at chosen ones.
 #![tactic(auto)]
 
 mod buffer;
 mod disk;
 mod failures;
-mod fault;
-mod name;
 mod platter;
 mod power;
 mod sim;
 
 pub use disk::{DeviceFault, Disk};
-pub use fault::{Cause, Fault};
-pub use name::Name;
 pub use power::Fill;
 pub use sim::SimDisk;

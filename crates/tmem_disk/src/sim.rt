@@ -9,8 +9,9 @@ use crate::buffer::overwrite;
 use crate::failures::Failures;
 use crate::platter::{PastMoments, Platter};
 use crate::power::{ArmedStop, Power};
-use crate::{DeviceFault, Disk, Fault, Fill};
+use crate::{DeviceFault, Disk, Fill};
 use std::alloc::Global;
+use tmem_fault::Fault;
 
 /// Bytes in memory. It keeps the disk model, and no call but `new` takes memory.
 ///

@@ -1,4 +1,3 @@
-pub mod BatchLaws
 pub mod NamesLaws
 pub mod NamesRemoved
 pub mod PrefixLaws

@@ -13,8 +13,8 @@ use Rattle.std.proofs.lemmas.List.Elements.{All-push, All-cons, All-nil, All-hea
 use Rattle.std.proofs.lemmas.List.Kept.{AllPairs-cons}
 use Rattle.std.proofs.lemmas.List.Quantifiers.{all_pairs_push}
 use Rattle.std.proofs.lemmas.List.Sums.{sum_by-cons}
-use Rattle.tmem_disk.specs.Name.{IsName}
-use Rattle.tmem_disk.specs.Distinct.{AreDistinct}
+use Rattle.tmem_fault.specs.Name.{IsName}
+use Rattle.tmem_fault.specs.Distinct.{AreDistinct}
 use Rattle.tmem_effect.specs.Names.{has_name, is_before, at_its_place, insert_name, with_names, AreAscending, AreChecks, AreRegistered}
 
 -- what holds of the pairs of a list holds of its first element beside the rest, and of the pairs of the rest

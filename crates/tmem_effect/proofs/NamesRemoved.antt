@@ -7,7 +7,7 @@ use Rattle.std.proofs.lemmas.List.Elements.{All-push, All-filter, filter_passes}
 use Rattle.std.proofs.lemmas.List.Folds.{Any-from_list_any}
 use Rattle.std.proofs.lemmas.List.Kept.{AllPairs-filter}
 use Rattle.std.proofs.lemmas.List.Sums.{length-filter}
-use Rattle.tmem_disk.specs.Name.{IsName}
+use Rattle.tmem_fault.specs.Name.{IsName}
 use Rattle.tmem_effect.specs.Names.{has_name, with_name, without_name, without_names, is_before, AreApart, AreAscending, AreChecks, AreRegistered}
 use Rattle.tmem_effect.proofs.NamesLaws.{AreChecks-push}
 

@@ -2,7 +2,7 @@
 use Rattle.std.proofs.Common.{◌≡◌, ◌≢◌, ℕ, ◌+◌, ◌<◌, ◌≤◌, ◌==◌, ℤ, Bool, true, false, cond, ◌||◌, ◌&&◌, not, All, List, [], ◌∷◌, ◌++◌, length, take, get_or, slice_set, Some, IsNone, refl, ap, sym, ◌∙◌, arith, length-set}
 use Rattle.std.proofs.lemmas.Bool.Decides.{nat_tests}
 use Rattle.std.proofs.lemmas.List.{take_more, get_or-set_other, get_or-set_same, set_comm, set-set}
-use Rattle.tmem_disk.specs.Name.{IsName}
+use Rattle.tmem_fault.specs.Name.{IsName}
 use Rattle.tmem_effect.specs.State.{State, Effect, apply, fold, written, variables, look, with_write, has_name, without_names, AreDistinct, AreAscending, AreRegistered}
 use Rattle.tmem_effect.proofs.WritesLaws.{look-absent}
 use Rattle.tmem_effect.proofs.NamesLaws.{AllPairs-head, AllPairs-tail, has_name-with_names, AreAscending-with_names, AreRegistered-with_names}

@@ -1,7 +1,5 @@
-pub mod Batch
 pub mod Loggable
 pub mod Names
 pub mod Prefix
 pub mod State
-pub mod Versions
 pub mod Writes

@@ -4,9 +4,9 @@ use Rattle.std.specs.List.{filter}
 use Rattle.std.specs.Ordering.{nat_cmp, is_lt}
 use Rattle.std.specs.Cmp.Lexicographic.{slice_cmp}
 use Rattle.std.proofs.Props.{props}
-use Rattle.tmem_disk.specs.Name.{IsName}
-pub use Rattle.tmem_disk.specs.Name.{has_name}
-use Rattle.tmem_disk.specs.Distinct.{AreDistinct}
+use Rattle.tmem_fault.specs.Name.{IsName}
+pub use Rattle.tmem_fault.specs.Name.{has_name}
+use Rattle.tmem_fault.specs.Distinct.{AreDistinct}
 
 -- with one name more, at the end unless it is there
 abbrev pub with_name : List (List ℕ) → List ℕ → List (List ℕ)

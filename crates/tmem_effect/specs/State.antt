@@ -4,7 +4,7 @@ use Rattle.std.proofs.Props.{props}
 pub use Rattle.tmem_effect.specs.declared.effect.Effect.{Effect}
 pub use Rattle.tmem_effect.specs.Writes.{variables, look, with_write, AreWrites}
 pub use Rattle.tmem_effect.specs.Names.{has_name, with_name, is_before, at_its_place, insert_name, with_names, without_name, without_names, AreApart, AreAscending, AreChecks, AreRegistered}
-pub use Rattle.tmem_disk.specs.Distinct.{AreDistinct}
+pub use Rattle.tmem_fault.specs.Distinct.{AreDistinct}
 
 -- the effect that changes nothing
 abbrev pub no_effect : Effect

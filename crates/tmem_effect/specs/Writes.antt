@@ -3,7 +3,7 @@ use Rattle.std.specs.Prelude.{ℕ, ℤ, ◌≤◌, List, [], ◌∷◌, length, 
 use Rattle.std.specs.Int.{w64}
 use Rattle.std.specs.Map.{lookup}
 use Rattle.std.proofs.Props.{props}
-use Rattle.tmem_disk.specs.Distinct.{AreDistinct}
+use Rattle.tmem_fault.specs.Distinct.{AreDistinct}
 
 -- the variables that are written, in order
 abbrev pub variables : List (ℕ × ℤ) → List ℕ

@@ -5,7 +5,7 @@ ghost use Rattle.tmem_effect.specs.State.{IsEffect, is_empty, no_effect};
 
 use crate::names::{MAX_CHECKS, MAX_RETIRES, Names};
 use crate::writes::Writes;
-use tmem_disk::Name;
+use tmem_fault::Name;
 
 /// What a transaction changes: the variables that it writes, the names that it checks and those that it retires.
 #[derive(Drop)]

@@ -1,10 +1,10 @@
 // The names that a transaction checks, and those that it retires.
 ghost use Rattle.std.specs.Prelude.{◌≡◌, ◌≤◌, ◌<◌, [], length, take, false, not, count_by};
-ghost use Rattle.tmem_disk.specs.Name.{IsName};
+ghost use Rattle.tmem_fault.specs.Name.{IsName};
 ghost use Rattle.tmem_effect.specs.Names.{has_name, with_name, without_name, without_names, AreChecks};
 
 use std::marker::Model;
-use tmem_disk::Name;
+use tmem_fault::Name;
 
 /// How many names one transaction may check.
 pub const MAX_CHECKS: usize = 8;
@@ -128,8 +128,8 @@ fn keep_others(items: &mut [Name], len: usize, name: &Name) -> usize
     kept
 }
 
-// How many of the names are not among those.
-pub(crate) fn count_others(those: &[Name], names: &[Name]) -> usize
+/// How many of the names are not among those.
+pub fn count_others(those: &[Name], names: &[Name]) -> usize
     ensures { result ≡ count_by (λ name. not (has_name those.now name)) names.now }
 {
     // most effects retire none
@@ -145,8 +145,8 @@ pub(crate) fn count_others(those: &[Name], names: &[Name]) -> usize
     count
 }
 
-// How many of the names are not among those that are held, or among those that are retired of them.
-pub(crate) fn count_new(held: &[Name], retired: &[Name], names: &[Name]) -> usize
+/// How many of the names are not among those that are held, or among those that are retired of them.
+pub fn count_new(held: &[Name], retired: &[Name], names: &[Name]) -> usize
     ensures { result ≡ count_by (λ name. not (has_name (without_names held.now retired.now) name)) names.now }
 {
     let mut count = 0;

@@ -1,5 +1,5 @@
 // What a world is asked, and what it answers.
-use tmem_disk::{Fault, Name};
+use tmem_fault::{Fault, Name};
 use tmem_tree::{Settled, Tx};
 
 /// How many attempts a world holds, numbered from 0.

@@ -9,7 +9,8 @@ ghost use Rattle.tmem_file.specs.Opening.{IsOpened};
 use crate::naming::{lock, open_there};
 use crate::recorded::RecordedFile;
 use std::fs::{File, Files};
-use tmem_disk::{DeviceFault, Disk, Fault};
+use tmem_disk::{DeviceFault, Disk};
+use tmem_fault::Fault;
 
 /// A file that this process alone has open as a device. It keeps the disk model as long as each read gives what the record
 /// of its calls says that the file holds. Once a sync has failed, each later one fails too, since the system may have

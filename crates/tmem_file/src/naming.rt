@@ -8,7 +8,7 @@ use std::io::{self, ErrorKind, Seek, SeekFrom};
 use std::os::fd::AsRawFd;
 use std::os::unix::fs::FileTypeExt;
 use std::path::Path;
-use tmem_disk::Fault;
+use tmem_fault::Fault;
 
 // The number of standard error, the last of the standard streams.
 const LAST_STREAM: i32 = 2;

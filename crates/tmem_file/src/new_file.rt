@@ -6,7 +6,8 @@ ghost use Rattle.tmem_file.specs.Opening.{IsPlaced};
 use crate::FileDisk;
 use crate::naming::{make_beside, open_folder};
 use std::fs::{self, File, Files};
-use tmem_disk::{Disk, Fault};
+use tmem_disk::Disk;
+use tmem_fault::Fault;
 
 /// A new file that stands beside the name that it is to get, under that name with `.new` and a number behind it. Whoever
 /// makes it writes to `disk` what the file is to hold, and then calls `place`, or else `discard`. After a crash in between

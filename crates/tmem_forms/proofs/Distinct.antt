@@ -8,7 +8,7 @@ use Rattle.std.proofs.lemmas.List.{take_more, get_or-take, length-take}
 use Rattle.std.proofs.lemmas.List.Folds.{list_any_at, Any-from_list_any}
 use Rattle.std.proofs.lemmas.List.Quantifiers.{all_pairs_push}
 use Rattle.std.proofs.lemmas.Option.{slice_get-map, slice_get-get_or, slice_get_within, get_or_from_slice_get}
-use Rattle.tmem_disk.specs.Distinct.{AreDistinct}
+use Rattle.tmem_fault.specs.Distinct.{AreDistinct}
 
 -- what a map shows of the element that was read at a place
 pub shown_at : {E X : Type 0} (es : List E) (f : E → X) (i : ℕ) (e : E) → i < length es → e ≡ get_or es i e → slice_get (map f es) i ≡ Some (f e)

@@ -8,7 +8,7 @@ use Rattle.serde_json.specs.View.{view}
 use Rattle.serde_json.specs.declared.value.Value.{Value, Object}
 use Rattle.serde_json.specs.Data.{Data, string}
 use Rattle.tmem_builtins.specs.Steps.{step_names}
-use Rattle.tmem_disk.specs.Name.{IsName}
+use Rattle.tmem_fault.specs.Name.{IsName}
 use Rattle.tmem_tree.specs.declared.tx.Tx.{Tx}
 use Rattle.tmem_tree.specs.declared.tx.Tx.TheFolds.{map-Tx, fold_out-Tx, fold-roll-Tx, every_here-Tx, every_held-Tx, every_made-Tx}
 use Rattle.tmem_tree.specs.declared.tx.Tx.TheOpen.{Tx-F}

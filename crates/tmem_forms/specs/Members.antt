@@ -1,7 +1,7 @@
 -- The keys of objects.
 use Rattle.std.specs.Prelude.{◌≡◌, true, ℕ, List, [], ◌∷◌, All}
 use Rattle.serde_json.specs.Data.{Data, object, Members, member, no_members}
-use Rattle.tmem_disk.specs.Name.{has_name}
+use Rattle.tmem_fault.specs.Name.{has_name}
 
 -- the keys of these members
 abbrev pub member_keys : Members → List (List ℕ)

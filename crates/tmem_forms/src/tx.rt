@@ -6,7 +6,7 @@ ghost use Rattle.serde_json.specs.View.{view};
 ghost use Rattle.tmem_forms.specs.Errors.{Refuses};
 ghost use Rattle.tmem_forms.specs.TxForms.{IsByte, IsShort, IsTx, array_of, integer, natural, tagged};
 ghost use Rattle.tmem_builtins.specs.Steps.{step_names};
-ghost use Rattle.tmem_disk.specs.Name.{IsName};
+ghost use Rattle.tmem_fault.specs.Name.{IsName};
 ghost use Rattle.tmem_tree.specs.declared.tx.Tx.{Tx};
 
 use crate::error::FormError;
@@ -14,7 +14,7 @@ use crate::pieces::{byte_of, integer_of, pair_of, registers_of, short_of, triple
 use serde_json::Value;
 use std::alloc::Global;
 use tmem_builtins::index_of;
-use tmem_disk::Name;
+use tmem_fault::Name;
 use tmem_tree::Tx;
 
 /// Reads a transaction: the word `"skip"` or `"retry"`, or an object with one member such as

@@ -3,7 +3,7 @@ use Rattle.std.proofs.Common.{◌≡◌, inl, inr, ⊎_elim, ℕ, ◌≤◌, Lis
 use Rattle.std.proofs.Props.{props}
 use Rattle.std.proofs.Math.Logic.{∥∥₁_elim, ∥∥₁_map}
 use Rattle.std.proofs.lemmas.List.{append-nil}
-use Rattle.tmem_disk.specs.declared.fault.Fault.{Fault}
+use Rattle.tmem_fault.specs.declared.fault.Fault.{Fault}
 use Rattle.tmem_effect.specs.Prefix.{IsPrefix}
 use Rattle.tmem_effect.specs.State.{State}
 use Rattle.tmem_effect.specs.declared.effect.Effect.{Effect}
@@ -16,7 +16,7 @@ use Rattle.tmem_spine.specs.declared.view.Entry.{Entry}
 use Rattle.tmem_spine.specs.History.{count}
 use Rattle.tmem_spine.specs.Views.{PassView}
 use Rattle.tmem_seats.specs.Histories.{marked, numbered}
-use Rattle.tmem_disk.specs.declared.fault.Fault.TheVariants as fault
+use Rattle.tmem_fault.specs.declared.fault.Fault.TheVariants as fault
 use Rattle.tmem_tree.specs.declared.tx.Tx.{Tx}
 use Rattle.tmem_tentative.specs.Right.{IsRight}
 use Rattle.tmem_front.specs.Settling.{Settles, SettlesPlan, SettlesAtLast, KnowsMore}

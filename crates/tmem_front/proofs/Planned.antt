@@ -1,6 +1,6 @@
 -- A plan of the front is for its program's names.
 use Rattle.std.proofs.Common.{◌≡◌, ℕ, List, Result, Ok, Err, IfOk, subst, sym}
-use Rattle.tmem_disk.specs.declared.fault.Fault.{Fault}
+use Rattle.tmem_fault.specs.declared.fault.Fault.{Fault}
 use Rattle.tmem_tree.specs.declared.tx.Tx.{Tx}
 use Rattle.tmem_tree.specs.Plans.{PlanView, FitsSteps, FitsNames}
 

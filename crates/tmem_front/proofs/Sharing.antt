@@ -7,8 +7,8 @@ use Rattle.std.proofs.alloc.Global.TheSendSync as heap
 use Rattle.atomic_table.proofs.shared.Seat.TheSendSync as seat
 use Rattle.atomic_table.proofs.owned.Table.TheSendSync as table
 use Rattle.tmem_disk.specs.declared.disk.Disk.{Ghosts as DiskGhosts}
-use Rattle.tmem_effect.specs.contracts.batch.Batch.{the_row as batch_row}
-use Rattle.tmem_effect.specs.contracts.state.State.{the_row as state_row}
+use Rattle.tmem_state.specs.contracts.batch.Batch.{the_row as batch_row}
+use Rattle.tmem_state.specs.contracts.state.State.{the_row as state_row}
 use Rattle.tmem_invariants.specs.declared.named.Invariants.{Ghosts as TestGhosts}
 use Rattle.tmem_tree.specs.declared.steps.StoredSteps.{Ghosts as StepGhosts}
 use Rattle.tmem_tree.specs.contracts.shape.Shape.{the_row as shape_row}

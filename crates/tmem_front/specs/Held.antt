@@ -1,7 +1,7 @@
 -- What a store that was opened holds.
 use Rattle.std.specs.Prelude.{Result, Ok, Err}
 use Rattle.tmem_disk.specs.Disk.{DeviceView}
-use Rattle.tmem_disk.specs.declared.fault.Fault.{Fault}
+use Rattle.tmem_fault.specs.declared.fault.Fault.{Fault}
 use Rattle.tmem_opening.specs.Held as opening
 use Rattle.tmem_opening.specs.declared.opening.Opening.{Opening}
 use Rattle.tmem_core.specs.Program.{Program}

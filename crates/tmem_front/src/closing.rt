@@ -4,7 +4,8 @@ ghost use Rattle.tmem_seats.specs.Flushing.{IsFlusherRefusal};
 
 use crate::front::Front;
 use std::sync::Wait;
-use tmem_disk::{Disk, Fault};
+use tmem_disk::Disk;
+use tmem_fault::Fault;
 use tmem_invariants::Invariants;
 use tmem_seats::StoreNaming;
 use tmem_tree::StoredSteps;

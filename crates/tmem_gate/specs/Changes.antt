@@ -1,8 +1,8 @@
 -- What a crash leaves of a change that is made as a whole: of a cell that is written, of an image, of a batch.
 use Rattle.std.specs.Prelude.{◌⊎◌, ℕ, List, Result, Ok, Err}
 use Rattle.tmem_disk.specs.Disk.{DeviceView, LeavesOnly, AtEachMoment}
-use Rattle.tmem_disk.specs.declared.fault.Fault.{Fault}
-use Rattle.tmem_disk.specs.declared.fault.Fault.TheVariants.{Device, Unknown}
+use Rattle.tmem_fault.specs.declared.fault.Fault.{Fault}
+use Rattle.tmem_fault.specs.declared.fault.Fault.TheVariants.{Device, Unknown}
 use Rattle.tmem_gate.specs.Calls.{MadeBy, WritesWithin}
 
 -- What became of it: it is made; it is not; one of the two; or nothing was written for it.

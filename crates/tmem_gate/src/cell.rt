@@ -7,7 +7,8 @@ ghost use Rattle.tmem_gate.specs.Changes.{Puts, outcome_of};
 ghost use Rattle.tmem_gate.specs.Gate.{IsClosed, StandsClosed, HasBody};
 
 use crate::gate::{GATE_OPEN, close_gate, is_open, open_gate, put_body};
-use tmem_disk::{DeviceFault, Disk, Fault};
+use tmem_disk::{DeviceFault, Disk};
+use tmem_fault::Fault;
 
 /// Writes a body behind a gate that stands closed, and opens it: `put_body`, and then `open_gate`. `Device` where the write of
 /// the body failed: the gate stands closed. `Unknown` where a sync or the write of the gate failed.

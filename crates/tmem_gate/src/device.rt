@@ -3,7 +3,8 @@ ghost use Rattle.std.specs.Prelude.{Some, ◌≡◌, ◌⊎◌, ◌≤◌, ◌+�
 ghost use Rattle.tmem_disk.specs.Disk.{Elapses, IsSynced, ReadsAs, overwritten};
 ghost use Rattle.tmem_gate.specs.Calls.{Uses, LooksOnly, WritesWithin};
 
-use tmem_disk::{DeviceFault, Disk, Fault};
+use tmem_disk::{DeviceFault, Disk};
+use tmem_fault::Fault;
 
 /// Fills a buffer with the bytes from a place on. `Device` where the read failed.
 pub fn read<D: Disk>(disk: &mut D, at: u64, into: &mut [u8]) -> Result<(), Fault>

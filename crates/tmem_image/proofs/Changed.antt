@@ -9,8 +9,8 @@ use Rattle.tmem_gate.specs.Calls.{WritesWithin}
 use Rattle.tmem_record.specs.Layout.{pages_of, image_place}
 use Rattle.tmem_record.specs.Spelling.{number_bytes, value_bytes}
 use Rattle.tmem_record.specs.StandsAt.{StandsAt}
-use Rattle.tmem_effect.specs.Versions.{mark_of}
-use Rattle.tmem_effect.specs.declared.version.Version.{Version}
+use Rattle.tmem_state.specs.Versions.{mark_of}
+use Rattle.tmem_state.specs.declared.version.Version.{Version}
 use Rattle.tmem_effect.specs.State.{State, apply, fold, written}
 use Rattle.tmem_effect.specs.declared.effect.Effect.{Effect}
 use Rattle.tmem_record.proofs.Laws.{between_is, first_part, second_part, both_parts, moved, length-number_bytes}

@@ -3,8 +3,8 @@ use Rattle.std.proofs.Common.{◌≡◌, ◌≤◌, ◌+◌, ◌-◌, ℕ, List,
 use Rattle.std.proofs.lemmas.List.{take-append-drop, drop-replicate, take-replicate, drop-append-le, length-replicate, append-nil}
 use Rattle.byteorder.specs.Endian.{little_bytes}
 use Rattle.tmem_effect.specs.State.{State}
-use Rattle.tmem_effect.specs.Versions.{mark_of}
-use Rattle.tmem_effect.specs.declared.version.Version.{Version}
+use Rattle.tmem_state.specs.Versions.{mark_of}
+use Rattle.tmem_state.specs.declared.version.Version.{Version}
 use Rattle.tmem_record.specs.Spelling.{number_bytes, names_bytes}
 use Rattle.tmem_record.proofs.Laws.{drop_further}
 use Rattle.tmem_image.specs.Spelling.{names_body, header_body}

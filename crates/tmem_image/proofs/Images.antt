@@ -6,8 +6,8 @@ use Rattle.tmem_record.specs.Spelling.{number_bytes}
 use Rattle.tmem_record.specs.Stale.{IsStale}
 use Rattle.tmem_record.specs.StandsAt.{StandsAt}
 use Rattle.tmem_effect.specs.State.{State}
-use Rattle.tmem_effect.specs.Versions.{mark_of}
-use Rattle.tmem_effect.specs.declared.version.Version.{Version}
+use Rattle.tmem_state.specs.Versions.{mark_of}
+use Rattle.tmem_state.specs.declared.version.Version.{Version}
 use Rattle.tmem_record.proofs.Laws.{between_is, first_part}
 use Rattle.tmem_image.specs.Spelling.{names_body, pages_body, image_body}
 use Rattle.tmem_image.specs.Image.{HoldsImage}

@@ -7,9 +7,9 @@ use Rattle.tmem_effect.specs.Names.{AreRegistered}
 use Rattle.tmem_record.specs.Spelling.{number_bytes, value_bytes, names_bytes}
 use Rattle.tmem_effect.specs.State.{State}
 use Rattle.tmem_record.specs.StandsAt.{StandsAt, zero_bytes, values_bytes}
-use Rattle.tmem_effect.specs.Versions.{mark_of}
-use Rattle.tmem_effect.specs.declared.version.Version.{Version}
-use Rattle.tmem_effect.specs.declared.version.Version.TheVariants.{One, Two}
+use Rattle.tmem_state.specs.Versions.{mark_of}
+use Rattle.tmem_state.specs.declared.version.Version.{Version}
+use Rattle.tmem_state.specs.declared.version.Version.TheVariants.{One, Two}
 use Rattle.tmem_record.specs.Layout.{pages_of, image_size}
 use Rattle.tmem_record.proofs.Laws.{length-number_bytes, same_parts, delimits_number, delimits_value, delimits_registered, delimits_all, cut, glue, from_whole, whole_from, length-values_bytes}
 use Rattle.tmem_image.specs.Spelling.{names_body, pages_body, image_body, AreValues, IsImage}

@@ -3,12 +3,12 @@ use Rattle.std.proofs.Common.{◌≡◌, ◌≤◌, ◌+◌, ◌*◌, ◌-◌, �
 use Rattle.std.specs.Prelude.{All}
 use Rattle.std.proofs.lemmas.List.{length-replicate}
 use Rattle.std.proofs.lemmas.List.Elements.{All-head, All-tail}
-use Rattle.tmem_disk.specs.Name.{IsName}
+use Rattle.tmem_fault.specs.Name.{IsName}
 use Rattle.tmem_record.specs.Layout.{pages_of}
 use Rattle.tmem_effect.specs.Names.{AreRegistered}
 use Rattle.tmem_effect.specs.State.{State}
-use Rattle.tmem_effect.specs.Versions.{mark_of}
-use Rattle.tmem_effect.specs.declared.version.Version.{Version}
+use Rattle.tmem_state.specs.Versions.{mark_of}
+use Rattle.tmem_state.specs.declared.version.Version.{Version}
 use Rattle.tmem_record.specs.Spelling.{number_bytes, value_bytes, name_bytes, names_bytes}
 use Rattle.tmem_record.proofs.Laws.{length-number_bytes, length-value_bytes, length-flat}
 use Rattle.tmem_image.specs.Spelling.{names_body, pages_body, image_body, header_body}

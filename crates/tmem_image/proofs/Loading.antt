@@ -2,13 +2,13 @@
 use Rattle.std.proofs.Common.{◌≡◌, ◌+◌, ◌-◌, ℕ, Option, Some, None, List, length, take, drop, sym, ◌∙◌, ap, subst, arith}
 use Rattle.std.specs.Prelude.{slice_range, Result, IfOk, IfErr, IfSome, IfNone}
 use Rattle.std.specs.Option.{ok_or}
-use Rattle.tmem_disk.specs.declared.fault.Fault.{Fault}
-use Rattle.tmem_disk.specs.declared.fault.Fault.TheVariants.{Damaged}
+use Rattle.tmem_fault.specs.declared.fault.Fault.{Fault}
+use Rattle.tmem_fault.specs.declared.fault.Fault.TheVariants.{Damaged}
 use Rattle.tmem_gate.specs.Calls.{IsWhyNone}
 use Rattle.tmem_gate.specs.Gate.{IsOpenAt}
 use Rattle.tmem_record.specs.Layout.{image_place, image_size}
 use Rattle.tmem_effect.specs.State.{State}
-use Rattle.tmem_effect.specs.declared.version.Version.{Version}
+use Rattle.tmem_state.specs.declared.version.Version.{Version}
 use Rattle.tmem_record.proofs.Laws.{gate_open, part_read}
 use Rattle.tmem_image.specs.Image.{IsGeneration, HoldsImage}
 use Rattle.tmem_image.specs.Spelling.{image_body, IsImage}

@@ -2,8 +2,8 @@
 use Rattle.std.proofs.Common.{◌≡◌, ◌⊎◌, inl, inr, ⊎_elim, ℕ, ℤ, ◌+◌, ◌-◌, ◌*◌, ◌≤◌, List, [], ◌∷◌, ◌++◌, length, take, drop, refl, sym, ◌∙◌, ap, subst, arith, append_assoc}
 use Rattle.std.specs.Prelude.{Result, Ok, Err, IfErr, slice_range}
 use Rattle.tmem_disk.specs.Disk.{DeviceView, IsDevice, LeavesOnly, Elapses, Rewritten, SameOutside}
-use Rattle.tmem_disk.specs.declared.fault.Fault.{Fault}
-use Rattle.tmem_disk.specs.declared.fault.Fault.TheVariants.{Device, Unknown}
+use Rattle.tmem_fault.specs.declared.fault.Fault.{Fault}
+use Rattle.tmem_fault.specs.declared.fault.Fault.TheVariants.{Device, Unknown}
 use Rattle.tmem_disk.proofs.Laws.{SameOutside-refl, SameOutside-trans, SameOutside-wider, slice_range-after, LeavesOnly-moment, AtEachMoment-more, AtEachMoment-elapsed, AtEachMoment-trans, Elapses-more, either_time}
 use Rattle.tmem_gate.specs.Gate.{IsOpenAt, IsClosed, StandsClosed, HasBody}
 use Rattle.tmem_gate.specs.Calls.{LooksOnly, WritesWithin, MadeBy}
@@ -17,9 +17,9 @@ use Rattle.tmem_record.specs.Spelling.{number_bytes}
 use Rattle.tmem_record.specs.StandsAt.{StandsAt}
 use Rattle.tmem_record.proofs.Laws.{both_parts, between_is}
 use Rattle.tmem_effect.specs.Names.{AreRegistered}
-use Rattle.tmem_effect.specs.Versions.{mark_of}
-use Rattle.tmem_effect.specs.declared.version.Version.{Version}
-use Rattle.tmem_effect.specs.declared.version.Version.TheVariants.{Two}
+use Rattle.tmem_state.specs.Versions.{mark_of}
+use Rattle.tmem_state.specs.declared.version.Version.{Version}
+use Rattle.tmem_state.specs.declared.version.Version.TheVariants.{Two}
 use Rattle.tmem_image.proofs.Lengths.{length-header_body, length-pages_body}
 use Rattle.tmem_image.specs.Spelling.{names_body, header_body, pages_body, image_body, IsImage}
 use Rattle.tmem_image.specs.Image.{IsGeneration}

@@ -1,7 +1,7 @@
 -- What holds of every content, whatever wrote it.
 use Rattle.std.specs.Prelude.{◌≡◌, ℕ, List}
 use Rattle.tmem_effect.specs.State.{State}
-use Rattle.tmem_effect.specs.declared.version.Version.{Version}
+use Rattle.tmem_state.specs.declared.version.Version.{Version}
 use Rattle.tmem_image.specs.Image.{HoldsImage, ChoosesCopy}
 
 -- a copy holds one image at the most, and that of one version

@@ -7,7 +7,7 @@ use Rattle.tmem_record.specs.Stale.{IsStale}
 use Rattle.tmem_effect.specs.State.{State}
 use Rattle.tmem_record.specs.Layout.{image_place, image_size}
 use Rattle.tmem_record.specs.declared.layout.Layout.{Layout}
-use Rattle.tmem_effect.specs.declared.version.Version.TheVariants.{Two}
+use Rattle.tmem_state.specs.declared.version.Version.TheVariants.{Two}
 use Rattle.tmem_image.specs.Image.{HoldsImage}
 use Rattle.tmem_image.specs.Spelling.{image_body}
 

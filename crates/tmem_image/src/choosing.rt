@@ -2,7 +2,7 @@
 ghost use Rattle.std.specs.Prelude.{◌≡◌, ◌⊎◌, ◌≤◌, ◌+◌, ℕ, List, Some, IfOk, IfErr, IfSome, IfNone, OnErr, IsErrOf};
 ghost use Rattle.tmem_gate.specs.Calls.{Uses, LooksOnly, IsWhyNone};
 ghost use Rattle.tmem_effect.specs.State.{State as StateOf};
-ghost use Rattle.tmem_effect.specs.declared.version.Version.{Version as VersionOf};
+ghost use Rattle.tmem_state.specs.declared.version.Version.{Version as VersionOf};
 ghost use Rattle.tmem_record.specs.Layout.{image_place, end_place};
 ghost use Rattle.tmem_image.specs.Spelling.{IsImage};
 ghost use Rattle.tmem_image.specs.Image.{IsGeneration, HoldsImage, ChoosesCopy, HasHead};
@@ -10,7 +10,8 @@ ghost use Rattle.tmem_image.specs.Room.{IsImageRoom};
 
 use crate::reading::{ImageState, read_image};
 use crate::room::ImageRoom;
-use tmem_disk::{DeviceFault, Disk, Fault};
+use tmem_disk::{DeviceFault, Disk};
+use tmem_fault::Fault;
 use tmem_gate::device::{read, read_piece};
 use tmem_gate::reads_open;
 use tmem_record::Layout;

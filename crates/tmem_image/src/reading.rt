@@ -3,16 +3,16 @@ ghost use Rattle.std.specs.Bool.{OnTrue, OnFalse};
 ghost use Rattle.std.specs.Prelude.{◌≡◌, ◌≤◌, ◌+◌, ◌*◌, ◌↔◌, ℕ, List, [], length, vec_capacity, IfSome, IfNone, IsTrue};
 ghost use Rattle.tmem_effect.specs.Names.{AreRegistered};
 ghost use Rattle.tmem_effect.specs.State.{State as StateOf};
-ghost use Rattle.tmem_effect.specs.declared.version.Version.{Version as VersionOf};
+ghost use Rattle.tmem_state.specs.declared.version.Version.{Version as VersionOf};
 ghost use Rattle.tmem_record.specs.StandsAt.{StandsAt, values_bytes};
 ghost use Rattle.tmem_record.specs.Layout.{image_size};
 ghost use Rattle.tmem_image.specs.Spelling.{names_body, image_body, AreValues, IsImage};
 ghost use Rattle.tmem_image.specs.Image.{IsGeneration};
 ghost use Rattle.tmem_image.specs.Framed.{IsPadded};
 
-use tmem_effect::{NameSet, State, Version};
 use tmem_record::bytes::{is_blank, is_zero, number_at, value_at};
 use tmem_record::{HEADER_SIZE, read_name_set};
+use tmem_state::{NameSet, State, Version};
 
 /// How long an image's header is without its gate.
 pub const HEADER_ROOM: usize = HEADER_SIZE - 1;

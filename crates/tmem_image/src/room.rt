@@ -3,8 +3,8 @@ ghost use Rattle.std.specs.Prelude.{IfOk};
 ghost use Rattle.tmem_image.specs.Room.{IsImageRoom};
 
 use std::alloc::{AllocError, Global};
-use tmem_effect::NameSet;
 use tmem_record::Layout;
+use tmem_state::NameSet;
 
 /// Memory for an image that is read, all of it: so reading takes none.
 #[derive(Drop)]

@@ -13,11 +13,12 @@ ghost use Rattle.tmem_image.specs.Spare.{IsSettled, Spares, placed, With, Withou
 
 use crate::page_sets::has_page;
 use crate::spelling::{header_of, page_of};
-use tmem_disk::{DeviceFault, Disk, Fault};
-use tmem_effect::State;
+use tmem_disk::{DeviceFault, Disk};
+use tmem_fault::Fault;
 use tmem_gate::device::{sync, write};
 use tmem_gate::{close_if_open, put_cell};
 use tmem_record::{HEADER_SIZE, Layout, PAGE_SIZE};
+use tmem_state::State;
 
 /// Writes an image of this generation and state to a copy, in version 2 of the format: closes its gate where it reads open,
 /// and syncs; writes these pages, then the header without its gate, and syncs; opens the gate, and syncs. `Device` where a

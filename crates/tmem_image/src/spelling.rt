@@ -2,13 +2,13 @@
 ghost use Rattle.std.specs.Prelude.{◌≡◌, ◌<◌, ◌≤◌, ◌+◌, ◌*◌, ◌^◌, ◌++◌, length, take, drop, flat_map};
 ghost use Rattle.tmem_effect.specs.Names.{AreRegistered};
 ghost use Rattle.tmem_record.specs.Spelling.{value_bytes};
-ghost use Rattle.tmem_effect.specs.declared.version.Version.TheVariants.{Two};
+ghost use Rattle.tmem_state.specs.declared.version.Version.TheVariants.{Two};
 ghost use Rattle.tmem_image.specs.Spelling.{header_body, page_bytes, page_values, AreValues};
 
 use crate::reading::{HEADER_ROOM, MARK_AT};
-use tmem_effect::{State, Version};
 use tmem_record::bytes::put;
 use tmem_record::{PAGE_SIZE, PAGE_VALUES, write_names};
+use tmem_state::{State, Version};
 
 /// Spells a header of version 2 without its gate.
 pub(crate) fn header_of(generation: u64, state: &State) -> [u8; HEADER_ROOM]

@@ -1,7 +1,7 @@
 -- How the content of a new store gets onto a device that is there.
 use Rattle.std.specs.Prelude.{◌≡◌, ◌⊎◌, ⊤, ◌<◌, ℕ, List, length, drop, slice_index}
 use Rattle.tmem_disk.specs.Disk.{DeviceView}
-use Rattle.tmem_disk.specs.declared.fault.Fault.TheVariants.{Device, Unknown}
+use Rattle.tmem_fault.specs.declared.fault.Fault.TheVariants.{Device, Unknown}
 use Rattle.tmem_gate.specs.Gate.{IsClosed, IsOpenOver}
 use Rattle.tmem_init.specs.declared.error.InitError.{InitError}
 use Rattle.tmem_init.specs.declared.error.InitError.TheVariants.{Refused}

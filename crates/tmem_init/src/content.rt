@@ -5,12 +5,14 @@ ghost use Rattle.tmem_effect.specs.Names.{has_name};
 ghost use Rattle.tmem_init.specs.Content.{IsContent, IsNewState};
 
 use std::alloc::{AllocError, Global};
-use tmem_disk::{Disk, Fault, Name, SimDisk};
-use tmem_effect::{MAX_CHECKS, State};
+use tmem_disk::{Disk, SimDisk};
+use tmem_effect::MAX_CHECKS;
+use tmem_fault::{Fault, Name};
 use tmem_invariants::Invariants;
 use tmem_journal::format;
 use tmem_parts::{Recovery, recovery_of};
 use tmem_record::Layout;
+use tmem_state::State;
 use tmem_tree::{MAX_TURNS, StoredSteps, Tx};
 use tmem_world::{Event, Reply, Settled, World};
 

@@ -2,7 +2,7 @@
 use std::alloc::AllocError;
 use std::{fmt, io};
 use thiserror::Error;
-use tmem_disk::Fault;
+use tmem_fault::Fault;
 
 /// Why no store was made. Its text is what the user is told.
 #[derive(Clone, Copy, Debug, Error)]
@@ -44,7 +44,7 @@ impl From<Fault> for InitError {
 
 impl From<AllocError> for InitError {
     ghost use Rattle.std.specs.Prelude.{◌≡◌};
-    ghost use Rattle.tmem_disk.specs.declared.fault.Fault.TheVariants.{Memory};
+    ghost use Rattle.tmem_fault.specs.declared.fault.Fault.TheVariants.{Memory};
     ghost use Rattle.tmem_init.specs.declared.error.InitError.TheVariants.{Refused};
 
     ghost from_gives = { λ _ error. error ≡ Refused Memory };

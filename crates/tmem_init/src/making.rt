@@ -7,7 +7,7 @@ use crate::content::content_of;
 use crate::error::InitError;
 use crate::placing::{place_in, place_store};
 use std::fs::{File, Files};
-use tmem_disk::Name;
+use tmem_fault::Name;
 use tmem_file::FileDisk;
 use tmem_invariants::Invariants;
 use tmem_record::Layout;

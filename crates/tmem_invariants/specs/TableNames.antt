@@ -1,7 +1,7 @@
 -- Lists of names, as of a table or of what is registered.
 use Rattle.std.specs.Prelude.{ℕ, ◌≤◌, ◌<◌, Bool, not, List, length, find, All, Option, option_and_then, slice_get}
-pub use Rattle.tmem_disk.specs.Distinct.{AreDistinct}
-pub use Rattle.tmem_disk.specs.Name.{has_name}
+pub use Rattle.tmem_fault.specs.Distinct.{AreDistinct}
+pub use Rattle.tmem_fault.specs.Name.{has_name}
 
 -- whether it is none of them
 abbrev pub lacks : List (List ℕ) → List ℕ → Bool

@@ -8,7 +8,7 @@ ghost use Rattle.tmem_invariants.specs.TableNames.{AreBelow, AreDistinct, has_na
 
 use crate::entry::{Entry, is_true};
 use crate::places::{lowest_place, without_place};
-use tmem_disk::Name;
+use tmem_fault::Name;
 
 // Whether no name stands twice.
 pub(crate) fn have_distinct_names<E: Entry>(entries: &[E]) -> bool

@@ -7,7 +7,7 @@ ghost use Rattle.tmem_invariants.specs.Meanings.{Meanings, holds, values_at};
 ghost use Rattle.tmem_invariants.specs.TableNames.{AreBelow, IsFootprint};
 
 use crate::footprint::{MAX_FOOTPRINT, gather};
-use tmem_disk::Name;
+use tmem_fault::Name;
 
 /// A yes or no for the values of a few variables, with the name that it is known by in every session. It is a closure or
 /// data: a table asks no more of it than this.

@@ -6,7 +6,7 @@ ghost use Rattle.tmem_invariants.specs.TableNames.{AreDistinct, IsFootprint};
 
 use crate::entry::Entry;
 use crate::footprint::{MAX_FOOTPRINT, is_distinct};
-use tmem_disk::{Fault, Name};
+use tmem_fault::{Fault, Name};
 
 /// The closure of an invariant. It is handed the values of the footprint, in its order.
 pub type Test = Box<dyn Fn(&[i64]) -> bool + Send>;

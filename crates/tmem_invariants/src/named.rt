@@ -7,7 +7,7 @@ ghost use Rattle.tmem_invariants.specs.Places.{ArePlacesOf, has_place, stands_at
 ghost use Rattle.tmem_invariants.specs.TableNames.{AreBelow, AreDistinct, first_missing, has_name, name_at};
 
 use crate::places::with_place;
-use tmem_disk::Name;
+use tmem_fault::Name;
 
 /// The most invariants of a table.
 pub const MAX_INVARIANTS: usize = 64;

@@ -11,7 +11,7 @@ use crate::index::{index_of, places_touched};
 use crate::invariant::{Invariant, Test};
 use crate::named::{Invariants, MAX_INVARIANTS};
 use std::alloc::Global;
-use tmem_disk::{Fault, Name};
+use tmem_fault::{Fault, Name};
 
 /// Invariants in order, over some number of variables.
 #[derive(Drop)]

@@ -10,7 +10,7 @@ use crate::entry::Entry;
 use crate::index::{index_of, places_touched};
 use crate::named::{Invariants, MAX_INVARIANTS};
 use std::alloc::Global;
-use tmem_disk::{Fault, Name};
+use tmem_fault::{Fault, Name};
 
 /// Invariants in order, over some number of variables: of any kind that is data. Those that are closures have `Table`, which
 /// contracts of other crates can name.

@@ -4,8 +4,8 @@ use Rattle.std.specs.Prelude.{◌⊎◌, Result, Ok, Err, IfErr}
 use Rattle.std.proofs.lemmas.List.{take-append-drop, drop_at, length-replicate}
 use Rattle.tmem_disk.specs.Disk.{DeviceView, SameOutside, AtEachMoment, Elapses, overwritten}
 use Rattle.tmem_disk.proofs.Laws.{either_time}
-use Rattle.tmem_disk.specs.declared.fault.Fault.{Fault}
-use Rattle.tmem_disk.specs.declared.fault.Fault.TheVariants.{Device, Unknown}
+use Rattle.tmem_fault.specs.declared.fault.Fault.{Fault}
+use Rattle.tmem_fault.specs.declared.fault.Fault.TheVariants.{Device, Unknown}
 use Rattle.tmem_gate.specs.Calls.{MadeBy}
 use Rattle.tmem_gate.specs.Changes.{Either, Meanwhile, outcome_of}
 use Rattle.tmem_gate.specs.Gate.{IsOpenOver}

@@ -4,8 +4,8 @@ use Rattle.std.specs.Prelude.{Err, IsErrOf, ◌↔◌}
 use Rattle.std.proofs.Math.Logic.{∥∥₁_map, ∥∥₁_elim, ∥∥₁_prop}
 use Rattle.std.proofs.Props.{props}
 use Rattle.tmem_disk.specs.Disk.{DeviceView, LeavesOnly, AtEachMoment}
-use Rattle.tmem_disk.specs.declared.fault.Fault.{Fault}
-use Rattle.tmem_disk.specs.declared.fault.Fault.TheVariants.{Memory, Device, Unknown, LogFull, NotFormatted, Damaged, Geometry, Spent}
+use Rattle.tmem_fault.specs.declared.fault.Fault.{Fault}
+use Rattle.tmem_fault.specs.declared.fault.Fault.TheVariants.{Memory, Device, Unknown, LogFull, NotFormatted, Damaged, Geometry, Spent}
 use Rattle.tmem_gate.specs.Calls.{MadeBy}
 use Rattle.tmem_gate.specs.Changes.{Either, Becomes, Meanwhile, outcome_of}
 use Rattle.tmem_effect.specs.State.{State, fold, StaysWithin}

@@ -10,8 +10,8 @@ use Rattle.tmem_gate.specs.Gate.{IsClosed, IsOpenOver}
 use Rattle.tmem_gate.proofs.Laws.{closed_before}
 use Rattle.tmem_effect.specs.State.{first_state}
 use Rattle.tmem_record.specs.Spelling.{number_bytes, value_bytes, names_bytes}
-use Rattle.tmem_effect.specs.Versions.{mark_of}
-use Rattle.tmem_effect.specs.declared.version.Version.TheVariants.{Two}
+use Rattle.tmem_state.specs.Versions.{mark_of}
+use Rattle.tmem_state.specs.declared.version.Version.TheVariants.{Two}
 use Rattle.tmem_record.specs.Layout.{IsLayout, pages_of, image_place, slot_place, end_place}
 use Rattle.tmem_redolog.specs.Log.{HoldsLog}
 use Rattle.tmem_redolog.proofs.Laws.{no_batches}

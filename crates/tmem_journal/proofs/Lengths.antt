@@ -3,8 +3,8 @@ use Rattle.std.proofs.Common.{◌≡◌, ◌+◌, ℕ, List, ◌∷◌, ◌++◌
 use Rattle.std.proofs.lemmas.List.{length-replicate}
 use Rattle.byteorder.specs.Endian.{little_bytes}
 use Rattle.tmem_record.proofs.Laws.{length-little_bytes}
-use Rattle.tmem_effect.specs.Versions.{number_of}
-use Rattle.tmem_effect.specs.declared.version.Version.{Version}
+use Rattle.tmem_state.specs.Versions.{number_of}
+use Rattle.tmem_state.specs.declared.version.Version.{Version}
 use Rattle.tmem_image.proofs.Laws.{joined}
 use Rattle.tmem_journal.specs.BlockSpelling.{block_body}
 

@@ -11,8 +11,8 @@ use Rattle.tmem_record.specs.Spelling.{number_bytes}
 use Rattle.tmem_record.specs.Stale.{IsStale}
 use Rattle.tmem_effect.specs.State.{State, fold, StaysWithin}
 use Rattle.tmem_effect.specs.declared.effect.Effect.{Effect}
-use Rattle.tmem_effect.specs.declared.version.Version.{Version}
-use Rattle.tmem_effect.specs.declared.version.Version.TheVariants.{Two}
+use Rattle.tmem_state.specs.declared.version.Version.{Version}
+use Rattle.tmem_state.specs.declared.version.Version.TheVariants.{Two}
 use Rattle.tmem_record.proofs.Laws.{length-number_bytes}
 use Rattle.tmem_image.specs.Image.{HoldsImage, other_copy}
 use Rattle.tmem_image.specs.Spelling.{image_body}

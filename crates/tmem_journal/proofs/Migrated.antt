@@ -3,8 +3,8 @@ use Rattle.std.proofs.Common.{◌≡◌, ◌⊎◌, inl, inr, ℕ, ◌+◌, ◌�
 use Rattle.std.specs.Prelude.{Result, Ok, Err, IfOk, IfErr}
 use Rattle.std.proofs.Math.Logic.{∥∥₁_map}
 use Rattle.tmem_disk.specs.Disk.{DeviceView, IsDevice, LeavesOnly, AtEachMoment}
-use Rattle.tmem_disk.specs.declared.fault.Fault.{Fault}
-use Rattle.tmem_disk.specs.declared.fault.Fault.TheVariants.{Device, Spent}
+use Rattle.tmem_fault.specs.declared.fault.Fault.{Fault}
+use Rattle.tmem_fault.specs.declared.fault.Fault.TheVariants.{Device, Spent}
 use Rattle.tmem_disk.proofs.Laws.{AtEachMoment-more, seen-left}
 use Rattle.tmem_gate.specs.Calls.{WritesWithin}
 use Rattle.tmem_gate.proofs.Laws.{WritesWithin-trans}

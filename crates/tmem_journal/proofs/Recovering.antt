@@ -7,8 +7,8 @@ use Rattle.tmem_gate.proofs.Laws.{LooksOnly-trans}
 use Rattle.tmem_record.specs.Layout.{image_place}
 use Rattle.tmem_record.specs.Stale.{IsStale}
 use Rattle.tmem_effect.specs.State.{State}
-use Rattle.tmem_effect.specs.Versions.{number_of}
-use Rattle.tmem_effect.specs.declared.version.Version.{Version}
+use Rattle.tmem_state.specs.Versions.{number_of}
+use Rattle.tmem_state.specs.declared.version.Version.{Version}
 use Rattle.tmem_effect.specs.declared.effect.Effect.{Effect}
 use Rattle.tmem_image.specs.Image.{HoldsImage, ChoosesCopy, other_copy}
 use Rattle.tmem_image.proofs.Laws.{front_of_image, one_head, one_choice, one_image}

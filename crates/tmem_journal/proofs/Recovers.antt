@@ -7,8 +7,8 @@ use Rattle.tmem_disk.proofs.Laws.{AtEachMoment-more}
 use Rattle.tmem_gate.proofs.Laws.{WritesWithin-wider}
 use Rattle.tmem_record.specs.Layout.{image_place, image_size, slot_place}
 use Rattle.tmem_effect.specs.State.{State}
-use Rattle.tmem_effect.specs.declared.version.Version.{Version}
-use Rattle.tmem_effect.specs.declared.version.Version.TheVariants.{Two}
+use Rattle.tmem_state.specs.declared.version.Version.{Version}
+use Rattle.tmem_state.specs.declared.version.Version.TheVariants.{Two}
 use Rattle.tmem_journal.specs.Mended.{Mends, MendsDevice, Recovers, RecoversDevice, IsFoundAt, SameBesideCopy}
 use Rattle.tmem_journal.specs.Stands.{Position, migrated_from, migrated, StandsFor, StandsForState, IsCurrent, NeedsNoMigration}
 use Rattle.tmem_journal.proofs.Unique.{one_state_at_most}

@@ -5,15 +5,15 @@ use Rattle.std.proofs.lemmas.List.{take-append-drop}
 use Rattle.std.proofs.Math.Logic.{∥∥₁_elim}
 use Rattle.std.proofs.Props.{props}
 use Rattle.byteorder.specs.Endian.{little_bytes, little_number}
-use Rattle.tmem_disk.specs.declared.fault.Fault.{Fault}
-use Rattle.tmem_disk.specs.declared.fault.Fault.TheVariants.{Device, NotFormatted, Damaged, Geometry, Spent}
+use Rattle.tmem_fault.specs.declared.fault.Fault.{Fault}
+use Rattle.tmem_fault.specs.declared.fault.Fault.TheVariants.{Device, NotFormatted, Damaged, Geometry, Spent}
 use Rattle.tmem_gate.specs.Calls.{IsWhyNone}
 use Rattle.tmem_gate.specs.Gate.{IsOpenAt, IsOpenOver}
 use Rattle.tmem_effect.specs.State.{State}
 use Rattle.tmem_effect.specs.Prefix.{IsPrefix}
 use Rattle.tmem_record.specs.Spelling.{number_bytes}
-use Rattle.tmem_effect.specs.Versions.{number_of}
-use Rattle.tmem_effect.specs.declared.version.Version.{Version}
+use Rattle.tmem_state.specs.Versions.{number_of}
+use Rattle.tmem_state.specs.declared.version.Version.{Version}
 use Rattle.tmem_record.proofs.Laws.{number-spelled}
 use Rattle.tmem_record.specs.Layout.{IsLayout}
 use Rattle.tmem_record.specs.StandsAt.{StandsAt}

@@ -2,8 +2,8 @@
 use Rattle.std.proofs.Common.{◌≡◌, ◌≤◌, ◌+◌, ◌-◌, ℕ, List, [], ◌∷◌, ◌++◌, length, take, drop, replicate, codes, sym, ◌∙◌, ap, arith, append_assoc, length-append}
 use Rattle.std.proofs.lemmas.List.{take-append-drop, take_at, drop-replicate, drop-drop, append-nil, length-replicate, replicate-append-replicate}
 use Rattle.byteorder.specs.Endian.{little_bytes}
-use Rattle.tmem_effect.specs.Versions.{number_of}
-use Rattle.tmem_effect.specs.declared.version.Version.{Version}
+use Rattle.tmem_state.specs.Versions.{number_of}
+use Rattle.tmem_state.specs.declared.version.Version.{Version}
 use Rattle.tmem_journal.specs.BlockSpelling.{block_body}
 
 -- block 0 from its parts, in front of zeros

@@ -4,7 +4,7 @@ use Rattle.tmem_record.specs.Layout.{image_place}
 use Rattle.tmem_record.specs.Stale.{IsStale}
 use Rattle.tmem_effect.specs.State.{State}
 use Rattle.tmem_effect.specs.declared.effect.Effect.{Effect}
-use Rattle.tmem_effect.specs.declared.version.Version.{Version}
+use Rattle.tmem_state.specs.declared.version.Version.{Version}
 use Rattle.tmem_image.specs.Image.{HoldsImage, IsChosen, ChoosesCopy, other_copy}
 use Rattle.tmem_image.proofs.Laws.{front_of_image, one_choice, one_image}
 use Rattle.tmem_redolog.specs.Log.{HoldsLog, replayed}

@@ -1,8 +1,8 @@
 -- Words for what the calls of a journal ask and answer.
 use Rattle.std.specs.Prelude.{◌≤◌, ℕ, List, [], Option, Some, None, Result, Ok, Err}
 use Rattle.std.specs.declared.snapshot.Snapshot.{Snapshot}
-use Rattle.tmem_disk.specs.declared.fault.Fault.{Fault}
-use Rattle.tmem_disk.specs.declared.fault.Fault.TheVariants.{Unknown}
+use Rattle.tmem_fault.specs.declared.fault.Fault.{Fault}
+use Rattle.tmem_fault.specs.declared.fault.Fault.TheVariants.{Unknown}
 use Rattle.tmem_effect.specs.declared.effect.Effect.{Effect}
 use Rattle.tmem_record.specs.Layout.{IsLayout, end_place}
 

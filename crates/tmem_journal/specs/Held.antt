@@ -1,7 +1,7 @@
 -- What a journal holds.
 use Rattle.std.specs.Prelude.{ℕ, Bool, List, Result, Ok, Err}
 use Rattle.tmem_disk.specs.Disk.{DeviceView}
-use Rattle.tmem_disk.specs.declared.fault.Fault.{Fault}
+use Rattle.tmem_fault.specs.declared.fault.Fault.{Fault}
 use Rattle.tmem_effect.specs.State.{State, fold}
 use Rattle.tmem_journal.specs.Calls.{effects_in}
 use Rattle.tmem_journal.specs.Stands.{Position, position_in, StandsForEither}

@@ -2,8 +2,8 @@
 use Rattle.std.specs.Prelude.{◌≡◌, ◌<◌, ◌⊎◌, ◌+◌, ◌^◌, ℕ, Bool, true, false, List, Some, Result, Ok, Err, IfSome}
 use Rattle.tmem_disk.specs.Disk.{DeviceView, IsWriteOrSync}
 use Rattle.tmem_disk.specs.declared.disk.DeviceFault.TheVariants.{Write}
-use Rattle.tmem_disk.specs.declared.fault.Fault.{Fault}
-use Rattle.tmem_disk.specs.declared.fault.Fault.TheVariants as fault
+use Rattle.tmem_fault.specs.declared.fault.Fault.{Fault}
+use Rattle.tmem_fault.specs.declared.fault.Fault.TheVariants as fault
 use Rattle.tmem_gate.specs.Calls.{IsReadOrWrite}
 use Rattle.tmem_effect.specs.State.{State, fold}
 use Rattle.tmem_effect.specs.declared.effect.Effect.{Effect}

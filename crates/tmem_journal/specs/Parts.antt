@@ -1,11 +1,11 @@
 -- What block 0 is refused by, as it is found.
 use Rattle.std.specs.Prelude.{◌≡◌, ℕ, List, codes}
-use Rattle.tmem_disk.specs.declared.fault.Fault.{Fault}
-use Rattle.tmem_disk.specs.declared.fault.Fault.TheVariants.{NotFormatted, Damaged, Geometry}
+use Rattle.tmem_fault.specs.declared.fault.Fault.{Fault}
+use Rattle.tmem_fault.specs.declared.fault.Fault.TheVariants.{NotFormatted, Damaged, Geometry}
 use Rattle.tmem_gate.specs.Gate.{IsOpenOver}
 use Rattle.tmem_effect.specs.Prefix.{IsPrefix}
 use Rattle.tmem_record.specs.Layout.{IsLayout}
-use Rattle.tmem_effect.specs.declared.version.Version.{Version}
+use Rattle.tmem_state.specs.declared.version.Version.{Version}
 use Rattle.tmem_journal.specs.BlockSpelling.{block_body}
 use Rattle.tmem_journal.specs.Refusals.{HasMagic, IsOfOthers}
 

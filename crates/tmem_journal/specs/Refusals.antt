@@ -1,11 +1,11 @@
 -- What a content is refused by.
 use Rattle.std.specs.Prelude.{◌≡◌, ℕ, List, codes}
-use Rattle.tmem_disk.specs.declared.fault.Fault.{Fault}
-use Rattle.tmem_disk.specs.declared.fault.Fault.TheVariants.{Memory, Device, NotFormatted, Damaged, Geometry, Spent}
+use Rattle.tmem_fault.specs.declared.fault.Fault.{Fault}
+use Rattle.tmem_fault.specs.declared.fault.Fault.TheVariants.{Memory, Device, NotFormatted, Damaged, Geometry, Spent}
 use Rattle.tmem_gate.specs.Gate.{IsOpenOver}
 use Rattle.tmem_effect.specs.State.{State}
 use Rattle.tmem_record.specs.Layout.{IsLayout}
-use Rattle.tmem_effect.specs.declared.version.Version.{Version}
+use Rattle.tmem_state.specs.declared.version.Version.{Version}
 use Rattle.tmem_journal.specs.BlockSpelling.{block_body}
 use Rattle.tmem_journal.specs.Stands.{Position, HoldsState, StandsFor, IsSpentAt}
 

@@ -2,7 +2,8 @@
 ghost use Rattle.std.specs.Prelude.{◌≡◌, ◌<◌, length, All};
 ghost use Rattle.tmem_effect.specs.State.{fold, StaysWithin};
 
-use tmem_effect::{Effect, State};
+use tmem_effect::Effect;
+use tmem_state::State;
 
 /// Accepts effects one after another. The state is within the limits of counts and names after each of them.
 pub(crate) fn accept_all(state: &mut State, effects: &[Effect])

@@ -1,15 +1,15 @@
 // Block 0: the magic, the format version, and the numbers of variables and log slots.
 ghost use Rattle.std.specs.Prelude.{◌≡◌, ◌≤◌, ◌↔◌, ℕ, length, IfOk, IfErr, IfSome, IfNone, IsTrue};
 ghost use Rattle.tmem_record.specs.Layout.{IsLayout};
-ghost use Rattle.tmem_effect.specs.Versions.{number_of};
-ghost use Rattle.tmem_effect.specs.declared.version.Version.{Version as VersionOf};
+ghost use Rattle.tmem_state.specs.Versions.{number_of};
+ghost use Rattle.tmem_state.specs.declared.version.Version.{Version as VersionOf};
 ghost use Rattle.tmem_journal.specs.BlockSpelling.{block_body};
 ghost use Rattle.tmem_journal.specs.Parts.{IsBlockFault};
 
-use tmem_disk::Fault;
-use tmem_effect::Version;
+use tmem_fault::Fault;
 use tmem_record::bytes::{put, short_at};
 use tmem_record::{BLOCK_SIZE, Layout};
+use tmem_state::Version;
 
 // How long block 0 is without its gate.
 const BLOCK_ROOM: usize = BLOCK_SIZE - 1;

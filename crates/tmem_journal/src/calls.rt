@@ -7,7 +7,8 @@ ghost use Rattle.tmem_gate.specs.Cells.{LeftClosed, LeftOpen};
 ghost use Rattle.tmem_gate.specs.Changes.{Either};
 ghost use Rattle.tmem_journal.specs.Formatted.{open_cell};
 
-use tmem_disk::{Disk, Fault};
+use tmem_disk::Disk;
+use tmem_fault::Fault;
 
 /// Writes a cell whose gate stands closed, and opens it. `Device` where a call of the device failed, whichever it was.
 pub(crate) fn put_cell<D: Disk>(disk: &mut D, at: u64, bytes: &[u8]) -> Result<(), Fault>

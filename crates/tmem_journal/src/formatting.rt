@@ -11,12 +11,13 @@ ghost use Rattle.tmem_journal.specs.Calls.{FitsOn};
 
 use crate::block::spell_block;
 use crate::calls::put_cell;
-use tmem_disk::{Disk, Fault};
-use tmem_effect::Version;
+use tmem_disk::Disk;
+use tmem_fault::Fault;
 use tmem_gate::device::{sync, write};
 use tmem_image::{HEADER_ROOM, MARK_AT};
 use tmem_record::Layout;
 use tmem_record::bytes::put;
+use tmem_state::Version;
 
 // How many bytes are erased by one write at the most.
 const PIECE: usize = 16384;

@@ -5,7 +5,7 @@ ghost use Rattle.tmem_gate.specs.Calls.{Uses, LooksOnly, WritesWithin};
 ghost use Rattle.tmem_gate.specs.Gate.{HasBody, StandsClosed};
 ghost use Rattle.tmem_effect.specs.State.{State as StateOf, fold, StaysWithin};
 ghost use Rattle.tmem_record.specs.Spelling.{batch_bytes};
-ghost use Rattle.tmem_effect.specs.declared.version.Version.TheVariants.{Two};
+ghost use Rattle.tmem_state.specs.declared.version.Version.TheVariants.{Two};
 ghost use Rattle.tmem_record.specs.declared.codec.TheConstants.{BATCH_ROOM};
 ghost use Rattle.tmem_record.specs.Layout.{image_place, image_size, slot_place, end_place};
 ghost use Rattle.tmem_image.specs.Image.{IsGeneration, other_copy};
@@ -22,11 +22,12 @@ use crate::renewing::renew;
 use crate::room::Room;
 use std::alloc::Global;
 use std::snapshot::Snapshot;
-use tmem_disk::{DeviceFault, Disk, Fault};
-use tmem_effect::{Batch, State, Version};
+use tmem_disk::{DeviceFault, Disk};
+use tmem_fault::Fault;
 use tmem_image::{ALL_PAGES, pages_changed};
 use tmem_record::Layout;
 use tmem_redolog::{Log, append};
+use tmem_state::{Batch, State, Version};
 
 // Sets of pages, one for each image copy.
 #[derive(Clone, Copy)]

@@ -14,11 +14,12 @@ ghost use Rattle.tmem_journal.specs.Refusals.{IsWhyFound, IsRefusedBy};
 
 use crate::recovery::{Found, recover};
 use crate::renewing::renew;
-use tmem_disk::{Disk, Fault};
-use tmem_effect::Version;
+use tmem_disk::Disk;
+use tmem_fault::Fault;
 use tmem_image::{ALL_PAGES, ImageRoom};
 use tmem_record::Layout;
 use tmem_redolog::LogRoom;
+use tmem_state::Version;
 
 /// Recovers the state that a device stands for, and makes one checkpoint where its image is of version 1. Refused as `recover`
 /// is; by `Spent` where such an image is of the last generation; and by `Device` where a call of the device fails. It takes

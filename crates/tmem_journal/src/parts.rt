@@ -8,11 +8,12 @@ ghost use Rattle.tmem_journal.specs.Refusals.{IsWhyRead};
 ghost use Rattle.tmem_journal.specs.Parts.{IsBlockBy};
 
 use crate::block::read_block;
-use tmem_disk::{Disk, Fault};
-use tmem_effect::Version;
+use tmem_disk::Disk;
+use tmem_fault::Fault;
 use tmem_gate::device::read;
 use tmem_gate::reads_open;
 use tmem_record::{BLOCK_SIZE, Layout};
+use tmem_state::Version;
 
 // Checks that block 0 is open, and of this layout, and answers which version's it is.
 pub(crate) fn found_block<D: Disk>(disk: &mut D, layout: Layout) -> Result<Version, Fault>

@@ -13,12 +13,13 @@ ghost use Rattle.tmem_journal.specs.Refusals.{IsWhyRead, IsRefusedBy};
 
 use crate::block::may_follow;
 use crate::parts::found_block;
-use tmem_disk::{Disk, Fault};
-use tmem_effect::{State, Version};
+use tmem_disk::Disk;
+use tmem_fault::Fault;
 use tmem_gate::device::sync;
 use tmem_image::{ImageRoom, ImageState, choose, load};
 use tmem_record::Layout;
 use tmem_redolog::{Log, LogRoom, close_stale, scan};
+use tmem_state::{State, Version};
 
 /// What recovery found: the chosen image copy and its version, the state, and where the next batch goes.
 #[derive(Drop)]

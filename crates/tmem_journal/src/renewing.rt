@@ -11,11 +11,12 @@ ghost use Rattle.tmem_redolog.specs.Closes.{empty_log};
 ghost use Rattle.tmem_journal.specs.Stands.{position_at, next_image, StandsFor, StandsForState, IsCurrent};
 ghost use Rattle.tmem_journal.specs.Mended.{SameBesideCopy};
 
-use tmem_disk::{DeviceFault, Disk, Fault};
-use tmem_effect::{State, Version};
+use tmem_disk::{DeviceFault, Disk};
+use tmem_fault::Fault;
 use tmem_image::write_spare;
 use tmem_record::Layout;
 use tmem_redolog::{Log, empty};
+use tmem_state::{State, Version};
 
 /// Writes the state of a device as an image of version 2 and of the next generation to the copy that is not chosen, and empties
 /// the log then. Of the pages of that copy it writes these, as the others hold the state's values already. `version` is that of

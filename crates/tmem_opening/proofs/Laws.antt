@@ -1,8 +1,8 @@
 -- What follows from a refusal.
 use Rattle.std.proofs.Common.{◌≡◌, ◌≢◌, inl, inr, ⊎_elim, ℕ, Ok, refl, sym, subst}
 use Rattle.tmem_disk.specs.Disk.{DeviceView}
-use Rattle.tmem_disk.specs.declared.fault.Fault.{Fault}
-use Rattle.tmem_disk.specs.declared.fault.Fault.TheVariants as fault
+use Rattle.tmem_fault.specs.declared.fault.Fault.{Fault}
+use Rattle.tmem_fault.specs.declared.fault.Fault.TheVariants as fault
 use Rattle.tmem_gate.specs.Calls.{Uses}
 use Rattle.tmem_effect.specs.State.{State}
 use Rattle.tmem_invariants.specs.Meanings.{Meanings, IsSound}

@@ -1,8 +1,8 @@
 -- What opening a store finds, why it is refused, and what it does to the device.
 use Rattle.std.specs.Prelude.{◌≡◌, ◌⊎◌, ⊤, ℕ, ◌*◌, length, Some, Result, Ok, Err}
 use Rattle.tmem_disk.specs.Disk.{DeviceView, LeavesOnly, AtEachMoment, SameDevice}
-use Rattle.tmem_disk.specs.declared.fault.Fault.{Fault}
-use Rattle.tmem_disk.specs.declared.fault.Fault.TheVariants.{Memory, NotFormatted, Damaged, Geometry, Missing, Broken, Spent}
+use Rattle.tmem_fault.specs.declared.fault.Fault.{Fault}
+use Rattle.tmem_fault.specs.declared.fault.Fault.TheVariants.{Memory, NotFormatted, Damaged, Geometry, Missing, Broken, Spent}
 use Rattle.tmem_gate.specs.Calls.{Uses, LooksOnly, WritesWithin}
 use Rattle.tmem_effect.specs.State.{State}
 use Rattle.tmem_record.specs.Layout.{slot_place}

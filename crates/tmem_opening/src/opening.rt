@@ -9,10 +9,11 @@ ghost use Rattle.tmem_tree.specs.Shapes.{AreMeant, AreWithin, names_of};
 
 use std::alloc::{AllocError, Global};
 use tmem_core::Core;
-use tmem_disk::{Disk, Fault};
-use tmem_effect::Batch;
+use tmem_disk::Disk;
+use tmem_fault::Fault;
 use tmem_invariants::Invariants;
 use tmem_journal::Journal;
+use tmem_state::Batch;
 use tmem_tree::{Shape, shapes_of};
 
 /// A store that was opened: a core of the state that was found, with the table that was handed in, and the journal that goes

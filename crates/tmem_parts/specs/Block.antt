@@ -3,8 +3,8 @@ use Rattle.std.specs.Prelude.{◌≡◌, ◌≢◌, ◌+◌, ◌-◌, ◌*◌, �
 use Rattle.tmem_gate.specs.Gate.{IsOpenAt, IsClosed}
 use Rattle.tmem_record.specs.Layout.{IsLayout}
 use Rattle.tmem_record.specs.StandsAt.{StandsAt, zero_bytes}
-use Rattle.tmem_effect.specs.Versions.{number_of}
-use Rattle.tmem_effect.specs.declared.version.Version.{Version}
+use Rattle.tmem_state.specs.Versions.{number_of}
+use Rattle.tmem_state.specs.declared.version.Version.{Version}
 use Rattle.tmem_parts.specs.declared.wrong.Why.{Why}
 use Rattle.tmem_parts.specs.declared.wrong.Why.TheVariants as why
 

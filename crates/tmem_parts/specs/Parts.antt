@@ -1,13 +1,13 @@
 -- What an image copy and a log slot of some bytes hold, and what an opening finds.
 use Rattle.std.specs.Prelude.{◌≡◌, ◌+◌, ℕ, List, length, take, slice_range}
-use Rattle.tmem_disk.specs.declared.fault.Fault.{Fault}
-use Rattle.tmem_disk.specs.declared.fault.Fault.TheVariants as fault
+use Rattle.tmem_fault.specs.declared.fault.Fault.{Fault}
+use Rattle.tmem_fault.specs.declared.fault.Fault.TheVariants as fault
 use Rattle.tmem_gate.specs.Gate.{IsOpenAt, IsClosed}
 use Rattle.tmem_record.specs.Layout.{image_place, slot_place}
 use Rattle.tmem_record.specs.Spelling.{SpellsBatch}
 use Rattle.tmem_effect.specs.State.{State}
 use Rattle.tmem_effect.specs.declared.effect.Effect.{Effect}
-use Rattle.tmem_effect.specs.declared.version.Version.{Version}
+use Rattle.tmem_state.specs.declared.version.Version.{Version}
 use Rattle.tmem_image.specs.Image.{HoldsImage}
 use Rattle.tmem_journal.specs.Calls.{FitsOn}
 use Rattle.tmem_journal.specs.Mended.{IsFoundAt}

@@ -5,9 +5,9 @@ ghost use Rattle.tmem_record.specs.StandsAt.{StandsAt, zero_bytes};
 ghost use Rattle.tmem_parts.specs.Block.{IsAmiss, IsBlock, IsHeadedBy, IsNoBlock, short_in};
 
 use crate::wrong::{Why, Wrong};
-use tmem_effect::Version;
 use tmem_gate::reads_open;
 use tmem_record::{BLOCK_SIZE, LEAST_SLOTS, Layout};
+use tmem_state::Version;
 
 // Where the letters begin.
 const LETTERS_AT: usize = 1;

@@ -3,7 +3,8 @@ ghost use Rattle.std.specs.Prelude.{◌≡◌, ◌⊎◌, length, IfOk, IfErr};
 ghost use Rattle.tmem_disk.specs.SimParts.{view_of};
 
 use std::alloc::Global;
-use tmem_disk::{Disk, Fault, SimDisk};
+use tmem_disk::{Disk, SimDisk};
+use tmem_fault::Fault;
 
 /// A device in memory that holds these bytes.
 pub(crate) fn disk_of(alloc: Global, bytes: &[u8]) -> Result<SimDisk, Fault>

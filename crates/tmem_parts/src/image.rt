@@ -5,7 +5,7 @@ ghost use Rattle.tmem_parts.specs.Parts.{IsImageIn};
 
 use crate::copy::disk_of;
 use std::alloc::Global;
-use tmem_disk::Fault;
+use tmem_fault::Fault;
 use tmem_gate::reads_open;
 use tmem_image::{ImageRoom, ImageState, load};
 use tmem_record::Layout;

@@ -4,10 +4,10 @@ ghost use Rattle.tmem_parts.specs.Parts.{IsRecovery, IsStateFound, IsWhyRefused}
 
 use crate::copy::disk_of;
 use std::alloc::Global;
-use tmem_disk::Fault;
-use tmem_effect::State;
+use tmem_fault::Fault;
 use tmem_journal::Journal;
 use tmem_record::Layout;
+use tmem_state::State;
 
 /// What an opening of some bytes finds. It does not look at what the invariants mean: the program that opens the store knows.
 #[derive(Drop)]

@@ -3,9 +3,9 @@ ghost use Rattle.std.specs.Prelude.{◌≤◌, ◌<◌, length};
 ghost use Rattle.tmem_record.specs.Layout.{end_place};
 ghost use Rattle.tmem_parts.specs.Parts.{IsSlotIn};
 
-use tmem_effect::{Records, Version};
 use tmem_gate::reads_open;
 use tmem_record::{Head, Layout, SLOT_SIZE, read_batch};
+use tmem_state::{Records, Version};
 
 /// What a log slot of some bytes holds.
 #[derive(Clone, Copy)]

@@ -8,7 +8,8 @@ use crate::row::{Numbers, Touch};
 use std::alloc::Global;
 use std::io::{self, Write};
 use std::mem;
-use tmem_disk::{DeviceFault, Disk, Fault, SimDisk};
+use tmem_disk::{DeviceFault, Disk, SimDisk};
+use tmem_fault::Fault;
 use tmem_journal::{Journal, format};
 
 /// Does something to a device that needs no store.

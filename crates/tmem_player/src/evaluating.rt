@@ -11,7 +11,7 @@ use crate::printing::{print_fault, print_name, print_numbers, print_pair};
 use std::alloc::Global;
 use std::io::{self, Write};
 use tmem_builtins::{names, nonneg, ordered, sum};
-use tmem_disk::{Fault, Name};
+use tmem_fault::{Fault, Name};
 use tmem_tentative::{Attempt, Cursor, Ending, Outcome, Probe, Reads, evaluate};
 use tmem_tree::{Footprint, MAX_CHECKS, MAX_TURNS, Plan, REGISTERS, Shape, StoredSteps, Tx};
 

@@ -2,7 +2,7 @@
 
 use std::alloc::{AllocError, AllocFailed};
 use std::{fmt, io};
-use tmem_disk::Fault;
+use tmem_fault::Fault;
 use tmem_forms::FormError;
 
 /// Why a row was not played to its end. Its text is what the user is told.

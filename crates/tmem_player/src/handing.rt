@@ -13,7 +13,8 @@ use crate::session::play_session;
 use std::alloc::Global;
 use std::io::Write;
 use tmem_builtins::{nonneg, ordered, sum, table_of};
-use tmem_disk::{Fault, Name, SimDisk};
+use tmem_disk::SimDisk;
+use tmem_fault::{Fault, Name};
 use tmem_invariants::{Invariant, Table, Test};
 
 /// Does a task.

@@ -8,7 +8,8 @@ use crate::handing::do_task;
 use crate::row::{Act, Numbers, Row};
 use std::alloc::Global;
 use std::io::Write;
-use tmem_disk::{Fault, SimDisk};
+use tmem_disk::SimDisk;
+use tmem_fault::Fault;
 use tmem_world::{Layout, format};
 
 /// Plays a row on a device that was formatted for its numbers, and prints its lines.

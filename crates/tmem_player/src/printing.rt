@@ -1,7 +1,7 @@
 //! Pieces of lines.
 
 use std::io::{self, Write};
-use tmem_disk::{Fault, Name};
+use tmem_fault::{Fault, Name};
 
 // Prints what stands in front of an item of this place.
 fn print_comma<W: Write>(place: usize, out: &mut W) -> io::Result<()> {

@@ -7,8 +7,9 @@ use crate::failure::Failure;
 use crate::row::{Act, Handed, Job, Numbers, Part, Row, Task, Touch};
 use serde_json::Value;
 use std::alloc::Global;
-use tmem_disk::{DeviceFault, Fault, Fill};
+use tmem_disk::{DeviceFault, Fill};
 use tmem_event::{ATTEMPTS, Event};
+use tmem_fault::Fault;
 use tmem_forms::{FormError, byte_of, pair_of, short_of, tx_of};
 
 /// Reads a row: an object with the keys `vars`, `slots` and `events`, and no other.

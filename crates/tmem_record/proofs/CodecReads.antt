@@ -14,14 +14,14 @@ use Rattle.std.proofs.lemmas.Str.Ascii.{IsAscii-from_all}
 use Rattle.std.proofs.lemmas.Slice.Eq.{bytes_eq-Decides}
 use Rattle.byteorder.specs.Endian.{little_bytes, little_number}
 use Rattle.byteorder.specs.Numbers.{little_from-lt}
-use Rattle.tmem_disk.specs.Name.{IsName}
+use Rattle.tmem_fault.specs.Name.{IsName}
 use Rattle.tmem_effect.specs.State.{AreWrites, AreChecks, variables, look, with_write, has_name, with_name}
 use Rattle.tmem_effect.specs.declared.effect.Effect.{Effect}
 use Rattle.tmem_effect.specs.Prefix.{IsPrefix}
-use Rattle.tmem_effect.specs.Versions.{MayRetire}
-use Rattle.tmem_effect.specs.declared.version.Version.{Version}
-use Rattle.tmem_effect.specs.declared.version.Version.TheVariants.{One}
-use Rattle.tmem_effect.specs.Batch.{records_length_in, IsRecordIn, IsBatchIn}
+use Rattle.tmem_state.specs.Versions.{MayRetire}
+use Rattle.tmem_state.specs.declared.version.Version.{Version}
+use Rattle.tmem_state.specs.declared.version.Version.TheVariants.{One}
+use Rattle.tmem_state.specs.Batch.{records_length_in, IsRecordIn, IsBatchIn}
 use Rattle.tmem_record.specs.Spelling.{number_bytes, value_bytes, write_bytes, name_bytes, writes_bytes, names_bytes, retired_bytes, record_bytes, batch_bytes, SpellsBatch}
 use Rattle.tmem_effect.proofs.Laws.{IsPrefix-append, IsPrefix-rest, AreChecks-push, is_some-look, AreWrites-push}
 use Rattle.tmem_record.proofs.CodecWrites.{length-records}

@@ -5,10 +5,10 @@ use Rattle.std.proofs.lemmas.List.{take_more, flat_map_more, drop-drop}
 use Rattle.std.proofs.lemmas.List.Sums.{sum_by-cons}
 use Rattle.byteorder.specs.Endian.{little_bytes}
 use Rattle.tmem_effect.specs.declared.effect.Effect.{Effect}
-use Rattle.tmem_effect.specs.Batch.{record_length_in, records_length_in}
-use Rattle.tmem_effect.specs.Versions.{retired_length}
-use Rattle.tmem_effect.specs.declared.version.Version.{Version}
-use Rattle.tmem_effect.specs.declared.version.Version.TheVariants.{One, Two}
+use Rattle.tmem_state.specs.Batch.{record_length_in, records_length_in}
+use Rattle.tmem_state.specs.Versions.{retired_length}
+use Rattle.tmem_state.specs.declared.version.Version.{Version}
+use Rattle.tmem_state.specs.declared.version.Version.TheVariants.{One, Two}
 use Rattle.tmem_record.specs.Spelling.{number_bytes, value_bytes, write_bytes, name_bytes, writes_bytes, names_bytes, retired_bytes, record_bytes, batch_bytes}
 use Rattle.tmem_record.proofs.SpellingLaws.{length-write_bytes}
 

@@ -3,7 +3,7 @@ use Rattle.std.proofs.Common.{◌≡◌, ◌<◌, ◌+◌, ℕ, Bool, true, fals
 use Rattle.std.specs.Prelude.{All, IsTrue, ◌↔◌}
 use Rattle.std.proofs.lemmas.Bool.{false≢true}
 use Rattle.std.proofs.lemmas.List.{get_or_at, get_or_append_left}
-use Rattle.tmem_disk.specs.Name.{IsName}
+use Rattle.tmem_fault.specs.Name.{IsName}
 use Rattle.tmem_effect.specs.Names.{is_before, AreRegistered}
 use Rattle.tmem_record.specs.Spelling.{name_bytes, names_bytes}
 use Rattle.tmem_effect.proofs.Laws.{AreRegistered-nil, AreRegistered-push}

@@ -3,9 +3,9 @@ use Rattle.std.specs.Prelude.{◌≡◌, ◌<◌, ◌≤◌, ℕ, ◌^◌, ℤ, 
 use Rattle.std.specs.Int.{w64, cast_unsigned}
 use Rattle.byteorder.specs.Endian.{little_bytes}
 use Rattle.tmem_effect.specs.declared.effect.Effect.{Effect}
-use Rattle.tmem_effect.specs.Batch.{IsBatchIn}
-use Rattle.tmem_effect.specs.declared.version.Version.{Version}
-use Rattle.tmem_effect.specs.declared.version.Version.TheVariants.{One, Two}
+use Rattle.tmem_state.specs.Batch.{IsBatchIn}
+use Rattle.tmem_state.specs.declared.version.Version.{Version}
+use Rattle.tmem_state.specs.declared.version.Version.TheVariants.{One, Two}
 
 -- a number of n bytes, the lowest first
 unfoldable pub number_bytes : ℕ → ℕ → List ℕ

@@ -1,24 +1,22 @@
 // Batches and names as bytes: how they are written, in the second version, and read, in either.
 ghost use Rattle.std.specs.Prelude.{◌≡◌, ◌≤◌, ◌<◌, ◌+◌, ◌*◌, ◌^◌, ◌↔◌, [], ◌∷◌, ◌++◌, ℕ, ℤ, length, take, drop, flat_map, sum_by, All, IsTrue, IfOk, IfErr, IfSome, IfNone, List, FitsSigned};
 ghost use Rattle.std.specs.Int.{w64};
-ghost use Rattle.tmem_disk.specs.Name.{IsName};
+ghost use Rattle.tmem_fault.specs.Name.{IsName};
 ghost use Rattle.tmem_effect.specs.declared.effect.Effect.{Effect as EffectOf};
 ghost use Rattle.tmem_effect.specs.State.{AreWrites, AreChecks, AreRegistered, AreApart};
 ghost use Rattle.tmem_effect.specs.Prefix.{IsPrefix};
-ghost use Rattle.tmem_effect.specs.Batch.{record_length, records_length, IsRecordIn, IsBatchIn};
-ghost use Rattle.tmem_effect.specs.Versions.{MayRetire};
-ghost use Rattle.tmem_effect.specs.declared.version.Version.TheVariants.{Two};
+ghost use Rattle.tmem_state.specs.Batch.{record_length, records_length, IsRecordIn, IsBatchIn};
+ghost use Rattle.tmem_state.specs.Versions.{MayRetire};
+ghost use Rattle.tmem_state.specs.declared.version.Version.TheVariants.{Two};
 ghost use Rattle.tmem_record.specs.Spelling.{number_bytes, value_bytes, write_bytes, name_bytes, writes_bytes, names_bytes, retired_bytes, record_bytes, batch_bytes, SpellsBatch, OneSpelling};
 
 use crate::bytes::put;
 use crate::layout::SLOT_SIZE;
 use byteorder::{ByteOrder, LittleEndian};
 use std::alloc::Global;
-use tmem_disk::{Fault, Name};
-use tmem_effect::{
-    BATCH_BYTES, Batch, Effect, MAX_CHECKS, MAX_NAMES, MAX_RECORDS, MAX_WRITES, NameSet, Names,
-    Records, Version, Writes, holds,
-};
+use tmem_effect::{Effect, MAX_CHECKS, MAX_WRITES, Names, Writes, holds};
+use tmem_fault::{Fault, Name};
+use tmem_state::{BATCH_BYTES, Batch, MAX_NAMES, MAX_RECORDS, NameSet, Records, Version};
 
 /// How many bytes a batch may have: as many as a log slot has behind its gate.
 pub const BATCH_ROOM: usize = SLOT_SIZE - 1;

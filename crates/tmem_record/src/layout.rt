@@ -2,7 +2,7 @@
 ghost use Rattle.std.specs.Prelude.{◌≡◌, ◌↔◌, ◌≤◌, IsOk, IfOk, IfErr};
 ghost use Rattle.tmem_record.specs.Layout.{IsLayout, pages_of, image_size, image_place, slot_place, end_place};
 
-use tmem_disk::Fault;
+use tmem_fault::Fault;
 
 /// The greatest number of variables.
 pub const MOST_VARS: u16 = 1024;

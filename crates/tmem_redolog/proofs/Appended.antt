@@ -6,10 +6,10 @@ use Rattle.tmem_gate.specs.Cells.{LeftClosed, LeftOpen}
 use Rattle.tmem_gate.specs.Changes.{Outcome, Puts}
 use Rattle.tmem_gate.specs.Gate.{StandsClosed}
 use Rattle.tmem_gate.proofs.Laws.{Puts-more}
-use Rattle.tmem_effect.specs.Batch.{IsBatchIn}
+use Rattle.tmem_state.specs.Batch.{IsBatchIn}
 use Rattle.tmem_record.specs.Layout.{slot_place}
 use Rattle.tmem_record.specs.Spelling.{batch_bytes}
-use Rattle.tmem_effect.specs.declared.version.Version.TheVariants.{Two}
+use Rattle.tmem_state.specs.declared.version.Version.TheVariants.{Two}
 use Rattle.tmem_redolog.specs.Appends.{Placed, Without, With}
 use Rattle.tmem_redolog.proofs.Logs.{without, with_batch, closed_behind, length-batch_bytes-le}
 

@@ -6,13 +6,13 @@ use Rattle.tmem_disk.specs.Disk.{SameOutside}
 use Rattle.tmem_gate.specs.Cells.{LeftClosed, LeftOpen}
 use Rattle.tmem_gate.specs.Gate.{IsClosed}
 use Rattle.tmem_gate.proofs.Laws.{closed_after, open_before, open_after}
-use Rattle.tmem_effect.specs.Batch.{records_length_in, IsBatchIn}
+use Rattle.tmem_state.specs.Batch.{records_length_in, IsBatchIn}
 use Rattle.tmem_record.specs.Layout.{slot_place}
 use Rattle.tmem_record.specs.Spelling.{number_bytes, record_bytes, batch_bytes}
 use Rattle.tmem_effect.specs.State.{State, fold}
 use Rattle.tmem_effect.specs.declared.effect.Effect.{Effect}
-use Rattle.tmem_effect.specs.declared.version.Version.{Version}
-use Rattle.tmem_effect.specs.declared.version.Version.TheVariants.{Two}
+use Rattle.tmem_state.specs.declared.version.Version.{Version}
+use Rattle.tmem_state.specs.declared.version.Version.TheVariants.{Two}
 use Rattle.tmem_effect.proofs.Laws.{count-fold, StaysWithin-first, StaysWithin-last}
 use Rattle.tmem_record.proofs.Laws.{length-number_bytes, length-records}
 use Rattle.tmem_redolog.specs.Log.{HoldsBatch, HoldsBatches, LogWithin, StaysWithin, IsStale, IsWithin, replayed}

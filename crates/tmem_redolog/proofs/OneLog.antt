@@ -2,13 +2,13 @@
 use Rattle.std.proofs.Common.{◌≡◌, inl, inr, ℕ, ◌+◌, ◌-◌, ◌<◌, ◌≤◌, ◌^◌, List, [], ◌∷◌, ◌++◌, length, take, drop, refl, sym, ◌∙◌, ap, subst, arith}
 use Rattle.std.proofs.lemmas.List.{take-append-drop, take-take, take_at}
 use Rattle.tmem_gate.specs.Gate.{IsOpenOver}
-use Rattle.tmem_effect.specs.Batch.{IsBatchIn}
+use Rattle.tmem_state.specs.Batch.{IsBatchIn}
 use Rattle.tmem_record.specs.Layout.{slot_place}
 use Rattle.tmem_effect.specs.Prefix.{IsPrefix}
 use Rattle.tmem_record.specs.Spelling.{number_bytes, batch_bytes, SpellsBatch}
 use Rattle.tmem_effect.specs.State.{State, fold}
 use Rattle.tmem_effect.specs.declared.effect.Effect.{Effect}
-use Rattle.tmem_effect.specs.declared.version.Version.{Version}
+use Rattle.tmem_state.specs.declared.version.Version.{Version}
 use Rattle.tmem_effect.proofs.Laws.{count-fold, StaysWithin-first}
 use Rattle.tmem_record.proofs.Laws.{one_spelling, delimits_number, length-number_bytes}
 use Rattle.tmem_redolog.specs.Log.{HoldsBatch, HoldsBatches, HoldsLog, StaysWithin, IsStale, replayed}

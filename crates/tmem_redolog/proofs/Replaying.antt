@@ -7,7 +7,7 @@ use Rattle.tmem_gate.specs.Gate.{IsOpenAt, HasBody, IsOpenOver}
 use Rattle.tmem_record.specs.Spelling.{number_bytes, batch_bytes, SpellsBatch}
 use Rattle.tmem_effect.specs.State.{State, apply, fold}
 use Rattle.tmem_effect.specs.declared.effect.Effect.{Effect}
-use Rattle.tmem_effect.specs.declared.version.Version.{Version}
+use Rattle.tmem_state.specs.declared.version.Version.{Version}
 use Rattle.tmem_effect.proofs.Laws.{fold-push, StaysWithin-first, StaysWithin-push, StaysWithin-at}
 use Rattle.tmem_record.proofs.Laws.{length-number_bytes}
 use Rattle.tmem_redolog.specs.Log.{IsStale, IsWithin, StaysWithin}

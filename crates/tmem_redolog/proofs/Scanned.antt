@@ -7,12 +7,12 @@ use Rattle.tmem_record.specs.Layout.{slot_place}
 use Rattle.tmem_record.specs.Spelling.{number_bytes, batch_bytes}
 use Rattle.tmem_effect.specs.State.{State, fold}
 use Rattle.tmem_effect.specs.declared.effect.Effect.{Effect}
-use Rattle.tmem_effect.specs.declared.version.Version.{Version}
+use Rattle.tmem_state.specs.declared.version.Version.{Version}
 use Rattle.tmem_effect.proofs.Laws.{StaysWithin-first}
 use Rattle.tmem_record.proofs.Laws.{length-number_bytes}
 use Rattle.tmem_redolog.specs.Log.{HoldsBatch, HoldsLog, StaysWithin, IsStale, IsWithin}
-use Rattle.tmem_disk.specs.declared.fault.Fault.{Fault}
-use Rattle.tmem_disk.specs.declared.fault.Fault.TheVariants as fault
+use Rattle.tmem_fault.specs.declared.fault.Fault.{Fault}
+use Rattle.tmem_fault.specs.declared.fault.Fault.TheVariants as fault
 use Rattle.tmem_redolog.specs.Scans.{IsWhyNone, FindsLog, IsLogOf, slot_bytes, HoldsFrom, Rests, Reached, Replays, MayReplay}
 use Rattle.tmem_redolog.proofs.Logs.{length-batch_bytes-le}
 use Rattle.tmem_redolog.proofs.OneLog.{begins, generation_first, not_stale, not_stale_number, one_batch, spells, first_spelled, from_first, to_log, behind_one, one_more}

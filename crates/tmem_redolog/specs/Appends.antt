@@ -1,15 +1,15 @@
 -- What appending a batch makes of a log.
 use Rattle.std.specs.Prelude.{◌≡◌, ◌⊎◌, ℕ, List, [], ◌∷◌, ◌++◌, length}
 use Rattle.tmem_disk.specs.Disk.{SameOutside}
-use Rattle.tmem_disk.specs.declared.fault.Fault.{Fault}
-use Rattle.tmem_disk.specs.declared.fault.Fault.TheVariants.{Device, Unknown, LogFull}
+use Rattle.tmem_fault.specs.declared.fault.Fault.{Fault}
+use Rattle.tmem_fault.specs.declared.fault.Fault.TheVariants.{Device, Unknown, LogFull}
 use Rattle.tmem_record.specs.Layout.{slot_place}
 use Rattle.tmem_effect.specs.State.{State}
 use Rattle.tmem_effect.specs.declared.effect.Effect.{Effect}
 use Rattle.tmem_redolog.specs.Log.{HoldsLog, StaysWithin, replayed}
 use Rattle.tmem_redolog.specs.declared.log.Log.{Log}
 use Rattle.tmem_record.specs.declared.layout.Layout.{Layout}
-use Rattle.tmem_effect.specs.declared.version.Version.TheVariants.{Two}
+use Rattle.tmem_state.specs.declared.version.Version.TheVariants.{Two}
 
 -- a batch with this first number may go into that slot next: the log ends there, its last state has that count, and that
 -- state stays within the limits, record by record

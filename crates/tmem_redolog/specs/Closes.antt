@@ -6,7 +6,7 @@ use Rattle.tmem_gate.specs.Gate.{IsOpenAt, IsClosed}
 use Rattle.tmem_record.specs.Layout.{slot_place}
 use Rattle.tmem_effect.specs.State.{State}
 use Rattle.tmem_effect.specs.declared.effect.Effect.{Effect}
-use Rattle.tmem_effect.specs.declared.version.Version.{Version}
+use Rattle.tmem_state.specs.declared.version.Version.{Version}
 use Rattle.tmem_redolog.specs.Log.{HoldsLog}
 use Rattle.tmem_redolog.specs.declared.log.Log.{Log}
 

@@ -1,14 +1,14 @@
 -- The log of a device: batches behind the open gates of its first slots.
 use Rattle.std.specs.Prelude.{◌<◌, ◌≤◌, ◌+◌, ◌^◌, ℕ, List, [], ◌∷◌, length}
 use Rattle.tmem_gate.specs.Gate.{IsOpenOver}
-use Rattle.tmem_effect.specs.Batch.{IsBatchIn}
+use Rattle.tmem_state.specs.Batch.{IsBatchIn}
 use Rattle.tmem_record.specs.Layout.{slot_place}
 use Rattle.tmem_record.specs.Spelling.{batch_bytes}
 pub use Rattle.tmem_record.specs.Stale.{IsStale}
 use Rattle.tmem_effect.specs.State.{State, fold}
 pub use Rattle.tmem_effect.specs.State.{IsWithin, StaysWithin}
 use Rattle.tmem_effect.specs.declared.effect.Effect.{Effect}
-use Rattle.tmem_effect.specs.declared.version.Version.{Version}
+use Rattle.tmem_state.specs.declared.version.Version.{Version}
 
 -- a slot is open, and begins behind the gate with this batch of that generation, spelled in that version, whose first
 -- record has that number

@@ -2,12 +2,12 @@
 use Rattle.std.specs.Prelude.{◌≡◌, ◌<◌, ◌≤◌, ◌+◌, ◌*◌, ℕ, List, length, slice_range}
 pub use Rattle.tmem_gate.specs.Calls.{IsWhyNone}
 use Rattle.tmem_gate.specs.Gate.{IsOpenOver}
-use Rattle.tmem_effect.specs.Batch.{IsBatchIn}
+use Rattle.tmem_state.specs.Batch.{IsBatchIn}
 use Rattle.tmem_record.specs.Layout.{slot_place}
 use Rattle.tmem_record.specs.Spelling.{batch_bytes}
 use Rattle.tmem_effect.specs.State.{State, fold}
 use Rattle.tmem_effect.specs.declared.effect.Effect.{Effect}
-use Rattle.tmem_effect.specs.declared.version.Version.{Version}
+use Rattle.tmem_state.specs.declared.version.Version.{Version}
 use Rattle.tmem_redolog.specs.Log.{HoldsBatches, HoldsLog, LogWithin, StaysWithin, IsStale, replayed}
 
 -- the content holds a log of so many batches over the image of that version, and the image's state after them is this one

@@ -4,17 +4,18 @@ ghost use Rattle.tmem_disk.specs.Disk.{SameSeenOutside, IsSynced, IsWriteOrSync}
 ghost use Rattle.tmem_gate.specs.Calls.{Uses};
 ghost use Rattle.tmem_gate.specs.Changes.{Puts, outcome_of};
 ghost use Rattle.tmem_gate.specs.Gate.{StandsClosed, HasBody};
-ghost use Rattle.tmem_effect.specs.Batch.{IsBatch};
+ghost use Rattle.tmem_state.specs.Batch.{IsBatch};
 ghost use Rattle.tmem_record.specs.Layout.{slot_place, end_place};
 ghost use Rattle.tmem_record.specs.Spelling.{batch_bytes};
-ghost use Rattle.tmem_effect.specs.declared.version.Version.TheVariants.{Two};
+ghost use Rattle.tmem_state.specs.declared.version.Version.TheVariants.{Two};
 ghost use Rattle.tmem_redolog.specs.Appends.{placed, Without, With, IsAppendFault};
 
 use crate::log::Log;
-use tmem_disk::{DeviceFault, Disk, Fault};
-use tmem_effect::Batch;
+use tmem_disk::{DeviceFault, Disk};
+use tmem_fault::Fault;
 use tmem_gate::put_cell;
 use tmem_record::{BATCH_ROOM, Layout, SLOT_SIZE, encode_batch};
+use tmem_state::Batch;
 
 /// Puts a batch last in the log over an image of version 2, into the first slot behind it, whose gate stands closed.
 /// `LogFull` where every slot is used; nothing changes then. `Device` where the write of the batch failed: no crash leaves it

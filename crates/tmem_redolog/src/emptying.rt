@@ -8,7 +8,8 @@ ghost use Rattle.tmem_redolog.specs.Closes.{Closes, ReadClosed, empty_log};
 
 use crate::log::Log;
 use crate::stale::close_stale;
-use tmem_disk::{DeviceFault, Disk, Fault};
+use tmem_disk::{DeviceFault, Disk};
+use tmem_fault::Fault;
 use tmem_record::Layout;
 
 /// Begins an empty log of this generation, once an image of it holds all that the log held: closes the gate of each slot

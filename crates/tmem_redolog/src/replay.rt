@@ -8,10 +8,11 @@ ghost use Rattle.tmem_effect.specs.declared.effect.Effect.{Effect as EffectOf};
 ghost use Rattle.tmem_redolog.specs.Log.{IsStale, IsWithin, StaysWithin};
 ghost use Rattle.tmem_redolog.specs.Scans.{Replays, MayReplay};
 
-use tmem_disk::Fault;
-use tmem_effect::{Effect, Records, State, Version};
+use tmem_effect::Effect;
+use tmem_fault::Fault;
 use tmem_gate::GATE_OPEN;
 use tmem_record::{HEAD_BYTES, read_batch, read_head};
+use tmem_state::{Records, State, Version};
 
 // Whether the gate of a slot is open.
 fn is_open(slot: &[u8]) -> bool

@@ -3,8 +3,8 @@ ghost use Rattle.std.specs.Prelude.{IfOk};
 ghost use Rattle.tmem_redolog.specs.Room.{IsLogRoom};
 
 use std::alloc::{AllocError, Global};
-use tmem_effect::Records;
 use tmem_record::{Layout, SLOT_SIZE};
+use tmem_state::Records;
 
 /// Memory for a log that is read, all of it: so reading takes none.
 #[derive(Drop)]

@@ -12,10 +12,11 @@ ghost use Rattle.tmem_redolog.specs.Scans.{FindsLog, IsWhyNone, IsLogOf, slot_by
 use crate::log::Log;
 use crate::replay::{carries, is_stale, replay_slot};
 use crate::room::LogRoom;
-use tmem_disk::{Disk, Fault};
-use tmem_effect::{Records, State, Version};
+use tmem_disk::Disk;
+use tmem_fault::Fault;
 use tmem_gate::device::read_piece;
 use tmem_record::{Layout, SLOT_SIZE};
+use tmem_state::{Records, State, Version};
 
 /// Reads the log over an image of this generation and version, and brings the image's state to the state after it. The log is
 /// read in one piece, into the room that is given, and in the grammar of the image's version. `Damaged` where the device

@@ -3,8 +3,9 @@ ghost use Rattle.std.specs.Prelude.{◌≡◌};
 
 use std::alloc::Global;
 use tmem_builtins::{put, stored_steps};
-use tmem_disk::{Disk, Fault, SimDisk};
+use tmem_disk::{Disk, SimDisk};
 use tmem_event::Event;
+use tmem_fault::Fault;
 use tmem_invariants::{Invariants, Table};
 use tmem_tree::StoredSteps;
 use tmem_world::{Layout, World, format};

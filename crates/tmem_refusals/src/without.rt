@@ -5,11 +5,13 @@ ghost use Rattle.tmem_builtins.specs.Invariants.{is_not_negative};
 use crate::store::{SLOTS, VARS, device};
 use std::alloc::Global;
 use tmem_builtins::nonneg;
-use tmem_disk::{Disk, Fault, Name, SimDisk};
-use tmem_effect::{Batch, Effect};
+use tmem_disk::{Disk, SimDisk};
+use tmem_effect::Effect;
+use tmem_fault::{Fault, Name};
 use tmem_gate::{close_gate, is_open, reads_open};
 use tmem_invariants::{Invariant, Invariants, Table};
 use tmem_record::encode_batch;
+use tmem_state::Batch;
 use tmem_world::format;
 
 /// Makes each of them, with a line before the first and one behind each. What they are given is made before.

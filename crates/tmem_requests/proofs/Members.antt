@@ -11,7 +11,7 @@ use Rattle.serde_json.specs.Data.{Data, object, Members, no_members, member}
 use Rattle.serde_json.specs.Find.{get, get_member}
 use Rattle.serde_json.specs.View.{view, members_view}
 use Rattle.serde_json.specs.declared.value.Value.{Value, Object}
-use Rattle.tmem_disk.specs.Name.{has_name}
+use Rattle.tmem_fault.specs.Name.{has_name}
 use Rattle.tmem_forms.specs.Members.{HasOnly, member_keys}
 use Rattle.tmem_requests.specs.Forms.{HasAt, IsInteger}
 use Rattle.tmem_forms.proofs.Laws.{same_members}

@@ -8,8 +8,8 @@ use Rattle.std.proofs.lemmas.List.{take-map}
 use Rattle.std.proofs.lemmas.Option.{slice_get-get_or}
 use Rattle.std.proofs.lemmas.Slice.Eq.{bytes_eq-Decides}
 use Rattle.indexmap.specs.IndexMap.{insert_entry}
-use Rattle.tmem_disk.specs.Distinct.{AreDistinct}
-use Rattle.tmem_disk.specs.Name.{has_name}
+use Rattle.tmem_fault.specs.Distinct.{AreDistinct}
+use Rattle.tmem_fault.specs.Name.{has_name}
 use Rattle.tmem_effect.specs.Names.{with_name}
 use Rattle.tmem_effect.specs.Writes.{with_write}
 use Rattle.tmem_forms.proofs.Laws.{not_distinct, shown_at}

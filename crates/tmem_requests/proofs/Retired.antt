@@ -2,7 +2,7 @@
 use Rattle.std.proofs.Common.{◌≡◌, ℕ, ◌+◌, List, [], ◌∷◌, map, Box, Global, bytes_eq, codes, if◌then◌else◌, refl, sym, ap, ◌∙◌, arith}
 use Rattle.serde_json.specs.Data.{Data, null, boolean, number, string, array, object, Items, no_items, item, Members, no_members, member}
 use Rattle.serde_json.specs.View.{items_of}
-use Rattle.tmem_disk.specs.Name.{has_name}
+use Rattle.tmem_fault.specs.Name.{has_name}
 use Rattle.tmem_forms.specs.TxForms.{level_form, natural, tx_form}
 use Rattle.tmem_requests.specs.Fits.{retires_one_of}
 use Rattle.tmem_tree.specs.Limits.{one_if, count, count_all}

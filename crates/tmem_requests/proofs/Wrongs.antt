@@ -10,7 +10,7 @@ use Rattle.serde_json.specs.View.{view, items_of, items_view, members_view}
 use Rattle.serde_json.specs.declared.value.Value.{Value, Array, Object}
 use Rattle.tmem_forms.proofs.Laws.{view_of_array, items_of_body}
 use Rattle.tmem_forms.specs.TxForms.{array_of, tagged}
-use Rattle.tmem_disk.specs.Name.{has_name}
+use Rattle.tmem_fault.specs.Name.{has_name}
 use Rattle.tmem_requests.proofs.Members.{aside}
 use Rattle.tmem_requests.specs.Wrong.{HasStrangeKey, IsWrong, LeadsToWrong, Scope, whole, part, store, inner, is_headed, ask_keys, led, next, tx_keys}
 use Rattle.tmem_requests.specs.declared.explain.wrong.Wrong.{Wrong}

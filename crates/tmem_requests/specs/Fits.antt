@@ -1,7 +1,7 @@
 -- Whether a request can be made of a store: of so many variables, with these invariants, of which some are never retired.
 use Rattle.std.specs.Prelude.{◌≡◌, ◌<◌, ℕ, Bool, true, false, List, All}
 use Rattle.std.specs.Map.{keys_of}
-use Rattle.tmem_disk.specs.Name.{has_name}
+use Rattle.tmem_fault.specs.Name.{has_name}
 use Rattle.tmem_effect.specs.Names.{AreApart}
 use Rattle.tmem_tree.specs.Limits.{count}
 use Rattle.tmem_tree.specs.declared.tx.Tx.{Tx}

@@ -3,7 +3,7 @@ use Rattle.std.specs.Prelude.{◌≡◌, ℕ, ℤ, true, List, [], ◌∷◌, ma
 use Rattle.std.specs.Int.{w64}
 use Rattle.serde_json.specs.Data.{Data, string, object}
 use Rattle.serde_json.specs.Find.{get}
-use Rattle.tmem_disk.specs.Name.{IsName, has_name}
+use Rattle.tmem_fault.specs.Name.{IsName, has_name}
 use Rattle.tmem_forms.specs.TxForms.{natural, integer, array_of, tx_form, IsShort, TxInRange}
 use Rattle.tmem_tree.specs.declared.tx.Tx.{Tx}
 

@@ -1,7 +1,7 @@
 -- What an attempt that was made elsewhere has to keep, whatever the store.
 use Rattle.std.specs.Prelude.{◌≤◌, ℕ, ℤ, List, length}
 use Rattle.std.specs.Map.{keys_of}
-use Rattle.tmem_disk.specs.Distinct.{AreDistinct}
+use Rattle.tmem_fault.specs.Distinct.{AreDistinct}
 use Rattle.tmem_effect.specs.Names.{AreApart}
 
 -- No variable is read twice or written twice, no name is checked twice or retired twice, none is both checked and retired, and no

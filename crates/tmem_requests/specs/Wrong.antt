@@ -5,8 +5,8 @@ use Rattle.std.specs.Map.{keys_of}
 use Rattle.serde_json.specs.Data.{Data, string, object, member, no_members}
 use Rattle.serde_json.specs.Find.{get, at, as_array, as_object}
 use Rattle.tmem_builtins.specs.Steps.{step_names}
-use Rattle.tmem_disk.specs.Distinct.{AreDistinct}
-use Rattle.tmem_disk.specs.Name.{IsName, has_name}
+use Rattle.tmem_fault.specs.Distinct.{AreDistinct}
+use Rattle.tmem_fault.specs.Name.{IsName, has_name}
 use Rattle.tmem_effect.specs.Names.{AreApart}
 use Rattle.tmem_forms.specs.TxForms.{IsByte, IsShort, array_of, integer, natural}
 use Rattle.tmem_forms.specs.Members.{HasOnly}

@@ -1,5 +1,5 @@
 //! Answers.
-use tmem_disk::{Fault, Name};
+use tmem_fault::{Fault, Name};
 use tmem_tree::Settled;
 
 /// What a request is answered.

@@ -4,7 +4,7 @@ ghost use Rattle.std.specs.Fmt.{DisplaysOnOk, signed_decimal};
 ghost use Rattle.tmem_requests.specs.Answers.{joined, numbers_text, pair_text, pairs_text, word_text, words_text};
 
 use std::fmt;
-use tmem_disk::Name;
+use tmem_fault::Name;
 
 /// Numbers as an array.
 pub(crate) fn write_numbers<W: fmt::Write>(

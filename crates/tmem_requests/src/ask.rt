@@ -15,7 +15,7 @@ use crate::proposal::Proposal;
 use crate::request::Ask;
 use serde_json::Value;
 use std::alloc::Global;
-use tmem_disk::Name;
+use tmem_fault::Name;
 use tmem_forms::{FormError, integer_of, pair_of, tx_of};
 use tmem_tree::Tx;
 

@@ -1,13 +1,13 @@
 //! The attempt that a proposal is.
 ghost use Rattle.std.specs.Prelude.{◌≡◌, ◌≤◌, [], length, IfOk};
 ghost use Rattle.std.specs.Map.{keys_of};
-ghost use Rattle.tmem_disk.specs.Distinct.{AreDistinct};
+ghost use Rattle.tmem_fault.specs.Distinct.{AreDistinct};
 ghost use Rattle.tmem_requests.specs.Attempts.{IsAttemptOf};
 
 use crate::proposal::Proposal;
 use std::alloc::{AllocError, Global};
-use tmem_disk::Name;
 use tmem_effect::{Effect, Names, Writes};
+use tmem_fault::Name;
 use tmem_tentative::{Attempt, Ending, Reads};
 use tmem_tree::REGISTERS;
 

@@ -5,7 +5,7 @@
 ghost use Rattle.std.specs.Prelude.{◌≡◌, ◌≢◌, ℕ, true, false, List, IsTrue, IsSome, IsNone, IfSome, IfErr};
 ghost use Rattle.serde_json.specs.Find.{get};
 ghost use Rattle.serde_json.specs.View.{view};
-ghost use Rattle.tmem_disk.specs.Name.{has_name};
+ghost use Rattle.tmem_fault.specs.Name.{has_name};
 ghost use Rattle.tmem_forms.specs.Members.{HasOnly};
 ghost use Rattle.tmem_requests.specs.Requests.{keys_by};
 ghost use Rattle.tmem_requests.specs.Wrong.{AsksBeside, IsTrueOf, IsWrong, TellsTruth, ask_keys, whole};

@@ -4,7 +4,7 @@ ghost use Rattle.std.specs.Fmt.{DisplaysOnOk};
 ghost use Rattle.tmem_requests.specs.Answers.{cause_text, fault_detail, fault_number, fault_text, fault_word};
 
 use std::fmt;
-use tmem_disk::{Cause, Fault};
+use tmem_fault::{Cause, Fault};
 
 /// A fault: its number, its word, and what it names.
 pub(crate) fn write_fault<W: fmt::Write>(f: &mut fmt::Formatter<W>, fault: &Fault) -> fmt::Result

@@ -6,7 +6,7 @@ ghost use Rattle.tmem_requests.specs.Fits.{AreNamed, AreThere, FitsStore, Propos
 use crate::limits::{are_apart, has_name};
 use crate::proposal::Proposal;
 use crate::request::Ask;
-use tmem_disk::Name;
+use tmem_fault::Name;
 use tmem_tree::Tx;
 
 /// Whether what is asked for can be asked of a store: of so many variables, with invariants of these names, of which some always hold.

@@ -3,14 +3,14 @@ ghost use Rattle.std.specs.Prelude.{◌≡◌, ◌∷◌, [], ℕ, ℤ, List, ma
 ghost use Rattle.std.specs.Int.{w64};
 ghost use Rattle.serde_json.specs.Data.{Data, string};
 ghost use Rattle.serde_json.specs.View.{view};
-ghost use Rattle.tmem_disk.specs.Name.{IsName};
+ghost use Rattle.tmem_fault.specs.Name.{IsName};
 ghost use Rattle.tmem_forms.specs.Errors.{Refuses};
 ghost use Rattle.tmem_forms.specs.TxForms.{IsShort, array_of, integer, natural};
 ghost use Rattle.tmem_requests.specs.Forms.{PairFits, list_at, pair_form};
 
 use serde_json::Value;
 use std::alloc::Global;
-use tmem_disk::Name;
+use tmem_fault::Name;
 use tmem_forms::{FormError, integer_of, pair_of, short_of};
 
 /// What an array may have as its items.

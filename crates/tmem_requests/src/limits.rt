@@ -2,12 +2,12 @@
 ghost use Rattle.std.specs.Prelude.{◌≡◌, ◌↔◌, IsTrue, nat_eq};
 ghost use Rattle.std.specs.List.{list_any};
 ghost use Rattle.std.specs.Map.{keys_of};
-ghost use Rattle.tmem_disk.specs.Distinct.{AreDistinct};
-ghost use Rattle.tmem_disk.specs.Name.{has_name};
+ghost use Rattle.tmem_fault.specs.Distinct.{AreDistinct};
+ghost use Rattle.tmem_fault.specs.Name.{has_name};
 ghost use Rattle.tmem_effect.specs.Names.{AreApart};
 ghost use Rattle.tmem_requests.specs.Proposals.{IsProposal};
 
-use tmem_disk::Name;
+use tmem_fault::Name;
 use tmem_tree::{MAX_CHECKS, MAX_RETIRES, MAX_WRITES};
 
 /// The most variables that a proposal may read.

@@ -7,7 +7,7 @@ use crate::answer::{Answer, Stats};
 use crate::array::{write_numbers, write_pairs, write_words};
 use crate::fault::write_fault;
 use std::fmt;
-use tmem_disk::Name;
+use tmem_fault::Name;
 use tmem_tree::Settled;
 
 /// The line of an answer to the request of this id, without its line break.

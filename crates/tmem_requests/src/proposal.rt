@@ -2,7 +2,7 @@
 ghost use Rattle.tmem_requests.specs.Proposals.{IsProposal};
 
 use crate::limits::is_proposal;
-use tmem_disk::Name;
+use tmem_fault::Name;
 
 /// What a transaction read and what it changes, made elsewhere: each variable with its value, and the names that it checks and
 /// retires. None stands twice in a list, no name is in both lists, and there are at most 500 reads, 64 writes, 8 checks and 8

@@ -20,7 +20,7 @@ use crate::proposal::Proposal;
 use crate::refusal::{NoRequest, RequestError};
 use serde_json::Value;
 use std::alloc::Global;
-use tmem_disk::Name;
+use tmem_fault::Name;
 use tmem_forms::{FormError, integer_of};
 use tmem_tree::Tx;
 

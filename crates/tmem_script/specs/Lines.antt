@@ -1,7 +1,7 @@
 -- The line that is printed for a reply.
 use Rattle.std.specs.Prelude.{ℕ, ℤ, true, false, List, [], ◌∷◌, ◌++◌, flat_map, codes}
 use Rattle.std.specs.Fmt.{decimal, signed_decimal}
-use Rattle.tmem_disk.specs.Fault.{text_of}
+use Rattle.tmem_fault.specs.Fault.{text_of}
 use Rattle.tmem_tree.specs.declared.settled.Settled.{Settled}
 use Rattle.tmem_tree.specs.declared.settled.Settled.TheVariants.{Committed, Seen, Retry, Aborted, Refused}
 use Rattle.tmem_event.specs.declared.event.Reply.{Reply}

@@ -1,7 +1,7 @@
 -- With which status the program ends, and what it tells of a failure.
 use Rattle.std.specs.Prelude.{ℕ, List, [], ◌∷◌, ◌++◌, codes}
-use Rattle.tmem_disk.specs.Fault.{text_of}
-use Rattle.tmem_disk.specs.declared.fault.Fault.TheVariants as fault
+use Rattle.tmem_fault.specs.Fault.{text_of}
+use Rattle.tmem_fault.specs.declared.fault.Fault.TheVariants as fault
 use Rattle.tmem_script.specs.declared.failure.Failure.{Failure}
 use Rattle.tmem_script.specs.declared.failure.Failure.TheVariants.{Script, Refused, Output, Clock, Words}
 use Rattle.tmem_script.specs.declared.failure.WordsError.{WordsError}

@@ -7,7 +7,7 @@ use crate::script::ScriptError;
 use std::io::Write;
 use std::{fmt, io};
 use thiserror::Error;
-use tmem_disk::Fault;
+use tmem_fault::Fault;
 
 /// Why the program did not do all that it was asked. Its text is what the user is told.
 #[derive(Debug, Drop, Error)]

@@ -10,8 +10,8 @@ use serde_json::{Map, Value};
 use std::alloc::{AllocError, Global};
 use std::{fmt, io};
 use thiserror::Error;
-use tmem_disk::Fault;
 use tmem_event::Event;
+use tmem_fault::Fault;
 use tmem_forms::{FormError, short_of};
 
 /// A script that was read and checked whole.

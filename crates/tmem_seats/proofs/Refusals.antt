@@ -1,7 +1,7 @@
 -- Which refusals a flush and a checkpoint can have, by what a journal says.
 use Rattle.std.proofs.Common.{ℕ, List, Result, Ok, Err, IfErr}
-use Rattle.tmem_disk.specs.declared.fault.Fault.{Fault}
-use Rattle.tmem_disk.specs.declared.fault.Fault.TheVariants as fault
+use Rattle.tmem_fault.specs.declared.fault.Fault.{Fault}
+use Rattle.tmem_fault.specs.declared.fault.Fault.TheVariants as fault
 use Rattle.tmem_effect.specs.declared.effect.Effect.{Effect}
 use Rattle.tmem_journal.specs.declared.journal.Journal.{Journal}
 use Rattle.tmem_journal.specs.Journals.{Flushes, Checkpoints}

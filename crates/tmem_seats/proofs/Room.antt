@@ -3,8 +3,8 @@ use Rattle.std.proofs.Common.{◌≡◌, inl, ⊎_elim, ℕ, ◌≤◌, false, L
 use Rattle.std.proofs.Math.Logic.{∥∥₁_map}
 use Rattle.tmem_disk.specs.Disk.{DeviceView, AtEachMoment, Elapses}
 use Rattle.tmem_disk.proofs.Laws.{AtEachMoment-more, either_time}
-use Rattle.tmem_disk.specs.declared.fault.Fault.{Fault}
-use Rattle.tmem_disk.specs.declared.fault.Fault.TheVariants as fault
+use Rattle.tmem_fault.specs.declared.fault.Fault.{Fault}
+use Rattle.tmem_fault.specs.declared.fault.Fault.TheVariants as fault
 use Rattle.tmem_effect.specs.State.{State}
 use Rattle.tmem_effect.specs.declared.effect.Effect.{Effect}
 use Rattle.tmem_journal.specs.declared.journal.Journal.{Journal}

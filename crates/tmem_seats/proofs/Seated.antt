@@ -11,7 +11,7 @@ use Rattle.tmem_core.specs.Held.{view_of, state_of, durable_of, table_of, accept
 use Rattle.tmem_core.specs.Decisions.{answer_of, taken_by}
 use Rattle.tmem_core.specs.declared.decision.Decision.{Decision}
 use Rattle.tmem_core.specs.declared.decision.Decision.TheVariants.{Committed}
-use Rattle.tmem_disk.specs.declared.fault.Fault.{Fault}
+use Rattle.tmem_fault.specs.declared.fault.Fault.{Fault}
 use Rattle.tmem_tentative.specs.declared.attempt.Attempt.{Attempt}
 use Rattle.tmem_invariants.specs.TableNames.{has_name}
 use Rattle.tmem_core.specs.Program.{Program, IsProgramOf}

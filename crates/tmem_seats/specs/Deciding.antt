@@ -1,6 +1,6 @@
 -- What settling an attempt for a pass does to the core under its lock.
 use Rattle.std.specs.Prelude.{◌≡◌, ◌≤◌, ◌++◌, ℕ, Result}
-use Rattle.tmem_disk.specs.declared.fault.Fault.{Fault}
+use Rattle.tmem_fault.specs.declared.fault.Fault.{Fault}
 use Rattle.tmem_effect.specs.Prefix.{IsPrefix}
 use Rattle.tmem_effect.specs.State.{State}
 use Rattle.tmem_tree.specs.declared.settled.Settled.{Settled}

@@ -11,7 +11,7 @@ ghost use Rattle.tmem_seats.specs.Histories.{after};
 use crate::core_seat::CoreSeat;
 use crate::naming::StoreNaming;
 use std::sync::Wait;
-use tmem_disk::Fault;
+use tmem_fault::Fault;
 use tmem_invariants::Invariants;
 use tmem_tentative::{Cursor, Progress};
 use tmem_tree::{Plan, StoredSteps};

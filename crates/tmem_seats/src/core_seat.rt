@@ -20,10 +20,11 @@ use crate::naming::StoreNaming;
 use crate::sleepers::Sleepers;
 use std::marker::Model;
 use tmem_core::{Core, Decision, MAX_WAITING, Settled};
-use tmem_disk::{Fault, Name};
-use tmem_effect::{Batch, Effect};
+use tmem_effect::Effect;
+use tmem_fault::{Fault, Name};
 use tmem_invariants::Invariants;
 use tmem_spine::{CoreSide, JournalSide, Pass, Spine};
+use tmem_state::Batch;
 use tmem_tentative::{Attempt, Probe, Reads};
 
 /// The core, beside its seat. Contracts see what it accepted, how many are known durable, how many passes it gave out,

@@ -2,7 +2,7 @@
 ghost use Rattle.std.specs.Prelude.{◌≡◌, Some, None};
 ghost use Rattle.tmem_seats.specs.Flushing.{failure_in, told_of};
 
-use tmem_disk::Fault;
+use tmem_fault::Fault;
 
 /// How the device of a store failed: what the call was answered that closed the journal.
 #[derive(Clone, Copy, Debug, PartialEq, Eq)]

@@ -17,11 +17,12 @@ ghost use Rattle.tmem_seats.specs.Seats.{KnowsOrEnded, first_failure};
 use crate::core_seat::CoreSeat;
 use crate::failure::Failure;
 use crate::naming::StoreNaming;
-use tmem_disk::{Disk, Fault};
-use tmem_effect::Batch;
+use tmem_disk::Disk;
+use tmem_fault::Fault;
 use tmem_invariants::Invariants;
 use tmem_journal::Journal;
 use tmem_spine::{JournalSide, Pass, Spine};
+use tmem_state::Batch;
 
 /// What was done to the log of a store since it was opened, and what is free there.
 #[derive(Clone, Copy, Debug)]

@@ -1,7 +1,7 @@
 //! The lines of answers that a program never prints: while one client is served, a refusal has the values that its test saw, and no
 //! invariant of an opened store is false.
 use std::test::Fail;
-use tmem_disk::{Fault, Name};
+use tmem_fault::{Fault, Name};
 use tmem_requests::{Answer, AnswerLine};
 use tmem_tree::Settled;
 

@@ -7,7 +7,7 @@ use Rattle.serde_json.specs.Data.{Data, null, boolean, number, string, array, ob
 use Rattle.serde_json.specs.Find.{as_object}
 use Rattle.serde_json.specs.View.{members_view}
 use Rattle.serde_json.specs.declared.value.Value.{Value}
-use Rattle.tmem_disk.specs.Name.{has_name}
+use Rattle.tmem_fault.specs.Name.{has_name}
 use Rattle.tmem_forms.proofs.Laws.{same_members}
 use Rattle.tmem_invariants.proofs.Laws.{All-at_name}
 use Rattle.tmem_forms.specs.Members.{AreAmong, HasOnly, member_keys}

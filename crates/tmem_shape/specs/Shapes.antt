@@ -6,7 +6,7 @@ use Rattle.std.specs.declared.alloc.Global.{Global}
 use Rattle.serde_json.specs.Data.{Data, boolean, string, object, Members, member, no_members}
 use Rattle.serde_json.specs.Find.{get}
 use Rattle.serde_json.specs.Read.{read}
-use Rattle.tmem_disk.specs.Name.{IsLetter, IsName, has_name}
+use Rattle.tmem_fault.specs.Name.{IsLetter, IsName, has_name}
 use Rattle.tmem_forms.specs.TxForms.{natural, integer, array_of}
 use Rattle.tmem_invariants.specs.TableNames.{AreBelow, AreDistinct, IsFootprint}
 use Rattle.tmem_linear.specs.declared.linear.Linear.{Linear}

@@ -4,7 +4,7 @@ use crate::why::Why;
 use std::alloc::{AllocError, AllocFailed};
 use std::fmt;
 use thiserror::Error;
-use tmem_disk::Fault;
+use tmem_fault::Fault;
 
 /// Why a shape was not read.
 #[derive(Debug, Drop, Error)]

@@ -3,7 +3,7 @@ ghost use Rattle.std.specs.Prelude.{◌≡◌, ℕ, ℤ, List, Bool, Option, map
 ghost use Rattle.std.specs.List.{AllZip};
 ghost use Rattle.serde_json.specs.Data.{string};
 ghost use Rattle.serde_json.specs.View.{view};
-ghost use Rattle.tmem_disk.specs.Name.{IsName};
+ghost use Rattle.tmem_fault.specs.Name.{IsName};
 ghost use Rattle.tmem_invariants.specs.TableNames.{AreDistinct, has_name};
 ghost use Rattle.tmem_linear.specs.declared.linear.Linear.{Linear};
 ghost use Rattle.tmem_shape.specs.Errors.{Refuses};
@@ -20,7 +20,7 @@ use crate::why::Why;
 use serde_json::Value;
 use std::alloc::Global;
 use tmem_builtins::names;
-use tmem_disk::Name;
+use tmem_fault::Name;
 use tmem_invariants::MAX_INVARIANTS;
 use tmem_linear::Linear;
 

@@ -2,7 +2,7 @@
 ghost use Rattle.std.specs.Prelude.{◌≡◌, true, false, map, Some, None, OnOk, IfOk, IfErr, MatchOption};
 ghost use Rattle.serde_json.specs.Find.{get};
 ghost use Rattle.serde_json.specs.View.{view, members_view};
-ghost use Rattle.tmem_disk.specs.Name.{has_name};
+ghost use Rattle.tmem_fault.specs.Name.{has_name};
 ghost use Rattle.tmem_shape.specs.Errors.{Refuses};
 ghost use Rattle.tmem_forms.specs.Members.{AreAmong, HasOnly, member_keys};
 ghost use Rattle.tmem_shape.specs.Keys.{key_text};

@@ -14,7 +14,7 @@ use crate::place::Place;
 use crate::why::Why;
 use serde_json::Value;
 use std::alloc::{AllocError, Global};
-use tmem_disk::Name;
+use tmem_fault::Name;
 use tmem_linear::Linear;
 use tmem_record::{LEAST_SLOTS, MOST_SLOTS, MOST_VARS};
 

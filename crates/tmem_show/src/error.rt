@@ -1,7 +1,7 @@
 //! Why a store was not shown.
 use std::alloc::AllocError;
 use std::io;
-use tmem_disk::Fault;
+use tmem_fault::Fault;
 
 /// Why not all was printed.
 #[derive(Drop)]

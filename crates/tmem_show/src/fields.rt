@@ -3,10 +3,11 @@ ghost use Rattle.std.specs.Prelude.{◌<◌, ◌≤◌, IfOk};
 
 use crate::walk::{Stop, Walk};
 use std::fmt;
-use tmem_disk::Name;
-use tmem_effect::{MAX_CHECKS, MAX_NAMES, MAX_RECORDS, MAX_RETIRES, MAX_WRITES, Version};
+use tmem_effect::{MAX_CHECKS, MAX_RETIRES, MAX_WRITES};
+use tmem_fault::Name;
 use tmem_gate::GATE_OPEN;
 use tmem_parts::Why;
+use tmem_state::{MAX_NAMES, MAX_RECORDS, Version};
 
 /// Where in an image copy the mark of the version stands: in the last byte of the header.
 pub(crate) const MARK_AT: usize = 2047;

@@ -8,11 +8,12 @@ use crate::source::Source;
 use crate::text::join;
 use std::alloc::Global;
 use std::io::{self, Write};
-use tmem_disk::{Fault, Name};
-use tmem_effect::{Effect, Records, State, Version};
+use tmem_effect::Effect;
+use tmem_fault::{Fault, Name};
 use tmem_image::ImageState;
 use tmem_parts::{Block, Image, Slot, Wrong, block_of};
 use tmem_record::{Head, Layout};
+use tmem_state::{Records, State, Version};
 
 /// Prints what the bytes of a store hold, and what an opening of them finds, as one JSON object in a line; and with `hex` the bytes of
 /// each part, field by field.

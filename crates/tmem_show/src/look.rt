@@ -8,10 +8,10 @@ use crate::reason::reason;
 use crate::source::Source;
 use crate::walk::{Stop, Walk};
 use std::alloc::Global;
-use tmem_disk::Fault;
-use tmem_effect::{Records, State, Version};
+use tmem_fault::Fault;
 use tmem_parts::{Image, Recovery, Slot, Why, Wrong, image_of, recovery_of, slot_of};
 use tmem_record::{BLOCK_SIZE, LEAST_SLOTS, Layout, SLOT_SIZE};
+use tmem_state::{Records, State, Version};
 
 /// What counts of an image copy or a slot that is open.
 #[derive(Clone, Copy)]

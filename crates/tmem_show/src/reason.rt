@@ -6,10 +6,10 @@ use crate::fields::{MARK_AT, walk_image, walk_slot};
 use crate::log::{choose, not_stale, used};
 use crate::walk::{Stop, Walk};
 use std::alloc::Global;
-use tmem_effect::Version;
 use tmem_parts::{Why, Wrong};
 use tmem_record::bytes::{number_at, short_at};
 use tmem_record::{Layout, SLOT_SIZE};
+use tmem_state::Version;
 
 /// The first thing that is wrong with bytes that an opening refuses, in the order in which it reads them, for a store that was
 /// formatted with this version. The only error is want of memory.

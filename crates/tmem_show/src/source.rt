@@ -6,7 +6,7 @@ use std::alloc::Global;
 use std::fs::{self, File, Files};
 use std::io::{self, ErrorKind, Read, Seek, SeekFrom};
 use std::os::unix::fs::FileTypeExt;
-use tmem_disk::Fault;
+use tmem_fault::Fault;
 
 // How many bytes the longest layout takes: 1024 variables and 64 log slots. None of those behind it mean anything.
 const MOST_BYTES: u64 = 512 + 2 * (2048 + 512 * 16) + 4096 * 64;

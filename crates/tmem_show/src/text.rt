@@ -8,10 +8,11 @@ use crate::source::Source;
 use std::alloc::Global;
 use std::fmt::Display;
 use std::io::{self, Write};
-use tmem_effect::{Effect, Records, State, Version};
+use tmem_effect::Effect;
 use tmem_image::ImageState;
 use tmem_parts::{Block, Image, Slot, block_of};
 use tmem_record::{Head, Layout};
+use tmem_state::{Records, State, Version};
 
 // So many bytes of a field are printed at most.
 const MOST_SHOWN: usize = 20;

@@ -3,7 +3,7 @@ ghost use Rattle.std.specs.Prelude.{◌≡◌, ◌≤◌, ◌<◌, ◌+◌, ◌^
 
 use crate::fields::{Field, Is};
 use std::alloc::{AllocFailed, Global};
-use tmem_disk::Name;
+use tmem_fault::Name;
 use tmem_parts::{Why, Wrong};
 use tmem_record::bytes::{number_at, short_at, value_at};
 use tmem_record::read_name;

@@ -4,8 +4,8 @@ ghost use Rattle.std.specs.Prelude.{◌≡◌, ◌<◌, ◌≤◌, [], ◌∷◌
 
 use indexmap::IndexMap;
 use std::marker::Model;
-use tmem_disk::Name;
 use tmem_effect::Effect;
+use tmem_fault::Name;
 use tmem_invariants::MAX_FOOTPRINT;
 use tmem_tree::REGISTERS;
 

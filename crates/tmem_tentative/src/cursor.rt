@@ -20,8 +20,8 @@ use crate::save::Save;
 use crate::walk_on::walk_on;
 use std::alloc::{AllocError, Global};
 use std::snapshot::Snapshot;
-use tmem_disk::Fault;
 use tmem_effect::Effect;
+use tmem_fault::Fault;
 use tmem_tree::{Plan, REGISTERS, StoredSteps, Tx};
 
 // What a cursor does next.

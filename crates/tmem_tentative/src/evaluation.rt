@@ -13,8 +13,8 @@ use crate::attempt::{Attempt, Ending, Outcome, Probe, Reads};
 use crate::flow::Flow;
 use crate::walk::{Given, Tests, walk};
 use std::alloc::Global;
-use tmem_disk::Fault;
 use tmem_effect::Effect;
+use tmem_fault::Fault;
 use tmem_tree::{Plan, REGISTERS, StoredSteps};
 
 /// Runs a plan, for these steps, as far as the reads and the answers allow. A Read, and a Check for each variable of its footprint,

@@ -16,8 +16,8 @@ ghost use Rattle.tmem_tentative.specs.Logs.{AreOf, MayWalk, IsLeaving, run_state
 use crate::attempt::{Attempt, Ending, Probe, Reads, Values};
 use crate::flow::Flow;
 use std::alloc::{AllocError, Global};
-use tmem_disk::{Fault, Name};
 use tmem_effect::Effect;
+use tmem_fault::{Fault, Name};
 use tmem_tree::{MAX_ARGUMENTS, REGISTERS, Shape, StepAnswer, StoredSteps, Tx, footprint_of};
 
 /// What a run is handed.

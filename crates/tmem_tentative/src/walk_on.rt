@@ -22,7 +22,7 @@ use crate::flow::Flow;
 use crate::path::Path;
 use crate::save::Save;
 use crate::walk::{call, settle};
-use tmem_disk::Name;
+use tmem_fault::Name;
 use tmem_tree::{Plan, StoredSteps, Tx, footprint_of};
 
 /// Goes on with a run from its place in a tree of a plan, as far as its reads and its answer allow. Where it asks, the path leads to

@@ -10,7 +10,8 @@ mod turns;
 mod versions;
 
 use std::alloc::Global;
-use tmem_disk::{Fault, SimDisk};
+use tmem_disk::SimDisk;
+use tmem_fault::Fault;
 use tmem_invariants::Invariants;
 use tmem_tree::{MAX_TURNS, StoredSteps, Tx};
 use tmem_world::{Event, Layout, Reply, Settled, World, format};

@@ -4,7 +4,7 @@ use Rattle.std.specs.Result.{result_unwrap_or}
 use Rattle.std.specs.List.{sum_by}
 use Rattle.tmem_builtins.specs.Builtins.{builtin_steps, builtin_tests}
 use Rattle.tmem_core.specs.Program.{Program}
-use Rattle.tmem_disk.specs.declared.fault.Fault.{Fault}
+use Rattle.tmem_fault.specs.declared.fault.Fault.{Fault}
 use Rattle.tmem_seats.specs.Histories.{IsPossibleValue}
 use Rattle.tmem_effect.specs.State.{State}
 use Rattle.tmem_effect.specs.declared.effect.Effect.{Effect}

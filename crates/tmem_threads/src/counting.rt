@@ -1,6 +1,6 @@
 // What the threads do with the store that they share.
 ghost use Rattle.std.specs.Prelude.{◌≡◌, ◌≤◌, ℕ, IfOk, IfErr};
-ghost use Rattle.tmem_disk.specs.declared.fault.Fault.TheVariants as fault;
+ghost use Rattle.tmem_fault.specs.declared.fault.Fault.TheVariants as fault;
 ghost use Rattle.tmem_seats.specs.Flushing.{IsFlusherRefusal};
 ghost use Rattle.tmem_tree.specs.Plans.{FitsSteps, FitsVariables, FitsNames, FitsShapes};
 ghost use Rattle.tmem_threads.specs.Counting.{AddsDurable, is_commit, once};
@@ -10,7 +10,8 @@ use std::rt::Clock;
 use std::sync::Wait;
 use tmem_builtins::add_to;
 use tmem_core::Settled;
-use tmem_disk::{Disk, Fault};
+use tmem_disk::Disk;
+use tmem_fault::Fault;
 use tmem_front::{Front, Gathering, Pass, StoreNaming};
 use tmem_invariants::Invariants;
 use tmem_tree::{Plan, StoredSteps};

@@ -7,7 +7,7 @@ use std::alloc::Global;
 use std::rt::Clock;
 use std::sync::Wait;
 use std::thread::{self, Threads, map_indices};
-use tmem_disk::Fault;
+use tmem_fault::Fault;
 
 /// How many workers there are, and how often each of them adds.
 #[derive(Clone, Copy, Debug, PartialEq, Eq)]

@@ -6,7 +6,8 @@ ghost use Rattle.tmem_transfer.specs.Accounts.{add_up_to_zero};
 ghost use Rattle.tmem_world.specs.Represents.{numbers_of, HoldsSession};
 
 use std::alloc::Global;
-use tmem_disk::{Disk, Fault, Name, SimDisk};
+use tmem_disk::{Disk, SimDisk};
+use tmem_fault::{Fault, Name};
 use tmem_invariants::{Invariant, Invariants, Table};
 use tmem_tree::{MAX_TURNS, Steps, StoredSteps, Tx};
 use tmem_world::{Event, Layout, Reply, Settled, World, format};

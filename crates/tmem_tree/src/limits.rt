@@ -9,8 +9,8 @@ ghost use Rattle.tmem_tree.specs.Shapes.{names_of};
 use crate::shape::{Shape, find};
 use crate::steps::StoredSteps;
 use crate::tx::Tx;
-use tmem_disk::Cause;
 use tmem_effect::MAX_CHECKS;
+use tmem_fault::Cause;
 use tmem_invariants::MAX_FOOTPRINT;
 
 /// How many registers a transaction has.

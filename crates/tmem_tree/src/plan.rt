@@ -2,7 +2,7 @@
 
 ghost use Rattle.std.specs.Prelude.{◌≡◌, ℕ, ◌<◌, List, ◌+◌, ◌↔◌, IsTrue, IsFalse, IsSome, IfSome, IfOk, IfErr, slice_set, All};
 ghost use Rattle.std.specs.List.{Contains};
-ghost use Rattle.tmem_disk.specs.Distinct.{AreDistinct};
+ghost use Rattle.tmem_fault.specs.Distinct.{AreDistinct};
 ghost use Rattle.tmem_invariants.specs.Meanings.{Meanings};
 ghost use Rattle.tmem_tree.specs.Limits.{choices, count, is_node, is_check, is_step, is_put, Checks};
 ghost use Rattle.tmem_tree.specs.Plans.{BreaksNone, IsLeastBroken, IsWithinLimits, FitsSteps, FitsVariables, FitsNames, FitsShapes, HasShapes, IsShort};
@@ -18,8 +18,8 @@ use crate::shapes::{Shapes, fill};
 use crate::steps::StoredSteps;
 use crate::tx::Tx;
 use std::marker::Model;
-use tmem_disk::{Cause, Fault};
 use tmem_effect::MAX_CHECKS;
+use tmem_fault::{Cause, Fault};
 
 /// The most nodes of a short plan.
 pub const MAX_SHORT: u32 = 64;

@@ -1,7 +1,7 @@
 // What a transaction is answered.
 
 use crate::limits::REGISTERS;
-use tmem_disk::Name;
+use tmem_fault::Name;
 
 /// What a transaction is answered once it has run and is settled.
 #[derive(Clone, Copy, Debug, PartialEq, Eq)]

@@ -1,14 +1,14 @@
 // What a transaction has to know of an invariant.
 
 ghost use Rattle.std.specs.Prelude.{◌≡◌, ℕ, ◌<◌, ◌≤◌, true, Some, length, map, bytes_eq, find, option_map, slice_get, IfOk};
-ghost use Rattle.tmem_disk.specs.Name.{has_name};
+ghost use Rattle.tmem_fault.specs.Name.{has_name};
 ghost use Rattle.tmem_invariants.specs.Meanings.{Meanings};
 ghost use Rattle.tmem_invariants.specs.TableNames.{AreBelow};
 ghost use Rattle.tmem_tree.specs.Shapes.{AreMeant, AreWithin, names_of, shape_in, footprint_in};
 
 use std::alloc::{AllocError, Global};
 use std::marker::Model;
-use tmem_disk::Name;
+use tmem_fault::Name;
 use tmem_invariants::{Invariants, MAX_FOOTPRINT};
 
 /// The variables whose values an invariant is handed, in this order: at most `MAX_FOOTPRINT`. They are held in place.

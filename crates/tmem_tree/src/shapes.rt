@@ -2,8 +2,8 @@
 
 ghost use Rattle.std.specs.Prelude.{◌≡◌, ℕ, ◌+◌, ◌<◌, ◌≤◌, List, [], ◌∷◌, ◌++◌, length, true, All, bytes_eq};
 ghost use Rattle.std.specs.List.{Contains};
-ghost use Rattle.tmem_disk.specs.Distinct.{AreDistinct};
-ghost use Rattle.tmem_disk.specs.Name.{has_name};
+ghost use Rattle.tmem_fault.specs.Distinct.{AreDistinct};
+ghost use Rattle.tmem_fault.specs.Name.{has_name};
 ghost use Rattle.tmem_tree.specs.Limits.{one_if, count, is_check, checks_name, Checks};
 ghost use Rattle.tmem_tree.specs.Plans.{HasShapes};
 ghost use Rattle.tmem_tree.specs.Shapes.{names_of};
@@ -11,8 +11,8 @@ ghost use Rattle.tmem_tree.specs.Shapes.{names_of};
 use crate::shape::{Footprint, Shape, find};
 use crate::tx::Tx;
 use std::marker::Model;
-use tmem_disk::Name;
 use tmem_effect::MAX_CHECKS;
+use tmem_fault::Name;
 
 /// Shapes, no more than a transaction has checks. They are held in place.
 #[derive(Drop)]

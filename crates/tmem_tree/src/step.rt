@@ -3,7 +3,7 @@
 ghost use Rattle.std.specs.Prelude.{◌≡◌, ℕ, ◌≤◌, ℤ, List, length, IsOk, IfOk, IfErr, ◌↔◌};
 ghost use Rattle.tmem_tree.specs.StepAnswers.{MayCall, Gives, HasMeaning};
 
-use tmem_disk::{Cause, Fault};
+use tmem_fault::{Cause, Fault};
 
 /// The most arguments that a step takes.
 pub const MAX_ARGUMENTS: u8 = 4;

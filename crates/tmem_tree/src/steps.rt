@@ -4,7 +4,7 @@ ghost use Rattle.std.specs.Prelude.{◌≡◌, ℕ, ◌<◌, ◌≤◌, List, le
 ghost use Rattle.tmem_tree.specs.StepAnswers.{StepMeanings, Gives};
 
 use crate::step::{Step, StepAnswer, StepEntry};
-use tmem_disk::{Cause, Fault};
+use tmem_fault::{Cause, Fault};
 
 /// The most steps of a program.
 pub const MAX_STEPS: usize = 64;

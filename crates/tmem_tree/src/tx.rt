@@ -1,6 +1,6 @@
 // A transaction.
 
-use tmem_disk::Name;
+use tmem_fault::Name;
 
 /// A transaction: a tree of reads, writes and stored steps over 16 registers (Harris et al. 2005, section 3, with
 /// registers in place of bound variables).

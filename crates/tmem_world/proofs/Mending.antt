@@ -3,9 +3,9 @@ use Rattle.std.proofs.Common.{◌≡◌, ◌≤◌, ◌^◌, ◌⊎◌, inl, inr
 use Rattle.std.proofs.Math.Logic.{∥∥₁_elim, ∥∥₁_map, ∥∥₁_prop}
 use Rattle.std.proofs.Props.{props}
 use Rattle.tmem_disk.specs.Disk.{DeviceView, IsDevice, LeavesOnly}
-use Rattle.tmem_disk.specs.declared.fault.Fault.TheVariants.{Spent}
+use Rattle.tmem_fault.specs.declared.fault.Fault.TheVariants.{Spent}
 use Rattle.tmem_effect.specs.State.{State}
-use Rattle.tmem_effect.specs.declared.version.Version.TheVariants.{One, Two}
+use Rattle.tmem_state.specs.declared.version.Version.TheVariants.{One, Two}
 use Rattle.tmem_journal.specs.Laws.{StandsForOne, SpentStandsAtLast}
 use Rattle.tmem_journal.specs.Mended.{Mends, Recovers, RecoveredBy}
 use Rattle.tmem_journal.specs.Refusals.{IsRefusedBy}

@@ -8,7 +8,7 @@ use Rattle.tmem_disk.specs.Disk.{IsDevice, LeavesOnly, AtEachMoment}
 use Rattle.tmem_core.specs.Program.{Program, IsProgramOf}
 use Rattle.tmem_core.specs.Held.{state_of, waiting_of, is_shut_of, table_of}
 use Rattle.tmem_core.specs.Verdict.{serial_effects}
-use Rattle.tmem_disk.specs.declared.fault.Fault.TheVariants as fault
+use Rattle.tmem_fault.specs.declared.fault.Fault.TheVariants as fault
 use Rattle.tmem_event.specs.declared.event.Event.{Event}
 use Rattle.tmem_event.specs.declared.event.Event.TheVariants as event
 use Rattle.tmem_event.specs.declared.event.Reply.{Reply}

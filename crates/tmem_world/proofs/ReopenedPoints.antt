@@ -6,8 +6,8 @@ use Rattle.std.proofs.Props.{props}
 use Rattle.std.proofs.lemmas.Bool.{cases_eq}
 use Rattle.std.proofs.lemmas.List.{length-take-le, take-take}
 use Rattle.tmem_disk.specs.Disk.{DeviceView, IsDevice, LeavesOnly}
-use Rattle.tmem_disk.specs.declared.fault.Fault.{Fault}
-use Rattle.tmem_disk.specs.declared.fault.Fault.TheVariants as fault
+use Rattle.tmem_fault.specs.declared.fault.Fault.{Fault}
+use Rattle.tmem_fault.specs.declared.fault.Fault.TheVariants as fault
 use Rattle.tmem_event.specs.declared.event.Event.TheVariants as event
 use Rattle.tmem_event.specs.declared.event.Reply.TheVariants as reply
 use Rattle.tmem_world.specs.declared.slot.Slot.{Slot}

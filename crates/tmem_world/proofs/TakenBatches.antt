@@ -1,7 +1,7 @@
 -- The oldest effects that wait, as a batch.
 use Rattle.std.proofs.Common.{◌≡◌, inr, false, ℕ, ◌+◌, ◌-◌, ◌≤◌, List, ◌++◌, length, drop, sym, ◌∙◌, ap, subst, arith}
 use Rattle.std.specs.Prelude.{Result}
-use Rattle.tmem_disk.specs.declared.fault.Fault.{Fault}
+use Rattle.tmem_fault.specs.declared.fault.Fault.{Fault}
 use Rattle.tmem_core.specs.Held.{state_of, waiting_of, durable_of, is_shut_of}
 use Rattle.tmem_core.specs.Taking.{IsTaken}
 use Rattle.tmem_journal.specs.Held as journal

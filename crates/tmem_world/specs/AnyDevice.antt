@@ -1,8 +1,8 @@
 -- What holds on any device, also on one that breaks the disk model: Reopen may find another state than the run's, and
 -- then a new run begins there.
 use Rattle.std.specs.Prelude.{◌≡◌, ⊤, List, All, None}
-use Rattle.tmem_disk.specs.declared.fault.Fault.{Fault}
-use Rattle.tmem_disk.specs.declared.fault.Fault.TheVariants as fault
+use Rattle.tmem_fault.specs.declared.fault.Fault.{Fault}
+use Rattle.tmem_fault.specs.declared.fault.Fault.TheVariants as fault
 use Rattle.tmem_event.specs.declared.event.Event.{Event}
 use Rattle.tmem_event.specs.declared.event.Event.TheVariants as event
 use Rattle.tmem_event.specs.declared.event.Reply.{Reply}

@@ -2,8 +2,8 @@
 -- What was accepted and acknowledged through all of that, and what a crash may leave of it.
 use Rattle.std.specs.Prelude.{◌≡◌, ◌<◌, ◌≤◌, ◌^◌, ⊤, ℕ, max, List, [], ◌∷◌, ◌++◌, length, take, Result, Ok, Err, ◌⊎◌}
 use Rattle.tmem_disk.specs.Disk.{DeviceView, LeavesOnly, AtEachMoment, IsSynced}
-use Rattle.tmem_disk.specs.declared.fault.Fault.{Fault}
-use Rattle.tmem_disk.specs.declared.fault.Fault.TheVariants.{Spent}
+use Rattle.tmem_fault.specs.declared.fault.Fault.{Fault}
+use Rattle.tmem_fault.specs.declared.fault.Fault.TheVariants.{Spent}
 use Rattle.tmem_effect.specs.State.{State, first_state}
 use Rattle.tmem_tree.specs.declared.tx.Tx.{Tx}
 use Rattle.tmem_tree.specs.declared.settled.Settled.TheVariants.{Committed}

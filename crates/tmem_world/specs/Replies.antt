@@ -3,8 +3,8 @@ use Rattle.std.specs.Prelude.{◌≡◌, ⊤, ◌⊎◌, ℕ, ◌<◌, List, [],
 use Rattle.tmem_disk.specs.Disk.{IsWriteOrSync}
 use Rattle.tmem_disk.specs.declared.disk.DeviceFault.{DeviceFault}
 use Rattle.tmem_disk.specs.declared.disk.DeviceFault.TheVariants.{Write}
-use Rattle.tmem_disk.specs.declared.fault.Fault.{Fault}
-use Rattle.tmem_disk.specs.declared.fault.Fault.TheVariants as fault
+use Rattle.tmem_fault.specs.declared.fault.Fault.{Fault}
+use Rattle.tmem_fault.specs.declared.fault.Fault.TheVariants as fault
 use Rattle.tmem_tree.specs.declared.settled.Settled.{Settled}
 use Rattle.tmem_event.specs.declared.event.Event.{Event}
 use Rattle.tmem_event.specs.declared.event.Event.TheVariants as event

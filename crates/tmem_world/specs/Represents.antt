@@ -3,7 +3,7 @@ use Rattle.std.specs.Prelude.{Some, None, option_map, Result, Ok, Err, ◌≡◌
 use Rattle.std.specs.List.{AllZip}
 use Rattle.tmem_invariants.specs.Meanings.{IsSound}
 use Rattle.tmem_disk.specs.Disk.{DeviceView, LeavesOnly, AtEachMoment}
-use Rattle.tmem_disk.specs.declared.fault.Fault.{Fault}
+use Rattle.tmem_fault.specs.declared.fault.Fault.{Fault}
 use Rattle.tmem_effect.specs.State.{State}
 use Rattle.tmem_record.specs.Layout.{image_place, image_size}
 use Rattle.tmem_gate.specs.Calls.{WritesWithin}

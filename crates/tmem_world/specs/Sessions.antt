@@ -1,8 +1,8 @@
 -- What a flush and a checkpoint do to a session.
 use Rattle.std.specs.Prelude.{◌≡◌, ◌≤◌, ◌⊎◌, ℕ, true, false, List, [], ◌++◌, length, Result, Ok, Err}
 use Rattle.tmem_disk.specs.Disk.{AtEachMoment}
-use Rattle.tmem_disk.specs.declared.fault.Fault.{Fault}
-use Rattle.tmem_disk.specs.declared.fault.Fault.TheVariants.{Closed}
+use Rattle.tmem_fault.specs.declared.fault.Fault.{Fault}
+use Rattle.tmem_fault.specs.declared.fault.Fault.TheVariants.{Closed}
 use Rattle.tmem_effect.specs.declared.effect.Effect.{Effect}
 use Rattle.tmem_gate.specs.Calls.{Uses, WritesWithin}
 use Rattle.tmem_core.specs.Held.{state_of, waiting_of, durable_of, is_shut_of, table_of}

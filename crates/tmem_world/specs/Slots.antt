@@ -1,7 +1,7 @@
 -- What a slot holds, and what a turn of it answers.
 use Rattle.std.specs.Prelude.{◌≡◌, ⊤, ℕ, List, [], ◌∷◌, ◌++◌, length, Option, Some, None, nat_eq, IsSome}
 use Rattle.indexmap.specs.IndexMap.{insert_entry}
-use Rattle.tmem_disk.specs.declared.fault.Fault.TheVariants.{Memory}
+use Rattle.tmem_fault.specs.declared.fault.Fault.TheVariants.{Memory}
 use Rattle.tmem_effect.specs.State.{State}
 use Rattle.tmem_effect.specs.Writes.{look}
 use Rattle.tmem_invariants.specs.Meanings.{Meanings}

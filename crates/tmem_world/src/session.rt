@@ -10,12 +10,13 @@ ghost use Rattle.tmem_record.specs.Layout.{image_place, image_size, slot_place};
 
 use crate::slot::Slot;
 use tmem_core::Core;
-use tmem_disk::{DeviceFault, Disk, Fault};
-use tmem_effect::Batch;
+use tmem_disk::{DeviceFault, Disk};
 use tmem_event::Reply;
+use tmem_fault::Fault;
 use tmem_invariants::Invariants;
 use tmem_journal::Journal;
 use tmem_opening::Opening;
+use tmem_state::Batch;
 use tmem_tree::Shape;
 
 /// What a world keeps from an opening to the next one, or to a crash. The core is shut once the journal is closed.

@@ -13,8 +13,8 @@ ghost use Rattle.tmem_world.specs.Replies.{failures_by};
 
 use std::alloc::Global;
 use tmem_core::Core;
-use tmem_disk::Fault;
 use tmem_event::Reply;
+use tmem_fault::Fault;
 use tmem_invariants::Invariants;
 use tmem_tentative::{Cursor, Progress};
 use tmem_tree::{Plan, StoredSteps};

@@ -6,10 +6,11 @@ use super::flushing::{flush_both, flush_name, flush_to, flush_two, holds_run, is
 use std::alloc::{AllocError, Global};
 use std::process::Abort;
 use std::test::Fail;
-use tmem_disk::{DeviceFault, Disk, Fault, Fill, Name, SimDisk};
-use tmem_effect::{NameSet, State, Version};
+use tmem_disk::{DeviceFault, Disk, Fill, SimDisk};
+use tmem_fault::{Fault, Name};
 use tmem_image::{ALL_PAGES, ImageRoom, ImageState, choose, load, write_spare};
 use tmem_journal::{Journal, Layout, format};
+use tmem_state::{NameSet, State, Version};
 
 /// An act, with what it is answered, or a mark between acts. Those of a session are for a journal that is open, all others for a
 /// device.

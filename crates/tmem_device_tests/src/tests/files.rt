@@ -6,7 +6,7 @@ use std::io::ErrorKind;
 use std::path::PathBuf;
 use std::test::Fail;
 use std::{env, fs};
-use tmem_disk::Fault;
+use tmem_fault::Fault;
 use tmem_file::{FileDisk, NewFile};
 
 const SIZE: u64 = 10_000;

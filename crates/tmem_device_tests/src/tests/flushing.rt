@@ -5,9 +5,11 @@ ghost use Rattle.tmem_journal.specs.Held.{layout_of, state_of};
 ghost use Rattle.tmem_effect.specs.State.{AreApart, StaysWithin};
 
 use std::alloc::Global;
-use tmem_disk::{Disk, Fault, Name};
-use tmem_effect::{Batch, Effect};
+use tmem_disk::Disk;
+use tmem_effect::Effect;
+use tmem_fault::{Fault, Name};
 use tmem_journal::Journal;
+use tmem_state::Batch;
 
 /// Flushes one record that writes a number to a variable.
 pub(super) fn flush_to<D: Disk>(

@@ -4,7 +4,7 @@ ghost use Rattle.std.specs.Prelude.{◌≡◌};
 use super::no_closures::always;
 use std::alloc::{AllocError, Global};
 use tmem_core::Settled;
-use tmem_disk::Fault;
+use tmem_fault::Fault;
 use tmem_front::Awaited;
 use tmem_tree::Tx;
 

@@ -4,7 +4,7 @@ ghost use Rattle.std.specs.Prelude.{◌≡◌, ◌∷◌, [], ℕ, ℤ, List, tr
 
 use super::signals::Signals;
 use tmem_builtins::{add, need};
-use tmem_disk::Name;
+use tmem_fault::Name;
 use tmem_invariants::Invariants;
 use tmem_tree::{StepAnswer, StoredSteps};
 

@@ -11,7 +11,7 @@ use crate::place::Step;
 use crate::why::Why;
 use serde_json::Value;
 use std::alloc::Global;
-use tmem_disk::Name;
+use tmem_fault::Name;
 use tmem_forms::{byte_of, integer_of, pair_of, short_of};
 
 /// Finds the first thing that is wrong with what stands at this key.

@@ -14,7 +14,7 @@ use crate::refusal::NoRequest;
 use crate::request::Ask;
 use crate::why::Why;
 use std::alloc::Global;
-use tmem_disk::Name;
+use tmem_fault::Name;
 use tmem_tree::Tx;
 
 /// Why what is asked for cannot be asked of a store: of so many variables, with invariants of these names, of which some always hold.

@@ -14,7 +14,7 @@ use crate::place::Step;
 use crate::why::Why;
 use serde_json::Value;
 use std::alloc::Global;
-use tmem_disk::Name;
+use tmem_fault::Name;
 use tmem_forms::FormError;
 use tmem_tree::{MAX_CHECKS, MAX_RETIRES, MAX_WRITES};
 

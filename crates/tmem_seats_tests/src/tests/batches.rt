@@ -3,10 +3,11 @@ ghost use Rattle.tmem_effect.specs.State.{AreApart};
 
 use std::alloc::{AllocError, Global};
 use std::test::Fail;
-use tmem_disk::{Fault, Name};
-use tmem_effect::Version::{One, Two};
-use tmem_effect::{Batch, Effect, Version};
+use tmem_effect::Effect;
+use tmem_fault::{Fault, Name};
 use tmem_record::{BATCH_ROOM, Decoded, decode_batch, encode_batch};
+use tmem_state::Version::{One, Two};
+use tmem_state::{Batch, Version};
 
 /// A record: what is written, checked and retired for it, its bytes, and its writes as they are read again.
 struct Record<'a> {

@@ -1,8 +1,9 @@
 //! A state whose registered names are as many as there may be.
 use std::alloc::Global;
 use std::test::Fail;
-use tmem_disk::{Fault, Name};
-use tmem_effect::{Effect, NameSet, State};
+use tmem_effect::Effect;
+use tmem_fault::{Fault, Name};
+use tmem_state::{NameSet, State};
 
 /// A name for each number, above those of lesser numbers.
 fn numbered(n: u8) -> Result<Name, Fault> {

@@ -1,7 +1,7 @@
 //! Names, and the lines of refusals.
 use std::alloc::{AllocError, Global};
 use std::test::Fail;
-use tmem_disk::{Cause, Fault, Name};
+use tmem_fault::{Cause, Fault, Name};
 
 /// Texts, and whether they are names.
 const TEXTS: &[(&str, bool)] = &[

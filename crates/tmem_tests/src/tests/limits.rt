@@ -8,11 +8,13 @@ use super::{commit, committed, formatted, write};
 use std::alloc::Global;
 use std::process::Abort;
 use std::test::Fail;
-use tmem_disk::{Fault, SimDisk};
-use tmem_effect::{Batch, Effect, Version};
+use tmem_disk::SimDisk;
+use tmem_effect::Effect;
+use tmem_fault::Fault;
 use tmem_front::OpenedFront;
 use tmem_invariants::{Invariants, Table};
 use tmem_record::{BATCH_ROOM, Decoded, decode_batch, encode_batch};
+use tmem_state::{Batch, Version};
 use tmem_tree::{Steps, StoredSteps};
 use tmem_world::{Event, Reply, Settled, World};
 

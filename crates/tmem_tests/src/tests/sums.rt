@@ -2,7 +2,7 @@
 use super::names::numbered;
 use std::alloc::Global;
 use std::test::Fail;
-use tmem_disk::Fault;
+use tmem_fault::Fault;
 use tmem_invariants::{Invariants, TableOf};
 use tmem_linear::{Linear, Weight};
 

@@ -6,7 +6,7 @@ use super::names::add;
 use std::alloc::Global;
 use std::process::Abort;
 use std::test::Fail;
-use tmem_disk::Fault;
+use tmem_fault::Fault;
 use tmem_invariants::{Invariants, Table};
 
 /// A variable, the set of the neighbours' invariants over it, and the first that is false where it is -1 and all others

@@ -1,6 +1,6 @@
 use Rattle.std.proofs.Common.{arith, ◌∙◌, ap}
 use Rattle.std.proofs.lemmas.Result.{IfOk-weaker}
-use Rattle.tmem_disk.specs.declared.fault.Fault.TheVariants.{Memory}
+use Rattle.tmem_fault.specs.declared.fault.Fault.TheVariants.{Memory}
 use Rattle.tmem_invariants.specs.Answers.{IsMeant}
 use Rattle.tmem_builtins.specs.Builtins.{builtin_tests}
 use Rattle.tmem_builtins.specs.Invariants.{is_not_negative, add_to_hundred, are_ordered}

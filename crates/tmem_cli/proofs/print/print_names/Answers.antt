@@ -1,5 +1,5 @@
 use Rattle.std.proofs.Common.{◌<◌, ℕ, List, length, sym, ◌∙◌, arith}
-use Rattle.tmem_disk.specs.Name.{has_name}
+use Rattle.tmem_fault.specs.Name.{has_name}
 use Rattle.tmem_world.specs.WorldModel.{present}
 use Rattle.tmem_cli.proofs.Listing.{name_written, name_passed}
 use Rattle.tmem_cli.proofs.print.print_names.Goals as goal

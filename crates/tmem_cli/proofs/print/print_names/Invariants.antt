@@ -1,6 +1,6 @@
 use Rattle.std.proofs.Common.{◌≡◌, filter, take}
 use Rattle.std.specs.Io.KnownBytes.{Appends}
-use Rattle.tmem_disk.specs.Name.{has_name}
+use Rattle.tmem_fault.specs.Name.{has_name}
 use Rattle.tmem_core.specs.Program.{Program}
 use Rattle.tmem_world.specs.WorldModel.{WorldModel, present}
 use Rattle.tmem_world.specs.Represents.{Represents}

@@ -2,7 +2,7 @@ use Rattle.std.proofs.Common.{◌≡◌, ℕ, ℤ, List, refl, sym, ◌∙◌, a
 use Rattle.std.proofs.lemmas.Bool.{false≢true}
 use Rattle.tmem_effect.specs.Names.{AreRegistered}
 use Rattle.tmem_record.specs.Spelling.{number_bytes}
-use Rattle.tmem_effect.specs.Versions.{mark_of}
+use Rattle.tmem_state.specs.Versions.{mark_of}
 use Rattle.tmem_record.specs.StandsAt.{StandsAt, values_bytes}
 use Rattle.tmem_record.proofs.Laws.{one_number_at}
 use Rattle.tmem_image.specs.Spelling.{names_body}

@@ -1,13 +1,13 @@
 use Rattle.std.proofs.Common.{◌≡◌, ◌+◌, ◌*◌, ◌∙◌, ℕ, ℤ, List, length, inl, sym, ap, subst, rules, arith}
 use Rattle.std.specs.Prelude.{Err}
 use Rattle.std.proofs.lemmas.Result.{err_from_is_err_and}
-use Rattle.tmem_disk.specs.declared.fault.Fault.{Fault}
+use Rattle.tmem_fault.specs.declared.fault.Fault.{Fault}
 use Rattle.tmem_disk.specs.Disk.{DeviceView, IsDevice, LeavesOnly, AtEachMoment}
 use Rattle.tmem_disk.proofs.Laws.{LeavesOnly-moment}
 use Rattle.tmem_gate.specs.Calls.{WritesWithin}
 use Rattle.tmem_gate.specs.Changes.{outcome_of}
 use Rattle.tmem_record.specs.Layout.{pages_of, image_place}
-use Rattle.tmem_effect.specs.declared.version.Version.TheVariants.{Two}
+use Rattle.tmem_state.specs.declared.version.Version.TheVariants.{Two}
 use Rattle.tmem_image.specs.Pages.{HoldsOthers, pages_place}
 use Rattle.tmem_image.specs.Spare.{placed}
 use Rattle.tmem_image.specs.Spelling.{IsImage}

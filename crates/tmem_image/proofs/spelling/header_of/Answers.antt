@@ -1,8 +1,8 @@
 use Rattle.std.proofs.Common.{◌≤◌, ◌∙◌, ◌∷◌, [], ℕ, ap, length, refl, arith}
 use Rattle.byteorder.specs.Endian.{little_bytes}
 use Rattle.tmem_record.specs.Spelling.{names_bytes}
-use Rattle.tmem_effect.specs.Versions.{mark_of}
-use Rattle.tmem_effect.specs.declared.version.Version.TheVariants.{Two}
+use Rattle.tmem_state.specs.Versions.{mark_of}
+use Rattle.tmem_state.specs.declared.version.Version.TheVariants.{Two}
 use Rattle.tmem_image.proofs.Lengths.{length-names_bytes-le}
 use Rattle.tmem_image.proofs.Headers.{header_is, mark_is, rest_is}
 use Rattle.tmem_image.proofs.spelling.header_of.Goals as goal

@@ -1,8 +1,8 @@
 use Rattle.std.proofs.Common.{◌≡◌, ◌⊎◌, inl, inr, subst}
 use Rattle.std.specs.Prelude.{Err}
 use Rattle.tmem_disk.specs.Disk.{DeviceView}
-use Rattle.tmem_disk.specs.declared.fault.Fault.{Fault}
-use Rattle.tmem_disk.specs.declared.fault.Fault.TheVariants.{Device, Unknown}
+use Rattle.tmem_fault.specs.declared.fault.Fault.{Fault}
+use Rattle.tmem_fault.specs.declared.fault.Fault.TheVariants.{Device, Unknown}
 use Rattle.tmem_gate.specs.Calls.{Uses}
 use Rattle.tmem_journal.proofs.Building.{there_or_not}
 use Rattle.tmem_journal.proofs.calls.put_cell.Goals as goal

@@ -5,7 +5,7 @@ use Rattle.tmem_gate.specs.Gate.{IsClosed}
 use Rattle.tmem_gate.proofs.Laws.{WritesWithin-wider, WritesWithin-trans}
 use Rattle.tmem_effect.specs.State.{first_state}
 use Rattle.tmem_record.specs.Layout.{end_place}
-use Rattle.tmem_effect.specs.declared.version.Version.TheVariants.{Two}
+use Rattle.tmem_state.specs.declared.version.Version.TheVariants.{Two}
 use Rattle.tmem_journal.specs.Stands.{first_position, StandsFor}
 use Rattle.tmem_journal.proofs.Building.{both_moments, as_written, stands_formatted}
 use Rattle.tmem_journal.proofs.FormattedStands.{all_written, block_closed, length-header_bytes, on_ok}

@@ -1,6 +1,6 @@
 use Rattle.std.proofs.Common.{◌≡◌, sym, subst, arith}
 use Rattle.tmem_disk.proofs.Laws.{LeavesOnly-synced}
-use Rattle.tmem_effect.specs.declared.version.Version.TheVariants.{Two}
+use Rattle.tmem_state.specs.declared.version.Version.TheVariants.{Two}
 use Rattle.tmem_image.specs.Image.{other_copy}
 use Rattle.tmem_journal.specs.Mended.{MendsDevice, IsFoundAt, SameBesideCopy}
 use Rattle.tmem_journal.specs.Stands.{position_at, position_in, StandsFor}

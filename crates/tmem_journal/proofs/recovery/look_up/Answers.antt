@@ -1,8 +1,8 @@
 use Rattle.std.proofs.Common.{◌≤◌, sym, ◌∙◌}
 use Rattle.std.proofs.lemmas.Bool.{false≢true}
 use Rattle.std.proofs.lemmas.Result.{err_from_is_err_and}
-use Rattle.tmem_disk.specs.declared.fault.Fault.TheVariants.{Damaged}
-use Rattle.tmem_effect.specs.Versions.{number_of}
+use Rattle.tmem_fault.specs.declared.fault.Fault.TheVariants.{Damaged}
+use Rattle.tmem_state.specs.Versions.{number_of}
 use Rattle.tmem_journal.proofs.Recovering.{no_choice, image_missing, block_later, log_missing, all_found, looking_four, looking}
 use Rattle.tmem_journal.proofs.Refused.{why_block, why_part, block_then}
 use Rattle.tmem_journal.proofs.recovery.look_up.Goals as goal

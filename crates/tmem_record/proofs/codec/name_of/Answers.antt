@@ -1,6 +1,6 @@
 use Rattle.std.proofs.Common.{◌≡◌, ◌∙◌, ◌++◌, ℕ, List, sym, subst, arith}
 use Rattle.std.proofs.lemmas.Bool.{false≢true}
-use Rattle.tmem_disk.specs.Name.{IsName}
+use Rattle.tmem_fault.specs.Name.{IsName}
 use Rattle.tmem_record.specs.Spelling.{name_bytes}
 use Rattle.tmem_record.proofs.CodecReads.{or_none, nothing_of_name, no_room_for_name, no_name_there, name_is_text, name_front}
 use Rattle.tmem_record.proofs.codec.name_of.Goals as goal

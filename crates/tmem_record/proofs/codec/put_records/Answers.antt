@@ -1,8 +1,8 @@
 use Rattle.std.proofs.Common.{ap, arith}
 use Rattle.std.proofs.lemmas.List.Sums.{sum_by_more}
-use Rattle.tmem_effect.specs.Batch.{record_length}
+use Rattle.tmem_state.specs.Batch.{record_length}
 use Rattle.tmem_record.specs.Spelling.{record_bytes}
-use Rattle.tmem_effect.specs.declared.version.Version.TheVariants.{Two}
+use Rattle.tmem_state.specs.declared.version.Version.TheVariants.{Two}
 use Rattle.tmem_record.proofs.CodecWrites.{part_more}
 use Rattle.tmem_record.proofs.codec.put_records.Goals as goal
 

@@ -1,7 +1,7 @@
 use Rattle.std.proofs.Common.{◌≡◌, ◌+◌, ◌++◌, take, flat_map}
-use Rattle.tmem_effect.specs.Batch.{records_length}
+use Rattle.tmem_state.specs.Batch.{records_length}
 use Rattle.tmem_record.specs.Spelling.{record_bytes}
-use Rattle.tmem_effect.specs.declared.version.Version.TheVariants.{Two}
+use Rattle.tmem_state.specs.declared.version.Version.TheVariants.{Two}
 use Rattle.tmem_record.proofs.codec.put_records.Given as goal
 
 abbrev pub invariant-loop-effect : goal.invariant-loop-effect

@@ -1,7 +1,7 @@
 use Rattle.std.proofs.Common.{◌≡◌, ℕ, ℤ, List, FitsSigned, w64, codes}
 use Rattle.serde_json.specs.Data.{string}
 use Rattle.serde_json.specs.View.{view}
-use Rattle.tmem_disk.specs.Name.{IsName}
+use Rattle.tmem_fault.specs.Name.{IsName}
 use Rattle.tmem_forms.proofs.Laws.{NoTx, passed_on}
 use Rattle.tmem_forms.specs.TxForms.{IsShort, integer, natural}
 use Rattle.tmem_tree.specs.declared.tx.Tx.{Tx}

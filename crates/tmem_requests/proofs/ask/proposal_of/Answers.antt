@@ -1,7 +1,7 @@
 use Rattle.std.proofs.Common.{codes}
 use Rattle.serde_json.specs.Data.{string}
 use Rattle.serde_json.specs.View.{view}
-use Rattle.tmem_disk.specs.Name.{IsName}
+use Rattle.tmem_fault.specs.Name.{IsName}
 use Rattle.tmem_forms.proofs.Laws.{passed_on}
 use Rattle.tmem_requests.specs.Forms.{PairFits, list_at, pair_form}
 use Rattle.tmem_requests.specs.Requests.{IsSettle}

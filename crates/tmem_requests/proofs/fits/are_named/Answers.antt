@@ -1,6 +1,6 @@
 use Rattle.std.proofs.Common.{◌≡◌, true, refl, sym, ◌∙◌}
 use Rattle.std.proofs.lemmas.Bool.{false≢true}
-use Rattle.tmem_disk.specs.Name.{has_name}
+use Rattle.tmem_fault.specs.Name.{has_name}
 use Rattle.tmem_requests.proofs.Each.{all_at, all_more, all_whole}
 use Rattle.tmem_requests.proofs.fits.are_named.Goals as goal
 

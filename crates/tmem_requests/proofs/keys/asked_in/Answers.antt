@@ -2,7 +2,7 @@ use Rattle.std.proofs.Common.{◌≡◌, ◌∙◌, refl, sym, ap, rules}
 use Rattle.serde_json.proofs.Views.{Entry}
 use Rattle.serde_json.specs.Find.{get_member}
 use Rattle.serde_json.specs.View.{members_view}
-use Rattle.tmem_disk.specs.Name.{has_name}
+use Rattle.tmem_fault.specs.Name.{has_name}
 use Rattle.tmem_requests.proofs.Members.{aside, skip_step, found_first, none_beside}
 use Rattle.tmem_requests.proofs.keys.asked_in.Goals as goal
 

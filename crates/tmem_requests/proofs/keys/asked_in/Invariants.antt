@@ -1,7 +1,7 @@
 use Rattle.std.proofs.Common.{◌≡◌, ℕ, false, List}
 use Rattle.serde_json.specs.Find.{get_member}
 use Rattle.serde_json.specs.View.{members_view}
-use Rattle.tmem_disk.specs.Name.{has_name}
+use Rattle.tmem_fault.specs.Name.{has_name}
 use Rattle.tmem_requests.proofs.Members.{aside}
 use Rattle.tmem_requests.proofs.keys.asked_in.Given as goal
 

@@ -1,5 +1,5 @@
 use Rattle.std.proofs.Common.{◌≡◌, ◌∙◌, map, refl, sym, ap, subst, rules}
-use Rattle.tmem_disk.specs.Name.{has_name}
+use Rattle.tmem_fault.specs.Name.{has_name}
 use Rattle.tmem_requests.proofs.Members.{Known, known_in, known_step, known_stop, known_end}
 use Rattle.tmem_requests.proofs.keys.has_only.Goals as goal
 

@@ -1,5 +1,5 @@
 use Rattle.std.proofs.Common.{◌≡◌, true, map, sym, ap, ◌∙◌, string_bytes}
-use Rattle.tmem_disk.specs.Name.{has_name}
+use Rattle.tmem_fault.specs.Name.{has_name}
 use Rattle.tmem_shape.specs.Keys.{key_text}
 use Rattle.tmem_shape.proofs.Objects.{among_more, known_more}
 use Rattle.tmem_shape.proofs.members.unknown_key.Goals as goal

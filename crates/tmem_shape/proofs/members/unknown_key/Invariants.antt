@@ -1,6 +1,6 @@
 use Rattle.std.proofs.Common.{◌≡◌, ℕ, true, List, map}
 use Rattle.serde_json.specs.View.{members_view}
-use Rattle.tmem_disk.specs.Name.{has_name}
+use Rattle.tmem_fault.specs.Name.{has_name}
 use Rattle.tmem_forms.specs.Members.{AreAmong, member_keys}
 use Rattle.tmem_shape.specs.Keys.{key_text}
 use Rattle.tmem_shape.proofs.members.unknown_key.Given as goal

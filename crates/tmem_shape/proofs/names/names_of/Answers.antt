@@ -1,6 +1,6 @@
 use Rattle.std.proofs.Common.{◌≡◌, ℕ, Some, map, String, Global, sym, ap, ◌∙◌, subst, arith}
 use Rattle.serde_json.specs.View.{view, members_view}
-use Rattle.tmem_disk.specs.Distinct.{AreDistinct}
+use Rattle.tmem_fault.specs.Distinct.{AreDistinct}
 use Rattle.tmem_shape.proofs.Named.{names_found, names_same}
 use Rattle.tmem_shape.proofs.Objects.{object_found}
 use Rattle.tmem_shape.proofs.names.names_of.Goals as goal

@@ -1,6 +1,6 @@
 use Rattle.std.proofs.Common.{Result, Ok, Err}
 use Rattle.std.specs.Prelude.{IfOk}
-use Rattle.tmem_disk.specs.declared.fault.Fault.{Fault}
+use Rattle.tmem_fault.specs.declared.fault.Fault.{Fault}
 use Rattle.tmem_front.specs.Held.{found_of}
 use Rattle.tmem_threads.specs.Counting.{AreTotals}
 use Rattle.tmem_threads.proofs.store.count_with.Goals as goal

@@ -1,6 +1,6 @@
 use Rattle.std.proofs.Common.{◌≡◌, ℕ, ◌+◌, ◌≤◌, true, List, length, All, Contains, drop, take}
-use Rattle.tmem_disk.specs.Distinct.{AreDistinct}
-use Rattle.tmem_disk.specs.Name.{has_name}
+use Rattle.tmem_fault.specs.Distinct.{AreDistinct}
+use Rattle.tmem_fault.specs.Name.{has_name}
 use Rattle.tmem_tree.specs.Limits.{one_if, count, is_check, checks_name, lacks_shape}
 use Rattle.tmem_tree.specs.Shapes.{names_of}
 use Rattle.tmem_tree.proofs.Laws.{count_in}

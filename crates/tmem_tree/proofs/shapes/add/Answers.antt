@@ -1,6 +1,6 @@
 use Rattle.std.proofs.Common.{◌≡◌, not, false, Some, option_map, All, Contains, sym, ap, subst, ◌∙◌}
 use Rattle.std.proofs.lemmas.List.Elements.{All-push}
-use Rattle.tmem_disk.specs.Name.{has_name}
+use Rattle.tmem_fault.specs.Name.{has_name}
 use Rattle.tmem_tree.specs.Shapes.{shape_in, names_of}
 use Rattle.tmem_tree.proofs.Checked.{has_name-others, distinct_pushed}
 use Rattle.tmem_tree.proofs.Found.{IsSome-shown, is_some-shown, is_some-shape_in, found_shape, has_name-pushed}

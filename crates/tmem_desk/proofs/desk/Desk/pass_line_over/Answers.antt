@@ -1,7 +1,7 @@
 use Rattle.std.proofs.Common.{w64, inl, inr}
 use Rattle.std.proofs.lemmas.Int.{to_z-of_z}
 use Rattle.std.proofs.lemmas.Result.{on_ok_weaker}
-use Rattle.tmem_disk.specs.declared.fault.Fault.TheVariants.{Closed}
+use Rattle.tmem_fault.specs.declared.fault.Fault.TheVariants.{Closed}
 use Rattle.tmem_requests.specs.declared.answer.Answer.TheVariants.{Fault}
 use Rattle.tmem_desk.specs.Asking.{store}
 use Rattle.tmem_desk.specs.Held.{view_of}

@@ -6,7 +6,7 @@ use Rattle.tmem_desk.specs.Held.{view_of}
 use Rattle.tmem_desk.specs.Keeping.{kept_under}
 use Rattle.tmem_desk.specs.Serving.{Runs}
 use Rattle.tmem_desk.proofs.Lists.{runs_none, runs_few_at, runs_copy_at}
-use Rattle.tmem_disk.specs.declared.fault.Fault.TheVariants.{Memory}
+use Rattle.tmem_fault.specs.declared.fault.Fault.TheVariants.{Memory}
 use Rattle.tmem_desk.proofs.Losing.{handed, memory_only}
 use Rattle.tmem_desk.proofs.desk.Desk.run_kept.Goals as goal
 

@@ -5,7 +5,7 @@ use Rattle.tmem_requests.specs.declared.answer.Answer.{Answer}
 use Rattle.tmem_desk.specs.Asking.{Tries, store}
 use Rattle.tmem_desk.specs.Held.{asked, asking, view_of}
 use Rattle.tmem_desk.proofs.Waking.{none_first, answers_first, waits_again}
-use Rattle.tmem_disk.specs.declared.fault.Fault.TheVariants.{Memory}
+use Rattle.tmem_fault.specs.declared.fault.Fault.TheVariants.{Memory}
 use Rattle.tmem_desk.proofs.Losing.{handed, memory_only, waits_behind}
 use Rattle.tmem_desk.proofs.desk.Desk.try_first.Goals as goal
 

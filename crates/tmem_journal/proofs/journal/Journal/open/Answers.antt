@@ -1,6 +1,6 @@
 use Rattle.std.proofs.Common.{refl, arith}
 use Rattle.std.proofs.lemmas.Bool.{false≢true}
-use Rattle.tmem_disk.specs.declared.fault.Fault.{Fault}
+use Rattle.tmem_fault.specs.declared.fault.Fault.{Fault}
 use Rattle.tmem_disk.proofs.Laws.{seen-left}
 use Rattle.tmem_record.specs.Layout.{IsLayout}
 use Rattle.tmem_image.specs.Image.{other_copy}

@@ -1,5 +1,5 @@
 use Rattle.std.proofs.Common.{◌≡◌, ℕ, ◌+◌, ◌++◌, Bool, Result, length, sym, ap, ◌∙◌, subst, arith, rules}
-use Rattle.tmem_disk.specs.declared.fault.Fault.{Fault}
+use Rattle.tmem_fault.specs.declared.fault.Fault.{Fault}
 use Rattle.tmem_effect.specs.State.{State}
 use Rattle.tmem_effect.proofs.Laws.{count-fold, IsPrefix-self}
 use Rattle.tmem_core.specs.Held as core

@@ -1,6 +1,6 @@
 use Rattle.std.proofs.Common.{rules, ◌≡◌, ◌∙◌, ℕ, length, drop, sym, ap, subst, arith, refl}
 use Rattle.std.specs.Prelude.{Result}
-use Rattle.tmem_disk.specs.declared.fault.Fault.{Fault}
+use Rattle.tmem_fault.specs.declared.fault.Fault.{Fault}
 use Rattle.tmem_effect.specs.State.{State, StaysWithin, fold}
 use Rattle.tmem_core.specs.Held.{waiting_of}
 use Rattle.tmem_journal.specs.Held as journal

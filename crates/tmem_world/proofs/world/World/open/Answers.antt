@@ -1,6 +1,6 @@
 use Rattle.std.proofs.Common.{refl, sym, ◌∙◌, ap, subst}
 use Rattle.tmem_disk.specs.Disk.{AtEachMoment}
-use Rattle.tmem_disk.specs.declared.fault.Fault.TheVariants.{Memory}
+use Rattle.tmem_fault.specs.declared.fault.Fault.TheVariants.{Memory}
 use Rattle.tmem_core.specs.Program.{IsProgramOf}
 use Rattle.tmem_journal.specs.Held as journal
 use Rattle.tmem_opening.specs.Held.{found_of, position_of, device_of}

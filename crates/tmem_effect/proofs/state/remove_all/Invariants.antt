@@ -1,6 +1,0 @@
-use Rattle.std.proofs.Common.{◌≡◌, take}
-use Rattle.tmem_effect.specs.Names.{without_names}
-use Rattle.tmem_effect.proofs.state.remove_all.Given as goal
-
-abbrev pub invariant-loop-name : goal.invariant-loop-name
-invariant-loop-name l = l.names ≡ without_names l.initial.names (take l.name-index l.fewer)

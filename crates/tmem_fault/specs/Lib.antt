@@ -1,0 +1,3 @@
+pub mod Distinct
+pub mod Fault
+pub mod Name
