@@ -124,15 +124,15 @@ abbrev pub AsksToPlay : List Text → Type 0
 AsksToPlay words = (why_not_done words ≡ []) × NamesNoOther words
 
 -- a request and no mistake
-abbrev pub IsRequest : ErrorKind → Type 0
-IsRequest DisplayHelp = ⊤
-IsRequest DisplayVersion = ⊤
-IsRequest _ = ⊥
+abbrev pub IsHelpOrVersion : ErrorKind → Type 0
+IsHelpOrVersion DisplayHelp = ⊤
+IsHelpOrVersion DisplayVersion = ⊤
+IsHelpOrVersion _ = ⊥
 
 -- a request is among these
 abbrev pub HasRequest : Kinds → Type 0
 HasRequest [] = ⊥
-HasRequest (k ∷ ks) = IsRequest k ⊎ HasRequest ks
+HasRequest (k ∷ ks) = IsHelpOrVersion k ⊎ HasRequest ks
 
 -- help or the version is asked for
 abbrev pub AsksForHelp : List Text → Type 0
@@ -169,8 +169,8 @@ abbrev pub file_in : List Text → Option Text
 file_in words = option_and_then (λ found. first_of (codes "file") found.1) (subcommand_of command_line words)
 
 -- the path of the shape of a store that is to be served
-abbrev pub shape_in : List Text → Option Text
-shape_in words = option_and_then (λ found. first_of (codes "shape") found.1) (subcommand_of command_line words)
+abbrev pub shape_path_in : List Text → Option Text
+shape_path_in words = option_and_then (λ found. first_of (codes "shape") found.1) (subcommand_of command_line words)
 
 -- what the text of a flag says
 pub record IsFlagOf (text : Option Text) (flag : Bool) : Type 0 where
@@ -197,7 +197,7 @@ pub record IsMakingIn (words : List Text) (making : Making) : Type 0 where
 -- which store is to be served, and with which shape
 pub record IsServingIn (words : List Text) (serving : Serving) : Type 0 where
   pub store : option_map (λ text. text.now) serving.store ≡ store_in words
-  pub shape : option_map (λ text. text.now) serving.shape ≡ shape_in words
+  pub shape : option_map (λ text. text.now) serving.shape ≡ shape_path_in words
 
 -- what was read from the words is what they ask for
 abbrev pub IsAsked : List Text → Asked → Type 0
@@ -211,7 +211,7 @@ IsAsked words (Init making) = (command_in words ≡ Some (codes "init")) × IsMa
 IsAsked words (Serve serving) = (command_in words ≡ Some (codes "serve")) × IsServingIn words serving
 
 -- a script is to be played: that of this path, or of standard input, on the store of that path, or on a device in memory
-pub record Plays (words : List Text) (script disk : Option Text) : Type 0 where
+pub record AsksToPlayFrom (words : List Text) (script disk : Option Text) : Type 0 where
   pub asks : AsksToPlay words
   pub path : path_in words ≡ script
   pub store : disk_in words ≡ disk
@@ -246,7 +246,7 @@ pub record Makes (words : List Text) (store file in_place : Text) : Type 0 where
 pub record Serves (words : List Text) (store : Text) (shape : Option Text) : Type 0 where
   pub asks : AsksToServe words
   pub path : store_in words ≡ Some store
-  pub with_shape : shape_in words ≡ shape
+  pub with_shape : shape_path_in words ≡ shape
 
 -- how the plain command lines are read: `run` plays what stands on standard input, `run` with a path that file, each in
 -- memory or, behind `--disk`, on the store of that path; help and the version are requests; no command, an unknown one,
@@ -255,11 +255,11 @@ pub record Serves (words : List Text) (store : Text) (shape : Option Text) : Typ
 -- order. `init` takes the path of a store and that of a file, and maybe its flag, and `serve` the path of a store, and maybe that of a
 -- shape.
 pub record ReadsPlainly (name : Text) : Type 0 where
-  pub input : Plays (name ∷ codes "run" ∷ []) None None
-  pub file : Plays (name ∷ codes "run" ∷ codes "first.json" ∷ []) (Some (codes "first.json")) None
-  pub input_on_store : Plays (name ∷ codes "run" ∷ codes "--disk" ∷ codes "store" ∷ []) None (Some (codes "store"))
-  pub file_on_store : Plays (name ∷ codes "run" ∷ codes "first.json" ∷ codes "--disk" ∷ codes "store" ∷ []) (Some (codes "first.json")) (Some (codes "store"))
-  pub store_first : Plays (name ∷ codes "run" ∷ codes "--disk=store" ∷ codes "first.json" ∷ []) (Some (codes "first.json")) (Some (codes "store"))
+  pub input : AsksToPlayFrom (name ∷ codes "run" ∷ []) None None
+  pub file : AsksToPlayFrom (name ∷ codes "run" ∷ codes "first.json" ∷ []) (Some (codes "first.json")) None
+  pub input_on_store : AsksToPlayFrom (name ∷ codes "run" ∷ codes "--disk" ∷ codes "store" ∷ []) None (Some (codes "store"))
+  pub file_on_store : AsksToPlayFrom (name ∷ codes "run" ∷ codes "first.json" ∷ codes "--disk" ∷ codes "store" ∷ []) (Some (codes "first.json")) (Some (codes "store"))
+  pub store_first : AsksToPlayFrom (name ∷ codes "run" ∷ codes "--disk=store" ∷ codes "first.json" ∷ []) (Some (codes "first.json")) (Some (codes "store"))
   pub help : AsksForHelp (name ∷ codes "--help" ∷ [])
   pub version : AsksForHelp (name ∷ codes "--version" ∷ [])
   pub none : AreRefused (name ∷ [])

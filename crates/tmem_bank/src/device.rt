@@ -33,7 +33,7 @@ pub fn device_in_file<R: AllocGlobal + Files<File = File>>(
 fn new_file<R: AllocGlobal + Files<File = File>>(rt: &R, path: &str) -> Result<FileDisk, Fault> {
     let mut new = NewFile::create(rt, path, Layout::new(ACCOUNTS, SLOTS)?.end())?;
     match format(&mut new.disk, ACCOUNTS, SLOTS) {
-        Ok(()) => new.place(rt),
+        Ok(()) => new.give_name(rt),
         Err(fault) => {
             new.discard(rt);
             Err(fault)

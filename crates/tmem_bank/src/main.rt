@@ -5,7 +5,8 @@
 
 ghost use Rattle.std.specs.Prelude.{◌≡◌};
 ghost use Rattle.std.specs.List.{list_any};
-ghost use Rattle.tmem_bank.specs.Accounts.{bank, has_no_negative, is_negative};
+ghost use Rattle.tmem_builtins.specs.Invariants.{has_no_negative, is_negative};
+ghost use Rattle.tmem_bank.specs.Accounts.{bank};
 
 mod device;
 mod service;

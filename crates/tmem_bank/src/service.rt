@@ -1,6 +1,6 @@
 // What the bank does with its store.
 ghost use Rattle.std.specs.Prelude.{◌≡◌};
-ghost use Rattle.tmem_front.specs.Held.{found_of, spine_of, steps_of, table_of};
+ghost use Rattle.tmem_front.specs.Held.{front_found, spine_of, front_steps, front_table};
 ghost use Rattle.tmem_tree.specs.Plans.{FitsSteps, FitsVariables, FitsNames, FitsShapes};
 ghost use Rattle.tmem_bank.specs.Accounts.{bank};
 
@@ -53,11 +53,11 @@ fn with_front<
     R: Clock + Print + Threads + Wait + Sync,
 >(rt: &R, alloc: Global, opened: OpenedFront<D, T, S>) -> Result<(), Fault>
     requires spine { spine_of opened ≡ N.name }
-    requires opening { found_of opened ≡ N.opening }
+    requires opening { front_found opened ≡ N.opening }
     requires program { N.program ≡ bank }
-    requires names { T.names (table_of opened) ≡ bank.names }
-    requires stated { T.is_stated (table_of opened) bank.tests }
-    requires steps { S.is_stated (steps_of opened) bank.steps }
+    requires names { T.names (front_table opened) ≡ bank.names }
+    requires stated { T.is_stated (front_table opened) bank.tests }
+    requires steps { S.is_stated (front_steps opened) bank.steps }
 {
     let front = opened.named::<N>();
     run_bank(rt, alloc, &front)

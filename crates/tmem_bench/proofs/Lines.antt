@@ -2,7 +2,7 @@
 use Rattle.std.proofs.Common.{ℕ, ◌+◌, List, [], ◌∷◌, ◌++◌, Option, Some, None, length-append, refl, ap, ◌∙◌, append_assoc, append-nil}
 use Rattle.std.proofs.lemmas.Grind.{flat_map-append}
 use Rattle.std.specs.Io.KnownBytes.{Appends}
-use Rattle.tmem_bench.specs.Printed.{head, line, printed, Prints}
+use Rattle.tmem_bench.specs.Printed.{head, line, printed, PrintsTable}
 
 -- one text and then another
 appends_then : (before mid after : Option (List ℕ)) (first second : List ℕ) → Appends before mid first → Appends mid after second → Appends before after (first ++ second)
@@ -12,11 +12,11 @@ appends_then (Some a) (Some b) None first second one other = absurd other
 appends_then (Some a) (Some b) (Some c) first second one other = other ∙ ap (λ z. z ++ second) one ∙ append_assoc a first second
 
 -- the head alone
-pub only_head : (before after : Option (List ℕ)) → Appends before after (line head) → Prints before after 0
+pub only_head : (before after : Option (List ℕ)) → Appends before after (line head) → PrintsTable before after 0
 only_head before after told = record { lines = []; many = refl; told = rw (append-nil (line head)) told }
 
 -- one line more
-pub one_more : (before mid after : Option (List ℕ)) (count : ℕ) (text : List ℕ) → Prints before mid count → Appends mid after (line text) → Prints before after (count + 1)
+pub one_more : (before mid after : Option (List ℕ)) (count : ℕ) (text : List ℕ) → PrintsTable before mid count → Appends mid after (line text) → PrintsTable before after (count + 1)
 one_more before mid after count text had told = record {
   lines = had.lines ++ text ∷ [];
   many = length-append had.lines (text ∷ []) ∙ ap (λ n. n + 1) had.many;

@@ -1,10 +1,7 @@
 -- What is printed.
-use Rattle.std.specs.Prelude.{◌≡◌, ℕ, List, [], ◌∷◌, ◌++◌, Option, codes, flat_map, length}
+use Rattle.std.specs.Prelude.{◌≡◌, ℕ, List, ◌∷◌, Option, codes, flat_map, length}
 use Rattle.std.specs.Io.KnownBytes.{Appends}
-
--- a text with its line break
-abbrev pub line : List ℕ → List ℕ
-line text = text ++ 10 ∷ []
+pub use Rattle.tmem_lines.specs.Lines.{line}
 
 -- texts, each with its line break
 abbrev pub printed : List (List ℕ) → List ℕ
@@ -15,7 +12,7 @@ abbrev pub head : List ℕ
 head = codes "device  job                      callers  flusher         a second  flushes    baseline   ratio"
 
 -- the head of a table and so many lines were printed
-pub record Prints (before after : Option (List ℕ)) (count : ℕ) : Type 0 where
+pub record PrintsTable (before after : Option (List ℕ)) (count : ℕ) : Type 0 where
   pub lines : List (List ℕ)
   pub many : length lines ≡ count
   pub told : Appends before after (printed (head ∷ lines))

@@ -15,7 +15,7 @@ use tmem_file::{FileDisk, NewFile};
 const SYNC_MILLIS: u64 = 250;
 
 // About as many bytes as a batch of one transaction has.
-const BATCH: usize = 32;
+const SYNCED_BYTES: usize = 32;
 
 /// Where the device of a store is.
 #[derive(Clone, Copy)]
@@ -43,7 +43,7 @@ pub fn new_file<R: Files<File = File> + AllocGlobal>(
 ) -> Result<FileDisk, Fault>
     ensures { IfOk result (λ disk. (⟦<FileDisk as Disk>⟧.view disk).capacity ≡ size) }
 {
-    NewFile::create(rt, path, size)?.place(rt)
+    NewFile::create(rt, path, size)?.give_name(rt)
 }
 
 /// What came of work on a file, once the file is removed, also where the work failed.
@@ -66,9 +66,9 @@ pub fn two_syncs<R: Clock + Files<File = File> + AllocGlobal>(
     place: Place<'_>,
 ) -> Result<Figures, BenchError> {
     match place {
-        Place::Memory => sync_on(rt, SimDisk::new(rt.alloc(), BATCH as u64)?),
+        Place::Memory => sync_on(rt, SimDisk::new(rt.alloc(), SYNCED_BYTES as u64)?),
         Place::File(path) => {
-            let disk = new_file(rt, path, BATCH as u64)?;
+            let disk = new_file(rt, path, SYNCED_BYTES as u64)?;
             let had = sync_on(rt, disk);
             removed(rt, path, had)
         }
@@ -77,11 +77,11 @@ pub fn two_syncs<R: Clock + Files<File = File> + AllocGlobal>(
 
 // Writes a batch, and then a byte, as a flush does.
 fn sync_on<D: Disk + Drop, R: Clock>(rt: &R, mut disk: D) -> Result<Figures, BenchError>
-    requires { BATCH ≤ (D.view disk).capacity }
+    requires { SYNCED_BYTES ≤ (D.view disk).capacity }
 {
     let start = now(rt)?;
     let mut had = Figures::zero();
-    let batch = [1; BATCH];
+    let batch = [1; SYNCED_BYTES];
     for _ in 0..u64::MAX {
         put(&mut disk, &batch)?;
         put(&mut disk, &batch[..1])?;

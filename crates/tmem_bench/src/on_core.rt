@@ -1,6 +1,6 @@
 // The core alone: no device, and no other thread.
 ghost use Rattle.std.specs.Prelude.{◌≡◌, [], length, IfOk};
-ghost use Rattle.tmem_core.specs.Held.{state_of};
+ghost use Rattle.tmem_core.specs.Held.{core_state};
 ghost use Rattle.tmem_tree.specs.Plans.{FitsSteps, FitsVariables, FitsNames};
 
 use crate::error::{BenchError, now, since};
@@ -43,7 +43,7 @@ fn plan_on<R: Clock, T: Invariants + Drop, S: StoredSteps>(
     core: &mut Core<T>,
     steps: &S,
 ) -> Result<Figures, BenchError>
-    requires { length (state_of core.old).values ≡ vars }
+    requires { length (core_state core.old).values ≡ vars }
 {
     let plan = Plan::new(act.transaction(alloc)?, steps, vars, &[])?;
     settle_on(rt, core, &mut Cursor::idle(alloc), &plan, steps, vars)
@@ -58,7 +58,7 @@ fn settle_on<R: Clock, T: Invariants + Drop, S: StoredSteps>(
     steps: &S,
     vars: u16,
 ) -> Result<Figures, BenchError>
-    requires sized { length (state_of core.old).values ≡ vars }
+    requires sized { length (core_state core.old).values ≡ vars }
     requires steps { FitsSteps (S.arities steps.now) plan.now.tree }
     requires variables { FitsVariables vars plan.now }
     requires names { FitsNames [] plan.now.tree }
@@ -79,7 +79,7 @@ fn settle_on<R: Clock, T: Invariants + Drop, S: StoredSteps>(
 // A core whose variables all have something, with the invariant registered.
 fn new_core<T: Invariants + Drop>(alloc: Global, vars: u16, table: T) -> Result<Core<T>, Fault>
     requires { T.vars table ≡ vars }
-    ensures { IfOk result (λ core. length (state_of core).values ≡ vars) }
+    ensures { IfOk result (λ core. length (core_state core).values ≡ vars) }
 {
     let mut names = NameSet::new(alloc)?;
     names.push(&Name::new(SOLVENT)?);
@@ -98,11 +98,11 @@ fn settle_round<T: Invariants + Drop, S: StoredSteps>(
     steps: &S,
     vars: u16,
 ) -> Result<(), Fault>
-    requires sized { length (state_of core.old).values ≡ vars }
+    requires sized { length (core_state core.old).values ≡ vars }
     requires steps { FitsSteps (S.arities steps.now) plan.now.tree }
     requires variables { FitsVariables vars plan.now }
     requires names { FitsNames [] plan.now.tree }
-    ensures { length (state_of core.new).values ≡ vars }
+    ensures { length (core_state core.new).values ≡ vars }
 {
     for _ in 0..ROUND {
         settle(core, cursor, plan, steps, vars)?;
@@ -119,11 +119,11 @@ fn settle<T: Invariants + Drop, S: StoredSteps>(
     steps: &S,
     vars: u16,
 ) -> Result<(), Fault>
-    requires sized { length (state_of core.old).values ≡ vars }
+    requires sized { length (core_state core.old).values ≡ vars }
     requires steps { FitsSteps (S.arities steps.now) plan.now.tree }
     requires variables { FitsVariables vars plan.now }
     requires names { FitsNames [] plan.now.tree }
-    ensures { length (state_of core.new).values ≡ vars }
+    ensures { length (core_state core.new).values ≡ vars }
 {
     cursor.restart(plan)?;
     for _ in 0..=MAX_TURNS {

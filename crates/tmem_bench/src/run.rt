@@ -1,7 +1,7 @@
 // Runs the jobs, and prints what they did.
 ghost use Rattle.std.specs.Prelude.{◌≡◌, ◌∷◌, ℕ, List, OnOk, length};
 ghost use Rattle.std.specs.Io.KnownBytes.{Appends};
-ghost use Rattle.tmem_bench.specs.Printed.{head, line, printed, Prints};
+ghost use Rattle.tmem_bench.specs.Printed.{head, line, printed, PrintsTable};
 
 use crate::device::{Place, new_file, removed, two_syncs};
 use crate::error::BenchError;

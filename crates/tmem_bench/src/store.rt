@@ -1,8 +1,9 @@
 // A store for the jobs, with what its closures mean.
 ghost use Rattle.std.specs.Prelude.{◌≡◌, length};
 ghost use Rattle.std.specs.List.{list_any};
-ghost use Rattle.tmem_front.specs.Held.{found_of, spine_of, steps_of as steps_held, table_of};
-ghost use Rattle.tmem_bench.specs.Accounts.{bank, has_no_negative, is_negative};
+ghost use Rattle.tmem_front.specs.Held.{front_found, spine_of, front_steps, front_table};
+ghost use Rattle.tmem_builtins.specs.Invariants.{has_no_negative, is_negative};
+ghost use Rattle.tmem_bench.specs.Accounts.{bench_bank};
 
 use crate::error::BenchError;
 use crate::figures::Figures;
@@ -85,9 +86,9 @@ fn open<
     steps: S,
 ) -> Result<Figures, BenchError>
     requires vars { T.vars table ≡ vars }
-    requires names { T.names table ≡ bank.names }
-    requires stated { T.is_stated table bank.tests }
-    requires steps { S.is_stated steps bank.steps }
+    requires names { T.names table ≡ bench_bank.names }
+    requires stated { T.is_stated table bench_bank.tests }
+    requires steps { S.is_stated steps bench_bank.steps }
 {
     match OpenedFront::open(alloc, disk, vars, SLOTS, table, steps) {
         Ok(opened) => with_front::<Brand, D, T, S, R>(rt, alloc, opened, task),
@@ -103,11 +104,11 @@ fn with_front<
     R: Clock + Threads + Wait + Sync,
 >(rt: &R, alloc: Global, opened: OpenedFront<D, T, S>, task: Task) -> Result<Figures, BenchError>
     requires spine { spine_of opened ≡ N.name }
-    requires opening { found_of opened ≡ N.opening }
-    requires program { N.program ≡ bank }
-    requires names { T.names (table_of opened) ≡ bank.names }
-    requires stated { T.is_stated (table_of opened) bank.tests }
-    requires steps { S.is_stated (steps_held opened) bank.steps }
+    requires opening { front_found opened ≡ N.opening }
+    requires program { N.program ≡ bench_bank }
+    requires names { T.names (front_table opened) ≡ bench_bank.names }
+    requires stated { T.is_stated (front_table opened) bench_bank.tests }
+    requires steps { S.is_stated (front_steps opened) bench_bank.steps }
 {
     let front = opened.named::<N>();
     use_front(rt, alloc, &front, task)

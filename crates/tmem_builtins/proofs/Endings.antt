@@ -13,7 +13,7 @@ use Rattle.tmem_tree.specs.Run.{View, Normal, Retried, Aborted, run, put, write,
 use Rattle.tmem_invariants.specs.Meanings.{Meanings}
 use Rattle.tmem_builtins.specs.Builtins.{builtin_steps}
 use Rattle.tmem_builtins.specs.Steps.{is_i64}
-use Rattle.tmem_builtins.specs.Transactions.{RunsAs, IsCall, scratched, changed, run_in_turn}
+use Rattle.tmem_builtins.specs.Transactions.{RunsAs, IsStepCall, scratched, changed, run_in_turn}
 use Rattle.tmem_builtins.proofs.Sequences.{run-Seq}
 use Rattle.tmem_builtins.proofs.Scratch.{value_read, alone_read, on_value, call_value, call_number}
 
@@ -27,14 +27,14 @@ waits : (less : Bool) (x n : ℤ) (view : View) → then_run (on_value (cond les
 waits true x n view = refl
 waits false x n view = refl
 
-pub at_least_ends : {var : ℕ} {n : ℤ} {need : Tx} (txs : Vec Tx Global) → IsCall 2 14 15 need → txs.items ≡ Read var 14 ∷ Put 15 n ∷ need ∷ []
+pub at_least_ends : {var : ℕ} {n : ℤ} {need : Tx} (txs : Vec Tx Global) → IsStepCall 2 14 15 need → txs.items ≡ Read var 14 ∷ Put 15 n ∷ need ∷ []
     → RunsAs (Seq txs) (λ view. cond (int_lt (view.values var) n) Retried (Normal (scratched view (view.values var) n)))
 at_least_ends {var = var} {n = n} {need = need} txs call items tests view full =
     let x = view.values var in
     seq_ends txs _ tests view items ∙ ap (λ r. then_run r (λ v. Normal v)) (call_value 2 need call tests view x n full) ∙ waits (int_lt x n) x n view
 
 -- asked both ways round: less, more, or the same
-both_ways : (less more : Bool) (tests : Meanings) (view : View) (x n : ℤ) (need : Tx) → IsCall 2 15 14 need → length view.registers ≡ 16 → int_lt x n ≡ less → int_lt n x ≡ more
+both_ways : (less more : Bool) (tests : Meanings) (view : View) (x n : ℤ) (need : Tx) → IsStepCall 2 15 14 need → length view.registers ≡ 16 → int_lt x n ≡ less → int_lt n x ≡ more
     → then_run (on_value (cond less Retry (Value x)) (λ y. Normal (scratched view y n))) (λ v. then_run (run builtin_steps tests need v) (λ w. Normal w)) ≡ cond (int_eq x n) (Normal (scratched view n n)) Retried
 both_ways true more tests view x n need call full is_less is_more =
     sym (ap (λ b. cond (is_eq (cond b Less (cond (int_lt n x) Greater Equal))) (Normal (scratched view n n)) Retried) is_less)
@@ -50,7 +50,7 @@ both_ways false false tests view x n need call full is_less is_more =
     ∙ ap (λ y. Normal (scratched view y n)) ((Decides-int_eq x n).0 equal)
     ∙ sym (ap (λ b. cond b (Normal (scratched view n n)) Retried) equal)
 
-pub is_ends : {var : ℕ} {n : ℤ} {not_less not_more : Tx} (txs : Vec Tx Global) → IsCall 2 14 15 not_less → IsCall 2 15 14 not_more → txs.items ≡ Read var 14 ∷ Put 15 n ∷ not_less ∷ not_more ∷ []
+pub is_ends : {var : ℕ} {n : ℤ} {not_less not_more : Tx} (txs : Vec Tx Global) → IsStepCall 2 14 15 not_less → IsStepCall 2 15 14 not_more → txs.items ≡ Read var 14 ∷ Put 15 n ∷ not_less ∷ not_more ∷ []
     → RunsAs (Seq txs) (λ view. cond (int_eq (view.values var) n) (Normal (scratched view n n)) Retried)
 is_ends {var = var} {n = n} {not_less = not_less} {not_more = not_more} txs first second items tests view full =
     let x = view.values var in
@@ -68,20 +68,20 @@ stores : (fits : Bool) (tests : Meanings) (view : View) (var : ℕ) (made n : �
 stores true tests view var made n full = ap (λ m. Normal (write (scratched view made n) var m)) (value_read view.registers made n full)
 stores false tests view var made n full = refl
 
-pub add_to_ends : {var : ℕ} {n : ℤ} {sum : Tx} (txs : Vec Tx Global) → IsCall 0 14 15 sum → txs.items ≡ Read var 14 ∷ Put 15 n ∷ sum ∷ Write var 14 ∷ []
+pub add_to_ends : {var : ℕ} {n : ℤ} {sum : Tx} (txs : Vec Tx Global) → IsStepCall 0 14 15 sum → txs.items ≡ Read var 14 ∷ Put 15 n ∷ sum ∷ Write var 14 ∷ []
     → RunsAs (Seq txs) (λ view. changed view var (view.values var +ℤ n) n)
 add_to_ends {var = var} {n = n} {sum = sum} txs call items tests view full =
     let x = view.values var in
     seq_ends txs _ tests view items ∙ ap (λ r. then_run r (run_in_turn builtin_steps tests (Write var 14 ∷ []))) (call_value 0 sum call tests view x n full)
     ∙ stores (is_i64 (x +ℤ n)) tests view var (x +ℤ n) n full
 
-takes : (less : Bool) (tests : Meanings) (view : View) (var : ℕ) (x n : ℤ) (rest : Tx) → IsCall 1 14 15 rest → length view.registers ≡ 16
+takes : (less : Bool) (tests : Meanings) (view : View) (var : ℕ) (x n : ℤ) (rest : Tx) → IsStepCall 1 14 15 rest → length view.registers ≡ 16
     → then_run (on_value (cond less Retry (Value x)) (λ y. Normal (scratched view y n))) (run_in_turn builtin_steps tests (rest ∷ Write var 14 ∷ [])) ≡ cond less Retried (changed view var (x -ℤ n) n)
 takes true tests view var x n rest call full = refl
 takes false tests view var x n rest call full =
     ap (λ r. then_run r (run_in_turn builtin_steps tests (Write var 14 ∷ []))) (call_value 1 rest call tests view x n full) ∙ stores (is_i64 (x -ℤ n)) tests view var (x -ℤ n) n full
 
-pub take_ends : {var : ℕ} {n : ℤ} {enough rest : Tx} (txs : Vec Tx Global) → IsCall 2 14 15 enough → IsCall 1 14 15 rest → txs.items ≡ Read var 14 ∷ Put 15 n ∷ enough ∷ rest ∷ Write var 14 ∷ []
+pub take_ends : {var : ℕ} {n : ℤ} {enough rest : Tx} (txs : Vec Tx Global) → IsStepCall 2 14 15 enough → IsStepCall 1 14 15 rest → txs.items ≡ Read var 14 ∷ Put 15 n ∷ enough ∷ rest ∷ Write var 14 ∷ []
     → RunsAs (Seq txs) (λ view. cond (int_lt (view.values var) n) Retried (changed view var (view.values var -ℤ n) n))
 take_ends {var = var} {n = n} {enough = enough} {rest = rest} txs first second items tests view full =
     let x = view.values var in

@@ -7,7 +7,7 @@ use Rattle.tmem_tree.specs.declared.step.StepAnswer.TheVariants.{Value, Retry, A
 use Rattle.tmem_tree.specs.Run.{View, RunResult, Normal, Retried, Aborted, run, put, register, answered}
 use Rattle.tmem_invariants.specs.Meanings.{Meanings}
 use Rattle.tmem_builtins.specs.Builtins.{builtin_steps}
-use Rattle.tmem_builtins.specs.Transactions.{IsCall, scratched}
+use Rattle.tmem_builtins.specs.Transactions.{IsStepCall, scratched}
 
 pub value_read : (rs : List ℤ) (x n : ℤ) → length rs ≡ 16 → register (set (set rs 14 x) 15 n) 14 ≡ x
 value_read rs x n full = get_or-set_other (set rs 14 x) 15 14 n (pos 0) (λ e. omega arith) ∙ get_or-set_same rs 14 x (pos 0) (omega arith)
@@ -44,12 +44,12 @@ answered_number (Value y) view x n = ap Normal (put_number view x n y)
 answered_number Retry view x n = refl
 answered_number (Abort code) view x n = refl
 
-run_call : (index first second : ℕ) (tx : Tx) → IsCall index first second tx → (tests : Meanings) (view : View) → run builtin_steps tests tx view ≡ answered (builtin_steps index (register view.registers first ∷ register view.registers second ∷ [])) view first
+run_call : (index first second : ℕ) (tx : Tx) → IsStepCall index first second tx → (tests : Meanings) (view : View) → run builtin_steps tests tx view ≡ answered (builtin_steps index (register view.registers first ∷ register view.registers second ∷ [])) view first
 run_call index first second tx call tests view =
     ap (λ t. run builtin_steps tests t view) call.is ∙ ap (λ l. answered (builtin_steps index (map (register view.registers) l)) view first) call.on
 
 -- a step of the value and the number
-pub call_value : (index : ℕ) (tx : Tx) → IsCall index 14 15 tx → (tests : Meanings) (view : View) (x n : ℤ) → length view.registers ≡ 16 → run builtin_steps tests tx (scratched view x n) ≡ on_value (builtin_steps index (x ∷ n ∷ [])) (λ y. Normal (scratched view y n))
+pub call_value : (index : ℕ) (tx : Tx) → IsStepCall index 14 15 tx → (tests : Meanings) (view : View) (x n : ℤ) → length view.registers ≡ 16 → run builtin_steps tests tx (scratched view x n) ≡ on_value (builtin_steps index (x ∷ n ∷ [])) (λ y. Normal (scratched view y n))
 call_value index tx call tests view x n full =
     run_call index 14 15 tx call tests (scratched view x n)
     ∙ ap (λ l. answered (builtin_steps index (l ∷ register (scratched view x n).registers 15 ∷ [])) (scratched view x n) 14) (value_read view.registers x n full)
@@ -57,7 +57,7 @@ call_value index tx call tests view x n full =
     ∙ answered_value (builtin_steps index (x ∷ n ∷ [])) view x n
 
 -- a step of the number and the value
-pub call_number : (index : ℕ) (tx : Tx) → IsCall index 15 14 tx → (tests : Meanings) (view : View) (x n : ℤ) → length view.registers ≡ 16 → run builtin_steps tests tx (scratched view x n) ≡ on_value (builtin_steps index (n ∷ x ∷ [])) (λ y. Normal (scratched view x y))
+pub call_number : (index : ℕ) (tx : Tx) → IsStepCall index 15 14 tx → (tests : Meanings) (view : View) (x n : ℤ) → length view.registers ≡ 16 → run builtin_steps tests tx (scratched view x n) ≡ on_value (builtin_steps index (n ∷ x ∷ [])) (λ y. Normal (scratched view x y))
 call_number index tx call tests view x n full =
     run_call index 15 14 tx call tests (scratched view x n)
     ∙ ap (λ l. answered (builtin_steps index (l ∷ register (scratched view x n).registers 14 ∷ [])) (scratched view x n) 15) (number_read view.registers x n full)

@@ -10,7 +10,7 @@ use Rattle.tmem_invariants.specs.Meanings.{Meanings}
 use Rattle.tmem_tree.specs.Limits.{count}
 use Rattle.tmem_tree.proofs.Laws.{count_in, count-Seq}
 use Rattle.tmem_builtins.specs.Builtins.{builtin_steps}
-use Rattle.tmem_builtins.specs.Transactions.{IsCall, ReadsOnly, ReadsNone, is_put}
+use Rattle.tmem_builtins.specs.Transactions.{IsStepCall, ReadsOnly, ReadsNone, is_put}
 use Rattle.tmem_builtins.proofs.Sequences.{asks_in, asks-Seq}
 
 -- a tree that asks for nothing and has no number
@@ -18,7 +18,7 @@ pub record IsQuiet (tx : Tx) : Type 0 where
   pub reads : ReadsNone tx
   pub numbers : count is_put tx ≡ 0
 
-pub call_quiet : {index first second : ℕ} {tx : Tx} → IsCall index first second tx → IsQuiet tx
+pub call_quiet : {index first second : ℕ} {tx : Tx} → IsStepCall index first second tx → IsQuiet tx
 call_quiet call = record {
   reads = λ tests view. ap (λ t. asks builtin_steps tests t view) call.is;
   numbers = ap (count is_put) call.is;

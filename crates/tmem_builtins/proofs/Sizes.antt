@@ -8,7 +8,7 @@ use Rattle.tmem_tree.specs.declared.tx.Tx.{Tx}
 use Rattle.tmem_tree.specs.declared.tx.Tx.TheVariants.{Seq, Put, Read, Write}
 use Rattle.tmem_tree.specs.Limits.{depth, one_if, count, is_node, is_write, is_check, is_retire, is_no_register, has_bad_register, has_bad_variable, has_bad_step, has_bad_arguments, has_unknown_name}
 use Rattle.tmem_tree.proofs.Laws.{depth_in, depth-Seq, count_in, count-Seq}
-use Rattle.tmem_builtins.specs.Transactions.{IsCall, IsSized}
+use Rattle.tmem_builtins.specs.Transactions.{IsStepCall, IsSized}
 
 -- how many arguments the steps of scripts take
 abbrev pub arities : List ℕ
@@ -125,7 +125,7 @@ record IsStep (index : ℕ) : Type 0 where
   there : nat_le 3 index ≡ false
   two : (2 == slice_index_or arities index 2) ≡ true
 
-call_one : (var index first second : ℕ) (tx : Tx) → IsCall index first second tx → IsStep index → IsRegister first → IsRegister second → IsOne 0 var tx
+call_one : (var index first second : ℕ) (tx : Tx) → IsStepCall index first second tx → IsStep index → IsRegister first → IsRegister second → IsOne 0 var tx
 call_one var index first second tx call step fine_first fine_second =
     let args = call.args in
     record {
@@ -141,16 +141,16 @@ call_one var index first second tx call step fine_first fine_second =
       names = λ known. ap (count (has_unknown_name known)) call.is;
     }
 
-pub add_one : (var : ℕ) {tx : Tx} → IsCall 0 14 15 tx → IsOne 0 var tx
+pub add_one : (var : ℕ) {tx : Tx} → IsStepCall 0 14 15 tx → IsOne 0 var tx
 add_one var {tx = tx} call = call_one var 0 14 15 tx call (record { there = refl; two = refl }) refl refl
 
-pub sub_one : (var : ℕ) {tx : Tx} → IsCall 1 14 15 tx → IsOne 0 var tx
+pub sub_one : (var : ℕ) {tx : Tx} → IsStepCall 1 14 15 tx → IsOne 0 var tx
 sub_one var {tx = tx} call = call_one var 1 14 15 tx call (record { there = refl; two = refl }) refl refl
 
-pub need_one : (var : ℕ) {tx : Tx} → IsCall 2 14 15 tx → IsOne 0 var tx
+pub need_one : (var : ℕ) {tx : Tx} → IsStepCall 2 14 15 tx → IsOne 0 var tx
 need_one var {tx = tx} call = call_one var 2 14 15 tx call (record { there = refl; two = refl }) refl refl
 
-pub need_back_one : (var : ℕ) {tx : Tx} → IsCall 2 15 14 tx → IsOne 0 var tx
+pub need_back_one : (var : ℕ) {tx : Tx} → IsStepCall 2 15 14 tx → IsOne 0 var tx
 need_back_one var {tx = tx} call = call_one var 2 15 14 tx call (record { there = refl; two = refl }) refl refl
 
 pub seq_sized : {nodes writes var : ℕ} {all : List Tx} (txs : Vec Tx Global) → txs.items ≡ all → AreSized 1 nodes writes var all → IsSized (1 + nodes) writes var (Seq txs)

@@ -3,8 +3,9 @@ use Rattle.std.specs.Prelude.{◌≡◌, ℕ, ◌<◌, ℤ, Bool, true, false, L
 use Rattle.std.specs.declared.vec.Vec.{Vec}
 use Rattle.std.specs.declared.alloc.Global.{Global}
 use Rattle.tmem_tree.specs.declared.tx.Tx.{Tx}
-use Rattle.tmem_tree.specs.declared.tx.Tx.TheVariants.{Put, Read, Step}
+use Rattle.tmem_tree.specs.declared.tx.Tx.TheVariants.{Read, Step}
 use Rattle.tmem_tree.specs.Limits.{depth, count, is_node, is_write, is_check, is_retire, has_bad_register, has_bad_variable}
+pub use Rattle.tmem_tree.specs.Limits.{is_put}
 use Rattle.tmem_tree.specs.Plans.{FitsSteps, FitsNames}
 use Rattle.tmem_tree.specs.StepAnswers.{StepMeanings}
 use Rattle.tmem_tree.specs.Run.{View, RunResult, Normal, Retried, Aborted, run, put, write, then_run, or_else}
@@ -51,11 +52,6 @@ abbrev pub first_asks : StepMeanings → Meanings → List Tx → View → List 
 first_asks steps tests [] view = []
 first_asks steps tests (tx ∷ txs) view = asks steps tests tx view ++ else_ask (run steps tests tx view) (first_asks steps tests txs view)
 
--- it puts a number of its own into a register
-abbrev pub is_put : Tx → Bool
-is_put (Put reg number) = true
-is_put _ = false
-
 -- what it adds to the limits of a plan: two levels, so many nodes and writes, no check, no retirement and no register past the
 -- last. And it fits the three steps of scripts, and each store that has this variable
 pub record IsSized (nodes writes var : ℕ) (tx : Tx) : Type 0 where
@@ -70,7 +66,7 @@ pub record IsSized (nodes writes var : ℕ) (tx : Tx) : Type 0 where
   pub names : (known : List (List ℕ)) → FitsNames known tx
 
 -- it calls the step of this index on two registers, and the answer goes to the first
-pub record IsCall (index first second : ℕ) (tx : Tx) : Type 0 where
+pub record IsStepCall (index first second : ℕ) (tx : Tx) : Type 0 where
   pub args : Vec ℕ Global
   pub is : tx ≡ Step index args first
   pub on : args.items ≡ first ∷ second ∷ []

@@ -19,7 +19,7 @@ ghost use Rattle.tmem_tree.specs.Run.{View, Normal, Retried, or_else, put as wit
 ghost use Rattle.tmem_tree.specs.StepAnswers.{StepMeanings};
 ghost use Rattle.tmem_tree.specs.Visited.{asks, else_ask};
 ghost use Rattle.tmem_invariants.specs.Meanings.{Meanings};
-ghost use Rattle.tmem_builtins.specs.Transactions.{IsCall, IsSized, ReadsNone, ReadsOnly, RunsAs, changed, first_asks, is_put, run_first, run_in_turn, scratched};
+ghost use Rattle.tmem_builtins.specs.Transactions.{IsStepCall, IsSized, ReadsNone, ReadsOnly, RunsAs, changed, first_asks, is_put, run_first, run_in_turn, scratched};
 
 use std::alloc::{AllocError, Global};
 use tmem_tree::Tx;
@@ -185,7 +185,7 @@ fn store(var: u16, reg: u8) -> Tx
 
 // Calls a step on two registers. The answer goes to the first of them.
 fn call(alloc: Global, index: u16, first: u8, second: u8) -> Result<Tx, AllocError>
-    ensures { IfOk result (IsCall index first second) }
+    ensures { IfOk result (IsStepCall index first second) }
 {
     let args = vec![in alloc; first, second]?;
     Ok(Tx::Step {

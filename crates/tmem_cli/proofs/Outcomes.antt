@@ -10,7 +10,7 @@ use Rattle.clap.specs.declared.error.Error.{Error}
 use Rattle.clap.specs.declared.error.kind.ErrorKind.{ErrorKind}
 use Rattle.tmem_effect.specs.State.{State, first_state}
 use Rattle.tmem_world.specs.WorldModel.{WorldModel}
-use Rattle.tmem_journal.specs.Stands.{Position, first_position}
+use Rattle.tmem_journal.specs.Contents.{Position, first_position}
 use Rattle.tmem_script.specs.Errors.{IsUnread}
 use Rattle.tmem_script.specs.Statuses.{status_of}
 use Rattle.tmem_script.specs.declared.failure.Failure.{Failure}
@@ -19,7 +19,7 @@ use Rattle.tmem_script.specs.declared.script.Entry.{Entry}
 use Rattle.tmem_script.specs.declared.script.ScriptError.{ScriptError}
 use Rattle.tmem_script.specs.declared.script.ScriptError.TheVariants.{Memory, Unreadable, NoScript}
 use Rattle.tmem_cli.specs.declared.play.Played.{Played}
-use Rattle.tmem_args.specs.CommandLine.{IsRequest, HasRequest}
+use Rattle.tmem_args.specs.CommandLine.{IsHelpOrVersion, HasRequest}
 use Rattle.tmem_cli.specs.Outcomes.{MayBeRead, IsNoScript, IsWhyNotRead, FailsWith}
 use Rattle.tmem_cli.specs.Printed.{PlaysFrom}
 use Rattle.tmem_cli.specs.Stored.{PlaysWhere, StopsWhere}
@@ -117,20 +117,20 @@ of_failure Q n (Ok x) k some is err so = absurd (some (sym is ∙ so))
 of_failure Q n (Err f) k some is err so = (f, sym is ∙ so, err)
 
 -- a request among these kinds
-among : (k : ErrorKind) (kinds : Kinds) → IsAmong k kinds → IsRequest k → HasRequest kinds
+among : (k : ErrorKind) (kinds : Kinds) → IsAmong k kinds → IsHelpOrVersion k → HasRequest kinds
 among k [] is request = absurd is
 among k (x ∷ xs) is request = elim is [
-  | inl same ↦ inl (subst IsRequest same request)
+  | inl same ↦ inl (subst IsHelpOrVersion same request)
   | inr rest ↦ inr (among k xs rest request)
 ]
 
 -- a refusal that is a request is among them
-pub request_among : (kinds : Kinds) (e : Error) → HasKind kinds e → IsRequest (kind_of e) → HasRequest kinds
+pub request_among : (kinds : Kinds) (e : Error) → HasKind kinds e → IsHelpOrVersion (kind_of e) → HasRequest kinds
 request_among kinds e has request = elim has [
-  | inl memory ↦ absurd (subst IsRequest memory request)
+  | inl memory ↦ absurd (subst IsHelpOrVersion memory request)
   | inr is ↦ among (kind_of e) kinds is request
 ]
 
 -- and where none of them is, a refusal is no request
-pub no_request : (kinds : Kinds) (e : Error) → HasKind kinds e → kinds ≡ [] → ¬ IsRequest (kind_of e)
+pub no_request : (kinds : Kinds) (e : Error) → HasKind kinds e → kinds ≡ [] → ¬ IsHelpOrVersion (kind_of e)
 no_request kinds e has none request = subst HasRequest none (request_among kinds e has request)

@@ -10,33 +10,33 @@ use Rattle.tmem_invariants.specs.Answers.{Gives, IsMeant}
 use Rattle.tmem_invariants.specs.Chosen.{meaning_also}
 use Rattle.tmem_invariants.specs.Meanings.{Meanings}
 use Rattle.tmem_invariants.specs.TableNames.{AreDistinct}
-use Rattle.tmem_linear.specs.Sums.{Answers, is_within}
+use Rattle.tmem_linear.specs.Sums.{IsAnswerOfSum, is_sum_within}
 use Rattle.tmem_linear.specs.declared.linear.Linear.{Linear}
 use Rattle.tmem_cli.specs.Shaped.{meanings_of, names_in}
 
 -- what is stated of one
 abbrev pub Means : Meanings → Linear → Type 0
-Means m linear = IsMeant m linear.name linear.footprint.items (Answers linear.weights.items linear.least linear.most)
+Means m linear = IsMeant m linear.name linear.footprint.items (IsAnswerOfSum linear.weights.items linear.least linear.most)
 
 -- one more means that by its own name
-means_own : (m : Meanings) (e : Linear) → Means (meaning_also e.name e.footprint.items (is_within e.weights.items e.least e.most) m) e
+means_own : (m : Meanings) (e : Linear) → Means (meaning_also e.name e.footprint.items (is_sum_within e.weights.items e.least e.most) m) e
 means_own m e =
-    let meaning = is_within e.weights.items e.least e.most in
-    let gives : Gives (Answers e.weights.items e.least e.most) (length e.footprint.items) meaning = λ values answer long is. is in
+    let meaning = is_sum_within e.weights.items e.least e.most in
+    let gives : Gives (IsAnswerOfSum e.weights.items e.least e.most) (length e.footprint.items) meaning = λ values answer long is. is in
     let own : bytes_eq e.name e.name ≡ true = (bytes_eq-Decides e.name e.name).1 refl in
     record {
       over = sym (ap (λ (b : Bool). cond b e.footprint.items (m.footprint e.name)) own);
-      answers = subst (Gives (Answers e.weights.items e.least e.most) (length e.footprint.items)) (sym (ap (λ (b : Bool). cond b meaning (m.test e.name)) own)) gives;
+      answers = subst (Gives (IsAnswerOfSum e.weights.items e.least e.most) (length e.footprint.items)) (sym (ap (λ (b : Bool). cond b meaning (m.test e.name)) own)) gives;
     }
 
 -- and any other means what it meant
-means_other : (m : Meanings) (e other : Linear) → other.name ≢ e.name → Means m other → Means (meaning_also e.name e.footprint.items (is_within e.weights.items e.least e.most) m) other
+means_other : (m : Meanings) (e other : Linear) → other.name ≢ e.name → Means m other → Means (meaning_also e.name e.footprint.items (is_sum_within e.weights.items e.least e.most) m) other
 means_other m e other apart meant =
-    let meaning = is_within e.weights.items e.least e.most in
+    let meaning = is_sum_within e.weights.items e.least e.most in
     let no = false_from_ne_true (bytes_eq other.name e.name) (λ is. apart ((bytes_eq-Decides other.name e.name).0 is)) in
     record {
       over = meant.over ∙ sym (ap (λ (b : Bool). cond b e.footprint.items (m.footprint other.name)) no);
-      answers = subst (Gives (Answers other.weights.items other.least other.most) (length other.footprint.items)) (sym (ap (λ (b : Bool). cond b meaning (m.test other.name)) no)) meant.answers;
+      answers = subst (Gives (IsAnswerOfSum other.weights.items other.least other.most) (length other.footprint.items)) (sym (ap (λ (b : Bool). cond b meaning (m.test other.name)) no)) meant.answers;
     }
 
 -- So of distinct names each means what its invariant answers.

@@ -124,8 +124,8 @@ IsDone words left rest device before after =
     ⊎ ((AsksToCount words × CountsAs words before after) ⊎ ((AsksToBench words × TimesJobs before after) ⊎ DoesWithStore words left rest before after)))
 
 -- Status 1: the same was asked for, and it failed on the way.
-abbrev pub IsStopped : List Text → Option (List ℕ) → Option Played → Type 0
-IsStopped words left device =
+abbrev pub IsFailed : List Text → Option (List ℕ) → Option Played → Type 0
+IsFailed words left device =
     AsksForHelp words
     ⊎ ((AsksToPlay words × FailsWith 1 (MayBeRead (path_in words) left) (disk_in words) device)
     ⊎ ((AsksToCount words × ((f : Failure) × (status_of f ≡ 1) × IsWhyNotCounted f))

@@ -16,16 +16,13 @@ use Rattle.tmem_script.specs.declared.failure.Failure.{Failure}
 use Rattle.tmem_script.specs.declared.failure.Failure.TheVariants as failure
 use Rattle.tmem_script.specs.declared.script.Entry.{Entry}
 use Rattle.tmem_script.specs.declared.script.Entry.TheVariants as entry
-use Rattle.tmem_journal.specs.Stands.{Position, first_position}
+use Rattle.tmem_journal.specs.Contents.{Position, first_position}
 use Rattle.tmem_world.specs.WorldModel.{Setting, WorldModel, SessionStatus, Gone, Allows, present, opening}
 use Rattle.tmem_world.specs.declared.world.World.{World}
-use Rattle.tmem_world.specs.Represents.{Represents, Means, setting_of, view_of}
+use Rattle.tmem_world.specs.Represents.{Represents, Means, setting_of, world_view}
+pub use Rattle.tmem_lines.specs.Lines.{line}
 use Rattle.tmem_threads.specs.declared.store.Totals.{Totals}
 use Rattle.tmem_cli.specs.Builtin.{builtin_setting}
-
--- a text with its line break
-abbrev pub line : List ℕ → List ℕ
-line text = text ++ 10 ∷ []
 
 -- texts with a comma between any two
 abbrev pub listed : List (List ℕ) → List ℕ
@@ -43,7 +40,7 @@ registered state = filter (λ name. has_name state.names name) all_names
 abbrev pub values_text : ℕ → State → List (List ℕ)
 values_text vars state = map (λ var. signed_decimal (value_of state.values var)) (range_with_len 0 vars)
 
--- a state: how many transactions were accepted, the names that are registered, and the values
+-- a state: how many transactions were committed, the names that are registered, and the values
 abbrev pub state_text : ℕ → State → List ℕ
 state_text vars state =
     codes "state count=" ++ decimal state.count ++ codes " names=" ++ listed (registered state) ++ codes " values=" ++ listed (values_text vars state)
@@ -55,22 +52,22 @@ shown vars _ state = state_text vars state
 
 -- At this point of a run the entry may be answered by this text, and leads to that point: an event by the line of a reply
 -- that is allowed, `show` by the line of the present state.
-abbrev pub Answers : Setting → WorldModel → Entry → List ℕ → WorldModel → Type 0
-Answers set m (entry.Event it) text m' = (reply : Reply) × Allows set m it.event reply m' × (text ≡ line (line_of reply))
-Answers set m entry.Show text m' = (text ≡ line (shown set.vars m.session (present set.program m))) × (m' ≡ m)
+abbrev pub AnswersEntry : Setting → WorldModel → Entry → List ℕ → WorldModel → Type 0
+AnswersEntry set m (entry.Event it) text m' = (reply : Reply) × Allows set m it.event reply m' × (text ≡ line (line_of reply))
+AnswersEntry set m entry.Show text m' = (text ≡ line (shown set.vars m.session (present set.program m))) × (m' ≡ m)
 
 -- The entries may be answered by this text, one after another.
 abbrev pub Prints : Setting → WorldModel → List Entry → List ℕ → WorldModel → Type 0
 Prints set m [] text m' = (text ≡ []) × (m' ≡ m)
 Prints set m (e ∷ es) text m' =
-    (mid : WorldModel) × (first : List ℕ) × (rest : List ℕ) × Answers set m e first mid × Prints set mid es rest m' × (text ≡ first ++ rest)
+    (mid : WorldModel) × (first : List ℕ) × (rest : List ℕ) × AnswersEntry set m e first mid × Prints set mid es rest m' × (text ≡ first ++ rest)
 
 -- Whatever the closures mean, by their statement: from each point of a run that the old world is at, the entries may be
 -- answered by what was written meanwhile, and the new world is at the point that they lead to. It rests on the disk
 -- model, since an entry may open the device again.
 abbrev pub PlaysEntries : {D T S : Type 0} {d t s : _} → World D T S d t s → Option (List ℕ) → List Entry → World D T S d t s → Option (List ℕ) → Type 0
 PlaysEntries old before entries new after =
-    (program : Program) → Means old program → (m : WorldModel) → Represents program old m → (view_of new).keeps_model
+    (program : Program) → Means old program → (m : WorldModel) → Represents program old m → (world_view new).keeps_model
     → (m' : WorldModel) × (text : List ℕ) × Prints (setting_of old program) m entries text m' × Represents program new m' × Appends before after text
 
 -- A whole script on a store that was opened in this state, at that position: the line of the opening, and then what its

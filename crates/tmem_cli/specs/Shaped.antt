@@ -5,13 +5,13 @@ use Rattle.tmem_disk.specs.Disk.{DeviceView}
 use Rattle.tmem_core.specs.Program.{Program}
 use Rattle.tmem_invariants.specs.Meanings.{Meanings}
 use Rattle.tmem_invariants.specs.Chosen.{meaning_also}
-use Rattle.tmem_linear.specs.Sums.{is_within}
+use Rattle.tmem_linear.specs.Sums.{is_sum_within}
 use Rattle.tmem_linear.specs.declared.linear.Linear.{Linear}
 use Rattle.tmem_builtins.specs.Builtins.{builtin_steps}
 use Rattle.tmem_shape.specs.Shapes.{IsShapeText}
 use Rattle.tmem_shape.specs.declared.shape.Shape.{Shape}
-use Rattle.tmem_file.specs.FileView.{view_of}
-use Rattle.tmem_file.specs.Opening.{IsOpened}
+use Rattle.tmem_file.specs.FileView.{file_view}
+use Rattle.tmem_file.specs.Opening.{IsFreshlyOpened}
 use Rattle.tmem_file.specs.declared.disk.FileDisk.{FileDisk}
 use Rattle.tmem_init.specs.Content.{IsNewStore}
 use Rattle.tmem_serve.specs.Stores.{OpensAndServes}
@@ -27,7 +27,7 @@ always_in all = map (λ linear. linear.name) (filter (λ linear. linear.always) 
 -- what their names mean: that the sum is within the bounds
 abbrev pub meanings_of : List Linear → Meanings
 meanings_of [] = record { footprint = λ name. []; test = λ name values. true }
-meanings_of (linear ∷ others) = meaning_also linear.name linear.footprint.items (is_within linear.weights.items linear.least linear.most) (meanings_of others)
+meanings_of (linear ∷ others) = meaning_also linear.name linear.footprint.items (is_sum_within linear.weights.items linear.least linear.most) (meanings_of others)
 
 -- what they and the builtin steps bring to a store
 abbrev pub program_of : List Linear → Program
@@ -42,15 +42,15 @@ pub record IsStoreOf (text : List ℕ) (d : DeviceView) : Type 0 where
 
 -- a store was made of the shape of a text
 abbrev pub MakesStore : Type 0
-MakesStore = (text : List ℕ) × (made : FileDisk) × IsStoreOf text (view_of made)
+MakesStore = (text : List ℕ) × (made : FileDisk) × IsStoreOf text (file_view made)
 
 -- The text is that of a shape, and what the opening of a file found under it was served to the end of the input, of which no byte is left.
 pub record ServesShape (text : List ℕ) (unread rest before after : Option (List ℕ)) : Type 0 where
   pub shape : Shape
   pub is : IsShapeText shape text
   pub found : FileDisk
-  pub opened : IsOpened (view_of found)
-  pub served : OpensAndServes view_of (program_of shape.invariants.items) builtin_arities (always_in shape.invariants.items) shape.vars shape.slots shape.names.items found unread rest before after
+  pub opened : IsFreshlyOpened (file_view found)
+  pub served : OpensAndServes file_view (program_of shape.invariants.items) builtin_arities (always_in shape.invariants.items) shape.vars shape.slots shape.names.items found unread rest before after
   pub whole : IsAtEnd rest
 
 -- a store was served under the shape of a text

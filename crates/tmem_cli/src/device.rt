@@ -1,11 +1,11 @@
 //! The devices of stores: for scripts, and for threads that count.
 ghost use Rattle.std.specs.Prelude.{◌≡◌, ◌⊎◌, IfErr, IfOk};
 ghost use Rattle.tmem_disk.specs.Disk.{LeavesOnly};
-ghost use Rattle.tmem_disk.specs.SimParts.{view_of as memory_of};
-ghost use Rattle.tmem_record.specs.Layout.{end_place};
+ghost use Rattle.tmem_disk.specs.SimParts.{sim_view};
+ghost use Rattle.tmem_record.specs.Layout.{end_at};
 ghost use Rattle.tmem_effect.specs.State.{first_state};
-ghost use Rattle.tmem_journal.specs.Stands.{first_position, StandsFor};
-ghost use Rattle.tmem_file.specs.FileView.{view_of as file_of};
+ghost use Rattle.tmem_journal.specs.Contents.{first_position, ContentRepresents};
+ghost use Rattle.tmem_file.specs.FileView.{file_view};
 ghost use Rattle.tmem_cli.specs.Stored.{IsMade, IsFoundOrMade};
 
 use std::alloc::Global;
@@ -16,11 +16,11 @@ use tmem_fault::Fault;
 use tmem_file::{FileDisk, NewFile};
 use tmem_world::{Layout, format, formatted_is_store};
 
-/// A device in memory that was formatted: nothing accepted, every variable 0.
+/// A device in memory that was formatted: nothing committed, every variable 0.
 pub(crate) fn device_in_memory(alloc: Global, layout: Layout) -> Result<SimDisk, Fault>
-    ensures stands { IfOk result (λ disk. LeavesOnly (memory_of disk) (StandsFor layout.vars layout.slots first_position (first_state layout.vars))) }
-    ensures capacity { IfOk result (λ disk. (memory_of disk).capacity ≡ end_place layout.vars layout.slots) }
-    ensures failures { IfOk result (λ disk. (memory_of disk).failures ≡ 0) }
+    ensures stands { IfOk result (λ disk. LeavesOnly (sim_view disk) (ContentRepresents layout.vars layout.slots first_position (first_state layout.vars))) }
+    ensures capacity { IfOk result (λ disk. (sim_view disk).capacity ≡ end_at layout.vars layout.slots) }
+    ensures failures { IfOk result (λ disk. (sim_view disk).failures ≡ 0) }
     ensures refused { IfErr result (λ fault. (fault ≡ Fault.Memory) ⊎ (fault ≡ Fault.Device)) }
 {
     let mut disk = SimDisk::new(alloc, layout.end())?;
@@ -36,7 +36,7 @@ pub(crate) fn device_in_file<R: Files<File = File> + AllocGlobal>(
     layout: Layout,
 ) -> Result<(FileDisk, Option<Snapshot<FileDisk>>), Fault>
     ensures device { IfOk result (λ it. IsFoundOrMade layout.vars layout.slots it.1 it.0) }
-    ensures failures { IfOk result (λ it. (file_of it.0).failures ≡ 0) }
+    ensures failures { IfOk result (λ it. (file_view it.0).failures ≡ 0) }
     ensures refused { IfErr result (λ fault. (fault ≡ Fault.Memory) ⊎ (fault ≡ Fault.Device)) }
 {
     match fs::exists(rt, path) {
@@ -57,14 +57,14 @@ pub(crate) fn made_file<R: Files<File = File> + AllocGlobal>(
     layout: Layout,
 ) -> Result<(FileDisk, Snapshot<FileDisk>), Fault>
     ensures made { IfOk result (λ it. IsMade layout.vars layout.slots it.1.value it.0) }
-    ensures failures { IfOk result (λ it. (file_of it.0).failures ≡ 0) }
+    ensures failures { IfOk result (λ it. (file_view it.0).failures ≡ 0) }
     ensures refused { IfErr result (λ fault. (fault ≡ Fault.Memory) ⊎ (fault ≡ Fault.Device)) }
 {
     formatted_is_store::<FileDisk>();
     let mut new = NewFile::create(rt, path, layout.end())?;
     let zeros = Snapshot::of(&new.disk);
     match format(&mut new.disk, layout.vars, layout.slots) {
-        Ok(()) => Ok((new.place(rt)?, zeros)),
+        Ok(()) => Ok((new.give_name(rt)?, zeros)),
         Err(fault) => {
             new.discard(rt);
             Err(fault)

@@ -1,6 +1,6 @@
 //! Makes a store of the shape that a file has.
 ghost use Rattle.std.specs.Prelude.{OnOk, IfOk};
-ghost use Rattle.tmem_file.specs.FileView.{view_of};
+ghost use Rattle.tmem_file.specs.FileView.{file_view};
 ghost use Rattle.tmem_cli.specs.Shaped.{IsStoreOf, MakesStore};
 
 use crate::failure::StoreFailure;
@@ -32,7 +32,7 @@ fn make_of(
     text: &[u8],
     is_in_place: bool,
 ) -> Result<FileDisk, StoreFailure>
-    ensures { IfOk result (λ disk. IsStoreOf text.now (view_of disk)) }
+    ensures { IfOk result (λ disk. IsStoreOf text.now (file_view disk)) }
 {
     let shape = Shape::from_slice(rt.alloc(), text)?;
     let always = shape.always_names(rt.alloc())?;

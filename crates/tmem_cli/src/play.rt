@@ -4,7 +4,7 @@ ghost use Rattle.std.specs.Io.KnownBytes.{Appends};
 ghost use Rattle.tmem_builtins.specs.Invariants.{is_not_negative, add_to_hundred, are_ordered};
 ghost use Rattle.tmem_record.specs.Layout.{IsLayout};
 ghost use Rattle.tmem_script.specs.declared.failure.Failure.TheVariants.{Output, Refused};
-ghost use Rattle.tmem_world.specs.Represents.{AreMeant, KeepsSetting, WritesInStore, numbers_of, view_of};
+ghost use Rattle.tmem_world.specs.Represents.{AreMeantBy, KeepsSetting, WritesInStore, numbers_of, world_view};
 ghost use Rattle.tmem_cli.specs.Builtin.{builtin_program};
 ghost use Rattle.tmem_cli.specs.Chains.{PlaysEntriesOn, PlaysFirstOn};
 ghost use Rattle.tmem_cli.specs.Printed.{PlaysEntries};
@@ -21,7 +21,7 @@ use tmem_disk::Disk;
 use tmem_fault::Fault;
 use tmem_file::FileDisk;
 use tmem_invariants::Invariants;
-use tmem_journal::{refused_stands_for_none, spent_stands_at_last, stands_for_one};
+use tmem_journal::{refused_represents_none, represents_one, spent_is_at_last};
 use tmem_script::{Entry, Failure, ReplyLine, Script};
 use tmem_tree::StoredSteps;
 use tmem_world::{Layout, Reply, World};
@@ -113,7 +113,7 @@ fn play_with<
     requires none { device.old ≡ None }
     requires vars { T.vars table ≡ layout.vars }
     requires arities { S.arities steps ≡ 2 ∷ 2 ∷ 2 ∷ [] }
-    requires meant { AreMeant S.StoredSteps T.Invariants steps table (builtin_program layout.vars) }
+    requires meant { AreMeantBy S.StoredSteps T.Invariants steps table (builtin_program layout.vars) }
     ensures played { OnOk result (PlaysWhere (option_map (λ text. text.now) path.entry) device.new layout.vars layout.slots entries.items (W.contents out.old) (W.contents out.new)) }
     ensures failed { IfErr result (StopsWhere (option_map (λ text. text.now) path.entry) device.new layout.vars layout.slots entries.items) }
 
@@ -121,9 +121,9 @@ fn play_with<
     ensures withheld { IsSome path.entry → OnErr result (device.new ≡ None → out.new ≡ out.old) }
 {
     // what opening finds on a device that was formatted in memory is the first state, of version 2, and that is not refused
-    stands_for_one();
-    refused_stands_for_none();
-    spent_stands_at_last();
+    represents_one();
+    refused_represents_none();
+    spent_is_at_last();
     match path {
         None => {
             let disk = device_in_memory(rt.alloc(), layout)?;
@@ -153,7 +153,7 @@ pub fn play_on<D: Disk + Drop, T: Invariants + Drop, S: StoredSteps + Drop, W: W
 ) -> (D, Result<(), Failure>)
     requires vars { T.vars table ≡ layout.vars }
     requires arities { S.arities steps ≡ 2 ∷ 2 ∷ 2 ∷ [] }
-    requires meant { AreMeant S.StoredSteps T.Invariants steps table (builtin_program layout.vars) }
+    requires meant { AreMeantBy S.StoredSteps T.Invariants steps table (builtin_program layout.vars) }
     requires failures { (D.view disk).failures ≡ 0 }
     ensures played { OnOk result.1 (PlaysOver D.view layout.vars layout.slots entries.items disk result.0 (W.contents out.old) (W.contents out.new)) }
     ensures failed { IfErr result.1 (λ failure. StopsOver D.view layout.vars layout.slots entries.items disk result.0 failure ⊎ RefusesOver D.view layout.vars layout.slots disk result.0 failure) }
@@ -184,7 +184,7 @@ fn play_entries<D: Disk + Drop, T: Invariants + Drop, S: StoredSteps + Drop, W: 
     // The history of a chain of sessions goes on by the entries: by all of them, or by an initial part where the output failed.
     ensures chain { OnOk result (PlaysEntriesOn world.old entries.items world.new (Appends (W.contents out.old) (W.contents out.new))) }
     ensures stopped { OnErr result (PlaysFirstOn world.old entries.items world.new) }
-    ensures elsewhere { WritesInStore (numbers_of world.old) (view_of world.old) (view_of world.new) }
+    ensures elsewhere { WritesInStore (numbers_of world.old) (world_view world.old) (world_view world.new) }
     ensures kept { KeepsSetting world.old world.new }
 {
     for entry in entries {
@@ -204,7 +204,7 @@ fn play_entry<D: Disk + Drop, T: Invariants + Drop, S: StoredSteps + Drop, W: Wr
     ensures played { OnOk result (PlaysEntries world.old (W.contents out.old) (entry ∷ []) world.new (W.contents out.new)) }
     ensures failed { IfErr result (λ failure. failure ≡ Output) }
     ensures chain { PlaysEntriesOn world.old (entry ∷ []) world.new (λ text. OnOk result (Appends (W.contents out.old) (W.contents out.new) text)) }
-    ensures elsewhere { WritesInStore (numbers_of world.old) (view_of world.old) (view_of world.new) }
+    ensures elsewhere { WritesInStore (numbers_of world.old) (world_view world.old) (world_view world.new) }
     ensures kept { KeepsSetting world.old world.new }
 {
     match entry {

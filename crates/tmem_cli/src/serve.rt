@@ -1,7 +1,7 @@
 //! Serves a store over standard input and output.
 ghost use Rattle.std.specs.Prelude.{OnOk};
 ghost use Rattle.std.specs.Io.KnownBytes.{IsAtEnd};
-ghost use Rattle.tmem_file.specs.FileView.{view_of};
+ghost use Rattle.tmem_file.specs.FileView.{file_view};
 ghost use Rattle.tmem_serve.specs.Stores.{OpensAndServes};
 ghost use Rattle.tmem_cli.specs.Builtin.{builtin_arities};
 ghost use Rattle.tmem_cli.specs.Shaped.{ServesShape, ServesStore, always_in, program_of};
@@ -70,7 +70,7 @@ fn serve_on<I: Read, W: Write>(
     input: &mut I,
     out: &mut W,
 ) -> Result<(), StoreFailure>
-    ensures served { OnOk result (OpensAndServes view_of (program_of shape.invariants.items) builtin_arities (always_in shape.invariants.items) shape.vars shape.slots shape.names.items disk (I.remaining input.old) (I.remaining input.new) (W.contents out.old) (W.contents out.new)) }
+    ensures served { OnOk result (OpensAndServes file_view (program_of shape.invariants.items) builtin_arities (always_in shape.invariants.items) shape.vars shape.slots shape.names.items disk (I.remaining input.old) (I.remaining input.new) (W.contents out.old) (W.contents out.new)) }
     ensures whole { OnOk result (IsAtEnd (I.remaining input.new)) }
 {
     let alloc = rt.alloc();

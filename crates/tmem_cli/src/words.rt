@@ -6,8 +6,8 @@ ghost use Rattle.tmem_script.specs.Errors.{IsUnread};
 ghost use Rattle.tmem_script.specs.Scripts.{IsScriptText};
 ghost use Rattle.tmem_script.specs.Statuses.{status_of};
 ghost use Rattle.tmem_script.specs.declared.failure.Failure.TheVariants.{Output};
-ghost use Rattle.tmem_args.specs.CommandLine.{AreRefused, AsksToPlay, AsksToServe, IsRequest, disk_in, path_in};
-ghost use Rattle.tmem_cli.specs.Outcomes.{IsDone, IsStopped, HasNoScript, CountsUp, IsWhyNotCounted, IsWhyNotPlayed, IsWhyNotRead, IsWhyNotShown, IsWhyNotTimed, MayBeRead, PlaysRead, TimesJobs};
+ghost use Rattle.tmem_args.specs.CommandLine.{AreRefused, AsksToPlay, AsksToServe, IsHelpOrVersion, disk_in, path_in};
+ghost use Rattle.tmem_cli.specs.Outcomes.{IsDone, IsFailed, HasNoScript, CountsUp, IsWhyNotCounted, IsWhyNotPlayed, IsWhyNotRead, IsWhyNotShown, IsWhyNotTimed, MayBeRead, PlaysRead, TimesJobs};
 
 use crate::bench::run_bench;
 use crate::count::count_on;
@@ -40,7 +40,7 @@ pub fn run_words<R: Read, W: Write, E: Write>(
     err: &mut E,
 ) -> (u8, Option<Played>)
     ensures done { result.0 ≡ 0 → IsDone (map string_bytes words.items) (R.remaining input.old) (R.remaining input.new) result.1 (W.contents out.old) (W.contents out.new) }
-    ensures stopped { result.0 ≡ 1 → IsStopped (map string_bytes words.items) (R.remaining input.old) result.1 }
+    ensures stopped { result.0 ≡ 1 → IsFailed (map string_bytes words.items) (R.remaining input.old) result.1 }
     ensures no_script { result.0 ≡ 3 → HasNoScript (map string_bytes words.items) (R.remaining input.old) result.1 }
     ensures refused { AreRefused (map string_bytes words.items) → result.0 ≡ 2 }
     ensures most { result.0 ≤ 3 }
@@ -101,9 +101,9 @@ fn conclude_store<E: Write>(outcome: Result<(), StoreFailure>, err: &mut E) -> u
 /// Prints what the words are answered where nothing is to be done: what was asked for, or what is wrong with them.
 /// Answers the status.
 fn answer<W: Write, E: Write>(refusal: &clap::Error, out: &mut W, err: &mut E) -> u8
-    ensures request { result ≤ 1 → IsRequest (kind_of refusal.now) }
-    ensures given { IsRequest (kind_of refusal.now) → result ≤ 1 }
-    ensures refused { ¬ IsRequest (kind_of refusal.now) → result ≡ 2 }
+    ensures request { result ≤ 1 → IsHelpOrVersion (kind_of refusal.now) }
+    ensures given { IsHelpOrVersion (kind_of refusal.now) → result ≤ 1 }
+    ensures refused { ¬ IsHelpOrVersion (kind_of refusal.now) → result ≡ 2 }
     ensures most { result ≤ 2 }
     ensures untold { result ≡ 0 → err.new ≡ err.old }
     ensures unprinted { result ≡ 2 → out.new ≡ out.old }

@@ -1,4 +1,4 @@
--- A state as the fold of what was accepted, of which the last ones wait.
+-- A state as the fold of what was committed, of which the last ones wait.
 use Rattle.std.proofs.Common.{◌≡◌, ℕ, ◌+◌, ◌-◌, List, [], ◌∷◌, ◌++◌, length, drop, refl, sym, ap, ◌∙◌, subst, arith}
 use Rattle.std.proofs.lemmas.List.{drop-append-le, drop-drop}
 use Rattle.std.proofs.Math.Seq.{drop-nil}
@@ -8,7 +8,7 @@ use Rattle.tmem_effect.specs.declared.effect.Effect.{Effect}
 use Rattle.tmem_effect.proofs.Laws.{fold-push, count-fold, StaysWithin-push}
 use Rattle.tmem_core.specs.History.{IsFolded}
 
--- nothing was accepted
+-- nothing was committed
 pub folded-none : (s : State) → IsWithin s → ∥ IsFolded s [] s.count [] s ∥₁
 folded-none s within = ∣ record { folds = refl; within = within; late = omega arith; waits = drop-nil (s.count - s.count) } ∣₁
 

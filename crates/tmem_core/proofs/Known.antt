@@ -13,8 +13,8 @@ use Rattle.tmem_effect.specs.State.{State, apply}
 use Rattle.tmem_effect.specs.declared.effect.Effect.{Effect}
 use Rattle.tmem_effect.proofs.Laws.{All-without_names, AreAscending-apply, has_name-with_names, AreDistinct-ascending}
 use Rattle.tmem_invariants.specs.Meanings.{Meanings, AllHold, first_false, holds}
-use Rattle.tmem_invariants.specs.Places.{ArePlacesOf}
-use Rattle.tmem_invariants.proofs.Laws.{All-at_name, ArePlacesOf-join, at_place, Contains-from_has_name, IsSound-from_none}
+use Rattle.tmem_invariants.specs.Indices.{AreIndicesOf}
+use Rattle.tmem_invariants.proofs.Laws.{All-at_name, AreIndicesOf-join, at_index, Contains-from_has_name, IsSound-from_none}
 
 -- each of these names is among others
 abbrev pub AreAmong : List (List ℕ) → List (List ℕ) → Type 0
@@ -40,7 +40,7 @@ few-AreAmong names ns up among =
 asked : (ns ms : List (List ℕ)) → All (λ name. IsTrue (has_name ns name || has_name ms name)) (with_names ns ms)
 asked ns ms k d below =
     let name = get_or (with_names ns ms) k d in
-    or_comm (has_name ns name) (has_name ms name) ∙ sym (has_name-with_names ns ms name) ∙ at_place (with_names ns ms) k d below
+    or_comm (has_name ns name) (has_name ms name) ∙ sym (has_name-with_names ns ms name) ∙ at_index (with_names ns ms) k d below
 
 -- so they are all in the table, where both are
 pub AreAmong-with_names : (names ns ms : List (List ℕ)) → AreAmong names ns → AreAmong names ms → AreAmong names (with_names ns ms)
@@ -76,7 +76,7 @@ module _ (names : List (List ℕ)) (s : State) (e : Effect) where
   pub few-apply : AreAscending s.names → AreAmong names s.names → AreAmong names e.names → length names ≤ 64 → length (apply s e).names ≤ 64
   few-apply up first second few = omega (arith, few, few-AreAmong names (apply s e).names (AreAscending-apply s e up) (AreAmong-apply first second))
 
-  -- their places are those of what is kept and of what is proposed
-  pub places-apply : (a b : ℕ) → ArePlacesOf kept names a → ArePlacesOf e.names names b → ArePlacesOf (apply s e).names names (bit_or a b)
-  places-apply a b are_kept are_proposed =
-      ArePlacesOf-join kept e.names (apply s e).names names a b (λ name. has_name-with_names kept e.names name ∙ or_comm (has_name e.names name) (has_name kept name)) are_kept are_proposed
+  -- their indices are those of what is kept and of what is proposed
+  pub indices-apply : (a b : ℕ) → AreIndicesOf kept names a → AreIndicesOf e.names names b → AreIndicesOf (apply s e).names names (bit_or a b)
+  indices-apply a b are_kept are_proposed =
+      AreIndicesOf-join kept e.names (apply s e).names names a b (λ name. has_name-with_names kept e.names name ∙ or_comm (has_name e.names name) (has_name kept name)) are_kept are_proposed

@@ -6,7 +6,7 @@ pub mod NamesLeft
 pub mod SameRuns
 pub mod SerialLaws
 pub mod Opens
-pub mod Places
+pub mod Indices
 pub mod Present
 pub mod Probed
 pub mod Windows

@@ -7,7 +7,7 @@ use Rattle.tmem_fault.specs.declared.fault.Fault.TheVariants.{Missing, Broken}
 use Rattle.tmem_effect.specs.State.{State}
 use Rattle.tmem_invariants.specs.Meanings.{Meanings, IsSound, first_false}
 use Rattle.tmem_invariants.specs.TableNames.{first_missing, has_name}
-use Rattle.tmem_invariants.proofs.Laws.{All-there, at_place, IsSound-from_none, first_false-AllHold}
+use Rattle.tmem_invariants.proofs.Laws.{All-there, at_index, IsSound-from_none, first_false-AllHold}
 use Rattle.tmem_core.specs.Opening.{fault_against}
 use Rattle.tmem_core.proofs.Known.{AreAmong}
 
@@ -28,7 +28,7 @@ module _ (names : List (List ℕ)) (m : Meanings) (s : State) where
   opens none =
       let both = parts (first_missing names s.names) (first_false m names s.names [] s.values) none in
       IsSound-from_none m names s.names [] s.names s.values (All-there names s.names both.0)
-      (λ k d below. or_comm (has_name s.names _) false ∙ at_place s.names k d below) both.1
+      (λ k d below. or_comm (has_name s.names _) false ∙ at_index s.names k d below) both.1
     where
       parts : (missing false_one : Option (List ℕ)) → option_or (option_map Missing missing) (option_map Broken false_one) ≡ None → (missing ≡ None) × (false_one ≡ None)
       parts None None is = (refl, refl)

@@ -15,14 +15,14 @@ use Rattle.tmem_tentative.specs.declared.attempt.Ending.TheVariants as ended
 use Rattle.tmem_tree.specs.declared.settled.Settled.{Settled}
 use Rattle.tmem_tree.specs.declared.settled.Settled.TheVariants.{Committed, Seen}
 use Rattle.tmem_core.specs.Program.{Program, IsProgramOf}
-use Rattle.tmem_core.specs.Held.{CoreView, view_of, state_of, durable_of, is_shut_of, table_of, accepting}
+use Rattle.tmem_core.specs.Held.{CoreView, core_view, core_state, durable_of, is_shut_of, core_table, committing}
 use Rattle.tmem_core.specs.Settling.{Settles}
 use Rattle.tmem_core.specs.Decisions.{answer_of}
 use Rattle.tmem_core.specs.declared.decision.Decision.{Decision}
 use Rattle.tmem_core.specs.declared.core_state.Core.{Core}
 use Rattle.tmem_invariants.specs.declared.named.Invariants.{Ghosts}
-use Rattle.tmem_core.specs.Verdict.{map_of, first_broken, unless_broken, verdict, verdict_on, verdict_normal, effect_on, accepted}
-use Rattle.tmem_core.specs.SettleAnswer.{is_stale, sound_answer, unless_refused, normal_answer, ending_answer, settle_answer, allowed, judged, IsAdded, IsRefusal, TellsOneOf, accepted_by}
+use Rattle.tmem_core.specs.Verdict.{map_of, first_broken, unless_broken, verdict, verdict_on, verdict_normal, effect_on, committed}
+use Rattle.tmem_core.specs.SettleAnswer.{is_stale, sound_answer, unless_refused, normal_answer, ending_answer, settle_answer, allowed, judged, IsAdded, IsRefusal, TellsOneOf, committed_by}
 use Rattle.tmem_core.proofs.Present.{agrees}
 use Rattle.tmem_core.proofs.Probed.{has_name-find}
 
@@ -44,10 +44,10 @@ allows_normal p s durable e registers = on (first_broken p s e) where
   on (Some name) = refl
   on None = allows_sound s durable e registers
 
--- what is allowed accepts what the verdict does
-adds_allowed : (v : Settled) (durable : ℕ) (e : Effect) → IfOk (allowed v durable) (λ settled. accepted settled e ≡ accepted v e)
+-- what is allowed commits what the verdict does
+adds_allowed : (v : Settled) (durable : ℕ) (e : Effect) → IfOk (allowed v durable) (λ settled. committed settled e ≡ committed v e)
 adds_allowed (Committed number registers) durable e = on (number - durable == 256) (number == 18446744073709551615) where
-  on : (full spent : Bool) → IfOk (cond full (Err fault.Full) (cond spent (Err fault.Spent) (Ok (Committed number registers)))) (λ settled. accepted settled e ≡ e ∷ [])
+  on : (full spent : Bool) → IfOk (cond full (Err fault.Full) (cond spent (Err fault.Spent) (Ok (Committed number registers)))) (λ settled. committed settled e ≡ e ∷ [])
   on true spent = tt
   on false true = tt
   on false false = refl
@@ -56,7 +56,7 @@ adds_allowed _ durable e = refl
 -- what an answer is to a run that ended so
 abbrev JudgesRun : Program → State → ℕ → Effect → Result Settled Fault → run.RunResult → Type 0
 JudgesRun p s durable own answer e =
-    (answer ≡ allowed (verdict_on p s e) durable) × IfOk answer (λ settled. accepted settled own ≡ accepted (verdict_on p s e) (effect_on e))
+    (answer ≡ allowed (verdict_on p s e) durable) × IfOk answer (λ settled. committed settled own ≡ committed (verdict_on p s e) (effect_on e))
 
 judges_ending : (p : Program) (e : run.RunResult) (s : State) (durable : ℕ) (a : Attempt) → EndsAs e a → JudgesRun p s durable a.effect (ending_answer p a.ending s durable a.effect a.registers) e
 judges_ending p (run.Normal view) s durable a ends =
@@ -64,12 +64,12 @@ judges_ending p (run.Normal view) s durable a ends =
     subst (λ x. JudgesRun p s durable a.effect (ending_answer p x s durable a.effect a.registers) (run.Normal view)) (sym ends.0)
     (subst (λ (rs : List ℤ). JudgesRun p s durable a.effect (normal_answer p s durable a.effect rs) (run.Normal view)) (sym ends.1)
     (subst (λ (e : Effect). JudgesRun p s durable e (normal_answer p s durable e view.registers) (run.Normal view)) (sym ends.2)
-    (allows, subst (λ x. IfOk x (λ settled. accepted settled view.effect ≡ accepted (verdict_normal p s view.effect view.registers) view.effect)) (sym allows) (adds_allowed (verdict_normal p s view.effect view.registers) durable view.effect))))
+    (allows, subst (λ x. IfOk x (λ settled. committed settled view.effect ≡ committed (verdict_normal p s view.effect view.registers) view.effect)) (sym allows) (adds_allowed (verdict_normal p s view.effect view.registers) durable view.effect))))
 judges_ending p run.Retried s durable a ends = subst (λ x. JudgesRun p s durable a.effect (ending_answer p x s durable a.effect a.registers) run.Retried) (sym ends.0) (refl, refl)
 judges_ending p (run.Aborted code) s durable a ends = subst (λ x. JudgesRun p s durable a.effect (ending_answer p x s durable a.effect a.registers) (run.Aborted code)) (sym ends.0) (refl, refl)
 judges_ending p (run.Broken name) s durable a ends = subst (λ x. JudgesRun p s durable a.effect (ending_answer p x s durable a.effect a.registers) (run.Broken name)) (sym ends.0) (refl, refl)
 
--- where no value that was read differs, the answer by the ending is the verdict's, and it accepts what the plan adds
+-- where no value that was read differs, the answer by the ending is the verdict's, and it commits what the plan adds
 judges_attempt : (p : Program) (tx : Tx) (s : State) (durable : ℕ) (a : Attempt) → is_stale s a.reads.entries ≡ false → IsRight p.steps p.tests tx a
     → JudgesRun p s durable a.effect (ending_answer p a.ending s durable a.effect a.registers) (run p.steps p.tests tx (start (map_of s)))
 judges_attempt p tx s durable a fresh right = judges_ending p (run p.steps p.tests tx (start (map_of s))) s durable a (right.ends (map_of s) (agrees s a.reads.entries fresh))
@@ -109,27 +109,27 @@ TellsOneOf-answer p shut s durable a known =
     on false true answer tells = tt
     on false false answer tells = tells
 
--- to accept nothing changes nothing
-pub accepting-none : {T : Type 0} (v : CoreView T) → v ≡ accepting [] v
-accepting-none v = rw (append-nil v.history, append-nil v.waiting)
+-- to commit nothing changes nothing
+pub committing-none : {T : Type 0} (v : CoreView T) → v ≡ committing [] v
+committing-none v = rw (append-nil v.history, append-nil v.waiting)
 
 module _ {T : Type 0} {t : Ghosts T} (old new : Core T t) (a : Attempt) where
   -- an attempt is settled by its ending, where the core runs and no value that was read differs
-  pub settles : (x : Result Settled Fault) → is_shut_of old ≡ false → is_stale (state_of old) a.reads.entries ≡ false
-      → ((p : Program) → IsProgramOf t (table_of old) p → x ≡ ending_answer p a.ending (state_of old) (durable_of old) a.effect a.registers)
-      → IfErr x IsRefusal → view_of new ≡ accepting (accepted_by x a.effect) (view_of old) → Settles old new a x
+  pub settles : (x : Result Settled Fault) → is_shut_of old ≡ false → is_stale (core_state old) a.reads.entries ≡ false
+      → ((p : Program) → IsProgramOf t (core_table old) p → x ≡ ending_answer p a.ending (core_state old) (durable_of old) a.effect a.registers)
+      → IfErr x IsRefusal → core_view new ≡ committing (committed_by x a.effect) (core_view old) → Settles old new a x
   settles x runs fresh by_ending refused view = record {
-    answer = λ p are. by_ending p are ∙ sym (running (λ b. cond b (Err fault.Closed) (cond (is_stale (state_of old) a.reads.entries) (Err fault.Conflict) (by_its_ending p)))
+    answer = λ p are. by_ending p are ∙ sym (running (λ b. cond b (Err fault.Closed) (cond (is_stale (core_state old) a.reads.entries) (Err fault.Conflict) (by_its_ending p)))
         ∙ ap (λ b. cond b (Err fault.Conflict) (by_its_ending p)) fresh);
-    verdict = λ p tx are right. by_ending p are ∙ (judges_attempt p tx (state_of old) (durable_of old) a fresh right).0
-        ∙ sym (running (λ b. judged b (state_of old) (durable_of old) a.reads.entries (verdict p tx (state_of old)))
-        ∙ ap (λ b. cond b (Err fault.Conflict) (allowed (verdict p tx (state_of old)) (durable_of old))) fresh);
-    added = λ p tx are right. subst (IsAdded p tx (state_of old) a) (sym (by_ending p are)) (judges_attempt p tx (state_of old) (durable_of old) a fresh right).1;
+    verdict = λ p tx are right. by_ending p are ∙ (judges_attempt p tx (core_state old) (durable_of old) a fresh right).0
+        ∙ sym (running (λ b. judged b (core_state old) (durable_of old) a.reads.entries (verdict p tx (core_state old)))
+        ∙ ap (λ b. cond b (Err fault.Conflict) (allowed (verdict p tx (core_state old)) (durable_of old))) fresh);
+    added = λ p tx are right. subst (IsAdded p tx (core_state old) a) (sym (by_ending p are)) (judges_attempt p tx (core_state old) (durable_of old) a fresh right).1;
     refused = refused;
     view = view;
   } where
     by_its_ending : Program → Result Settled Fault
-    by_its_ending p = ending_answer p a.ending (state_of old) (durable_of old) a.effect a.registers
+    by_its_ending p = ending_answer p a.ending (core_state old) (durable_of old) a.effect a.registers
 
     running : (f : Bool → Result Settled Fault) → f (is_shut_of old) ≡ f false
     running f = ap f runs

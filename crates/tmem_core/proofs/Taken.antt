@@ -48,7 +48,7 @@ module _ (waits : List Effect) where
             | inr high ↦ absurd (full (subst HasRoom so_far.first (earlier (length taken) i high (omega (arith, below)) room)))
           ]
 
--- what is left of a list behind those that were taken from a place on
+-- what is left of a list behind those that were taken from an index on
 pub rest_of : (all taken : List Effect) (k n : ℕ) → IsTaken (drop k all) taken → n ≡ k + length taken → drop k all ≡ taken ++ drop n all
 rest_of all taken k n is same =
     sym (take-append-drop (length taken) (drop k all)) ∙ ap (λ es. es ++ drop (length taken) (drop k all)) is.first

@@ -1,4 +1,4 @@
--- What was accepted by one program is so by one that follows on it.
+-- What was committed by one program is so by one that follows on it.
 use Rattle.std.proofs.Common.{◌≡◌, ℕ, ℤ, Bool, ◌||◌, ◌&&◌, not, true, false, bytes_eq, List, [], ◌∷◌, ◌++◌, flat_map, get_or, All, IsTrue, Option, Some, None, refl, sym, ap, ◌∙◌, subst}
 use Rattle.std.proofs.lemmas.List.Concat.{flat_map-cons}
 use Rattle.std.proofs.lemmas.List.Folds.{list_any-append}
@@ -16,10 +16,10 @@ use Rattle.tmem_tree.specs.declared.settled.Settled.TheVariants.{Committed, Seen
 use Rattle.tmem_invariants.specs.Meanings.{IsSound, values_at, holds}
 use Rattle.tmem_invariants.proofs.Laws.{All-at_name, first_false-none, holds_from_none}
 use Rattle.tmem_core.specs.Program.{Program}
-use Rattle.tmem_core.specs.Verdict.{map_of, first_broken, unless_broken, verdict_on, verdict, effect_on, effect_of, accepted, state_after, serial_state, serial_effects, IsCommitted, AreCommitted}
+use Rattle.tmem_core.specs.Verdict.{map_of, first_broken, unless_broken, verdict_on, verdict, effect_on, effect_of, committed, state_after, serial_state, serial_effects, IsCommitted, AreCommitted}
 use Rattle.tmem_core.specs.Versions.{MeansAs, StaysAs, Follows, names_tested, names_left}
 use Rattle.tmem_core.proofs.SameRuns.{AskAlike, first_alike, rest_alike, same_run}
-use Rattle.tmem_core.proofs.SerialLaws.{accepted_of-committed, state_after-committed}
+use Rattle.tmem_core.proofs.SerialLaws.{committed_of-one, state_after-committed}
 
 -- what is committed breaks nothing
 none_broken : (broken : Option (List ℕ)) (v : Settled) → IsCommitted (unless_broken broken v) → broken ≡ None
@@ -99,13 +99,13 @@ module _ (p q : Program) where
         let e = effect_of p tx s in
         let more = names_added p next txs in
         let is = state_after-committed p s tx are.0 in
-        let added : names_added p s (tx ∷ txs) ≡ e.names ++ more = ap (λ (es : List Effect). flat_map (λ (x : Effect). x.names) (es ++ serial_effects p next txs)) (accepted_of-committed p s tx are.0) ∙ flat_map-cons (λ (x : Effect). x.names) e (serial_effects p next txs) in
+        let added : names_added p s (tx ∷ txs) ≡ e.names ++ more = ap (λ (es : List Effect). flat_map (λ (x : Effect). x.names) (es ++ serial_effects p next txs)) (committed_of-one p s tx are.0) ∙ flat_map-cons (λ (x : Effect). x.names) e (serial_effects p next txs) in
         let all : (name : List ℕ) → has_name (names_added p s (tx ∷ txs)) name ≡ (has_name e.names name || has_name more name) =
         (λ name. ap (λ ns. has_name ns name) added ∙ list_any-append (λ n. bytes_eq n name) e.names more) in
         let run_same = same_result s tx (first_alike p.tests q.tests (asks p.steps p.tests tx (start (map_of s))) (names_tested p next txs) alike) in
         let verdicts = same_verdict s tx are.0 (λ name here. stays name (ap (λ b. has_name s.names name || b) (all name) ∙ among_first (has_name s.names name) (has_name e.names name) (has_name more name) here)) run_same in
         let same : state_after q s tx ≡ next =
-        ap (λ v. fold s (accepted v (effect_of q tx s))) verdicts ∙ ap (λ (r : RunResult). fold s (accepted (verdict p tx s) (effect_on r))) run_same in
+        ap (λ v. fold s (committed v (effect_of q tx s))) verdicts ∙ ap (λ (r : RunResult). fold s (committed (verdict p tx s) (effect_on r))) run_same in
         let later : (name : List ℕ) → (has_name next.names name || has_name more name) ≡ true → StaysAs p q name =
         (λ name there. stays name (ap (λ b. has_name s.names name || b) (all name) ∙ among_rest (has_name s.names name) (has_name e.names name) (has_name more name) (has_name e.retired name)
         (ap (λ b. b || has_name more name) (sym (has_name-apply s e name) ∙ ap (λ (x : State). has_name x.names name) (sym is)) ∙ there))) in

@@ -5,7 +5,7 @@ use Rattle.tmem_effect.specs.declared.effect.Effect.{Effect}
 use Rattle.tmem_tree.specs.declared.settled.Settled.{Settled}
 use Rattle.tmem_tree.specs.declared.settled.Settled.TheVariants as settled
 use Rattle.tmem_tentative.specs.declared.attempt.Attempt.{Attempt}
-use Rattle.tmem_core.specs.SettleAnswer.{accepted_by}
+use Rattle.tmem_core.specs.SettleAnswer.{committed_by}
 use Rattle.tmem_core.specs.declared.decision.Decision.{Decision}
 use Rattle.tmem_core.specs.declared.decision.Decision.TheVariants.{Committed, Seen, Retry, Aborted, Refused}
 
@@ -22,11 +22,11 @@ abbrev pub answer_of : Result Decision Fault → List ℤ → Result Settled Fau
 answer_of (Ok decision) registers = Ok (settled_of decision registers)
 answer_of (Err f) registers = Err f
 
--- where the attempt asks to be run again, so many were accepted
+-- where the attempt asks to be run again, so many were committed
 abbrev pub RetriesAt : ℕ → Result Decision Fault → Type 0
 RetriesAt count (Ok (Retry at)) = at ≡ count
 RetriesAt count _ = Unit {0}
 
--- the effects that are accepted of an attempt that is answered so: one or none
+-- the effects that are committed of an attempt that is answered so: one or none
 abbrev pub taken_by : Result Decision Fault → Attempt → List Effect
-taken_by decision a = accepted_by (answer_of decision a.registers) a.effect
+taken_by decision a = committed_by (answer_of decision a.registers) a.effect

@@ -1,11 +1,11 @@
--- The effects that a core accepted, and the state that they make.
+-- The effects that a core committed, and the state that they make.
 use Rattle.std.specs.Prelude.{◌≡◌, ◌≤◌, ◌-◌, ◌++◌, ◌∷◌, [], ℕ, List, drop}
 use Rattle.tmem_effect.specs.State.{State, fold, StaysWithin}
 use Rattle.tmem_effect.specs.declared.effect.Effect.{Effect}
 use Rattle.tmem_core.specs.declared.history.History.{History}
 use Rattle.tmem_core.specs.declared.history.History.TheVariants.{Start, After'}
 
--- the accepted effects, the oldest first
+-- the committed effects, the oldest first
 abbrev pub effects_of : History → List Effect
 effects_of Start = []
 effects_of (After' effect shape earlier) = effects_of earlier ++ effect.value ∷ []

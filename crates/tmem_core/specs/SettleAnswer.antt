@@ -1,5 +1,5 @@
--- What settling an attempt answers, and what it accepts.
-use Rattle.std.specs.Prelude.{◌≡◌, ⊤, ◌-◌, ℕ, ℤ, Bool, true, not, ◌==◌, List, [], Option, Some, None, Result, Ok, Err, IfOk, if◌then◌else◌}
+-- What settling an attempt answers, and what it commits.
+use Rattle.std.specs.Prelude.{◌≡◌, ⊤, ◌-◌, ◌^◌, ℕ, ℤ, Bool, true, not, ◌==◌, List, [], Option, Some, None, Result, Ok, Err, IfOk, if◌then◌else◌}
 use Rattle.std.specs.List.{list_any}
 use Rattle.std.specs.Ordering.{int_eq}
 use Rattle.tmem_fault.specs.declared.fault.Fault.{Fault}
@@ -14,18 +14,18 @@ use Rattle.tmem_tentative.specs.declared.attempt.Ending.TheVariants as ended
 use Rattle.tmem_tree.specs.declared.settled.Settled.{Settled}
 use Rattle.tmem_tree.specs.declared.settled.Settled.TheVariants.{Committed, Seen, Retry, Aborted, Refused}
 use Rattle.tmem_core.specs.Program.{Program}
-use Rattle.tmem_core.specs.Verdict.{map_of, first_broken, accepted, accepted_of}
+use Rattle.tmem_core.specs.Verdict.{map_of, first_broken, committed, committed_of}
 
 -- some value that was read is not the present one
 abbrev pub is_stale : State → List (ℕ × ℤ) → Bool
 is_stale s reads = list_any (λ (r : ℕ × ℤ). not (int_eq (map_of s r.0) r.1)) reads
 
--- the answer to an effect that breaks no invariant: at most 256 may wait, and no count is greater than 18446744073709551615
+-- the answer to an effect that breaks no invariant: at most 256 may wait, and a count stays below 2 ^ 64
 abbrev pub sound_answer : State → ℕ → Effect → List ℤ → Result Settled Fault
 sound_answer s durable e registers =
     if is_empty e then Ok (Seen s.count registers)
-    else if s.count - durable == 256 then Err fault.Full
-    else if s.count == 18446744073709551615 then Err fault.Spent
+    else if s.count - durable == 2 ^ 8 then Err fault.Full
+    else if s.count == 2 ^ 64 - 1 then Err fault.Spent
     else Ok (Committed s.count registers)
 
 -- refused with a broken name, if there is one
@@ -64,16 +64,16 @@ IsRefusal fault.Full = Unit {0}
 IsRefusal fault.Spent = Unit {0}
 IsRefusal _ = ⊥
 
--- the effects that an answer accepts: one or none
-abbrev pub accepted_by : Result Settled Fault → Effect → List Effect
-accepted_by (Ok settled) e = accepted settled e
-accepted_by (Err f) e = []
+-- the effects that an answer commits: one or none
+abbrev pub committed_by : Result Settled Fault → Effect → List Effect
+committed_by (Ok settled) e = committed settled e
+committed_by (Err f) e = []
 
 -- a verdict as an answer, where so many are known durable: to commit takes room and a greater count
 abbrev pub allowed : Settled → ℕ → Result Settled Fault
 allowed (Committed number registers) durable =
-    if number - durable == 256 then Err fault.Full
-    else if number == 18446744073709551615 then Err fault.Spent
+    if number - durable == 2 ^ 8 then Err fault.Full
+    else if number == 2 ^ 64 - 1 then Err fault.Spent
     else Ok (Committed number registers)
 allowed v durable = Ok v
 
@@ -84,6 +84,6 @@ judged shut s durable reads v =
     else if is_stale s reads then Err fault.Conflict
     else allowed v durable
 
--- what an answer accepts of an attempt is what the plan adds to the state
+-- what an answer commits of an attempt is what the plan adds to the state
 abbrev pub IsAdded : Program → Tx → State → Attempt → Result Settled Fault → Type 0
-IsAdded p tx s a answer = IfOk answer (λ settled. accepted settled a.effect ≡ accepted_of p tx s)
+IsAdded p tx s a answer = IfOk answer (λ settled. committed settled a.effect ≡ committed_of p tx s)

@@ -1,4 +1,4 @@
--- What a plan is answered on a state, and the serial order of the plans that are accepted.
+-- What a plan is answered on a state, and the serial order of the plans that are committed.
 use Rattle.std.specs.Prelude.{ℕ, ℤ, pos, List, [], ◌∷◌, ◌++◌, Option, Some, None, slice_index_or, if◌then◌else◌}
 use Rattle.tmem_effect.specs.Names.{without_names}
 use Rattle.tmem_effect.specs.State.{State, no_effect, is_empty, apply, fold}
@@ -25,7 +25,7 @@ abbrev pub unless_broken : Option (List ℕ) → Settled → Settled
 unless_broken (Some name) v = Refused name
 unless_broken None v = v
 
--- the answer to a run that ended normally: what it changes is accepted under the count of those before it, where every
+-- the answer to a run that ended normally: what it changes is committed under the count of those before it, where every
 -- invariant is true of the new map
 abbrev pub verdict_normal : Program → State → Effect → List ℤ → Settled
 verdict_normal p s e registers =
@@ -53,18 +53,18 @@ effect_on _ = no_effect
 abbrev pub effect_of : Program → Tx → State → Effect
 effect_of p tx s = effect_on (run p.steps p.tests tx (start (map_of s)))
 
--- what an answer accepts: only Committed accepts the effect
-abbrev pub accepted : Settled → Effect → List Effect
-accepted (Committed number registers) e = e ∷ []
-accepted _ e = []
+-- what an answer commits: only Committed commits the effect
+abbrev pub committed : Settled → Effect → List Effect
+committed (Committed number registers) e = e ∷ []
+committed _ e = []
 
--- what a plan adds to the accepted effects
-abbrev pub accepted_of : Program → Tx → State → List Effect
-accepted_of p tx s = accepted (verdict p tx s) (effect_of p tx s)
+-- what a plan adds to the committed effects
+abbrev pub committed_of : Program → Tx → State → List Effect
+committed_of p tx s = committed (verdict p tx s) (effect_of p tx s)
 
 -- the state after a plan
 abbrev pub state_after : Program → State → Tx → State
-state_after p s tx = fold s (accepted_of p tx s)
+state_after p s tx = fold s (committed_of p tx s)
 
 -- the verdicts and the states of these plans, one after another
 abbrev pub serial : Program → State → List Tx → List (Settled × State)
@@ -83,14 +83,14 @@ serial_state p s txs = last_state s (serial p s txs)
 -- the effects that these plans add, in order
 abbrev pub serial_effects : Program → State → List Tx → List Effect
 serial_effects p s [] = []
-serial_effects p s (tx ∷ txs) = accepted_of p tx s ++ serial_effects p (state_after p s tx) txs
+serial_effects p s (tx ∷ txs) = committed_of p tx s ++ serial_effects p (state_after p s tx) txs
 
--- it is accepted
+-- it is committed
 abbrev pub IsCommitted : Settled → Type 0
 IsCommitted (Committed number registers) = Unit {0}
 IsCommitted _ = ⊥
 
--- each of these plans is accepted, on the state after those before it
+-- each of these plans is committed, on the state after those before it
 abbrev pub AreCommitted : Program → State → List Tx → Type 0
 AreCommitted p s [] = Unit {0}
 AreCommitted p s (tx ∷ txs) = IsCommitted (verdict p tx s) × AreCommitted p (state_after p s tx) txs

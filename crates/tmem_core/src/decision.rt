@@ -8,11 +8,11 @@ use tmem_tree::{REGISTERS, Settled};
 /// What an attempt is answered. The registers that go with it are those of the attempt: they are not copied, so this is small.
 #[derive(Clone, Copy, Debug, PartialEq, Eq)]
 pub enum Decision {
-    /// It was accepted, as the one of this number.
+    /// It was committed, as the one of this number.
     Committed(u64),
-    /// It changes nothing. It was settled after so many accepted ones.
+    /// It changes nothing. It was settled after so many committed ones.
     Seen(u64),
-    /// It asks to be run again once some value that it read has changed. So many were accepted by then.
+    /// It asks to be run again once some value that it read has changed. So many were committed by then.
     Retry(u64),
     /// It gave up, with this code.
     Aborted(u16),

@@ -1,10 +1,10 @@
-// What was accepted since a core was made. It takes no memory: its values are seen by clauses alone.
+// What was committed since a core was made. It takes no memory: its values are seen by clauses alone.
 ghost use Rattle.std.specs.Prelude.{◌≡◌, [], ◌∷◌, ◌++◌};
 
 use std::snapshot::Snapshot;
 use tmem_effect::Effect;
 
-/// The accepted effects, each as it was when it was accepted.
+/// The committed effects, each as it was when it was committed.
 #[derive(Drop)]
 pub(crate) enum History {
     Start,

@@ -3,15 +3,15 @@ ghost use Rattle.std.specs.Prelude.{◌≡◌, ◌≤◌, ◌<◌, pos, List, �
 ghost use Rattle.tmem_effect.specs.Names.{without_names};
 ghost use Rattle.tmem_effect.specs.State.{written};
 ghost use Rattle.tmem_invariants.specs.Meanings.{Meanings, AllHold, first_false, value_of};
-ghost use Rattle.tmem_invariants.specs.Places.{ArePlacesOf};
+ghost use Rattle.tmem_invariants.specs.Indices.{AreIndicesOf};
 ghost use Rattle.tmem_invariants.specs.TableNames.{name_at};
 
 use tmem_effect::{Effect, MAX_WRITES};
 use tmem_invariants::Invariants;
 use tmem_state::State;
 
-/// The place, in the table's order, of the first name that is false of the map that an effect would make, of the registered
-/// names that it does not retire and of those that it proposes: both are given as the sets of their places. Where it proposes
+/// The index, in the table's order, of the first name that is false of the map that an effect would make, of the registered
+/// names that it does not retire and of those that it proposes: both are given as the sets of their indices. Where it proposes
 /// none, and none of the others is over a variable that it writes, nothing is tested. Otherwise the effect is written into the
 /// state, and the old values, which stand in a buffer meanwhile, are put back after the test.
 pub(crate) fn first_false<T: Invariants>(
@@ -24,9 +24,9 @@ pub(crate) fn first_false<T: Invariants>(
 ) -> Option<usize>
     requires vars { T.vars table.now ≡ length state.old.values }
     requires variables { All (λ w. w.0 < length state.old.values) effect.now.writes }
-    requires kept { ArePlacesOf (without_names state.old.names effect.now.retired) (T.names table.now) kept }
-    requires proposed { ArePlacesOf effect.now.names (T.names table.now) proposed }
-    ensures within { IfSome result (λ place. place < length (T.names table.now)) }
+    requires kept { AreIndicesOf (without_names state.old.names effect.now.retired) (T.names table.now) kept }
+    requires proposed { AreIndicesOf effect.now.names (T.names table.now) proposed }
+    ensures within { IfSome result (λ index. index < length (T.names table.now)) }
     ensures first { (m : Meanings) → T.is_stated table.now m → AllHold m state.old.names state.old.values
         → name_at (T.names table.now) result ≡ first_false m (T.names table.now) (without_names state.old.names effect.now.retired) effect.now.names (written state.old.values effect.now.writes) }
     ensures state { state.new ≡ state.old }
@@ -37,9 +37,9 @@ pub(crate) fn first_false<T: Invariants>(
     }
     save(state.values(), writes, olds);
     state.overwrite(writes);
-    let place = table.test_touched(state.values(), kept, proposed, writes);
+    let index = table.test_touched(state.values(), kept, proposed, writes);
     state.overwrite(&olds[..writes.len()]);
-    place
+    index
 }
 
 // Puts each variable that is to be written at the front of a buffer, with its present value.

@@ -1,11 +1,11 @@
-// The effects that are accepted and not known durable.
+// The effects that are committed and not known durable.
 ghost use Rattle.std.specs.Prelude.{◌≡◌, ◌≤◌, ◌<◌, [], ◌∷◌, ◌++◌, length, drop, slice_get, Some, IfOk};
 
 use std::alloc::{AllocError, Global};
 use std::marker::Model;
 use tmem_effect::Effect;
 
-/// How many accepted transactions may wait to be made durable.
+/// How many committed transactions may wait to be made durable.
 pub const MAX_WAITING: usize = 256;
 
 /// The effects that wait, the oldest first. There is room for all of them from the start.
@@ -18,14 +18,14 @@ pub(crate) struct Waiting {
 }
 
 impl Model for Waiting {
-    ghost use Rattle.std.specs.Prelude.{List, take, drop, length, ◌≡◌, ◌≤◌, ◌<◌, ◌++◌};
+    ghost use Rattle.std.specs.Prelude.{List, take, drop, length, ◌≡◌, ◌≤◌, ◌<◌, ◌^◌, ◌++◌};
     ghost use Rattle.tmem_effect.specs.declared.effect.Effect.{Effect as EffectOf};
 
     ghost Value = { List EffectOf };
 
     ghost view = { λ w. take w.len (drop w.start w.effects.items ++ take w.start w.effects.items) };
 
-    ghost invariant = { λ w. (length w.effects.items ≡ 256) × (w.start < 256) × (w.len ≤ 256) };
+    ghost invariant = { λ w. (length w.effects.items ≡ 2 ^ 8) × (w.start < 2 ^ 8) × (w.len ≤ 2 ^ 8) };
 }
 
 impl Waiting {

@@ -5,31 +5,31 @@ use Rattle.tmem_fault.specs.declared.fault.Fault.TheVariants as fault
 use Rattle.tmem_effect.specs.Prefix.{IsPrefix}
 use Rattle.tmem_spine.specs.declared.view.Entry.{Entry}
 use Rattle.tmem_spine.specs.History.{count, longer}
-use Rattle.tmem_spine.specs.Views.{PassView}
+use Rattle.tmem_spine.specs.Views.{PassRoleView}
 use Rattle.tmem_requests.specs.declared.answer.Answer.{Answer}
 use Rattle.tmem_requests.specs.declared.answer.Answer.TheVariants as answer
 use Rattle.tmem_requests.specs.declared.request.Ask.{Ask}
 use Rattle.tmem_requests.specs.declared.request.Ask.TheVariants as ask
-use Rattle.tmem_desk.specs.Asking.{Store, Tries, Answers}
+use Rattle.tmem_desk.specs.Asking.{Store, Tries, AnswersAsk}
 use Rattle.tmem_desk.specs.Desks.{DeskView}
-use Rattle.tmem_desk.specs.Serving.{IsAnswered, MayWait, Takes, TriesNext, tells, tried, tried_again, by}
-use Rattle.tmem_desk.specs.Told.{answered}
+use Rattle.tmem_desk.specs.Serving.{IsAnsweredAtOnce, MayWait, Takes, TriesNext, tells, tried, tried_again, by}
+use Rattle.tmem_desk.specs.Told.{answer_told}
 
 -- a request that is answered at once
-pub is_answered : (s : Store) (id : ℤ) (asks : Ask) (v w : DeskView) (pass : PassView) (given : Answer) → Answers s asks v.pass given pass → w ≡ tells (by v pass) (answered id given ∷ []) → IsAnswered s id asks v w
+pub is_answered : (s : Store) (id : ℤ) (asks : Ask) (v w : DeskView) (pass : PassRoleView) (given : Answer) → AnswersAsk s asks v.pass given pass → w ≡ tells (by v pass) (answer_told id given ∷ []) → IsAnsweredAtOnce s id asks v w
 is_answered s id asks v w pass given answers is =
     let at : pass ≡ w.pass = sym (ap (λ (x : DeskView). x.pass) is) in
     record {
       given = given;
-      answers = subst (λ (p : PassView). Answers s asks v.pass given p) at answers;
-      is = subst (λ (p : PassView). w ≡ tells (by v p) (answered id given ∷ [])) at is;
+      answers = subst (λ (p : PassRoleView). AnswersAsk s asks v.pass given p) at answers;
+      is = subst (λ (p : PassRoleView). w ≡ tells (by v p) (answer_told id given ∷ [])) at is;
     }
 
 tried_pass : (id : ℤ) (asks : Ask) (outcome : Option Answer) (v : DeskView) → (tried id asks outcome v).pass ≡ v.pass
 tried_pass id asks (Some given) v = refl
 tried_pass id asks None v = either (nat_lt (length v.waiting) 1024)
   where
-    either : (b : Bool) → (if b then record v { waiting = v.waiting ++ (id, asks) ∷ [] } else tells v (answered id (answer.Fault fault.Full) ∷ [])).pass ≡ v.pass
+    either : (b : Bool) → (if b then record v { waiting = v.waiting ++ (id, asks) ∷ [] } else tells v (answer_told id (answer.Fault fault.Full) ∷ [])).pass ≡ v.pass
     either true = refl
     either false = refl
 
@@ -38,13 +38,13 @@ pub takes_as : (s : Store) (id id' : ℤ) (asks matched : Ask) (v w : DeskView) 
 takes_as s id id' asks matched v w same is taken = subst (λ (a : Ask). Takes s id a v w) (sym is) (subst (λ (i : ℤ). Takes s i asks v w) same taken)
 
 -- one that may wait
-pub may_wait : (s : Store) (id : ℤ) (asks : Ask) (v w : DeskView) (pass : PassView) (outcome : Option Answer) → Tries s asks v.pass outcome pass → w ≡ tried id asks outcome (by v pass) → MayWait s id asks v w
+pub may_wait : (s : Store) (id : ℤ) (asks : Ask) (v w : DeskView) (pass : PassRoleView) (outcome : Option Answer) → Tries s asks v.pass outcome pass → w ≡ tried id asks outcome (by v pass) → MayWait s id asks v w
 may_wait s id asks v w pass outcome tries is =
     let at : pass ≡ w.pass = sym (ap (λ (x : DeskView). x.pass) is ∙ tried_pass id asks outcome (by v pass)) in
     record {
       outcome = outcome;
-      tries = subst (λ (p : PassView). Tries s asks v.pass outcome p) at tries;
-      is = subst (λ (p : PassView). w ≡ tried id asks outcome (by v p)) at is;
+      tries = subst (λ (p : PassRoleView). Tries s asks v.pass outcome p) at tries;
+      is = subst (λ (p : PassRoleView). w ≡ tried id asks outcome (by v p)) at is;
     }
 
 again_pass : (id : ℤ) (asks : Ask) (outcome : Option Answer) (rest : List (ℤ × Ask)) (v : DeskView) → (tried_again id asks outcome rest v).pass ≡ v.pass
@@ -52,7 +52,7 @@ again_pass id asks (Some given) rest v = refl
 again_pass id asks None rest v = refl
 
 -- the first that waits
-pub tries_first : (s : Store) (id : ℤ) (asks : Ask) (rest : List (ℤ × Ask)) (v w : DeskView) (pass : PassView) (outcome : Option Answer) → v.waiting ≡ (id, asks) ∷ rest
+pub tries_first : (s : Store) (id : ℤ) (asks : Ask) (rest : List (ℤ × Ask)) (v w : DeskView) (pass : PassRoleView) (outcome : Option Answer) → v.waiting ≡ (id, asks) ∷ rest
     → Tries s asks v.pass outcome pass → w ≡ tried_again id asks outcome rest (by v pass) → TriesNext s v w
 tries_first s id asks rest v w pass outcome first tries is =
     let at : pass ≡ w.pass = sym (ap (λ (x : DeskView). x.pass) is ∙ again_pass id asks outcome rest (by v pass)) in
@@ -62,17 +62,17 @@ tries_first s id asks rest v w pass outcome first tries is =
       rest = rest;
       first = first;
       outcome = outcome;
-      tries = subst (λ (p : PassView). Tries s asks v.pass outcome p) at tries;
-      is = subst (λ (p : PassView). w ≡ tried_again id asks outcome rest (by v p)) at is;
+      tries = subst (λ (p : PassRoleView). Tries s asks v.pass outcome p) at tries;
+      is = subst (λ (p : PassRoleView). w ≡ tried_again id asks outcome rest (by v p)) at is;
     })
 
 -- a look at how many are durable
-pub looked : (s : Store) (old new : PassView) (number : ℕ) → new ≡ record old { seen = new.seen; known = longer old.known new.seen } → number ≡ count s.start new.seen
-    → IsPrefix old.seen new.seen → IsPrefix old.known new.known → Answers s ask.Look old (answer.Durable number) new
+pub looked : (s : Store) (old new : PassRoleView) (number : ℕ) → new ≡ record old { seen = new.seen; known = longer old.known new.seen } → number ≡ count s.start new.seen
+    → IsPrefix old.seen new.seen → IsPrefix old.known new.known → AnswersAsk s ask.Look old (answer.Durable number) new
 looked s old new number is counts seen known = (
   counts,
   record {
-    pass = is ∙ ap (λ (l : List Entry). record old { seen = new.seen; known = l }) (sym (ap (λ (p : PassView). p.known) is));
+    pass = is ∙ ap (λ (l : List Entry). record old { seen = new.seen; known = l }) (sym (ap (λ (p : PassRoleView). p.known) is));
     seen = seen;
     known = known;
   },

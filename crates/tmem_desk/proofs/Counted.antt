@@ -12,15 +12,15 @@ use Rattle.tmem_requests.specs.declared.answer.Answer.TheVariants as answer
 use Rattle.tmem_requests.specs.declared.refusal.NoRequest.{NoRequest}
 use Rattle.tmem_requests.specs.declared.request.Ask.{Ask}
 use Rattle.tmem_requests.specs.declared.request.Ask.TheVariants as ask
-use Rattle.tmem_desk.specs.Asking.{Store, IsPlan}
+use Rattle.tmem_desk.specs.Asking.{Store, IsPlanOf}
 use Rattle.tmem_desk.specs.Desks.{DeskView}
 use Rattle.tmem_desk.specs.Due.{answers_of, due_of, waits_of}
 use Rattle.tmem_copies.specs.Leading.{first_puts}
 use Rattle.tmem_copies.specs.Numbering.{with_numbers}
 use Rattle.tmem_desk.specs.Keeping.{kept_under, with_kept}
-use Rattle.tmem_desk.specs.Serving.{Takes, MayWait, HasNoPlan, Runs, RunsCopy, kept_as, RefusesLine, RefusesLong, Round, TriesNext, TriesFirst, Wakes, Finishes, tells, tried, tried_again, by, counted, waits, without, cancelled, closed, with_closed}
+use Rattle.tmem_desk.specs.Serving.{Takes, MayWait, HasNoPlan, Runs, RunsCopy, kept_as, RefusesLine, RefusesLong, Round, TriesNext, TriesFirst, Wakes, Finishes, tells, tried, tried_again, by, one_line_more, waits, without, cancelled, closed, with_closed}
 use Rattle.tmem_desk.specs.Steps.{Repeats}
-use Rattle.tmem_desk.specs.Told.{answered, failed, refused}
+use Rattle.tmem_desk.specs.Told.{answer_told, failed, refused}
 use Rattle.tmem_desk.specs.declared.told.Told.{Told}
 use Rattle.tmem_desk.specs.declared.told.Told.TheVariants as told
 
@@ -36,10 +36,10 @@ module _ (among : ℤ → Bool) (others : Bool) where
   tells_more : (v : DeskView) (more : List Told) → due_of among others (tells v more) ≡ due_of among others v + count_by (answers_of among others) more
   tells_more v more = omega (arith, sum_by-append (λ (t : Told). cond (answers_of among others t) 1 0) v.told more)
 
-  pub tells_one : (id : ℤ) (given : Answer) (v : DeskView) → due_of among others (tells v (answered id given ∷ [])) ≡ due_of among others v + cond (among id) 1 0
+  pub tells_one : (id : ℤ) (given : Answer) (v : DeskView) → due_of among others (tells v (answer_told id given ∷ [])) ≡ due_of among others v + cond (among id) 1 0
   tells_one id given v =
-      let it : count_by (answers_of among others) (answered id given ∷ []) ≡ 0 + cond (among id) 1 0 = refl in
-      omega (arith, tells_more v (answered id given ∷ []))
+      let it : count_by (answers_of among others) (answer_told id given ∷ []) ≡ 0 + cond (among id) 1 0 = refl in
+      omega (arith, tells_more v (answer_told id given ∷ []))
 
   -- one more that waits
   waits_more : (id : ℤ) (asks : Ask) (v : DeskView) → due_of among others (record v { waiting = v.waiting ++ (id, asks) ∷ [] }) ≡ due_of among others v + one id
@@ -51,7 +51,7 @@ module _ (among : ℤ → Bool) (others : Bool) where
   tried_due id asks (Some given) v = tells_one id given v
   tried_due id asks None v = either (nat_lt (length v.waiting) 1024)
     where
-      either : (b : Bool) → due_of among others (if b then record v { waiting = v.waiting ++ (id, asks) ∷ [] } else tells v (answered id (answer.Fault fault.Full) ∷ [])) ≡ due_of among others v + one id
+      either : (b : Bool) → due_of among others (if b then record v { waiting = v.waiting ++ (id, asks) ∷ [] } else tells v (answer_told id (answer.Fault fault.Full) ∷ [])) ≡ due_of among others v + one id
       either true = waits_more id asks v
       either false = tells_one id (answer.Fault fault.Full) v
 
@@ -81,13 +81,13 @@ module _ (among : ℤ → Bool) (others : Bool) where
   cancelled_due : (id who : ℤ) (v : DeskView) → due_of among others (cancelled id who v) ≡ due_of among others v + one id
   cancelled_due id who v = either (waits who v.waiting) refl
     where
-      both : count_by (answers_of among others) (answered who answer.Cancelled ∷ answered id (answer.Found true) ∷ []) ≡ 0 + cond (among who) 1 0 + cond (among id) 1 0
+      both : count_by (answers_of among others) (answer_told who answer.Cancelled ∷ answer_told id (answer.Found true) ∷ []) ≡ 0 + cond (among who) 1 0 + cond (among id) 1 0
       both = refl
 
       either : (b : Bool) → waits who v.waiting ≡ b
-          → due_of among others (if b then tells (record v { waiting = without who v.waiting }) (answered who answer.Cancelled ∷ answered id (answer.Found true) ∷ []) else tells v (answered id (answer.Found false) ∷ []))
+          → due_of among others (if b then tells (record v { waiting = without who v.waiting }) (answer_told who answer.Cancelled ∷ answer_told id (answer.Found true) ∷ []) else tells v (answer_told id (answer.Found false) ∷ []))
           ≡ due_of among others v + one id
-      either true is = omega (arith, both, without_one who v.waiting is, count_append (answers_of among others) v.told (answered who answer.Cancelled ∷ answered id (answer.Found true) ∷ []))
+      either true is = omega (arith, both, without_one who v.waiting is, count_append (answers_of among others) v.told (answer_told who answer.Cancelled ∷ answer_told id (answer.Found true) ∷ []))
       either false is = tells_one id (answer.Found false) v
 
   -- one that has no plan, or may wait
@@ -102,7 +102,7 @@ module _ (among : ℤ → Bool) (others : Bool) where
   kept_due : (id : ℤ) (word : List ℕ) (tx : Tx) (v : DeskView) → due_of among others (kept_as id word tx v) ≡ due_of among others v + one id
   kept_due id word tx v = either (is_some (kept_under word v.kept) || nat_lt (length v.kept) 256)
     where
-      either : (b : Bool) → due_of among others (if b then tells (record v { kept = with_kept word tx v.kept }) (answered id (answer.Kept word) ∷ []) else tells v (answered id (answer.Fault fault.Full) ∷ [])) ≡ due_of among others v + one id
+      either : (b : Bool) → due_of among others (if b then tells (record v { kept = with_kept word tx v.kept }) (answer_told id (answer.Kept word) ∷ []) else tells v (answer_told id (answer.Fault fault.Full) ∷ [])) ≡ due_of among others v + one id
       either true = tells_one id (answer.Kept word) (record v { kept = with_kept word tx v.kept })
       either false = tells_one id (answer.Fault fault.Full) v
 
@@ -111,7 +111,7 @@ module _ (among : ℤ → Bool) (others : Bool) where
   runs_due s id numbers None v w is = ap (due_of among others) is ∙ tells_one id (answer.Found false) v
   runs_due s id numbers (Some tx) v w runs = either (nat_le (length numbers) (first_puts tx)) runs
     where
-      either : (b : Bool) → MatchBool b (RunsCopy s id numbers tx v w) (w ≡ tells v (answered id (answer.Found false) ∷ [])) → due_of among others w ≡ due_of among others v + one id
+      either : (b : Bool) → MatchBool b (RunsCopy s id numbers tx v w) (w ≡ tells v (answer_told id (answer.Found false) ∷ [])) → due_of among others w ≡ due_of among others v + one id
       either true r = planned_due s id r.copy (with_numbers numbers r.copy) v w r.takes
       either false is = ap (due_of among others) is ∙ tells_one id (answer.Found false) v
 
@@ -123,7 +123,7 @@ module _ (among : ℤ → Bool) (others : Bool) where
   taken_due s id (ask.Keep word tx) v w t =
       ⊎_elim
       (λ (n : HasNoPlan s id tx v w). ap (due_of among others) n.is ∙ tells_one id (answer.Fault (fault.BadPlan n.cause)) v)
-      (λ (k : IsPlan s tx × (w ≡ kept_as id word tx v)). ap (due_of among others) k.1 ∙ kept_due id word tx v)
+      (λ (k : IsPlanOf s tx × (w ≡ kept_as id word tx v)). ap (due_of among others) k.1 ∙ kept_due id word tx v)
       t
   taken_due s id (ask.Run word numbers) v w t = runs_due s id numbers.items (kept_under word v.kept) v w t
   taken_due s id ask.Stats v w t = ap (due_of among others) t.is ∙ tells_one id (answer.Stats t.stats) v
@@ -136,12 +136,12 @@ module _ (among : ℤ → Bool) (others : Bool) where
 
   -- one that is tried again is due as before
   answered_again : (id : ℤ) (asks : Ask) (given : Answer) (rest : List (ℤ × Ask)) (all : List Told)
-      → count_by (waits_of among) rest + count_by (answers_of among others) (all ++ answered id given ∷ []) ≡ count_by (waits_of among) ((id, asks) ∷ rest) + count_by (answers_of among others) all
+      → count_by (waits_of among) rest + count_by (answers_of among others) (all ++ answer_told id given ∷ []) ≡ count_by (waits_of among) ((id, asks) ∷ rest) + count_by (answers_of among others) all
   answered_again id asks given rest all =
-      let it : count_by (answers_of among others) (answered id given ∷ []) ≡ 0 + cond (among id) 1 0 = refl in
+      let it : count_by (answers_of among others) (answer_told id given ∷ []) ≡ 0 + cond (among id) 1 0 = refl in
       let wait : count_by (waits_of among) ((id, asks) ∷ []) ≡ 0 + cond (among id) 1 0 = refl in
       let first : count_by (waits_of among) ((id, asks) ∷ rest) ≡ count_by (waits_of among) ((id, asks) ∷ []) + count_by (waits_of among) rest = count_append (waits_of among) ((id, asks) ∷ []) rest in
-      omega (arith, count_append (answers_of among others) all (answered id given ∷ []))
+      omega (arith, count_append (answers_of among others) all (answer_told id given ∷ []))
 
   pub waits_again : (id : ℤ) (asks : Ask) (rest : List (ℤ × Ask)) (more : ℕ) → count_by (waits_of among) (rest ++ (id, asks) ∷ []) + more ≡ count_by (waits_of among) ((id, asks) ∷ rest) + more
   waits_again id asks rest more =
@@ -175,10 +175,10 @@ module _ (among : ℤ → Bool) (others : Bool) where
       omega (arith, tells_more v (refused number refusal ∷ []))
 
   pub refused_due : (s : Store) (text : List ℕ) (v w : DeskView) → RefusesLine s text v w → due_of among others w ≡ due_of among others v + cond others 1 0
-  refused_due s text v w r = ap (due_of among others) r.is ∙ tells_none (counted v) (counted v).lines r.refusal
+  refused_due s text v w r = ap (due_of among others) r.is ∙ tells_none (one_line_more v) (one_line_more v).lines r.refusal
 
   pub long_due : (v w : DeskView) → RefusesLong v w → due_of among others w ≡ due_of among others v + cond others 1 0
-  long_due v w r = ap (due_of among others) r.is ∙ tells_none (counted v) (counted v).lines r.refusal
+  long_due v w r = ap (due_of among others) r.is ∙ tells_none (one_line_more v) (one_line_more v).lines r.refusal
 
   -- ---- at the end
 
@@ -196,10 +196,10 @@ module _ (among : ℤ → Bool) (others : Bool) where
   closed_count : (ws : List (ℤ × Ask)) → count_by (answers_of among others) (closed ws) ≡ count_by (waits_of among) ws
   closed_count [] = refl
   closed_count (w ∷ ws) =
-      let it : count_by (answers_of among others) (answered w.0 (answer.Fault fault.Closed) ∷ []) ≡ 0 + cond (among w.0) 1 0 = refl in
+      let it : count_by (answers_of among others) (answer_told w.0 (answer.Fault fault.Closed) ∷ []) ≡ 0 + cond (among w.0) 1 0 = refl in
       let wait : count_by (waits_of among) (w ∷ []) ≡ 0 + cond (among w.0) 1 0 = refl in
-      let all : count_by (answers_of among others) (closed (w ∷ ws)) ≡ count_by (answers_of among others) (answered w.0 (answer.Fault fault.Closed) ∷ []) + count_by (answers_of among others) (closed ws) =
-      count_append (answers_of among others) (answered w.0 (answer.Fault fault.Closed) ∷ []) (closed ws) in
+      let all : count_by (answers_of among others) (closed (w ∷ ws)) ≡ count_by (answers_of among others) (answer_told w.0 (answer.Fault fault.Closed) ∷ []) + count_by (answers_of among others) (closed ws) =
+      count_append (answers_of among others) (answer_told w.0 (answer.Fault fault.Closed) ∷ []) (closed ws) in
       omega (arith, closed_count ws, count_append (waits_of among) (w ∷ []) ws)
 
   -- so that all that is due is told

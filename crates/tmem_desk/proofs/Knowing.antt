@@ -8,66 +8,66 @@ use Rattle.tmem_fault.specs.declared.fault.Fault.{Fault}
 use Rattle.tmem_fault.specs.declared.fault.Fault.TheVariants as fault
 use Rattle.tmem_effect.specs.Prefix.{IsPrefix}
 use Rattle.tmem_effect.proofs.Laws.{IsPrefix-append, IsPrefix-self, IsPrefix-trans}
-use Rattle.tmem_core.specs.SettleAnswer.{accepted_by}
+use Rattle.tmem_core.specs.SettleAnswer.{committed_by}
 use Rattle.tmem_spine.specs.declared.view.Entry.{Entry}
-use Rattle.tmem_spine.specs.Views.{PassView}
+use Rattle.tmem_spine.specs.Views.{PassRoleView}
 use Rattle.tmem_seats.specs.Histories.{marked}
 use Rattle.tmem_tree.specs.declared.tx.Tx.{Tx}
 use Rattle.tmem_tree.specs.declared.settled.Settled.{Settled}
 use Rattle.tmem_tree.specs.declared.settled.Settled.TheVariants.{Retry}
 use Rattle.tmem_tentative.specs.Right.{IsRight}
 use Rattle.tmem_tentative.specs.declared.attempt.Attempt.{Attempt}
-use Rattle.tmem_front.specs.Settling.{Settles, KnowsMore}
+use Rattle.tmem_front.specs.Settling.{SettlesPass, KnowsMore}
 use Rattle.tmem_requests.specs.declared.answer.Answer.{Answer}
 use Rattle.tmem_requests.specs.declared.answer.Answer.TheVariants as answer
 use Rattle.tmem_requests.specs.declared.request.Ask.{Ask}
 use Rattle.tmem_requests.specs.declared.request.Ask.TheVariants as ask
 use Rattle.tmem_copies.specs.Leading.{first_puts}
 use Rattle.tmem_copies.specs.Numbering.{with_numbers}
-use Rattle.tmem_desk.specs.Asking.{Store, SettlesTx, IsNoPlan, IsPlan, EndsTold, Tries, Answers}
+use Rattle.tmem_desk.specs.Asking.{Store, SettlesTx, IsNoPlan, IsPlanOf, EndsTold, Tries, AnswersAsk}
 use Rattle.tmem_desk.specs.Desks.{DeskView}
 use Rattle.tmem_desk.specs.Keeping.{kept_under, with_kept}
-use Rattle.tmem_desk.specs.Serving.{Takes, TakesLine, TakesText, TakesShort, MayWait, HasNoPlan, IsAnswered, Runs, RunsCopy, kept_as, RefusesLine, RefusesLong, Round, TriesNext, TriesFirst, Wakes, Finishes, tells, counted, waits, without, cancelled}
+use Rattle.tmem_desk.specs.Serving.{Takes, TakesLine, TakesText, TakesShort, MayWait, HasNoPlan, IsAnsweredAtOnce, Runs, RunsCopy, kept_as, RefusesLine, RefusesLong, Round, TriesNext, TriesFirst, Wakes, Finishes, tells, one_line_more, waits, without, cancelled}
 use Rattle.tmem_desk.specs.Steps.{Repeats}
-use Rattle.tmem_desk.specs.Told.{answered}
+use Rattle.tmem_desk.specs.Told.{answer_told}
 
 -- the one knows all that the other does
-abbrev pub Keeps : PassView → PassView → Type 0
+abbrev pub Keeps : PassRoleView → PassRoleView → Type 0
 Keeps old new = IsPrefix old.known new.known
 
 -- the pass of the one knows all that that of the other does
 abbrev pub KeepsOn : DeskView → DeskView → Type 0
 KeepsOn v w = Keeps v.pass w.pass
 
-same_keeps : (old new : PassView) → new ≡ old → Keeps old new
-same_keeps old new same = subst (λ (p : PassView). Keeps old p) (sym same) (IsPrefix-self old.known)
+same_keeps : (old new : PassRoleView) → new ≡ old → Keeps old new
+same_keeps old new same = subst (λ (p : PassRoleView). Keeps old p) (sym same) (IsPrefix-self old.known)
 
 -- ---- what is settled
 
-settles_keeps : (s : Store) (attempt : Attempt) (old : PassView) (result : Result Settled Fault) (new : PassView) → Settles s.start s.opening s.program attempt old result new → Keeps old new
+settles_keeps : (s : Store) (attempt : Attempt) (old : PassRoleView) (result : Result Settled Fault) (new : PassRoleView) → SettlesPass s.start s.opening s.program attempt old result new → Keeps old new
 settles_keeps s attempt old result new so =
-    subst (λ (l : List Entry). IsPrefix old.known l) (sym (ap (λ (p : PassView). p.known) so.pass))
-    (IsPrefix-trans old.known so.before (so.before ++ marked old.mark (accepted_by result attempt.effect)) so.begins (IsPrefix-append so.before (marked old.mark (accepted_by result attempt.effect))))
+    subst (λ (l : List Entry). IsPrefix old.known l) (sym (ap (λ (p : PassRoleView). p.known) so.pass))
+    (IsPrefix-trans old.known so.before (so.before ++ marked old.mark (committed_by result attempt.effect)) so.begins (IsPrefix-append so.before (marked old.mark (committed_by result attempt.effect))))
 
-tx_keeps : (s : Store) (tx : Tx) (settled : Settled) (old new : PassView) → SettlesTx s tx old settled new → Keeps old new
+tx_keeps : (s : Store) (tx : Tx) (settled : Settled) (old new : PassRoleView) → SettlesTx s tx old settled new → Keeps old new
 tx_keeps s tx settled old new = ⊎_elim
     (λ (no : (Ok settled ≡ Err fault.Memory) × KnowsMore old new). no.1.begins)
-    (λ (held : ∥ ((attempt : Attempt) × IsRight s.program.steps s.program.tests tx attempt × Settles s.start s.opening s.program attempt old (Ok settled) new) ∥₁).
+    (λ (held : ∥ ((attempt : Attempt) × IsRight s.program.steps s.program.tests tx attempt × SettlesPass s.start s.opening s.program attempt old (Ok settled) new) ∥₁).
     ∥∥₁_elim held (hlevel props) (λ h. settles_keeps s h.0 old (Ok settled) new h.2))
 
-ends_keeps : (s : Store) (tx : Tx) (settled : Settled) (given : Answer) (old new : PassView) → EndsTold s tx old settled given new → Keeps old new
+ends_keeps : (s : Store) (tx : Tx) (settled : Settled) (given : Answer) (old new : PassRoleView) → EndsTold s tx old settled given new → Keeps old new
 ends_keeps s tx settled given old new so = IsPrefix-trans old.known so.then.known new.known (tx_keeps s tx settled old so.then so.settles) so.knows.begins
 
 -- ---- what is asked
 
-tries_keeps : (s : Store) (asks : Ask) (old : PassView) (outcome : Option Answer) (new : PassView) → Tries s asks old outcome new → Keeps old new
+tries_keeps : (s : Store) (asks : Ask) (old : PassRoleView) (outcome : Option Answer) (new : PassRoleView) → Tries s asks old outcome new → Keeps old new
 tries_keeps s (ask.Do tx) old None new so = tx_keeps s tx Retry old new so
 tries_keeps s (ask.Do tx) old (Some given) new so = ends_keeps s tx so.0 given old new so.2
 tries_keeps s (ask.Changed reads) old None new so = so.1.knows.begins
 tries_keeps s (ask.Changed reads) old (Some (answer.Values number values)) new so = so.0.knows.begins
 tries_keeps s asks old outcome new none = absurd none
 
-answers_keeps : (s : Store) (asks : Ask) (old : PassView) (given : Answer) (new : PassView) → Answers s asks old given new → Keeps old new
+answers_keeps : (s : Store) (asks : Ask) (old : PassRoleView) (given : Answer) (new : PassRoleView) → AnswersAsk s asks old given new → Keeps old new
 answers_keeps s (ask.Try tx) old given new so = ⊎_elim
     (λ (no : (cause : Cause) × (given ≡ answer.Fault (fault.BadPlan cause)) × IsNoPlan s tx cause × (new ≡ old)). same_keeps old new no.3)
     (λ (yes : (settled : Settled) × EndsTold s tx old settled given new). ends_keeps s tx yes.0 given old new yes.1)
@@ -89,32 +89,32 @@ may_wait_keeps s id asks v w m = tries_keeps s asks v.pass m.outcome w.pass m.tr
 
 planned_keeps : (s : Store) (id : ℤ) (tx ran : Tx) (v w : DeskView) → (HasNoPlan s id tx v w ⊎ MayWait s id (ask.Do ran) v w) → KeepsOn v w
 planned_keeps s id tx ran v w = ⊎_elim
-    (λ (n : HasNoPlan s id tx v w). still_keeps v w (tells v (answered id (answer.Fault (fault.BadPlan n.cause)) ∷ [])) n.is refl)
+    (λ (n : HasNoPlan s id tx v w). still_keeps v w (tells v (answer_told id (answer.Fault (fault.BadPlan n.cause)) ∷ [])) n.is refl)
     (λ (m : MayWait s id (ask.Do ran) v w). may_wait_keeps s id (ask.Do ran) v w m)
 
 kept_pass : (id : ℤ) (word : List ℕ) (tx : Tx) (v : DeskView) → (kept_as id word tx v).pass ≡ v.pass
 kept_pass id word tx v = either (is_some (kept_under word v.kept) || nat_lt (length v.kept) 256)
   where
-    either : (b : Bool) → (if b then tells (record v { kept = with_kept word tx v.kept }) (answered id (answer.Kept word) ∷ []) else tells v (answered id (answer.Fault fault.Full) ∷ [])).pass ≡ v.pass
+    either : (b : Bool) → (if b then tells (record v { kept = with_kept word tx v.kept }) (answer_told id (answer.Kept word) ∷ []) else tells v (answer_told id (answer.Fault fault.Full) ∷ [])).pass ≡ v.pass
     either true = refl
     either false = refl
 
 cancelled_pass : (id other : ℤ) (v : DeskView) → (cancelled id other v).pass ≡ v.pass
 cancelled_pass id other v = either (waits other v.waiting)
   where
-    either : (b : Bool) → (if b then tells (record v { waiting = without other v.waiting }) (answered other answer.Cancelled ∷ answered id (answer.Found true) ∷ []) else tells v (answered id (answer.Found false) ∷ [])).pass ≡ v.pass
+    either : (b : Bool) → (if b then tells (record v { waiting = without other v.waiting }) (answer_told other answer.Cancelled ∷ answer_told id (answer.Found true) ∷ []) else tells v (answer_told id (answer.Found false) ∷ [])).pass ≡ v.pass
     either true = refl
     either false = refl
 
 runs_keeps : (s : Store) (id : ℤ) (numbers : List ℤ) (found : Option Tx) (v w : DeskView) → Runs s id numbers found v w → KeepsOn v w
-runs_keeps s id numbers None v w is = still_keeps v w (tells v (answered id (answer.Found false) ∷ [])) is refl
+runs_keeps s id numbers None v w is = still_keeps v w (tells v (answer_told id (answer.Found false) ∷ [])) is refl
 runs_keeps s id numbers (Some tx) v w runs = either (nat_le (length numbers) (first_puts tx)) runs
   where
-    either : (b : Bool) → MatchBool b (RunsCopy s id numbers tx v w) (w ≡ tells v (answered id (answer.Found false) ∷ [])) → KeepsOn v w
+    either : (b : Bool) → MatchBool b (RunsCopy s id numbers tx v w) (w ≡ tells v (answer_told id (answer.Found false) ∷ [])) → KeepsOn v w
     either true r = planned_keeps s id r.copy (with_numbers numbers r.copy) v w r.takes
-    either false is = still_keeps v w (tells v (answered id (answer.Found false) ∷ [])) is refl
+    either false is = still_keeps v w (tells v (answer_told id (answer.Found false) ∷ [])) is refl
 
-answered_keeps : (s : Store) (id : ℤ) (asks : Ask) (v w : DeskView) → IsAnswered s id asks v w → KeepsOn v w
+answered_keeps : (s : Store) (id : ℤ) (asks : Ask) (v w : DeskView) → IsAnsweredAtOnce s id asks v w → KeepsOn v w
 answered_keeps s id asks v w m = answers_keeps s asks v.pass m.given w.pass m.answers
 
 takes_keeps : (s : Store) (id : ℤ) (asks : Ask) (v w : DeskView) → Takes s id asks v w → KeepsOn v w
@@ -122,11 +122,11 @@ takes_keeps s id (ask.Do tx) v w t = planned_keeps s id tx tx v w t
 takes_keeps s id (ask.Changed reads) v w t = may_wait_keeps s id (ask.Changed reads) v w t
 takes_keeps s id (ask.Cancel other) v w t = still_keeps v w (cancelled id other v) t (cancelled_pass id other v)
 takes_keeps s id (ask.Keep word tx) v w t = ⊎_elim
-    (λ (n : HasNoPlan s id tx v w). still_keeps v w (tells v (answered id (answer.Fault (fault.BadPlan n.cause)) ∷ [])) n.is refl)
-    (λ (k : IsPlan s tx × (w ≡ kept_as id word tx v)). still_keeps v w (kept_as id word tx v) k.1 (kept_pass id word tx v))
+    (λ (n : HasNoPlan s id tx v w). still_keeps v w (tells v (answer_told id (answer.Fault (fault.BadPlan n.cause)) ∷ [])) n.is refl)
+    (λ (k : IsPlanOf s tx × (w ≡ kept_as id word tx v)). still_keeps v w (kept_as id word tx v) k.1 (kept_pass id word tx v))
     t
 takes_keeps s id (ask.Run word numbers) v w t = runs_keeps s id numbers.items (kept_under word v.kept) v w t
-takes_keeps s id ask.Stats v w t = still_keeps v w (tells v (answered id (answer.Stats t.stats) ∷ [])) t.is refl
+takes_keeps s id ask.Stats v w t = still_keeps v w (tells v (answer_told id (answer.Stats t.stats) ∷ [])) t.is refl
 takes_keeps s id (ask.Try tx) v w t = answered_keeps s id (ask.Try tx) v w t
 takes_keeps s id (ask.Get vars) v w t = answered_keeps s id (ask.Get vars) v w t
 takes_keeps s id (ask.Settle proposal) v w t = answered_keeps s id (ask.Settle proposal) v w t
@@ -136,7 +136,7 @@ takes_keeps s id ask.Checkpoint v w t = answered_keeps s id ask.Checkpoint v w t
 
 short_keeps : (s : Store) (text : List ℕ) (v w : DeskView) → TakesShort s text v w → KeepsOn v w
 short_keeps s text v w = ⊎_elim
-    (λ (t : TakesLine s text v w). takes_keeps s t.id t.ask (counted v) w t.takes)
+    (λ (t : TakesLine s text v w). takes_keeps s t.id t.ask (one_line_more v) w t.takes)
     (λ (r : RefusesLine s text v w). still_keeps v w _ r.is refl)
 
 -- a line that is taken

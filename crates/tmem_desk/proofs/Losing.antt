@@ -9,9 +9,9 @@ use Rattle.std.proofs.lemmas.List.Concat.{flat_map-append}
 use Rattle.std.proofs.lemmas.List.Elements.{All-nil, All-append, All-push}
 use Rattle.tmem_fault.specs.declared.fault.Fault.{Fault}
 use Rattle.tmem_fault.specs.declared.fault.Fault.TheVariants.{Memory}
-use Rattle.tmem_lines.specs.Lines.{line, IsLine, IsUnbroken, StandsFor, IsCutOff}
+use Rattle.tmem_lines.specs.Lines.{line, IsLine, IsUnbroken, HoldsRestOf, IsCutOff}
 use Rattle.tmem_lines.specs.Views.{LinesView}
-use Rattle.tmem_spine.specs.Views.{PassView}
+use Rattle.tmem_spine.specs.Views.{PassRoleView}
 use Rattle.tmem_requests.specs.declared.answer.Answer.{Answer}
 use Rattle.tmem_requests.specs.declared.answer.Answer.TheVariants as answer
 use Rattle.tmem_requests.specs.declared.request.Ask.{Ask}
@@ -19,9 +19,9 @@ use Rattle.tmem_desk.specs.Asking.{Store}
 use Rattle.tmem_desk.specs.Desks.{DeskView}
 use Rattle.tmem_desk.specs.Due.{LineCounts, LinesCount, LosesNone, KeepsDue, answers_of, due_of, waits_of}
 use Rattle.tmem_desk.specs.Failing.{AnswersLine, AnswersOnly, IsLast, IsUnprinted, OrMemory, PassesAll, PassesLine, TakesPart, TakesRest, TellsAll, TellsEach}
-use Rattle.tmem_desk.specs.Serving.{IsAsked, RefusesLine, RefusesLong, Splits, TakesAll, TakesLast, TakesLine, TakesText, TakesShort, Wakes, by, counted, tells, with_closed}
+use Rattle.tmem_desk.specs.Serving.{IsAskedOf, RefusesLine, RefusesLong, Splits, TakesAll, TakesLast, TakesLine, TakesText, TakesShort, Wakes, by, one_line_more, tells, with_closed}
 use Rattle.tmem_desk.specs.Steps.{Steps}
-use Rattle.tmem_desk.specs.Told.{TellsOnly, answered, failed, told_lines}
+use Rattle.tmem_desk.specs.Told.{TellsOnly, answer_told, failed, told_lines}
 use Rattle.tmem_desk.specs.declared.failure.Failure.{Failure}
 use Rattle.tmem_desk.specs.declared.failure.Failure.TheVariants.{Output}
 use Rattle.tmem_desk.specs.declared.failure.Failure.TheVariants as failure
@@ -102,7 +102,7 @@ text_due among others s text v w n t counts = either (nat_lt 65536 (length text)
     either false less t =
         let short : IsLine text = grind (arith, nat_tests) in
         ⊎_elim
-        (λ (l : TakesLine s text v w). let n_is = counts.request l.id l.ask short l.is in omega (arith, taken_due among others s l.id l.ask (counted v) w l.takes, n_is))
+        (λ (l : TakesLine s text v w). let n_is = counts.request l.id l.ask short l.is in omega (arith, taken_due among others s l.id l.ask (one_line_more v) w l.takes, n_is))
         (λ (r : RefusesLine s text v w). let n_is = counts.none (λ id asks fits is. r.none id asks is) in omega (arith, refused_due among others s text v w r, n_is))
         t
 
@@ -117,7 +117,7 @@ steps_lose s (text ∷ texts) v w steps among others n c =
 -- a request that is answered by a fault is not lost
 pub answer_loses : (s : Store) (text : List ℕ) (v w : DeskView) → IsLine text → AnswersLine s text v w → LosesNone s (text ∷ []) v w
 answer_loses s text v w short a among others n c =
-    let told : due_of among others w ≡ due_of among others (by (counted v) w.pass) + _ = ap (due_of among others) a.only.is ∙ tells_one among others a.id a.only.given (by (counted v) w.pass) in
+    let told : due_of among others w ≡ due_of among others (by (one_line_more v) w.pass) + _ = ap (due_of among others) a.only.is ∙ tells_one among others a.id a.only.given (by (one_line_more v) w.pass) in
     let n_is = c.2.request a.id a.ask short a.asked in
     omega (arith, told, n_is, c.3, c.4)
 
@@ -129,25 +129,25 @@ passed_loses s text v w short (inr r) = text_loses s text v w (short_text s text
 
 -- it is answered so, where nothing but the pass was changed
 pub answers_only : (id id' : ℤ) (f : Fault) (v mid w : DeskView) (r : Result Unit Fault) → id' ≡ id → OrMemory f (mid ≡ by v mid.pass)
-    → IfErr r (λ g. OrMemory g ((g ≡ f) × (w ≡ tells mid (answered id' (answer.Fault f) ∷ [])))) → IfErr r (λ g. OrMemory g (AnswersOnly id v w))
+    → IfErr r (λ g. OrMemory g ((g ≡ f) × (w ≡ tells mid (answer_told id' (answer.Fault f) ∷ [])))) → IfErr r (λ g. OrMemory g (AnswersOnly id v w))
 answers_only id id' f v mid w (Ok x) same before told = tt
 answers_only id id' f v mid w (Err g) same before (inl is) = inl is
 answers_only id id' f v mid w (Err g) same (inl is) (inr told) = inl (told.0 ∙ is)
 answers_only id id' f v mid w (Err g) same (inr kept) (inr told) =
-    let is : w ≡ tells (by v mid.pass) (answered id' (answer.Fault f) ∷ []) = told.1 ∙ ap (λ (d : DeskView). tells d (answered id' (answer.Fault f) ∷ [])) kept in
+    let is : w ≡ tells (by v mid.pass) (answer_told id' (answer.Fault f) ∷ []) = told.1 ∙ ap (λ (d : DeskView). tells d (answer_told id' (answer.Fault f) ∷ [])) kept in
     let pass : mid.pass ≡ w.pass = sym (ap (λ (d : DeskView). d.pass) told.1) in
     inr (record {
       given = answer.Fault f;
-      is = subst (λ (i : ℤ). w ≡ tells (by v w.pass) (answered i (answer.Fault f) ∷ [])) same (subst (λ (p : PassView). w ≡ tells (by v p) (answered id' (answer.Fault f) ∷ [])) pass is);
+      is = subst (λ (i : ℤ). w ≡ tells (by v w.pass) (answer_told i (answer.Fault f) ∷ [])) same (subst (λ (p : PassRoleView). w ≡ tells (by v p) (answer_told id' (answer.Fault f) ∷ [])) pass is);
     })
 
 -- the line is answered that it is
-pub answers_line : (s : Store) (text : List ℕ) (id id' : ℤ) (asks : Ask) (v w : DeskView) → id' ≡ id → IsAsked s id asks text → AnswersOnly id' (counted v) w → AnswersLine s text v w
+pub answers_line : (s : Store) (text : List ℕ) (id id' : ℤ) (asks : Ask) (v w : DeskView) → id' ≡ id → IsAskedOf s id asks text → AnswersOnly id' (one_line_more v) w → AnswersLine s text v w
 answers_line s text id id' asks v w same is only =
-    record { id = id; ask = asks; asked = is; only = subst (λ (i : ℤ). AnswersOnly i (counted v) w) same only }
+    record { id = id; ask = asks; asked = is; only = subst (λ (i : ℤ). AnswersOnly i (one_line_more v) w) same only }
 
 -- the first that waits waits on, behind the others
-pub waits_behind : {X : Type 0} (g : X → ℤ × Ask) (x : X) (xs items behind : List X) (v w : DeskView) (pass : PassView) → v.waiting ≡ map g xs → xs ≡ x ∷ items
+pub waits_behind : {X : Type 0} (g : X → ℤ × Ask) (x : X) (xs items behind : List X) (v w : DeskView) (pass : PassRoleView) → v.waiting ≡ map g xs → xs ≡ x ∷ items
     → behind ≡ items ++ x ∷ [] → w ≡ record v { pass = pass; waiting = map g behind } → KeepsDue v w
 waits_behind g x xs items behind v w pass all popped pushed is among others =
     let first : v.waiting ≡ g x ∷ map g items = all ∙ ap (map g) popped in
@@ -165,7 +165,7 @@ pub some_part : (s : Store) (text : List ℕ) (held : LinesView) (v w : DeskView
 some_part s text held v w so =
     record { texts = so.texts; rest = so.rest; is = so.is; unbroken = so.unbroken; stands = so.stands; loses = steps_lose s so.texts v w so.takes }
 
-pub no_part : (s : Store) (text : List ℕ) (held : LinesView) (v : DeskView) → StandsFor held text → TakesPart s text held v v
+pub no_part : (s : Store) (text : List ℕ) (held : LinesView) (v : DeskView) → HoldsRestOf held text → TakesPart s text held v v
 no_part s text held v stands =
     record { texts = []; rest = text; is = refl; unbroken = All-nil IsUnbroken; stands = stands; loses = loses_nothing s v v refl }
 
@@ -181,7 +181,7 @@ part_more s text bytes held held' v mid w so cut loses = record {
 }
 
 -- all that have ended
-pub part_all : (s : Store) (text : List ℕ) (held held' : LinesView) (v w : DeskView) (so : TakesPart s text held v w) → IsUnbroken so.rest → StandsFor held' so.rest → PassesAll s text held' v w
+pub part_all : (s : Store) (text : List ℕ) (held held' : LinesView) (v w : DeskView) (so : TakesPart s text held v w) → IsUnbroken so.rest → HoldsRestOf held' so.rest → PassesAll s text held' v w
 part_all s text held held' v w so last stands = record {
   texts = so.texts;
   splits = record { rest = so.rest; is = so.is; unbroken = so.unbroken; last = last; stands = stands };
@@ -288,11 +288,11 @@ unprinted_all s Are v prints (failure.Fault f) (inl is) = inl (cc)
 unprinted_all s Are v prints (failure.Fault f) (inr is) = absurd (cc)
 
 -- a line that came behind the fault
-pub passed_over : (s : Store) (text : List ℕ) (id id' : ℤ) (asks : Ask) (given : Answer) (v w : DeskView) → id' ≡ id → IsAsked s id asks text → w ≡ tells (counted v) (answered id' given ∷ []) → AnswersLine s text v w
+pub passed_over : (s : Store) (text : List ℕ) (id id' : ℤ) (asks : Ask) (given : Answer) (v w : DeskView) → id' ≡ id → IsAskedOf s id asks text → w ≡ tells (one_line_more v) (answer_told id' given ∷ []) → AnswersLine s text v w
 passed_over s text id id' asks given v w same asked is =
-    let told : w ≡ tells (by (counted v) v.pass) (answered id' given ∷ []) = is in
+    let told : w ≡ tells (by (one_line_more v) v.pass) (answer_told id' given ∷ []) = is in
     let pass : v.pass ≡ w.pass = sym (ap (λ (d : DeskView). d.pass) is) in
-    answers_line s text id id' asks v w same asked (record { given = given; is = subst (λ (p : PassView). w ≡ tells (by (counted v) p) (answered id' given ∷ [])) pass told })
+    answers_line s text id id' asks v w same asked (record { given = given; is = subst (λ (p : PassRoleView). w ≡ tells (by (one_line_more v) p) (answer_told id' given ∷ [])) pass told })
 
 pub unprinted_texts : {X : Type 0} (Is : List ℕ → Type 0) (s : Store) (Are : List ℕ → List (List ℕ) → Type 0) (v : DeskView) (prints : List ℕ → Type 0) (r : Result X Failure) → IfErr r IsUnprinted
     → IfErr r (λ e. (text : List ℕ) → Is text → TellsAll s (Are text) v prints e)
@@ -302,7 +302,7 @@ unprinted_texts Is s Are v prints (Err e) is = λ text so. unprinted_all s (Are 
 -- a piece whose lines met a fault
 pub piece_fails : {X : Type 0} {Is : List ℕ → Type 0} (r : Result X Failure) (s : Store) (piece : List ℕ) (held held' : LinesView) (v mid : DeskView) (prints : List ℕ → Type 0) (f : Fault)
     → ((text : List ℕ) → Is text → OrMemory f (TakesPart s (text ++ piece) held v mid)) → (f ≡ Memory → IfErr r IsUnprinted)
-    → IfErr r (λ e. (text : List ℕ) → StandsFor held text → TellsAll s (λ (ys : List (List ℕ)). Splits text ys held') mid prints e)
+    → IfErr r (λ e. (text : List ℕ) → HoldsRestOf held text → TellsAll s (λ (ys : List (List ℕ)). Splits text ys held') mid prints e)
     → IfErr r (λ e. (text : List ℕ) → Is text → TellsAll s (λ (xs : List (List ℕ)). Splits (text ++ piece) xs held') v prints e)
 piece_fails (Ok x) s piece held held' v mid prints f before wanting told = tt
 piece_fails (Err e) s piece held held' v mid prints f before wanting told =
@@ -314,8 +314,8 @@ piece_fails (Err e) s piece held held' v mid prints f before wanting told =
 
 -- the end, where that met one
 pub end_fails : {X : Type 0} {Is : List ℕ → Type 0} (r : Result X Failure) (s : Store) (held held' : LinesView) (v mid : DeskView) (prints : List ℕ → Type 0) (f : Fault)
-    → ((text : List ℕ) → Is text → OrMemory f (TakesRest s text v mid)) → StandsFor held [] → (f ≡ Memory → IfErr r IsUnprinted)
-    → IfErr r (λ e. (text : List ℕ) → StandsFor held text → TellsAll s (λ (ys : List (List ℕ)). Splits text ys held') mid prints e)
+    → ((text : List ℕ) → Is text → OrMemory f (TakesRest s text v mid)) → HoldsRestOf held [] → (f ≡ Memory → IfErr r IsUnprinted)
+    → IfErr r (λ e. (text : List ℕ) → HoldsRestOf held text → TellsAll s (λ (ys : List (List ℕ)). Splits text ys held') mid prints e)
     → IfErr r (λ e. (text : List ℕ) → Is text → TellsAll s (IsLast text) v prints e)
 end_fails (Ok x) s held held' v mid prints f before none wanting told = tt
 end_fails (Err e) s held held' v mid prints f before none wanting told =

@@ -4,7 +4,7 @@ use Rattle.std.specs.Prelude.{All, MatchBool, flat_map}
 use Rattle.std.proofs.lemmas.Bool.Decides.{nat_tests}
 use Rattle.std.proofs.lemmas.List.{flat_map_more}
 use Rattle.std.proofs.lemmas.List.Elements.{All-nil, All-push}
-use Rattle.tmem_lines.specs.Lines.{line, IsUnbroken, IsLine, IsLongLine, StandsFor, IsCutOff}
+use Rattle.tmem_lines.specs.Lines.{line, IsUnbroken, IsLine, IsLongLine, HoldsRestOf, IsCutOff}
 use Rattle.tmem_lines.specs.Views.{LinesView}
 use Rattle.tmem_desk.specs.Asking.{Store}
 use Rattle.tmem_desk.specs.Desks.{DeskView}
@@ -12,16 +12,16 @@ use Rattle.tmem_desk.specs.Serving.{TakesAll, TakesText, TakesShort, RefusesLong
 use Rattle.tmem_desk.specs.Steps.{Steps}
 use Rattle.tmem_desk.proofs.StepLaws.{Steps-push}
 
--- some lines of a text were taken, and what is held stands for the rest
+-- some lines of a text were taken, and what is held is the rest
 pub record TakesSome (s : Store) (text : List ℕ) (held : LinesView) (v w : DeskView) : Type 0 where
   pub texts : List (List ℕ)
   pub rest : List ℕ
   pub is : text ≡ flat_map line texts ++ rest
   pub unbroken : All IsUnbroken texts
-  pub stands : StandsFor held rest
+  pub stands : HoldsRestOf held rest
   pub takes : Steps (TakesText s) texts v w
 
-pub takes_none : (s : Store) (text : List ℕ) (held : LinesView) (v : DeskView) → StandsFor held text → TakesSome s text held v v
+pub takes_none : (s : Store) (text : List ℕ) (held : LinesView) (v : DeskView) → HoldsRestOf held text → TakesSome s text held v v
 takes_none s text held v stands = record { texts = []; rest = text; is = refl; unbroken = All-nil IsUnbroken; stands = stands; takes = refl }
 
 -- one line more
@@ -36,7 +36,7 @@ takes_more s text bytes held held' v mid w so cut taken = record {
 }
 
 -- all that have ended
-pub takes_all : (s : Store) (text : List ℕ) (held held' : LinesView) (v w : DeskView) → (so : TakesSome s text held v w) → IsUnbroken so.rest → StandsFor held' so.rest → TakesAll s text held' v w
+pub takes_all : (s : Store) (text : List ℕ) (held held' : LinesView) (v w : DeskView) → (so : TakesSome s text held v w) → IsUnbroken so.rest → HoldsRestOf held' so.rest → TakesAll s text held' v w
 takes_all s text held held' v w so last stands = record {
   texts = so.texts;
   splits = record { rest = so.rest; is = so.is; unbroken = so.unbroken; last = last; stands = stands };

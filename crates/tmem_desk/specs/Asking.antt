@@ -6,12 +6,12 @@ use Rattle.tmem_fault.specs.declared.fault.Cause.{Cause}
 use Rattle.tmem_fault.specs.declared.fault.Fault.{Fault}
 use Rattle.tmem_fault.specs.declared.fault.Fault.TheVariants as fault
 use Rattle.tmem_front.specs.Refusing.{IsFalseOn, AreEndValues}
-use Rattle.tmem_front.specs.Settling.{Settles, SettlesAtLast, KnowsMore, SeesMore}
+use Rattle.tmem_front.specs.Settling.{SettlesPass, SettlesAtLast, KnowsMore, SeesMore}
 use Rattle.tmem_effect.specs.Names.{has_name}
 use Rattle.tmem_effect.specs.State.{State}
-use Rattle.tmem_seats.specs.Histories.{after}
+use Rattle.tmem_seats.specs.Histories.{state_after_history}
 use Rattle.tmem_spine.specs.History.{count}
-use Rattle.tmem_spine.specs.Views.{PassView}
+use Rattle.tmem_spine.specs.Views.{PassRoleView}
 use Rattle.tmem_tentative.specs.declared.attempt.Attempt.{Attempt}
 use Rattle.tmem_tree.specs.Plans.{BreaksNone, IsLeastBroken}
 use Rattle.tmem_tree.specs.declared.settled.Settled.{Settled}
@@ -38,11 +38,11 @@ abbrev pub store : ℕ → State → Program → List ℕ → List (List ℕ) �
 store start opening program arities always = record { start = start; opening = opening; program = program; arities = arities; always = always }
 
 -- the state after all that a pass knows
-abbrev pub state_of : Store → PassView → State
-state_of s pass = after s.opening pass.known
+abbrev pub state_known : Store → PassRoleView → State
+state_known s pass = state_after_history s.opening pass.known
 
 -- A transaction is settled so, after attempts that met another value or no room.
-abbrev pub SettlesTx : Store → Tx → PassView → Settled → PassView → Type 0
+abbrev pub SettlesTx : Store → Tx → PassRoleView → Settled → PassRoleView → Type 0
 SettlesTx s tx old settled new = SettlesAtLast s.start s.opening s.program tx old (Ok settled) new
 
 -- the transaction is outside the limits of a plan, for this cause and for none of a lesser number
@@ -50,8 +50,8 @@ abbrev pub IsNoPlan : Store → Tx → Cause → Type 0
 IsNoPlan s tx cause = IsLeastBroken s.arities (length s.opening.values) s.program.names tx cause
 
 -- it is within them
-abbrev pub IsPlan : Store → Tx → Type 0
-IsPlan s tx = BreaksNone s.arities (length s.opening.values) s.program.names tx
+abbrev pub IsPlanOf : Store → Tx → Type 0
+IsPlanOf s tx = BreaksNone s.arities (length s.opening.values) s.program.names tx
 
 -- How it is told how a transaction ended. Of one that an invariant refused the values may be told too, of the variables of its footprint,
 -- on which that is false.
@@ -60,25 +60,25 @@ TellsEnding s settled (answer.Refused name because) = (settled ≡ Refused name)
 TellsEnding s settled given = given ≡ answer.Settled settled
 
 -- A transaction is settled so, and told so, by a pass that may know more by then.
-pub record EndsTold (s : Store) (tx : Tx) (old : PassView) (settled : Settled) (given : Answer) (new : PassView) : Type 0 where
-  pub then : PassView
+pub record EndsTold (s : Store) (tx : Tx) (old : PassRoleView) (settled : Settled) (given : Answer) (new : PassRoleView) : Type 0 where
+  pub then : PassRoleView
   pub settles : SettlesTx s tx old settled then
   pub knows : KnowsMore then new
   pub tells : TellsEnding s settled given
 
 -- These variables have these values after all that the pass then knows, which are so many transactions.
-pub record SeesValues (s : Store) (vars : List ℕ) (old : PassView) (number : ℕ) (values : List (ℕ × ℤ)) (new : PassView) : Type 0 where
+pub record SeesValues (s : Store) (vars : List ℕ) (old : PassRoleView) (number : ℕ) (values : List (ℕ × ℤ)) (new : PassRoleView) : Type 0 where
   pub knows : KnowsMore old new
   pub counts : number ≡ count s.start new.known
   pub asked : keys_of values ≡ vars
-  pub seen : map (λ (v : ℕ × ℤ). Some v.1) values ≡ map (λ (var : ℕ). slice_get (state_of s new).values var) vars
+  pub seen : map (λ (v : ℕ × ℤ). Some v.1) values ≡ map (λ (var : ℕ). slice_get (state_known s new).values var) vars
 
 -- All values and the registered names of the program after all that the pass then knows, which are so many transactions.
-pub record SeesState (s : Store) (old : PassView) (number : ℕ) (names : List (List ℕ)) (values : List ℤ) (new : PassView) : Type 0 where
+pub record SeesState (s : Store) (old : PassRoleView) (number : ℕ) (names : List (List ℕ)) (values : List ℤ) (new : PassRoleView) : Type 0 where
   pub knows : KnowsMore old new
   pub counts : number ≡ count s.start new.known
-  pub registered : names ≡ filter (λ (name : List ℕ). has_name (state_of s new).names name) s.program.names
-  pub seen : values ≡ (state_of s new).values
+  pub registered : names ≡ filter (λ (name : List ℕ). has_name (state_known s new).names name) s.program.names
+  pub seen : values ≡ (state_known s new).values
 
 -- how an attempt is told that was settled
 abbrev pub TellsResult : Store → Result Settled Fault → Answer → Type 0
@@ -87,23 +87,23 @@ TellsResult s (Err fault) given = given ≡ answer.Fault fault
 
 -- Of an attempt that was made elsewhere and that an invariant refused, the values that are told are those at its end, after all that
 -- the pass then knows.
-abbrev pub TellsEnd : Store → Attempt → Answer → PassView → Type 0
-TellsEnd s attempt (answer.Refused name because) new = AreEndValues (state_of s new).values attempt.effect.writes because.items
+abbrev pub TellsEnd : Store → Attempt → Answer → PassRoleView → Type 0
+TellsEnd s attempt (answer.Refused name because) new = AreEndValues (state_known s new).values attempt.effect.writes because.items
 TellsEnd s attempt given new = Unit {0}
 
 -- A proposal is settled so: where it is told of a conflict, some value that it read was not the present one.
-pub record SettlesProposal (s : Store) (proposal : Proposal) (old : PassView) (given : Answer) (new : PassView) : Type 0 where
+pub record SettlesProposal (s : Store) (proposal : Proposal) (old : PassRoleView) (given : Answer) (new : PassRoleView) : Type 0 where
   pub attempt : Attempt
   pub made : IsAttemptOf proposal attempt
   pub result : Result Settled Fault
-  pub then : PassView
-  pub settles : Settles s.start s.opening s.program attempt old result then
+  pub then : PassRoleView
+  pub settles : SettlesPass s.start s.opening s.program attempt old result then
   pub knows : KnowsMore then new
   pub tells : TellsResult s result given
   pub end : TellsEnd s attempt given new
 
 -- One attempt at what may wait: it is answered so, or has to wait (None).
-abbrev pub Tries : Store → Ask → PassView → Option Answer → PassView → Type 0
+abbrev pub Tries : Store → Ask → PassRoleView → Option Answer → PassRoleView → Type 0
 Tries s (ask.Do tx) old None new = SettlesTx s tx old Retry new
 Tries s (ask.Do tx) old (Some given) new = (settled : Settled) × (settled ≢ Retry) × EndsTold s tx old settled given new
 Tries s (ask.Changed reads) old None new = (number : ℕ) × SeesValues s (keys_of reads.items) old number reads.items new
@@ -111,13 +111,13 @@ Tries s (ask.Changed reads) old (Some (answer.Values number values)) new = SeesV
 Tries s _ old outcome new = ⊥
 
 -- What is answered at once.
-abbrev pub Answers : Store → Ask → PassView → Answer → PassView → Type 0
-Answers s (ask.Try tx) old given new =
+abbrev pub AnswersAsk : Store → Ask → PassRoleView → Answer → PassRoleView → Type 0
+AnswersAsk s (ask.Try tx) old given new =
     ((cause : Cause) × (given ≡ answer.Fault (fault.BadPlan cause)) × IsNoPlan s tx cause × (new ≡ old))
     ⊎ ((settled : Settled) × EndsTold s tx old settled given new)
-Answers s (ask.Get vars) old (answer.Values number values) new = SeesValues s vars.items old number values.items new
-Answers s (ask.Settle proposal) old given new = SettlesProposal s proposal old given new
-Answers s ask.Look old (answer.Durable number) new = (number ≡ count s.start new.seen) × SeesMore old new
-Answers s ask.State old (answer.State number names values) new = SeesState s old number names.items values.items new
-Answers s ask.Checkpoint old given new = ((given ≡ answer.Checkpointed) ⊎ (given ≡ answer.Fault fault.Spent)) × (new ≡ old)
-Answers s _ old given new = ⊥
+AnswersAsk s (ask.Get vars) old (answer.Values number values) new = SeesValues s vars.items old number values.items new
+AnswersAsk s (ask.Settle proposal) old given new = SettlesProposal s proposal old given new
+AnswersAsk s ask.Look old (answer.Durable number) new = (number ≡ count s.start new.seen) × SeesMore old new
+AnswersAsk s ask.State old (answer.State number names values) new = SeesState s old number names.items values.items new
+AnswersAsk s ask.Checkpoint old given new = ((given ≡ answer.Checkpointed) ⊎ (given ≡ answer.Fault fault.Spent)) × (new ≡ old)
+AnswersAsk s _ old given new = ⊥

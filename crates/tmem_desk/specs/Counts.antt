@@ -9,32 +9,32 @@ use Rattle.tmem_desk.specs.declared.told.Told.{Told}
 use Rattle.tmem_desk.specs.declared.told.Told.TheVariants as told
 
 -- one more, by a number of 64 bits
-abbrev pub next : ℕ → ℕ
-next n = (n + 1) % 2 ^ 64
+abbrev pub one_more : ℕ → ℕ
+one_more n = (n + 1) % 2 ^ 64
 
 -- nothing was told yet
 abbrev pub no_counts : Counts
 no_counts = record { committed = 0; refused = 0; conflicts = 0 }
 
 abbrev pub one_committed : Counts → Counts
-one_committed c = record c { committed = next c.committed }
+one_committed c = record c { committed = one_more c.committed }
 
 abbrev pub one_refused : Counts → Counts
-one_refused c = record c { refused = next c.refused }
+one_refused c = record c { refused = one_more c.refused }
 
 abbrev pub one_conflict : Counts → Counts
-one_conflict c = record c { conflicts = next c.conflicts }
+one_conflict c = record c { conflicts = one_more c.conflicts }
 
 -- after an answer
-abbrev pub noted : Counts → Answer → Counts
-noted c (answer.Settled (settled.Committed number registers)) = one_committed c
-noted c (answer.Settled (settled.Refused name)) = one_refused c
-noted c (answer.Refused name because) = one_refused c
-noted c (answer.Fault fault.Conflict) = one_conflict c
-noted c given = c
+abbrev pub counts_with : Counts → Answer → Counts
+counts_with c (answer.Settled (settled.Committed number registers)) = one_committed c
+counts_with c (answer.Settled (settled.Refused name)) = one_refused c
+counts_with c (answer.Refused name because) = one_refused c
+counts_with c (answer.Fault fault.Conflict) = one_conflict c
+counts_with c given = c
 
 -- after these were told
 abbrev pub counts_after : Counts → List Told → Counts
 counts_after c [] = c
-counts_after c (told.Answer a ∷ more) = counts_after (noted c a.answer) more
+counts_after c (told.Answer a ∷ more) = counts_after (counts_with c a.answer) more
 counts_after c (told.NoRequest n ∷ more) = counts_after c more

@@ -1,6 +1,6 @@
 -- What contracts see of a desk.
 use Rattle.std.specs.Prelude.{ℕ, ℤ, List}
-use Rattle.tmem_spine.specs.Views.{PassView}
+use Rattle.tmem_spine.specs.Views.{PassRoleView}
 use Rattle.tmem_tree.specs.declared.tx.Tx.{Tx}
 use Rattle.tmem_requests.specs.declared.request.Ask.{Ask}
 use Rattle.tmem_desk.specs.declared.counts.Counts.{Counts}
@@ -9,7 +9,7 @@ use Rattle.tmem_desk.specs.declared.told.Told.{Told}
 -- its pass, the requests that wait, each with its id, in the order in which they came, the transactions that are kept, each under its
 -- word, what is told and not printed yet, how many lines have come, and what was counted of all that was told
 pub record DeskView : Type 0 where
-  pub pass : PassView
+  pub pass : PassRoleView
   pub waiting : List (ℤ × Ask)
   pub kept : List (List ℕ × Tx)
   pub told : List Told

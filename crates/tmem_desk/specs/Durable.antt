@@ -1,6 +1,6 @@
 -- That what is told is durable.
 use Rattle.std.specs.Prelude.{ℕ, ◌≤◌, Ok}
-use Rattle.tmem_front.specs.Settling.{IsWithin}
+use Rattle.tmem_front.specs.Settling.{IsNumberedWithin}
 use Rattle.tmem_requests.specs.declared.answer.Answer.{Answer}
 use Rattle.tmem_requests.specs.declared.answer.Answer.TheVariants as answer
 use Rattle.tmem_desk.specs.declared.told.Told.{Told}
@@ -8,7 +8,7 @@ use Rattle.tmem_desk.specs.declared.told.Told.TheVariants as told
 
 -- each transaction that an answer names, and each that it was made on, is among the first so many
 abbrev pub IsAmong : ℕ → Answer → Type 0
-IsAmong n (answer.Settled settled) = IsWithin (Ok settled) n
+IsAmong n (answer.Settled settled) = IsNumberedWithin (Ok settled) n
 IsAmong n (answer.Values number values) = number ≤ n
 IsAmong n (answer.State number names values) = number ≤ n
 IsAmong n (answer.Durable number) = number ≤ n

@@ -2,16 +2,16 @@
 use Rattle.std.specs.Prelude.{◌≡◌, ◌⊎◌, ◌+◌, ℕ, ℤ, Bool, List, [], ◌∷◌, ◌++◌, All, count_by, flat_map}
 use Rattle.tmem_fault.specs.declared.fault.Fault.{Fault}
 use Rattle.tmem_fault.specs.declared.fault.Fault.TheVariants.{Memory}
-use Rattle.tmem_lines.specs.Lines.{line, IsUnbroken, StandsFor}
+use Rattle.tmem_lines.specs.Lines.{line, IsUnbroken, HoldsRestOf}
 use Rattle.tmem_lines.specs.Views.{LinesView}
-use Rattle.tmem_spine.specs.Views.{PassView}
+use Rattle.tmem_spine.specs.Views.{PassRoleView}
 use Rattle.tmem_requests.specs.declared.answer.Answer.{Answer}
 use Rattle.tmem_requests.specs.declared.request.Ask.{Ask}
 use Rattle.tmem_desk.specs.Asking.{Store}
 use Rattle.tmem_desk.specs.Desks.{DeskView}
 use Rattle.tmem_desk.specs.Due.{LinesCount, LosesNone, answers_of, due_of}
-use Rattle.tmem_desk.specs.Serving.{IsAsked, RefusesLine, Splits, by, counted, tells}
-use Rattle.tmem_desk.specs.Told.{answered, told_lines, TellsOnly}
+use Rattle.tmem_desk.specs.Serving.{IsAskedOf, RefusesLine, Splits, by, one_line_more, tells}
+use Rattle.tmem_desk.specs.Told.{answer_told, told_lines, TellsOnly}
 use Rattle.tmem_desk.specs.declared.failure.Failure.{Failure}
 use Rattle.tmem_desk.specs.declared.failure.Failure.TheVariants.{Output}
 use Rattle.tmem_desk.specs.declared.failure.Failure.TheVariants as failure
@@ -23,7 +23,7 @@ EndsBy prints (failure.Fault fault) = (all : List Told) × All (TellsOnly fault)
 EndsBy prints Output = Unit {0}
 
 -- What may be printed: all that the pass knows is durable, or no request is told of anything but a fault.
-abbrev pub MayPrint : PassView → List Told → Type 0
+abbrev pub MayPrint : PassRoleView → List Told → Type 0
 MayPrint pass all = (pass.seen ≡ pass.known) ⊎ ((fault : Fault) × All (TellsOnly fault) all)
 
 -- Each that was due, and each of these lines, is told once, and of nothing but why: of whatever ids, as many are told as were due and
@@ -56,26 +56,26 @@ IsUnprinted f = (f ≡ failure.Fault Memory) ⊎ (f ≡ Output)
 -- a request of this id is answered, and else nothing is changed but what the pass knows
 pub record AnswersOnly (id : ℤ) (v w : DeskView) : Type 0 where
   pub given : Answer
-  pub is : w ≡ tells (by v w.pass) (answered id given ∷ [])
+  pub is : w ≡ tells (by v w.pass) (answer_told id given ∷ [])
 
 -- the request is answered that a line is
 pub record AnswersLine (s : Store) (text : List ℕ) (v w : DeskView) : Type 0 where
   pub id : ℤ
   pub ask : Ask
-  pub asked : IsAsked s id ask text
-  pub only : AnswersOnly id (counted v) w
+  pub asked : IsAskedOf s id ask text
+  pub only : AnswersOnly id (one_line_more v) w
 
 -- or it is told that it is none
 abbrev pub PassesLine : Store → List ℕ → DeskView → DeskView → Type 0
 PassesLine s text v w = AnswersLine s text v w ⊎ RefusesLine s text v w
 
--- Some lines of a text came, of which none is lost, and what is held stands for the rest.
+-- Some lines of a text came, of which none is lost, and what is held is the rest.
 pub record TakesPart (s : Store) (text : List ℕ) (held : LinesView) (v w : DeskView) : Type 0 where
   pub texts : List (List ℕ)
   pub rest : List ℕ
   pub is : text ≡ flat_map line texts ++ rest
   pub unbroken : All IsUnbroken texts
-  pub stands : StandsFor held rest
+  pub stands : HoldsRestOf held rest
   pub loses : LosesNone s texts v w
 
 -- Each line of a text came that has ended, and none is lost.

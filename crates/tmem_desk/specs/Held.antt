@@ -1,6 +1,6 @@
 -- What the types of the desk stand for.
 use Rattle.std.specs.Prelude.{ℕ, zero, suc, ℤ, List, [], ◌∷◌, ◌++◌, map}
-use Rattle.tmem_spine.specs.Views.{PassView}
+use Rattle.tmem_spine.specs.Views.{PassRoleView}
 use Rattle.tmem_tree.specs.declared.tx.Tx.{Tx}
 use Rattle.tmem_requests.specs.declared.request.Ask.{Ask}
 use Rattle.tmem_requests.specs.declared.request.Ask.TheVariants.{Do, Changed}
@@ -26,11 +26,11 @@ abbrev pub words_kept : {N : Type 0} {a b c d : _} → List (Kept N a b c d) →
 words_kept all = map (λ k. (k.word, k.ready.plan.tree)) all
 
 -- what contracts see of a desk
-abbrev pub view_of : {N : Type 0} {a b c d : _} → Desk N a b c d → DeskView
-view_of d = record { pass = d.pass; waiting = asking d.waiting.items; kept = words_kept d.kept.items; told = d.told.items; lines = d.lines; counts = d.counts }
+abbrev pub desk_view : {N : Type 0} {a b c d : _} → Desk N a b c d → DeskView
+desk_view d = record { pass = d.pass; waiting = asking d.waiting.items; kept = words_kept d.kept.items; told = d.told.items; lines = d.lines; counts = d.counts }
 
 -- one that has read nothing yet
-abbrev pub empty_desk : PassView → DeskView
+abbrev pub empty_desk : PassRoleView → DeskView
 empty_desk pass = record { pass = pass; waiting = []; kept = []; told = []; lines = 0; counts = no_counts }
 
 -- the first so many numbers, from 0

@@ -5,7 +5,7 @@ use Rattle.std.specs.Ordering.{int_eq}
 use Rattle.tmem_fault.specs.declared.fault.Cause.{Cause}
 use Rattle.tmem_fault.specs.declared.fault.Fault.TheVariants as fault
 use Rattle.tmem_front.specs.Settling.{SeesMore}
-use Rattle.tmem_spine.specs.Views.{PassView}
+use Rattle.tmem_spine.specs.Views.{PassRoleView}
 use Rattle.tmem_tree.specs.declared.tx.Tx.{Tx}
 use Rattle.tmem_requests.specs.Fits.{FitsStore}
 use Rattle.tmem_requests.specs.Reasons.{IsReason}
@@ -17,17 +17,17 @@ use Rattle.tmem_requests.specs.declared.refusal.NoRequest.{NoRequest}
 use Rattle.tmem_requests.specs.declared.request.Ask.{Ask}
 use Rattle.tmem_requests.specs.declared.request.Ask.TheVariants as ask
 use Rattle.tmem_requests.specs.declared.why.Why.TheVariants.{TooLong}
-use Rattle.tmem_lines.specs.Lines.{line, IsUnbroken, StandsFor}
+use Rattle.tmem_lines.specs.Lines.{line, IsUnbroken, HoldsRestOf}
 use Rattle.tmem_lines.specs.Views.{LinesView}
 use Rattle.tmem_forms.specs.TxForms.{tx_form}
-use Rattle.tmem_desk.specs.Asking.{Store, IsNoPlan, IsPlan, Tries, Answers}
+use Rattle.tmem_desk.specs.Asking.{Store, IsNoPlan, IsPlanOf, Tries, AnswersAsk}
 use Rattle.tmem_desk.specs.Counts.{counts_after}
 use Rattle.tmem_desk.specs.Desks.{DeskView}
 use Rattle.tmem_copies.specs.Leading.{first_puts}
 use Rattle.tmem_copies.specs.Numbering.{with_numbers}
 use Rattle.tmem_desk.specs.Keeping.{kept_under, with_kept}
 use Rattle.tmem_desk.specs.Steps.{Steps, Repeats}
-use Rattle.tmem_desk.specs.Told.{answered, refused, told_lines}
+use Rattle.tmem_desk.specs.Told.{answer_told, refused, told_lines}
 use Rattle.tmem_desk.specs.declared.told.Told.{Told}
 
 -- what is told more
@@ -35,16 +35,16 @@ abbrev pub tells : DeskView → List Told → DeskView
 tells v more = record v { told = v.told ++ more; counts = counts_after v.counts more }
 
 -- a pass that knows more
-abbrev pub by : DeskView → PassView → DeskView
+abbrev pub by : DeskView → PassRoleView → DeskView
 by v pass = record v { pass = pass }
 
 -- A request that may wait was tried: it is answered, or waits behind the others, of which there may be 1024.
 abbrev pub tried : ℤ → Ask → Option Answer → DeskView → DeskView
-tried id ask (Some given) v = tells v (answered id given ∷ [])
+tried id ask (Some given) v = tells v (answer_told id given ∷ [])
 tried id ask None v =
     if nat_lt (length v.waiting) 1024
     then record v { waiting = v.waiting ++ (id, ask) ∷ [] }
-    else tells v (answered id (answer.Fault fault.Full) ∷ [])
+    else tells v (answer_told id (answer.Fault fault.Full) ∷ [])
 
 -- whether a request of this id waits
 abbrev pub waits : ℤ → List (ℤ × Ask) → Bool
@@ -59,8 +59,8 @@ without id (w ∷ ws) = if int_eq w.0 id then ws else w ∷ without id ws
 abbrev pub cancelled : ℤ → ℤ → DeskView → DeskView
 cancelled id other v =
     if waits other v.waiting
-    then tells (record v { waiting = without other v.waiting }) (answered other answer.Cancelled ∷ answered id (answer.Found true) ∷ [])
-    else tells v (answered id (answer.Found false) ∷ [])
+    then tells (record v { waiting = without other v.waiting }) (answer_told other answer.Cancelled ∷ answer_told id (answer.Found true) ∷ [])
+    else tells v (answer_told id (answer.Found false) ∷ [])
 
 -- a request that may wait
 pub record MayWait (s : Store) (id : ℤ) (ask : Ask) (v w : DeskView) : Type 0 where
@@ -69,23 +69,23 @@ pub record MayWait (s : Store) (id : ℤ) (ask : Ask) (v w : DeskView) : Type 0 
   pub is : w ≡ tried id ask outcome (by v w.pass)
 
 -- a request that is answered at once
-pub record IsAnswered (s : Store) (id : ℤ) (ask : Ask) (v w : DeskView) : Type 0 where
+pub record IsAnsweredAtOnce (s : Store) (id : ℤ) (ask : Ask) (v w : DeskView) : Type 0 where
   pub given : Answer
-  pub answers : Answers s ask v.pass given w.pass
-  pub is : w ≡ tells (by v w.pass) (answered id given ∷ [])
+  pub answers : AnswersAsk s ask v.pass given w.pass
+  pub is : w ≡ tells (by v w.pass) (answer_told id given ∷ [])
 
 -- the transaction of a request is no plan
 pub record HasNoPlan (s : Store) (id : ℤ) (tx : Tx) (v w : DeskView) : Type 0 where
   pub cause : Cause
   pub least : IsNoPlan s tx cause
-  pub is : w ≡ tells v (answered id (answer.Fault (fault.BadPlan cause)) ∷ [])
+  pub is : w ≡ tells v (answer_told id (answer.Fault (fault.BadPlan cause)) ∷ [])
 
 -- A transaction is kept under a word, in place of the one that was kept under it, if there was one; or 256 others are kept.
 abbrev pub kept_as : ℤ → List ℕ → Tx → DeskView → DeskView
 kept_as id word tx v =
-    if is_some (kept_under word v.kept) || nat_lt (length v.kept) 256
-    then tells (record v { kept = with_kept word tx v.kept }) (answered id (answer.Kept word) ∷ [])
-    else tells v (answered id (answer.Fault fault.Full) ∷ [])
+    if is_some (kept_under word v.kept) || nat_lt (length v.kept) (2 ^ 8)
+    then tells (record v { kept = with_kept word tx v.kept }) (answer_told id (answer.Kept word) ∷ [])
+    else tells v (answer_told id (answer.Fault fault.Full) ∷ [])
 
 -- A transaction that was kept is run as `do`, a copy of it, in which these numbers stand for those of the first Puts.
 pub record RunsCopy (s : Store) (id : ℤ) (numbers : List ℤ) (tx : Tx) (v w : DeskView) : Type 0 where
@@ -96,12 +96,12 @@ pub record RunsCopy (s : Store) (id : ℤ) (numbers : List ℤ) (tx : Tx) (v w :
 -- the same, where it begins with so many Puts
 abbrev pub RunsWith : Store → ℤ → List ℤ → Tx → DeskView → DeskView → Type 0
 RunsWith s id numbers tx v w =
-    MatchBool (nat_le (length numbers) (first_puts tx)) (RunsCopy s id numbers tx v w) (w ≡ tells v (answered id (answer.Found false) ∷ []))
+    MatchBool (nat_le (length numbers) (first_puts tx)) (RunsCopy s id numbers tx v w) (w ≡ tells v (answer_told id (answer.Found false) ∷ []))
 
 -- the one that is kept under a word; or there is none
 abbrev pub Runs : Store → ℤ → List ℤ → Option Tx → DeskView → DeskView → Type 0
 Runs s id numbers (Some tx) v w = RunsWith s id numbers tx v w
-Runs s id numbers None v w = w ≡ tells v (answered id (answer.Found false) ∷ [])
+Runs s id numbers None v w = w ≡ tells v (answer_told id (answer.Found false) ∷ [])
 
 -- What was counted is told, and how many wait and are kept. (Of flushes, checkpoints and slots no clause speaks.)
 pub record TellsStats (id : ℤ) (v w : DeskView) : Type 0 where
@@ -111,45 +111,45 @@ pub record TellsStats (id : ℤ) (v w : DeskView) : Type 0 where
   pub conflicts : stats.conflicts ≡ v.counts.conflicts
   pub waiting : stats.waiting ≡ length v.waiting
   pub kept : stats.kept ≡ length v.kept
-  pub is : w ≡ tells v (answered id (answer.Stats stats) ∷ [])
+  pub is : w ≡ tells v (answer_told id (answer.Stats stats) ∷ [])
 
 -- From v, this request leads to w.
 abbrev pub Takes : Store → ℤ → Ask → DeskView → DeskView → Type 0
 Takes s id (ask.Do tx) v w = HasNoPlan s id tx v w ⊎ MayWait s id (ask.Do tx) v w
 Takes s id (ask.Changed reads) v w = MayWait s id (ask.Changed reads) v w
 Takes s id (ask.Cancel other) v w = w ≡ cancelled id other v
-Takes s id (ask.Keep word tx) v w = HasNoPlan s id tx v w ⊎ (IsPlan s tx × (w ≡ kept_as id word tx v))
+Takes s id (ask.Keep word tx) v w = HasNoPlan s id tx v w ⊎ (IsPlanOf s tx × (w ≡ kept_as id word tx v))
 Takes s id (ask.Run word numbers) v w = Runs s id numbers.items (kept_under word v.kept) v w
 Takes s id ask.Stats v w = TellsStats id v w
-Takes s id ask v w = IsAnswered s id ask v w
+Takes s id ask v w = IsAnsweredAtOnce s id ask v w
 
 -- one line more came, by a number of 64 bits
-abbrev pub counted : DeskView → DeskView
-counted v = record v { lines = (v.lines + 1) % 2 ^ 64 }
+abbrev pub one_line_more : DeskView → DeskView
+one_line_more v = record v { lines = (v.lines + 1) % 2 ^ 64 }
 
 -- The line is a request that can be made of the store.
-abbrev pub IsAsked : Store → ℤ → Ask → List ℕ → Type 0
-IsAsked s id ask text = IsRequestText id ask text × FitsStore (length s.opening.values) s.program.names s.always ask
+abbrev pub IsAskedOf : Store → ℤ → Ask → List ℕ → Type 0
+IsAskedOf s id ask text = IsRequestText id ask text × FitsStore (length s.opening.values) s.program.names s.always ask
 
 -- it is one, and is taken
 pub record TakesLine (s : Store) (text : List ℕ) (v w : DeskView) : Type 0 where
   pub id : ℤ
   pub ask : Ask
-  pub is : IsAsked s id ask text
-  pub takes : Takes s id ask (counted v) w
+  pub is : IsAskedOf s id ask text
+  pub takes : Takes s id ask (one_line_more v) w
 
 -- it is none, and that is told, with its number and a reason that is true
 pub record RefusesLine (s : Store) (text : List ℕ) (v w : DeskView) : Type 0 where
-  pub none : (id : ℤ) (ask : Ask) → ¬ IsAsked s id ask text
+  pub none : (id : ℤ) (ask : Ask) → ¬ IsAskedOf s id ask text
   pub refusal : NoRequest
   pub reason : IsReason (length s.opening.values) s.program.names s.always text refusal
-  pub is : w ≡ tells (counted v) (refused (counted v).lines refusal ∷ [])
+  pub is : w ≡ tells (one_line_more v) (refused (one_line_more v).lines refusal ∷ [])
 
 -- it is too long to be one
 pub record RefusesLong (v w : DeskView) : Type 0 where
   pub refusal : NoRequest
   pub why : refusal.why ≡ TooLong
-  pub is : w ≡ tells (counted v) (refused (counted v).lines refusal ∷ [])
+  pub is : w ≡ tells (one_line_more v) (refused (one_line_more v).lines refusal ∷ [])
 
 -- From v, a line leads to w that is not too long.
 abbrev pub TakesShort : Store → List ℕ → DeskView → DeskView → Type 0
@@ -161,7 +161,7 @@ TakesText s text v w = MatchBool (nat_lt 65536 (length text)) (RefusesLong v w) 
 
 -- The first request that waits was tried again: it is answered, or waits behind the others.
 abbrev pub tried_again : ℤ → Ask → Option Answer → List (ℤ × Ask) → DeskView → DeskView
-tried_again id ask (Some given) rest v = tells (record v { waiting = rest }) (answered id given ∷ [])
+tried_again id ask (Some given) rest v = tells (record v { waiting = rest }) (answer_told id given ∷ [])
 tried_again id ask None rest v = record v { waiting = rest ++ (id, ask) ∷ [] }
 
 pub record TriesFirst (s : Store) (v w : DeskView) : Type 0 where
@@ -194,7 +194,7 @@ pub record Splits (text : List ℕ) (texts : List (List ℕ)) (held : LinesView)
   pub is : text ≡ flat_map line texts ++ rest
   pub unbroken : All IsUnbroken texts
   pub last : IsUnbroken rest
-  pub stands : StandsFor held rest
+  pub stands : HoldsRestOf held rest
 
 -- Each line of a text is taken that has ended.
 pub record TakesAll (s : Store) (text : List ℕ) (held : LinesView) (v w : DeskView) : Type 0 where
@@ -226,7 +226,7 @@ pub record ServesPiece (s : Store) (text : List ℕ) (held : LinesView) (v w : D
 
 -- those that wait are told that the store is closed
 abbrev pub closed : List (ℤ × Ask) → List Told
-closed all = map (λ (w : ℤ × Ask). answered w.0 (answer.Fault fault.Closed)) all
+closed all = map (λ (w : ℤ × Ask). answer_told w.0 (answer.Fault fault.Closed)) all
 
 -- the same for each that waits, and none waits any more
 abbrev pub with_closed : DeskView → DeskView

@@ -11,8 +11,8 @@ use Rattle.tmem_desk.specs.declared.told.Told.{Told}
 use Rattle.tmem_desk.specs.declared.told.Told.TheVariants as told
 
 -- the request of this id is answered so
-abbrev pub answered : ℤ → Answer → Told
-answered id given = told.Answer (record { id = id; answer = given })
+abbrev pub answer_told : ℤ → Answer → Told
+answer_told id given = told.Answer (record { id = id; answer = given })
 
 -- the line of this number is no request
 abbrev pub refused : ℕ → NoRequest → Told
@@ -29,7 +29,7 @@ told_lines all = flat_map told_line all
 
 -- the same, where a request is answered by this fault
 abbrev pub failed : Fault → Told → Told
-failed fault (told.Answer a) = answered a.id (answer.Fault fault)
+failed fault (told.Answer a) = answer_told a.id (answer.Fault fault)
 failed fault (told.NoRequest n) = told.NoRequest n
 
 -- it tells a request of nothing but this fault

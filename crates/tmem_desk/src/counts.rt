@@ -1,6 +1,6 @@
 // What a desk counts.
 ghost use Rattle.std.specs.Prelude.{◌≡◌};
-ghost use Rattle.tmem_desk.specs.Counts.{no_counts, noted, one_committed, one_refused, one_conflict};
+ghost use Rattle.tmem_desk.specs.Counts.{no_counts, counts_with, one_committed, one_refused, one_conflict};
 
 use tmem_core::Settled;
 use tmem_fault::Fault;
@@ -28,7 +28,7 @@ impl Counts {
 
     /// Counts an answer.
     pub(crate) fn note(&mut self, answer: &Answer)
-        ensures { self.new ≡ noted self.old answer.now }
+        ensures { self.new ≡ counts_with self.old answer.now }
     {
         match answer {
             Answer::Settled(settled) => self.note_settled(settled),
@@ -40,7 +40,7 @@ impl Counts {
 
     // Counts how a transaction ended.
     fn note_settled(&mut self, settled: &Settled)
-        ensures { self.new ≡ noted self.old (Answer.Settled settled.now) }
+        ensures { self.new ≡ counts_with self.old (Answer.Settled settled.now) }
     {
         match settled {
             Settled::Committed { .. } => self.note_committed(),

@@ -5,9 +5,9 @@ ghost use Rattle.tmem_requests.specs.Fits.{FitsStore};
 ghost use Rattle.tmem_requests.specs.declared.request.Ask.TheVariants.{Do};
 ghost use Rattle.tmem_desk.specs.Asking.{store};
 ghost use Rattle.tmem_desk.specs.Failing.{AnswersLine, AnswersOnly, OrMemory, PassesLine};
-ghost use Rattle.tmem_desk.specs.Held.{asked, view_of, empty_desk};
+ghost use Rattle.tmem_desk.specs.Held.{asked, desk_view, empty_desk};
 ghost use Rattle.tmem_desk.specs.Serving.{Takes, MayWait, TakesShort, RefusesLong, by, tells, tried, cancelled};
-ghost use Rattle.tmem_desk.specs.Told.{answered, refused};
+ghost use Rattle.tmem_desk.specs.Told.{answer_told, refused};
 
 use crate::counts::Counts;
 use crate::held::{Held, Waiting};
@@ -22,7 +22,7 @@ use tmem_disk::Disk;
 use tmem_fault::Fault;
 use tmem_front::Pass;
 use tmem_invariants::Invariants;
-use tmem_lines::MAX_LINE;
+use tmem_lines::MAX_LINE_BYTES;
 use tmem_requests::{Answer, AnswerLine, Ask, NoRequest, NoRequestLine, Place, RequestError, Why};
 use tmem_tree::{StoredSteps, Tx};
 
@@ -49,7 +49,7 @@ pub struct Desk<N: ServedNaming> {
 impl<N: ServedNaming> Desk<N> {
     /// A desk that has read nothing yet, with a pass of the front that it serves.
     pub fn new(alloc: Global, pass: Pass<N>) -> Desk<N>
-        ensures { view_of result ≡ empty_desk pass }
+        ensures { desk_view result ≡ empty_desk pass }
     {
         Desk {
             alloc,
@@ -64,7 +64,7 @@ impl<N: ServedNaming> Desk<N> {
 
     // Tells what a request is answered.
     pub(crate) fn tell(&mut self, id: i64, answer: Answer) -> Result<(), Fault>
-        ensures ok { OnOk result (view_of self.new ≡ tells (view_of self.old) (answered id answer ∷ [])) }
+        ensures ok { OnOk result (desk_view self.new ≡ tells (desk_view self.old) (answer_told id answer ∷ [])) }
         ensures err { IfErr result (λ f. f ≡ Fault.Memory) }
     {
         self.counts.note(&answer);
@@ -75,7 +75,7 @@ impl<N: ServedNaming> Desk<N> {
     // Tells a request why the store cannot go on.
     fn tell_fault(&mut self, id: i64, fault: &Fault) -> Result<(), Fault>
         ensures never { IsErr result }
-        ensures err { IfErr result (λ f. OrMemory f ((f ≡ fault.now) × (view_of self.new ≡ tells (view_of self.old) (answered id (Answer.Fault fault.now) ∷ [])))) }
+        ensures err { IfErr result (λ f. OrMemory f ((f ≡ fault.now) × (desk_view self.new ≡ tells (desk_view self.old) (answer_told id (Answer.Fault fault.now) ∷ [])))) }
     {
         self.tell(id, Answer::Fault(*fault))?;
         Err(*fault)
@@ -83,7 +83,7 @@ impl<N: ServedNaming> Desk<N> {
 
     // Tells that the last line is no request.
     fn refuse(&mut self, refusal: NoRequest) -> Result<(), Fault>
-        ensures ok { OnOk result (view_of self.new ≡ tells (view_of self.old) (refused self.old.lines refusal ∷ [])) }
+        ensures ok { OnOk result (desk_view self.new ≡ tells (desk_view self.old) (refused self.old.lines refusal ∷ [])) }
         ensures err { IfErr result (λ f. f ≡ Fault.Memory) }
     {
         let line = self.lines;
@@ -94,7 +94,7 @@ impl<N: ServedNaming> Desk<N> {
 
     // Lets a request wait, unless as many wait as may.
     fn wait(&mut self, id: i64, held: Held<N>) -> Result<(), Fault>
-        ensures ok { OnOk result (view_of self.new ≡ tried id (asked held) None (view_of self.old)) }
+        ensures ok { OnOk result (desk_view self.new ≡ tried id (asked held) None (desk_view self.old)) }
         ensures err { IfErr result (λ f. f ≡ Fault.Memory) }
     {
         if self.waiting.len() >= MOST_WAITING {
@@ -112,8 +112,8 @@ impl<N: ServedNaming> Desk<N> {
         service: &Service<R, D, N, T, S>,
         text: &[u8],
     ) -> Result<(), Fault>
-        ensures ok { OnOk result (TakesShort (store N.name.start N.opening N.program N.arities N.always) text.now (view_of self.old) (view_of self.new)) }
-        ensures err { IfErr result (λ f. OrMemory f (AnswersLine (store N.name.start N.opening N.program N.arities N.always) text.now (view_of self.old) (view_of self.new))) }
+        ensures ok { OnOk result (TakesShort (store N.name.start N.opening N.program N.arities N.always) text.now (desk_view self.old) (desk_view self.new)) }
+        ensures err { IfErr result (λ f. OrMemory f (AnswersLine (store N.name.start N.opening N.program N.arities N.always) text.now (desk_view self.old) (desk_view self.new))) }
     {
         self.lines = self.lines.wrapping_add(1);
         match service.read(text) {
@@ -129,7 +129,7 @@ impl<N: ServedNaming> Desk<N> {
         service: &Service<R, D, N, T, S>,
         text: &[u8],
     ) -> Result<(), Fault>
-        ensures ok { OnOk result (PassesLine (store N.name.start N.opening N.program N.arities N.always) text.now (view_of self.old) (view_of self.new)) }
+        ensures ok { OnOk result (PassesLine (store N.name.start N.opening N.program N.arities N.always) text.now (desk_view self.old) (desk_view self.new)) }
         ensures err { IfErr result (λ f. f ≡ Fault.Memory) }
     {
         self.lines = self.lines.wrapping_add(1);
@@ -142,13 +142,13 @@ impl<N: ServedNaming> Desk<N> {
 
     // Takes a line that is too long.
     pub(crate) fn take_long_line(&mut self) -> Result<(), Fault>
-        ensures ok { OnOk result (RefusesLong (view_of self.old) (view_of self.new)) }
+        ensures ok { OnOk result (RefusesLong (desk_view self.old) (desk_view self.new)) }
         ensures err { IfErr result (λ f. f ≡ Fault.Memory) }
     {
         self.lines = self.lines.wrapping_add(1);
         self.refuse(NoRequest {
             why: Why::TooLong,
-            at: Place::Column(MAX_LINE as u64 + 1),
+            at: Place::Column(MAX_LINE_BYTES as u64 + 1),
         })
     }
 
@@ -160,8 +160,8 @@ impl<N: ServedNaming> Desk<N> {
         ask: Ask,
     ) -> Result<(), Fault>
         requires { FitsStore (length N.opening.values) N.program.names N.always ask }
-        ensures ok { OnOk result (Takes (store N.name.start N.opening N.program N.arities N.always) id ask (view_of self.old) (view_of self.new)) }
-        ensures err { IfErr result (λ f. OrMemory f (AnswersOnly id (view_of self.old) (view_of self.new))) }
+        ensures ok { OnOk result (Takes (store N.name.start N.opening N.program N.arities N.always) id ask (desk_view self.old) (desk_view self.new)) }
+        ensures err { IfErr result (λ f. OrMemory f (AnswersOnly id (desk_view self.old) (desk_view self.new))) }
     {
         match self.take(service, id, ask) {
             Ok(()) => Ok(()),
@@ -177,8 +177,8 @@ impl<N: ServedNaming> Desk<N> {
         ask: Ask,
     ) -> Result<(), Fault>
         requires { FitsStore (length N.opening.values) N.program.names N.always ask }
-        ensures ok { OnOk result (Takes (store N.name.start N.opening N.program N.arities N.always) id ask (view_of self.old) (view_of self.new)) }
-        ensures err { IfErr result (λ f. OrMemory f (view_of self.new ≡ by (view_of self.old) self.new.pass)) }
+        ensures ok { OnOk result (Takes (store N.name.start N.opening N.program N.arities N.always) id ask (desk_view self.old) (desk_view self.new)) }
+        ensures err { IfErr result (λ f. OrMemory f (desk_view self.new ≡ by (desk_view self.old) self.new.pass)) }
     {
         match ask {
             Ask::Do(tx) => self.take_do(service, id, tx),
@@ -221,8 +221,8 @@ impl<N: ServedNaming> Desk<N> {
         id: i64,
         tx: Tx,
     ) -> Result<(), Fault>
-        ensures ok { OnOk result (Takes (store N.name.start N.opening N.program N.arities N.always) id (Do tx) (view_of self.old) (view_of self.new)) }
-        ensures err { IfErr result (λ f. OrMemory f (view_of self.new ≡ by (view_of self.old) self.new.pass)) }
+        ensures ok { OnOk result (Takes (store N.name.start N.opening N.program N.arities N.always) id (Do tx) (desk_view self.old) (desk_view self.new)) }
+        ensures err { IfErr result (λ f. OrMemory f (desk_view self.new ≡ by (desk_view self.old) self.new.pass)) }
     {
         match service.plan(tx) {
             Ok(ready) => self.take_held(service, id, Held::Plan(ready)),
@@ -237,8 +237,8 @@ impl<N: ServedNaming> Desk<N> {
         id: i64,
         held: Held<N>,
     ) -> Result<(), Fault>
-        ensures ok { OnOk result (MayWait (store N.name.start N.opening N.program N.arities N.always) id (asked held) (view_of self.old) (view_of self.new)) }
-        ensures err { IfErr result (λ f. OrMemory f (view_of self.new ≡ by (view_of self.old) self.new.pass)) }
+        ensures ok { OnOk result (MayWait (store N.name.start N.opening N.program N.arities N.always) id (asked held) (desk_view self.old) (desk_view self.new)) }
+        ensures err { IfErr result (λ f. OrMemory f (desk_view self.new ≡ by (desk_view self.old) self.new.pass)) }
     {
         match service.attempt(&mut self.pass, &held)? {
             Some(answer) => self.tell(id, answer),
@@ -248,7 +248,7 @@ impl<N: ServedNaming> Desk<N> {
 
     // The first request of the other id that waits, waits no more.
     fn cancel(&mut self, id: i64, other: i64) -> Result<(), Fault>
-        ensures ok { OnOk result (view_of self.new ≡ cancelled id other (view_of self.old)) }
+        ensures ok { OnOk result (desk_view self.new ≡ cancelled id other (desk_view self.old)) }
         ensures err { IfErr result (λ f. f ≡ Fault.Memory) }
     {
         match self.place_waiting(other) {
@@ -261,7 +261,7 @@ impl<N: ServedNaming> Desk<N> {
     #[tactic(auto, using(crate::proofs::Telling::tells_tells))]
     fn cancel_at(&mut self, id: i64, other: i64, place: usize) -> Result<(), Fault>
         requires { position (λ w. int_eq w.id other) self.old.waiting.items ≡ Some place }
-        ensures ok { OnOk result (view_of self.new ≡ cancelled id other (view_of self.old)) }
+        ensures ok { OnOk result (desk_view self.new ≡ cancelled id other (desk_view self.old)) }
         ensures err { IfErr result (λ f. f ≡ Fault.Memory) }
     {
         self.waiting.remove(place);

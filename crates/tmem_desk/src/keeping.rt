@@ -4,7 +4,7 @@ ghost use Rattle.tmem_copies.specs.Numbering.{with_numbers};
 ghost use Rattle.tmem_requests.specs.declared.request.Ask.TheVariants.{Do, Keep, Stats as StatsOf};
 ghost use Rattle.tmem_desk.specs.Asking.{store};
 ghost use Rattle.tmem_desk.specs.Failing.{OrMemory};
-ghost use Rattle.tmem_desk.specs.Held.{view_of};
+ghost use Rattle.tmem_desk.specs.Held.{desk_view};
 ghost use Rattle.tmem_desk.specs.Keeping.{kept_under};
 ghost use Rattle.tmem_desk.specs.Serving.{Takes, Runs, HasNoPlan, MayWait, by, kept_as};
 
@@ -40,7 +40,7 @@ impl<N: ServedNaming> Desk<N> {
         word: Name,
         tx: Tx,
     ) -> Result<(), Fault>
-        ensures ok { OnOk result (Takes (store N.name.start N.opening N.program N.arities N.always) id (Keep word tx) (view_of self.old) (view_of self.new)) }
+        ensures ok { OnOk result (Takes (store N.name.start N.opening N.program N.arities N.always) id (Keep word tx) (desk_view self.old) (desk_view self.new)) }
         ensures err { IfErr result (λ f. f ≡ Fault.Memory) }
     {
         match service.plan(tx) {
@@ -51,7 +51,7 @@ impl<N: ServedNaming> Desk<N> {
 
     // Keeps a plan under a word.
     fn keep_ready(&mut self, id: i64, word: Name, ready: Ready<N>) -> Result<(), Fault>
-        ensures ok { OnOk result (view_of self.new ≡ kept_as id word ready.plan.tree (view_of self.old)) }
+        ensures ok { OnOk result (desk_view self.new ≡ kept_as id word ready.plan.tree (desk_view self.old)) }
         ensures err { IfErr result (λ f. f ≡ Fault.Memory) }
     {
         match self.place_kept(&word) {
@@ -66,7 +66,7 @@ impl<N: ServedNaming> Desk<N> {
     // Keeps one more, unless as many are kept as may be.
     fn keep_more(&mut self, id: i64, word: Name, ready: Ready<N>) -> Result<(), Fault>
         requires { position (λ k. bytes_eq k.word word) self.old.kept.items ≡ None }
-        ensures ok { OnOk result (view_of self.new ≡ kept_as id word ready.plan.tree (view_of self.old)) }
+        ensures ok { OnOk result (desk_view self.new ≡ kept_as id word ready.plan.tree (desk_view self.old)) }
         ensures err { IfErr result (λ f. f ≡ Fault.Memory) }
     {
         if self.kept.len() >= MOST_KEPT {
@@ -91,8 +91,8 @@ impl<N: ServedNaming> Desk<N> {
         word: &Name,
         numbers: &[i64],
     ) -> Result<(), Fault>
-        ensures ok { OnOk result (Runs (store N.name.start N.opening N.program N.arities N.always) id numbers.now (kept_under word.now (view_of self.old).kept) (view_of self.old) (view_of self.new)) }
-        ensures err { IfErr result (λ f. OrMemory f (view_of self.new ≡ by (view_of self.old) self.new.pass)) }
+        ensures ok { OnOk result (Runs (store N.name.start N.opening N.program N.arities N.always) id numbers.now (kept_under word.now (desk_view self.old).kept) (desk_view self.old) (desk_view self.new)) }
+        ensures err { IfErr result (λ f. OrMemory f (desk_view self.new ≡ by (desk_view self.old) self.new.pass)) }
     {
         let Some(place) = self.place_kept(word) else {
             return self.tell(id, Answer::Found(false));
@@ -113,8 +113,8 @@ impl<N: ServedNaming> Desk<N> {
         copy: Tx,
         numbers: &[i64],
     ) -> Result<(), Fault>
-        ensures ok { OnOk result (HasNoPlan (store N.name.start N.opening N.program N.arities N.always) id copy (view_of self.old) (view_of self.new) ⊎ MayWait (store N.name.start N.opening N.program N.arities N.always) id (Do (with_numbers numbers.now copy)) (view_of self.old) (view_of self.new)) }
-        ensures err { IfErr result (λ f. OrMemory f (view_of self.new ≡ by (view_of self.old) self.new.pass)) }
+        ensures ok { OnOk result (HasNoPlan (store N.name.start N.opening N.program N.arities N.always) id copy (desk_view self.old) (desk_view self.new) ⊎ MayWait (store N.name.start N.opening N.program N.arities N.always) id (Do (with_numbers numbers.now copy)) (desk_view self.old) (desk_view self.new)) }
+        ensures err { IfErr result (λ f. OrMemory f (desk_view self.new ≡ by (desk_view self.old) self.new.pass)) }
     {
         match service.plan(copy) {
             Ok(mut ready) => {
@@ -131,7 +131,7 @@ impl<N: ServedNaming> Desk<N> {
         service: &Service<R, D, N, T, S>,
         id: i64,
     ) -> Result<(), Fault>
-        ensures ok { OnOk result (Takes (store N.name.start N.opening N.program N.arities N.always) id StatsOf (view_of self.old) (view_of self.new)) }
+        ensures ok { OnOk result (Takes (store N.name.start N.opening N.program N.arities N.always) id StatsOf (desk_view self.old) (desk_view self.new)) }
         ensures err { IfErr result (λ f. f ≡ Fault.Memory) }
     {
         let log = service.front.log(service.rt);

@@ -2,7 +2,7 @@
 ghost use Rattle.std.specs.Prelude.{◌≡◌, ◌++◌, ◌∷◌, [], ℕ, List, Bool, length, map, filter, IfOk, OnOk, if◌then◌else◌};
 ghost use Rattle.std.specs.Map.{keys_of};
 ghost use Rattle.tmem_requests.specs.declared.request.Ask.TheVariants.{State};
-ghost use Rattle.tmem_desk.specs.Asking.{SeesValues, Answers, store};
+ghost use Rattle.tmem_desk.specs.Asking.{SeesValues, AnswersAsk, store};
 ghost use Rattle.tmem_desk.specs.Held.{first_numbers};
 
 use crate::naming::ServedNaming;
@@ -39,7 +39,7 @@ impl<R: Wait, D: Disk + Drop, N: ServedNaming, T: Invariants + Drop, S: StoredSt
 
     /// How many there are, the registered names and all values after them.
     pub(crate) fn see_all(&self, pass: &mut Pass<N>) -> Result<Answer, Fault>
-        ensures { IfOk result (λ given. Answers (store N.name.start N.opening N.program N.arities N.always) State pass.old given pass.new) }
+        ensures { IfOk result (λ given. AnswersAsk (store N.name.start N.opening N.program N.arities N.always) State pass.old given pass.new) }
     {
         let vars = first_vars(self.alloc, self.vars)?;
         let Moment { count, values, has } = self.front.moment(self.rt, pass, &vars, self.names)?;

@@ -2,7 +2,7 @@
 ghost use Rattle.std.specs.Prelude.{◌≡◌, length, IfOk, IfErr};
 ghost use Rattle.tmem_tree.specs.Plans.{FitsSteps, FitsVariables, FitsNames, FitsShapes};
 ghost use Rattle.tmem_copies.specs.Numbering.{with_numbers};
-ghost use Rattle.tmem_desk.specs.Asking.{IsNoPlan, IsPlan, store};
+ghost use Rattle.tmem_desk.specs.Asking.{IsNoPlan, IsPlanOf, store};
 
 use crate::naming::ServedNaming;
 use crate::service::Service;
@@ -36,7 +36,7 @@ impl<R, D: Disk + Drop, N: ServedNaming, T: Invariants + Drop, S: StoredSteps + 
     /// The plan of a transaction, or the least cause for which it is none.
     pub(crate) fn plan(&self, tx: Tx) -> Result<Ready<N>, Cause>
         ensures plan { IfOk result (λ ready. ready.plan.tree ≡ tx) }
-        ensures fine { IfOk result (λ _. IsPlan (store N.name.start N.opening N.program N.arities N.always) tx) }
+        ensures fine { IfOk result (λ _. IsPlanOf (store N.name.start N.opening N.program N.arities N.always) tx) }
         ensures none { IfErr result (λ cause. IsNoPlan (store N.name.start N.opening N.program N.arities N.always) tx cause) }
     {
         match self.front.plan(tx) {

@@ -4,7 +4,7 @@ ghost use Rattle.tmem_requests.specs.Errors.{IsNoRequest};
 ghost use Rattle.tmem_requests.specs.Reasons.{TellsReason};
 ghost use Rattle.tmem_requests.specs.declared.request.Ask.{Ask};
 ghost use Rattle.tmem_desk.specs.Asking.{store};
-ghost use Rattle.tmem_desk.specs.Serving.{IsAsked};
+ghost use Rattle.tmem_desk.specs.Serving.{IsAskedOf};
 
 use crate::naming::ServedNaming;
 use std::alloc::Global;
@@ -67,8 +67,8 @@ impl<'a, R, D: Disk + Drop, N: ServedNaming, T: Invariants + Drop, S: StoredStep
 
     /// Reads a line: a request that can be made of this store.
     pub(crate) fn read(&self, text: &[u8]) -> Result<Request, RequestError>
-        ensures request { IfOk result (λ request. IsAsked (store N.name.start N.opening N.program N.arities N.always) request.id request.ask text.now) }
-        ensures none { IfErr result (λ e. IsNoRequest e → (id : ℤ) (ask : Ask) → ¬ IsAsked (store N.name.start N.opening N.program N.arities N.always) id ask text.now) }
+        ensures request { IfOk result (λ request. IsAskedOf (store N.name.start N.opening N.program N.arities N.always) request.id request.ask text.now) }
+        ensures none { IfErr result (λ e. IsNoRequest e → (id : ℤ) (ask : Ask) → ¬ IsAskedOf (store N.name.start N.opening N.program N.arities N.always) id ask text.now) }
         ensures why { IfErr result (λ e. TellsReason (length N.opening.values) N.program.names N.always text.now e) }
     {
         let request = Request::read(self.alloc, text)?;

@@ -2,11 +2,11 @@
 ghost use Rattle.std.specs.Prelude.{◌≡◌, ◌++◌, ℕ, List, [], map, OnOk, IfOk, IfErr, IsErr};
 ghost use Rattle.std.specs.Io.KnownBytes.{Appends};
 ghost use Rattle.tmem_front.specs.Settling.{SeesMore};
-ghost use Rattle.tmem_lines.specs.Lines.{StandsFor};
+ghost use Rattle.tmem_lines.specs.Lines.{HoldsRestOf};
 ghost use Rattle.tmem_desk.specs.Asking.{store};
 ghost use Rattle.tmem_desk.specs.Due.{KeepsDue};
 ghost use Rattle.tmem_desk.specs.Failing.{EndsBy, IsLast, IsUnprinted, OrMemory, PassesAll, TakesPart, TakesRest, TellsAll};
-ghost use Rattle.tmem_desk.specs.Held.{view_of};
+ghost use Rattle.tmem_desk.specs.Held.{desk_view};
 ghost use Rattle.tmem_desk.specs.Serving.{by, Finishes, Splits, TakesAll, RunsPiece, ServesPiece, TakesLast, RunsLast, ServesEnd, with_closed};
 ghost use Rattle.tmem_desk.specs.Told.{told_lines, failed};
 
@@ -39,8 +39,8 @@ impl<N: ServedNaming> Desk<N> {
         out: &mut W,
     ) -> Result<(), Failure>
         ensures ends { IfErr result (EndsBy (Appends (W.contents out.old) (W.contents out.new))) }
-        ensures told { IfErr result (λ e. (text : List ℕ) → StandsFor lines.old text → TellsAll (store N.name.start N.opening N.program N.arities N.always) (λ texts. Splits (text ++ piece.now) texts lines.new) (view_of self.old) (Appends (W.contents out.old) (W.contents out.new)) e) }
-        ensures serves { OnOk result ((text : List ℕ) → StandsFor lines.old text → ServesPiece (store N.name.start N.opening N.program N.arities N.always) (text ++ piece.now) lines.new (view_of self.old) (view_of self.new) (Appends (W.contents out.old) (W.contents out.new))) }
+        ensures told { IfErr result (λ e. (text : List ℕ) → HoldsRestOf lines.old text → TellsAll (store N.name.start N.opening N.program N.arities N.always) (λ texts. Splits (text ++ piece.now) texts lines.new) (desk_view self.old) (Appends (W.contents out.old) (W.contents out.new)) e) }
+        ensures serves { OnOk result ((text : List ℕ) → HoldsRestOf lines.old text → ServesPiece (store N.name.start N.opening N.program N.arities N.always) (text ++ piece.now) lines.new (desk_view self.old) (desk_view self.new) (Appends (W.contents out.old) (W.contents out.new))) }
     {
         if lines.add(piece).is_err() {
             return Err(Failure::Fault(Fault::Memory));
@@ -58,8 +58,8 @@ impl<N: ServedNaming> Desk<N> {
         lines: &mut Lines,
     ) -> Result<(), Fault>
         ensures durable { OnOk result (self.new.pass.seen ≡ self.new.pass.known) }
-        ensures runs { OnOk result ((text : List ℕ) → StandsFor lines.old text → RunsPiece (store N.name.start N.opening N.program N.arities N.always) text lines.new (view_of self.old) (view_of self.new)) }
-        ensures err { IfErr result (λ f. (text : List ℕ) → StandsFor lines.old text → OrMemory f (TakesPart (store N.name.start N.opening N.program N.arities N.always) text lines.new (view_of self.old) (view_of self.new))) }
+        ensures runs { OnOk result ((text : List ℕ) → HoldsRestOf lines.old text → RunsPiece (store N.name.start N.opening N.program N.arities N.always) text lines.new (desk_view self.old) (desk_view self.new)) }
+        ensures err { IfErr result (λ f. (text : List ℕ) → HoldsRestOf lines.old text → OrMemory f (TakesPart (store N.name.start N.opening N.program N.arities N.always) text lines.new (desk_view self.old) (desk_view self.new))) }
     {
         self.take_lines(service, lines)?;
         self.finish(service)
@@ -70,8 +70,8 @@ impl<N: ServedNaming> Desk<N> {
         &mut self,
         service: &Service<R, D, N, T, S>,
     ) -> Result<(), Fault>
-        ensures ok { OnOk result (Finishes (store N.name.start N.opening N.program N.arities N.always) (view_of self.old) (view_of self.new)) }
-        ensures err { IfErr result (λ f. OrMemory f (KeepsDue (view_of self.old) (view_of self.new))) }
+        ensures ok { OnOk result (Finishes (store N.name.start N.opening N.program N.arities N.always) (desk_view self.old) (desk_view self.new)) }
+        ensures err { IfErr result (λ f. OrMemory f (KeepsDue (desk_view self.old) (desk_view self.new))) }
     {
         self.wake(service)?;
         self.harden(service)
@@ -84,7 +84,7 @@ impl<N: ServedNaming> Desk<N> {
     ) -> Result<(), Fault>
         ensures all { OnOk result (self.new.pass.seen ≡ self.new.pass.known) }
         ensures sees { SeesMore self.old.pass self.new.pass }
-        ensures desk { view_of self.new ≡ by (view_of self.old) self.new.pass }
+        ensures desk { desk_view self.new ≡ by (desk_view self.old) self.new.pass }
     {
         service.front.flush_all(service.rt, &mut self.pass)?;
         Ok(())
@@ -96,8 +96,8 @@ impl<N: ServedNaming> Desk<N> {
         service: &Service<R, D, N, T, S>,
         lines: &mut Lines,
     ) -> Result<(), Fault>
-        ensures ok { OnOk result ((text : List ℕ) → StandsFor lines.old text → TakesAll (store N.name.start N.opening N.program N.arities N.always) text lines.new (view_of self.old) (view_of self.new)) }
-        ensures err { IfErr result (λ f. (text : List ℕ) → StandsFor lines.old text → OrMemory f (TakesPart (store N.name.start N.opening N.program N.arities N.always) text lines.new (view_of self.old) (view_of self.new))) }
+        ensures ok { OnOk result ((text : List ℕ) → HoldsRestOf lines.old text → TakesAll (store N.name.start N.opening N.program N.arities N.always) text lines.new (desk_view self.old) (desk_view self.new)) }
+        ensures err { IfErr result (λ f. (text : List ℕ) → HoldsRestOf lines.old text → OrMemory f (TakesPart (store N.name.start N.opening N.program N.arities N.always) text lines.new (desk_view self.old) (desk_view self.new))) }
     {
         for _ in service.rt.forever() {
             match lines.cut() {
@@ -113,7 +113,7 @@ impl<N: ServedNaming> Desk<N> {
     fn give<W: Write>(&mut self, out: &mut W) -> Result<(), Failure>
         requires { self.old.pass.seen ≡ self.old.pass.known }
         ensures printed { OnOk result (Appends (W.contents out.old) (W.contents out.new) (told_lines self.old.told.items)) }
-        ensures desk { OnOk result (view_of self.new ≡ record (view_of self.old) { told = [] }) }
+        ensures desk { OnOk result (desk_view self.new ≡ record (desk_view self.old) { told = [] }) }
         ensures ends { IfErr result (EndsBy (Appends (W.contents out.old) (W.contents out.new))) }
         ensures err { IfErr result IsUnprinted }
     {
@@ -131,8 +131,8 @@ impl<N: ServedNaming> Desk<N> {
         out: &mut W,
     ) -> Result<(), Failure>
         ensures ends { IfErr result (EndsBy (Appends (W.contents out.old) (W.contents out.new))) }
-        ensures told { IfErr result (λ e. (text : List ℕ) → StandsFor lines.old text → TellsAll (store N.name.start N.opening N.program N.arities N.always) (IsLast text) (view_of self.old) (Appends (W.contents out.old) (W.contents out.new)) e) }
-        ensures serves { OnOk result ((text : List ℕ) → StandsFor lines.old text → ServesEnd (store N.name.start N.opening N.program N.arities N.always) text (view_of self.old) (view_of self.new) (Appends (W.contents out.old) (W.contents out.new))) }
+        ensures told { IfErr result (λ e. (text : List ℕ) → HoldsRestOf lines.old text → TellsAll (store N.name.start N.opening N.program N.arities N.always) (IsLast text) (desk_view self.old) (Appends (W.contents out.old) (W.contents out.new)) e) }
+        ensures serves { OnOk result ((text : List ℕ) → HoldsRestOf lines.old text → ServesEnd (store N.name.start N.opening N.program N.arities N.always) text (desk_view self.old) (desk_view self.new) (Appends (W.contents out.old) (W.contents out.new))) }
     {
         match self.run_last(service, lines) {
             Ok(()) => {
@@ -150,9 +150,9 @@ impl<N: ServedNaming> Desk<N> {
         lines: &mut Lines,
     ) -> Result<(), Fault>
         ensures durable { OnOk result (self.new.pass.seen ≡ self.new.pass.known) }
-        ensures runs { OnOk result ((text : List ℕ) → StandsFor lines.old text → RunsLast (store N.name.start N.opening N.program N.arities N.always) text (view_of self.old) (view_of self.new)) }
-        ensures err { IfErr result (λ f. (text : List ℕ) → StandsFor lines.old text → OrMemory f (TakesRest (store N.name.start N.opening N.program N.arities N.always) text (view_of self.old) (view_of self.new))) }
-        ensures rest { StandsFor lines.new [] }
+        ensures runs { OnOk result ((text : List ℕ) → HoldsRestOf lines.old text → RunsLast (store N.name.start N.opening N.program N.arities N.always) text (desk_view self.old) (desk_view self.new)) }
+        ensures err { IfErr result (λ f. (text : List ℕ) → HoldsRestOf lines.old text → OrMemory f (TakesRest (store N.name.start N.opening N.program N.arities N.always) text (desk_view self.old) (desk_view self.new))) }
+        ensures rest { HoldsRestOf lines.new [] }
     {
         self.take_last(service, lines)?;
         self.finish(service)
@@ -164,9 +164,9 @@ impl<N: ServedNaming> Desk<N> {
         service: &Service<R, D, N, T, S>,
         lines: &mut Lines,
     ) -> Result<(), Fault>
-        ensures ok { OnOk result ((text : List ℕ) → StandsFor lines.old text → TakesLast (store N.name.start N.opening N.program N.arities N.always) text (view_of self.old) (view_of self.new)) }
-        ensures err { IfErr result (λ f. (text : List ℕ) → StandsFor lines.old text → OrMemory f (TakesRest (store N.name.start N.opening N.program N.arities N.always) text (view_of self.old) (view_of self.new))) }
-        ensures rest { StandsFor lines.new [] }
+        ensures ok { OnOk result ((text : List ℕ) → HoldsRestOf lines.old text → TakesLast (store N.name.start N.opening N.program N.arities N.always) text (desk_view self.old) (desk_view self.new)) }
+        ensures err { IfErr result (λ f. (text : List ℕ) → HoldsRestOf lines.old text → OrMemory f (TakesRest (store N.name.start N.opening N.program N.arities N.always) text (desk_view self.old) (desk_view self.new))) }
+        ensures rest { HoldsRestOf lines.new [] }
     {
         match lines.cut_last() {
             Cut::Line => self.take_line(service, lines.line()),
@@ -177,7 +177,7 @@ impl<N: ServedNaming> Desk<N> {
 
     // Tells those that wait that the store is closed.
     fn close_waiting(&mut self) -> Result<(), Fault>
-        ensures told { OnOk result (view_of self.new ≡ with_closed (view_of self.old)) }
+        ensures told { OnOk result (desk_view self.new ≡ with_closed (desk_view self.old)) }
         ensures pass { OnOk result (self.new.pass ≡ self.old.pass) }
         ensures err { IfErr result (λ f. f ≡ Fault.Memory) }
     {
@@ -199,7 +199,7 @@ impl<N: ServedNaming> Desk<N> {
         ensures never { IsErr result }
         ensures ends { IfErr result (EndsBy (Appends (W.contents out.old) (W.contents out.new))) }
         ensures memory { fault ≡ Fault.Memory → IfErr result IsUnprinted }
-        ensures told { IfErr result (λ e. (text : List ℕ) → StandsFor lines.old text → TellsAll (store N.name.start N.opening N.program N.arities N.always) (λ texts. Splits text texts lines.new) (view_of self.old) (Appends (W.contents out.old) (W.contents out.new)) e) }
+        ensures told { IfErr result (λ e. (text : List ℕ) → HoldsRestOf lines.old text → TellsAll (store N.name.start N.opening N.program N.arities N.always) (λ texts. Splits text texts lines.new) (desk_view self.old) (Appends (W.contents out.old) (W.contents out.new)) e) }
     {
         let fault = why_ended(fault, service.front.fault(service.rt));
         self.pass_over(service, lines)?;
@@ -218,7 +218,7 @@ impl<N: ServedNaming> Desk<N> {
         service: &Service<R, D, N, T, S>,
         lines: &mut Lines,
     ) -> Result<(), Fault>
-        ensures ok { OnOk result ((text : List ℕ) → StandsFor lines.old text → PassesAll (store N.name.start N.opening N.program N.arities N.always) text lines.new (view_of self.old) (view_of self.new)) }
+        ensures ok { OnOk result ((text : List ℕ) → HoldsRestOf lines.old text → PassesAll (store N.name.start N.opening N.program N.arities N.always) text lines.new (desk_view self.old) (desk_view self.new)) }
         ensures err { IfErr result (λ f. f ≡ Fault.Memory) }
     {
         for _ in service.rt.forever() {

@@ -3,7 +3,7 @@ ghost use Rattle.std.specs.Prelude.{◌≡◌, ◌⊎◌, IfOk};
 ghost use Rattle.tmem_requests.specs.declared.answer.Answer.TheVariants.{Checkpointed, Fault as FaultOf};
 ghost use Rattle.tmem_requests.specs.declared.request.Ask.TheVariants.{Try};
 ghost use Rattle.tmem_front.specs.Settling.{KnowsMore};
-ghost use Rattle.tmem_desk.specs.Asking.{SettlesTx, TellsEnding, Answers, store};
+ghost use Rattle.tmem_desk.specs.Asking.{SettlesTx, TellsEnding, AnswersAsk, store};
 
 use crate::naming::ServedNaming;
 use crate::ready::Ready;
@@ -64,7 +64,7 @@ impl<R: Wait, D: Disk + Drop, N: ServedNaming, T: Invariants + Drop, S: StoredSt
 
     /// Runs a transaction once.
     pub(crate) fn try_once(&self, pass: &mut Pass<N>, tx: Tx) -> Result<Answer, Fault>
-        ensures { IfOk result (λ given. Answers (store N.name.start N.opening N.program N.arities N.always) (Try tx) pass.old given pass.new) }
+        ensures { IfOk result (λ given. AnswersAsk (store N.name.start N.opening N.program N.arities N.always) (Try tx) pass.old given pass.new) }
     {
         match self.plan(tx) {
             Ok(ready) => {

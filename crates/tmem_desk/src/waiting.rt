@@ -3,7 +3,7 @@ ghost use Rattle.std.specs.Prelude.{OnOk, IfErr};
 ghost use Rattle.tmem_desk.specs.Asking.{store};
 ghost use Rattle.tmem_desk.specs.Due.{KeepsDue};
 ghost use Rattle.tmem_desk.specs.Failing.{OrMemory};
-ghost use Rattle.tmem_desk.specs.Held.{view_of};
+ghost use Rattle.tmem_desk.specs.Held.{desk_view};
 ghost use Rattle.tmem_desk.specs.Serving.{TriesNext, Round, Wakes};
 
 use crate::desk::Desk;
@@ -21,8 +21,8 @@ impl<N: ServedNaming> Desk<N> {
         &mut self,
         service: &Service<R, D, N, T, S>,
     ) -> Result<(), Fault>
-        ensures ok { OnOk result (Wakes (store N.name.start N.opening N.program N.arities N.always) (view_of self.old) (view_of self.new)) }
-        ensures err { IfErr result (λ f. OrMemory f (KeepsDue (view_of self.old) (view_of self.new))) }
+        ensures ok { OnOk result (Wakes (store N.name.start N.opening N.program N.arities N.always) (desk_view self.old) (desk_view self.new)) }
+        ensures err { IfErr result (λ f. OrMemory f (KeepsDue (desk_view self.old) (desk_view self.new))) }
     {
         for _ in service.rt.forever() {
             let told = self.told.len();
@@ -39,8 +39,8 @@ impl<N: ServedNaming> Desk<N> {
         &mut self,
         service: &Service<R, D, N, T, S>,
     ) -> Result<(), Fault>
-        ensures ok { OnOk result (Round (store N.name.start N.opening N.program N.arities N.always) (view_of self.old) (view_of self.new)) }
-        ensures err { IfErr result (λ f. OrMemory f (KeepsDue (view_of self.old) (view_of self.new))) }
+        ensures ok { OnOk result (Round (store N.name.start N.opening N.program N.arities N.always) (desk_view self.old) (desk_view self.new)) }
+        ensures err { IfErr result (λ f. OrMemory f (KeepsDue (desk_view self.old) (desk_view self.new))) }
     {
         for _turn in 0..self.waiting.len() {
             self.try_first(service)?;
@@ -53,8 +53,8 @@ impl<N: ServedNaming> Desk<N> {
         &mut self,
         service: &Service<R, D, N, T, S>,
     ) -> Result<(), Fault>
-        ensures ok { OnOk result (TriesNext (store N.name.start N.opening N.program N.arities N.always) (view_of self.old) (view_of self.new)) }
-        ensures err { IfErr result (λ f. OrMemory f (KeepsDue (view_of self.old) (view_of self.new))) }
+        ensures ok { OnOk result (TriesNext (store N.name.start N.opening N.program N.arities N.always) (desk_view self.old) (desk_view self.new)) }
+        ensures err { IfErr result (λ f. OrMemory f (KeepsDue (desk_view self.old) (desk_view self.new))) }
     {
         let Some(one) = self.waiting.pop_front() else {
             return Ok(());

@@ -1,4 +1,4 @@
--- What a stop (a crash) makes of the marked bytes.
+-- What a crash makes of the marked bytes.
 use Rattle.std.proofs.Common.{◌≡◌, ℕ, zero, suc, ◌<◌, Bool, true, false, cond, List, [], ◌∷◌, length, take, set, get_or, refl, sym, ◌∙◌, ap, arith}
 use Rattle.std.proofs.lemmas.Bool.{false≢true}
 use Rattle.tmem_disk.specs.Sim.{LeftBy, stamped}
@@ -38,7 +38,7 @@ stamped-unmarked byte (b ∷ bytes) (false ∷ marks) zero unmarked = refl
 stamped-unmarked byte (b ∷ bytes) (true ∷ marks) zero unmarked = absurd (false≢true (sym unmarked))
 stamped-unmarked byte (b ∷ bytes) (m ∷ marks) (suc i) unmarked = stamped-unmarked byte bytes marks i unmarked
 
--- a byte in each marked place is one of the things that a stop may leave
+-- a byte in each marked place is one of the things that a crash may leave
 pub LeftBy-stamped : (byte : ℕ) (synced : List ℕ) (marks : List Bool) (present : List ℕ) → LeftBy synced marks present → LeftBy synced marks (stamped byte present marks)
 LeftBy-stamped byte synced marks present agrees = record {
   size = length-stamped byte present marks ∙ agrees.size;

@@ -1,4 +1,4 @@
--- What follows from the definitions of a device alone: ranges of a content that are written over, what a stop leaves, and
+-- What follows from the definitions of a device alone: ranges of a content that are written over, what a crash leaves, and
 -- how the words of two calls join. A law on the calls from a first view to a second and from there to a third takes that
 -- the third keeps the model only where the second does.
 use Rattle.std.proofs.Common.{◌≡◌, ◌⊎◌, inl, inr, ⊎_elim, ℕ, zero, suc, ◌+◌, ◌-◌, ◌<◌, ◌≤◌, List, [], ◌∷◌, ◌++◌, length, take, drop, refl, sym, ◌∙◌, ap, subst, arith, append_assoc}
@@ -92,7 +92,7 @@ Rewritten-left at n d c left = (c, left, SameOutside-refl at n c)
 pub Rewritten-wider : (at n wide_at wide_n : ℕ) (d : DeviceView) (c : List ℕ) → wide_at ≤ at → at + n ≤ wide_at + wide_n → Rewritten at n d c → Rewritten wide_at wide_n d c
 Rewritten-wider at n wide_at wide_n d c low high from = (from.0, from.1, SameOutside-wider at n wide_at wide_n from.0 c low high from.2)
 
--- what a stop leaves has P, and P looks outside the range alone: then P holds with anything in the range
+-- what a crash leaves has P, and P looks outside the range alone: then P holds with anything in the range
 pub Rewritten-keeps : (at n : ℕ) (d : DeviceView) (P : List ℕ → Type 0) (c : List ℕ) → d.keeps_model → LeavesOnly d P → ((a b : List ℕ) → SameOutside at n a b → P a → P b) → Rewritten at n d c → P c
 Rewritten-keeps at n d P c keeps only outside from = outside from.0 c from.2 (only.each keeps from.0 from.1)
 
@@ -101,7 +101,7 @@ pub Rewritten-trans : (at n : ℕ) (old mid : DeviceView) (c : List ℕ) → mid
 Rewritten-trans at n old mid c keeps only from =
     let before = only.each keeps from.0 from.1 in (before.0, before.1, SameOutside-trans at n before.0 from.0 c before.2 from.2)
 
--- what a stop leaves has each fact that follows from the one known
+-- what a crash leaves has each fact that follows from the one known
 pub LeavesOnly-more : (d : DeviceView) (P Q : List ℕ → Type 0) → LeavesOnly d P → ((c : List ℕ) → P c → Q c) → LeavesOnly d Q
 LeavesOnly-more d P Q only more = record { each = λ keeps c left. more c (only.each keeps c left) }
 
@@ -109,23 +109,23 @@ LeavesOnly-more d P Q only more = record { each = λ keeps c left. more c (only.
 pub LeavesOnly-both : (d : DeviceView) (P Q : List ℕ → Type 0) → LeavesOnly d P → LeavesOnly d Q → LeavesOnly d (λ c. P c × Q c)
 LeavesOnly-both d P Q first second = record { each = λ keeps c left. (first.each keeps c left, second.each keeps c left) }
 
--- a call that adds nothing to what a stop may leave adds no exception
+-- a call that adds nothing to what a crash may leave adds no exception
 pub LeavesOnly-after : (old new : DeviceView) (P : List ℕ → Type 0) → (new.keeps_model → old.keeps_model) → LeavesOnly new old.may_leave → LeavesOnly old P → LeavesOnly new P
-LeavesOnly-after old new P model stop only = record { each = λ keeps c left. only.each (model keeps) c (stop.each keeps c left) }
+LeavesOnly-after old new P model crash only = record { each = λ keeps c left. only.each (model keeps) c (crash.each keeps c left) }
 
--- what a stop leaves, and each of it, is what it leaves
+-- what a crash leaves, and each of it, is what it leaves
 pub LeavesOnly-each : (d : DeviceView) (P : List ℕ → Type 0) → LeavesEach d P → LeavesOnly d P
 LeavesOnly-each d P each = record { each = λ keeps c left. (each keeps c).0 left }
 
 -- what is synced stays so over a call that adds nothing and changes no byte
 pub IsSynced-after : (old new : DeviceView) → (new.keeps_model → old.keeps_model) → LeavesOnly new old.may_leave → ReadsAs new old.seen → IsSynced old → IsSynced new
-IsSynced-after old new model stop reads synced = λ keeps c left. synced (model keeps) c (stop.each keeps c left) ∙ sym (reads keeps)
+IsSynced-after old new model crash reads synced = λ keeps c left. synced (model keeps) c (crash.each keeps c left) ∙ sym (reads keeps)
 
--- what holds of the bytes that a read gives holds of what a stop leaves, where the two are one
+-- what holds of the bytes that a read gives holds of what a crash leaves, where the two are one
 pub LeavesOnly-synced : (d : DeviceView) (P : List ℕ → Type 0) → IsSynced d → (d.keeps_model → P d.seen) → LeavesOnly d P
 LeavesOnly-synced d P synced seen = record { each = λ keeps c left. subst P (sym (synced keeps c left)) (seen keeps) }
 
--- and what a stop leaves gives a fact of the bytes that a read gives
+-- and what a crash leaves gives a fact of the bytes that a read gives
 pub seen-left : (d : DeviceView) (P : List ℕ → Type 0) → IsDevice d → LeavesOnly d P → d.keeps_model → P d.seen
 seen-left d P device only keeps = only.each keeps d.seen (device.seen_may_stay keeps)
 
@@ -166,7 +166,7 @@ Elapses-trans old mid new P model first second = record {
 pub either_time : (old mid new : DeviceView) (P : List ℕ → Type 0) → (new.keeps_model → mid.keeps_model) → (mid.keeps_model → old.moment ≤ mid.moment) → Elapses mid new P → new.keeps_model → (c : List ℕ) → new.left_since old.moment c → mid.left_since old.moment c ⊎ new.left_since mid.moment c
 either_time old mid new P model later time keeps c left = ⊎_elim (λ was. inl was) (λ is. inr (is mid.moment (omega arith))) (time.before_or_since keeps old.moment c (later (model keeps)) left)
 
--- a stop at any moment of a call leaves what it might have left before, or what the call says of its own time
+-- a crash at any moment of a call leaves what it might have left before, or what the call says of its own time
 pub AtEachMoment-elapsed : (old new : DeviceView) (P Q : List ℕ → Type 0) → IsDevice old → (new.keeps_model → old.keeps_model) → Elapses old new P → LeavesOnly old Q → (new.keeps_model → (c : List ℕ) → P c → Q c) → AtEachMoment old new Q
 AtEachMoment-elapsed old new P Q device model time before during = record {
   each = λ keeps c left. ⊎_elim
@@ -187,13 +187,13 @@ LeavesOnly-moment old new P device later during = record { each = λ keeps c lef
 
 -- over a write there might be left anything in its range
 pub Elapses-write : (old new : DeviceView) (at n : ℕ) → Elapses old new new.may_leave → LeavesOnly new (Rewritten at n old) → Elapses old new (Rewritten at n old)
-Elapses-write old new at n time stop = Elapses-more old new new.may_leave (Rewritten at n old) time stop.each
+Elapses-write old new at n time crash = Elapses-more old new new.may_leave (Rewritten at n old) time crash.each
 
--- and so over a write and a call after it that adds nothing to what a stop may leave
+-- and so over a write and a call after it that adds nothing to what a crash may leave
 pub Elapses-write_then : (old mid new : DeviceView) (at n : ℕ) → (new.keeps_model → mid.keeps_model) → Elapses old mid mid.may_leave → LeavesOnly mid (Rewritten at n old) → Elapses mid new new.may_leave → LeavesOnly new mid.may_leave
     → Elapses old new (Rewritten at n old)
-Elapses-write_then old mid new at n model first written second stop =
-    Elapses-trans old mid new (Rewritten at n old) model (Elapses-write old mid at n first written) (Elapses-more mid new new.may_leave (Rewritten at n old) second (λ keeps c left. written.each (model keeps) c (stop.each keeps c left)))
+Elapses-write_then old mid new at n model first written second crash =
+    Elapses-trans old mid new (Rewritten at n old) model (Elapses-write old mid at n first written) (Elapses-more mid new new.may_leave (Rewritten at n old) second (λ keeps c left. written.each (model keeps) c (crash.each keeps c left)))
 
 -- where all with anything in a range may be left, nothing is taken away
 pub still_leaves : (old new : DeviceView) (at n : ℕ) → LeavesEach new (Rewritten at n old) → StillLeaves old new

@@ -1,4 +1,4 @@
--- The bytes of a device in memory, and what a stop (a crash) leaves of them.
+-- The bytes of a device in memory, and what a crash leaves of them.
 use Rattle.std.specs.Prelude.{◌≡◌, ◌⊎◌, ⊤, ℕ, Bool, true, false, Option, if◌then◌else◌, List, [], ◌∷◌, length, drop, replicate, slice_index, slice_index_or}
 use mathlib.Core.Logic.{inl, inr}
 use Rattle.tmem_disk.specs.Disk.{DeviceView, overwritten}
@@ -17,12 +17,12 @@ abbrev pub blank : ℕ → Bytes
 blank size = record { present = replicate size 0; synced = replicate size 0; marks = replicate size false }
 
 -- with these bytes from a place on, and their places marked
-abbrev pub written : ℕ → List ℕ → Bytes → Bytes
-written at bytes b = record { present = overwritten b.present at bytes; synced = b.synced; marks = overwritten b.marks at (replicate (length bytes) true) }
+abbrev pub bytes_written : ℕ → List ℕ → Bytes → Bytes
+bytes_written at bytes b = record { present = overwritten b.present at bytes; synced = b.synced; marks = overwritten b.marks at (replicate (length bytes) true) }
 
 -- with a range of n places marked, and its bytes as they were
-abbrev pub touched : ℕ → ℕ → Bytes → Bytes
-touched at n b = record { present = b.present; synced = b.synced; marks = overwritten b.marks at (replicate n true) }
+abbrev pub range_marked : ℕ → ℕ → Bytes → Bytes
+range_marked at n b = record { present = b.present; synced = b.synced; marks = overwritten b.marks at (replicate n true) }
 
 -- with these as the bytes that a read gives and as the synced ones, and no mark
 abbrev pub synced_with : List ℕ → Bytes
@@ -34,23 +34,23 @@ stamped byte [] marks = []
 stamped byte (b ∷ bytes) [] = b ∷ bytes
 stamped byte (b ∷ bytes) (marked ∷ marks) = (if marked then byte else b) ∷ stamped byte bytes marks
 
--- what a stop with this fill leaves
+-- what a crash with this fill leaves
 abbrev pub filled : Fill → Bytes → List ℕ
 filled Old b = b.synced
 filled New b = b.present
 filled (Byte byte) b = stamped byte b.present b.marks
 
--- a stop leaves the bytes as at the last sync, and anything in the marked places
+-- a crash leaves the bytes as at the last sync, and anything in the marked places
 pub record LeftBy (synced : List ℕ) (marks : List Bool) (c : List ℕ) : Type 0 where
   pub size : length c ≡ length synced
   pub stays : (i : ℕ) → slice_index_or marks i true ≡ false → slice_index c i ≡ slice_index synced i
 
--- a stop at one of these moments might have left it
+-- a crash at one of these moments might have left it
 abbrev pub LeftAtSome : List (List ℕ × List Bool) → List ℕ → Type 0
 LeftAtSome [] c = ⊥
 LeftAtSome (m ∷ moments) c = LeftBy m.0 m.1 c ⊎ LeftAtSome moments c
 
--- a stop now or at a moment from number t on
+-- a crash now or at a moment from number t on
 abbrev pub LeftSince : List (List ℕ × List Bool) → List ℕ → List Bool → ℕ → List ℕ → Type 0
 LeftSince moments synced marks t c = LeftBy synced marks c ⊎ LeftAtSome (drop t moments) c
 

@@ -1,5 +1,5 @@
-//! The device that everything stands on: what a read of it gives, what a stop (a crash: a power cut or a kill) at any
-//! moment may leave of it, and when its calls fail. `SimDisk` is such a device in memory, which can be stopped, and
+//! The device that everything stands on: what a read of it gives, what a crash (a power cut or a kill) at any
+//! moment may leave of it, and when its calls fail. `SimDisk` is such a device in memory, which can crash, and
 //! whose calls can be made to fail, at chosen ones.
 #![tactic(auto)]
 

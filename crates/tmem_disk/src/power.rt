@@ -1,24 +1,24 @@
-// Whether a device in memory runs, and at which of its calls it stops, as at a crash, or fails.
+// Whether a device in memory runs, and at which of its calls it crashes or fails.
 ghost use Rattle.std.specs.Prelude.{◌≡◌, ◌↔◌, Some, IsTrue};
-ghost use Rattle.tmem_disk.specs.Power.{IsStopped, running, reading, writing, syncing, after, met_by_write, left_by_write, met_by_sync, left_by_sync, only_fails, Fails, restarted};
+ghost use Rattle.tmem_disk.specs.Power.{IsCrashed, running, reading, writing, syncing, power_after, met_by_write, left_by_write, met_by_sync, left_by_sync, only_fails, Fails, restarted};
 
 use crate::DeviceFault;
 use crate::failures::ArmedFailures;
 
-/// What a stop (a crash of the device) makes of the bytes that were written since the last successful sync.
+/// What a crash makes of the bytes that were written since the last successful sync.
 #[derive(Clone, Copy, Debug, PartialEq, Eq)]
 pub enum Fill {
     /// As at that sync.
     Old,
-    /// As a read would have given them, with the bytes of the write at which the device stopped.
+    /// As a read would have given them, with the bytes of the write at which the device crashed.
     New,
     /// This byte in each place.
     Byte(u8),
 }
 
-/// A stop that is still to come.
+/// A crash that is still to come.
 #[derive(Clone, Copy)]
-pub(crate) enum ArmedStop {
+pub(crate) enum ArmedCrash {
     /// At the write behind so many more.
     AtWrite(u64, Fill),
     /// At the next write that starts at this place.
@@ -27,12 +27,12 @@ pub(crate) enum ArmedStop {
     AtSync(u64, Fill),
 }
 
-/// The stop that a device stands at, the one that is armed, and the calls that are armed to fail. What is armed outlives
-/// the stop that it stands at.
+/// The crash from which a device was not restarted yet, the one that is armed, and the calls that are armed to fail. What is armed outlives
+/// that crash.
 #[derive(Clone, Copy)]
 pub(crate) struct Power {
-    pub(crate) stopped: Option<Fill>,
-    pub(crate) armed: Option<ArmedStop>,
+    pub(crate) crashed: Option<Fill>,
+    pub(crate) armed: Option<ArmedCrash>,
     pub(crate) failing: ArmedFailures,
 }
 
@@ -42,7 +42,7 @@ impl Power {
         ensures { result ≡ running }
     {
         Power {
-            stopped: None,
+            crashed: None,
             armed: None,
             failing: ArmedFailures {
                 read: None,
@@ -52,97 +52,97 @@ impl Power {
         }
     }
 
-    pub(crate) fn is_stopped(&self) -> bool
-        ensures { IsTrue result ↔ IsStopped self.now }
+    pub(crate) fn is_crashed(&self) -> bool
+        ensures { IsTrue result ↔ IsCrashed self.now }
     {
-        self.stopped.is_some()
+        self.crashed.is_some()
     }
 
     // Begins a read. Does it fail?
     pub(crate) fn fails_at_read(&mut self) -> bool
-        ensures power { self.new ≡ after reading self.old }
+        ensures power { self.new ≡ power_after reading self.old }
         ensures fails { IsTrue result ↔ Fails reading self.old }
     {
-        self.is_stopped() || self.failing.meets(DeviceFault::Read)
+        self.is_crashed() || self.failing.meets(DeviceFault::Read)
     }
 
-    // Begins a sync. Does it fail? A stop that it meets wins.
+    // Begins a sync. Does it fail? A crash that it meets wins.
     pub(crate) fn fails_at_sync(&mut self) -> bool
-        ensures power { self.new ≡ after syncing self.old }
+        ensures power { self.new ≡ power_after syncing self.old }
         ensures fails { IsTrue result ↔ Fails syncing self.old }
     {
-        if self.is_stopped() {
+        if self.is_crashed() {
             return true;
         }
         let armed = self.failing.meets(DeviceFault::Sync);
-        self.meet_stop_at_sync();
-        armed || self.is_stopped()
+        self.meet_crash_at_sync();
+        armed || self.is_crashed()
     }
 
-    // Begins a write from this place on at a device that runs. Does it fail with no stop? A stop that it meets wins.
+    // Begins a write from this place on at a device that runs. Does it fail with no crash? A crash that it meets wins.
     pub(crate) fn only_fails_at_write(&mut self, at: u64) -> bool
-        requires { ¬ IsStopped self.old }
-        ensures power { self.new ≡ after (writing at) self.old }
+        requires { ¬ IsCrashed self.old }
+        ensures power { self.new ≡ power_after (writing at) self.old }
         ensures fails { result ≡ only_fails at self.old }
     {
         let armed = self.failing.meets(DeviceFault::Write);
-        self.meet_stop_at_write(at);
-        armed && !self.is_stopped()
+        self.meet_crash_at_write(at);
+        armed && !self.is_crashed()
     }
 
-    // Counts a write from this place on at a device that runs, and stops it there where it is the one that a stop is
+    // Counts a write from this place on at a device that runs, and crashes it there where it is the one that a crash is
     // armed for.
-    fn meet_stop_at_write(&mut self, at: u64)
-        requires { ¬ IsStopped self.old }
-        ensures stopped { self.new.stopped ≡ met_by_write at self.old.armed }
+    fn meet_crash_at_write(&mut self, at: u64)
+        requires { ¬ IsCrashed self.old }
+        ensures crashed { self.new.crashed ≡ met_by_write at self.old.armed }
         ensures armed { self.new.armed ≡ left_by_write at self.old.armed }
         ensures failing { self.new.failing ≡ self.old.failing }
     {
         match self.armed {
-            Some(ArmedStop::AtWrite(0, fill)) => {
-                self.stopped = Some(fill);
+            Some(ArmedCrash::AtWrite(0, fill)) => {
+                self.crashed = Some(fill);
                 self.armed = None;
             }
-            Some(ArmedStop::AtWrite(more, fill)) => {
-                self.armed = Some(ArmedStop::AtWrite(more - 1, fill));
+            Some(ArmedCrash::AtWrite(more, fill)) => {
+                self.armed = Some(ArmedCrash::AtWrite(more - 1, fill));
             }
-            Some(ArmedStop::AtPlace(place, fill)) => {
+            Some(ArmedCrash::AtPlace(place, fill)) => {
                 if at == place {
-                    self.stopped = Some(fill);
+                    self.crashed = Some(fill);
                     self.armed = None;
                 }
             }
-            Some(ArmedStop::AtSync(..)) | None => {}
+            Some(ArmedCrash::AtSync(..)) | None => {}
         }
     }
 
-    // Counts a sync at a device that runs, and stops it there where it is the one that a stop is armed for.
-    fn meet_stop_at_sync(&mut self)
-        requires { ¬ IsStopped self.old }
-        ensures stopped { self.new.stopped ≡ met_by_sync self.old.armed }
+    // Counts a sync at a device that runs, and crashes it there where it is the one that a crash is armed for.
+    fn meet_crash_at_sync(&mut self)
+        requires { ¬ IsCrashed self.old }
+        ensures crashed { self.new.crashed ≡ met_by_sync self.old.armed }
         ensures armed { self.new.armed ≡ left_by_sync self.old.armed }
         ensures failing { self.new.failing ≡ self.old.failing }
     {
         match self.armed {
-            Some(ArmedStop::AtSync(0, fill)) => {
-                self.stopped = Some(fill);
+            Some(ArmedCrash::AtSync(0, fill)) => {
+                self.crashed = Some(fill);
                 self.armed = None;
             }
-            Some(ArmedStop::AtSync(more, fill)) => {
-                self.armed = Some(ArmedStop::AtSync(more - 1, fill));
+            Some(ArmedCrash::AtSync(more, fill)) => {
+                self.armed = Some(ArmedCrash::AtSync(more - 1, fill));
             }
-            Some(ArmedStop::AtWrite(..) | ArmedStop::AtPlace(..)) | None => {}
+            Some(ArmedCrash::AtWrite(..) | ArmedCrash::AtPlace(..)) | None => {}
         }
     }
 
-    // Ends the stop, and tells its fill.
+    // Ends the crash, and tells its fill.
     pub(crate) fn restart(&mut self) -> Fill
-        requires { IsStopped self.old }
-        ensures fill { self.old.stopped ≡ Some result }
+        requires { IsCrashed self.old }
+        ensures fill { self.old.crashed ≡ Some result }
         ensures power { self.new ≡ restarted self.old }
     {
-        let fill = self.stopped.unwrap();
-        self.stopped = None;
+        let fill = self.crashed.unwrap();
+        self.crashed = None;
         fill
     }
 }

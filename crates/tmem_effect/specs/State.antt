@@ -1,4 +1,4 @@
--- What a transaction changes, and the state that the accepted transactions make.
+-- What a transaction changes, and the state that the committed transactions make.
 use Rattle.std.specs.Prelude.{ℕ, ◌+◌, ◌^◌, ◌<◌, ◌≤◌, ◌==◌, ℤ, pos, Bool, ◌&&◌, List, [], ◌∷◌, length, replicate, slice_set, All}
 use Rattle.std.proofs.Props.{props}
 pub use Rattle.tmem_effect.specs.declared.effect.Effect.{Effect}
@@ -14,13 +14,13 @@ no_effect = record { writes = []; names = []; retired = [] }
 abbrev pub is_empty : Effect → Bool
 is_empty e = (length e.writes == 0) && ((length e.names == 0) && (length e.retired == 0))
 
--- how many transactions were accepted, the registered names, strictly ascending, and the value of each variable
+-- how many transactions were committed, the registered names, strictly ascending, and the value of each variable
 pub record State : Type 0 where
   pub count : ℕ
   pub names : List (List ℕ)
   pub values : List ℤ
 
--- the state of a new store: nothing accepted, no name, and each variable 0
+-- the state of a new store: nothing committed, no name, and each variable 0
 abbrev pub first_state : ℕ → State
 first_state vars = record { count = 0; names = []; values = replicate vars (pos 0) }
 

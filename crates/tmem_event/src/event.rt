@@ -17,12 +17,12 @@ pub enum Event {
     /// Settles the slot's attempt once it has ended. Refused with `Closed`, `Conflict`, `Full`, `Spent`; the slot keeps
     /// it then.
     Settle { slot: u8 },
-    /// Makes the oldest accepted transactions that wait durable, up to 64. Refused with `Closed`, `LogFull`, `Device`, `Unknown`.
+    /// Makes the oldest committed transactions that wait durable, up to 64. Refused with `Closed`, `LogFull`, `Device`, `Unknown`.
     Flush,
     /// Writes the durable state as the next image, and frees every log slot. No transaction is durable that was not.
     /// Refused with `Closed`, `Spent`, `Device`, `Unknown`.
     Checkpoint,
-    /// Asks how many accepted transactions are known durable. Refused with `Closed`.
+    /// Asks how many committed transactions are known durable. Refused with `Closed`.
     Look,
     /// Drops the session and all slots, and opens the same device again. Refused with `Memory`, `Device`,
     /// `NotFormatted`, `Damaged`, `Geometry`, `Spent`, `Missing`, `Broken`, and then no session stands.
@@ -44,13 +44,13 @@ pub enum Reply {
     Idle,
     /// The transaction was settled, and answered so.
     Settled(Settled),
-    /// So many accepted transactions are durable.
+    /// So many committed transactions are durable.
     Durable(u64),
     /// The next image was written, and every log slot is free.
     Checkpointed,
-    /// So many accepted transactions are known durable.
+    /// So many committed transactions are known durable.
     Looked(u64),
-    /// The device was opened, and so many accepted transactions were found.
+    /// The device was opened, and so many committed transactions were found.
     Opened(u64),
     /// The event was refused.
     Fault(Fault),

@@ -22,7 +22,7 @@ pub enum Fault {
     /// In a flush or a checkpoint a sync failed, or the write that opens a gate. After a flush, reopening finds the
     /// state with the whole batch or without it.
     Unknown,
-    /// As many accepted transactions as may wait are not known durable.
+    /// As many committed transactions as may wait are not known durable.
     Full,
     /// Every slot of the log is used.
     LogFull,

@@ -26,7 +26,7 @@ module _ (start start' : List ℕ) (before after : List Event) (same : start' �
       (λ none. subst (λ (es : List Event). SameOutside at n (seen_after start before) (seen_after start es)) (sym none) (SameOutside-refl at n (seen_after start before)))
       spoils)
 
-  -- after a sync a stop leaves nothing that it might not have left before
+  -- after a sync a crash leaves nothing that it might not have left before
   pub synced_leaves : after ≡ synced ∷ before → (c : List ℕ) → LeftAfter start' after c → LeftAfter start before c
   synced_leaves is c left = from_case (has_lost before) (λ was. was)
       (λ seen. subst (λ (b : List ℕ). LeftAfter start before b) (sym seen) (seen_stays start before within))
@@ -37,7 +37,7 @@ second : (P Q : Type 0) (b : Bool) → not b ≡ true → by_case b P Q → Q
 second P Q true is case = absurd (false≢true is)
 second P Q false is case = case
 
--- where nothing was written since a sync that succeeded, a stop leaves what a read gives
+-- where nothing was written since a sync that succeeded, a crash leaves what a read gives
 pub nothing_to_sync : (start : List ℕ) (events : List Event) → is_synced events ≡ true → (c : List ℕ) → LeftAfter start events c → c ≡ seen_after start events
 nothing_to_sync start [] is c left = absurd (false≢true is)
 nothing_to_sync start (gave at bytes ∷ earlier) is c left = nothing_to_sync start earlier is c left

@@ -2,8 +2,8 @@
 use Rattle.std.specs.Prelude.{ℕ, Option, List, length}
 use Rattle.tmem_disk.specs.Disk.{DeviceView, IsDevice}
 use Rattle.tmem_disk.specs.declared.disk.DeviceFault.{DeviceFault}
-use Rattle.tmem_file.specs.Record.{Event, seen_after, LeftAfter, LeftSince, Agrees}
-use Rattle.tmem_file.specs.Recorded.{start_of, events_of}
+use Rattle.tmem_file.specs.Record.{Event, seen_after, LeftAfter, FileLeftSince, ReadsAgree}
+use Rattle.tmem_file.specs.Recorded.{start_of, call_events}
 use Rattle.tmem_file.specs.Held.{seen_long, left_long, seen_stays, left_now, only_now}
 use Rattle.tmem_file.specs.declared.disk.FileDisk.{FileDisk}
 
@@ -13,22 +13,22 @@ recorded_view failures last_fault start events = record {
   capacity = length start;
   failures = failures;
   last_fault = last_fault;
-  keeps_model = Agrees start events;
+  keeps_model = ReadsAgree start events;
   seen = seen_after start events;
   may_leave = LeftAfter start events;
   moment = length events;
-  left_since = LeftSince start events;
+  left_since = FileLeftSince start events;
 }
 
 -- what every device shows
-abbrev pub view_of : FileDisk → DeviceView
-view_of disk = recorded_view disk.failures disk.last_fault (start_of disk.file.calls) (events_of disk.file.calls)
+abbrev pub file_view : FileDisk → DeviceView
+file_view disk = recorded_view disk.failures disk.last_fault (start_of disk.file.calls) (call_events disk.file.calls)
 
 -- it is a device
-pub is_device_of : (disk : FileDisk) → IsDevice (view_of disk)
-is_device_of disk =
+pub file_is_device : (disk : FileDisk) → IsDevice (file_view disk)
+file_is_device disk =
     let start = start_of disk.file.calls in
-    let events = events_of disk.file.calls in
+    let events = call_events disk.file.calls in
     record {
       capacity_fits = disk.file.fits;
       failures_fit = disk.counted;

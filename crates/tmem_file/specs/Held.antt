@@ -3,7 +3,7 @@ use Rattle.std.specs.Prelude.{◌≡◌, ℕ, ◌+◌, ◌≤◌, Bool, true, fa
 use Rattle.std.proofs.Common.{inl, ⊎_elim, refl, sym, ◌∙◌, ap, subst}
 use Rattle.std.proofs.Math.Nat.{le_trans, le-max_left, le-max_right, not-suc-le_self}
 use Rattle.tmem_disk.proofs.Laws.{SameOutside-overwritten, SameOutside-refl}
-use Rattle.tmem_file.specs.Record.{Event, gave, holds, tore, synced, lost, seen_after, has_lost, by_case, LeftAfter, LeftSince, end_of, reach}
+use Rattle.tmem_file.specs.Record.{Event, gave, holds, tore, synced, lost, seen_after, has_lost, by_case, LeftAfter, FileLeftSince, end_of, reach}
 
 -- what follows from each of two facts follows from the one that holds
 pub from_case : {P Q R : Type 0} (b : Bool) → (P → R) → (Q → R) → by_case b P Q → R
@@ -38,7 +38,7 @@ module _ (start : List ℕ) where
   room : (at : ℕ) (bytes : List ℕ) (earlier : List Event) → reach (holds at bytes ∷ earlier) ≤ length start → at + length bytes ≤ length (seen_after start earlier)
   room at bytes earlier fits = subst (λ (n : ℕ). at + length bytes ≤ n) (sym (seen_long earlier (others (holds at bytes) earlier fits))) (newest (holds at bytes) earlier fits)
 
-  -- what a stop may leave is as long as the file
+  -- what a crash may leave is as long as the file
   pub left_long : (events : List Event) → reach events ≤ length start → (c : List ℕ) → LeftAfter start events c → length c ≡ length start
   left_long [] fits c left = left
   left_long (gave at bytes ∷ earlier) fits c left = left_long earlier (others (gave at bytes) earlier fits) c left
@@ -49,7 +49,7 @@ module _ (start : List ℕ) where
       from_case (has_lost earlier) (λ before. left_long earlier within c before) (λ is. ap (λ (l : List ℕ). length l) is ∙ seen_long earlier within) left
   left_long (lost ∷ earlier) fits c left = left_long earlier (others lost earlier fits) c left
 
-  -- a stop may leave what a read gives
+  -- a crash may leave what a read gives
   pub seen_stays : (events : List Event) → reach events ≤ length start → LeftAfter start events (seen_after start events)
   seen_stays [] fits = refl
   seen_stays (gave at bytes ∷ earlier) fits = seen_stays earlier (others (gave at bytes) earlier fits)
@@ -60,11 +60,11 @@ module _ (start : List ℕ) where
   seen_stays (lost ∷ earlier) fits = seen_stays earlier (others lost earlier fits)
 
   -- this moment is one of those since an earlier one
-  pub left_now : (events : List Event) (t : ℕ) (c : List ℕ) → LeftAfter start events c → LeftSince start events t c
+  pub left_now : (events : List Event) (t : ℕ) (c : List ℕ) → LeftAfter start events c → FileLeftSince start events t c
   left_now [] t c left = left
   left_now (event ∷ earlier) t c left = inl left
 
   -- and since this moment there is no other
-  pub only_now : (events : List Event) (c : List ℕ) → LeftSince start events (length events) c → LeftAfter start events c
+  pub only_now : (events : List Event) (c : List ℕ) → FileLeftSince start events (length events) c → LeftAfter start events c
   only_now [] c left = left
   only_now (event ∷ earlier) c left = ⊎_elim (λ now. now) (λ before. absurd (not-suc-le_self (length earlier) before.0)) left

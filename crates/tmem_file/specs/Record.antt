@@ -1,5 +1,5 @@
 -- What a run knows of a file: the bytes that it gave when it was opened, and what its calls did since. What it holds, what
--- a stop (a crash) may leave of it, and whether its answers agree, are read off that.
+-- a crash may leave of it, and whether its answers agree, are read off that.
 use Rattle.std.specs.Prelude.{◌≡◌, ◌⊎◌, ⊤, ℕ, ◌+◌, ◌≤◌, max, Bool, true, false, not, ◌||◌, List, [], ◌∷◌, length, slice_range}
 use Rattle.tmem_disk.specs.Disk.{overwritten, SameOutside}
 
@@ -54,7 +54,7 @@ abbrev pub by_case : Bool → Type 0 → Type 0 → Type 0
 by_case true P Q = P
 by_case false P Q = Q
 
--- What a stop may leave: at first anything as long as the file, after a sync what a read gives, and then anything in the
+-- What a crash may leave: at first anything as long as the file, after a sync what a read gives, and then anything in the
 -- ranges written since. Once it is not known for sure what the file holds, a sync promises nothing.
 abbrev pub LeftAfter : List ℕ → List Event → List ℕ → Type 0
 LeftAfter start [] c = length c ≡ length start
@@ -64,19 +64,19 @@ LeftAfter start (tore at n ∷ earlier) c = (b : List ℕ) × LeftAfter start ea
 LeftAfter start (synced ∷ earlier) c = by_case (has_lost earlier) (LeftAfter start earlier c) (c ≡ seen_after start earlier)
 LeftAfter start (lost ∷ earlier) c = LeftAfter start earlier c
 
--- what a stop now may leave, or might have left after t events or more
-abbrev pub LeftSince : List ℕ → List Event → ℕ → List ℕ → Type 0
-LeftSince start [] t c = LeftAfter start [] c
-LeftSince start (event ∷ earlier) t c = LeftAfter start (event ∷ earlier) c ⊎ ((t ≤ length earlier) × LeftSince start earlier t c)
+-- what a crash now may leave, or might have left after t events or more
+abbrev pub FileLeftSince : List ℕ → List Event → ℕ → List ℕ → Type 0
+FileLeftSince start [] t c = LeftAfter start [] c
+FileLeftSince start (event ∷ earlier) t c = LeftAfter start (event ∷ earlier) c ⊎ ((t ≤ length earlier) × FileLeftSince start earlier t c)
 
 -- each read gave the bytes that the file held by then
-abbrev pub Agrees : List ℕ → List Event → Type 0
-Agrees start [] = ⊤
-Agrees start (gave at bytes ∷ earlier) = Agrees start earlier × (bytes ≡ slice_range (seen_after start earlier) at (at + length bytes))
-Agrees start (holds at bytes ∷ earlier) = Agrees start earlier
-Agrees start (tore at n ∷ earlier) = Agrees start earlier
-Agrees start (synced ∷ earlier) = Agrees start earlier
-Agrees start (lost ∷ earlier) = Agrees start earlier
+abbrev pub ReadsAgree : List ℕ → List Event → Type 0
+ReadsAgree start [] = ⊤
+ReadsAgree start (gave at bytes ∷ earlier) = ReadsAgree start earlier × (bytes ≡ slice_range (seen_after start earlier) at (at + length bytes))
+ReadsAgree start (holds at bytes ∷ earlier) = ReadsAgree start earlier
+ReadsAgree start (tore at n ∷ earlier) = ReadsAgree start earlier
+ReadsAgree start (synced ∷ earlier) = ReadsAgree start earlier
+ReadsAgree start (lost ∷ earlier) = ReadsAgree start earlier
 
 -- where the range of a call ends
 abbrev pub end_of : Event → ℕ

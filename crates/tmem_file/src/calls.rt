@@ -41,7 +41,7 @@ pub(crate) struct Range {
 impl Range {
     /// An empty one at a place.
     pub(crate) fn from(at: u64) -> Range
-        ensures place { result.at ≡ at }
+        ensures at { result.at ≡ at }
         ensures bytes { bytes_in result.bytes ≡ [] }
     {
         Range {
@@ -54,7 +54,7 @@ impl Range {
     /// Fills a buffer with the bytes behind this one, and takes them to it.
     pub(crate) fn read(self, file: &File, into: &mut [u8]) -> io::Result<Range>
         requires { self.end + length into.old < 2 ^ 64 }
-        ensures place { IfOk result (λ range. range.at ≡ self.at) }
+        ensures at { IfOk result (λ range. range.at ≡ self.at) }
         ensures bytes { IfOk result (λ range. bytes_in range.bytes ≡ bytes_in self.bytes ++ into.new) }
     {
         file.read_exact_at(into, self.end)?;
@@ -64,7 +64,7 @@ impl Range {
     /// Writes over the bytes behind this one, and takes those that were written to it.
     pub(crate) fn write(self, file: &File, bytes: &[u8]) -> io::Result<Range>
         requires { self.end + length bytes.now < 2 ^ 64 }
-        ensures place { IfOk result (λ range. range.at ≡ self.at) }
+        ensures at { IfOk result (λ range. range.at ≡ self.at) }
         ensures bytes { IfOk result (λ range. bytes_in range.bytes ≡ bytes_in self.bytes ++ bytes.now) }
     {
         file.write_all_at(bytes, self.end)?;
@@ -74,7 +74,7 @@ impl Range {
     // This one and more behind it.
     fn and(self, more: &[u8]) -> Range
         requires { self.end + length more.now < 2 ^ 64 }
-        ensures place { result.at ≡ self.at }
+        ensures at { result.at ≡ self.at }
         ensures bytes { bytes_in result.bytes ≡ bytes_in self.bytes ++ more.now }
     {
         Range {

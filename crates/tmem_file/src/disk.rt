@@ -3,8 +3,8 @@ ghost use Rattle.std.specs.Prelude.{◌≡◌, ◌<◌, ◌≤◌, ◌+◌, ◌^
 ghost use Rattle.tmem_disk.specs.Disk.{IsCall, Elapses, overwritten, ReadsAs, SameSeenOutside, LeavesOnly, LeavesEach, StillLeaves, IsSynced, Rewritten, after_fault};
 ghost use Rattle.tmem_disk.specs.Start.{IsNewDevice};
 ghost use Rattle.tmem_file.specs.Record.{reach};
-ghost use Rattle.tmem_file.specs.Recorded.{start_of, events_of};
-ghost use Rattle.tmem_file.specs.Opening.{IsOpened};
+ghost use Rattle.tmem_file.specs.Recorded.{start_of, call_events};
+ghost use Rattle.tmem_file.specs.Opening.{IsFreshlyOpened};
 
 use crate::naming::{lock, open_there};
 use crate::recorded::RecordedFile;
@@ -20,7 +20,7 @@ pub struct FileDisk {
     file: RecordedFile,
     failures: u64,
     last_fault: Option<DeviceFault>,
-    ghost within: { reach (events_of file.calls) ≤ length (start_of file.calls) },
+    ghost within: { reach (call_events file.calls) ≤ length (start_of file.calls) },
     ghost counted: { failures < 2 ^ 64 },
 }
 
@@ -36,15 +36,15 @@ impl Drop for FileDisk {
 }
 
 impl FileDisk {
-    ghost use Rattle.tmem_file.specs.FileView.{view_of};
+    ghost use Rattle.tmem_file.specs.FileView.{file_view};
 
     /// Opens a file or a block device that is there, and locks it for as long as the device lives. Its first bytes are the device,
     /// as many as there are, but no more than `most`: those are read once, and then synced, and nothing behind them is read or
     /// written. Refused by `Device` where it is missing, is no regular file and no block device, may not be read and written, or is
     /// open as a device already, and where a call fails.
     pub fn open<R: Files<File = File>>(rt: &R, path: &str, most: u64) -> Result<FileDisk, Fault>
-        ensures opened { IfOk result (λ disk. IsOpened (view_of disk)) }
-        ensures most { IfOk result (λ disk. (view_of disk).capacity ≤ most) }
+        ensures opened { IfOk result (λ disk. IsFreshlyOpened (file_view disk)) }
+        ensures most { IfOk result (λ disk. (file_view disk).capacity ≤ most) }
         ensures refused { IsOkUnless result Fault.Device }
     {
         match open_there(rt, path)
@@ -58,7 +58,7 @@ impl FileDisk {
 
     /// An empty file, after so many zeros were written into it and synced.
     pub(crate) fn blank(file: File, size: u64) -> Result<FileDisk, Fault>
-        ensures made { IfOk result (λ disk. IsNewDevice size (view_of disk)) }
+        ensures made { IfOk result (λ disk. IsNewDevice size (file_view disk)) }
         ensures refused { IsOkUnless result Fault.Device }
     {
         match lock(file).and_then(|file| RecordedFile::zeros(file, size)) {
@@ -69,10 +69,10 @@ impl FileDisk {
 
     // A device of which nothing is left to sync.
     fn settle(mut file: RecordedFile) -> Result<FileDisk, Fault>
-        requires { events_of file.calls ≡ [] }
-        ensures opened { IfOk result (λ disk. IsOpened (view_of disk)) }
-        ensures seen { IfOk result (λ disk. (view_of disk).seen ≡ start_of file.calls) }
-        ensures capacity { IfOk result (λ disk. (view_of disk).capacity ≡ length (start_of file.calls)) }
+        requires { call_events file.calls ≡ [] }
+        ensures opened { IfOk result (λ disk. IsFreshlyOpened (file_view disk)) }
+        ensures seen { IfOk result (λ disk. (file_view disk).seen ≡ start_of file.calls) }
+        ensures capacity { IfOk result (λ disk. (file_view disk).capacity ≡ length (start_of file.calls)) }
         ensures refused { IsOkUnless result Fault.Device }
     {
         if file.sync().is_err() {
@@ -97,11 +97,11 @@ impl FileDisk {
 }
 
 impl Disk for FileDisk {
-    ghost use Rattle.tmem_file.specs.FileView.{view_of, is_device_of};
+    ghost use Rattle.tmem_file.specs.FileView.{file_view, file_is_device};
 
-    ghost view = { view_of };
+    ghost view = { file_view };
 
-    ghost is_device = { is_device_of };
+    ghost is_device = { file_is_device };
 
     fn size(&self) -> u64 {
         self.file.size()

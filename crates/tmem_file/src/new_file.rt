@@ -1,7 +1,7 @@
 // A file that is made whole before it gets its name.
 ghost use Rattle.std.specs.Prelude.{◌≡◌, ◌⊎◌, IfOk, IfErr, IsOkUnless};
 ghost use Rattle.tmem_disk.specs.Start.{IsNewDevice};
-ghost use Rattle.tmem_file.specs.Opening.{IsPlaced};
+ghost use Rattle.tmem_file.specs.Opening.{HasItsName};
 
 use crate::FileDisk;
 use crate::naming::{make_beside, open_folder};
@@ -10,7 +10,7 @@ use tmem_disk::Disk;
 use tmem_fault::Fault;
 
 /// A new file that stands beside the name that it is to get, under that name with `.new` and a number behind it. Whoever
-/// makes it writes to `disk` what the file is to hold, and then calls `place`, or else `discard`. After a crash in between
+/// makes it writes to `disk` what the file is to hold, and then calls `give_name`, or else `discard`. After a crash in between
 /// it is left over: nothing reads it, and it may be removed.
 #[derive(Drop)]
 pub struct NewFile {
@@ -22,7 +22,7 @@ pub struct NewFile {
 }
 
 impl NewFile {
-    ghost use Rattle.tmem_file.specs.FileView.{view_of};
+    ghost use Rattle.tmem_file.specs.FileView.{file_view};
 
     /// Makes a file of this many zeros, synced, beside this name. Refused by `Device` where something has the name, and
     /// where a call fails; by `Memory` where there is none for the names. Nothing is left of the file then.
@@ -31,7 +31,7 @@ impl NewFile {
         name: &str,
         size: u64,
     ) -> Result<NewFile, Fault>
-        ensures made { IfOk result (λ new. IsNewDevice size (view_of new.disk)) }
+        ensures made { IfOk result (λ new. IsNewDevice size (file_view new.disk)) }
         ensures refused { IfErr result (λ fault. (fault ≡ Fault.Memory) ⊎ (fault ≡ Fault.Device)) }
     {
         if fs::symlink_metadata(rt, name).is_ok() {
@@ -58,8 +58,8 @@ impl NewFile {
 
     /// Syncs the file where that is left to do, gives it its name, and syncs the folder. It never takes the name from a file that has it. Refused by
     /// `Device` where a call fails: this file has the name then, whole, or does not have it.
-    pub fn place<R: Files<File = File>>(self, rt: &R) -> Result<FileDisk, Fault>
-        ensures placed { IfOk result (λ disk. IsPlaced (view_of self.disk) (view_of disk)) }
+    pub fn give_name<R: Files<File = File>>(self, rt: &R) -> Result<FileDisk, Fault>
+        ensures named { IfOk result (λ disk. HasItsName (file_view self.disk) (file_view disk)) }
         ensures refused { IsOkUnless result Fault.Device }
     {
         let NewFile {

@@ -1,7 +1,7 @@
 // The calls of a file, with what came of each. It takes no memory: its values are seen by clauses alone.
 ghost use Rattle.std.specs.Prelude.{◌≡◌, [], ◌∷◌};
 ghost use Rattle.tmem_file.specs.Record.{is_loss};
-ghost use Rattle.tmem_file.specs.Recorded.{event_of, first_of, events_of};
+ghost use Rattle.tmem_file.specs.Recorded.{event_of, first_range, call_events};
 
 use crate::calls::{Range, Synced};
 use std::snapshot::Snapshot;
@@ -40,16 +40,16 @@ pub(crate) enum Calls {
 impl Calls {
     /// No call yet.
     pub(crate) fn start(first: &Range) -> Calls
-        ensures start { first_of result ≡ first.now }
-        ensures events { events_of result ≡ [] }
+        ensures start { first_range result ≡ first.now }
+        ensures events { call_events result ≡ [] }
     {
         Calls::Start(Snapshot::of(first))
     }
 
     /// One call more.
     pub(crate) fn with(&self, call: &Call) -> Calls
-        ensures start { first_of result ≡ first_of self.now }
-        ensures events { events_of result ≡ event_of call.now ∷ events_of self.now }
+        ensures start { first_range result ≡ first_range self.now }
+        ensures events { call_events result ≡ event_of call.now ∷ call_events self.now }
     {
         Calls::After(Snapshot::of(call), Snapshot::of(self))
     }

@@ -3,7 +3,7 @@ ghost use Rattle.std.specs.Prelude.{◌≡◌, false, ◌+◌, ◌≤◌, ◌<�
 ghost use Rattle.std.specs.Int.Signed.{◌<ℤ◌};
 ghost use Rattle.std.specs.Fd.{file_raw_fd};
 ghost use Rattle.tmem_file.specs.Record.{Event, gave, holds, synced, lost, has_lost, is_synced};
-ghost use Rattle.tmem_file.specs.Recorded.{bytes_of, event_of, first_of, start_of, events_of, Spoils};
+ghost use Rattle.tmem_file.specs.Recorded.{range_bytes, event_of, first_range, start_of, call_events, Spoils};
 
 use crate::calls::{Range, Synced};
 use crate::naming::size_of;
@@ -13,7 +13,7 @@ use std::io::{self, ErrorKind};
 
 // So many bytes of a file are read or written at once where that is done for the record: as it is opened or made, and after a
 // write that failed.
-const PIECE: usize = 65536;
+const PIECE_BYTES: usize = 65536;
 
 /// An open file and the record of its calls.
 #[derive(Drop)]
@@ -25,11 +25,11 @@ pub(crate) struct RecordedFile {
     unsure: bool,
     // A sync succeeded, nothing was written since, and it is known for sure what the file holds.
     synced: bool,
-    ghost begins: { (first_of calls).at ≡ 0 },
+    ghost begins: { (first_range calls).at ≡ 0 },
     ghost long: { length (start_of calls) ≡ size },
     ghost fits: { length (start_of calls) < 2 ^ 64 },
-    ghost doubt: { has_lost (events_of calls) ≡ unsure },
-    ghost rest: { is_synced (events_of calls) ≡ synced },
+    ghost doubt: { has_lost (call_events calls) ≡ unsure },
+    ghost rest: { is_synced (call_events calls) ≡ synced },
     ghost number: { pos 2 <ℤ file_raw_fd file },
 }
 
@@ -38,7 +38,7 @@ impl RecordedFile {
     /// memory alone: the record says that a crash leaves them only once a sync has succeeded.
     pub(crate) fn found(file: File, most: u64) -> io::Result<RecordedFile>
         requires { pos 2 <ℤ file_raw_fd file }
-        ensures events { IfOk result (λ found. events_of found.calls ≡ []) }
+        ensures events { IfOk result (λ found. call_events found.calls ≡ []) }
         ensures most { IfOk result (λ found. length (start_of found.calls) ≤ most) }
     {
         let size = size_of(&file)?.min(most);
@@ -56,7 +56,7 @@ impl RecordedFile {
     pub(crate) fn zeros(file: File, size: u64) -> io::Result<RecordedFile>
         requires { pos 2 <ℤ file_raw_fd file }
         ensures start { IfOk result (λ made. start_of made.calls ≡ replicate size 0) }
-        ensures events { IfOk result (λ made. events_of made.calls ≡ []) }
+        ensures events { IfOk result (λ made. call_events made.calls ≡ []) }
     {
         let written = fill(&file, size)?;
         Ok(RecordedFile {
@@ -77,7 +77,7 @@ impl RecordedFile {
 
     /// Has a sync succeeded, was nothing written since, and is it known for sure what the file holds? A sync has nothing to do.
     pub(crate) fn is_synced(&self) -> bool
-        ensures { result ≡ is_synced (events_of self.now.calls) }
+        ensures { result ≡ is_synced (call_events self.now.calls) }
     {
         self.synced
     }
@@ -86,8 +86,8 @@ impl RecordedFile {
     pub(crate) fn read(&mut self, at: u64, into: &mut [u8]) -> io::Result<()>
         requires { at + length into.old < 2 ^ 64 }
         ensures start { start_of self.new.calls ≡ start_of self.old.calls }
-        ensures gave { OnOk result (events_of self.new.calls ≡ gave at into.new ∷ events_of self.old.calls) }
-        ensures same { OnErr result (events_of self.new.calls ≡ events_of self.old.calls) }
+        ensures gave { OnOk result (call_events self.new.calls ≡ gave at into.new ∷ call_events self.old.calls) }
+        ensures same { OnErr result (call_events self.new.calls ≡ call_events self.old.calls) }
     {
         let given = Range::from(at).read(&self.file, into)?;
         self.note(&Call::Gave(given));
@@ -98,8 +98,8 @@ impl RecordedFile {
     pub(crate) fn write(&mut self, at: u64, bytes: &[u8]) -> io::Result<()>
         requires { at + length bytes.now < 2 ^ 64 }
         ensures start { start_of self.new.calls ≡ start_of self.old.calls }
-        ensures wrote { OnOk result (events_of self.new.calls ≡ holds at bytes.now ∷ events_of self.old.calls) }
-        ensures spoilt { OnErr result (Spoils at (length bytes.now) (events_of self.old.calls) (events_of self.new.calls)) }
+        ensures wrote { OnOk result (call_events self.new.calls ≡ holds at bytes.now ∷ call_events self.old.calls) }
+        ensures spoilt { OnErr result (Spoils at (length bytes.now) (call_events self.old.calls) (call_events self.new.calls)) }
     {
         match Range::from(at).write(&self.file, bytes) {
             Ok(written) => {
@@ -129,9 +129,9 @@ impl RecordedFile {
     /// nobody knows what.
     pub(crate) fn sync(&mut self) -> io::Result<()>
         ensures start { start_of self.new.calls ≡ start_of self.old.calls }
-        ensures sure { OnOk result (has_lost (events_of self.old.calls) ≡ false) }
-        ensures synced { OnOk result (events_of self.new.calls ≡ synced ∷ events_of self.old.calls) }
-        ensures lost { OnErr result (events_of self.new.calls ≡ lost ∷ events_of self.old.calls) }
+        ensures sure { OnOk result (has_lost (call_events self.old.calls) ≡ false) }
+        ensures synced { OnOk result (call_events self.new.calls ≡ synced ∷ call_events self.old.calls) }
+        ensures lost { OnErr result (call_events self.new.calls ≡ lost ∷ call_events self.old.calls) }
     {
         let outcome = if self.unsure {
             Err(io::Error::from(ErrorKind::InvalidData))
@@ -152,8 +152,8 @@ impl RecordedFile {
 
     // Puts a call on record.
     fn note(&mut self, call: &Call)
-        ensures start { first_of self.new.calls ≡ first_of self.old.calls }
-        ensures events { events_of self.new.calls ≡ event_of call.now ∷ events_of self.old.calls }
+        ensures start { first_range self.new.calls ≡ first_range self.old.calls }
+        ensures events { call_events self.new.calls ≡ event_of call.now ∷ call_events self.old.calls }
     {
         self.synced = match call {
             Call::Gave(_) => self.synced,
@@ -168,14 +168,14 @@ impl RecordedFile {
 // A range, read piece by piece.
 fn find(file: &File, at: u64, count: u64) -> io::Result<Range>
     requires { at + count < 2 ^ 64 }
-    ensures place { IfOk result (λ range. range.at ≡ at) }
-    ensures long { IfOk result (λ range. length (bytes_of range) ≡ count) }
+    ensures at { IfOk result (λ range. range.at ≡ at) }
+    ensures long { IfOk result (λ range. length (range_bytes range) ≡ count) }
 {
-    let mut piece = [0u8; PIECE];
+    let mut piece = [0u8; PIECE_BYTES];
     let mut found = Range::from(at);
     let mut done = 0;
     while done < count {
-        let n = (count - done).min(PIECE as u64) as usize;
+        let n = (count - done).min(PIECE_BYTES as u64) as usize;
         found = found.read(file, &mut piece[..n])?;
         done += n as u64;
     }
@@ -184,14 +184,14 @@ fn find(file: &File, at: u64, count: u64) -> io::Result<Range>
 
 // Writes so many zeros piece by piece from the start on, so that no later write has to find room.
 fn fill(file: &File, size: u64) -> io::Result<Range>
-    ensures place { IfOk result (λ range. range.at ≡ 0) }
-    ensures zeros { IfOk result (λ range. bytes_of range ≡ replicate size 0) }
+    ensures at { IfOk result (λ range. range.at ≡ 0) }
+    ensures zeros { IfOk result (λ range. range_bytes range ≡ replicate size 0) }
 {
-    let zeros = [0u8; PIECE];
+    let zeros = [0u8; PIECE_BYTES];
     let mut written = Range::from(0);
     let mut done = 0;
     while done < size {
-        let n = (size - done).min(PIECE as u64) as usize;
+        let n = (size - done).min(PIECE_BYTES as u64) as usize;
         written = written.write(file, &zeros[..n])?;
         done += n as u64;
     }

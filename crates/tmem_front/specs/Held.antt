@@ -14,30 +14,30 @@ abbrev pub opening_of : {D T S : Type 0} {d t s : _} → OpenedFront D T S d t s
 opening_of o = o.opening
 
 -- the state that was found
-abbrev pub found_of : {D T S : Type 0} {d t s : _} → OpenedFront D T S d t s → State
-found_of o = opening.found_of o.opening
+abbrev pub front_found : {D T S : Type 0} {d t s : _} → OpenedFront D T S d t s → State
+front_found o = opening.found_of o.opening
 
 -- its device
-abbrev pub device_of : {D T S : Type 0} {d t s : _} → OpenedFront D T S d t s → DeviceView
-device_of o = opening.device_of o.opening
+abbrev pub front_device : {D T S : Type 0} {d t s : _} → OpenedFront D T S d t s → DeviceView
+front_device o = opening.opening_device o.opening
 
 -- its spine
 abbrev pub spine_of : {D T S : Type 0} {d t s : _} → OpenedFront D T S d t s → SpineName
 spine_of o = o.spine
 
 -- what tests its invariants
-abbrev pub table_of : {D T S : Type 0} {d t s : _} → OpenedFront D T S d t s → T
-table_of o = opening.table_of o.opening
+abbrev pub front_table : {D T S : Type 0} {d t s : _} → OpenedFront D T S d t s → T
+front_table o = opening.opening_table o.opening
 
 -- its stored steps
-abbrev pub steps_of : {D T S : Type 0} {d t s : _} → OpenedFront D T S d t s → S
-steps_of o = o.steps
+abbrev pub front_steps : {D T S : Type 0} {d t s : _} → OpenedFront D T S d t s → S
+front_steps o = o.steps
 
 -- the device after opening, whatever its answer
-abbrev pub device_after : {D T S : Type 0} {d t s : _} → Result (OpenedFront D T S d t s) (Fault × D) → DeviceView
-device_after (Ok o) = device_of o
-device_after {d = d} (Err e) = d.view e.1
+abbrev pub front_device_after : {D T S : Type 0} {d t s : _} → Result (OpenedFront D T S d t s) (Fault × D) → DeviceView
+front_device_after (Ok o) = front_device o
+front_device_after {d = d} (Err e) = d.view e.1
 
 -- such is the state that was found, whatever the closures mean
-abbrev pub FoundIs : {D T S : Type 0} {d t s : _} → Program → OpenedFront D T S d t s → (State → Type 0) → Type 0
-FoundIs p o Such = Such (found_of o)
+abbrev pub FrontFoundIs : {D T S : Type 0} {d t s : _} → Program → OpenedFront D T S d t s → (State → Type 0) → Type 0
+FrontFoundIs p o Such = Such (front_found o)

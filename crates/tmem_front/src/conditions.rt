@@ -1,6 +1,6 @@
 // What is waited for under the core's lock, and how threads are told of it.
 ghost use Rattle.tmem_seats.specs.Held.{side_of};
-ghost use Rattle.tmem_seats.specs.Seats.{HasEnded, HasFlushedOrEnded, HasMoreOrShut, HasRoomOrShut, HasWorkOrShut, KnowsOrEnded};
+ghost use Rattle.tmem_seats.specs.Seats.{IsDrained, HasFlushedOrEnded, HasMoreOrShut, HasRoomOrShut, HasWorkOrShut, KnowsOrEnded};
 ghost use Rattle.std.specs.Sync.Mutex.{mutex_guard_value};
 
 use crate::patience::Patience;
@@ -62,7 +62,7 @@ impl Conditions {
         patience.sleep(&self.flushed, core)
     }
 
-    /// The same where no more than so many are accepted. A commit wakes the pass of this number that writes what the attempt read.
+    /// The same where no more than so many are committed. A commit wakes the pass of this number that writes what the attempt read.
     pub(crate) fn sleep_for_another<'a, N: StoreNaming, T: Invariants + Drop, P: Patience>(
         &self,
         patience: &P,
@@ -109,7 +109,7 @@ impl Conditions {
         &self,
         core: MutexGuard<CoreSeat<N, T>>,
     )
-        requires { HasEnded (mutex_guard_value core) }
+        requires { IsDrained (mutex_guard_value core) }
     {
         self.let_go(core);
         self.end_waits_for_commits();

@@ -3,7 +3,7 @@ ghost use Rattle.std.specs.Prelude.{◌≡◌, ◌≢◌, ◌↔◌, ◌<◌, �
 ghost use Rattle.tmem_seats.specs.Flushing.{IsFlusherRefusal};
 ghost use Rattle.tmem_tree.specs.Plans.{FitsSteps, FitsVariables, FitsNames, FitsShapes};
 ghost use Rattle.tmem_spine.specs.History.{count};
-ghost use Rattle.tmem_front.specs.Settling.{IsWithin, SeesMore, SettlesDurably};
+ghost use Rattle.tmem_front.specs.Settling.{IsNumberedWithin, SeesMore, SettlesDurably};
 
 use crate::front::Front;
 use crate::pass::Pass;
@@ -47,9 +47,9 @@ impl<D: Disk + Drop, N: StoreNaming, T: Invariants + Drop, S: StoredSteps + Drop
 
     // Waits until what an answer committed is durable, and all that it was made on.
     fn await_all<R: Wait>(&self, rt: &R, pass: &mut Pass<N>, settled: &Settled) -> Result<(), Fault>
-        ensures within { OnOk result (IsWithin (Ok settled.now) (count N.name.start pass.new.seen)) }
+        ensures within { OnOk result (IsNumberedWithin (Ok settled.now) (count N.name.start pass.new.seen)) }
         ensures refused { IfErr result (λ fault. fault ≡ Fault.Unknown) }
-        ensures unseen { IfErr result (λ _. ¬ IsWithin (Ok settled.now) (count N.name.start pass.new.seen)) }
+        ensures unseen { IfErr result (λ _. ¬ IsNumberedWithin (Ok settled.now) (count N.name.start pass.new.seen)) }
         ensures sees { SeesMore pass.old pass.new }
     {
         let Some(number) = last_of(settled) else {
@@ -95,8 +95,8 @@ impl<D: Disk + Drop, N: StoreNaming, T: Invariants + Drop, S: StoredSteps + Drop
 
 // The last transaction among what an answer committed and what it was made on.
 fn last_of(settled: &Settled) -> Option<u64>
-    ensures some { (n : ℕ) → IfSome result (λ number. IsWithin (Ok settled.now) n ↔ (number < n)) }
-    ensures none { (n : ℕ) → IfNone result (IsWithin (Ok settled.now) n) }
+    ensures some { (n : ℕ) → IfSome result (λ number. IsNumberedWithin (Ok settled.now) n ↔ (number < n)) }
+    ensures none { (n : ℕ) → IfNone result (IsNumberedWithin (Ok settled.now) n) }
 {
     match settled {
         Settled::Committed { number, .. } => Some(*number),

@@ -2,21 +2,21 @@
 ghost use Rattle.std.specs.Prelude.{◌≡◌, ◌≢◌, ◌≤◌, ◌<◌, ◌↔◌, true, false, Err, length, IsTrue, IfOk, IfErr};
 ghost use Rattle.std.specs.Sync.Mutex.{mutex_guard_value};
 ghost use Rattle.tmem_journal.specs.Held.{is_closed_of};
-ghost use Rattle.tmem_seats.specs.Flushing.{GoesOn, IsFlushRefusal, IsCheckpointRefusal, IsFlusherRefusal};
+ghost use Rattle.tmem_seats.specs.Flushing.{BatchGoesOn, IsFlushRefusal, IsCheckpointRefusal, IsFlusherRefusal};
 ghost use Rattle.tmem_effect.specs.Prefix.{IsPrefix};
 ghost use Rattle.tmem_effect.specs.Names.{has_name};
 ghost use Rattle.tmem_tentative.specs.Fits.{IsForVariables, IsForNames};
 ghost use Rattle.tmem_tentative.specs.Right.{IsRight};
 ghost use Rattle.tmem_tentative.specs.Cursors.{HasEnded, attempt_of};
-ghost use Rattle.tmem_tree.specs.Plans.{BreaksNone, IsLeastBroken, IsShort, FitsSteps, FitsVariables, FitsNames, FitsShapes};
+ghost use Rattle.tmem_tree.specs.Plans.{BreaksNone, IsLeastBroken, IsShortTx, FitsSteps, FitsVariables, FitsNames, FitsShapes};
 ghost use Rattle.tmem_tree.specs.Shapes.{AreMeant, AreWithin, names_of};
 ghost use Rattle.tmem_tree.specs.StepAnswers.{StepMeanings};
 ghost use Rattle.tmem_spine.specs.History.{count, longer};
 ghost use Rattle.tmem_spine.specs.Views.{new_pass};
 ghost use Rattle.tmem_spine.specs.declared.spine.TheConstants.{MOST_PASSES};
 ghost use Rattle.tmem_core.specs.SettleAnswer.{is_stale};
-ghost use Rattle.tmem_seats.specs.Histories.{after, IsLeftOpen, IsPossibleValue};
-ghost use Rattle.tmem_front.specs.Settling.{Settles, SettlesPlan};
+ghost use Rattle.tmem_seats.specs.Histories.{state_after_history, IsLeftOpen, IsPossibleValue};
+ghost use Rattle.tmem_front.specs.Settling.{SettlesPass, SettlesPlan};
 
 use crate::conditions::Conditions;
 use crate::pass::Pass;
@@ -133,7 +133,7 @@ impl<D: Disk + Drop, N: StoreNaming, T: Invariants + Drop, S: StoredSteps + Drop
     ) -> Result<Settled, Fault>
         requires variables { IsForVariables (length N.opening.values) attempt.now }
         requires names { IsForNames N.program.names attempt.now }
-        ensures settled { Settles N.name.start N.opening N.program attempt.now pass.old result pass.new }
+        ensures settled { SettlesPass N.name.start N.opening N.program attempt.now pass.old result pass.new }
     {
         self.settle_under(self.core.lock(rt), &mut pass.seat, attempt)
     }
@@ -147,8 +147,8 @@ impl<D: Disk + Drop, N: StoreNaming, T: Invariants + Drop, S: StoredSteps + Drop
     ) -> Result<Settled, Fault>
         requires variables { IsForVariables (length N.opening.values) attempt.now }
         requires names { IsForNames N.program.names attempt.now }
-        ensures settled { Settles N.name.start N.opening N.program attempt.now seat.old result seat.new }
-        ensures present { is_stale (after N.opening (mutex_guard_value core.entry).accepted) attempt.now.reads.entries ≡ false → result ≢ Err Fault.Conflict }
+        ensures settled { SettlesPass N.name.start N.opening N.program attempt.now seat.old result seat.new }
+        ensures present { is_stale (state_after_history N.opening (mutex_guard_value core.entry).committed) attempt.now.reads.entries ≡ false → result ≢ Err Fault.Conflict }
     {
         let decision = core.decide(&self.spine, seat, attempt);
         self.unlock_and_wake(core, &decision, attempt);
@@ -180,7 +180,7 @@ impl<D: Disk + Drop, N: StoreNaming, T: Invariants + Drop, S: StoredSteps + Drop
         requires names { FitsNames N.program.names plan.now.tree }
         requires shapes { FitsShapes N.program.tests plan.now }
         ensures settled { SettlesPlan N.name.start N.opening N.program plan.now.tree pass.old result pass.new }
-        ensures short { IsShort plan.now.tree → result ≢ Err Fault.Conflict }
+        ensures short { IsShortTx plan.now.tree → result ≢ Err Fault.Conflict }
     {
         if plan.is_short() {
             return self.try_alone(rt, &mut pass.seat, &mut pass.cursor, plan);
@@ -329,7 +329,7 @@ impl<D: Disk + Drop, N: StoreNaming, T: Invariants + Drop, S: StoredSteps + Drop
     fn aim<R: Wait>(&self, rt: &R, journal: &mut JournalSeat<D, N>) -> bool
         requires { is_closed_of (journal_of journal.old) ≡ false }
         ensures same { (journal_of journal.new ≡ journal_of journal.old) × ((side_of journal.new).durable ≡ (side_of journal.old).durable) }
-        ensures goes_on { GoesOn N.name.start N.opening (side_of journal.old).durable (batch_of journal.new) (side_of journal.new).aimed }
+        ensures goes_on { BatchGoesOn N.name.start N.opening (side_of journal.old).durable (batch_of journal.new) (side_of journal.new).aimed }
         ensures some { IsTrue result ↔ (1 ≤ length (batch_of journal.new)) }
     {
         let mut core = self.core.lock(rt);

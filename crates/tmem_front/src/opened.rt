@@ -46,9 +46,9 @@ impl<D: Disk + Drop, T: Invariants + Drop, S: StoredSteps + Drop> Drop for Opene
 }
 
 impl<D: Disk + Drop, T: Invariants + Drop, S: StoredSteps + Drop> OpenedFront<D, T, S> {
-    ghost use Rattle.tmem_front.specs.Held.{opening_of, found_of, spine_of, table_of, steps_of, device_after, FoundIs};
+    ghost use Rattle.tmem_front.specs.Held.{opening_of, front_found, spine_of, front_table, front_steps, front_device_after, FrontFoundIs};
 
-    /// Opens a device of these numbers: finds what its content stands for, with these invariants and stored steps. Refused as
+    /// Opens a device of these numbers: finds what its content represents, with these invariants and stored steps. Refused as
     /// `tmem_opening::Opening::open`, also for want of memory of its own: where the state that was found is sound. The device is
     /// handed back with the refusal.
     pub fn open(
@@ -63,9 +63,9 @@ impl<D: Disk + Drop, T: Invariants + Drop, S: StoredSteps + Drop> OpenedFront<D,
 
         // It is opened as `Opening::open` says, and refused so.
         ensures opened { IfOk result (λ o. IsOpened vars slots table (D.view disk) (opening_of o)) }
-        ensures steps { IfOk result (λ o. steps_of o ≡ steps) }
+        ensures steps { IfOk result (λ o. front_steps o ≡ steps) }
         ensures refused { IfErr result (λ e. OpeningRefused (IsProgramOf T.Invariants table) vars slots (D.view disk) e.0 (D.view e.1)) }
-        ensures recovers { RecoversEither FoundIs (IsProgramOf T.Invariants table) vars slots (D.view disk) (device_after result) (without_device result) }
+        ensures recovers { RecoversEither FrontFoundIs (IsProgramOf T.Invariants table) vars slots (D.view disk) (front_device_after result) (without_device result) }
 
         // Where the numbers do not fit the device, no call of it is made: the one that was handed in is handed back.
         ensures untouched { ¬ FitsOn vars slots (D.view disk).capacity → IfErr result (λ e. e.1 ≡ disk) }
@@ -90,11 +90,11 @@ impl<D: Disk + Drop, T: Invariants + Drop, S: StoredSteps + Drop> OpenedFront<D,
     /// The store under its name, with the steps that it was opened with.
     pub fn named<N: StoreNaming>(self) -> Front<D, N, T, S>
         requires spine { spine_of self ≡ N.name }
-        requires opening { found_of self ≡ N.opening }
-        requires stated { T.is_stated (table_of self) N.program.tests }
-        requires names { T.names (table_of self) ≡ N.program.names }
-        requires steps { S.is_stated (steps_of self) N.program.steps }
-        ensures { result.steps ≡ steps_of self }
+        requires opening { front_found self ≡ N.opening }
+        requires stated { T.is_stated (front_table self) N.program.tests }
+        requires names { T.names (front_table self) ≡ N.program.names }
+        requires steps { S.is_stated (front_steps self) N.program.steps }
+        ensures { result.steps ≡ front_steps self }
     {
         let OpenedFront {
             alloc,

@@ -9,7 +9,7 @@ use tmem_spine::Naming;
 use tmem_tentative::Cursor;
 
 /// A caller's seat, and the memory of its last attempt, which the next one takes again. Contracts see what the seat
-/// knows: its mark, what is accepted and what is durable as far as it knows, and its own effects. It may go to another
+/// knows: its mark, what is committed and what is durable as far as it knows, and its own effects. It may go to another
 /// thread, and is used with the front that gave it.
 pub struct Pass<N: Naming> {
     pub(crate) seat: tmem_spine::Pass<N>,
@@ -33,9 +33,9 @@ impl<N: Naming> Drop for Pass<N> {
 }
 
 impl<N: Naming> Model for Pass<N> {
-    ghost use Rattle.tmem_spine.specs.Views.{PassView};
+    ghost use Rattle.tmem_spine.specs.Views.{PassRoleView};
 
-    ghost Value = { PassView };
+    ghost Value = { PassRoleView };
 
     ghost view = { λ p. p.seat };
 }

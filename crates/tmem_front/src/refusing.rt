@@ -7,7 +7,7 @@ ghost use Rattle.tmem_invariants.specs.TableNames.{AreBelow};
 ghost use Rattle.tmem_tentative.specs.Cursors.{HasEnded};
 ghost use Rattle.tmem_tree.specs.Plans.{FitsSteps, FitsVariables, FitsNames, FitsShapes};
 ghost use Rattle.tmem_tree.specs.Shapes.{names_of};
-ghost use Rattle.tmem_seats.specs.Histories.{after};
+ghost use Rattle.tmem_seats.specs.Histories.{state_after_history};
 ghost use Rattle.tmem_front.specs.Refusing.{IsFalseOn, AreEndValues, end_value};
 ghost use Rattle.tmem_front.specs.Settling.{KnowsMore};
 
@@ -68,7 +68,7 @@ impl<D: Disk + Drop, N: StoreNaming, T: Invariants + Drop, S: StoredSteps + Drop
         name: &Name,
     ) -> Result<Option<Vec<(u16, i64)>>, Fault>
         ensures why { IfOk result (λ found. IfSome found (λ values. IsFalseOn N.program.tests name.now values.items)) }
-        ensures end { IfOk result (λ found. IfSome found (λ values. AreEndValues (after N.opening pass.new.known).values attempt.now.effect.writes values.items)) }
+        ensures end { IfOk result (λ found. IfSome found (λ values. AreEndValues (state_after_history N.opening pass.new.known).values attempt.now.effect.writes values.items)) }
         ensures knows { KnowsMore pass.old pass.new }
         ensures memory { IfErr result (λ fault. fault ≡ Fault.Memory) }
     {
@@ -171,7 +171,7 @@ fn at_end<N: StoreNaming, T: Invariants + Drop>(
 ) -> Values
     requires { AreBelow (length N.opening.values) shape.now.footprint }
     ensures filled { length result ≡ length shape.now.footprint }
-    ensures values { map (λ n. Some n) result ≡ map (λ var. end_value (after N.opening core.now.accepted).values writes.now var) shape.now.footprint }
+    ensures values { map (λ n. Some n) result ≡ map (λ var. end_value (state_after_history N.opening core.now.committed).values writes.now var) shape.now.footprint }
 {
     let mut values = Values::new();
     for var in shape.footprint.as_slice() {
@@ -187,7 +187,7 @@ fn value_at_end<N: StoreNaming, T: Invariants + Drop>(
     var: u16,
 ) -> i64
     requires { var < length N.opening.values }
-    ensures { end_value (after N.opening core.now.accepted).values writes.now var ≡ Some result }
+    ensures { end_value (state_after_history N.opening core.now.committed).values writes.now var ≡ Some result }
 {
     writes.get(var).unwrap_or(core.peek(var))
 }

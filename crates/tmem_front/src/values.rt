@@ -4,7 +4,7 @@ ghost use Rattle.std.specs.List.{list_any};
 ghost use Rattle.tmem_effect.specs.Names.{has_name};
 ghost use Rattle.tmem_effect.specs.Prefix.{IsPrefix};
 ghost use Rattle.tmem_spine.specs.History.{count};
-ghost use Rattle.tmem_seats.specs.Histories.{after};
+ghost use Rattle.tmem_seats.specs.Histories.{state_after_history};
 ghost use Rattle.tmem_front.specs.Settling.{KnowsMore};
 
 use crate::front::Front;
@@ -20,7 +20,7 @@ use tmem_tree::StoredSteps;
 /// What a store has at one moment.
 #[derive(Debug, Drop)]
 pub struct Moment {
-    /// How many transactions are accepted.
+    /// How many transactions are committed.
     pub count: u64,
     /// The values of the variables that were asked for, in their order.
     pub values: Vec<i64>,
@@ -34,7 +34,7 @@ impl<D: Disk + Drop, N: StoreNaming, T: Invariants + Drop, S: StoredSteps + Drop
     T,
     S,
 > {
-    /// How many transactions are accepted, all of which the pass then knows.
+    /// How many transactions are committed, all of which the pass then knows.
     pub fn count<R: Wait>(&self, rt: &R, pass: &mut Pass<N>) -> u64
         ensures count { result ≡ count N.name.start pass.new.known }
         ensures knows { KnowsMore pass.old pass.new }
@@ -44,7 +44,7 @@ impl<D: Disk + Drop, N: StoreNaming, T: Invariants + Drop, S: StoredSteps + Drop
 
     /// Whether an invariant of this name is registered, after all that the pass then knows.
     pub fn has<R: Wait>(&self, rt: &R, pass: &mut Pass<N>, name: &Name) -> bool
-        ensures has { result ≡ has_name (after N.opening pass.new.known).names name.now }
+        ensures has { result ≡ has_name (state_after_history N.opening pass.new.known).names name.now }
         ensures knows { KnowsMore pass.old pass.new }
     {
         let mut core = self.core.lock(rt);
@@ -60,7 +60,7 @@ impl<D: Disk + Drop, N: StoreNaming, T: Invariants + Drop, S: StoredSteps + Drop
         pass: &mut Pass<N>,
         vars: &[u16],
     ) -> Result<Vec<i64>, Fault>
-        ensures values { IfOk result (λ values. map (λ n. Some n) values.items ≡ map (λ var. slice_get (after N.opening pass.new.known).values var) vars.now) }
+        ensures values { IfOk result (λ values. map (λ n. Some n) values.items ≡ map (λ var. slice_get (state_after_history N.opening pass.new.known).values var) vars.now) }
         ensures knows { KnowsMore pass.old pass.new }
         ensures there { IfOk result (λ _. list_any (λ var. nat_le self.now.vars var) vars.now ≡ false) }
         ensures refused { IfErr result (λ fault. MatchBool (list_any (λ var. nat_le self.now.vars var) vars.now) (fault ≡ Fault.BadPlan Cause.BadVariable) (fault ≡ Fault.Memory)) }
@@ -69,7 +69,7 @@ impl<D: Disk + Drop, N: StoreNaming, T: Invariants + Drop, S: StoredSteps + Drop
         Ok(values)
     }
 
-    /// What the store has at one moment: after all that the pass then knows. It tells how many transactions are accepted, the values of
+    /// What the store has at one moment: after all that the pass then knows. It tells how many transactions are committed, the values of
     /// variables, and which of some invariants are registered. Refused as `values`.
     pub fn moment<R: Wait>(
         &self,
@@ -79,8 +79,8 @@ impl<D: Disk + Drop, N: StoreNaming, T: Invariants + Drop, S: StoredSteps + Drop
         names: &[Name],
     ) -> Result<Moment, Fault>
         ensures count { IfOk result (λ moment. moment.count ≡ count N.name.start pass.new.known) }
-        ensures values { IfOk result (λ moment. map (λ n. Some n) moment.values.items ≡ map (λ var. slice_get (after N.opening pass.new.known).values var) vars.now) }
-        ensures has { IfOk result (λ moment. moment.has.items ≡ map (λ name. has_name (after N.opening pass.new.known).names name) names.now) }
+        ensures values { IfOk result (λ moment. map (λ n. Some n) moment.values.items ≡ map (λ var. slice_get (state_after_history N.opening pass.new.known).values var) vars.now) }
+        ensures has { IfOk result (λ moment. moment.has.items ≡ map (λ name. has_name (state_after_history N.opening pass.new.known).names name) names.now) }
         ensures knows { KnowsMore pass.old pass.new }
         ensures there { IfOk result (λ _. list_any (λ var. nat_le self.now.vars var) vars.now ≡ false) }
         ensures refused { IfErr result (λ fault. MatchBool (list_any (λ var. nat_le self.now.vars var) vars.now) (fault ≡ Fault.BadPlan Cause.BadVariable) (fault ≡ Fault.Memory)) }
@@ -104,7 +104,7 @@ fn push_registered<N: StoreNaming, T: Invariants + Drop>(
     names: &[Name],
     has: &mut Vec<bool>,
 ) -> Result<(), AllocError>
-    ensures { OnOk result (has.new.items ≡ has.old.items ++ map (λ name. has_name (after N.opening core.now.accepted).names name) names.now) }
+    ensures { OnOk result (has.new.items ≡ has.old.items ++ map (λ name. has_name (state_after_history N.opening core.now.committed).names name) names.now) }
 {
     for name in names {
         let is_there = core.has(name);

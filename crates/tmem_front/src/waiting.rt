@@ -1,16 +1,16 @@
 // The calls that wait for other threads.
 ghost use Rattle.std.specs.Prelude.{◌≡◌, ◌≢◌, ◌⊎◌, ◌<◌, ◌≤◌, true, false, [], Ok, Err, IfOk, IfErr, OnOk, length, IsTrue};
 ghost use Rattle.tmem_effect.specs.declared.effect.Effect.{Effect as EffectOf};
-ghost use Rattle.tmem_core.specs.SettleAnswer.{accepted_by, is_stale};
+ghost use Rattle.tmem_core.specs.SettleAnswer.{committed_by, is_stale};
 ghost use Rattle.tmem_effect.specs.Prefix.{IsPrefix};
-ghost use Rattle.tmem_tree.specs.Plans.{IsShort, FitsSteps, FitsVariables, FitsNames, FitsShapes};
+ghost use Rattle.tmem_tree.specs.Plans.{IsShortTx, FitsSteps, FitsVariables, FitsNames, FitsShapes};
 ghost use Rattle.tmem_tentative.specs.Fits.{IsForVariables, IsForNames};
 ghost use Rattle.tmem_spine.specs.History.{count};
 ghost use Rattle.std.specs.Sync.Mutex.{mutex_guard_value};
 ghost use Rattle.tmem_seats.specs.Flushing.{IsFlusherRefusal};
 ghost use Rattle.tmem_seats.specs.Seats.{HasMoreOrShut, HasFlushedOrEnded, HasRoomOrShut, HasWorkOrShut};
-ghost use Rattle.tmem_seats.specs.Histories.{after};
-ghost use Rattle.tmem_front.specs.Settling.{Settles, SettlesAtLast, SettlesPlan};
+ghost use Rattle.tmem_seats.specs.Histories.{state_after_history};
+ghost use Rattle.tmem_front.specs.Settling.{SettlesPass, SettlesAtLast, SettlesPlan};
 
 use crate::front::Front;
 use crate::pace::Pace;
@@ -141,7 +141,7 @@ impl<D: Disk + Drop, N: StoreNaming, T: Invariants + Drop, S: StoredSteps + Drop
         requires names { FitsNames N.program.names plan.now.tree }
         requires shapes { FitsShapes N.program.tests plan.now }
         ensures settled { SettlesPlan N.name.start N.opening N.program plan.now.tree seat.old result seat.new }
-        ensures short { IsShort plan.now.tree → result ≢ Err Fault.Conflict }
+        ensures short { IsShortTx plan.now.tree → result ≢ Err Fault.Conflict }
     {
         if how.is_alone || plan.is_short() {
             return self.run_or_wait(rt, patience, seat, cursor, plan, how);
@@ -165,8 +165,8 @@ impl<D: Disk + Drop, N: StoreNaming, T: Invariants + Drop, S: StoredSteps + Drop
     ) -> Result<Settled, Fault>
         requires variables { IsForVariables (length N.opening.values) attempt.now }
         requires names { IsForNames N.program.names attempt.now }
-        ensures settled { Settles N.name.start N.opening N.program attempt.now seat.old result seat.new }
-        ensures present { is_stale (after N.opening (mutex_guard_value core.entry).accepted) attempt.now.reads.entries ≡ false → result ≢ Err Fault.Conflict }
+        ensures settled { SettlesPass N.name.start N.opening N.program attempt.now seat.old result seat.new }
+        ensures present { is_stale (state_after_history N.opening (mutex_guard_value core.entry).committed) attempt.now.reads.entries ≡ false → result ≢ Err Fault.Conflict }
     {
         let decision = core.decide(&self.spine, seat, attempt);
         match decision {
@@ -203,7 +203,7 @@ impl<D: Disk + Drop, N: StoreNaming, T: Invariants + Drop, S: StoredSteps + Drop
         self.settle_or_wait(rt, patience, core, seat, cursor.attempt(), how)
     }
 
-    // Waits under the core's lock until more than so many are accepted, which are as many as at first, the front is shut, or the
+    // Waits under the core's lock until more than so many are committed, which are as many as at first, the front is shut, or the
     // patience is over. A commit wakes the pass of this number that writes what the attempt read.
     fn wait_for_another<'a, R: Wait, P: Patience>(
         &self,
@@ -214,7 +214,7 @@ impl<D: Disk + Drop, N: StoreNaming, T: Invariants + Drop, S: StoredSteps + Drop
         number: u64,
         attempt: &Attempt,
     ) -> MutexGuard<'a, CoreSeat<N, T>>
-        requires { at ≡ count N.name.start (mutex_guard_value core).accepted }
+        requires { at ≡ count N.name.start (mutex_guard_value core).committed }
         ensures { HasMoreOrShut N.name.start at (mutex_guard_value result) ⊎ P.ends patience.now }
     {
         for _ in rt.forever() {
@@ -366,12 +366,12 @@ fn is_waited_for(answer: &Result<Settled, Fault>) -> bool
 }
 
 // Whether a plan is not attempted again after this answer. It is after a retry and a conflict, and where it waits for room; nothing was
-// accepted then.
+// committed then.
 fn is_last(answer: &Result<Settled, Fault>, waits_for_room: bool) -> bool
     ensures last { IsTrue result → (answer.now ≢ Err Fault.Conflict) × (answer.now ≢ Ok Settled.Retry) }
     ensures no_full { IsTrue result → waits_for_room ≡ true → answer.now ≢ Err Fault.Full }
     ensures only { result ≡ false → (answer.now ≡ Ok Settled.Retry) ⊎ (answer.now ≡ Err Fault.Conflict) ⊎ ((answer.now ≡ Err Fault.Full) × (waits_for_room ≡ true)) }
-    ensures again { (effect : EffectOf) → result ≡ false → accepted_by answer.now effect ≡ [] }
+    ensures again { (effect : EffectOf) → result ≡ false → committed_by answer.now effect ≡ [] }
 {
     match answer {
         Ok(Settled::Retry) => false,

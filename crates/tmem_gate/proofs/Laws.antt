@@ -91,20 +91,20 @@ module _ (at n : ℕ) (old new : DeviceView) (device : IsDevice old) (model : ne
 
   -- that says what its own time leaves
   pub by_time : SameSeenOutside at n old new → LeavesOnly new (Rewritten at n old) → Elapses old new (Rewritten at n old) → WritesWithin at n old new
-  by_time seen stop time = record { seen = seen; stop = stop; any_moment = in_time time; time = time }
+  by_time seen crash time = record { seen = seen; crash = crash; any_moment = in_time time; time = time }
 
   -- that is a write
   pub by_write : SameSeenOutside at n old new → LeavesOnly new (Rewritten at n old) → Elapses old new new.may_leave → WritesWithin at n old new
-  by_write seen stop time = by_time seen stop (Elapses-more old new new.may_leave (Rewritten at n old) time stop.each)
+  by_write seen crash time = by_time seen crash (Elapses-more old new new.may_leave (Rewritten at n old) time crash.each)
 
   -- that writes nothing
   pub by_look : LooksOnly old new → WritesWithin at n old new
-  by_look looks = by_time (λ k. subst (λ (l : List ℕ). SameOutside at n old.seen l) (sym (looks.seen k)) (SameOutside-refl at n old.seen)) (record { each = λ k c left. Rewritten-left at n old c (looks.stop.each k c left) })
+  by_look looks = by_time (λ k. subst (λ (l : List ℕ). SameOutside at n old.seen l) (sym (looks.seen k)) (SameOutside-refl at n old.seen)) (record { each = λ k c left. Rewritten-left at n old c (looks.crash.each k c left) })
       (Elapses-more old new _ _ looks.time (λ k. Rewritten-left at n old))
 
 -- a call over a range that says what each of its moments leaves
 pub by_moment : (at n : ℕ) (old new : DeviceView) → IsDevice new → SameSeenOutside at n old new → AtEachMoment old new (Rewritten at n old) → Elapses old new (Rewritten at n old) → WritesWithin at n old new
-by_moment at n old new device seen during time = record { seen = seen; stop = record { each = λ k c left. during.each k c (device.counts_now old.moment c k (time.later k) left) }; any_moment = during; time = time }
+by_moment at n old new device seen during time = record { seen = seen; crash = record { each = λ k c left. during.each k c (device.counts_now old.moment c k (time.later k) left) }; any_moment = during; time = time }
 
 -- no time goes by without a call
 pub no_time : (d : DeviceView) (P : List ℕ → Type 0) → Elapses d d P
@@ -112,18 +112,18 @@ no_time d P = record { later = λ k. omega arith; nothing_else = λ k t c since 
 
 -- no call at all
 pub LooksOnly-refl : (d : DeviceView) → LooksOnly d d
-LooksOnly-refl d = record { seen = λ k. refl; stop = record { each = λ k c left. left }; time = no_time d d.may_leave }
+LooksOnly-refl d = record { seen = λ k. refl; crash = record { each = λ k c left. left }; time = no_time d d.may_leave }
 
 -- a call that changes nothing
 pub looks : (old new : DeviceView) → ReadsAs new old.seen → LeavesOnly new old.may_leave → Elapses old new new.may_leave → LooksOnly old new
-looks old new seen stop time = record { seen = seen; stop = stop; time = Elapses-more old new new.may_leave old.may_leave time stop.each }
+looks old new seen crash time = record { seen = seen; crash = crash; time = Elapses-more old new new.may_leave old.may_leave time crash.each }
 
 -- two of them
 pub LooksOnly-trans : (old mid new : DeviceView) → (new.keeps_model → mid.keeps_model) → LooksOnly old mid → LooksOnly mid new → LooksOnly old new
 LooksOnly-trans old mid new model first second = record {
   seen = λ k. second.seen k ∙ first.seen (model k);
-  stop = record { each = λ k c left. first.stop.each (model k) c (second.stop.each k c left) };
-  time = Elapses-trans old mid new old.may_leave model first.time (Elapses-more mid new mid.may_leave old.may_leave second.time (λ k. first.stop.each (model k)));
+  crash = record { each = λ k c left. first.crash.each (model k) c (second.crash.each k c left) };
+  time = Elapses-trans old mid new old.may_leave model first.time (Elapses-more mid new mid.may_leave old.may_leave second.time (λ k. first.crash.each (model k)));
 }
 
 -- no call at all
@@ -134,7 +134,7 @@ WritesWithin-refl at n d device = by_look at n d d device (λ k. k) (LooksOnly-r
 pub WritesWithin-wider : (at n wide_at wide_n : ℕ) → wide_at ≤ at → at + n ≤ wide_at + wide_n → (old new : DeviceView) → WritesWithin at n old new → WritesWithin wide_at wide_n old new
 WritesWithin-wider at n wide_at wide_n low high old new within = record {
   seen = λ k. SameOutside-wider at n wide_at wide_n old.seen new.seen low high (within.seen k);
-  stop = record { each = λ k c left. wider c (within.stop.each k c left) };
+  crash = record { each = λ k c left. wider c (within.crash.each k c left) };
   any_moment = record { each = λ k c left. wider c (within.any_moment.each k c left) };
   time = Elapses-more old new (Rewritten at n old) (Rewritten wide_at wide_n old) within.time (λ k. wider);
 }
@@ -146,7 +146,7 @@ WritesWithin-wider at n wide_at wide_n low high old new within = record {
 pub WritesWithin-trans : (at n : ℕ) (old mid new : DeviceView) → (new.keeps_model → mid.keeps_model) → WritesWithin at n old mid → WritesWithin at n mid new → WritesWithin at n old new
 WritesWithin-trans at n old mid new model first second = record {
   seen = λ k. SameOutside-trans at n old.seen mid.seen new.seen (first.seen (model k)) (second.seen k);
-  stop = record { each = λ k c left. both k c (second.stop.each k c left) };
+  crash = record { each = λ k c left. both k c (second.crash.each k c left) };
   any_moment = record { each = λ k c left. ⊎_elim (λ was. first.any_moment.each (model k) c was) (λ is. both k c is) (second.time.nothing_else k old.moment c (first.time.later (model k)) left) };
   time = record {
     later = λ k. let a = first.time.later (model k) in let b = second.time.later k in omega arith;
@@ -157,7 +157,7 @@ WritesWithin-trans at n old mid new model first second = record {
 }
   where
     both : new.keeps_model → (c : List ℕ) → Rewritten at n mid c → Rewritten at n old c
-    both k c from = Rewritten-trans at n old mid c (model k) first.stop from
+    both k c from = Rewritten-trans at n old mid c (model k) first.crash from
 
 -- what becomes of a change that says more becomes of one that says less
 Becomes-more : (W V W' V' : List ℕ → List ℕ → Type 0) → ((b c : List ℕ) → W b c → W' b c) → ((b c : List ℕ) → V b c → V' b c) → (old : DeviceView) (o : Outcome) (c : List ℕ) → Becomes W V old o c → Becomes W' V' old o c

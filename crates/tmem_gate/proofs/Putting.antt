@@ -63,7 +63,7 @@ module _ (old mid : DeviceView) (at : ℕ) (bytes : List ℕ) (device : IsDevice
     pub open_in_doubt : Puts at (1 + length bytes) No Yes old new InDoubt
     open_in_doubt = record {
       elsewhere = WritesWithin-trans at (1 + length bytes) old mid new model wider (WritesWithin-wider at 1 at (1 + length bytes) (omega arith) (omega arith) mid new within_now);
-      stands = record { each = λ k c left. made k c (within_now.stop.each k c left) };
+      stands = record { each = λ k c left. made k c (within_now.crash.each k c left) };
       any_moment = record {
         each = λ k c left. ⊎_elim
             (λ was. let before = while_put.each (model k) c was in (before.0, before.1, inl before.2))

@@ -13,11 +13,11 @@ pub data Outcome : Type 0 where
   NotBegun : Outcome
 
 -- as a call answers it
-abbrev pub outcome_of : Result (Unit {0}) Fault → Outcome
-outcome_of (Ok x) = IsMade
-outcome_of (Err Device) = NotMade
-outcome_of (Err Unknown) = InDoubt
-outcome_of (Err f) = NotBegun
+abbrev pub call_outcome : Result (Unit {0}) Fault → Outcome
+call_outcome (Ok x) = IsMade
+call_outcome (Err Device) = NotMade
+call_outcome (Err Unknown) = InDoubt
+call_outcome (Err f) = NotBegun
 
 -- A change is given by what it makes of a content, and by what a content is made of where it is begun and not made.
 abbrev pub Either : (List ℕ → List ℕ → Type 0) → (List ℕ → List ℕ → Type 0) → List ℕ → List ℕ → Type 0

@@ -3,7 +3,7 @@ ghost use Rattle.std.specs.Prelude.{◌≡◌, ◌⊎◌, ◌≤◌, ◌<◌, �
 ghost use Rattle.tmem_disk.specs.Disk.{IsCall, SameSeenOutside, ReadsAs, overwritten, IsSynced, IsWriteOrSync};
 ghost use Rattle.tmem_gate.specs.Calls.{Uses, LooksOnly, WritesWithin};
 ghost use Rattle.tmem_gate.specs.Cells.{LeftClosed, LeftOpen};
-ghost use Rattle.tmem_gate.specs.Changes.{Puts, outcome_of};
+ghost use Rattle.tmem_gate.specs.Changes.{Puts, call_outcome};
 ghost use Rattle.tmem_gate.specs.Gate.{IsClosed, StandsClosed, HasBody};
 
 use crate::gate::{GATE_OPEN, close_gate, is_open, open_gate, put_body};
@@ -26,7 +26,7 @@ pub fn put_cell<D: Disk>(disk: &mut D, at: u64, bytes: &[u8]) -> Result<(), Faul
 
     // A crash leaves the cell closed, or open over the bytes, and nothing outside it is written.
     ensures puts { Puts at (1 + length bytes.now) (LeftClosed at (length bytes.now)) (LeftOpen at bytes.now (D.view disk.old).seen)
-        (D.view disk.old) (D.view disk.new) (outcome_of result) }
+        (D.view disk.old) (D.view disk.new) (call_outcome result) }
     ensures written { OnOk result
         (ReadsAs (D.view disk.new) (overwritten (D.view disk.old).seen at (GATE_OPEN ∷ bytes.now))) }
     ensures durable { OnOk result (IsSynced (D.view disk.new)) }

@@ -6,7 +6,7 @@ use Rattle.std.proofs.lemmas.List.{take-set-le, drop-set-lt, drop-set-add}
 use Rattle.tmem_disk.specs.Disk.{DeviceView, IsDevice, SameOutside, Rewritten, LeavesOnly, AtEachMoment, Elapses, overwritten}
 use Rattle.tmem_disk.proofs.Laws.{SameOutside-overwritten, slice_range-before, slice_range-after, slice_range-overwritten, Rewritten-keeps, LeavesOnly-moment, AtEachMoment-trans, either_time}
 use Rattle.tmem_gate.specs.Calls.{WritesWithin}
-use Rattle.tmem_record.specs.Layout.{pages_of, image_place}
+use Rattle.tmem_record.specs.Layout.{pages_of, image_at}
 use Rattle.tmem_record.specs.Spelling.{number_bytes, value_bytes}
 use Rattle.tmem_record.specs.StandsAt.{StandsAt}
 use Rattle.tmem_state.specs.Versions.{mark_of}
@@ -15,7 +15,7 @@ use Rattle.tmem_effect.specs.State.{State, apply, fold, written}
 use Rattle.tmem_effect.specs.declared.effect.Effect.{Effect}
 use Rattle.tmem_record.proofs.Laws.{between_is, first_part, second_part, both_parts, moved, length-number_bytes}
 use Rattle.tmem_image.specs.Image.{HoldsImage}
-use Rattle.tmem_image.specs.Pages.{has_page, is_page_written, is_page_changed, pages_place, HoldsOthers}
+use Rattle.tmem_image.specs.Pages.{has_page, is_page_written, is_page_changed, pages_at, HoldsOthers}
 use Rattle.tmem_image.specs.Spelling.{names_body, pages_body, image_body, page_values, page_bytes}
 use Rattle.tmem_image.proofs.Images.{body_stands}
 use Rattle.tmem_image.proofs.Lengths.{length-names_body}
@@ -37,14 +37,14 @@ front_stands at n zs c full front here =
 
 -- one that is written there
 pub page_written : (at n place : ℕ) (zs : List ℤ) (before after part : List ℕ) → 64 * n ≤ length zs → at + 512 * n + 512 ≤ length before → place ≡ at + 512 * n → part ≡ page_bytes zs n → after ≡ overwritten before place part → StandsAt at (pages_front zs n) before → StandsAt at (pages_front zs (n + 1)) after
-page_written at n place zs before after part full room place_is part_is after_is front =
+page_written at n place zs before after part full room at_is part_is after_is front =
     let long : length part ≡ 512 = ap length part_is ∙ length-page_bytes zs n in
-    let same : SameOutside place (length part) before after = subst (λ (l : List ℕ). SameOutside place (length part) before l) (sym after_is) (SameOutside-overwritten before place part (omega (arith, room, place_is, long))) in
+    let same : SameOutside place (length part) before after = subst (λ (l : List ℕ). SameOutside place (length part) before l) (sym after_is) (SameOutside-overwritten before place part (omega (arith, room, at_is, long))) in
     let here : StandsAt place part after =
-    record { is = sym (between_is place (length part) after) ∙ ap (λ (l : List ℕ). slice_range l place (place + length part)) after_is ∙ slice_range-overwritten before place part (omega (arith, room, place_is, long)) } in
+    record { is = sym (between_is place (length part) after) ∙ ap (λ (l : List ℕ). slice_range l place (place + length part)) after_is ∙ slice_range-overwritten before place part (omega (arith, room, at_is, long)) } in
     front_stands at n zs after full
-    (stands_before place (length part) at (pages_front zs n) before after same (omega (arith, place_is, length-pages_front zs n full)) front)
-    (moved place (at + 512 * n) (page_bytes zs n) after place_is (subst (λ (l : List ℕ). StandsAt place l after) part_is here))
+    (stands_before place (length part) at (pages_front zs n) before after same (omega (arith, at_is, length-pages_front zs n full)) front)
+    (moved place (at + 512 * n) (page_bytes zs n) after at_is (subst (λ (l : List ℕ). StandsAt place l after) part_is here))
 
 -- one that is not written, and stood there before any write
 pub page_kept : (at n : ℕ) (zs : List ℤ) (before now : List ℕ) → 64 * n ≤ length zs → SameOutside at (512 * n) before now → StandsAt (at + 512 * n) (page_bytes zs n) before → StandsAt at (pages_front zs n) now → StandsAt at (pages_front zs (n + 1)) now
@@ -162,10 +162,10 @@ pages_behind v at vars generation s c long stands =
     moved (at + length first + length count + length names + 1) (at + 2047) pages c (omega (arith, length-number_bytes 8 generation, length-number_bytes 8 s.count, long)) four
 
 -- an image holds each page of its values
-pub HoldsOthers-image : (v : Version) (vars copy generation pages : ℕ) (s : State) (c : List ℕ) → HoldsImage v vars copy generation s c → HoldsOthers (pages_place vars copy) vars pages s.values c
+pub HoldsOthers-image : (v : Version) (vars copy generation pages : ℕ) (s : State) (c : List ℕ) → HoldsImage v vars copy generation s c → HoldsOthers (pages_at vars copy) vars pages s.values c
 HoldsOthers-image v vars copy generation pages s c holds = record {
   each = λ page below kept.
-      page_stands (pages_place vars copy) vars page s.values c holds.fits.values below
-      (moved (image_place vars copy + 1 + 2047) (pages_place vars copy) (pages_body vars s.values) c (omega arith)
-      (pages_behind v (image_place vars copy + 1) vars generation s c (length-names_body s.names holds.fits.names) (body_stands (image_place vars copy) (image_body v vars generation s) c holds.cell.body)));
+      page_stands (pages_at vars copy) vars page s.values c holds.fits.values below
+      (moved (image_at vars copy + 1 + 2047) (pages_at vars copy) (pages_body vars s.values) c (omega arith)
+      (pages_behind v (image_at vars copy + 1) vars generation s c (length-names_body s.names holds.fits.names) (body_stands (image_at vars copy) (image_body v vars generation s) c holds.cell.body)));
 }

@@ -3,7 +3,7 @@ use Rattle.std.proofs.Common.{◌≡◌, inl, inr, ℕ, ◌+◌, ◌<◌, ◌≤
 use Rattle.std.specs.Prelude.{slice_range}
 use Rattle.std.proofs.lemmas.Bool.{cases_eq, cases_lt}
 use Rattle.tmem_gate.specs.Gate.{IsOpenOver}
-use Rattle.tmem_record.specs.Layout.{image_place}
+use Rattle.tmem_record.specs.Layout.{image_at}
 use Rattle.tmem_record.specs.Spelling.{number_bytes}
 use Rattle.tmem_record.specs.Stale.{IsStale}
 use Rattle.tmem_record.proofs.Laws.{length-number_bytes, one_number}
@@ -34,22 +34,22 @@ below_stale generation later at c fits cell (inr it) = ⊎_elim
 
 -- the chosen copy has one generation
 pub one_generation : (vars copy g g' : ℕ) (c : List ℕ) → IsChosen vars copy g c → IsChosen vars copy g' c → g ≡ g'
-one_generation vars copy g g' c one other = one_head (image_place vars copy) g g' c one.fits other.fits one.cell other.cell
+one_generation vars copy g g' c one other = one_head (image_at vars copy) g g' c one.fits other.fits one.cell other.cell
 
 -- two copies that differ are not both chosen: each one's generation would be below the other's
 not_both : (vars copy copy' : ℕ) (c : List ℕ) → (copy ≡ copy' → ⊥) → ChoosesCopy vars copy c → ChoosesCopy vars copy' c → ⊥
 not_both vars copy copy' c differ one other =
     let there : 1 - copy ≡ copy' = omega (arith, differ, one.1.one, other.1.one) in
     let here : 1 - copy' ≡ copy = omega (arith, differ, one.1.one, other.1.one) in
-    let first = below_stale other.0 one.0 (image_place vars copy') c other.1.fits other.1.cell (subst (λ (k : ℕ). IsStale one.0 (image_place vars k) c) there one.1.other) in
-    let second = below_stale one.0 other.0 (image_place vars copy) c one.1.fits one.1.cell (subst (λ (k : ℕ). IsStale other.0 (image_place vars k) c) here other.1.other) in
+    let first = below_stale other.0 one.0 (image_at vars copy') c other.1.fits other.1.cell (subst (λ (k : ℕ). IsStale one.0 (image_at vars k) c) there one.1.other) in
+    let second = below_stale one.0 other.0 (image_at vars copy) c one.1.fits one.1.cell (subst (λ (k : ℕ). IsStale other.0 (image_at vars k) c) here other.1.other) in
     absurd (omega (arith, first, second))
 
 pub one_choice : OneChoice
 one_choice vars copy copy' c one other = ⊎_elim (λ same. same) (λ differ. absurd (not_both vars copy copy' c differ one other)) (cases_eq copy copy')
 
 -- where both copies are open over one generation, none is chosen
-pub no_choice : (vars x : ℕ) (c : List ℕ) → IsOpenOver (image_place vars 0) (number_bytes 8 x) c → IsOpenOver (image_place vars 1) (number_bytes 8 x) c → (copy : ℕ) → ChoosesCopy vars copy c → ⊥
+pub no_choice : (vars x : ℕ) (c : List ℕ) → IsOpenOver (image_at vars 0) (number_bytes 8 x) c → IsOpenOver (image_at vars 1) (number_bytes 8 x) c → (copy : ℕ) → ChoosesCopy vars copy c → ⊥
 no_choice vars x c first second copy chosen = ⊎_elim
     (λ is. none 0 1 is (omega (arith, is)) first second)
     (λ not. none 1 0 (omega (arith, not, chosen.1.one)) (omega (arith, not, chosen.1.one)) second first)
@@ -58,8 +58,8 @@ no_choice vars x c first second copy chosen = ⊎_elim
     g : ℕ
     g = chosen.0
 
-    none : (i j : ℕ) → copy ≡ i → 1 - copy ≡ j → IsOpenOver (image_place vars i) (number_bytes 8 x) c → IsOpenOver (image_place vars j) (number_bytes 8 x) c → ⊥
+    none : (i j : ℕ) → copy ≡ i → 1 - copy ≡ j → IsOpenOver (image_at vars i) (number_bytes 8 x) c → IsOpenOver (image_at vars j) (number_bytes 8 x) c → ⊥
     none i j here there mine theirs =
-        let same = one_body (image_place vars i) (number_bytes 8 x) (number_bytes 8 g) c (length-number_bytes 8 x ∙ sym (length-number_bytes 8 g)) mine (subst (λ (k : ℕ). IsOpenOver (image_place vars k) (number_bytes 8 g) c) here chosen.1.cell) in
-        let less = below_stale g g (image_place vars j) c chosen.1.fits (subst (λ (l : List ℕ). IsOpenOver (image_place vars j) l c) same theirs) (subst (λ (k : ℕ). IsStale g (image_place vars k) c) there chosen.1.other) in
+        let same = one_body (image_at vars i) (number_bytes 8 x) (number_bytes 8 g) c (length-number_bytes 8 x ∙ sym (length-number_bytes 8 g)) mine (subst (λ (k : ℕ). IsOpenOver (image_at vars k) (number_bytes 8 g) c) here chosen.1.cell) in
+        let less = below_stale g g (image_at vars j) c chosen.1.fits (subst (λ (l : List ℕ). IsOpenOver (image_at vars j) l c) same theirs) (subst (λ (k : ℕ). IsStale g (image_at vars k) c) there chosen.1.other) in
         absurd (omega (arith, less))

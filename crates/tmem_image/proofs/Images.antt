@@ -1,7 +1,7 @@
 -- What the cell of a copy says of the image that it holds.
 use Rattle.std.proofs.Common.{◌+◌, ◌<◌, ◌∷◌, ◌++◌, ℕ, List, length, sym, ◌∙◌}
 use Rattle.tmem_gate.specs.Gate.{HasBody, IsOpenOver}
-use Rattle.tmem_record.specs.Layout.{image_place}
+use Rattle.tmem_record.specs.Layout.{image_at}
 use Rattle.tmem_record.specs.Spelling.{number_bytes}
 use Rattle.tmem_record.specs.Stale.{IsStale}
 use Rattle.tmem_record.specs.StandsAt.{StandsAt}
@@ -33,10 +33,10 @@ unfolding image_body
 front_of_image v vars generation at s c cell = front_of_body at (number_bytes 8 generation) (number_bytes 8 s.count ++ (names_body s.names ++ (mark_of v ∷ pages_body vars s.values))) c cell
 
 -- a copy that holds an image is stale only for a generation above the image's
-pub lesser_of : (v : Version) (vars copy generation later : ℕ) (s : State) (c : List ℕ) → HoldsImage v vars copy generation s c → IsStale later (image_place vars copy) c → generation < later
-lesser_of v vars copy generation later s c holds stale = below_stale generation later (image_place vars copy) c holds.number.fits (front_of_image v vars generation (image_place vars copy) s c holds.cell) stale
+pub lesser_of : (v : Version) (vars copy generation later : ℕ) (s : State) (c : List ℕ) → HoldsImage v vars copy generation s c → IsStale later (image_at vars copy) c → generation < later
+lesser_of v vars copy generation later s c holds stale = below_stale generation later (image_at vars copy) c holds.number.fits (front_of_image v vars generation (image_at vars copy) s c holds.cell) stale
 
 pub one_image : OneImage
 one_image v w vars copy g h s t c one other =
     let long = length-image_body v vars g s one.fits.names one.fits.values ∙ sym (length-image_body w vars h t other.fits.names other.fits.values) in
-    one_state v w vars g h s t one.number.fits other.number.fits one.fits other.fits (one_body (image_place vars copy) (image_body v vars g s) (image_body w vars h t) c long one.cell other.cell)
+    one_state v w vars g h s t one.number.fits other.number.fits one.fits other.fits (one_body (image_at vars copy) (image_body v vars g s) (image_body w vars h t) c long one.cell other.cell)

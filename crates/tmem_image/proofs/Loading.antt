@@ -6,7 +6,7 @@ use Rattle.tmem_fault.specs.declared.fault.Fault.{Fault}
 use Rattle.tmem_fault.specs.declared.fault.Fault.TheVariants.{Damaged}
 use Rattle.tmem_gate.specs.Calls.{IsWhyNone}
 use Rattle.tmem_gate.specs.Gate.{IsOpenAt}
-use Rattle.tmem_record.specs.Layout.{image_place, image_size}
+use Rattle.tmem_record.specs.Layout.{image_at, image_size}
 use Rattle.tmem_effect.specs.State.{State}
 use Rattle.tmem_state.specs.declared.version.Version.{Version}
 use Rattle.tmem_record.proofs.Laws.{gate_open, part_read}
@@ -36,9 +36,9 @@ some_for {X = X} R S T V o r is first second third from = subst (λ (q : Result 
     cases (Some x) a b d = from x a b d
 
 -- a copy as it was read, with its gate
-module _ (vars copy size : ℕ) (c bytes : List ℕ) (long : size ≡ image_size vars) (read : bytes ≡ slice_range c (image_place vars copy) (image_place vars copy + size)) where
-  body_read : take (size - 1) (drop 1 bytes) ≡ slice_range c (image_place vars copy + 1) (image_place vars copy + 1 + (size - 1))
-  body_read = part_read c bytes (image_place vars copy) size read 1 (size - 1) (omega (arith, long))
+module _ (vars copy size : ℕ) (c bytes : List ℕ) (long : size ≡ image_size vars) (read : bytes ≡ slice_range c (image_at vars copy) (image_at vars copy + size)) where
+  body_read : take (size - 1) (drop 1 bytes) ≡ slice_range c (image_at vars copy + 1) (image_at vars copy + 1 + (size - 1))
+  body_read = part_read c bytes (image_at vars copy) size read 1 (size - 1) (omega (arith, long))
 
   length_of : (v : Version) (generation : ℕ) (s : State) → IsImage vars s → length (image_body v vars generation s) ≡ size - 1
   length_of v generation s fits = omega (arith, long, length-image_body v vars generation s fits.names fits.values)
@@ -49,11 +49,11 @@ module _ (vars copy size : ℕ) (c bytes : List ℕ) (long : size ≡ image_size
     number = number;
     fits = fits;
     cell = record {
-      gate = gate_open c bytes (image_place vars copy) size read 0 (image_place vars copy) (omega arith) (omega (arith, long)) opened;
-      body = ap (λ (n : ℕ). slice_range c (image_place vars copy + 1) (image_place vars copy + 1 + n)) (length_of v generation s fits) ∙ sym body_read ∙ same;
+      gate = gate_open c bytes (image_at vars copy) size read 0 (image_at vars copy) (omega arith) (omega (arith, long)) opened;
+      body = ap (λ (n : ℕ). slice_range c (image_at vars copy + 1) (image_at vars copy + 1 + n)) (length_of v generation s fits) ∙ sym body_read ∙ same;
     };
   }
 
   -- an image that it holds was read
   pub image_there : (v : Version) (generation : ℕ) (s : State) → HoldsImage v vars copy generation s c → take (size - 1) (drop 1 bytes) ≡ image_body v vars generation s
-  image_there v generation s holds = body_read ∙ ap (λ (n : ℕ). slice_range c (image_place vars copy + 1) (image_place vars copy + 1 + n)) (sym (length_of v generation s holds.fits)) ∙ holds.cell.body
+  image_there v generation s holds = body_read ∙ ap (λ (n : ℕ). slice_range c (image_at vars copy + 1) (image_at vars copy + 1 + n)) (sym (length_of v generation s holds.fits)) ∙ holds.cell.body

@@ -8,11 +8,11 @@ use Rattle.tmem_disk.proofs.Laws.{SameOutside-refl, SameOutside-trans, SameOutsi
 use Rattle.tmem_gate.specs.Gate.{IsOpenAt, IsClosed, StandsClosed, HasBody}
 use Rattle.tmem_gate.specs.Calls.{LooksOnly, WritesWithin, MadeBy}
 use Rattle.tmem_gate.specs.Cells.{LeftClosed, LeftOpen}
-use Rattle.tmem_gate.specs.Changes.{Outcome, IsMade, NotMade, InDoubt, NotBegun, outcome_of, Becomes, Meanwhile, Puts}
+use Rattle.tmem_gate.specs.Changes.{Outcome, IsMade, NotMade, InDoubt, NotBegun, call_outcome, Becomes, Meanwhile, Puts}
 use Rattle.tmem_gate.proofs.Laws.{gate_cases, whole_after, closed_before, by_look, WritesWithin-wider, WritesWithin-trans}
 use Rattle.tmem_record.specs.Stale.{IsStale}
 use Rattle.tmem_effect.specs.State.{State}
-use Rattle.tmem_record.specs.Layout.{pages_of, image_place, image_size}
+use Rattle.tmem_record.specs.Layout.{pages_of, image_at, image_size}
 use Rattle.tmem_record.specs.Spelling.{number_bytes}
 use Rattle.tmem_record.specs.StandsAt.{StandsAt}
 use Rattle.tmem_record.proofs.Laws.{both_parts, between_is}
@@ -23,7 +23,7 @@ use Rattle.tmem_state.specs.declared.version.Version.TheVariants.{Two}
 use Rattle.tmem_image.proofs.Lengths.{length-header_body, length-pages_body}
 use Rattle.tmem_image.specs.Spelling.{names_body, header_body, pages_body, image_body, IsImage}
 use Rattle.tmem_image.specs.Image.{IsGeneration}
-use Rattle.tmem_image.specs.Spare.{Placed, IsSettled, Left, Spares, Without, With}
+use Rattle.tmem_image.specs.Spare.{ImagePlaced, IsSettled, Left, Spares, WithoutImage, WithImage}
 
 -- an open gate that is written over leaves the cell as stale as it was
 stale_kept : (at generation : ℕ) (b c : List ℕ) → IsOpenAt at b → SameOutside at 1 b c → IsStale generation at b → IsStale generation at c
@@ -81,7 +81,7 @@ module _ (at n : ℕ) (old mid : DeviceView) (device : IsDevice mid) (spares : S
     }
 
     still_closed : StandsClosed at paged
-    still_closed = record { each = λ k c left. let from = writes.stop.each k c left in closed_before (at + 1) (n - 1) at from.0 c from.2 (omega arith) (closed.each (model k) from.0 from.1) }
+    still_closed = record { each = λ k c left. let from = writes.crash.each k c left in closed_before (at + 1) (n - 1) at from.0 c from.2 (omega arith) (closed.each (model k) from.0 from.1) }
 
 -- over a wider range
 Spares-wider : (at n : ℕ) (old new : DeviceView) → 1 ≤ n → Spares at 1 old new → Spares at n old new
@@ -91,15 +91,15 @@ Spares-wider at n old new some spares = record {
 }
 
 -- the copy of an image once its gate is closed, and then once its pages are written too
-module _ (p : Placed) (at : ℕ) (place : at ≡ image_place p.vars p.copy) (old mid : DeviceView) (spares : Spares at 1 old mid) where
-  pub once_shut : Spares (image_place p.vars p.copy) (image_size p.vars) old mid
+module _ (p : ImagePlaced) (at : ℕ) (place : at ≡ image_at p.vars p.copy) (old mid : DeviceView) (spares : Spares at 1 old mid) where
+  pub once_shut : Spares (image_at p.vars p.copy) (image_size p.vars) old mid
   once_shut = subst (λ (k : ℕ). Spares k (image_size p.vars) old mid) place (Spares-wider at (image_size p.vars) old mid (omega arith) spares)
 
   module _ (paged : DeviceView) (device : IsDevice mid) (closed : StandsClosed at mid) (writes : WritesWithin (at + 2048) (512 * pages_of p.vars) mid paged) (model : paged.keeps_model → mid.keeps_model) where
     behind : WritesWithin (at + 1) (image_size p.vars - 1) mid paged
     behind = WritesWithin-wider (at + 2048) (512 * pages_of p.vars) (at + 1) (image_size p.vars - 1) (omega arith) (omega arith) mid paged writes
 
-    pub once_paged : Spares (image_place p.vars p.copy) (image_size p.vars) old paged
+    pub once_paged : Spares (image_at p.vars p.copy) (image_size p.vars) old paged
     once_paged = subst (λ (k : ℕ). Spares k (image_size p.vars) old paged) place
         (Spares-paged at (image_size p.vars) old mid device (Spares-wider at (image_size p.vars) old mid (omega arith) spares) paged (omega arith) closed behind model)
 
@@ -116,11 +116,11 @@ parts_stand at header pages c first second =
     ∙ (both_parts (at + 1) header pages c (record { is = ap (λ (n : ℕ). take n (drop (at + 1) c)) front ∙ first }) (record { is = ap (λ (n : ℕ). take n (drop (at + 1 + length header) c)) behind ∙ second })).is
 
 -- The pages of an image stand in its copy, behind the place of its header.
-pub record IsPaged (p : Placed) (header : List ℕ) (d : DeviceView) : Type 0 where
+pub record IsPaged (p : ImagePlaced) (header : List ℕ) (d : DeviceView) : Type 0 where
   pub long : length header ≡ 2047
   pub pages_long : length (pages_body p.vars p.state.values) ≡ 512 * pages_of p.vars
   pub whole : header ++ pages_body p.vars p.state.values ≡ image_body Two p.vars p.generation p.state
-  pub stand : d.keeps_model → slice_range d.seen (image_place p.vars p.copy + 1 + length header) (image_place p.vars p.copy + 1 + length header + length (pages_body p.vars p.state.values)) ≡ pages_body p.vars p.state.values
+  pub stand : d.keeps_model → slice_range d.seen (image_at p.vars p.copy + 1 + length header) (image_at p.vars p.copy + 1 + length header + length (pages_body p.vars p.state.values)) ≡ pages_body p.vars p.state.values
 
 parts_of_image : (v : Version) (vars generation : ℕ) (s : State) → header_body v generation s ++ pages_body vars s.values ≡ image_body v vars generation s
 unfolding header_body image_body
@@ -130,12 +130,12 @@ parts_of_image v vars generation s = grouped (number_bytes 8 generation) (number
     grouped a b n m p = simp append_assoc
 
 -- once they stand there
-pub paged : (p : Placed) (at : ℕ) → at ≡ image_place p.vars p.copy → (header : List ℕ) → header ≡ header_body Two p.generation p.state → AreRegistered p.state.names → length p.state.values ≡ p.vars → (d : DeviceView) → (values : List ℤ) → values ≡ p.state.values
+pub paged : (p : ImagePlaced) (at : ℕ) → at ≡ image_at p.vars p.copy → (header : List ℕ) → header ≡ header_body Two p.generation p.state → AreRegistered p.state.names → length p.state.values ≡ p.vars → (d : DeviceView) → (values : List ℤ) → values ≡ p.state.values
     → (d.keeps_model → StandsAt (at + 2048) (pages_body p.vars values) d.seen) → IsPaged p header d
 paged p at place header is names sized d values same stand =
     let pages = pages_body p.vars p.state.values in
     let long : length header ≡ 2047 = ap length is ∙ length-header_body Two p.generation p.state names in
-    let behind : image_place p.vars p.copy + 1 + length header ≡ at + 2048 = omega (arith, place, long) in
+    let behind : image_at p.vars p.copy + 1 + length header ≡ at + 2048 = omega (arith, place, long) in
     record {
       long = long;
       pages_long = length-pages_body p.vars p.state.values sized;
@@ -146,25 +146,25 @@ paged p at place header is names sized d values same stand =
     }
 
 -- with its header the image stands there
-pub image_stands : (p : Placed) (header : List ℕ) (d : DeviceView) → IsPaged p header d → d.keeps_model → (c : List ℕ) → HasBody (image_place p.vars p.copy) header c → SameOutside (image_place p.vars p.copy) (1 + length header) d.seen c
-    → HasBody (image_place p.vars p.copy) (image_body Two p.vars p.generation p.state) c
+pub image_stands : (p : ImagePlaced) (header : List ℕ) (d : DeviceView) → IsPaged p header d → d.keeps_model → (c : List ℕ) → HasBody (image_at p.vars p.copy) header c → SameOutside (image_at p.vars p.copy) (1 + length header) d.seen c
+    → HasBody (image_at p.vars p.copy) (image_body Two p.vars p.generation p.state) c
 image_stands p header d it k c has same =
-    let at = image_place p.vars p.copy in
+    let at = image_at p.vars p.copy in
     let pages = pages_body p.vars p.state.values in
     subst (λ (body : List ℕ). HasBody at body c) it.whole (parts_stand at header pages c has (slice_range-after at (1 + length header) d.seen c (at + 1 + length header) (at + 1 + length header + length pages) (omega arith) same ∙ it.stand k))
 
 -- before the whole image was there
-by_then : (p : Placed) (old : DeviceView) (o : Outcome) → (o ≡ NotBegun → ⊥) → (c : List ℕ) → MadeBy (Without p) old c → Meanwhile (Without p) (With p) old o c
+by_then : (p : ImagePlaced) (old : DeviceView) (o : Outcome) → (o ≡ NotBegun → ⊥) → (c : List ℕ) → MadeBy (WithoutImage p) old c → Meanwhile (WithoutImage p) (WithImage p) old o c
 by_then p old IsMade some c from = (from.0, from.1, inl from.2)
 by_then p old NotMade some c from = from
 by_then p old InDoubt some c from = (from.0, from.1, inl from.2)
 by_then p old NotBegun some c from = absurd (some refl)
 
 -- the copy is closed over its pages, and then its header is put, a cell of its own
-module _ (p : Placed) (header : List ℕ) (number : IsGeneration p.generation) (fits : IsImage p.vars p.state) (old paged new : DeviceView) (device : IsDevice paged) (spares : Spares (image_place p.vars p.copy) (image_size p.vars) old paged)
+module _ (p : ImagePlaced) (header : List ℕ) (number : IsGeneration p.generation) (fits : IsImage p.vars p.state) (old paged new : DeviceView) (device : IsDevice paged) (spares : Spares (image_at p.vars p.copy) (image_size p.vars) old paged)
     (is_paged : IsPaged p header paged) (o : Outcome) (begun : o ≡ NotBegun → ⊥) (model : new.keeps_model → paged.keeps_model) where
   abbrev at : ℕ
-  at = image_place p.vars p.copy
+  at = image_at p.vars p.copy
 
   abbrev n : ℕ
   n = image_size p.vars
@@ -178,13 +178,13 @@ module _ (p : Placed) (header : List ℕ) (number : IsGeneration p.generation) (
   abbrev Yes : List ℕ → List ℕ → Type 0
   Yes = LeftOpen at header paged.seen
 
-  no : (b m c : List ℕ) → Without p b m → No m c → Without p b c
+  no : (b m c : List ℕ) → WithoutImage p b m → No m c → WithoutImage p b c
   no b m c left it = record {
     elsewhere = SameOutside-trans at n b m c left.elsewhere (SameOutside-wider at (1 + length header) at n m c (omega arith) header_fits it.elsewhere);
     stale = λ generation stale. inl it.gate;
   }
 
-  yes : paged.keeps_model → (b m c : List ℕ) → Without p b m → Yes m c → With p b c
+  yes : paged.keeps_model → (b m c : List ℕ) → WithoutImage p b m → Yes m c → WithImage p b c
   yes k b m c left it = record {
     elsewhere = SameOutside-trans at n b m c left.elsewhere (SameOutside-wider at (1 + length header) at n m c (omega arith) header_fits it.elsewhere);
     image = record {
@@ -197,10 +197,10 @@ module _ (p : Placed) (header : List ℕ) (number : IsGeneration p.generation) (
     };
   }
 
-  before : paged.keeps_model → (c : List ℕ) → paged.may_leave c → MadeBy (Without p) old c
+  before : paged.keeps_model → (c : List ℕ) → paged.may_leave c → MadeBy (WithoutImage p) old c
   before = (spared_now at n old paged device spares).each
 
-  chained : paged.keeps_model → (P : Outcome) → (P ≡ NotBegun → ⊥) → (c : List ℕ) → Becomes No Yes paged P c → Becomes (Without p) (With p) old P c
+  chained : paged.keeps_model → (P : Outcome) → (P ≡ NotBegun → ⊥) → (c : List ℕ) → Becomes No Yes paged P c → Becomes (WithoutImage p) (WithImage p) old P c
   chained k IsMade some c from = let was = before k from.0 from.1 in (was.0, was.1, yes k was.0 from.0 c was.2 from.2)
   chained k NotMade some c from = let was = before k from.0 from.1 in (was.0, was.1, no was.0 from.0 c was.2 from.2)
   chained k InDoubt some c from =
@@ -209,13 +209,13 @@ module _ (p : Placed) (header : List ℕ) (number : IsGeneration p.generation) (
   chained k NotBegun some c from = absurd (some refl)
 
   -- at a moment of it
-  since : paged.keeps_model → (P : Outcome) → (P ≡ NotBegun → ⊥) → (c : List ℕ) → Meanwhile No Yes paged P c → Meanwhile (Without p) (With p) old P c
+  since : paged.keeps_model → (P : Outcome) → (P ≡ NotBegun → ⊥) → (c : List ℕ) → Meanwhile No Yes paged P c → Meanwhile (WithoutImage p) (WithImage p) old P c
   since k IsMade some c from = chained k InDoubt (λ is. cc) c from
   since k NotMade some c from = chained k NotMade (λ is. cc) c from
   since k InDoubt some c from = chained k InDoubt (λ is. cc) c from
   since k NotBegun some c from = absurd (some refl)
 
-  pub put_last : Puts at (1 + length header) No Yes paged new o → Puts at n (Without p) (With p) old new o
+  pub put_last : Puts at (1 + length header) No Yes paged new o → Puts at n (WithoutImage p) (WithImage p) old new o
   put_last put = record {
     elsewhere = WritesWithin-trans at n old paged new model spares.within (WritesWithin-wider at (1 + length header) at n (omega arith) header_fits paged new put.elsewhere);
     stands = record { each = λ k c left. chained (model k) o begun c (put.stands.each k c left) };
@@ -228,30 +228,30 @@ module _ (p : Placed) (header : List ℕ) (number : IsGeneration p.generation) (
   }
 
 -- where a call failed then
-pub spared : (p : Placed) (old new : DeviceView) → IsDevice new → Spares (image_place p.vars p.copy) (image_size p.vars) old new → (r : Result (Unit {0}) Fault) (f : Fault) → r ≡ Err f → (f ≡ Device) ⊎ (f ≡ Unknown)
-    → Puts (image_place p.vars p.copy) (image_size p.vars) (Without p) (With p) old new (outcome_of r)
+pub spared : (p : ImagePlaced) (old new : DeviceView) → IsDevice new → Spares (image_at p.vars p.copy) (image_size p.vars) old new → (r : Result (Unit {0}) Fault) (f : Fault) → r ≡ Err f → (f ≡ Device) ⊎ (f ≡ Unknown)
+    → Puts (image_at p.vars p.copy) (image_size p.vars) (WithoutImage p) (WithImage p) old new (call_outcome r)
 spared p old new device spares r f is which =
-    subst (λ (o : Outcome). Puts (image_place p.vars p.copy) (image_size p.vars) (Without p) (With p) old new o) (sym (ap outcome_of is)) (⊎_elim
-    (λ e. subst (λ (g : Fault). Puts (image_place p.vars p.copy) (image_size p.vars) (Without p) (With p) old new (outcome_of (Err g))) (sym e) (record {
+    subst (λ (o : Outcome). Puts (image_at p.vars p.copy) (image_size p.vars) (WithoutImage p) (WithImage p) old new o) (sym (ap call_outcome is)) (⊎_elim
+    (λ e. subst (λ (g : Fault). Puts (image_at p.vars p.copy) (image_size p.vars) (WithoutImage p) (WithImage p) old new (call_outcome (Err g))) (sym e) (record {
       elsewhere = spares.within;
-      stands = spared_now (image_place p.vars p.copy) (image_size p.vars) old new device spares;
+      stands = spared_now (image_at p.vars p.copy) (image_size p.vars) old new device spares;
       any_moment = spares.during;
     }))
-    (λ e. subst (λ (g : Fault). Puts (image_place p.vars p.copy) (image_size p.vars) (Without p) (With p) old new (outcome_of (Err g))) (sym e) (record {
+    (λ e. subst (λ (g : Fault). Puts (image_at p.vars p.copy) (image_size p.vars) (WithoutImage p) (WithImage p) old new (call_outcome (Err g))) (sym e) (record {
       elsewhere = spares.within;
-      stands = record { each = λ k c left. by_then p old InDoubt (λ x. cc) c ((spared_now (image_place p.vars p.copy) (image_size p.vars) old new device spares).each k c left) };
+      stands = record { each = λ k c left. by_then p old InDoubt (λ x. cc) c ((spared_now (image_at p.vars p.copy) (image_size p.vars) old new device spares).each k c left) };
       any_moment = record { each = λ k c left. by_then p old InDoubt (λ x. cc) c (spares.during.each k c left) };
     }))
     which)
 
 -- a call that writes and syncs does not end before it begins
-pub is_begun : (r : Result (Unit {0}) Fault) → IfErr r (λ f. (f ≡ Device) ⊎ (f ≡ Unknown)) → outcome_of r ≡ NotBegun → ⊥
+pub is_begun : (r : Result (Unit {0}) Fault) → IfErr r (λ f. (f ≡ Device) ⊎ (f ≡ Unknown)) → call_outcome r ≡ NotBegun → ⊥
 is_begun (Ok x) errors is = cc
-is_begun (Err f) (inl e) is = made_not (sym (ap (λ (g : Fault). outcome_of (Err g)) e) ∙ is)
+is_begun (Err f) (inl e) is = made_not (sym (ap (λ (g : Fault). call_outcome (Err g)) e) ∙ is)
   where
     made_not : NotMade ≡ NotBegun → ⊥
     made_not same = cc
-is_begun (Err f) (inr e) is = doubt_not (sym (ap (λ (g : Fault). outcome_of (Err g)) e) ∙ is)
+is_begun (Err f) (inr e) is = doubt_not (sym (ap (λ (g : Fault). call_outcome (Err g)) e) ∙ is)
   where
     doubt_not : InDoubt ≡ NotBegun → ⊥
     doubt_not same = cc

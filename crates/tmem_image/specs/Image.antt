@@ -4,7 +4,7 @@ use Rattle.tmem_gate.specs.Gate.{IsClosed, IsOpenOver}
 use Rattle.tmem_record.specs.Stale.{IsStale}
 use Rattle.tmem_effect.specs.State.{State}
 use Rattle.tmem_record.specs.Spelling.{number_bytes}
-use Rattle.tmem_record.specs.Layout.{image_place}
+use Rattle.tmem_record.specs.Layout.{image_at}
 use Rattle.tmem_state.specs.declared.version.Version.{Version}
 use Rattle.tmem_image.specs.Spelling.{image_body, IsImage}
 
@@ -17,7 +17,7 @@ pub record IsGeneration (generation : ℕ) : Type 0 where
 pub record HoldsImage (v : Version) (vars copy generation : ℕ) (s : State) (c : List ℕ) : Type 0 where
   pub number : IsGeneration generation
   pub fits : IsImage vars s
-  pub cell : IsOpenOver (image_place vars copy) (image_body v vars generation s) c
+  pub cell : IsOpenOver (image_at vars copy) (image_body v vars generation s) c
 
 -- the other one of two copies
 abbrev pub other_copy : ℕ → ℕ
@@ -28,8 +28,8 @@ other_copy copy = 1 - copy
 pub record IsChosen (vars copy generation : ℕ) (c : List ℕ) : Type 0 where
   pub one : copy ≤ 1
   pub fits : generation < 2 ^ 64
-  pub cell : IsOpenOver (image_place vars copy) (number_bytes 8 generation) c
-  pub other : IsStale generation (image_place vars (other_copy copy)) c
+  pub cell : IsOpenOver (image_at vars copy) (number_bytes 8 generation) c
+  pub other : IsStale generation (image_at vars (other_copy copy)) c
 
 -- this copy is chosen, whatever its generation
 abbrev pub ChoosesCopy : ℕ → ℕ → List ℕ → Type 0

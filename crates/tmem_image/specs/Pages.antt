@@ -2,7 +2,7 @@
 use Rattle.std.specs.Prelude.{◌≡◌, ◌<◌, ◌+◌, ◌*◌, ◌/◌, ◌==◌, ℕ, ℤ, Bool, false, List}
 use Rattle.std.specs.Int.{bit_at}
 use Rattle.std.specs.List.{list_any}
-use Rattle.tmem_record.specs.Layout.{pages_of, image_place}
+use Rattle.tmem_record.specs.Layout.{pages_of, image_at}
 use Rattle.tmem_record.specs.StandsAt.{StandsAt}
 use Rattle.tmem_effect.specs.declared.effect.Effect.{Effect}
 use Rattle.tmem_image.specs.Spelling.{page_bytes}
@@ -20,8 +20,8 @@ abbrev pub is_page_changed : List Effect → ℕ → Bool
 is_page_changed es page = list_any (λ (e : Effect). is_page_written e.writes page) es
 
 -- where the pages of an image copy begin
-abbrev pub pages_place : ℕ → ℕ → ℕ
-pages_place vars copy = image_place vars copy + 2048
+abbrev pub pages_at : ℕ → ℕ → ℕ
+pages_at vars copy = image_at vars copy + 2048
 
 -- Each page that is not in a set holds these values, where the pages begin at a place.
 pub record HoldsOthers (at vars pages : ℕ) (values : List ℤ) (c : List ℕ) : Type 0 where

@@ -5,21 +5,21 @@ use Rattle.tmem_gate.specs.Calls.{MadeBy, WritesWithin}
 use Rattle.tmem_gate.specs.Gate.{HasBody}
 use Rattle.tmem_record.specs.Stale.{IsStale}
 use Rattle.tmem_effect.specs.State.{State}
-use Rattle.tmem_record.specs.Layout.{image_place, image_size}
+use Rattle.tmem_record.specs.Layout.{image_at, image_size}
 use Rattle.tmem_record.specs.declared.layout.Layout.{Layout}
 use Rattle.tmem_state.specs.declared.version.Version.TheVariants.{Two}
 use Rattle.tmem_image.specs.Image.{HoldsImage}
 use Rattle.tmem_image.specs.Spelling.{image_body}
 
 -- Which image goes where: over so many variables, to this copy, of this generation, of this state.
-pub record Placed : Type 0 where
+pub record ImagePlaced : Type 0 where
   pub vars : ℕ
   pub copy : ℕ
   pub generation : ℕ
   pub state : State
 
-abbrev pub placed : Layout → ℕ → ℕ → State → Placed
-placed layout copy generation s = record { vars = layout.vars; copy = copy; generation = generation; state = s }
+abbrev pub image_placed : Layout → ℕ → ℕ → State → ImagePlaced
+image_placed layout copy generation s = record { vars = layout.vars; copy = copy; generation = generation; state = s }
 
 -- The second content is the first outside n bytes from a place on, and the cell there is stale for each generation that it
 -- was stale for.
@@ -38,16 +38,16 @@ pub record Spares (at n : ℕ) (old new : DeviceView) : Type 0 where
   pub during : AtEachMoment old new (MadeBy (Left at n) old)
 
 -- nothing outside the copy changes, and the copy is as stale as it was
-abbrev pub Without : Placed → List ℕ → List ℕ → Type 0
-Without p b c = Left (image_place p.vars p.copy) (image_size p.vars) b c
+abbrev pub WithoutImage : ImagePlaced → List ℕ → List ℕ → Type 0
+WithoutImage p b c = Left (image_at p.vars p.copy) (image_size p.vars) b c
 
 -- nothing outside the copy changes, and the copy holds the image, of version 2
-pub record With (p : Placed) (b c : List ℕ) : Type 0 where
-  pub elsewhere : SameOutside (image_place p.vars p.copy) (image_size p.vars) b c
+pub record WithImage (p : ImagePlaced) (b c : List ℕ) : Type 0 where
+  pub elsewhere : SameOutside (image_at p.vars p.copy) (image_size p.vars) b c
   pub image : HoldsImage Two p.vars p.copy p.generation p.state c
 
 -- Where the write of the gate that opens the image failed: the whole image, of version 2, stands behind that gate, and a
 -- read gives outside the copy what it gave before.
-pub record AwaitsGate (p : Placed) (old new : DeviceView) : Type 0 where
-  pub body : new.keeps_model → HasBody (image_place p.vars p.copy) (image_body Two p.vars p.generation p.state) new.seen
-  pub elsewhere : SameSeenOutside (image_place p.vars p.copy) (image_size p.vars) old new
+pub record AwaitsGate (p : ImagePlaced) (old new : DeviceView) : Type 0 where
+  pub body : new.keeps_model → HasBody (image_at p.vars p.copy) (image_body Two p.vars p.generation p.state) new.seen
+  pub elsewhere : SameSeenOutside (image_at p.vars p.copy) (image_size p.vars) old new

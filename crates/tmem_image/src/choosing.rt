@@ -3,7 +3,7 @@ ghost use Rattle.std.specs.Prelude.{◌≡◌, ◌⊎◌, ◌≤◌, ◌+◌, �
 ghost use Rattle.tmem_gate.specs.Calls.{Uses, LooksOnly, IsWhyNone};
 ghost use Rattle.tmem_effect.specs.State.{State as StateOf};
 ghost use Rattle.tmem_state.specs.declared.version.Version.{Version as VersionOf};
-ghost use Rattle.tmem_record.specs.Layout.{image_place, end_place};
+ghost use Rattle.tmem_record.specs.Layout.{image_at, end_at};
 ghost use Rattle.tmem_image.specs.Spelling.{IsImage};
 ghost use Rattle.tmem_image.specs.Image.{IsGeneration, HoldsImage, ChoosesCopy, HasHead};
 ghost use Rattle.tmem_image.specs.Room.{IsImageRoom};
@@ -18,12 +18,12 @@ use tmem_record::Layout;
 use tmem_record::bytes::number_at;
 
 // The gate of an image copy, and its generation.
-const HEAD_ROOM: usize = 9;
+const FRONT_BYTES: usize = 9;
 
 /// Which copy is chosen: the open one, and of two open ones the one of the greater generation. `Damaged` where none is
 /// open, or both are open over one generation; and `Device` where a read failed.
 pub fn choose<D: Disk>(disk: &mut D, layout: Layout) -> Result<u8, Fault>
-    requires { end_place layout.vars layout.slots ≤ (D.view disk.old).capacity }
+    requires { end_at layout.vars layout.slots ≤ (D.view disk.old).capacity }
     ensures uses { Uses (D.view disk.old) (D.view disk.new) result }
     ensures looks { LooksOnly (D.view disk.old) (D.view disk.new) }
     ensures one { IfOk result (λ copy. copy ≤ 1) }
@@ -45,7 +45,7 @@ pub fn load<D: Disk>(
     copy: u8,
     room: ImageRoom,
 ) -> Result<ImageState, Fault>
-    requires fits { end_place layout.vars layout.slots ≤ (D.view disk.old).capacity }
+    requires fits { end_at layout.vars layout.slots ≤ (D.view disk.old).capacity }
     requires one { copy ≤ 1 }
     requires room { IsImageRoom layout.vars room }
     ensures uses { Uses (D.view disk.old) (D.view disk.new) result }
@@ -78,7 +78,7 @@ fn head_at<D: Disk>(disk: &mut D, at: u64) -> Result<Option<u64>, Fault>
     ensures err { IfErr result (λ f. f ≡ Fault.Device) }
     ensures last { OnErr result ((D.view disk.new).last_fault ≡ Some DeviceFault.Read) }
 {
-    let mut head = [0; HEAD_ROOM];
+    let mut head = [0; FRONT_BYTES];
     read(disk, at, &mut head)?;
     if !reads_open(&head, 0) {
         return Ok(None);
@@ -89,9 +89,9 @@ fn head_at<D: Disk>(disk: &mut D, at: u64) -> Result<Option<u64>, Fault>
 // The copy of the greater generation, of those that are open.
 fn greater(first: Option<u64>, second: Option<u64>) -> Option<u8>
     ensures one { IfSome result (λ copy. copy ≤ 1) }
-    ensures found { (vars : ℕ) (c : List ℕ) → HasHead (image_place vars 0) first c → HasHead (image_place vars 1) second c →
+    ensures found { (vars : ℕ) (c : List ℕ) → HasHead (image_at vars 0) first c → HasHead (image_at vars 1) second c →
         IfSome result (λ copy. ChoosesCopy vars copy c) }
-    ensures none { (vars : ℕ) (c : List ℕ) → HasHead (image_place vars 0) first c → HasHead (image_place vars 1) second c →
+    ensures none { (vars : ℕ) (c : List ℕ) → HasHead (image_at vars 0) first c → HasHead (image_at vars 1) second c →
         IfNone result ((copy : ℕ) → ChoosesCopy vars copy c → ⊥) }
 {
     match (first, second) {

@@ -16,7 +16,7 @@ mod unique;
 
 pub use choosing::{choose, load};
 pub use page_sets::{ALL_PAGES, pages_changed};
-pub use reading::{HEADER_ROOM, ImageState, MARK_AT};
+pub use reading::{HEADER_BODY_BYTES, ImageState, MARK_AT};
 pub use room::ImageRoom;
 pub use spare::write_spare;
 pub use unique::{one_choice, one_image};

@@ -11,14 +11,14 @@ ghost use Rattle.tmem_image.specs.Image.{IsGeneration};
 ghost use Rattle.tmem_image.specs.Framed.{IsPadded};
 
 use tmem_record::bytes::{is_blank, is_zero, number_at, value_at};
-use tmem_record::{HEADER_SIZE, read_name_set};
+use tmem_record::{HEADER_BYTES, read_name_set};
 use tmem_state::{NameSet, State, Version};
 
 /// How long an image's header is without its gate.
-pub const HEADER_ROOM: usize = HEADER_SIZE - 1;
+pub const HEADER_BODY_BYTES: usize = HEADER_BYTES - 1;
 
 /// Where the mark of the version stands in an image's header without its gate: in the last byte.
-pub const MARK_AT: usize = HEADER_ROOM - 1;
+pub const MARK_AT: usize = HEADER_BODY_BYTES - 1;
 
 // How many of its bytes stand in front of the names.
 const NAMES_AT: usize = 16;
@@ -39,7 +39,7 @@ fn is_padded(bytes: &[u8], vars: u16) -> bool
     requires { length bytes.now + 1 ≡ image_size vars }
     ensures { IsTrue result ↔ IsPadded vars bytes.now }
 {
-    let end = HEADER_ROOM + 8 * vars as usize;
+    let end = HEADER_BODY_BYTES + 8 * vars as usize;
     is_blank(bytes, end, bytes.len() - end)
 }
 
@@ -101,7 +101,7 @@ pub(crate) fn read_image(
     }
     let version = Version::of_mark(bytes[MARK_AT])?;
     let count = number_at(bytes, 8);
-    read_values(bytes, HEADER_ROOM, vars, &mut values);
+    read_values(bytes, HEADER_BODY_BYTES, vars, &mut values);
     let state = State::of(count, names, values);
     Some(ImageState {
         version,

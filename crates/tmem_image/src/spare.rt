@@ -2,14 +2,14 @@
 ghost use Rattle.std.specs.Prelude.{◌≡◌, ◌⊎◌, ◌≤◌, ◌<◌, ◌+◌, ◌-◌, ◌*◌, Some, length, take, IfErr, IfSome, IsErrOf, OnOk, OnErr};
 ghost use Rattle.tmem_disk.specs.Disk.{AtEachMoment, IsSynced, IsWriteOrSync, LeavesOnly};
 ghost use Rattle.tmem_gate.specs.Calls.{Uses, WritesWithin, IsReadOrWrite};
-ghost use Rattle.tmem_gate.specs.Changes.{Puts, outcome_of};
+ghost use Rattle.tmem_gate.specs.Changes.{Puts, call_outcome};
 ghost use Rattle.tmem_gate.specs.Gate.{StandsClosed};
-ghost use Rattle.tmem_record.specs.Layout.{pages_of, image_place, image_size, end_place};
+ghost use Rattle.tmem_record.specs.Layout.{pages_of, image_at, image_size, end_at};
 ghost use Rattle.tmem_record.specs.StandsAt.{StandsAt};
 ghost use Rattle.tmem_image.specs.Spelling.{pages_body, AreValues};
 ghost use Rattle.tmem_image.specs.Image.{IsGeneration};
-ghost use Rattle.tmem_image.specs.Pages.{HoldsOthers, pages_place};
-ghost use Rattle.tmem_image.specs.Spare.{IsSettled, Spares, placed, With, Without, AwaitsGate};
+ghost use Rattle.tmem_image.specs.Pages.{HoldsOthers, pages_at};
+ghost use Rattle.tmem_image.specs.Spare.{IsSettled, Spares, image_placed, WithImage, WithoutImage, AwaitsGate};
 
 use crate::page_sets::has_page;
 use crate::spelling::{header_of, page_of};
@@ -17,7 +17,7 @@ use tmem_disk::{DeviceFault, Disk};
 use tmem_fault::Fault;
 use tmem_gate::device::{sync, write};
 use tmem_gate::{close_if_open, put_cell};
-use tmem_record::{HEADER_SIZE, Layout, PAGE_SIZE};
+use tmem_record::{HEADER_BYTES, Layout, PAGE_BYTES};
 use tmem_state::State;
 
 /// Writes an image of this generation and state to a copy, in version 2 of the format: closes its gate where it reads open,
@@ -35,39 +35,45 @@ pub fn write_spare<D: Disk>(
     state: &State,
     pages: u16,
 ) -> Result<(), Fault>
-    requires room { end_place layout.vars layout.slots ≤ (D.view disk.old).capacity }
+    requires room { end_at layout.vars layout.slots ≤ (D.view disk.old).capacity }
     requires one { copy ≤ 1 }
     requires number { IsGeneration generation }
     requires sized { length state.now.values ≡ layout.vars }
-    requires settled { IsSettled (image_place layout.vars copy) (D.view disk.old) }
-    requires others { LeavesOnly (D.view disk.old) (HoldsOthers (pages_place layout.vars copy) layout.vars pages state.now.values) }
+    requires settled { IsSettled (image_at layout.vars copy) (D.view disk.old) }
+    requires others { LeavesOnly (D.view disk.old) (HoldsOthers (pages_at layout.vars copy) layout.vars pages state.now.values) }
     ensures uses { Uses (D.view disk.old) (D.view disk.new) result }
     ensures errors { IfErr result (λ f. (f ≡ Fault.Device) ⊎ (f ≡ Fault.Unknown)) }
     ensures call_failed { IsErrOf result Fault.Device → IfSome (D.view disk.new).last_fault IsReadOrWrite }
     ensures gate_failed { IsErrOf result Fault.Unknown → IfSome (D.view disk.new).last_fault IsWriteOrSync }
     ensures gate_write_failed { IsErrOf result Fault.Unknown → (D.view disk.new).last_fault ≡ Some DeviceFault.Write →
-        AwaitsGate (placed layout copy generation state.now) (D.view disk.old) (D.view disk.new) }
+        AwaitsGate (image_placed layout copy generation state.now) (D.view disk.old) (D.view disk.new) }
 
     // A crash leaves what one might have left before, with the image in that copy, or with that copy as stale as it was.
     // Nothing outside the copy is written.
-    ensures puts { Puts (image_place layout.vars copy) (image_size layout.vars)
-        (Without (placed layout copy generation state.now)) (With (placed layout copy generation state.now))
-        (D.view disk.old) (D.view disk.new) (outcome_of result) }
+    ensures puts { Puts (image_at layout.vars copy) (image_size layout.vars)
+        (WithoutImage (image_placed layout copy generation state.now)) (WithImage (image_placed layout copy generation state.now))
+        (D.view disk.old) (D.view disk.new) (call_outcome result) }
     ensures durable { OnOk result (IsSynced (D.view disk.new)) }
 
     // The other pages are not written: a crash at any moment leaves the state's values in them.
-    ensures kept { AtEachMoment (D.view disk.old) (D.view disk.new) (HoldsOthers (pages_place layout.vars copy) layout.vars pages state.now.values) }
+    ensures kept { AtEachMoment (D.view disk.old) (D.view disk.new) (HoldsOthers (pages_at layout.vars copy) layout.vars pages state.now.values) }
 {
     let at = layout.image(copy);
     recall_values(state.values());
     shut(disk, at)?;
-    write_pages(disk, layout, at + HEADER_SIZE as u64, state.values(), pages)?;
+    write_pages(
+        disk,
+        layout,
+        at + HEADER_BYTES as u64,
+        state.values(),
+        pages,
+    )?;
     put_cell(disk, at, &header_of(generation, state))
 }
 
 // Closes the gate at a place where it reads open, and syncs then.
 fn shut<D: Disk>(disk: &mut D, at: u64) -> Result<(), Fault>
-    requires place { at < (D.view disk.old).capacity }
+    requires at { at < (D.view disk.old).capacity }
     requires settled { IsSettled at (D.view disk.old) }
     ensures uses { Uses (D.view disk.old) (D.view disk.new) result }
     ensures errors { IfErr result (λ f. (f ≡ Fault.Device) ⊎ (f ≡ Fault.Unknown)) }
@@ -119,7 +125,7 @@ fn write_pages<D: Disk>(
     for page in 0..pages {
         if has_page(changed, page) {
             let bytes = page_of(values, page);
-            write(disk, at + PAGE_SIZE as u64 * page as u64, &bytes)?;
+            write(disk, at + PAGE_BYTES as u64 * page as u64, &bytes)?;
         }
     }
     Ok(())

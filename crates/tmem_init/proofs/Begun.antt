@@ -29,7 +29,7 @@ module _ (content : List ℕ) (some : 1 ≤ length content) (old mid : DeviceVie
   stands_closed synced blank = record {
     each = λ k c left.
         let gate = (blank k).gate in
-        subst (IsClosed 0) (sym (synced (model k) c (looks.stop.each k c left))) (closed_at_zero old.seen (sym (first_taken old.seen (length content) some) ∙ gate));
+        subst (IsClosed 0) (sym (synced (model k) c (looks.crash.each k c left))) (closed_at_zero old.seen (sym (first_taken old.seen (length content) some) ∙ gate));
   }
 
   -- while it is looked at, a crash leaves what it might have left before

@@ -1,7 +1,7 @@
 -- The content of a new store.
 use Rattle.std.specs.Prelude.{◌≡◌, ℕ, pos, List, length, true, All}
 use Rattle.tmem_disk.specs.Disk.{DeviceView, IsSynced}
-use Rattle.tmem_record.specs.Layout.{end_place}
+use Rattle.tmem_record.specs.Layout.{end_at}
 use Rattle.tmem_effect.specs.Names.{has_name}
 use Rattle.tmem_effect.specs.State.{State}
 use Rattle.tmem_parts.specs.Parts.{IsStateFound}
@@ -15,7 +15,7 @@ pub record IsNewState (vars : ℕ) (names : List (List ℕ)) (s : State) : Type 
 
 -- bytes of a store's length, and an opening of them finds such a state
 pub record IsContent (vars slots : ℕ) (names : List (List ℕ)) (c : List ℕ) : Type 0 where
-  pub long : length c ≡ end_place vars slots
+  pub long : length c ≡ end_at vars slots
   pub state : State
   pub found : IsStateFound vars slots c state
   pub new : IsNewState vars names state

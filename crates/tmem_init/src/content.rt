@@ -1,6 +1,6 @@
 //! The content of a new store.
 ghost use Rattle.std.specs.Prelude.{◌≡◌, ◌↔◌, pos, length, IsTrue, IfOk, true, All};
-ghost use Rattle.tmem_record.specs.Layout.{end_place};
+ghost use Rattle.tmem_record.specs.Layout.{end_at};
 ghost use Rattle.tmem_effect.specs.Names.{has_name};
 ghost use Rattle.tmem_init.specs.Content.{IsContent, IsNewState};
 
@@ -104,7 +104,7 @@ fn failed(reply: &Reply) -> Result<(), Fault> {
 
 // The bytes of a store's layout on a device.
 fn bytes_of<D: Disk + Drop>(alloc: Global, mut disk: D, layout: Layout) -> Result<Vec<u8>, Fault>
-    ensures { IfOk result (λ bytes. length bytes.items ≡ end_place layout.vars layout.slots) }
+    ensures { IfOk result (λ bytes. length bytes.items ≡ end_at layout.vars layout.slots) }
 {
     if disk.size() < layout.end() {
         return Err(Fault::Geometry);

@@ -1,6 +1,6 @@
 //! A new store, from its invariants to its place.
 ghost use Rattle.std.specs.Prelude.{◌≡◌, IfOk};
-ghost use Rattle.tmem_file.specs.FileView.{view_of};
+ghost use Rattle.tmem_file.specs.FileView.{file_view};
 ghost use Rattle.tmem_init.specs.Content.{IsNewStore};
 
 use crate::content::content_of;
@@ -29,7 +29,7 @@ pub fn make_store<R: Files<File = File> + AllocGlobal, T: Invariants + Drop, S: 
     always: &[Name],
 ) -> Result<FileDisk, InitError>
     requires { T.vars table ≡ layout.vars }
-    ensures { IfOk result (λ disk. IsNewStore layout.vars layout.slots always.now (view_of disk)) }
+    ensures { IfOk result (λ disk. IsNewStore layout.vars layout.slots always.now (file_view disk)) }
 {
     let content = content_of(rt.alloc(), layout, table, steps, always)?;
     place_store(rt, path, text, &content)
@@ -51,7 +51,7 @@ pub fn make_in_place<
     always: &[Name],
 ) -> Result<FileDisk, InitError>
     requires { T.vars table ≡ layout.vars }
-    ensures { IfOk result (λ disk. IsNewStore layout.vars layout.slots always.now (view_of disk)) }
+    ensures { IfOk result (λ disk. IsNewStore layout.vars layout.slots always.now (file_view disk)) }
 {
     let content = content_of(rt.alloc(), layout, table, steps, always)?;
     place_in(rt, path, &content)

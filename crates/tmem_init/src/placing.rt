@@ -5,7 +5,7 @@ ghost use Rattle.tmem_disk.specs.Disk.{AtEachMoment, IsSynced, ReadsAs, overwrit
 ghost use Rattle.tmem_gate.specs.Calls.{LooksOnly};
 ghost use Rattle.tmem_gate.specs.Gate.{IsOpenAt};
 ghost use Rattle.tmem_gate.specs.declared.gate.TheConstants.{GATE_OPEN};
-ghost use Rattle.tmem_file.specs.FileView.{view_of};
+ghost use Rattle.tmem_file.specs.FileView.{file_view};
 ghost use Rattle.tmem_init.specs.Placed.{IsBetween, IsBlankFor, IsEarly, LeftByMaking};
 
 use crate::error::InitError;
@@ -28,8 +28,8 @@ pub(crate) fn place_store<R: Files<File = File> + AllocGlobal>(
     text: &[u8],
     content: &[u8],
 ) -> Result<FileDisk, InitError>
-    ensures holds { IfOk result (λ disk. ReadsAs (view_of disk) content.now) }
-    ensures synced { IfOk result (λ disk. IsSynced (view_of disk)) }
+    ensures holds { IfOk result (λ disk. ReadsAs (file_view disk) content.now) }
+    ensures synced { IfOk result (λ disk. IsSynced (file_view disk)) }
 {
     if is_there(rt, path) {
         return Err(InitError::StoreIsThere);
@@ -78,12 +78,12 @@ fn place<R: Files<File = File> + AllocGlobal>(
     path: &str,
     bytes: &[u8],
 ) -> Result<FileDisk, Fault>
-    ensures holds { IfOk result (λ disk. ReadsAs (view_of disk) bytes.now) }
-    ensures synced { IfOk result (λ disk. IsSynced (view_of disk)) }
+    ensures holds { IfOk result (λ disk. ReadsAs (file_view disk) bytes.now) }
+    ensures synced { IfOk result (λ disk. IsSynced (file_view disk)) }
 {
     let mut new = NewFile::create(rt, path, bytes.len() as u64)?;
     match new.disk.write_at(0, bytes) {
-        Ok(()) => new.place(rt),
+        Ok(()) => new.give_name(rt),
         Err(_) => {
             new.discard(rt);
             Err(Fault::Device)
@@ -98,8 +98,8 @@ pub(crate) fn place_in<R: Files<File = File> + AllocGlobal>(
     content: &[u8],
 ) -> Result<FileDisk, InitError>
     requires { IsOpenAt 0 content.now }
-    ensures holds { IfOk result (λ disk. ReadsAs (view_of disk) content.now) }
-    ensures synced { IfOk result (λ disk. IsSynced (view_of disk)) }
+    ensures holds { IfOk result (λ disk. ReadsAs (file_view disk) content.now) }
+    ensures synced { IfOk result (λ disk. IsSynced (file_view disk)) }
 {
     let mut disk = FileDisk::open(rt, path, content.len() as u64)?;
     put_on(rt.alloc(), &mut disk, content)?;

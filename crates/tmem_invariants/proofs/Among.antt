@@ -15,9 +15,9 @@ pub has_name-from_Contains : (names : List (List ℕ)) (name : List ℕ) → Con
 has_name-from_Contains names name there =
     list_any_at (λ other. bytes_eq other name) names there.0 name there.1 (ap (λ other. bytes_eq other name) there.2 ∙ (bytes_eq-Decides name name).1 refl)
 
--- what stands at a place is among them
-pub at_place : (names : List (List ℕ)) → All (λ name. has_name names name ≡ true) names
-at_place names k d within =
+-- what stands at an index is among them
+pub at_index : (names : List (List ℕ)) → All (λ name. has_name names name ≡ true) names
+at_index names k d within =
     list_any_at (λ other. bytes_eq other (get_or names k d)) names k d within ((bytes_eq-Decides (get_or names k d) (get_or names k d)).1 refl)
 
 -- what all of them have, each among them has

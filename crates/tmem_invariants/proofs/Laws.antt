@@ -9,11 +9,11 @@ use Rattle.std.proofs.lemmas.Bool.{false_from_ne_true}
 use Rattle.std.proofs.lemmas.List.Folds.{list_any_at, list_any_none}
 use Rattle.std.proofs.lemmas.Option.{slice_get-get_or}
 use Rattle.tmem_invariants.specs.Meanings.{Meanings, AllHold, DifferInWritten, IsSound, fails, first_false, holds, touched}
-use Rattle.tmem_invariants.specs.Places.{ArePlacesOf, has_place, stands_at}
+use Rattle.tmem_invariants.specs.Indices.{AreIndicesOf, has_index, stands_at}
 use Rattle.tmem_invariants.specs.TableNames.{first_missing, has_name, lacks}
-pub use Rattle.tmem_invariants.proofs.Among.{All-at_name, at_place, Contains-from_has_name, has_name-from_Contains}
-use Rattle.tmem_invariants.proofs.NamePlaces.{stands_at-none}
-use Rattle.tmem_invariants.proofs.PlaceSets.{has_place-or, has_place-without, has_place-zero}
+pub use Rattle.tmem_invariants.proofs.Among.{All-at_name, at_index, Contains-from_has_name, has_name-from_Contains}
+use Rattle.tmem_invariants.proofs.NameIndices.{stands_at-none}
+use Rattle.tmem_invariants.proofs.IndexSets.{has_index-or, has_index-without, has_index-zero}
 use Rattle.tmem_invariants.proofs.Scans.{find_none}
 use Rattle.tmem_invariants.proofs.TouchedInvariants.{first_false-touched}
 
@@ -74,7 +74,7 @@ first_false-none m names registered proposed values each =
     passes : (k : ℕ) (d : List ℕ) → k < length names → fails m registered proposed values (get_or names k d) ≡ false
     passes k d within =
         let name = get_or names k d in
-        asked (has_name registered name || has_name proposed name) (holds m values name) (each name (at_place names k d within))
+        asked (has_name registered name || has_name proposed name) (holds m values name) (each name (at_index names k d within))
 
 -- nor where all of them hold
 pub first_false-AllHold : (m : Meanings) (names registered proposed : List (List ℕ)) (values : List ℤ) → AllHold m registered values → AllHold m proposed values → first_false m names registered proposed values ≡ None
@@ -85,30 +85,30 @@ first_false-AllHold m names registered proposed values registered_hold proposed_
     either name true is asked = All-at_name (λ other. IsTrue (holds m values other)) registered name registered_hold is
     either name false is asked = All-at_name (λ other. IsTrue (holds m values other)) proposed name proposed_hold asked
 
--- no names have no places
-pub ArePlacesOf-none : (names : List (List ℕ)) → ArePlacesOf [] names 0
-ArePlacesOf-none names place = has_place-zero place ∙ sym (stands_at-none names place)
+-- no names have no indices
+pub AreIndicesOf-none : (names : List (List ℕ)) → AreIndicesOf [] names 0
+AreIndicesOf-none names index = has_index-zero index ∙ sym (stands_at-none names index)
 
--- the places of names together are those of either
-pub ArePlacesOf-join : (first more both names : List (List ℕ)) (a b : ℕ) → ((name : List ℕ) → has_name both name ≡ (has_name first name || has_name more name)) → ArePlacesOf first names a → ArePlacesOf more names b → ArePlacesOf both names (bit_or a b)
-ArePlacesOf-join first more both names a b either are_first are_more place =
-    has_place-or a b place
-    ∙ ap (λ x. x || has_place b place) (are_first place)
-    ∙ ap (λ x. stands_at first names place || x) (are_more place)
-    ∙ sym (on (slice_get names place))
+-- the indices of names together are those of either
+pub AreIndicesOf-join : (first more both names : List (List ℕ)) (a b : ℕ) → ((name : List ℕ) → has_name both name ≡ (has_name first name || has_name more name)) → AreIndicesOf first names a → AreIndicesOf more names b → AreIndicesOf both names (bit_or a b)
+AreIndicesOf-join first more both names a b either are_first are_more index =
+    has_index-or a b index
+    ∙ ap (λ x. x || has_index b index) (are_first index)
+    ∙ ap (λ x. stands_at first names index || x) (are_more index)
+    ∙ sym (on (slice_get names index))
   where
     on : (o : Option (List ℕ)) → option_map_or (has_name both) o false ≡ (option_map_or (has_name first) o false || option_map_or (has_name more) o false)
     on None = refl
     on (Some name) = either name
 
--- the places of names without some of them are those of the names that are left
-pub ArePlacesOf-without : (held gone left names : List (List ℕ)) (a b : ℕ) → a < 2 ^ 64 → b < 2 ^ 64 → ((name : List ℕ) → has_name left name ≡ (not (has_name gone name) && has_name held name))
-    → ArePlacesOf held names a → ArePlacesOf gone names b → ArePlacesOf left names (bit_and a (bit_not w64 b))
-ArePlacesOf-without held gone left names a b fits_a fits_b apart are_held are_gone place =
-    has_place-without a b place fits_a fits_b
-    ∙ ap (λ x. x && not (has_place b place)) (are_held place)
-    ∙ ap (λ x. stands_at held names place && not x) (are_gone place)
-    ∙ sym (on (slice_get names place))
+-- the indices of names without some of them are those of the names that are left
+pub AreIndicesOf-without : (held gone left names : List (List ℕ)) (a b : ℕ) → a < 2 ^ 64 → b < 2 ^ 64 → ((name : List ℕ) → has_name left name ≡ (not (has_name gone name) && has_name held name))
+    → AreIndicesOf held names a → AreIndicesOf gone names b → AreIndicesOf left names (bit_and a (bit_not w64 b))
+AreIndicesOf-without held gone left names a b fits_a fits_b apart are_held are_gone index =
+    has_index-without a b index fits_a fits_b
+    ∙ ap (λ x. x && not (has_index b index)) (are_held index)
+    ∙ ap (λ x. stands_at held names index && not x) (are_gone index)
+    ∙ sym (on (slice_get names index))
   where
     on : (o : Option (List ℕ)) → option_map_or (has_name left) o false ≡ (option_map_or (has_name held) o false && not (option_map_or (has_name gone) o false))
     on None = refl
@@ -120,7 +120,7 @@ AllHold-fewer m names fewer values among held k d within =
     All-at_name (λ name. IsTrue (holds m values name)) names (get_or fewer k d) held (among k d within)
 
 -- where writes touch no registered name, and none is proposed, none is found false after them
-pub first_false-untouched : (m : Meanings) (names held asked : List (List ℕ)) (written : List (ℕ × ℤ)) (before after : List ℤ) → DifferInWritten written before after → AllHold m held before → ArePlacesOf asked names 0 → list_any (has_name (touched m written held)) names ≡ false → first_false m names held asked after ≡ None
+pub first_false-untouched : (m : Meanings) (names held asked : List (List ℕ)) (written : List (ℕ × ℤ)) (before after : List ℤ) → DifferInWritten written before after → AllHold m held before → AreIndicesOf asked names 0 → list_any (has_name (touched m written held)) names ≡ false → first_false m names held asked after ≡ None
 first_false-untouched m names held asked written before after differ sound none_asked none_touched =
     sym (first_false-touched m names held asked written before after differ sound)
     ∙ find_none p names (list_any_none p names passes)
@@ -135,5 +135,5 @@ first_false-untouched m names held asked written before after differ sound none_
     passes k d within =
         let name = get_or names k d in
         let untouched : has_name (touched m written held) name ≡ false = false_from_ne_true (has_name (touched m written held) name) (λ is. let clash : true ≡ false = sym (list_any_at (has_name (touched m written held)) names k d within is) ∙ none_touched in absurd (cc)) in
-        let unasked : has_name asked name ≡ false = ap (λ o. option_map_or (has_name asked) o false) (sym (slice_get-get_or names k d within)) ∙ sym (none_asked k) ∙ has_place-zero k in
+        let unasked : has_name asked name ≡ false = ap (λ o. option_map_or (has_name asked) o false) (sym (slice_get-get_or names k d within)) ∙ sym (none_asked k) ∙ has_index-zero k in
         neither (has_name (touched m written held) name) (has_name asked name) (not (holds m after name)) untouched unasked

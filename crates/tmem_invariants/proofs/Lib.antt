@@ -1,7 +1,7 @@
 pub mod Among
 pub mod Laws
-pub mod NamePlaces
-pub mod PlaceSets
+pub mod NameIndices
+pub mod IndexSets
 pub mod Scans
 pub mod Tested
 pub mod TouchedInvariants

@@ -11,7 +11,7 @@ use Rattle.std.proofs.lemmas.List.Quantifiers.{all_pairs_push}
 use Rattle.std.proofs.lemmas.Option.{slice_get-map, slice_get-get_or, slice_get_within, get_or_from_slice_get}
 use Rattle.tmem_invariants.specs.TableNames.{AreDistinct}
 
--- the element that was read at a place
+-- the element that was read at an index
 pub slice_get_read : {X : Type 0} (xs : List X) (i : ℕ) (x : X) → i < length xs → x ≡ get_or xs i x → slice_get xs i ≡ Some x
 slice_get_read xs i x within is = slice_get-get_or xs i x within ∙ ap Some (sym is)
 
@@ -38,7 +38,7 @@ list_any_here p xs i x at passes =
 pub list_any_whole : {X : Type 0} (p : X → Bool) (xs : List X) (i : ℕ) → length xs ≤ i → list_any p (take i xs) ≡ false → list_any p xs ≡ false
 list_any_whole p xs i past none = let whole : take i xs ≡ xs = grind (arith, common_steps) in rw whole at none
 
--- the first is the one at a place, where none before it is
+-- the first is the one at an index, where none before it is
 pub find_here : {X : Type 0} (p : X → Bool) (xs : List X) (i : ℕ) (x : X) → slice_get xs i ≡ Some x → list_any p (take i xs) ≡ false → p x ≡ true → find p xs ≡ Some x
 find_here p [] i x at none passes = cc
 find_here p (y ∷ ys) zero x at none passes =

@@ -41,11 +41,11 @@ All-cons P e es here rest zero d within = here
 All-cons P e es here rest (suc k) d within = rest k d (suc-le-suc_iff.0 within)
 
 -- distinct names that each have a meaning have meanings together
-pub chosen : {E : Type 0} (name : E → List ℕ) (footprint : E → List ℕ) (post : E → Bor (List ℤ) → Bool → Type 0) → ((e : E) → HasMeaning (post e) (length (footprint e))) → (es : List E) → AreDistinct (map name es) → ∥ ((m : Meanings) × All (λ e. IsMeant m (name e) (footprint e) (post e)) es) ∥₁
-chosen name footprint post each [] distinct =
+pub chosen_meanings : {E : Type 0} (name : E → List ℕ) (footprint : E → List ℕ) (post : E → Bor (List ℤ) → Bool → Type 0) → ((e : E) → HasMeaning (post e) (length (footprint e))) → (es : List E) → AreDistinct (map name es) → ∥ ((m : Meanings) × All (λ e. IsMeant m (name e) (footprint e) (post e)) es) ∥₁
+chosen_meanings name footprint post each [] distinct =
     ∣ (record { footprint = λ other. []; test = λ other values. true }, λ k d within. absurd (not-suc-le-zero within)) ∣₁
-chosen {E = E} name footprint post each (e ∷ es) distinct =
-    ∥∥₁_elim (each e) ∥∥₁_prop (λ f. ∥∥₁_map (chosen name footprint post each es rest) (λ m. (meaning_also (name e) (footprint e) f.0 m.0, All-cons (λ x. IsMeant (meaning_also (name e) (footprint e) f.0 m.0) (name x) (footprint x) (post x)) e es (IsMeant-own m.0 (name e) (footprint e) f.0 (post e) f.1) (λ k d within. IsMeant-other m.0 (name e) (footprint e) f.0 (name (get_or es k d)) (apart k d within) (footprint (get_or es k d)) (post (get_or es k d)) (m.1 k d within)))))
+chosen_meanings {E = E} name footprint post each (e ∷ es) distinct =
+    ∥∥₁_elim (each e) ∥∥₁_prop (λ f. ∥∥₁_map (chosen_meanings name footprint post each es rest) (λ m. (meaning_also (name e) (footprint e) f.0 m.0, All-cons (λ x. IsMeant (meaning_also (name e) (footprint e) f.0 m.0) (name x) (footprint x) (post x)) e es (IsMeant-own m.0 (name e) (footprint e) f.0 (post e) f.1) (λ k d within. IsMeant-other m.0 (name e) (footprint e) f.0 (name (get_or es k d)) (apart k d within) (footprint (get_or es k d)) (post (get_or es k d)) (m.1 k d within)))))
   where
     rest : AreDistinct (map name es)
     rest i j d before within = distinct (suc i) (suc j) d (suc-le-suc_iff.1 before) (suc-le-suc_iff.1 within)

@@ -1,6 +1,6 @@
 pub mod Answers
 pub mod Chosen
 pub mod Meanings
-pub mod Places
+pub mod Indices
 pub mod Shown
 pub mod TableNames

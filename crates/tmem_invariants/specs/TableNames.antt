@@ -7,9 +7,9 @@ pub use Rattle.tmem_fault.specs.Name.{has_name}
 abbrev pub lacks : List (List ℕ) → List ℕ → Bool
 lacks names name = not (has_name names name)
 
--- the name at a place
+-- the name at an index
 abbrev pub name_at : List (List ℕ) → Option ℕ → Option (List ℕ)
-name_at names place = option_and_then (slice_get names) place
+name_at names index = option_and_then (slice_get names) index
 
 -- the first of the registered names that a table lacks
 abbrev pub first_missing : List (List ℕ) → List (List ℕ) → Option (List ℕ)

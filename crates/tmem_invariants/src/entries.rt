@@ -3,11 +3,11 @@
 ghost use Rattle.std.specs.Prelude.{◌≡◌, ◌↔◌, ℕ, ◌<◌, ◌&&◌, not, Bool, List, length, map, find, All, slice_get, Some, IsTrue, IsSome, IfSome};
 ghost use Rattle.tmem_invariants.specs.Answers.{IsMeant};
 ghost use Rattle.tmem_invariants.specs.Meanings.{Meanings, holds};
-ghost use Rattle.tmem_invariants.specs.Places.{AreAsked};
+ghost use Rattle.tmem_invariants.specs.Indices.{AreAsked};
 ghost use Rattle.tmem_invariants.specs.TableNames.{AreBelow, AreDistinct, has_name, name_at};
 
 use crate::entry::{Entry, is_true};
-use crate::places::{lowest_place, without_place};
+use crate::indices::{lowest_index, without_index};
 use tmem_fault::Name;
 
 // Whether no name stands twice.
@@ -15,7 +15,7 @@ pub(crate) fn have_distinct_names<E: Entry>(entries: &[E]) -> bool
     ensures { IsTrue result ↔ AreDistinct (map E.name entries.now) }
 {
     for (i, entry) in entries.iter().enumerate() {
-        if place_of(&entries[..i], &entry.name()).is_some() {
+        if index_among(&entries[..i], &entry.name()).is_some() {
             return false;
         }
     }
@@ -41,10 +41,10 @@ fn is_within<E: Entry>(entry: &E, vars: u16) -> bool
     entry.footprint().iter().all(|var| *var < vars)
 }
 
-// The place of a name.
-pub(crate) fn place_of<E: Entry>(entries: &[E], name: &Name) -> Option<usize>
+// The index of a name.
+pub(crate) fn index_among<E: Entry>(entries: &[E], name: &Name) -> Option<usize>
     ensures there { IsSome result ↔ IsTrue (has_name (map E.name entries.now) name.now) }
-    ensures place { IfSome result (λ place. slice_get (map E.name entries.now) place ≡ Some name.now) }
+    ensures index { IfSome result (λ index. slice_get (map E.name entries.now) index ≡ Some name.now) }
 {
     for (i, entry) in entries.iter().enumerate() {
         if entry.name() == *name {
@@ -54,22 +54,22 @@ pub(crate) fn place_of<E: Entry>(entries: &[E], name: &Name) -> Option<usize>
     None
 }
 
-// The first place of a set whose invariant is false. The set is of those that are asked for, by name.
-pub(crate) fn test_places<E: Entry>(entries: &[E], values: &[i64], places: u64) -> Option<usize>
+// The first index of a set whose invariant is false. The set is of those that are asked for, by name.
+pub(crate) fn test_indices<E: Entry>(entries: &[E], values: &[i64], indices: u64) -> Option<usize>
     requires { All (λ entry. AreBelow (length values.now) (E.footprint entry)) entries.now }
-    ensures within { IfSome result (λ place. place < length entries.now) }
+    ensures within { IfSome result (λ index. index < length entries.now) }
     ensures first { (m : Meanings) (asked : List ℕ → Bool) → All (λ entry. IsMeant m (E.name entry) (E.footprint entry) (E.answers entry)) entries.now
-        → AreAsked asked (map E.name entries.now) places
+        → AreAsked asked (map E.name entries.now) indices
         → name_at (map E.name entries.now) result ≡ find (λ name. asked name && not (holds m values.now name)) (map E.name entries.now) }
 {
-    let mut left = places;
+    let mut left = indices;
     while left != 0 {
-        let place = lowest_place(left);
-        let entry = entries.get(place)?;
+        let index = lowest_index(left);
+        let entry = entries.get(index)?;
         if !is_true(entry, values) {
-            return Some(place);
+            return Some(index);
         }
-        left = without_place(left, place);
+        left = without_index(left, index);
     }
     None
 }

@@ -7,10 +7,10 @@ ghost use Rattle.tmem_invariants.specs.TableNames.{AreBelow, AreDistinct};
 /// The most variables of a footprint.
 pub const MAX_FOOTPRINT: usize = 16;
 
-/// The place of the first variable that an earlier one equals, if there is one.
+/// The index of the first variable that an earlier one equals, if there is one.
 pub fn first_repeated(variables: &[u16]) -> Option<usize>
-    ensures distinct { MatchOption result (AreDistinct variables.now) (λ place. ¬ AreDistinct variables.now) }
-    ensures first { IfSome result (λ place. (place < length variables.now) × AreDistinct (take place variables.now) × (¬ AreDistinct (take (place + 1) variables.now))) }
+    ensures distinct { MatchOption result (AreDistinct variables.now) (λ index. ¬ AreDistinct variables.now) }
+    ensures first { IfSome result (λ index. (index < length variables.now) × AreDistinct (take index variables.now) × (¬ AreDistinct (take (index + 1) variables.now))) }
 {
     for (i, var) in variables.iter().enumerate() {
         if variables[..i].contains(var) {

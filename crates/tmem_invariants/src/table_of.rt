@@ -2,12 +2,12 @@
 
 ghost use Rattle.std.specs.Prelude.{◌≡◌, ◌↔◌, ◌⊎◌, ℕ, ◌<◌, ◌≤◌, length, map, All, slice_index_or, IsOk, IfOk, IfErr, Err};
 ghost use Rattle.tmem_invariants.specs.Answers.{IsMeant};
-ghost use Rattle.tmem_invariants.specs.Places.{IsTouching};
+ghost use Rattle.tmem_invariants.specs.Indices.{IsTouching};
 ghost use Rattle.tmem_invariants.specs.TableNames.{AreBelow, AreTableNames, AreDistinct};
 
-use crate::entries::{are_within, have_distinct_names, place_of, test_places};
+use crate::by_variable::{indices_by_variable, indices_touched};
+use crate::entries::{are_within, have_distinct_names, index_among, test_indices};
 use crate::entry::Entry;
-use crate::index::{index_of, places_touched};
 use crate::named::{Invariants, MAX_INVARIANTS};
 use std::alloc::Global;
 use tmem_fault::{Fault, Name};
@@ -20,13 +20,13 @@ pub struct TableOf<E: Entry> {
     pub entries: Vec<E>,
     /// How many variables there are.
     pub vars: u16,
-    // for each variable, the places of the entries over it
-    index: Vec<u64>,
+    // for each variable, the indices of the entries over it
+    by_variable: Vec<u64>,
     ghost few: { length entries.items ≤ 64 },
     ghost distinct: { AreDistinct (map E.name entries.items) },
     ghost within: { All (λ entry. AreBelow vars (E.footprint entry)) entries.items },
-    ghost long: { length index.items ≡ vars },
-    ghost touching: { (var : ℕ) → IsTouching (map E.footprint entries.items) var (slice_index_or index.items var 0) },
+    ghost long: { length by_variable.items ≡ vars },
+    ghost touching: { (var : ℕ) → IsTouching (map E.footprint entries.items) var (slice_index_or by_variable.items var 0) },
 }
 
 impl<E: Entry> TableOf<E> {
@@ -60,21 +60,21 @@ impl<E: Entry> TableOf<E> {
         ensures vars { IfOk result (λ table. table.vars ≡ vars) }
         ensures fault { IfErr result (λ fault. fault ≡ Fault.Memory) }
     {
-        let index = index_of(alloc, &entries, vars)?;
+        let by_variable = indices_by_variable(alloc, &entries, vars)?;
         Ok(TableOf {
             entries,
             vars,
-            index,
+            by_variable,
         })
     }
 
-    /// The set of the places of the entries over a variable: bit `i` is set exactly where the footprint of entry `i` holds
+    /// The set of the indices of the entries over a variable: bit `i` is set exactly where the footprint of entry `i` holds
     /// the variable.
     pub fn touching(&self, var: u16) -> u64
         requires { var < self.now.vars }
         ensures { IsTouching (map E.footprint self.now.entries.items) var result }
     {
-        self.index[usize::from(var)]
+        self.by_variable[usize::from(var)]
     }
 }
 
@@ -95,25 +95,25 @@ impl<E: Entry> Invariants for TableOf<E> {
         self.vars
     }
 
-    fn name(&self, place: usize) -> Name {
-        self.entries[place].name()
+    fn name(&self, index: usize) -> Name {
+        self.entries[index].name()
     }
 
-    fn footprint(&self, place: usize) -> &[u16] {
-        self.entries[place].footprint()
+    fn footprint(&self, index: usize) -> &[u16] {
+        self.entries[index].footprint()
     }
 
-    fn answer(&self, place: usize, values: &[i64]) -> bool {
-        self.entries[place].answer(values)
+    fn answer(&self, index: usize, values: &[i64]) -> bool {
+        self.entries[index].answer(values)
     }
 
-    fn place(&self, name: &Name) -> Option<usize> {
-        place_of(&self.entries, name)
+    fn index_of(&self, name: &Name) -> Option<usize> {
+        index_among(&self.entries, name)
     }
 
     fn missing(&self, registered: &[Name]) -> Option<Name> {
         for name in registered {
-            if self.place(name).is_none() {
+            if self.index_of(name).is_none() {
                 return Some(*name);
             }
         }
@@ -121,11 +121,11 @@ impl<E: Entry> Invariants for TableOf<E> {
     }
 
     fn is_touched(&self, registered: u64, written: &[(u16, i64)]) -> bool {
-        places_touched(&self.index, written) & registered != 0
+        indices_touched(&self.by_variable, written) & registered != 0
     }
 
     fn test_all(&self, values: &[i64], registered: u64, proposed: u64) -> Option<usize> {
-        test_places(&self.entries, values, registered | proposed)
+        test_indices(&self.entries, values, registered | proposed)
     }
 
     fn test_touched(
@@ -135,8 +135,8 @@ impl<E: Entry> Invariants for TableOf<E> {
         proposed: u64,
         written: &[(u16, i64)],
     ) -> Option<usize> {
-        let touched = places_touched(&self.index, written);
-        test_places(&self.entries, values, touched & registered | proposed)
+        let touched = indices_touched(&self.by_variable, written);
+        test_indices(&self.entries, values, touched & registered | proposed)
     }
 
     ghost use Rattle.std.proofs.lemmas.List.{length-map};
@@ -154,7 +154,7 @@ impl<E: Entry> Invariants for TableOf<E> {
 
     ghost distinct = { λ table. table.distinct };
 
-    ghost use Rattle.tmem_invariants.specs.Chosen.{chosen};
+    ghost use Rattle.tmem_invariants.specs.Chosen.{chosen_meanings};
 
-    ghost has_meanings = { λ table. chosen E.name E.footprint E.answers E.has_meaning table.entries.items table.distinct };
+    ghost has_meanings = { λ table. chosen_meanings E.name E.footprint E.answers E.has_meaning table.entries.items table.distinct };
 }

@@ -1,7 +1,7 @@
 pub mod Building
 pub mod Finding
 pub mod Flushed
-pub mod FormattedStands
+pub mod FormattedContent
 pub mod Lengths
 pub mod Logged
 pub mod Migrated

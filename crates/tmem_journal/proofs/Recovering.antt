@@ -4,7 +4,7 @@ use Rattle.tmem_disk.specs.Disk.{DeviceView, LeavesOnly, IsSynced}
 use Rattle.tmem_gate.specs.Calls.{LooksOnly}
 use Rattle.tmem_gate.specs.Gate.{IsOpenOver}
 use Rattle.tmem_gate.proofs.Laws.{LooksOnly-trans}
-use Rattle.tmem_record.specs.Layout.{image_place}
+use Rattle.tmem_record.specs.Layout.{image_at}
 use Rattle.tmem_record.specs.Stale.{IsStale}
 use Rattle.tmem_effect.specs.State.{State}
 use Rattle.tmem_state.specs.Versions.{number_of}
@@ -16,16 +16,16 @@ use Rattle.tmem_redolog.specs.Log.{HoldsLog}
 use Rattle.tmem_redolog.specs.Scans.{FindsLog}
 use Rattle.tmem_redolog.specs.declared.log.Log.{Log}
 use Rattle.tmem_journal.specs.BlockSpelling.{block_body}
-use Rattle.tmem_journal.specs.Stands.{Position, position_at, Holds, HoldsState}
+use Rattle.tmem_journal.specs.Contents.{Position, position_at, Holds, HoldsState}
 use Rattle.tmem_journal.proofs.Refused.{one_block}
 use Rattle.tmem_journal.proofs.Unique.{chosen_of}
 
 -- the other copy is stale for the image that the chosen one holds
-other_stale : (version : Version) (vars copy generation : ℕ) (image : State) (c : List ℕ) → ChoosesCopy vars copy c → HoldsImage version vars copy generation image c → IsStale generation (image_place vars (other_copy copy)) c
+other_stale : (version : Version) (vars copy generation : ℕ) (image : State) (c : List ℕ) → ChoosesCopy vars copy c → HoldsImage version vars copy generation image c → IsStale generation (image_at vars (other_copy copy)) c
 other_stale version vars copy generation image c chosen holds =
-    let head = front_of_image version vars generation (image_place vars copy) image c holds.cell in
-    let same : chosen.0 ≡ generation = one_head (image_place vars copy) chosen.0 generation c chosen.1.fits holds.number.fits chosen.1.cell head in
-    subst (λ (g : ℕ). IsStale g (image_place vars (other_copy copy)) c) same chosen.1.other
+    let head = front_of_image version vars generation (image_at vars copy) image c holds.cell in
+    let same : chosen.0 ≡ generation = one_head (image_at vars copy) chosen.0 generation c chosen.1.fits holds.number.fits chosen.1.cell head in
+    subst (λ (g : ℕ). IsStale g (image_at vars (other_copy copy)) c) same chosen.1.other
 
 -- block 0, the image of the chosen copy and a log over it make a state
 pub all_parts : (block_version version : Version) (vars slots copy generation : ℕ) (image s : State) (log : Log) (c : List ℕ) → number_of block_version ≤ number_of version → copy ≤ 1 → log.generation ≡ generation → IsOpenOver 0 (block_body block_version vars slots) c
@@ -41,7 +41,7 @@ all_parts block_version version vars slots copy generation image s log c allowed
       is_state = found.is_state;
     }
 
--- A content stands for nothing where a part is missing, as it is read later.
+-- A content represents nothing where a part is missing, as it is read later.
 module _ (vars slots : ℕ) (c then : List ℕ) (same : then ≡ c) where
   -- no copy is chosen
   pub no_choice : ((copy : ℕ) → ChoosesCopy vars copy then → ⊥) → (p : Position) (s : State) → HoldsState vars slots p s c → ⊥
@@ -104,23 +104,23 @@ module _ (vars slots copy : ℕ) (seen s1 s2 s3 : List ℕ) (is1 : s1 ≡ seen) 
   image_missing chosen none = no_image vars slots seen s3 at_3 copy (chosen_at chosen) none
 
   module _ (version : Version) (generation : ℕ) (image : State) where
-    image_at : HoldsImage version vars copy generation image s3 → HoldsImage version vars copy generation image seen
-    image_at holds = subst (λ (c : List ℕ). HoldsImage version vars copy generation image c) at_3 holds
+    image_there : HoldsImage version vars copy generation image s3 → HoldsImage version vars copy generation image seen
+    image_there holds = subst (λ (c : List ℕ). HoldsImage version vars copy generation image c) at_3 holds
 
     pub block_later : (block_version : Version) → IsOpenOver 0 (block_body block_version vars slots) s1 → (number_of block_version ≤ number_of version → ⊥) → ChoosesCopy vars copy s2 → HoldsImage version vars copy generation image s3
         → (p : Position) (t : State) → HoldsState vars slots p t seen → ⊥
     block_later block_version block later chosen holds =
-        no_later vars slots seen s3 at_3 version copy generation image (chosen_at chosen) (image_at holds) block_version (subst (λ (c : List ℕ). IsOpenOver 0 (block_body block_version vars slots) c) is1 block) later
+        no_later vars slots seen s3 at_3 version copy generation image (chosen_at chosen) (image_there holds) block_version (subst (λ (c : List ℕ). IsOpenOver 0 (block_body block_version vars slots) c) is1 block) later
 
     module _ (s4 : List ℕ) (is4 : s4 ≡ s3) where
       at_4 : s4 ≡ seen
       at_4 = is4 ∙ at_3
 
       pub log_missing : ChoosesCopy vars copy s2 → HoldsImage version vars copy generation image s3 → ((batches : List (List Effect)) → HoldsLog version vars slots generation image batches s4 → ⊥) → (p : Position) (t : State) → HoldsState vars slots p t seen → ⊥
-      log_missing chosen holds none = no_log vars slots seen s4 at_4 version copy generation image (chosen_at chosen) (image_at holds) none
+      log_missing chosen holds none = no_log vars slots seen s4 at_4 version copy generation image (chosen_at chosen) (image_there holds) none
 
       pub all_found : (block_version : Version) (s : State) (log : Log) → number_of block_version ≤ number_of version → copy ≤ 1 → log.generation ≡ generation → IsOpenOver 0 (block_body block_version vars slots) s1 → ChoosesCopy vars copy s2
           → HoldsImage version vars copy generation image s3 → FindsLog version vars slots generation image log.used s s4 → HoldsState vars slots (position_at version copy log) s seen
       all_found block_version s log allowed one same block chosen holds found =
-          all_parts block_version version vars slots copy generation image s log seen allowed one same (subst (λ (c : List ℕ). IsOpenOver 0 (block_body block_version vars slots) c) is1 block) (chosen_at chosen) (image_at holds)
+          all_parts block_version version vars slots copy generation image s log seen allowed one same (subst (λ (c : List ℕ). IsOpenOver 0 (block_body block_version vars slots) c) is1 block) (chosen_at chosen) (image_there holds)
           (subst (λ (c : List ℕ). FindsLog version vars slots generation image log.used s c) at_4 found)

@@ -18,7 +18,7 @@ use Rattle.tmem_record.proofs.Laws.{number-spelled}
 use Rattle.tmem_record.specs.Layout.{IsLayout}
 use Rattle.tmem_record.specs.StandsAt.{StandsAt}
 use Rattle.tmem_journal.specs.BlockSpelling.{block_body}
-use Rattle.tmem_journal.specs.Stands.{Position, HoldsState, IsSpentAt}
+use Rattle.tmem_journal.specs.Contents.{Position, HoldsState, IsSpentAt}
 use Rattle.tmem_journal.specs.Refusals.{HasMagic, IsOfOthers, IsRefusedBy, IsWhyRead}
 use Rattle.tmem_journal.specs.Parts.{IsBlockFault, IsBlockBy}
 use Rattle.tmem_journal.proofs.Lengths.{length-block_body}
@@ -137,7 +137,7 @@ of_no_others version vars slots layout c cell other =
     other.others (sym theirs.0 ∙ mine.0, sym theirs.1 ∙ mine.1)
 
 module _ (vars slots : ℕ) (layout : IsLayout vars slots) (c : List ℕ) where
-  -- a content that is refused by anything but Spent stands for no state
+  -- a content that is refused by anything but Spent represents no state
   pub none_where_refused : (f : Fault) → f ≢ Spent → IsRefusedBy vars slots c f → (p : Position) (s : State) → HoldsState vars slots p s c → ⊥
   none_where_refused NotFormatted other is p s stands = is (letters_of stands.holds.block_version vars slots c stands.holds.block)
   none_where_refused Geometry other is p s stands = of_no_others stands.holds.block_version vars slots layout c stands.holds.block is
@@ -173,6 +173,6 @@ module _ (vars slots : ℕ) (layout : IsLayout vars slots) (c : List ℕ) where
 pub block_then : (version : Version) (vars slots : ℕ) (c then : List ℕ) → then ≡ c → IsOpenOver 0 (block_body version vars slots) then → IsOpenOver 0 (block_body version vars slots) c
 block_then version vars slots c then same cell = subst (λ (x : List ℕ). IsOpenOver 0 (block_body version vars slots) x) same cell
 
--- a content that is refused by Spent stands for its state at the last generation
+-- a content that is refused by Spent represents its state at the last generation
 pub last_where_spent : (vars slots : ℕ) → vars ≤ 2 ^ 16 → (c : List ℕ) → IsRefusedBy vars slots c Spent → (p : Position) (s : State) → HoldsState vars slots p s c → IsSpentAt p
 last_where_spent vars slots few c is p s stands = ∥∥₁_elim is (hlevel props) (λ it. subst IsSpentAt (one_state_at_most vars slots few c it.0 p it.1 s it.2 stands).0 it.3)

@@ -1,6 +1,6 @@
--- A content stands for one state at most, at one position.
+-- A content represents one state at most, at one position.
 use Rattle.std.proofs.Common.{◌≡◌, ◌≤◌, ◌^◌, ℕ, List, length, sym, ◌∙◌, ap, subst}
-use Rattle.tmem_record.specs.Layout.{image_place}
+use Rattle.tmem_record.specs.Layout.{image_at}
 use Rattle.tmem_record.specs.Stale.{IsStale}
 use Rattle.tmem_effect.specs.State.{State}
 use Rattle.tmem_effect.specs.declared.effect.Effect.{Effect}
@@ -9,12 +9,12 @@ use Rattle.tmem_image.specs.Image.{HoldsImage, IsChosen, ChoosesCopy, other_copy
 use Rattle.tmem_image.proofs.Laws.{front_of_image, one_choice, one_image}
 use Rattle.tmem_redolog.specs.Log.{HoldsLog, replayed}
 use Rattle.tmem_redolog.proofs.Laws.{one_log}
-use Rattle.tmem_journal.specs.Stands.{Position, Holds, HoldsState}
+use Rattle.tmem_journal.specs.Contents.{Position, Holds, HoldsState}
 
 -- an image in one copy is chosen where the other copy is stale for it
-pub chosen_with : (version : Version) (vars copy generation : ℕ) (image : State) (c : List ℕ) → copy ≤ 1 → HoldsImage version vars copy generation image c → IsStale generation (image_place vars (other_copy copy)) c → IsChosen vars copy generation c
+pub chosen_with : (version : Version) (vars copy generation : ℕ) (image : State) (c : List ℕ) → copy ≤ 1 → HoldsImage version vars copy generation image c → IsStale generation (image_at vars (other_copy copy)) c → IsChosen vars copy generation c
 chosen_with version vars copy generation image c one holds other =
-    record { one = one; fits = holds.number.fits; cell = front_of_image version vars generation (image_place vars copy) image c holds.cell; other = other }
+    record { one = one; fits = holds.number.fits; cell = front_of_image version vars generation (image_at vars copy) image c holds.cell; other = other }
 
 -- so a content chooses the copy that it holds its image in
 pub chosen_of : {version : Version} {vars slots copy generation : ℕ} {image : State} {batches : List (List Effect)} {c : List ℕ} → Holds version vars slots copy generation image batches c → ChoosesCopy vars copy c

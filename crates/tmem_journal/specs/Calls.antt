@@ -4,12 +4,12 @@ use Rattle.std.specs.declared.snapshot.Snapshot.{Snapshot}
 use Rattle.tmem_fault.specs.declared.fault.Fault.{Fault}
 use Rattle.tmem_fault.specs.declared.fault.Fault.TheVariants.{Unknown}
 use Rattle.tmem_effect.specs.declared.effect.Effect.{Effect}
-use Rattle.tmem_record.specs.Layout.{IsLayout, end_place}
+use Rattle.tmem_record.specs.Layout.{IsLayout, end_at}
 
 -- the numbers are within the limits, and the device holds their layout
 pub record FitsOn (vars slots capacity : ℕ) : Type 0 where
   pub layout : IsLayout vars slots
-  pub room : end_place vars slots ≤ capacity
+  pub room : end_at vars slots ≤ capacity
 
 -- the effects of a batch, where there is one
 abbrev pub effects_in : Option (Snapshot (List Effect)) → List Effect

@@ -4,7 +4,7 @@ use Rattle.byteorder.specs.Endian.{little_bytes}
 use Rattle.tmem_effect.specs.State.{first_state}
 use Rattle.tmem_state.specs.Versions.{mark_of}
 use Rattle.tmem_state.specs.declared.version.Version.TheVariants.{Two}
-use Rattle.tmem_record.specs.Layout.{image_place, end_place}
+use Rattle.tmem_record.specs.Layout.{image_at, end_at}
 use Rattle.tmem_image.specs.Spelling.{image_body}
 use Rattle.tmem_journal.specs.BlockSpelling.{block_body}
 
@@ -19,4 +19,4 @@ header_bytes = little_bytes 8 1 ++ (replicate 2038 0 ++ mark_of Two ∷ [])
 -- Block 0 of version 2 with these numbers, image copy 0 of version 2 and generation 1 with the first state, and 0 from image
 -- copy 1 to the end.
 unfoldable pub formatted : ℕ → ℕ → List ℕ
-formatted vars slots = open_cell (block_body Two vars slots) ++ (open_cell (image_body Two vars 1 (first_state vars)) ++ replicate (end_place vars slots - image_place vars 1) 0)
+formatted vars slots = open_cell (block_body Two vars slots) ++ (open_cell (image_body Two vars 1 (first_state vars)) ++ replicate (end_at vars slots - image_at vars 1) 0)

@@ -7,4 +7,4 @@ pub mod Laws
 pub mod Mended
 pub mod Parts
 pub mod Refusals
-pub mod Stands
+pub mod Contents

@@ -7,7 +7,7 @@ use Rattle.tmem_effect.specs.State.{State}
 use Rattle.tmem_record.specs.Layout.{IsLayout}
 use Rattle.tmem_state.specs.declared.version.Version.{Version}
 use Rattle.tmem_journal.specs.BlockSpelling.{block_body}
-use Rattle.tmem_journal.specs.Stands.{Position, HoldsState, StandsFor, IsSpentAt}
+use Rattle.tmem_journal.specs.Contents.{Position, HoldsState, ContentRepresents, IsSpentAt}
 
 -- block 0 is open, and begins with the magic
 abbrev pub HasMagic : List ℕ → Type 0
@@ -22,12 +22,12 @@ pub record IsOfOthers (vars slots : ℕ) (c : List ℕ) : Type 0 where
   pub block : IsOpenOver 0 (block_body their_version their_vars their_slots) c
   pub others : ¬ ((their_vars ≡ vars) × (their_slots ≡ slots))
 
--- Which refusal a content has. Where it stands for no state, it lacks the magic, or it is of other numbers, or else it is
--- damaged. Where it stands for one, it is of version 1 and at the last generation, so that no image of version 2 can follow.
+-- Which refusal a content has. Where it represents no state, it lacks the magic, or it is of other numbers, or else it is
+-- damaged. Where it represents one, it is of version 1 and at the last generation, so that no image of version 2 can follow.
 abbrev pub IsRefusedBy : ℕ → ℕ → List ℕ → Fault → Type 0
 IsRefusedBy vars slots c NotFormatted = ¬ HasMagic c
 IsRefusedBy vars slots c Geometry = IsOfOthers vars slots c
-IsRefusedBy vars slots c Damaged = HasMagic c × (¬ IsOfOthers vars slots c) × ((p : Position) (s : State) → StandsFor vars slots p s c → ⊥)
+IsRefusedBy vars slots c Damaged = HasMagic c × (¬ IsOfOthers vars slots c) × ((p : Position) (s : State) → ContentRepresents vars slots p s c → ⊥)
 IsRefusedBy vars slots c Spent = ∥ ((p : Position) × (s : State) × HoldsState vars slots p s c × IsSpentAt p) ∥₁
 IsRefusedBy vars slots c _ = ⊥
 

@@ -8,17 +8,17 @@ ghost use Rattle.tmem_journal.specs.Parts.{IsBlockFault};
 
 use tmem_fault::Fault;
 use tmem_record::bytes::{put, short_at};
-use tmem_record::{BLOCK_SIZE, Layout};
+use tmem_record::{BLOCK_BYTES, Layout};
 use tmem_state::Version;
 
 // How long block 0 is without its gate.
-const BLOCK_ROOM: usize = BLOCK_SIZE - 1;
+const BLOCK_BODY_BYTES: usize = BLOCK_BYTES - 1;
 
 /// Spells what stands behind the gate of block 0.
-pub(crate) fn spell_block(version: Version, vars: u16, slots: u16) -> [u8; BLOCK_ROOM]
+pub(crate) fn spell_block(version: Version, vars: u16, slots: u16) -> [u8; BLOCK_BODY_BYTES]
     ensures { result ≡ block_body version vars slots }
 {
-    let mut bytes = [0; BLOCK_ROOM];
+    let mut bytes = [0; BLOCK_BODY_BYTES];
     let mut at = put(&mut bytes, 0, b"TMEM");
     at = put(&mut bytes, at, &[version.number()]);
     at = put(&mut bytes, at, &vars.to_le_bytes());

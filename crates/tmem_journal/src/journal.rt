@@ -1,4 +1,4 @@
-// The journal: a device, and the state that it stands for.
+// The journal: a device, and the state that it represents.
 ghost use Rattle.std.specs.Prelude.{◌≡◌, ◌≢◌, ◌≤◌, ◌<◌, ◌+◌, ◌*◌, ◌⊎◌, ℕ, [], false, Some, length, All, IfOk, IfErr, IfSome, IsErrOf};
 ghost use Rattle.tmem_disk.specs.Disk.{LeavesOnly, AtEachMoment, SameSeenOutside, IsSynced, IsWriteOrSync};
 ghost use Rattle.tmem_gate.specs.Calls.{Uses, LooksOnly, WritesWithin};
@@ -6,17 +6,17 @@ ghost use Rattle.tmem_gate.specs.Gate.{HasBody, StandsClosed};
 ghost use Rattle.tmem_effect.specs.State.{State as StateOf, fold, StaysWithin};
 ghost use Rattle.tmem_record.specs.Spelling.{batch_bytes};
 ghost use Rattle.tmem_state.specs.declared.version.Version.TheVariants.{Two};
-ghost use Rattle.tmem_record.specs.declared.codec.TheConstants.{BATCH_ROOM};
-ghost use Rattle.tmem_record.specs.Layout.{image_place, image_size, slot_place, end_place};
+ghost use Rattle.tmem_record.specs.declared.codec.TheConstants.{SLOT_BODY_BYTES};
+ghost use Rattle.tmem_record.specs.Layout.{image_at, image_size, slot_at, end_at};
 ghost use Rattle.tmem_image.specs.Image.{IsGeneration, other_copy};
-ghost use Rattle.tmem_image.specs.Pages.{HoldsOthers, pages_place};
-ghost use Rattle.tmem_image.specs.Spare.{placed, AwaitsGate};
-ghost use Rattle.tmem_journal.specs.Stands.{Position, next_image, position_in, StandsFor, StandsForState, StandsForEither, IsCurrent, NeedsNoMigration};
+ghost use Rattle.tmem_image.specs.Pages.{HoldsOthers, pages_at};
+ghost use Rattle.tmem_image.specs.Spare.{image_placed, AwaitsGate};
+ghost use Rattle.tmem_journal.specs.Contents.{Position, next_image, position_in, ContentRepresents, ContentRepresentsState, ContentRepresentsEither, IsCurrent, NeedsNoMigration};
 ghost use Rattle.tmem_journal.specs.Mended.{MendsDevice, RecoversDevice, IsFoundAt, SameBesideCopy};
 ghost use Rattle.tmem_journal.specs.Calls.{FitsOn, effects_in, doubted, fault_alone};
 
-use crate::accepting::accept_all;
 use crate::buffer::Buffer;
+use crate::committing::commit_all;
 use crate::migrating::recover_current;
 use crate::renewing::renew;
 use crate::room::Room;
@@ -38,7 +38,7 @@ struct Changed {
     spare: u16,
 }
 
-/// A device, and the state that it stands for: the accepted transactions that are durable. Once a call of the device has
+/// A device, and the state that it represents: the committed transactions that are durable. Once a call of the device has
 /// failed in `flush` or in `checkpoint` it is closed, and writes nothing more.
 pub struct Journal<D: Disk> {
     disk: D,
@@ -57,7 +57,7 @@ pub struct Journal<D: Disk> {
     doubt: Option<Snapshot<Batch>>,
 
     /// The device has room for the layout.
-    pub ghost room: { end_place layout.vars layout.slots ≤ (D.view disk).capacity },
+    pub ghost room: { end_at layout.vars layout.slots ≤ (D.view disk).capacity },
 
     /// The state has a value for each variable.
     pub ghost sized: { length state.values ≡ layout.vars },
@@ -74,26 +74,26 @@ pub struct Journal<D: Disk> {
     /// While it is open, no outcome is unknown.
     pub ghost certain: { is_closed ≡ false → effects_in doubt ≡ [] },
 
-    /// Every crash leaves a content that stands for this state, or for the one with the doubtful batch.
-    pub ghost stands: { LeavesOnly (D.view disk) (StandsForEither layout.vars layout.slots state (fold state (effects_in doubt))) },
+    /// Every crash leaves a content that represents this state, or for the one with the doubtful batch.
+    pub ghost stands: { LeavesOnly (D.view disk) (ContentRepresentsEither layout.vars layout.slots state (fold state (effects_in doubt))) },
 
     /// The image of that content is of version 2: no opening of this device writes one.
     pub ghost current: { LeavesOnly (D.view disk) (IsCurrent layout.vars layout.slots) },
 
-    /// While it is open, one that stands for this state, at its position.
-    pub ghost sure: { is_closed ≡ false → LeavesOnly (D.view disk) (StandsFor layout.vars layout.slots (position_in copy log) state) },
+    /// While it is open, one that represents this state, at its position.
+    pub ghost sure: { is_closed ≡ false → LeavesOnly (D.view disk) (ContentRepresents layout.vars layout.slots (position_in copy log) state) },
 
     /// While it is open, every write is synced.
     pub ghost synced: { is_closed ≡ false → IsSynced (D.view disk) },
 
     /// While it is open, each slot behind the log stands closed.
-    pub ghost ahead: { is_closed ≡ false → (k : ℕ) → log.used ≤ k → k < layout.slots → StandsClosed (slot_place layout.vars k) (D.view disk) },
+    pub ghost ahead: { is_closed ≡ false → (k : ℕ) → log.used ≤ k → k < layout.slots → StandsClosed (slot_at layout.vars k) (D.view disk) },
 
     /// While it is open, each page that is not marked as changed holds the state's values after every crash, in the chosen copy.
-    pub ghost chosen_pages: { is_closed ≡ false → LeavesOnly (D.view disk) (HoldsOthers (pages_place layout.vars copy) layout.vars changed.chosen state.values) },
+    pub ghost chosen_pages: { is_closed ≡ false → LeavesOnly (D.view disk) (HoldsOthers (pages_at layout.vars copy) layout.vars changed.chosen state.values) },
 
     /// So it does in the other copy.
-    pub ghost spare_pages: { is_closed ≡ false → LeavesOnly (D.view disk) (HoldsOthers (pages_place layout.vars (other_copy copy)) layout.vars changed.spare state.values) },
+    pub ghost spare_pages: { is_closed ≡ false → LeavesOnly (D.view disk) (HoldsOthers (pages_at layout.vars (other_copy copy)) layout.vars changed.spare state.values) },
 }
 
 // By hand, so that a function that drops one makes one call.
@@ -114,25 +114,25 @@ impl<D: Disk + Drop> Drop for Journal<D> {
 }
 
 impl<D: Disk> Journal<D> {
-    ghost use Rattle.tmem_journal.specs.Held.{disk_of, device_of, device_after, layout_of, state_of, doubtful_of, position_of, is_closed_of, MayBe};
+    ghost use Rattle.tmem_journal.specs.Held.{disk_of, journal_device, journal_device_after, journal_layout, journal_state, doubtful_of, journal_position, is_closed_of, MayBe};
     ghost use Rattle.tmem_journal.specs.Journals.{Flushes, Checkpoints, FindsEither, IsOpeningRefused};
 
-    /// Recovers the state that a device of these numbers stands for. Where its image is of version 1, one checkpoint follows,
+    /// Recovers the state that a device of these numbers represents. Where its image is of version 1, one checkpoint follows,
     /// which writes an image of version 2. Refused by `Geometry` where the numbers are out of limits, the device is smaller
     /// than their layout, or it was formatted for others; by `NotFormatted` where block 0 is closed or lacks its magic; else
-    /// by `Damaged` where its content stands for no state; by `Spent` where its image is of version 1 and of the last
+    /// by `Damaged` where its content represents no state; by `Spent` where its image is of version 1 and of the last
     /// generation, so that no other can follow; by `Memory`, before the device is touched; by `Device` where a call of the
     /// device fails, which may leave the image of version 2 or not. The device is handed back with the refusal. Gates that
     /// read open behind the log are closed, and nothing else is written but for that checkpoint.
     pub fn open(alloc: Global, mut disk: D, vars: u16, slots: u16) -> Result<Journal<D>, (Fault, D)>
-        ensures uses { Uses (D.view disk) (device_after result) (fault_alone result) }
-        ensures fits { IfOk result (λ j. ((layout_of j).vars ≡ vars) × ((layout_of j).slots ≡ slots) × FitsOn vars slots (D.view disk).capacity) }
-        ensures fresh { IfOk result (λ j. (is_closed_of j ≡ false) × (doubtful_of j ≡ state_of j)) }
+        ensures uses { Uses (D.view disk) (journal_device_after result) (fault_alone result) }
+        ensures fits { IfOk result (λ j. ((journal_layout j).vars ≡ vars) × ((journal_layout j).slots ≡ slots) × FitsOn vars slots (D.view disk).capacity) }
+        ensures fresh { IfOk result (λ j. (is_closed_of j ≡ false) × (doubtful_of j ≡ journal_state j)) }
 
-        // The state that the content stood for is found: at its position, or with the next image where it was of version 1.
-        // What a read gives then stands for it too.
-        ensures found { IfOk result (λ j. (device_of j).keeps_model → IsFoundAt vars slots (D.view disk).seen (state_of j) (position_of j)) }
-        ensures stands { IfOk result (λ j. (device_of j).keeps_model → StandsFor vars slots (position_of j) (state_of j) (device_of j).seen) }
+        // The state that the content represented is found: at its position, or with the next image where it was of version 1.
+        // What a read gives then represents it too.
+        ensures found { IfOk result (λ j. (journal_device j).keeps_model → IsFoundAt vars slots (D.view disk).seen (journal_state j) (journal_position j)) }
+        ensures stands { IfOk result (λ j. (journal_device j).keeps_model → ContentRepresents vars slots (journal_position j) (journal_state j) (journal_device j).seen) }
         ensures refused { IfErr result (λ e. IsOpeningRefused (D.view disk) vars slots e.0 (D.view e.1)) }
 
         // Where the numbers do not fit the device, no call of it is made: the one that was handed in is handed back. So is it
@@ -140,27 +140,27 @@ impl<D: Disk> Journal<D> {
         ensures untouched { ¬ FitsOn vars slots (D.view disk).capacity → IfErr result (λ e. e.1 ≡ disk) }
         ensures memory { IfErr result (λ e. e.0 ≡ Fault.Memory → e.1 ≡ disk) }
 
-        // Whatever is answered, a crash at any moment leaves a content that stands for what one before it stood for. Block 0 is
+        // Whatever is answered, a crash at any moment leaves a content that represents what one before it represented. Block 0 is
         // not written, nor anything behind the slots.
-        ensures recovers { RecoversDevice vars slots (D.view disk) (device_after result) }
+        ensures recovers { RecoversDevice vars slots (D.view disk) (journal_device_after result) }
 
         // Where no image of version 1 is found, nothing is written but gates behind the log that read open, and nothing at all
-        // where the content stands for no state; nor is anything else written before `Spent`.
-        ensures mends { NeedsNoMigration vars slots (D.view disk).seen → MendsDevice vars slots (D.view disk) (device_after result) }
+        // where the content represents no state; nor is anything else written before `Spent`.
+        ensures mends { NeedsNoMigration vars slots (D.view disk).seen → MendsDevice vars slots (D.view disk) (journal_device_after result) }
         ensures spent_mends { IfErr result (λ e. e.0 ≡ Fault.Spent → MendsDevice vars slots (D.view disk) (D.view e.1)) }
 
-        // Where the content stands for a state, a read gives what it gave before, but in the image copy that is not chosen, and for
+        // Where the content represents a state, a read gives what it gave before, but in the image copy that is not chosen, and for
         // gates of the log that it gave open.
-        ensures migrates { (device_after result).keeps_model → (p : Position) (s : StateOf) → StandsFor vars slots p s (D.view disk).seen
-            → SameBesideCopy vars slots (other_copy p.copy) (D.view disk).seen (device_after result).seen }
+        ensures migrates { (journal_device_after result).keeps_model → (p : Position) (s : StateOf) → ContentRepresents vars slots p s (D.view disk).seen
+            → SameBesideCopy vars slots (other_copy p.copy) (D.view disk).seen (journal_device_after result).seen }
 
         // Nothing at all is written before a refusal other than `Device` and `Spent`.
         ensures refused_looks { IfErr result (λ e. e.0 ≢ Fault.Device → e.0 ≢ Fault.Spent → LooksOnly (D.view disk) (D.view e.1)) }
 
         // Where every crash left one of two states, that one is found, unless memory or the device fails, or it cannot be
         // migrated.
-        ensures either { (s t : StateOf) → FitsOn vars slots (D.view disk).capacity → LeavesOnly (D.view disk) (StandsForEither vars slots s t)
-            → (device_after result).keeps_model → FindsEither result s t }
+        ensures either { (s t : StateOf) → FitsOn vars slots (D.view disk).capacity → LeavesOnly (D.view disk) (ContentRepresentsEither vars slots s t)
+            → (journal_device_after result).keeps_model → FindsEither result s t }
     {
         let layout = match Layout::new(vars, slots) {
             Ok(layout) => layout,
@@ -194,21 +194,21 @@ impl<D: Disk> Journal<D> {
 
     /// The numbers of variables and log slots.
     pub fn layout(&self) -> Layout
-        ensures { result ≡ layout_of self.now }
+        ensures { result ≡ journal_layout self.now }
     {
         self.layout
     }
 
     /// The state after every transaction that is known durable.
     pub fn state(&self) -> &State
-        ensures { result.now ≡ state_of self.now }
+        ensures { result.now ≡ journal_state self.now }
     {
         &self.state
     }
 
     /// How many transactions are known durable.
     pub fn count(&self) -> u64
-        ensures { result ≡ (state_of self.now).count }
+        ensures { result ≡ (journal_state self.now).count }
     {
         self.state.count()
     }
@@ -222,7 +222,7 @@ impl<D: Disk> Journal<D> {
 
     /// How many slots of the log are free.
     pub fn free_slots(&self) -> u16
-        ensures { result + (position_of self.now).used ≡ (layout_of self.now).slots }
+        ensures { result + (journal_position self.now).used ≡ (journal_layout self.now).slots }
     {
         self.layout.slots - self.log.used
     }
@@ -252,23 +252,23 @@ impl<D: Disk> Journal<D> {
     /// leaves the whole batch or none of it. After these two the journal is closed.
     pub fn flush(&mut self, batch: &Batch) -> Result<u64, Fault>
         requires some { 1 ≤ length batch.now }
-        requires variables { All (λ e. All (λ w. w.0 < (layout_of self.old).vars) e.writes) batch.now }
-        requires within { StaysWithin (state_of self.old) batch.now }
-        ensures uses { Uses (device_of self.old) (device_of self.new) result }
-        ensures layout { layout_of self.new ≡ layout_of self.old }
+        requires variables { All (λ e. All (λ w. w.0 < (journal_layout self.old).vars) e.writes) batch.now }
+        requires within { StaysWithin (journal_state self.old) batch.now }
+        ensures uses { Uses (journal_device self.old) (journal_device self.new) result }
+        ensures layout { journal_layout self.new ≡ journal_layout self.old }
         ensures flushed { Flushes self.old batch.now result self.new }
 
         // Nothing outside the first slot behind the log changes. At `Device` its gate was not written. At `Unknown` a write
         // or a sync failed, and the bytes of the batch were written before.
-        ensures elsewhere { WritesWithin (slot_place (layout_of self.old).vars (position_of self.old).used) 4096 (device_of self.old) (device_of self.new) }
+        ensures elsewhere { WritesWithin (slot_at (journal_layout self.old).vars (journal_position self.old).used) 4096 (journal_device self.old) (journal_device self.new) }
         ensures gate_untouched { IsErrOf result Fault.Device →
-            SameSeenOutside (slot_place (layout_of self.old).vars (position_of self.old).used + 1) BATCH_ROOM (device_of self.old) (device_of self.new) }
-        ensures gate_failed { IsErrOf result Fault.Unknown → IfSome (device_of self.new).last_fault IsWriteOrSync }
-        ensures body_written { IsErrOf result Fault.Unknown → (device_of self.new).keeps_model →
-            HasBody (slot_place (layout_of self.old).vars (position_of self.old).used) (batch_bytes Two (position_of self.old).generation (state_of self.old).count batch.now) (device_of self.new).seen }
+            SameSeenOutside (slot_at (journal_layout self.old).vars (journal_position self.old).used + 1) SLOT_BODY_BYTES (journal_device self.old) (journal_device self.new) }
+        ensures gate_failed { IsErrOf result Fault.Unknown → IfSome (journal_device self.new).last_fault IsWriteOrSync }
+        ensures body_written { IsErrOf result Fault.Unknown → (journal_device self.new).keeps_model →
+            HasBody (slot_at (journal_layout self.old).vars (journal_position self.old).used) (batch_bytes Two (journal_position self.old).generation (journal_state self.old).count batch.now) (journal_device self.new).seen }
 
         // A crash at any moment of the call leaves what the journal before it allows, or the one after it.
-        ensures any_moment { AtEachMoment (device_of self.old) (device_of self.new) (λ c. ∥ MayBe self.old c ⊎ MayBe self.new c ∥₁) }
+        ensures any_moment { AtEachMoment (journal_device self.old) (journal_device self.new) (λ c. ∥ MayBe self.old c ⊎ MayBe self.new c ∥₁) }
     {
         if self.is_closed {
             return Err(Fault::Closed);
@@ -290,7 +290,7 @@ impl<D: Disk> Journal<D> {
                 let pages = pages_changed(effects);
                 self.changed.chosen |= pages;
                 self.changed.spare |= pages;
-                accept_all(&mut self.state, effects);
+                commit_all(&mut self.state, effects);
                 Ok(self.state.count())
             }
             Err(fault) => {
@@ -308,28 +308,28 @@ impl<D: Disk> Journal<D> {
     /// a sync or the write of that gate failed. After these two the journal is closed, and a crash leaves the old image with
     /// its log, or the new one: after `Device` always the same one. It takes no memory.
     pub fn checkpoint(&mut self) -> Result<(), Fault>
-        ensures uses { Uses (device_of self.old) (device_of self.new) result }
-        ensures layout { layout_of self.new ≡ layout_of self.old }
+        ensures uses { Uses (journal_device self.old) (journal_device self.new) result }
+        ensures layout { journal_layout self.new ≡ journal_layout self.old }
         ensures checkpointed { Checkpoints self.old result self.new }
 
         // Where the write of the gate failed, the whole image stands behind it, and nothing but its copy was written.
-        ensures gate_write_failed { IsErrOf result Fault.Unknown → (device_of self.new).last_fault ≡ Some DeviceFault.Write →
-            AwaitsGate (placed (layout_of self.old) (next_image (position_of self.old)).copy (next_image (position_of self.old)).generation (state_of self.old))
-            (device_of self.old) (device_of self.new) }
+        ensures gate_write_failed { IsErrOf result Fault.Unknown → (journal_device self.new).last_fault ≡ Some DeviceFault.Write →
+            AwaitsGate (image_placed (journal_layout self.old) (next_image (journal_position self.old)).copy (next_image (journal_position self.old)).generation (journal_state self.old))
+            (journal_device self.old) (journal_device self.new) }
 
         // At `Device` it is certain which image is chosen: the old one with its log, or the new one.
         ensures certain { IsErrOf result Fault.Device →
-            LeavesOnly (device_of self.new) (StandsFor (layout_of self.old).vars (layout_of self.old).slots (position_of self.old) (state_of self.old))
-            ⊎ LeavesOnly (device_of self.new) (StandsFor (layout_of self.old).vars (layout_of self.old).slots (next_image (position_of self.old)) (state_of self.old)) }
+            LeavesOnly (journal_device self.new) (ContentRepresents (journal_layout self.old).vars (journal_layout self.old).slots (journal_position self.old) (journal_state self.old))
+            ⊎ LeavesOnly (journal_device self.new) (ContentRepresents (journal_layout self.old).vars (journal_layout self.old).slots (next_image (journal_position self.old)) (journal_state self.old)) }
 
-        // A crash at any moment of the call leaves a content that stands for the state.
-        ensures any_moment { is_closed_of self.old ≡ false → AtEachMoment (device_of self.old) (device_of self.new)
-            (StandsForState (layout_of self.old).vars (layout_of self.old).slots (state_of self.old)) }
+        // A crash at any moment of the call leaves a content that represents the state.
+        ensures any_moment { is_closed_of self.old ≡ false → AtEachMoment (journal_device self.old) (journal_device self.new)
+            (ContentRepresentsState (journal_layout self.old).vars (journal_layout self.old).slots (journal_state self.old)) }
 
         // Block 0 is not written, nor anything behind the slots.
-        ensures elsewhere { WritesWithin (image_place (layout_of self.old).vars 0)
-            (2 * image_size (layout_of self.old).vars + 4096 * (layout_of self.old).slots)
-            (device_of self.old) (device_of self.new) }
+        ensures elsewhere { WritesWithin (image_at (journal_layout self.old).vars 0)
+            (2 * image_size (journal_layout self.old).vars + 4096 * (journal_layout self.old).slots)
+            (journal_device self.old) (journal_device self.new) }
     {
         if self.is_closed() {
             return Err(Fault::Closed);

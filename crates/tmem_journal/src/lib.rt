@@ -1,8 +1,8 @@
-//! The journal: which state the bytes of a device stand for.
+//! The journal: which state the bytes of a device represent.
 //!
-//! `Stands` in `specs/` says which content stands for which state. `format` writes an empty store. A `Journal` owns a
-//! device and knows the state that it stands for: `open` recovers it, `flush` makes a batch durable, and `checkpoint` makes
-//! an image of the state and empties the log. A stop (a crash: a power cut or a kill) at any moment of `flush` leaves the
+//! `Contents` in `specs/` says which content represents which state. `format` writes an empty store. A `Journal` owns a
+//! device and knows the state that it represents: `open` recovers it, `flush` makes a batch durable, and `checkpoint` makes
+//! an image of the state and empties the log. A crash (a power cut or a kill) at any moment of `flush` leaves the
 //! state before the batch or the state after it, and at any moment of `open` and of `checkpoint` the state that was there.
 //!
 //! Images and their logs are of format version 1 or 2. Version 2 is written, and both are read: `open` makes a checkpoint of a
@@ -13,10 +13,10 @@
 //! reads and writes the bytes of block 0, and `calls` writes a cell. `laws` states what holds of every content.
 #![tactic(auto)]
 
-mod accepting;
 mod block;
 mod buffer;
 mod calls;
+mod committing;
 mod formatting;
 mod journal;
 mod laws;
@@ -28,5 +28,5 @@ mod room;
 
 pub use formatting::format;
 pub use journal::Journal;
-pub use laws::{refused_stands_for_none, spent_stands_at_last, stands_for_one};
+pub use laws::{refused_represents_none, represents_one, spent_is_at_last};
 pub use tmem_record::Layout;

@@ -84,13 +84,13 @@ fn is_to(most: Option<i64>, total: i128) -> bool
 }
 
 impl Entry for Linear {
-    ghost use Rattle.tmem_linear.specs.Sums.{Answers, is_within};
+    ghost use Rattle.tmem_linear.specs.Sums.{IsAnswerOfSum, is_sum_within};
 
     ghost name = { λ linear. linear.name };
 
     ghost footprint = { λ linear. linear.footprint.items };
 
-    ghost answers = { λ linear. Answers linear.weights.items linear.least linear.most };
+    ghost answers = { λ linear. IsAnswerOfSum linear.weights.items linear.least linear.most };
 
     fn name(&self) -> Name {
         self.name
@@ -107,5 +107,5 @@ impl Entry for Linear {
 
     ghost is_footprint = { λ linear. record { not_empty = linear.not_empty; short = linear.short; distinct = linear.distinct } };
 
-    ghost has_meaning = { λ linear. ∣ (is_within linear.weights.items linear.least linear.most, λ values answer long is. is) ∣₁ };
+    ghost has_meaning = { λ linear. ∣ (is_sum_within linear.weights.items linear.least linear.most, λ values answer long is. is) ∣₁ };
 }

@@ -1,7 +1,7 @@
 // Sums of at most 16 terms, exact in 128 bits.
 
 ghost use Rattle.std.specs.Prelude.{◌≡◌, ◌≤◌, ◌+◌, ◌^◌, ◌+ℤ◌, unsigned_abs, length};
-ghost use Rattle.tmem_linear.specs.Sums.{sum_of};
+ghost use Rattle.tmem_linear.specs.Sums.{weighted_sum};
 
 use crate::weight::Weight;
 
@@ -9,7 +9,7 @@ use crate::weight::Weight;
 pub(crate) fn sum(weights: &[Weight], values: &[i64]) -> i128
     requires short { length weights.now ≤ 16 }
     requires paired { length values.now ≡ length weights.now }
-    ensures { result ≡ sum_of weights.now values.now }
+    ensures { result ≡ weighted_sum weights.now values.now }
 {
     let mut total = 0i128;
     for (i, weight) in weights.iter().enumerate() {

@@ -13,11 +13,11 @@ pub enum Weight {
 }
 
 impl Weight {
-    ghost use Rattle.tmem_linear.specs.Sums.{counted};
+    ghost use Rattle.tmem_linear.specs.Sums.{weighted};
 
     // What a value adds to the sum: at most 2^94 in size.
     pub(crate) fn counts(self, value: i64) -> i128
-        ensures value { result ≡ counted self value }
+        ensures value { result ≡ weighted self value }
         ensures size { unsigned_abs result ≤ 2 ^ 94 }
     {
         match self {

@@ -5,7 +5,7 @@ use Rattle.memchr.specs.Find.{IsFirstByte, is_byte}
 use Rattle.std.proofs.lemmas.Bool.Decides.{nat_tests}
 use Rattle.std.proofs.lemmas.List.{take-append-drop, drop_more, length-take-le, get_or-take, append-nil, drop-drop, take_rest}
 use Rattle.std.proofs.lemmas.List.Elements.{All-append, All-from_get_or}
-use Rattle.tmem_lines.specs.Lines.{line, IsUnbroken, IsLongLine, IsForgotten, StandsFor, IsCutOff}
+use Rattle.tmem_lines.specs.Lines.{line, IsUnbroken, IsLongLine, IsForgotten, HoldsRestOf, IsCutOff}
 use Rattle.tmem_lines.specs.Views.{LinesView}
 
 -- what stands around a line break
@@ -24,7 +24,7 @@ unbroken_before held at within none =
     none i early (grind (arith, nat_tests)))
 
 -- a line that ends in what is held, whose beginning may be forgotten
-pub cut_off : (b : Bool) (held first rest text : List ℕ) (new : LinesView) → held ≡ line first ++ rest → IsUnbroken first → StandsFor new rest
+pub cut_off : (b : Bool) (held first rest text : List ℕ) (new : LinesView) → held ≡ line first ++ rest → IsUnbroken first → HoldsRestOf new rest
     → MatchBool b ((before : List ℕ) × (text ≡ before ++ held) × IsForgotten before) (text ≡ held)
     → (bytes : List ℕ) × IsCutOff text bytes new × MatchBool b (IsLongLine bytes) (bytes ≡ first)
 cut_off true held first rest text new is unbroken stands m =

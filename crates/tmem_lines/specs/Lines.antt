@@ -21,15 +21,15 @@ pub record IsForgotten (before : List ℕ) : Type 0 where
   pub unbroken : IsUnbroken before
   pub long : IsLongLine before
 
--- What is held stands for the text behind the lines that were cut off: it is that text, or of a line that is too long no more than its
+-- What is held is the rest of a text, behind the lines that were cut off: it is that text, or of a line that is too long no more than its
 -- end.
-abbrev pub StandsFor : LinesView → List ℕ → Type 0
-StandsFor v text =
+abbrev pub HoldsRestOf : LinesView → List ℕ → Type 0
+HoldsRestOf v text =
     MatchBool v.is_long ((before : List ℕ) × (text ≡ before ++ v.rest) × IsForgotten before) (text ≡ v.rest)
 
--- the text begins with a line of these bytes, and what is held stands for the rest
+-- the text begins with a line of these bytes, and what is held is the rest
 pub record IsCutOff (text bytes : List ℕ) (new : LinesView) : Type 0 where
   pub rest : List ℕ
   pub is : text ≡ line bytes ++ rest
   pub unbroken : IsUnbroken bytes
-  pub stands : StandsFor new rest
+  pub stands : HoldsRestOf new rest

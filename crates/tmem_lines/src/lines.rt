@@ -1,20 +1,20 @@
 // Lines of what was read.
 ghost use Rattle.std.specs.Prelude.{◌≡◌, ◌≤◌, ◌<◌, ◌++◌, ℕ, List, length, [], false, OnOk, OnErr, IsTrue};
-ghost use Rattle.tmem_lines.specs.Lines.{StandsFor, IsCutOff, IsUnbroken, IsLine, IsLongLine};
+ghost use Rattle.tmem_lines.specs.Lines.{HoldsRestOf, IsCutOff, IsUnbroken, IsLine, IsLongLine};
 
 use memchr::memchr;
 use std::alloc::{AllocError, Global};
 use std::marker::Model;
 
 /// The most bytes of a line, without its line break.
-pub const MAX_LINE: usize = 65536;
+pub const MAX_LINE_BYTES: usize = 65536;
 
 /// What comes next of what was read.
 #[derive(Clone, Copy, Debug, PartialEq, Eq)]
 pub enum Cut {
     /// A line, which `Lines::line` lends.
     Line,
-    /// A line that is longer than `MAX_LINE`.
+    /// A line that is longer than `MAX_LINE_BYTES`.
     TooLong,
     /// No line has ended.
     Nothing,
@@ -47,7 +47,7 @@ impl Model for Lines {
 impl Lines {
     /// Nothing was read yet.
     pub fn new(alloc: Global) -> Lines
-        ensures { StandsFor result [] }
+        ensures { HoldsRestOf result [] }
     {
         Lines {
             bytes: Vec::new(alloc),
@@ -60,8 +60,8 @@ impl Lines {
 
     /// Adds a piece to what was read, and lets go all that was cut off. At an `Err` it is as before.
     pub fn add(&mut self, piece: &[u8]) -> Result<(), AllocError>
-        ensures ok { OnOk result ((text : List ℕ) → StandsFor self.old text → StandsFor self.new (text ++ piece.now)) }
-        ensures err { OnErr result ((text : List ℕ) → StandsFor self.old text → StandsFor self.new text) }
+        ensures ok { OnOk result ((text : List ℕ) → HoldsRestOf self.old text → HoldsRestOf self.new (text ++ piece.now)) }
+        ensures err { OnErr result ((text : List ℕ) → HoldsRestOf self.old text → HoldsRestOf self.new text) }
         ensures little { self.new.held ≡ length self.new.rest }
     {
         drop(self.bytes.drain(..self.next));
@@ -74,10 +74,10 @@ impl Lines {
 
     /// Cuts off the next line that has ended.
     pub fn cut(&mut self) -> Cut
-        ensures line { result ≡ Cut.Line → (text : List ℕ) → StandsFor self.old text → IsCutOff text self.new.line self.new × IsLine self.new.line }
-        ensures long { result ≡ Cut.TooLong → (text : List ℕ) → StandsFor self.old text → (bytes : List ℕ) × IsCutOff text bytes self.new × IsLongLine bytes }
-        ensures nothing { result ≡ Cut.Nothing → (text : List ℕ) → StandsFor self.old text → IsUnbroken text × StandsFor self.new text }
-        ensures little { result ≡ Cut.Nothing → length self.new.rest ≤ MAX_LINE }
+        ensures line { result ≡ Cut.Line → (text : List ℕ) → HoldsRestOf self.old text → IsCutOff text self.new.line self.new × IsLine self.new.line }
+        ensures long { result ≡ Cut.TooLong → (text : List ℕ) → HoldsRestOf self.old text → (bytes : List ℕ) × IsCutOff text bytes self.new × IsLongLine bytes }
+        ensures nothing { result ≡ Cut.Nothing → (text : List ℕ) → HoldsRestOf self.old text → IsUnbroken text × HoldsRestOf self.new text }
+        ensures little { result ≡ Cut.Nothing → length self.new.rest ≤ MAX_LINE_BYTES }
     {
         let rest = &self.bytes[self.next..];
         let Some(at) = memchr(b'\n', rest) else {
@@ -98,8 +98,8 @@ impl Lines {
     // Holds no bytes of a line that is too long already.
     fn forget_a_long_one(&mut self)
         requires { IsUnbroken self.old.rest }
-        ensures same { (text : List ℕ) → StandsFor self.old text → IsUnbroken text × StandsFor self.new text }
-        ensures little { length self.new.rest ≤ MAX_LINE }
+        ensures same { (text : List ℕ) → HoldsRestOf self.old text → IsUnbroken text × HoldsRestOf self.new text }
+        ensures little { length self.new.rest ≤ MAX_LINE_BYTES }
     {
         if is_too_long(self.is_long, self.bytes.len() - self.next) {
             self.next = self.bytes.len();
@@ -109,10 +109,10 @@ impl Lines {
 
     /// Cuts off what is left at the end of the input: a line that lacks its line break.
     pub fn cut_last(&mut self) -> Cut
-        ensures line { result ≡ Cut.Line → (text : List ℕ) → StandsFor self.old text → (text ≡ self.new.line) × (length text ≤ MAX_LINE) }
-        ensures long { result ≡ Cut.TooLong → (text : List ℕ) → StandsFor self.old text → MAX_LINE < length text }
-        ensures nothing { result ≡ Cut.Nothing → (text : List ℕ) → StandsFor self.old text → text ≡ [] }
-        ensures rest { StandsFor self.new [] }
+        ensures line { result ≡ Cut.Line → (text : List ℕ) → HoldsRestOf self.old text → (text ≡ self.new.line) × (length text ≤ MAX_LINE_BYTES) }
+        ensures long { result ≡ Cut.TooLong → (text : List ℕ) → HoldsRestOf self.old text → MAX_LINE_BYTES < length text }
+        ensures nothing { result ≡ Cut.Nothing → (text : List ℕ) → HoldsRestOf self.old text → text ≡ [] }
+        ensures rest { HoldsRestOf self.new [] }
     {
         let left = self.bytes.len() - self.next;
         let is_long = is_too_long(self.is_long, left);
@@ -139,8 +139,8 @@ impl Lines {
 
 // Whether a line is too long that was so before, or has so many bytes more.
 fn is_too_long(was_long: bool, more: usize) -> bool
-    ensures long { IsTrue result → was_long ≡ false → MAX_LINE < more }
-    ensures short { result ≡ false → (was_long ≡ false) × (more ≤ MAX_LINE) }
+    ensures long { IsTrue result → was_long ≡ false → MAX_LINE_BYTES < more }
+    ensures short { result ≡ false → (was_long ≡ false) × (more ≤ MAX_LINE_BYTES) }
 {
-    was_long || more > MAX_LINE
+    was_long || more > MAX_LINE_BYTES
 }

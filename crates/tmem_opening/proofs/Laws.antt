@@ -11,7 +11,7 @@ use Rattle.tmem_core.specs.Program.{Program, IsProgramOf}
 use Rattle.tmem_journal.specs.Calls.{FitsOn}
 use Rattle.tmem_journal.specs.Journals.{IsOpeningFailure}
 use Rattle.tmem_journal.specs.Refusals.{IsWhy, IsRefusedBy}
-use Rattle.tmem_journal.specs.Stands.{Position}
+use Rattle.tmem_journal.specs.Contents.{Position}
 use Rattle.tmem_opening.specs.Opening.{Mending, NamesInvariant, FindsState, FindsUnsound, OpeningRefused}
 
 -- what no content is refused by but Spent is refused by memory or the device, or by that

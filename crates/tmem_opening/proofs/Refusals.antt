@@ -14,7 +14,7 @@ use Rattle.tmem_journal.specs.Calls.{FitsOn}
 use Rattle.tmem_journal.specs.Journals.{IsOpeningRefused, IsOpeningFailure}
 use Rattle.tmem_journal.specs.Mended.{MendsDevice, RecoversDevice}
 use Rattle.tmem_journal.specs.Refusals.{IsWhy, IsRefusedBy}
-use Rattle.tmem_journal.specs.Stands.{Position, NeedsNoMigration}
+use Rattle.tmem_journal.specs.Contents.{Position, NeedsNoMigration}
 use Rattle.tmem_opening.specs.Opening.{ClosesGates, Mending, NamesInvariant, TellsOfContent, FindsState, OpeningRefused}
 
 -- a refusal that tells of the content is no failed call, nor is it that no image can follow
@@ -64,12 +64,12 @@ pub only_memory : (p : Program) (s a b : State) (f : Fault) → IsOpeningRefusal
     → ∥ (s ≡ a) ⊎ (s ≡ b) ∥₁ → IsSound p.tests p.names a.names a.values → IsSound p.tests p.names b.names b.values → IsOpeningFailure f
 only_memory p s a b f refused so either one other = ⊎_elim (λ is. inl is) (λ named. absurd (sound_either p s a b either one other (so named.1))) (memory_or_named f refused)
 
--- what a stop leaves after an opening is among what one leaves in it
+-- what a crash leaves after an opening is among what one leaves in it
 closes : (vars slots : ℕ) (old new : DeviceView) → IsDevice new → MendsDevice vars slots old new → ClosesGates vars slots old new
 closes vars slots old new device mends = record {
   seen = mends.seen;
   any_moment = mends.any_moment;
-  stop = record { each = λ k c left. mends.any_moment.each k c (device.counts_now old.moment c k (mends.elsewhere.time.later k) left) };
+  crash = record { each = λ k c left. mends.any_moment.each k c (device.counts_now old.moment c k (mends.elsewhere.time.later k) left) };
   elsewhere = mends.elsewhere;
   looks = mends.looks;
 }
@@ -77,7 +77,7 @@ closes vars slots old new device mends = record {
 pub mending : (vars slots : ℕ) (old new : DeviceView) → IsDevice new → RecoversDevice vars slots old new → (NeedsNoMigration vars slots old.seen → MendsDevice vars slots old new) → Mending vars slots old new
 mending vars slots old new device recovers mends = record {
   recovers = recovers;
-  stop = record { each = λ k c left. recovers.any_moment.each k c (device.counts_now old.moment c k (recovers.elsewhere.time.later k) left) };
+  crash = record { each = λ k c left. recovers.any_moment.each k c (device.counts_now old.moment c k (recovers.elsewhere.time.later k) left) };
   gates = λ none. closes vars slots old new device (mends none);
 }
 

@@ -1,10 +1,10 @@
 // A store that was opened.
 ghost use Rattle.std.specs.Prelude.{◌≡◌, [], false, length, IfOk, IfErr};
 ghost use Rattle.tmem_invariants.specs.Meanings.{Meanings};
-ghost use Rattle.tmem_core.specs.Held.{state_of, waiting_of, durable_of, is_shut_of, table_of as core_table};
+ghost use Rattle.tmem_core.specs.Held.{core_state, waiting_of, durable_of, is_shut_of, core_table};
 ghost use Rattle.tmem_core.specs.Program.{IsProgramOf};
 ghost use Rattle.tmem_journal.specs.Calls.{FitsOn};
-ghost use Rattle.tmem_journal.specs.Held.{disk_of, doubtful_of, is_closed_of, state_of as durable_state};
+ghost use Rattle.tmem_journal.specs.Held.{disk_of, doubtful_of, is_closed_of, journal_state};
 ghost use Rattle.tmem_tree.specs.Shapes.{AreMeant, AreWithin, names_of};
 
 use std::alloc::{AllocError, Global};
@@ -26,24 +26,24 @@ pub struct Opening<D: Disk, T: Invariants> {
     pub batch: Batch,
     /// What a plan has to know of the table's invariants, in its order.
     pub shapes: Vec<Shape>,
-    pub ghost found: { state_of core ≡ durable_state journal },
+    pub ghost found: { core_state core ≡ journal_state journal },
     pub ghost waits: { waiting_of core ≡ [] },
-    pub ghost known: { durable_of core ≡ (state_of core).count },
+    pub ghost known: { durable_of core ≡ (core_state core).count },
     pub ghost running: { is_shut_of core ≡ false },
     pub ghost open: { is_closed_of journal ≡ false },
-    pub ghost sure: { doubtful_of journal ≡ durable_state journal },
+    pub ghost sure: { doubtful_of journal ≡ journal_state journal },
     pub ghost named: { names_of shapes.items ≡ T.names (core_table core) },
     pub ghost meant: { (m : Meanings) → T.is_stated (core_table core) m → AreMeant m shapes.items },
-    pub ghost within: { AreWithin (length (state_of core).values) shapes.items },
+    pub ghost within: { AreWithin (length (core_state core).values) shapes.items },
 }
 
 impl<D: Disk + Drop, T: Invariants + Drop> Opening<D, T> {
-    ghost use Rattle.tmem_opening.specs.Held.{device_after, answer_alone};
+    ghost use Rattle.tmem_opening.specs.Held.{opening_device_after, answer_alone};
     ghost use Rattle.tmem_opening.specs.Opening.{IsOpened, FoundIs, OpeningRefused, RecoversEither};
 
-    /// Opens a device of these numbers: finds what its content stands for, with these invariants. Refused by `Geometry` where
+    /// Opens a device of these numbers: finds what its content represents, with these invariants. Refused by `Geometry` where
     /// the numbers are out of limits, the device is smaller than their layout, or it was formatted for others; by
-    /// `NotFormatted` where it lacks the open block 0 with its letters; else by `Damaged` where its content stands for no
+    /// `NotFormatted` where it lacks the open block 0 with its letters; else by `Damaged` where its content represents no
     /// state; by `Missing` with the first registered name, by bytes, that the table lacks; by `Broken` with the first
     /// registered invariant, in the table's order, that is false; by `Spent` where its image is of format version 1 and of the
     /// last generation, so that none of version 2 can follow; by `Memory`, before the device is touched or where the state that
@@ -60,14 +60,14 @@ impl<D: Disk + Drop, T: Invariants + Drop> Opening<D, T> {
     ) -> Result<Opening<D, T>, (Fault, D, T)>
         requires { T.vars table ≡ vars }
 
-        // The state that the content stands for is found, and no invariant that is registered in it is false there.
+        // The state that the content represents is found, and no invariant that is registered in it is false there.
         ensures opened { IfOk result (λ o. IsOpened vars slots table (D.view disk) o) }
         ensures refused { IfErr result (λ e. OpeningRefused (IsProgramOf T.Invariants table) vars slots (D.view disk) e.0 (D.view e.1)) }
         ensures back { IfErr result (λ e. e.2 ≡ table) }
 
         // Where every crash left one of two states, and both are sound, one of them is found, unless memory or the device
         // fails, or no image of version 2 can follow.
-        ensures recovers { RecoversEither FoundIs (IsProgramOf T.Invariants table) vars slots (D.view disk) (device_after result) (answer_alone result) }
+        ensures recovers { RecoversEither FoundIs (IsProgramOf T.Invariants table) vars slots (D.view disk) (opening_device_after result) (answer_alone result) }
 
         // Where the numbers do not fit the device, no call of it is made: the one that was handed in is handed back.
         ensures untouched { ¬ FitsOn vars slots (D.view disk).capacity → IfErr result (λ e. e.1 ≡ disk) }

@@ -8,7 +8,7 @@ use Rattle.tmem_journal.specs.Calls.{FitsOn}
 use Rattle.tmem_journal.specs.Journals.{IsOpeningRefused}
 use Rattle.tmem_journal.specs.Mended.{IsFoundAt}
 use Rattle.tmem_journal.specs.Refusals.{IsWhy, IsRefusedBy}
-use Rattle.tmem_journal.specs.Stands.{Position}
+use Rattle.tmem_journal.specs.Contents.{Position}
 use Rattle.tmem_parts.specs.Parts.{IsStateFound, IsWhyRefused}
 
 -- a reason that says more says this too

@@ -1,5 +1,5 @@
 -- Block 0.
-use Rattle.std.specs.Prelude.{◌≡◌, ◌≢◌, ◌+◌, ◌-◌, ◌*◌, ◌<◌, ◌≤◌, ℕ, List, length, take, drop, codes, slice_index}
+use Rattle.std.specs.Prelude.{◌≡◌, ◌≢◌, ◌+◌, ◌-◌, ◌*◌, ◌^◌, ◌<◌, ◌≤◌, ℕ, List, length, take, drop, codes, slice_index}
 use Rattle.tmem_gate.specs.Gate.{IsOpenAt, IsClosed}
 use Rattle.tmem_record.specs.Layout.{IsLayout}
 use Rattle.tmem_record.specs.StandsAt.{StandsAt, zero_bytes}
@@ -10,7 +10,7 @@ use Rattle.tmem_parts.specs.declared.wrong.Why.TheVariants as why
 
 -- the number of two bytes from a place on, the lesser one first
 abbrev pub short_in : List ℕ → ℕ → ℕ
-short_in c at = slice_index c at + 256 * slice_index c (at + 1)
+short_in c at = slice_index c at + 2 ^ 8 * slice_index c (at + 1)
 
 -- block 0 is open, and the letters and the number of this version stand there
 pub record IsHeadedBy (version : Version) (c : List ℕ) : Type 0 where

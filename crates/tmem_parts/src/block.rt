@@ -6,7 +6,7 @@ ghost use Rattle.tmem_parts.specs.Block.{IsAmiss, IsBlock, IsHeadedBy, IsNoBlock
 
 use crate::wrong::{Why, Wrong};
 use tmem_gate::reads_open;
-use tmem_record::{BLOCK_SIZE, LEAST_SLOTS, Layout};
+use tmem_record::{BLOCK_BYTES, LEAST_SLOTS, Layout};
 use tmem_state::Version;
 
 // Where the letters begin.
@@ -28,7 +28,7 @@ pub fn block_of(bytes: &[u8]) -> Result<Block, Wrong>
     ensures none { OnErr result (IsNoBlock bytes.now) }
     ensures wrong { IfErr result (λ wrong. IsAmiss wrong.why wrong.at bytes.now) }
 {
-    if bytes.len() < BLOCK_SIZE {
+    if bytes.len() < BLOCK_BYTES {
         return Err(Wrong {
             at: bytes.len() as u64,
             why: Why::Ends,
@@ -125,7 +125,7 @@ fn other_than_zero(bytes: &[u8]) -> Option<u64>
     ensures some { OnSome result (¬ StandsAt 10 (zero_bytes 502) bytes.now) }
     ensures none { IfNone result (StandsAt 10 (zero_bytes 502) bytes.now) }
 {
-    for at in ZEROS_AT..BLOCK_SIZE {
+    for at in ZEROS_AT..BLOCK_BYTES {
         if bytes[at] != 0 {
             return Some(at as u64);
         }

@@ -1,6 +1,6 @@
 //! A copy of the bytes as a device in memory, which an opening may write to.
 ghost use Rattle.std.specs.Prelude.{◌≡◌, ◌⊎◌, length, IfOk, IfErr};
-ghost use Rattle.tmem_disk.specs.SimParts.{view_of};
+ghost use Rattle.tmem_disk.specs.SimParts.{sim_view};
 
 use std::alloc::Global;
 use tmem_disk::{Disk, SimDisk};
@@ -8,8 +8,8 @@ use tmem_fault::Fault;
 
 /// A device in memory that holds these bytes.
 pub(crate) fn disk_of(alloc: Global, bytes: &[u8]) -> Result<SimDisk, Fault>
-    ensures seen { IfOk result (λ disk. (view_of disk).seen ≡ bytes.now) }
-    ensures capacity { IfOk result (λ disk. (view_of disk).capacity ≡ length bytes.now) }
+    ensures seen { IfOk result (λ disk. (sim_view disk).seen ≡ bytes.now) }
+    ensures capacity { IfOk result (λ disk. (sim_view disk).capacity ≡ length bytes.now) }
     ensures errors { IfErr result (λ fault. (fault ≡ Fault.Memory) ⊎ (fault ≡ Fault.Device)) }
 {
     let mut disk = SimDisk::new(alloc, bytes.len() as u64)?;

@@ -1,6 +1,6 @@
 //! An image copy.
 ghost use Rattle.std.specs.Prelude.{◌≡◌, ◌⊎◌, ◌≤◌, length, IfOk, IfErr};
-ghost use Rattle.tmem_record.specs.Layout.{end_place};
+ghost use Rattle.tmem_record.specs.Layout.{end_at};
 ghost use Rattle.tmem_parts.specs.Parts.{IsImageIn};
 
 use crate::copy::disk_of;
@@ -23,7 +23,7 @@ pub enum Image {
 
 /// Reads an image copy. The only error is want of memory, or a failure of the copy of the bytes, which does not happen.
 pub fn image_of(alloc: Global, bytes: &[u8], layout: Layout, copy: u8) -> Result<Image, Fault>
-    requires long { end_place layout.vars layout.slots ≤ length bytes.now }
+    requires long { end_at layout.vars layout.slots ≤ length bytes.now }
     requires one { copy ≤ 1 }
     ensures image { IfOk result (IsImageIn layout.vars copy bytes.now) }
     ensures errors { IfErr result (λ fault. (fault ≡ Fault.Memory) ⊎ (fault ≡ Fault.Device)) }

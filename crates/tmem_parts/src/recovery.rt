@@ -12,7 +12,7 @@ use tmem_state::State;
 /// What an opening of some bytes finds. It does not look at what the invariants mean: the program that opens the store knows.
 #[derive(Drop)]
 pub enum Recovery {
-    /// The bytes stand for this state.
+    /// The bytes represent this state.
     Found(State),
     /// It is refused.
     Refused(Fault),

@@ -1,10 +1,10 @@
 //! A slot of the log.
 ghost use Rattle.std.specs.Prelude.{◌≤◌, ◌<◌, length};
-ghost use Rattle.tmem_record.specs.Layout.{end_place};
+ghost use Rattle.tmem_record.specs.Layout.{end_at};
 ghost use Rattle.tmem_parts.specs.Parts.{IsSlotIn};
 
 use tmem_gate::reads_open;
-use tmem_record::{Head, Layout, SLOT_SIZE, read_batch};
+use tmem_record::{Head, Layout, SLOT_BYTES, read_batch};
 use tmem_state::{Records, Version};
 
 /// What a log slot of some bytes holds.
@@ -26,7 +26,7 @@ pub fn slot_of(
     version: Version,
     records: &mut Records,
 ) -> Slot
-    requires long { end_place layout.vars layout.slots ≤ length bytes.now }
+    requires long { end_at layout.vars layout.slots ≤ length bytes.now }
     requires there { k < layout.slots }
     ensures { IsSlotIn version layout.vars k bytes.now records.new result }
 {
@@ -35,7 +35,7 @@ pub fn slot_of(
         return Slot::Closed;
     }
     match read_batch(
-        &bytes[at + 1..at + SLOT_SIZE],
+        &bytes[at + 1..at + SLOT_BYTES],
         layout.vars,
         version,
         records,

@@ -1,6 +1,6 @@
 //! How often closures and stored steps were called.
 ghost use Rattle.std.specs.Prelude.{◌≡◌, ◌∷◌, [], ℕ, ℤ, List};
-ghost use Rattle.tmem_player.specs.Steps.{answer_of};
+ghost use Rattle.tmem_player.specs.Steps.{player_answer};
 
 use std::alloc::{AllocError, Global};
 use std::sync::Arc;
@@ -86,7 +86,7 @@ pub(crate) struct CountedSteps<'a> {
 impl<'a> StoredSteps for CountedSteps<'a> {
     ghost arities = { λ _. 2 ∷ 2 ∷ 2 ∷ [] };
 
-    ghost is_stated = { λ _ m. (index : ℕ) (args : List ℤ) → m index args ≡ answer_of index args };
+    ghost is_stated = { λ _ m. (index : ℕ) (args : List ℤ) → m index args ≡ player_answer index args };
 
     fn len(&self) -> usize {
         3
@@ -106,11 +106,11 @@ impl<'a> StoredSteps for CountedSteps<'a> {
     }
 
     ghost use Rattle.std.proofs.Common.{lit≤, refl};
-    ghost use Rattle.tmem_player.specs.Steps.{three_small};
+    ghost use Rattle.tmem_builtins.specs.Builtins.{three_small};
 
     ghost few = { λ _. lit≤ tt };
 
     ghost small = { λ _. three_small };
 
-    ghost has_meanings = { λ _. ∣ (answer_of, λ _ _. refl) ∣₁ };
+    ghost has_meanings = { λ _. ∣ (player_answer, λ _ _. refl) ∣₁ };
 }

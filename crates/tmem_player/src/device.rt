@@ -1,6 +1,6 @@
 //! What a row does to its device.
 ghost use Rattle.std.specs.Prelude.{◌≡◌, ◌≤◌, ◌+◌, true};
-ghost use Rattle.tmem_disk.specs.SimParts.{view_of};
+ghost use Rattle.tmem_disk.specs.SimParts.{sim_view};
 
 use crate::failure::Failure;
 use crate::printing::print_fault;
@@ -89,16 +89,16 @@ fn recovered(alloc: Global, disk: &mut SimDisk, numbers: Numbers) -> Result<u64,
     }
 }
 
-// Starts a device again, and says whether it was stopped.
+// Starts a device again, and says whether it had crashed.
 fn restart<W: Write>(disk: &mut SimDisk, out: &mut W) -> Result<(), Failure> {
-    let is_stopped = disk.is_stopped();
-    if is_stopped {
+    let is_crashed = disk.is_crashed();
+    if is_crashed {
         disk.restart();
     }
-    let line: &[u8] = if is_stopped {
+    let line: &[u8] = if is_crashed {
         b"restarted\n"
     } else {
-        b"not stopped\n"
+        b"not crashed\n"
     };
     out.write_all(line)?;
     Ok(())
@@ -141,7 +141,7 @@ fn copy<W: Write>(
 
 // Whether a device has so many bytes from a place on.
 fn has_range(disk: &SimDisk, at: u64, count: u64) -> bool
-    ensures { result ≡ true → at + count ≤ (view_of disk.now).capacity }
+    ensures { result ≡ true → at + count ≤ (sim_view disk.now).capacity }
 {
     match at.checked_add(count) {
         Some(end) => end <= disk.size(),

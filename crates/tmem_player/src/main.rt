@@ -15,9 +15,9 @@
 //! |---|---|
 //! | `{"open":TABLE}`, `{"open":[TABLE,VARS,SLOTS]}` | opens the device with the invariants of the program (`"builtin"`), with none (`"none"`) or with a `nonneg` that is always false (`"broken"`): `opened COUNT` or a fault |
 //! | `{"fail":[CALL,K]}` | lets call number K from now fail, a `"read"`, a `"write"` or a `"sync"`; prints nothing |
-//! | `{"crash":["write",K,FILL]}`, `{"crash":["place",AT,FILL]}` | stops the device at write number K from now, or at the next one that starts at a place; prints nothing. FILL is `"old"`, `"new"` or a byte, for what was written since the last sync |
-//! | `{"crash":["now",FILL]}` | stops it now; prints nothing |
-//! | `"restart"` | starts the device again: `restarted`, or `not stopped` |
+//! | `{"crash":["write",K,FILL]}`, `{"crash":["place",AT,FILL]}` | crashes the device at write number K from now, or at the next one that starts at a place; prints nothing. FILL is `"old"`, `"new"` or a byte, for what was written since the last sync |
+//! | `{"crash":["now",FILL]}` | crashes it now; prints nothing |
+//! | `"restart"` | starts the device again: `restarted`, or `not crashed` |
 //! | `{"bytes":[AT,COUNT]}` | prints bytes in hexadecimal |
 //! | `{"write":[AT,[BYTE,..]]}`, `{"copy":[FROM,COUNT,TO]}` | writes bytes, and syncs: `written` or a fault |
 //! | `{"blank":SIZE}` | puts a device of zeros in its place; prints nothing |

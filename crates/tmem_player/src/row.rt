@@ -46,12 +46,12 @@ pub(crate) enum Touch {
     Format(Numbers),
     /// Lets the call of this kind with this number from now fail.
     Fail(DeviceFault, u64),
-    /// Stops the device at the write of this number from now.
+    /// Crashes the device at the write of this number from now.
     CrashAtWrite(u64, Fill),
-    /// Stops the device at the next write that starts at this place.
+    /// Crashes the device at the next write that starts at this place.
     CrashAtPlace(u64, Fill),
     CrashNow(Fill),
-    /// Starts the device again, if it is stopped.
+    /// Starts the device again, if it has crashed.
     Restart,
     /// Prints so many bytes from a place on.
     Bytes(u64, u64),

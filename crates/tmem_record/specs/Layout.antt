@@ -10,16 +10,16 @@ abbrev pub image_size : ℕ → ℕ
 image_size vars = 2048 + 512 * pages_of vars
 
 -- where an image copy begins, behind block 0
-abbrev pub image_place : ℕ → ℕ → ℕ
-image_place vars copy = 512 + copy * image_size vars
+abbrev pub image_at : ℕ → ℕ → ℕ
+image_at vars copy = 512 + copy * image_size vars
 
 -- where a log slot begins, behind both images
-abbrev pub slot_place : ℕ → ℕ → ℕ
-slot_place vars slot = 512 + 2 * image_size vars + 4096 * slot
+abbrev pub slot_at : ℕ → ℕ → ℕ
+slot_at vars slot = 512 + 2 * image_size vars + 4096 * slot
 
 -- the first place behind the last slot
-abbrev pub end_place : ℕ → ℕ → ℕ
-end_place vars slots = slot_place vars slots
+abbrev pub end_at : ℕ → ℕ → ℕ
+end_at vars slots = slot_at vars slots
 
 -- the numbers of variables and log slots that a device may have
 pub record IsLayout (vars slots : ℕ) : Type 0 where

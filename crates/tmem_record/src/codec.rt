@@ -11,7 +11,7 @@ ghost use Rattle.tmem_state.specs.declared.version.Version.TheVariants.{Two};
 ghost use Rattle.tmem_record.specs.Spelling.{number_bytes, value_bytes, write_bytes, name_bytes, writes_bytes, names_bytes, retired_bytes, record_bytes, batch_bytes, SpellsBatch, OneSpelling};
 
 use crate::bytes::put;
-use crate::layout::SLOT_SIZE;
+use crate::layout::SLOT_BYTES;
 use byteorder::{ByteOrder, LittleEndian};
 use std::alloc::Global;
 use tmem_effect::{Effect, MAX_CHECKS, MAX_WRITES, Names, Writes, holds};
@@ -19,10 +19,10 @@ use tmem_fault::{Fault, Name};
 use tmem_state::{BATCH_BYTES, Batch, MAX_NAMES, MAX_RECORDS, NameSet, Records, Version};
 
 /// How many bytes a batch may have: as many as a log slot has behind its gate.
-pub const BATCH_ROOM: usize = SLOT_SIZE - 1;
+pub const SLOT_BODY_BYTES: usize = SLOT_BYTES - 1;
 
 /// How many bytes the longest name takes: its length, and 16 letters.
-pub const NAME_ROOM: usize = 17;
+pub const NAME_BYTES: usize = 17;
 
 /// How many bytes stand between the gate of a log slot and its records.
 pub const HEAD_BYTES: usize = 18;
@@ -88,7 +88,7 @@ fn put_names(into: &mut [u8], start: usize, names: &[Name]) -> usize
 /// the buffer stays.
 pub fn write_names(into: &mut [u8], start: usize, names: &[Name]) -> usize
     requires room { start + length (names_bytes names.now) ≤ length into.old }
-    requires few { length names.now < 256 }
+    requires few { length names.now < 2 ^ 8 }
     ensures next { result ≡ start + length (names_bytes names.now) }
     ensures front { take result into.new ≡ take start into.old ++ names_bytes names.now }
     ensures rest { drop result into.new ≡ drop result into.old }
@@ -99,7 +99,7 @@ pub fn write_names(into: &mut [u8], start: usize, names: &[Name]) -> usize
 
 /// Writes the bytes of a name to the front of a buffer, and returns how many there are. The rest of the buffer stays.
 pub fn write_name(name: &Name, into: &mut [u8]) -> usize
-    requires { NAME_ROOM ≤ length into.old }
+    requires { NAME_BYTES ≤ length into.old }
     ensures next { result ≡ 1 + length name.now }
     ensures bytes { take result into.new ≡ name_bytes name.now }
     ensures rest { drop result into.new ≡ drop result into.old }
@@ -138,8 +138,8 @@ fn put_records(into: &mut [u8], start: usize, effects: &[Effect]) -> usize
 /// Writes the bytes of a batch, in the second version, to the front of a buffer, and returns how many there are.
 pub fn encode_batch(batch: &Batch, generation: u64, first: u64, into: &mut [u8]) -> usize
     requires some { 1 ≤ length batch.now }
-    requires room { BATCH_ROOM ≤ length into.old }
-    ensures room { result ≤ BATCH_ROOM }
+    requires room { SLOT_BODY_BYTES ≤ length into.old }
+    ensures room { result ≤ SLOT_BODY_BYTES }
     ensures bytes { take result into.new ≡ batch_bytes Two generation first batch.now }
     ensures spells { (vars : ℕ) → All (λ e. All (λ w. w.0 < vars) e.writes) batch.now → SpellsBatch Two vars generation first batch.now (take result into.new) }
 {

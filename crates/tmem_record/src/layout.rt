@@ -1,6 +1,6 @@
 // The parts of a device, and their places.
 ghost use Rattle.std.specs.Prelude.{◌≡◌, ◌↔◌, ◌≤◌, IsOk, IfOk, IfErr};
-ghost use Rattle.tmem_record.specs.Layout.{IsLayout, pages_of, image_size, image_place, slot_place, end_place};
+ghost use Rattle.tmem_record.specs.Layout.{IsLayout, pages_of, image_size, image_at, slot_at, end_at};
 
 use tmem_fault::Fault;
 
@@ -14,19 +14,19 @@ pub const LEAST_SLOTS: u16 = 2;
 pub const MOST_SLOTS: u16 = 64;
 
 /// How long block 0 is.
-pub const BLOCK_SIZE: usize = 512;
+pub const BLOCK_BYTES: usize = 512;
 
 /// How long the header of an image is, with its gate.
-pub const HEADER_SIZE: usize = 2048;
+pub const HEADER_BYTES: usize = 2048;
 
 /// How long a page of an image is.
-pub const PAGE_SIZE: usize = 512;
+pub const PAGE_BYTES: usize = 512;
 
 /// How many values a page has.
 pub const PAGE_VALUES: usize = 64;
 
 /// How long a log slot is.
-pub const SLOT_SIZE: usize = 4096;
+pub const SLOT_BYTES: usize = 4096;
 
 /// How many variables and log slots a device has, within the limits. Places and sizes are in bytes.
 #[derive(Clone, Copy, Debug, PartialEq, Eq)]
@@ -65,27 +65,27 @@ impl Layout {
     pub fn image_size(self) -> u64
         ensures { result ≡ image_size self.vars }
     {
-        HEADER_SIZE as u64 + PAGE_SIZE as u64 * self.pages()
+        HEADER_BYTES as u64 + PAGE_BYTES as u64 * self.pages()
     }
 
     /// Where an image copy begins.
     pub fn image(self, copy: u8) -> u64
         requires { copy ≤ 1 }
-        ensures { result ≡ image_place self.vars copy }
+        ensures { result ≡ image_at self.vars copy }
     {
-        BLOCK_SIZE as u64 + copy as u64 * self.image_size()
+        BLOCK_BYTES as u64 + copy as u64 * self.image_size()
     }
 
     /// Where a log slot begins.
     pub fn slot(self, k: u16) -> u64
-        ensures { result ≡ slot_place self.vars k }
+        ensures { result ≡ slot_at self.vars k }
     {
-        BLOCK_SIZE as u64 + 2 * self.image_size() + SLOT_SIZE as u64 * k as u64
+        BLOCK_BYTES as u64 + 2 * self.image_size() + SLOT_BYTES as u64 * k as u64
     }
 
     /// The first place behind the last slot.
     pub fn end(self) -> u64
-        ensures { result ≡ end_place self.vars self.slots }
+        ensures { result ≡ end_at self.vars self.slots }
     {
         self.slot(self.slots)
     }

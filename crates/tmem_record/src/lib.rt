@@ -8,10 +8,10 @@ mod codec;
 mod layout;
 
 pub use codec::{
-    BATCH_ROOM, Decoded, HEAD_BYTES, Head, NAME_ROOM, decode_batch, encode_batch, one_spelling,
-    read_batch, read_head, read_name, read_name_set, write_name, write_names,
+    Decoded, HEAD_BYTES, Head, NAME_BYTES, SLOT_BODY_BYTES, decode_batch, encode_batch,
+    one_spelling, read_batch, read_head, read_name, read_name_set, write_name, write_names,
 };
 pub use layout::{
-    BLOCK_SIZE, HEADER_SIZE, LEAST_SLOTS, Layout, MOST_SLOTS, MOST_VARS, PAGE_SIZE, PAGE_VALUES,
-    SLOT_SIZE,
+    BLOCK_BYTES, HEADER_BYTES, LEAST_SLOTS, Layout, MOST_SLOTS, MOST_VARS, PAGE_BYTES, PAGE_VALUES,
+    SLOT_BYTES,
 };

@@ -7,7 +7,7 @@ use Rattle.tmem_gate.specs.Cells.{LeftClosed, LeftOpen}
 use Rattle.tmem_gate.specs.Gate.{IsClosed}
 use Rattle.tmem_gate.proofs.Laws.{closed_after, open_before, open_after}
 use Rattle.tmem_state.specs.Batch.{records_length_in, IsBatchIn}
-use Rattle.tmem_record.specs.Layout.{slot_place}
+use Rattle.tmem_record.specs.Layout.{slot_at}
 use Rattle.tmem_record.specs.Spelling.{number_bytes, record_bytes, batch_bytes}
 use Rattle.tmem_effect.specs.State.{State, fold}
 use Rattle.tmem_effect.specs.declared.effect.Effect.{Effect}
@@ -16,7 +16,7 @@ use Rattle.tmem_state.specs.declared.version.Version.TheVariants.{Two}
 use Rattle.tmem_effect.proofs.Laws.{count-fold, StaysWithin-first, StaysWithin-last}
 use Rattle.tmem_record.proofs.Laws.{length-number_bytes, length-records}
 use Rattle.tmem_redolog.specs.Log.{HoldsBatch, HoldsBatches, LogWithin, StaysWithin, IsStale, IsWithin, replayed}
-use Rattle.tmem_redolog.specs.Appends.{Placed, Without, With}
+use Rattle.tmem_redolog.specs.Appends.{BatchPlaced, WithoutBatch, WithBatch}
 
 -- how many bytes a batch has
 pub length-batch_bytes : (v : Version) (generation first : ℕ) (es : List Effect) → length (batch_bytes v generation first es) ≡ 18 + records_length_in v es
@@ -74,38 +74,38 @@ HoldsBatches-push v vars generation slot first (b ∷ batches) es c held last =
     one = omega arith
 
 -- batches in front of what is written stay
-pub held_before : (vars used n : ℕ) (b c : List ℕ) → SameOutside (slot_place vars used) n b c → (v : Version) (generation slot first : ℕ) (batches : List (List Effect)) → slot + length batches ≤ used
+pub held_before : (vars used n : ℕ) (b c : List ℕ) → SameOutside (slot_at vars used) n b c → (v : Version) (generation slot first : ℕ) (batches : List (List Effect)) → slot + length batches ≤ used
     → HoldsBatches v vars generation slot first batches b → HoldsBatches v vars generation slot first batches c
 held_before vars used n b c same v generation slot first [] fits held = tt
 held_before vars used n b c same v generation slot first (es ∷ batches) fits held =
     let short = length-batch_bytes-le v vars generation first es held.0.batch in
-    let place : slot_place vars slot + 1 + length (batch_bytes v generation first es) ≤ slot_place vars used = omega (arith, short, fits) in (
-      record { batch = held.0.batch; cell = open_before (slot_place vars used) n (slot_place vars slot) (batch_bytes v generation first es) b c same place held.0.cell },
+    let place : slot_at vars slot + 1 + length (batch_bytes v generation first es) ≤ slot_at vars used = omega (arith, short, fits) in (
+      record { batch = held.0.batch; cell = open_before (slot_at vars used) n (slot_at vars slot) (batch_bytes v generation first es) b c same place held.0.cell },
       held_before vars used n b c same v generation (slot + 1) (first + length es) batches (omega arith) held.1,
     )
 
 -- and so does each slot behind the one that is written
-module _ (vars used : ℕ) (b c : List ℕ) (same : SameOutside (slot_place vars used) 4096 b c) where
-  pub stale_behind : (generation k : ℕ) → used < k → IsStale generation (slot_place vars k) b → IsStale generation (slot_place vars k) c
+module _ (vars used : ℕ) (b c : List ℕ) (same : SameOutside (slot_at vars used) 4096 b c) where
+  pub stale_behind : (generation k : ℕ) → used < k → IsStale generation (slot_at vars k) b → IsStale generation (slot_at vars k) c
   stale_behind generation k above stale =
-      let place : slot_place vars used + 4096 ≤ slot_place vars k = omega arith in
+      let place : slot_at vars used + 4096 ≤ slot_at vars k = omega arith in
       ⊎_elim
-      (λ closed. inl (closed_after (slot_place vars used) 4096 (slot_place vars k) b c same place closed))
-      (λ it. inr (it.0, it.1, open_after (slot_place vars used) 4096 (slot_place vars k) (number_bytes 8 it.0) b c same place it.2))
+      (λ closed. inl (closed_after (slot_at vars used) 4096 (slot_at vars k) b c same place closed))
+      (λ it. inr (it.0, it.1, open_after (slot_at vars used) 4096 (slot_at vars k) (number_bytes 8 it.0) b c same place it.2))
       stale
 
-  pub closed_behind : (k : ℕ) → used < k → IsClosed (slot_place vars k) b → IsClosed (slot_place vars k) c
+  pub closed_behind : (k : ℕ) → used < k → IsClosed (slot_at vars k) b → IsClosed (slot_at vars k) c
   closed_behind k above closed =
-      let place : slot_place vars used + 4096 ≤ slot_place vars k = omega arith in
-      closed_after (slot_place vars used) 4096 (slot_place vars k) b c same place closed
+      let place : slot_at vars used + 4096 ≤ slot_at vars k = omega arith in
+      closed_after (slot_at vars used) 4096 (slot_at vars k) b c same place closed
 
 here_or_behind : (used k : ℕ) → used ≤ k → (used ≡ k) ⊎ (used < k)
 here_or_behind used k le = ⊎_elim (λ below. inr below) (λ not_below. inl (omega (arith, not_below))) (cases_lt used k)
 
 -- a closed slot behind the log adds nothing to it
-pub without : (p : Placed) (n : ℕ) → n ≤ 4095 → (b c : List ℕ) → LeftClosed (slot_place p.vars p.slot) n b c → Without p b c
+pub without : (p : BatchPlaced) (n : ℕ) → n ≤ 4095 → (b c : List ℕ) → LeftClosed (slot_at p.vars p.slot) n b c → WithoutBatch p b c
 without p n short b c left =
-    let same = SameOutside-wider (slot_place p.vars p.slot) (1 + n) (slot_place p.vars p.slot) 4096 b c (omega arith) (omega arith) left.elsewhere in
+    let same = SameOutside-wider (slot_at p.vars p.slot) (1 + n) (slot_at p.vars p.slot) 4096 b c (omega arith) (omega arith) left.elsewhere in
     record {
       elsewhere = same;
       log = λ image batches follows holds. record {
@@ -113,7 +113,7 @@ without p n short b c left =
         fits = holds.fits;
         held = held_before p.vars p.slot 4096 b c same Two p.generation 0 image.count batches (omega (arith, follows.used)) holds.held;
         behind = λ k above below. ⊎_elim
-            (λ here. inl (subst (λ (j : ℕ). IsClosed (slot_place p.vars j) c) here left.gate))
+            (λ here. inl (subst (λ (j : ℕ). IsClosed (slot_at p.vars j) c) here left.gate))
             (λ more. stale_behind p.vars p.slot b c same p.generation k more (holds.behind k above below))
             (here_or_behind p.slot k (omega (arith, follows.used)));
         within = holds.within;
@@ -121,10 +121,10 @@ without p n short b c left =
     }
 
 -- an open one has the batch that goes last
-pub with_batch : (p : Placed) → p.slot < p.slots → IsBatchIn Two p.vars p.batch → (seen b c : List ℕ) → LeftOpen (slot_place p.vars p.slot) (batch_bytes Two p.generation p.first p.batch) seen b c → With p b c
+pub with_batch : (p : BatchPlaced) → p.slot < p.slots → IsBatchIn Two p.vars p.batch → (seen b c : List ℕ) → LeftOpen (slot_at p.vars p.slot) (batch_bytes Two p.generation p.first p.batch) seen b c → WithBatch p b c
 with_batch p room is seen b c left =
     let bytes = batch_bytes Two p.generation p.first p.batch in
-    let same = SameOutside-wider (slot_place p.vars p.slot) (1 + length bytes) (slot_place p.vars p.slot) 4096 b c (omega arith) (omega (arith, length-batch_bytes-le Two p.vars p.generation p.first p.batch is)) left.elsewhere in
+    let same = SameOutside-wider (slot_at p.vars p.slot) (1 + length bytes) (slot_at p.vars p.slot) 4096 b c (omega arith) (omega (arith, length-batch_bytes-le Two p.vars p.generation p.first p.batch is)) left.elsewhere in
     record {
       elsewhere = same;
       log = λ image batches follows holds.

@@ -3,7 +3,7 @@ use Rattle.std.proofs.Common.{◌≡◌, inl, inr, ℕ, ◌+◌, ◌-◌, ◌<�
 use Rattle.std.proofs.lemmas.List.{take-append-drop, take-take, take_at}
 use Rattle.tmem_gate.specs.Gate.{IsOpenOver}
 use Rattle.tmem_state.specs.Batch.{IsBatchIn}
-use Rattle.tmem_record.specs.Layout.{slot_place}
+use Rattle.tmem_record.specs.Layout.{slot_at}
 use Rattle.tmem_effect.specs.Prefix.{IsPrefix}
 use Rattle.tmem_record.specs.Spelling.{number_bytes, batch_bytes, SpellsBatch}
 use Rattle.tmem_effect.specs.State.{State, fold}
@@ -98,18 +98,18 @@ one_more v vars slots generation slot s es rest c first stays holds = record {
 module _ (v : Version) (vars slots generation : ℕ) (few : vars ≤ 2 ^ 16) (fits : generation < 2 ^ 64) (c : List ℕ) where
   -- the batch at the front of what the slots from one on hold
   pub first_spelled : (slot : ℕ) (s : State) (es : List Effect) (rest : List (List Effect)) → HoldsFrom v vars slots generation slot s (es ∷ rest) c
-      → SpellsBatch v vars generation s.count es (take (length (batch_bytes v generation s.count es)) (drop (slot_place vars slot + 1) c))
+      → SpellsBatch v vars generation s.count es (take (length (batch_bytes v generation s.count es)) (drop (slot_at vars slot + 1) c))
   first_spelled slot s es rest holds =
-      spells v vars generation s.count es (drop (slot_place vars slot + 1) c) fits ((StaysWithin-first s es holds.within.0).count) holds.held.0.batch (begins (slot_place vars slot) (batch_bytes v generation s.count es) c holds.held.0.cell)
+      spells v vars generation s.count es (drop (slot_at vars slot + 1) c) fits ((StaysWithin-first s es holds.within.0).count) holds.held.0.batch (begins (slot_at vars slot) (batch_bytes v generation s.count es) c holds.held.0.cell)
 
   pub one_rest : (slot : ℕ) (s : State) (rest others : List (List Effect)) → HoldsFrom v vars slots generation slot s rest c → HoldsFrom v vars slots generation slot s others c → rest ≡ others
   one_rest slot s [] [] one other = refl
   one_rest slot s [] (es ∷ others) one other =
-      absurd (not_stale v generation s.count (slot_place vars slot) es c fits other.held.0.cell (one.behind slot (omega arith) (omega (arith, other.fits))))
+      absurd (not_stale v generation s.count (slot_at vars slot) es c fits other.held.0.cell (one.behind slot (omega arith) (omega (arith, other.fits))))
   one_rest slot s (es ∷ rest) [] one other =
-      absurd (not_stale v generation s.count (slot_place vars slot) es c fits one.held.0.cell (other.behind slot (omega arith) (omega (arith, one.fits))))
+      absurd (not_stale v generation s.count (slot_at vars slot) es c fits one.held.0.cell (other.behind slot (omega arith) (omega (arith, one.fits))))
   one_rest slot s (es ∷ rest) (fs ∷ others) one other =
-      let same = (one_batch v vars generation generation s.count s.count _ _ es fs (drop (slot_place vars slot + 1) c) few (first_spelled slot s es rest one) (first_spelled slot s fs others other)).2 in
+      let same = (one_batch v vars generation generation s.count s.count _ _ es fs (drop (slot_at vars slot + 1) c) few (first_spelled slot s es rest one) (first_spelled slot s fs others other)).2 in
       let next = subst (λ (gs : List Effect). HoldsFrom v vars slots generation (slot + 1) (fold s gs) others c) (sym same) (behind_one v vars slots generation slot s fs others c other) in
       let more = one_rest (slot + 1) (fold s es) rest others (behind_one v vars slots generation slot s es rest c one) next in
       ap (λ (l : List (List Effect)). es ∷ l) more ∙ ap (λ (gs : List Effect). gs ∷ others) same

@@ -3,7 +3,7 @@ use Rattle.std.proofs.Common.{◌≡◌, inl, inr, ℕ, zero, suc, ◌+◌, ◌-
 use Rattle.std.specs.Prelude.{slice_get, slice_range}
 use Rattle.std.proofs.lemmas.List.{drop-take, take-take, drop-drop}
 use Rattle.tmem_gate.specs.Gate.{IsOpenOver}
-use Rattle.tmem_record.specs.Layout.{slot_place}
+use Rattle.tmem_record.specs.Layout.{slot_at}
 use Rattle.tmem_record.specs.Spelling.{number_bytes, batch_bytes}
 use Rattle.tmem_effect.specs.State.{State, fold}
 use Rattle.tmem_effect.specs.declared.effect.Effect.{Effect}
@@ -41,33 +41,33 @@ get_behind (suc a) (x ∷ xs) = get_behind a xs
 
 -- one slot, in the bytes of all of them and in the content
 module _ (vars slots : ℕ) (log c : List ℕ) (is : IsLogOf vars slots log c) (k : ℕ) (below : k < slots) where
-  slot_is : slot_bytes log k ≡ slice_range c (slot_place vars k) (slot_place vars k + 4096)
+  slot_is : slot_bytes log k ≡ slice_range c (slot_at vars k) (slot_at vars k + 4096)
   slot_is =
-      let place : slot_place vars 0 + 4096 * k ≡ slot_place vars k = omega arith in
-      ap (λ (l : List ℕ). slice_range l (4096 * k) (4096 * k + 4096)) is.read ∙ part_of c (slot_place vars 0) (4096 * slots) (4096 * k) 4096 (omega (arith, below)) ∙ ap (λ (n : ℕ). slice_range c n (n + 4096)) place
+      let place : slot_at vars 0 + 4096 * k ≡ slot_at vars k = omega arith in
+      ap (λ (l : List ℕ). slice_range l (4096 * k) (4096 * k + 4096)) is.read ∙ part_of c (slot_at vars 0) (4096 * slots) (4096 * k) 4096 (omega (arith, below)) ∙ ap (λ (n : ℕ). slice_range c n (n + 4096)) place
 
-  gate_is : slice_get (slot_bytes log k) 0 ≡ slice_get c (slot_place vars k)
+  gate_is : slice_get (slot_bytes log k) 0 ≡ slice_get c (slot_at vars k)
   gate_is =
-      let some : 1 ≤ slot_place vars k + 4096 - slot_place vars k = omega arith in
-      ap (λ (l : List ℕ). slice_get l 0) slot_is ∙ get_front (slot_place vars k + 4096 - slot_place vars k) (drop (slot_place vars k) c) some ∙ get_behind (slot_place vars k) c
+      let some : 1 ≤ slot_at vars k + 4096 - slot_at vars k = omega arith in
+      ap (λ (l : List ℕ). slice_get l 0) slot_is ∙ get_front (slot_at vars k + 4096 - slot_at vars k) (drop (slot_at vars k) c) some ∙ get_behind (slot_at vars k) c
 
-  body_is : (n : ℕ) → n ≤ 4095 → slice_range (slot_bytes log k) (0 + 1) (0 + 1 + n) ≡ slice_range c (slot_place vars k + 1) (slot_place vars k + 1 + n)
-  body_is n short = ap (λ (l : List ℕ). slice_range l 1 (1 + n)) slot_is ∙ part_of c (slot_place vars k) 4096 1 n (omega (arith, short))
+  body_is : (n : ℕ) → n ≤ 4095 → slice_range (slot_bytes log k) (0 + 1) (0 + 1 + n) ≡ slice_range c (slot_at vars k + 1) (slot_at vars k + 1 + n)
+  body_is n short = ap (λ (l : List ℕ). slice_range l 1 (1 + n)) slot_is ∙ part_of c (slot_at vars k) 4096 1 n (omega (arith, short))
 
-  pub in_slot : (part : List ℕ) → length part ≤ 4095 → IsOpenOver (slot_place vars k) part c → IsOpenOver 0 part (slot_bytes log k)
+  pub in_slot : (part : List ℕ) → length part ≤ 4095 → IsOpenOver (slot_at vars k) part c → IsOpenOver 0 part (slot_bytes log k)
   in_slot part short cell = record { gate = gate_is ∙ cell.gate; body = body_is (length part) short ∙ cell.body }
 
-  pub in_content : (part : List ℕ) → length part ≤ 4095 → IsOpenOver 0 part (slot_bytes log k) → IsOpenOver (slot_place vars k) part c
+  pub in_content : (part : List ℕ) → length part ≤ 4095 → IsOpenOver 0 part (slot_bytes log k) → IsOpenOver (slot_at vars k) part c
   in_content part short cell = record { gate = sym gate_is ∙ cell.gate; body = sym (body_is (length part) short) ∙ cell.body }
 
   few_bytes : (g : ℕ) → length (number_bytes 8 g) ≤ 4095
   few_bytes g = omega (arith, length-number_bytes 8 g)
 
-  pub stale_in_slot : (generation : ℕ) → IsStale generation (slot_place vars k) c → IsStale generation 0 (slot_bytes log k)
+  pub stale_in_slot : (generation : ℕ) → IsStale generation (slot_at vars k) c → IsStale generation 0 (slot_bytes log k)
   stale_in_slot generation (inl shut) = inl (record { not_open = λ open_now. shut.not_open (sym gate_is ∙ open_now) })
   stale_in_slot generation (inr it) = inr (it.0, it.1, in_slot (number_bytes 8 it.0) (few_bytes it.0) it.2)
 
-  pub stale_in_content : (generation : ℕ) → IsStale generation 0 (slot_bytes log k) → IsStale generation (slot_place vars k) c
+  pub stale_in_content : (generation : ℕ) → IsStale generation 0 (slot_bytes log k) → IsStale generation (slot_at vars k) c
   stale_in_content generation (inl shut) = inl (record { not_open = λ open_now. shut.not_open (gate_is ∙ open_now) })
   stale_in_content generation (inr it) = inr (it.0, it.1, in_content (number_bytes 8 it.0) (few_bytes it.0) it.2)
 
@@ -95,10 +95,10 @@ module _ (v : Version) (vars slots generation : ℕ) (few : vars ≤ 2 ^ 16) (fi
       longer n = omega arith
 
       next : (rest : List (List Effect)) → HoldsFrom v vars slots generation slot s rest c → Rests v vars slots generation (slot + 1) (fold s es) c
-      next [] holds = absurd (not_stale v generation s.count (slot_place vars slot) es c fits held.cell (holds.behind slot (omega arith) below))
+      next [] holds = absurd (not_stale v generation s.count (slot_at vars slot) es c fits held.cell (holds.behind slot (omega arith) below))
       next (fs ∷ rest) holds =
-          let bytes = drop (slot_place vars slot + 1) c in
-          let mine = spells v vars generation s.count es bytes fits (StaysWithin-first s es stays).count held.batch (begins (slot_place vars slot) (batch_bytes v generation s.count es) c held.cell) in
+          let bytes = drop (slot_at vars slot + 1) c in
+          let mine = spells v vars generation s.count es bytes fits (StaysWithin-first s es stays).count held.batch (begins (slot_at vars slot) (batch_bytes v generation s.count es) c held.cell) in
           let same = (one_batch v vars generation generation s.count s.count (length (batch_bytes v generation s.count fs)) (length (batch_bytes v generation s.count es)) fs es bytes few (first_spelled v vars slots generation few fits c slot s fs rest holds) mine).2 in
           record { rest = rest; holds = subst (λ (gs : List Effect). HoldsFrom v vars slots generation (slot + 1) (fold s gs) rest c) same (behind_one v vars slots generation slot s fs rest c holds) }
 
@@ -117,7 +117,7 @@ module _ (v : Version) (vars slots generation : ℕ) (few : vars ≤ 2 ^ 16) (fi
         by_rest : (rest : List (List Effect)) → HoldsFrom v vars slots generation slot s rest c → ⊥
         by_rest [] left =
             let cell = in_content vars slots log c is slot below (number_bytes 8 generation) (omega (arith, length-number_bytes 8 generation)) carries in
-            not_stale_number generation (slot_place vars slot) c fits cell (left.behind slot (omega arith) below)
+            not_stale_number generation (slot_at vars slot) c fits cell (left.behind slot (omega arith) below)
         by_rest (es ∷ rest) left = none es (record {
           batch = left.held.0.batch;
           cell = in_slot vars slots log c is slot below (batch_bytes v generation s.count es) (length-batch_bytes-le v vars generation s.count es left.held.0.batch) left.held.0.cell;
@@ -168,5 +168,5 @@ pub as_damaged : {P : Type 0} (f : Fault) → f ≡ fault.Damaged → P → IsWh
 as_damaged {P} f is none = subst (IsWhyNone P) (sym is) none
 
 -- what was read of all slots
-pub is_log : (vars slots at n : ℕ) (c items log : List ℕ) → at ≡ slot_place vars 0 → n ≡ 4096 * slots → items ≡ slice_range c at (at + n) → log ≡ items → IsLogOf vars slots log c
+pub is_log : (vars slots at n : ℕ) (c items log : List ℕ) → at ≡ slot_at vars 0 → n ≡ 4096 * slots → items ≡ slice_range c at (at + n) → log ≡ items → IsLogOf vars slots log c
 is_log vars slots at n c items log place long read same = record { read = same ∙ read ∙ ap (λ (m : ℕ). slice_range c at (at + m)) long ∙ ap (λ (p : ℕ). slice_range c p (p + 4096 * slots)) place }

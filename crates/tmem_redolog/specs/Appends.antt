@@ -3,7 +3,7 @@ use Rattle.std.specs.Prelude.{◌≡◌, ◌⊎◌, ℕ, List, [], ◌∷◌, �
 use Rattle.tmem_disk.specs.Disk.{SameOutside}
 use Rattle.tmem_fault.specs.declared.fault.Fault.{Fault}
 use Rattle.tmem_fault.specs.declared.fault.Fault.TheVariants.{Device, Unknown, LogFull}
-use Rattle.tmem_record.specs.Layout.{slot_place}
+use Rattle.tmem_record.specs.Layout.{slot_at}
 use Rattle.tmem_effect.specs.State.{State}
 use Rattle.tmem_effect.specs.declared.effect.Effect.{Effect}
 use Rattle.tmem_redolog.specs.Log.{HoldsLog, StaysWithin, replayed}
@@ -19,7 +19,7 @@ pub record FollowsOn (slot first : ℕ) (es : List Effect) (image : State) (batc
   pub room : StaysWithin (replayed image batches) es
 
 -- Which batch goes where: over so many variables and slots, of this generation, into this slot, with this first number.
-pub record Placed : Type 0 where
+pub record BatchPlaced : Type 0 where
   pub vars : ℕ
   pub slots : ℕ
   pub generation : ℕ
@@ -28,17 +28,17 @@ pub record Placed : Type 0 where
   pub batch : List Effect
 
 -- where the next batch of a log goes
-abbrev pub placed : Layout → Log → ℕ → List Effect → Placed
-placed layout log first es = record { vars = layout.vars; slots = layout.slots; generation = log.generation; slot = log.used; first = first; batch = es }
+abbrev pub batch_placed : Layout → Log → ℕ → List Effect → BatchPlaced
+batch_placed layout log first es = record { vars = layout.vars; slots = layout.slots; generation = log.generation; slot = log.used; first = first; batch = es }
 
 -- the second content holds each log of the first, of version 2, that the batch follows on, and is the same outside the slot
-pub record Without (p : Placed) (b c : List ℕ) : Type 0 where
-  pub elsewhere : SameOutside (slot_place p.vars p.slot) 4096 b c
+pub record WithoutBatch (p : BatchPlaced) (b c : List ℕ) : Type 0 where
+  pub elsewhere : SameOutside (slot_at p.vars p.slot) 4096 b c
   pub log : (image : State) (batches : List (List Effect)) → FollowsOn p.slot p.first p.batch image batches → HoldsLog Two p.vars p.slots p.generation image batches b → HoldsLog Two p.vars p.slots p.generation image batches c
 
 -- the second content holds each such log with the batch last, and is the same outside the slot
-pub record With (p : Placed) (b c : List ℕ) : Type 0 where
-  pub elsewhere : SameOutside (slot_place p.vars p.slot) 4096 b c
+pub record WithBatch (p : BatchPlaced) (b c : List ℕ) : Type 0 where
+  pub elsewhere : SameOutside (slot_at p.vars p.slot) 4096 b c
   pub log : (image : State) (batches : List (List Effect)) → FollowsOn p.slot p.first p.batch image batches → HoldsLog Two p.vars p.slots p.generation image batches b → HoldsLog Two p.vars p.slots p.generation image (batches ++ p.batch ∷ []) c
 
 -- what an append is refused by

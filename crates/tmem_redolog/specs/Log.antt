@@ -2,7 +2,7 @@
 use Rattle.std.specs.Prelude.{◌<◌, ◌≤◌, ◌+◌, ◌^◌, ℕ, List, [], ◌∷◌, length}
 use Rattle.tmem_gate.specs.Gate.{IsOpenOver}
 use Rattle.tmem_state.specs.Batch.{IsBatchIn}
-use Rattle.tmem_record.specs.Layout.{slot_place}
+use Rattle.tmem_record.specs.Layout.{slot_at}
 use Rattle.tmem_record.specs.Spelling.{batch_bytes}
 pub use Rattle.tmem_record.specs.Stale.{IsStale}
 use Rattle.tmem_effect.specs.State.{State, fold}
@@ -14,7 +14,7 @@ use Rattle.tmem_state.specs.declared.version.Version.{Version}
 -- record has that number
 pub record HoldsBatch (v : Version) (vars generation slot first : ℕ) (es : List Effect) (c : List ℕ) : Type 0 where
   pub batch : IsBatchIn v vars es
-  pub cell : IsOpenOver (slot_place vars slot) (batch_bytes v generation first es) c
+  pub cell : IsOpenOver (slot_at vars slot) (batch_bytes v generation first es) c
 
 -- the slots from this one on hold these batches of one generation and version, one a slot, and the numbers of their records
 -- follow on from the first
@@ -39,5 +39,5 @@ pub record HoldsLog (v : Version) (vars slots generation : ℕ) (image : State) 
   pub generation_fits : generation < 2 ^ 64
   pub fits : length batches ≤ slots
   pub held : HoldsBatches v vars generation 0 image.count batches c
-  pub behind : (k : ℕ) → length batches ≤ k → k < slots → IsStale generation (slot_place vars k) c
+  pub behind : (k : ℕ) → length batches ≤ k → k < slots → IsStale generation (slot_at vars k) c
   pub within : LogWithin image batches

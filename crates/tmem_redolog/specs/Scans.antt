@@ -3,7 +3,7 @@ use Rattle.std.specs.Prelude.{◌≡◌, ◌<◌, ◌≤◌, ◌+◌, ◌*◌, �
 pub use Rattle.tmem_gate.specs.Calls.{IsWhyNone}
 use Rattle.tmem_gate.specs.Gate.{IsOpenOver}
 use Rattle.tmem_state.specs.Batch.{IsBatchIn}
-use Rattle.tmem_record.specs.Layout.{slot_place}
+use Rattle.tmem_record.specs.Layout.{slot_at}
 use Rattle.tmem_record.specs.Spelling.{batch_bytes}
 use Rattle.tmem_effect.specs.State.{State, fold}
 use Rattle.tmem_effect.specs.declared.effect.Effect.{Effect}
@@ -21,7 +21,7 @@ pub record FindsLog (v : Version) (vars slots generation : ℕ) (image : State) 
 
 -- these are the bytes of all slots
 pub record IsLogOf (vars slots : ℕ) (log c : List ℕ) : Type 0 where
-  pub read : log ≡ slice_range c (slot_place vars 0) (slot_place vars 0 + 4096 * slots)
+  pub read : log ≡ slice_range c (slot_at vars 0) (slot_at vars 0 + 4096 * slots)
 
 -- the bytes of one slot among them
 abbrev pub slot_bytes : List ℕ → ℕ → List ℕ
@@ -32,7 +32,7 @@ slot_bytes log k = slice_range log (4096 * k) (4096 * k + 4096)
 pub record HoldsFrom (v : Version) (vars slots generation slot : ℕ) (s : State) (rest : List (List Effect)) (c : List ℕ) : Type 0 where
   pub fits : slot + length rest ≤ slots
   pub held : HoldsBatches v vars generation slot s.count rest c
-  pub behind : (k : ℕ) → slot + length rest ≤ k → k < slots → IsStale generation (slot_place vars k) c
+  pub behind : (k : ℕ) → slot + length rest ≤ k → k < slots → IsStale generation (slot_at vars k) c
   pub within : LogWithin s rest
 
 -- batches over the image that end as some batches over a later state do, which come behind so many slots

@@ -3,7 +3,7 @@ ghost use Rattle.std.specs.Prelude.{◌≡◌, ◌⊎◌, ◌<◌, ◌≤◌, So
 ghost use Rattle.tmem_disk.specs.Disk.{IsSynced};
 ghost use Rattle.tmem_gate.specs.Calls.{Uses, LooksOnly};
 ghost use Rattle.tmem_gate.specs.Gate.{StandsClosed};
-ghost use Rattle.tmem_record.specs.Layout.{slot_place, end_place};
+ghost use Rattle.tmem_record.specs.Layout.{slot_at, end_at};
 ghost use Rattle.tmem_redolog.specs.Closes.{Closes, ReadClosed, empty_log};
 
 use crate::log::Log;
@@ -21,7 +21,7 @@ pub fn empty<D: Disk>(
     log: &mut Log,
     generation: u64,
 ) -> Result<(), Fault>
-    requires room { end_place layout.now.vars layout.now.slots ≤ (D.view disk.old).capacity }
+    requires room { end_at layout.now.vars layout.now.slots ≤ (D.view disk.old).capacity }
     ensures uses { Uses (D.view disk.old) (D.view disk.new) result }
 
     // At `Device` a read or a write failed, at `Unknown` the sync.
@@ -35,7 +35,7 @@ pub fn empty<D: Disk>(
 
     // After `Ok` each slot reads closed, and stands closed where the device was synced before.
     ensures read_closed { (D.view disk.new).keeps_model → OnOk result (ReadClosed layout.now.vars 0 layout.now.slots (D.view disk.new)) }
-    ensures closed { IsSynced (D.view disk.old) → OnOk result ((k : ℕ) → k < layout.now.slots → StandsClosed (slot_place layout.now.vars k) (D.view disk.new)) }
+    ensures closed { IsSynced (D.view disk.old) → OnOk result ((k : ℕ) → k < layout.now.slots → StandsClosed (slot_at layout.now.vars k) (D.view disk.new)) }
     ensures durable { IsSynced (D.view disk.old) → OnOk result (IsSynced (D.view disk.new)) }
 
     // With nothing to close there is no write, and no sync that could fail.

@@ -75,37 +75,37 @@ pub(crate) fn replay_slot(
     if head.generation != generation || head.first != state.count() {
         return Err(Fault::Damaged);
     }
-    if !accept_all(state, records.effects()) {
+    if !commit_all(state, records.effects()) {
         return Err(Fault::Damaged);
     }
     Ok(())
 }
 
-// Accepts effects one after another, as long as the state stays within the limits, and answers whether it took all. The
+// Commits effects one after another, as long as the state stays within the limits, and answers whether it took all. The
 // limits hold after each effect: a name too many is not mended by a later effect that retires one.
-fn accept_all(state: &mut State, effects: &[Effect]) -> bool
+fn commit_all(state: &mut State, effects: &[Effect]) -> bool
     requires variables { All (λ e. All (λ w. w.0 < length state.old.values) e.writes) effects.now }
     requires within { IsWithin state.old }
-    ensures accepted { IsTrue result ↔ StaysWithin state.old effects.now }
+    ensures committed { IsTrue result ↔ StaysWithin state.old effects.now }
     ensures state { OnTrue result (state.new ≡ fold state.old effects.now) }
 {
     for effect in effects {
-        if !accept_one(state, effect) {
+        if !commit_one(state, effect) {
             return false;
         }
     }
     true
 }
 
-// Accepts an effect where the state stays within the limits then, and answers whether it did.
-fn accept_one(state: &mut State, effect: &Effect) -> bool
+// Commits an effect where the state stays within the limits then, and answers whether it did.
+fn commit_one(state: &mut State, effect: &Effect) -> bool
     requires { All (λ w. w.0 < length state.old.values) effect.now.writes }
-    ensures accepted { IsTrue result ↔ IsWithin (apply state.old effect.now) }
+    ensures committed { IsTrue result ↔ IsWithin (apply state.old effect.now) }
     ensures state { OnTrue result (state.new ≡ apply state.old effect.now) }
 {
     if state.count() == u64::MAX || !state.has_room_for(effect) {
         return false;
     }
-    state.accept(effect);
+    state.commit(effect);
     true
 }

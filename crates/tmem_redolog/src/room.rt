@@ -3,7 +3,7 @@ ghost use Rattle.std.specs.Prelude.{IfOk};
 ghost use Rattle.tmem_redolog.specs.Room.{IsLogRoom};
 
 use std::alloc::{AllocError, Global};
-use tmem_record::{Layout, SLOT_SIZE};
+use tmem_record::{Layout, SLOT_BYTES};
 use tmem_state::Records;
 
 /// Memory for a log that is read, all of it: so reading takes none.
@@ -19,7 +19,7 @@ impl LogRoom {
     pub fn new(alloc: Global, layout: Layout) -> Result<LogRoom, AllocError>
         ensures { IfOk result (IsLogRoom layout.slots) }
     {
-        let bytes = vec![in alloc; 0; SLOT_SIZE * layout.slots as usize]?;
+        let bytes = vec![in alloc; 0; SLOT_BYTES * layout.slots as usize]?;
         let records = Records::new(alloc)?;
         Ok(LogRoom { bytes, records })
     }

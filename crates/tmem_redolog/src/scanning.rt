@@ -2,7 +2,7 @@
 ghost use Rattle.std.specs.Prelude.{◌≡◌, ◌↔◌, ◌<◌, ◌≤◌, ◌+◌, ◌*◌, ℕ, List, length, IsTrue, IfOk, OnOk, OnErr, IfErr};
 ghost use Rattle.tmem_gate.specs.Calls.{Uses, LooksOnly};
 ghost use Rattle.tmem_gate.specs.Gate.{IsOpenOver};
-ghost use Rattle.tmem_record.specs.Layout.{slot_place, end_place};
+ghost use Rattle.tmem_record.specs.Layout.{slot_at, end_at};
 ghost use Rattle.tmem_record.specs.Spelling.{number_bytes};
 ghost use Rattle.tmem_effect.specs.declared.effect.Effect.{Effect as EffectOf};
 ghost use Rattle.tmem_redolog.specs.Log.{HoldsLog, IsStale, IsWithin};
@@ -15,7 +15,7 @@ use crate::room::LogRoom;
 use tmem_disk::Disk;
 use tmem_fault::Fault;
 use tmem_gate::device::read_piece;
-use tmem_record::{Layout, SLOT_SIZE};
+use tmem_record::{Layout, SLOT_BYTES};
 use tmem_state::{Records, State, Version};
 
 /// Reads the log over an image of this generation and version, and brings the image's state to the state after it. The log is
@@ -30,7 +30,7 @@ pub fn scan<D: Disk>(
     room: LogRoom,
     version: Version,
 ) -> Result<Log, Fault>
-    requires fits { end_place layout.vars layout.slots ≤ (D.view disk.old).capacity }
+    requires fits { end_at layout.vars layout.slots ≤ (D.view disk.old).capacity }
     requires sized { length state.old.values ≡ layout.vars }
     requires room { IsLogRoom layout.slots room }
     ensures uses { Uses (D.view disk.old) (D.view disk.new) result }
@@ -59,8 +59,8 @@ fn slot_of(log: &[u8], k: u16) -> &[u8]
     ensures bytes { result.now ≡ slot_bytes log.now k }
     ensures long { length result.now ≡ 4096 }
 {
-    let at = SLOT_SIZE * k as usize;
-    &log[at..at + SLOT_SIZE]
+    let at = SLOT_BYTES * k as usize;
+    &log[at..at + SLOT_BYTES]
 }
 
 // Replays the slots from the first one on, as long as they are open and of this generation, and answers how many there

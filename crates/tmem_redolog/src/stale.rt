@@ -3,7 +3,7 @@ ghost use Rattle.std.specs.Prelude.{◌≡◌, ◌⊎◌, ◌↔◌, ◌<◌, �
 ghost use Rattle.tmem_disk.specs.Disk.{IsCall, IsSynced};
 ghost use Rattle.tmem_gate.specs.Calls.{LooksOnly};
 ghost use Rattle.tmem_gate.specs.Gate.{IsOpenAt, IsClosed, StandsClosed};
-ghost use Rattle.tmem_record.specs.Layout.{slot_place, end_place};
+ghost use Rattle.tmem_record.specs.Layout.{slot_at, end_at};
 ghost use Rattle.tmem_redolog.specs.Closes.{Closes, ReadClosed};
 
 use crate::log::Log;
@@ -14,7 +14,7 @@ use tmem_record::Layout;
 /// Closes each gate behind the log that reads open, and syncs where there was one. A gate that reads closed is not written:
 /// that write could leave it open. Where each of them reads closed, the device is only read.
 pub fn close_stale<D: Disk>(disk: &mut D, layout: Layout, log: &Log) -> Result<(), DeviceFault>
-    requires room { end_place layout.vars layout.slots ≤ (D.view disk.old).capacity }
+    requires room { end_at layout.vars layout.slots ≤ (D.view disk.old).capacity }
     requires used { log.now.used ≤ layout.slots }
 
     // Any call may fail. The answer is the last fault of the device.
@@ -26,7 +26,7 @@ pub fn close_stale<D: Disk>(disk: &mut D, layout: Layout, log: &Log) -> Result<(
     // After `Ok` they read closed, and stand closed where the device was synced before.
     ensures read_closed { (D.view disk.new).keeps_model → OnOk result (ReadClosed layout.vars log.now.used layout.slots (D.view disk.new)) }
     ensures closed { IsSynced (D.view disk.old) → OnOk result ((k : ℕ) → log.now.used ≤ k → k < layout.slots →
-        StandsClosed (slot_place layout.vars k) (D.view disk.new)) }
+        StandsClosed (slot_at layout.vars k) (D.view disk.new)) }
     ensures durable { IsSynced (D.view disk.old) → OnOk result (IsSynced (D.view disk.new)) }
 
     // With nothing to close there is no write, and no sync that could fail.
@@ -43,7 +43,7 @@ pub fn close_stale<D: Disk>(disk: &mut D, layout: Layout, log: &Log) -> Result<(
 
 // Closes each gate from a slot on that reads open, and answers whether there was one.
 fn close_gates<D: Disk>(disk: &mut D, layout: Layout, from: u16) -> Result<bool, DeviceFault>
-    requires room { end_place layout.vars layout.slots ≤ (D.view disk.old).capacity }
+    requires room { end_at layout.vars layout.slots ≤ (D.view disk.old).capacity }
     requires used { from ≤ layout.slots }
     ensures call { IsCall (D.view disk.old) (D.view disk.new) result (λ f. (f ≡ DeviceFault.Read) ⊎ (f ≡ DeviceFault.Write)) }
     ensures closes { (generation : ℕ) → Closes layout.vars layout.slots generation from (D.view disk.old) (D.view disk.new) }

@@ -152,7 +152,7 @@ fn say<R: Print>(rt: &R, settled: &Result<Settled, Fault>) {
     };
 }
 
-// Prints how many transactions are accepted and durable, and the values.
+// Prints how many transactions are committed and durable, and the values.
 fn say_state<
     N: StoreNaming,
     D: Disk + Drop,

@@ -1,7 +1,7 @@
 //! Opens the front.
 ghost use Rattle.std.specs.Prelude.{◌≡◌, length};
 ghost use Rattle.tmem_builtins.specs.Invariants.{is_not_negative};
-ghost use Rattle.tmem_front.specs.Held.{found_of, spine_of, steps_of, table_of};
+ghost use Rattle.tmem_front.specs.Held.{front_found, spine_of, front_steps, front_table};
 ghost use Rattle.tmem_refusals.specs.Stored.{stored};
 
 use crate::fronts::settle_all;
@@ -80,12 +80,12 @@ fn with_front<
     R: Clock + Print + Wait,
 >(rt: &R, alloc: Global, opened: OpenedFront<D, T, S>) -> Result<(), Fault>
     requires spine { spine_of opened ≡ N.name }
-    requires opening { found_of opened ≡ N.opening }
+    requires opening { front_found opened ≡ N.opening }
     requires vars { length N.opening.values ≡ 4 }
     requires program { N.program ≡ stored }
-    requires names { T.names (table_of opened) ≡ stored.names }
-    requires stated { T.is_stated (table_of opened) stored.tests }
-    requires steps { S.is_stated (steps_of opened) stored.steps }
+    requires names { T.names (front_table opened) ≡ stored.names }
+    requires stated { T.is_stated (front_table opened) stored.tests }
+    requires steps { S.is_stated (front_steps opened) stored.steps }
 {
     let front = opened.named::<N>();
     let mut looker = front.pass(rt)?;

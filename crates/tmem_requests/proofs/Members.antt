@@ -13,9 +13,9 @@ use Rattle.serde_json.specs.View.{view, members_view}
 use Rattle.serde_json.specs.declared.value.Value.{Value, Object}
 use Rattle.tmem_fault.specs.Name.{has_name}
 use Rattle.tmem_forms.specs.Members.{HasOnly, member_keys}
-use Rattle.tmem_requests.specs.Forms.{HasAt, IsInteger}
+use Rattle.tmem_requests.specs.Forms.{HasMember, IsInteger}
 use Rattle.tmem_forms.proofs.Laws.{same_members}
-use Rattle.tmem_requests.specs.Requests.{key_of, keys_by, IsBody, IsAsked, IsRequest}
+use Rattle.tmem_requests.specs.Requests.{key_of, keys_by, IsBody, AsksBy, IsRequest}
 use Rattle.tmem_requests.specs.declared.request.Ask.{Ask}
 use Rattle.tmem_requests.specs.declared.request.Ask.TheVariants.{Do}
 
@@ -141,7 +141,7 @@ not_aside ask = refl
 abbrev pub NoRequestIn : Data → Type 0
 NoRequestIn d = (id : ℤ) (ask : Ask) → ¬ IsRequest id ask d
 
-pub no_request_unnumbered : (d : Data) → ((id : ℤ) → ¬ HasAt (codes "id") (IsInteger id) d) → NoRequestIn d
+pub no_request_unnumbered : (d : Data) → ((id : ℤ) → ¬ HasMember (codes "id") (IsInteger id) d) → NoRequestIn d
 no_request_unnumbered d none id ask is = none id is.numbered
 
 some_is : (o : Option Data) (v : Data) → o ≡ Some v → IsSome o
@@ -162,13 +162,13 @@ no_request_with_more d v k found other more id ask is =
 pub same_value : (a b : Data) → Some a ≡ Some b → a ≡ b
 same_value a b same = cc
 
-pub no_request_of_none : (d v : Data) (k : List ℕ) → get k d ≡ Some v → has_name aside k ≡ false → ((ask : Ask) → ¬ IsAsked ask k v d) → NoRequestIn d
+pub no_request_of_none : (d v : Data) (k : List ℕ) → get k d ≡ Some v → has_name aside k ≡ false → ((ask : Ask) → ¬ AsksBy ask k v d) → NoRequestIn d
 no_request_of_none d v k found other none id ask is =
     let key = asks_by d v k id ask found other is in
     let there : is.asked.value ≡ v = same_value is.asked.value v (sym is.asked.stands ∙ ap (λ (l : List ℕ). get l d) key ∙ found) in
     none ask (record { key = sym key; body = subst (λ (b : Data). IsBody ask b) there is.asked.is; numbers = is.numbers })
 
-pub request_of : (d v : Data) (k : List ℕ) (id : ℤ) (ask : Ask) → get k d ≡ Some v → HasOnly (keys_by k) d → HasAt (codes "id") (IsInteger id) d → IsAsked ask k v d → IsRequest id ask d
+pub request_of : (d v : Data) (k : List ℕ) (id : ℤ) (ask : Ask) → get k d ≡ Some v → HasOnly (keys_by k) d → HasMember (codes "id") (IsInteger id) d → AsksBy ask k v d → IsRequest id ask d
 request_of d v k id ask found only numbered asked =
     record {
       only = subst (λ (key : List ℕ). HasOnly (keys_by key) d) asked.key only;

@@ -9,7 +9,7 @@ use Rattle.tmem_tree.specs.declared.tx.Tx.TheVariants.{Seq, When, OrElse, Retire
 use Rattle.tmem_tree.specs.declared.tx.Tx.TheViews.{rolls-Seq, rolls-When, rolls-OrElse, rolls-Retire}
 use Rattle.tmem_forms.specs.TxForms.{array_of, level_form, natural, tagged, tx_form}
 use Rattle.tmem_requests.proofs.Reading.{list_found, list_left_out}
-use Rattle.tmem_requests.specs.Forms.{HasAt, list_at}
+use Rattle.tmem_requests.specs.Forms.{HasMember, list_at}
 use Rattle.tmem_requests.specs.Requests.{key_of, IsBody, IsRequest}
 use Rattle.tmem_requests.specs.declared.request.Ask.{Ask}
 
@@ -45,5 +45,5 @@ at_its_key form key d xs P is there none = by (get key d) refl
     by None at = none (no_items form xs (sym (list_left_out key d at) ∙ is))
 
 -- what is asked for stands at its key
-pub asked_as : (id : ℤ) (d : Data) (ask other : Ask) → ask ≡ other → IsRequest id ask d → HasAt (key_of other) (IsBody other) d
-asked_as id d ask other same is = subst (λ (a : Ask). HasAt (key_of a) (IsBody a) d) same is.asked
+pub asked_as : (id : ℤ) (d : Data) (ask other : Ask) → ask ≡ other → IsRequest id ask d → HasMember (key_of other) (IsBody other) d
+asked_as id d ask other same is = subst (λ (a : Ask). HasMember (key_of a) (IsBody a) d) same is.asked

@@ -11,8 +11,8 @@ use Rattle.tmem_forms.specs.TxForms.{array_of, integer}
 use Rattle.tmem_forms.specs.declared.error.FormError.{FormError}
 use Rattle.tmem_forms.specs.declared.error.FormError.TheVariants.{NoForm}
 use Rattle.tmem_requests.proofs.Members.{NoRequestIn, same_value}
-use Rattle.tmem_requests.specs.Forms.{HasAt, IsInteger, list_at}
-use Rattle.tmem_requests.specs.Errors.{IsNoRequest, IsWanting}
+use Rattle.tmem_requests.specs.Forms.{HasMember, IsInteger, list_at}
+use Rattle.tmem_requests.specs.Errors.{IsNoRequest, LacksMemory}
 use Rattle.tmem_requests.specs.Requests.{IsRequest, IsRequestText}
 use Rattle.tmem_requests.specs.declared.refusal.RequestError.{RequestError}
 use Rattle.tmem_requests.specs.declared.refusal.RequestError.TheVariants.{Memory, NoRequest}
@@ -43,15 +43,15 @@ pub list_left_out : (key : List ℕ) (d : Data) → get key d ≡ None → list_
 list_left_out key d none = ap (λ (o : Option Data). unwrap_or o (array_of [])) none
 
 -- the number at a key
-pub number_at : (key : List ℕ) (d v : Data) (r : Result ℤ FormError) → get key d ≡ Some v → IfOk r (λ n. v ≡ integer n) → IfOk r (λ n. FitsSigned w64 n) → IfOk r (λ n. HasAt key (IsInteger n) d)
+pub number_at : (key : List ℕ) (d v : Data) (r : Result ℤ FormError) → get key d ≡ Some v → IfOk r (λ n. v ≡ integer n) → IfOk r (λ n. FitsSigned w64 n) → IfOk r (λ n. HasMember key (IsInteger n) d)
 number_at key d v (Ok n) stands form fits = record { value = v; stands = stands; is = record { form = form; fits = fits } }
 number_at key d v (Err e) stands form fits = tt
 
-pub no_number_at : (key : List ℕ) (d v : Data) → get key d ≡ Some v → ((n : ℤ) → FitsSigned w64 n → ¬ (v ≡ integer n)) → (n : ℤ) → ¬ HasAt key (IsInteger n) d
+pub no_number_at : (key : List ℕ) (d v : Data) → get key d ≡ Some v → ((n : ℤ) → FitsSigned w64 n → ¬ (v ≡ integer n)) → (n : ℤ) → ¬ HasMember key (IsInteger n) d
 no_number_at key d v stands none n is =
     none n is.is.fits (same_value v is.value (sym stands ∙ is.stands) ∙ is.is.form)
 
-pub nothing_at : (key : List ℕ) (d : Data) → get key d ≡ None → (n : ℤ) → ¬ HasAt key (IsInteger n) d
+pub nothing_at : (key : List ℕ) (d : Data) → get key d ≡ None → (n : ℤ) → ¬ HasMember key (IsInteger n) d
 nothing_at key d none n is =
     let clash : None ≡ Some is.value = sym none ∙ is.stands in
     cc
@@ -66,7 +66,7 @@ NoItems {X} form fits d = (xs : List X) → All fits xs → ¬ (d ≡ array_of (
 -- ---- lines
 
 -- a refusal is not want of memory
-pub not_wanting : (e : RequestError) → IsNoRequest e → ¬ IsWanting e
+pub not_wanting : (e : RequestError) → IsNoRequest e → ¬ LacksMemory e
 not_wanting (Memory e) is wanting = is
 not_wanting (NoRequest refusal) is wanting = wanting
 

@@ -12,7 +12,7 @@ use Rattle.tmem_forms.proofs.Laws.{view_of_array, items_of_body}
 use Rattle.tmem_forms.specs.TxForms.{array_of, tagged}
 use Rattle.tmem_fault.specs.Name.{has_name}
 use Rattle.tmem_requests.proofs.Members.{aside}
-use Rattle.tmem_requests.specs.Wrong.{HasStrangeKey, IsWrong, LeadsToWrong, Scope, whole, part, store, inner, is_headed, ask_keys, led, next, tx_keys}
+use Rattle.tmem_requests.specs.Wrong.{HasStrangeKey, IsWrong, LeadsToWrong, Scope, whole, part, store, inner, is_headed, ask_keys, led, step_value, tx_keys}
 use Rattle.tmem_requests.specs.declared.explain.wrong.Wrong.{Wrong}
 use Rattle.tmem_requests.specs.declared.place.Step.{Step}
 use Rattle.tmem_requests.specs.declared.why.Why.{Why}
@@ -30,7 +30,7 @@ nothing_wrong part d = tt
 nothing_wrong (store vars names always) d = tt
 
 -- what is wrong behind a step
-pub wrong_behind : (scope : Scope) (why : Why) (step : Step) (steps more : List Step) (d e : Data) → more ≡ step ∷ steps → next step d ≡ Some e → LeadsToWrong (inner scope) why steps e → LeadsToWrong scope why more d
+pub wrong_behind : (scope : Scope) (why : Why) (step : Step) (steps more : List Step) (d e : Data) → more ≡ step ∷ steps → step_value step d ≡ Some e → LeadsToWrong (inner scope) why steps e → LeadsToWrong scope why more d
 wrong_behind scope why step steps more d e is leads wrong =
     subst (λ (s : List Step). LeadsToWrong scope why s d) (sym is) (record {
       place = wrong.place;

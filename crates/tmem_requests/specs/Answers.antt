@@ -15,13 +15,13 @@ use Rattle.tmem_requests.specs.declared.answer.Answer.TheVariants as answer
 use Rattle.tmem_requests.specs.declared.answer.Stats.{Stats}
 
 -- the texts of these, a comma between any two
-abbrev pub joined : {X : Type 0} → (X → List ℕ) → List X → List ℕ
-joined text [] = []
-joined text (x ∷ xs) = text x ++ flat_map (λ y. codes "," ++ text y) xs
+abbrev pub texts_joined : {X : Type 0} → (X → List ℕ) → List X → List ℕ
+texts_joined text [] = []
+texts_joined text (x ∷ xs) = text x ++ flat_map (λ y. codes "," ++ text y) xs
 
 -- these as an array
 abbrev pub array_text : {X : Type 0} → (X → List ℕ) → List X → List ℕ
-array_text text xs = codes "[" ++ joined text xs ++ codes "]"
+array_text text xs = codes "[" ++ texts_joined text xs ++ codes "]"
 
 abbrev pub numbers_text : List ℤ → List ℕ
 numbers_text = array_text signed_decimal
@@ -133,15 +133,15 @@ stats_text s =
     ++ codes ",\"kept\":" ++ decimal s.kept ++ codes ",\"free_slots\":" ++ decimal s.free_slots ++ codes "}"
 
 -- the whole state
-abbrev pub state_text : ℕ → List (List ℕ) → List ℤ → List ℕ
-state_text count names values = codes "\"count\":" ++ decimal count ++ codes ",\"names\":" ++ words_text names ++ codes ",\"values\":" ++ numbers_text values
+abbrev pub state_members : ℕ → List (List ℕ) → List ℤ → List ℕ
+state_members count names values = codes "\"count\":" ++ decimal count ++ codes ",\"names\":" ++ words_text names ++ codes ",\"values\":" ++ numbers_text values
 
 -- an answer, behind the id
 abbrev pub answer_text : Answer → List ℕ
 answer_text (answer.Settled settled) = settled_text settled
 answer_text (answer.Refused name because) = codes "\"refused\":" ++ word_text name ++ codes ",\"because\":" ++ pairs_text because.items
 answer_text (answer.Values count values) = codes "\"count\":" ++ decimal count ++ codes ",\"values\":" ++ pairs_text values.items
-answer_text (answer.State count names values) = state_text count names.items values.items
+answer_text (answer.State count names values) = state_members count names.items values.items
 answer_text answer.Cancelled = codes "\"cancelled\":true"
 answer_text (answer.Found found) = codes "\"found\":" ++ bool_text found
 answer_text (answer.Kept word) = codes "\"kept\":" ++ word_text word
@@ -161,4 +161,4 @@ name_text n = word_text n.0 ++ codes ":" ++ decimal n.1
 -- the first line, without its line break: how many transactions there are, how many variables, and their names
 abbrev pub opened_line : ℕ → ℕ → List (List ℕ × ℕ) → List ℕ
 opened_line count vars names =
-    codes "{\"opened\":" ++ decimal count ++ codes ",\"vars\":" ++ decimal vars ++ codes ",\"names\":{" ++ joined name_text names ++ codes "}}"
+    codes "{\"opened\":" ++ decimal count ++ codes ",\"vars\":" ++ decimal vars ++ codes ",\"names\":{" ++ texts_joined name_text names ++ codes "}}"

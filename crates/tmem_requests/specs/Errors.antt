@@ -5,9 +5,9 @@ use Rattle.tmem_requests.specs.declared.refusal.RequestError.TheVariants.{Memory
 use Rattle.tmem_requests.specs.declared.why.Why.TheVariants.{NotJson}
 
 -- memory was refused
-abbrev pub IsWanting : RequestError → Type 0
-IsWanting (Memory e) = ⊤
-IsWanting (NoRequest refusal) = ⊥
+abbrev pub LacksMemory : RequestError → Type 0
+LacksMemory (Memory e) = ⊤
+LacksMemory (NoRequest refusal) = ⊥
 
 -- the line is no request
 abbrev pub IsNoRequest : RequestError → Type 0

@@ -8,7 +8,7 @@ use Rattle.tmem_forms.specs.TxForms.{natural, integer, array_of, tx_form, IsShor
 use Rattle.tmem_tree.specs.declared.tx.Tx.{Tx}
 
 -- a value of this kind stands at this key
-pub record HasAt (key : List ℕ) (Is : Data → Type 0) (d : Data) : Type 0 where
+pub record HasMember (key : List ℕ) (Is : Data → Type 0) (d : Data) : Type 0 where
   pub value : Data
   pub stands : get key d ≡ Some value
   pub is : Is value

@@ -4,7 +4,7 @@ use Rattle.serde_json.specs.Data.{Data, string}
 use Rattle.serde_json.specs.Read.{read}
 use Rattle.tmem_forms.specs.TxForms.{IsTx}
 use Rattle.tmem_forms.specs.Members.{HasOnly}
-use Rattle.tmem_requests.specs.Forms.{HasAt, list_at, IsInteger, AreIntegers, AreVariables, ArePairs, IsWord, AreWords, IsKept}
+use Rattle.tmem_requests.specs.Forms.{HasMember, list_at, IsInteger, AreIntegers, AreVariables, ArePairs, IsWord, AreWords, IsKept}
 use Rattle.tmem_requests.specs.declared.proposal.Proposal.{Proposal}
 use Rattle.tmem_requests.specs.declared.request.Ask.{Ask}
 use Rattle.tmem_requests.specs.declared.request.Ask.TheVariants.{Do, Try, Get, Settle, Changed, Cancel, Keep, Run, Look, State, Checkpoint, Stats}
@@ -58,7 +58,7 @@ HasNumbers (Run word numbers) d = AreIntegers numbers.items (list_at (codes "num
 HasNumbers ask d = Unit {0}
 
 -- By this key and what stands there, an object asks for it.
-pub record IsAsked (ask : Ask) (at : List ℕ) (form whole : Data) : Type 0 where
+pub record AsksBy (ask : Ask) (at : List ℕ) (form whole : Data) : Type 0 where
   pub key : at ≡ key_of ask
   pub body : IsBody ask form
   pub numbers : HasNumbers ask whole
@@ -67,8 +67,8 @@ pub record IsAsked (ask : Ask) (at : List ℕ) (form whole : Data) : Type 0 wher
 -- the keys stand in the text makes no difference.
 pub record IsRequest (id : ℤ) (ask : Ask) (d : Data) : Type 0 where
   pub only : HasOnly (keys_by (key_of ask)) d
-  pub numbered : HasAt (codes "id") (IsInteger id) d
-  pub asked : HasAt (key_of ask) (IsBody ask) d
+  pub numbered : HasMember (codes "id") (IsInteger id) d
+  pub asked : HasMember (key_of ask) (IsBody ask) d
   pub numbers : HasNumbers ask d
 
 -- The line is a request: it is JSON in UTF-8, and its value is one. Of a key that stands twice in an object the last value counts.

@@ -24,14 +24,14 @@ use Rattle.tmem_requests.specs.declared.why.Why.{Why}
 use Rattle.tmem_requests.specs.declared.why.Why.TheVariants as why
 
 -- the value that a step leads to
-abbrev pub next : Step → Data → Option Data
-next (Key key) d = get key.now d
-next (Item n) d = at n d
+abbrev pub step_value : Step → Data → Option Data
+step_value (Key key) d = get key.now d
+step_value (Item n) d = at n d
 
 -- the value that steps lead to, one after another
 abbrev pub led : List Step → Data → Option Data
 led [] d = Some d
-led (step ∷ steps) d = option_and_then (led steps) (next step d)
+led (step ∷ steps) d = option_and_then (led steps) (step_value step d)
 
 -- the keys by which something is asked for
 abbrev pub ask_keys : List (List ℕ)
@@ -151,7 +151,7 @@ pub record IsBeyond (vars : ℕ) (d : Data) : Type 0 where
   pub beyond : vars ≤ var
 
 -- a name that is among these, or that is not
-pub record IsNamed (names : List (List ℕ)) (among : Bool) (d : Data) : Type 0 where
+pub record IsNameAmong (names : List (List ℕ)) (among : Bool) (d : Data) : Type 0 where
   pub name : List ℕ
   pub is_name : d ≡ string name
   pub found : has_name names name ≡ among
@@ -160,8 +160,8 @@ pub record IsNamed (names : List (List ℕ)) (among : Bool) (d : Data) : Type 0 
 -- some always hold.
 abbrev pub IsMisfit : ℕ → List (List ℕ) → List (List ℕ) → Why → Data → Type 0
 IsMisfit vars names always why.NoSuchVariable d = IsBeyond vars d
-IsMisfit vars names always why.NoSuchName d = IsNamed names false d
-IsMisfit vars names always why.AlwaysHolds d = IsNamed always true d
+IsMisfit vars names always why.NoSuchName d = IsNameAmong names false d
+IsMisfit vars names always why.AlwaysHolds d = IsNameAmong always true d
 IsMisfit vars names always why.NotRequest d = Unit {0}
 IsMisfit vars names always _ d = ⊥
 
@@ -182,15 +182,15 @@ inner whole = part
 inner part = part
 inner (store vars names always) = store vars names always
 
-abbrev pub behind : Scope → List Step → Scope
-behind scope [] = scope
-behind scope (step ∷ steps) = behind (inner scope) steps
+abbrev pub scope_behind : Scope → List Step → Scope
+scope_behind scope [] = scope
+scope_behind scope (step ∷ steps) = scope_behind (inner scope) steps
 
 -- these steps lead from a value to one with which this is wrong
 pub record LeadsToWrong (scope : Scope) (why : Why) (steps : List Step) (d : Data) : Type 0 where
   pub place : Data
   pub there : led steps d ≡ Some place
-  pub is_wrong : IsWrong (behind scope steps) why place
+  pub is_wrong : IsWrong (scope_behind scope steps) why place
 
 abbrev TellsAt : Scope → Why → Place → Data → Type 0
 TellsAt scope why (Pointer steps) d = LeadsToWrong scope why steps.items d

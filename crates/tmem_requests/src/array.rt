@@ -1,7 +1,7 @@
 //! Arrays, as they are printed.
 ghost use Rattle.std.specs.Prelude.{◌≡◌, Some};
 ghost use Rattle.std.specs.Fmt.{DisplaysOnOk, signed_decimal};
-ghost use Rattle.tmem_requests.specs.Answers.{joined, numbers_text, pair_text, pairs_text, word_text, words_text};
+ghost use Rattle.tmem_requests.specs.Answers.{texts_joined, numbers_text, pair_text, pairs_text, word_text, words_text};
 
 use std::fmt;
 use tmem_fault::Name;
@@ -20,7 +20,7 @@ pub(crate) fn write_numbers<W: fmt::Write>(
 
 // Numbers, with a comma between any two.
 fn join_numbers<W: fmt::Write>(f: &mut fmt::Formatter<W>, numbers: &[i64]) -> fmt::Result
-    ensures { DisplaysOnOk W.write_str_gives f.old result (Some (joined signed_decimal numbers.now)) f.new }
+    ensures { DisplaysOnOk W.write_str_gives f.old result (Some (texts_joined signed_decimal numbers.now)) f.new }
 {
     if let Some((first, others)) = numbers.split_first() {
         write!(f, "{first}")?;
@@ -45,7 +45,7 @@ pub(crate) fn write_pairs<W: fmt::Write>(
 
 // Pairs, with a comma between any two.
 fn join_pairs<W: fmt::Write>(f: &mut fmt::Formatter<W>, pairs: &[(u16, i64)]) -> fmt::Result
-    ensures { DisplaysOnOk W.write_str_gives f.old result (Some (joined pair_text pairs.now)) f.new }
+    ensures { DisplaysOnOk W.write_str_gives f.old result (Some (texts_joined pair_text pairs.now)) f.new }
 {
     if let Some((first, others)) = pairs.split_first() {
         write!(f, "[{},{}]", first.0, first.1)?;
@@ -67,7 +67,7 @@ pub(crate) fn write_words<W: fmt::Write>(f: &mut fmt::Formatter<W>, words: &[Nam
 
 // Names, with a comma between any two.
 fn join_words<W: fmt::Write>(f: &mut fmt::Formatter<W>, words: &[Name]) -> fmt::Result
-    ensures { DisplaysOnOk W.write_str_gives f.old result (Some (joined word_text words.now)) f.new }
+    ensures { DisplaysOnOk W.write_str_gives f.old result (Some (texts_joined word_text words.now)) f.new }
 {
     if let Some((first, others)) = words.split_first() {
         write!(f, "\"{first}\"")?;

@@ -5,7 +5,7 @@ ghost use Rattle.serde_json.specs.View.{view};
 ghost use Rattle.tmem_forms.specs.Errors.{Refuses};
 ghost use Rattle.tmem_tree.specs.declared.tx.Tx.{Tx};
 ghost use Rattle.tmem_requests.specs.Forms.{IsKept};
-ghost use Rattle.tmem_requests.specs.Requests.{IsAsked, IsSettle};
+ghost use Rattle.tmem_requests.specs.Requests.{AsksBy, IsSettle};
 ghost use Rattle.tmem_requests.specs.declared.proposal.Proposal.{Proposal};
 ghost use Rattle.tmem_requests.specs.declared.request.Ask.{Ask};
 
@@ -26,8 +26,8 @@ pub(crate) fn ask_of(
     key: &str,
     body: &Value,
 ) -> Result<Ask, FormError>
-    ensures ok { IfOk result (λ ask. IsAsked ask key.now (view body.now) (view whole.now)) }
-    ensures refused { IfErr result (λ e. Refuses e ((ask : Ask) → ¬ IsAsked ask key.now (view body.now) (view whole.now))) }
+    ensures ok { IfOk result (λ ask. AsksBy ask key.now (view body.now) (view whole.now)) }
+    ensures refused { IfErr result (λ e. Refuses e ((ask : Ask) → ¬ AsksBy ask key.now (view body.now) (view whole.now))) }
 {
     match key {
         "do" => Ok(Ask::Do(tx_of(alloc, body)?)),
@@ -78,8 +78,8 @@ fn kept_of(alloc: Global, body: &Value) -> Result<(Name, Tx), FormError>
 
 // What is asked for by a word.
 fn question_of(body: &Value) -> Result<Ask, FormError>
-    ensures ok { IfOk result (λ ask. (whole : Data) → IsAsked ask (codes "ask") (view body.now) whole) }
-    ensures refused { IfErr result (λ e. Refuses e ((ask : Ask) (whole : Data) → ¬ IsAsked ask (codes "ask") (view body.now) whole)) }
+    ensures ok { IfOk result (λ ask. (whole : Data) → AsksBy ask (codes "ask") (view body.now) whole) }
+    ensures refused { IfErr result (λ e. Refuses e ((ask : Ask) (whole : Data) → ¬ AsksBy ask (codes "ask") (view body.now) whole)) }
 {
     let Value::String(word) = body else {
         return Err(FormError::NoForm);

@@ -1,7 +1,7 @@
 //! The lines of answers, and the first line.
 ghost use Rattle.std.specs.Prelude.{◌≡◌, Some};
 ghost use Rattle.std.specs.Fmt.{DisplaysOnOk};
-ghost use Rattle.tmem_requests.specs.Answers.{answer_line, answer_text, settled_text, state_text, stats_text, without_last_zeros};
+ghost use Rattle.tmem_requests.specs.Answers.{answer_line, answer_text, settled_text, state_members, stats_text, without_last_zeros};
 
 use crate::answer::{Answer, Stats};
 use crate::array::{write_numbers, write_pairs, write_words};
@@ -94,7 +94,7 @@ fn write_state<W: fmt::Write>(
     names: &[Name],
     values: &[i64],
 ) -> fmt::Result
-    ensures { DisplaysOnOk W.write_str_gives f.old result (Some (state_text count names.now values.now)) f.new }
+    ensures { DisplaysOnOk W.write_str_gives f.old result (Some (state_members count names.now values.now)) f.new }
 {
     write!(f, "\"count\":{count},\"names\":")?;
     write_words(f, names)?;

@@ -1,7 +1,7 @@
 //! The first line.
 ghost use Rattle.std.specs.Prelude.{Some, ℕ, List, ◌++◌, codes, flat_map, map, string_bytes};
 ghost use Rattle.std.specs.Fmt.{DisplaysOnOk};
-ghost use Rattle.tmem_requests.specs.Answers.{joined, name_text, opened_line};
+ghost use Rattle.tmem_requests.specs.Answers.{texts_joined, name_text, opened_line};
 
 use std::fmt;
 
@@ -30,7 +30,7 @@ impl<'a> fmt::Display for OpenedLine<'a> {
 
 // Names and their variables, with a comma between any two.
 fn join_names<W: fmt::Write>(f: &mut fmt::Formatter<W>, names: &[(String, u16)]) -> fmt::Result
-    ensures { DisplaysOnOk W.write_str_gives f.old result (Some (joined name_text (map (λ n. (string_bytes n.0, n.1)) names.now))) f.new }
+    ensures { DisplaysOnOk W.write_str_gives f.old result (Some (texts_joined name_text (map (λ n. (string_bytes n.0, n.1)) names.now))) f.new }
 {
     if let Some((first, others)) = names.split_first() {
         write!(f, "\"{}\":{}", first.0.as_str(), first.1)?;

@@ -22,9 +22,9 @@ pub enum RequestError {
 
 impl From<serde_json::Error> for RequestError {
     ghost use Rattle.serde_json.specs.Errors.{IsMemory};
-    ghost use Rattle.tmem_requests.specs.Errors.{IsNoRequest, IsNotJson, IsWanting};
+    ghost use Rattle.tmem_requests.specs.Errors.{IsNoRequest, IsNotJson, LacksMemory};
 
-    ghost from_gives = { λ error e. (IsMemory error → IsWanting e) × (¬ IsMemory error → IsNoRequest e × IsNotJson e) };
+    ghost from_gives = { λ error e. (IsMemory error → LacksMemory e) × (¬ IsMemory error → IsNoRequest e × IsNotJson e) };
 
     fn from(error: serde_json::Error) -> RequestError {
         if error.is_memory() {

@@ -6,7 +6,7 @@ ghost use Rattle.serde_json.specs.View.{view};
 ghost use Rattle.tmem_forms.specs.Errors.{Refuses};
 ghost use Rattle.tmem_requests.specs.Errors.{IsNoRequest, IsNotJson};
 ghost use Rattle.tmem_requests.specs.Fits.{FitsStore};
-ghost use Rattle.tmem_requests.specs.Forms.{HasAt, IsInteger};
+ghost use Rattle.tmem_requests.specs.Forms.{HasMember, IsInteger};
 ghost use Rattle.tmem_requests.specs.Reasons.{IsNoJson};
 ghost use Rattle.tmem_requests.specs.Requests.{IsRequest, IsRequestText};
 ghost use Rattle.tmem_requests.specs.Wrong.{TellsTruth, TellsTruthOf, store};
@@ -114,8 +114,8 @@ impl Request {
 
 // The number at the key `id`.
 fn id_in(value: &Value) -> Result<i64, FormError>
-    ensures ok { IfOk result (λ id. HasAt (codes "id") (IsInteger id) (view value.now)) }
-    ensures refused { IfErr result (λ e. Refuses e ((id : ℤ) → ¬ HasAt (codes "id") (IsInteger id) (view value.now))) }
+    ensures ok { IfOk result (λ id. HasMember (codes "id") (IsInteger id) (view value.now)) }
+    ensures refused { IfErr result (λ e. Refuses e ((id : ℤ) → ¬ HasMember (codes "id") (IsInteger id) (view value.now))) }
 {
     match value.get("id") {
         Some(number) => integer_of(number),

@@ -44,9 +44,9 @@ pub enum Why {
 
 impl fmt::Display for Why {
     ghost use Rattle.std.specs.Prelude.{Some};
-    ghost use Rattle.tmem_requests.specs.Refusals.{why_text};
+    ghost use Rattle.tmem_requests.specs.Refusals.{request_why_text};
 
-    ghost output = { λ why. Some (why_text why) };
+    ghost output = { λ why. Some (request_why_text why) };
 
     fn fmt<W: fmt::Write>(&self, f: &mut fmt::Formatter<W>) -> fmt::Result {
         f.write_str(match self {

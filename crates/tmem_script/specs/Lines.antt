@@ -8,14 +8,14 @@ use Rattle.tmem_event.specs.declared.event.Reply.{Reply}
 use Rattle.tmem_event.specs.declared.event.Reply.TheVariants as reply
 
 -- these numbers, a comma between any two
-abbrev pub joined : List ℤ → List ℕ
-joined [] = []
-joined (n ∷ ns) = signed_decimal n ++ flat_map (λ m. codes "," ++ signed_decimal m) ns
+abbrev pub numbers_joined : List ℤ → List ℕ
+numbers_joined [] = []
+numbers_joined (n ∷ ns) = signed_decimal n ++ flat_map (λ m. codes "," ++ signed_decimal m) ns
 
 -- the line of what a transaction was answered
 abbrev pub settled_line : Settled → List ℕ
 settled_line (Committed number registers) = codes "committed " ++ decimal number
-settled_line (Seen at registers) = codes "seen " ++ decimal at ++ codes " " ++ joined registers
+settled_line (Seen at registers) = codes "seen " ++ decimal at ++ codes " " ++ numbers_joined registers
 settled_line Retry = codes "retry"
 settled_line (Aborted code) = codes "aborted " ++ decimal code
 settled_line (Refused name) = codes "refused " ++ name

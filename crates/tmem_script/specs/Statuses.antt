@@ -39,5 +39,5 @@ failure_text Clock = codes "no clock"
 failure_text (Words error) = words_error_text error
 
 -- the line that the user is told
-abbrev pub told : Failure → List ℕ
-told failure = codes "tmem: " ++ failure_text failure ++ 10 ∷ []
+abbrev pub failure_line : Failure → List ℕ
+failure_line failure = codes "tmem: " ++ failure_text failure ++ 10 ∷ []

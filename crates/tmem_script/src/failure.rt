@@ -1,7 +1,7 @@
 //! Why a run ends before its last line, and with which status.
 ghost use Rattle.std.specs.Prelude.{◌≡◌, ◌≤◌, OnOk};
 ghost use Rattle.std.specs.Io.KnownBytes.{Appends};
-ghost use Rattle.tmem_script.specs.Statuses.{status_of, told};
+ghost use Rattle.tmem_script.specs.Statuses.{status_of, failure_line};
 
 use crate::script::ScriptError;
 use std::io::Write;
@@ -114,7 +114,7 @@ pub fn report<E: Write>(failure: &Failure, err: &mut E) -> u8
 
 // Prints what the user is told of a failure.
 fn tell<E: Write>(failure: &Failure, err: &mut E) -> io::Result<()>
-    ensures { OnOk result (Appends (E.contents err.old) (E.contents err.new) (told failure.now)) }
+    ensures { OnOk result (Appends (E.contents err.old) (E.contents err.new) (failure_line failure.now)) }
 {
     writeln!(err, "tmem: {failure}")
 }

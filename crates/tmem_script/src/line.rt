@@ -1,7 +1,7 @@
 //! What is printed: one line for each reply.
 ghost use Rattle.std.specs.Prelude.{Some};
 ghost use Rattle.std.specs.Fmt.{DisplaysOnOk};
-ghost use Rattle.tmem_script.specs.Lines.{joined, line_of, settled_line};
+ghost use Rattle.tmem_script.specs.Lines.{numbers_joined, line_of, settled_line};
 
 use std::fmt;
 use tmem_event::{Reply, Settled};
@@ -49,7 +49,7 @@ fn write_settled<W: fmt::Write>(f: &mut fmt::Formatter<W>, settled: &Settled) ->
 
 // Numbers, with a comma between any two.
 fn write_joined<W: fmt::Write>(f: &mut fmt::Formatter<W>, numbers: &[i64]) -> fmt::Result
-    ensures { DisplaysOnOk W.write_str_gives f.old result (Some (joined numbers.now)) f.new }
+    ensures { DisplaysOnOk W.write_str_gives f.old result (Some (numbers_joined numbers.now)) f.new }
 {
     if let Some((first, others)) = numbers.split_first() {
         write!(f, "{first}")?;

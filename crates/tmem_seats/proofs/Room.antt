@@ -8,12 +8,12 @@ use Rattle.tmem_fault.specs.declared.fault.Fault.TheVariants as fault
 use Rattle.tmem_effect.specs.State.{State}
 use Rattle.tmem_effect.specs.declared.effect.Effect.{Effect}
 use Rattle.tmem_journal.specs.declared.journal.Journal.{Journal}
-use Rattle.tmem_journal.specs.Held.{device_of, layout_of, is_closed_of}
+use Rattle.tmem_journal.specs.Held.{journal_device, journal_layout, is_closed_of}
 use Rattle.tmem_journal.specs.Journals.{Flushes}
-use Rattle.tmem_journal.specs.Stands.{StandsForState, StandsForEither}
+use Rattle.tmem_journal.specs.Contents.{ContentRepresentsState, ContentRepresentsEither}
 
--- a content that stands for a state stands for it or for another
-one_of_two : (vars slots : ℕ) (s t : State) (c : List ℕ) → StandsForState vars slots s c → StandsForEither vars slots s t c
+-- a content that represents a state represents it or for another
+one_of_two : (vars slots : ℕ) (s t : State) (c : List ℕ) → ContentRepresentsState vars slots s c → ContentRepresentsEither vars slots s t c
 one_of_two vars slots s t c stands = ∥∥₁_map stands (λ held. (held.0, inl held.1))
 
 -- what held at each moment of one call and of the next held at each moment of both
@@ -25,12 +25,12 @@ both_times old mid new P Q model later time first second = record {
 
 -- over a journal whose log was full, a checkpoint leaves what is durable
 pub while_room_is_made : {D : Type 0} {d : _} (s t u : State) (old mid new : Journal D d) → mid ≡ old → u ≡ s
-    → AtEachMoment (device_of mid) (device_of new) (StandsForState (layout_of mid).vars (layout_of mid).slots u)
-    → AtEachMoment (device_of old) (device_of new) (StandsForEither (layout_of old).vars (layout_of old).slots s t)
+    → AtEachMoment (journal_device mid) (journal_device new) (ContentRepresentsState (journal_layout mid).vars (journal_layout mid).slots u)
+    → AtEachMoment (journal_device old) (journal_device new) (ContentRepresentsEither (journal_layout old).vars (journal_layout old).slots s t)
 while_room_is_made s t u old mid new same is each =
-    let here = subst (λ x. AtEachMoment (device_of mid) (device_of new) (StandsForState (layout_of mid).vars (layout_of mid).slots x)) is each in
-    let there = subst (λ j. AtEachMoment (device_of j) (device_of new) (StandsForState (layout_of j).vars (layout_of j).slots s)) same here in
-    AtEachMoment-more (device_of old) (device_of new) _ _ there (λ keeps c stands. one_of_two (layout_of old).vars (layout_of old).slots s t c stands)
+    let here = subst (λ x. AtEachMoment (journal_device mid) (journal_device new) (ContentRepresentsState (journal_layout mid).vars (journal_layout mid).slots x)) is each in
+    let there = subst (λ j. AtEachMoment (journal_device j) (journal_device new) (ContentRepresentsState (journal_layout j).vars (journal_layout j).slots s)) same here in
+    AtEachMoment-more (journal_device old) (journal_device new) _ _ there (λ keeps c stands. one_of_two (journal_layout old).vars (journal_layout old).slots s t c stands)
 
 -- a flush that found a full log left the journal as it was
 pub was_full : {D : Type 0} {d : _} (old new : Journal D d) (es : List Effect) (f : Fault) → f ≡ fault.LogFull → Flushes old es (Err f) new → (is_closed_of old ≡ false) × (new ≡ old)

@@ -9,26 +9,26 @@ use Rattle.tmem_effect.specs.declared.effect.Effect.{Effect}
 use Rattle.tmem_core.specs.Taking.{IsTaken}
 use Rattle.tmem_spine.specs.declared.view.Entry.{Entry}
 use Rattle.tmem_spine.specs.History.{count, unmarked}
-use Rattle.tmem_seats.specs.Histories.{after}
+use Rattle.tmem_seats.specs.Histories.{state_after_history}
 use Rattle.tmem_seats.specs.declared.failure.Failure.{Failure}
 use Rattle.tmem_seats.specs.declared.failure.Failure.TheVariants as failure
 
 -- A batch goes on from what is durable to what the journal aims at, and a log takes it: each effect changes something,
 -- and the state after each of them is within the limits of counts and names.
-pub record GoesOn (start : ℕ) (opening : State) (durable : List Entry) (batch : List Effect) (aimed : List Entry) : Type 0 where
+pub record BatchGoesOn (start : ℕ) (opening : State) (durable : List Entry) (batch : List Effect) (aimed : List Entry) : Type 0 where
   pub begins : IsPrefix durable aimed
   pub more : unmarked aimed ≡ unmarked durable ++ batch
   pub few : length batch ≤ 64
   pub each : All (IsLoggable (length opening.values)) batch
   pub countable : count start aimed < 2 ^ 64
-  pub room : StaysWithin (after opening durable) batch
+  pub room : StaysWithin (state_after_history opening durable) batch
 
--- the batch is taken from the oldest of what is accepted and not durable, each next one as long as any other would
+-- the batch is taken from the oldest of what is committed and not durable, each next one as long as any other would
 -- still fit
-pub record TakesOldest (accepted durable : List Entry) (batch : List Effect) (aimed : List Entry) : Type 0 where
-  pub ahead : IsPrefix aimed accepted
-  pub oldest : IsTaken (drop (length durable) (unmarked accepted)) batch
-  pub some : length durable < length accepted → 1 ≤ length batch
+pub record TakesOldest (committed durable : List Entry) (batch : List Effect) (aimed : List Entry) : Type 0 where
+  pub ahead : IsPrefix aimed committed
+  pub oldest : IsTaken (drop (length durable) (unmarked committed)) batch
+  pub some : length durable < length committed → 1 ≤ length batch
 
 -- what a flush can be refused for
 abbrev pub IsFlushRefusal : Fault → Type 0

@@ -2,7 +2,7 @@
 use Rattle.std.specs.Prelude.{List}
 use Rattle.tmem_effect.specs.declared.effect.Effect.{Effect}
 use Rattle.tmem_journal.specs.declared.journal.Journal.{Journal}
-use Rattle.tmem_spine.specs.Views.{JournalView}
+use Rattle.tmem_spine.specs.Views.{JournalRoleView}
 use Rattle.tmem_seats.specs.declared.journal_seat.JournalSeat.{JournalSeat}
 
 -- the journal under its lock
@@ -10,7 +10,7 @@ abbrev pub journal_of : {D N : Type 0} {d n a b : _} → JournalSeat D N d n a b
 journal_of j = j.journal
 
 -- its seat
-abbrev pub side_of : {D N : Type 0} {d n a b : _} → JournalSeat D N d n a b → JournalView
+abbrev pub side_of : {D N : Type 0} {d n a b : _} → JournalSeat D N d n a b → JournalRoleView
 side_of j = j.side
 
 -- the batch of its flush

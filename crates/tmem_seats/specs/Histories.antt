@@ -1,7 +1,7 @@
 -- What a history makes of the opening state.
 use Rattle.std.specs.Prelude.{◌≡◌, ℕ, ℤ, true, List, [], length, map, Some, slice_get}
 use Rattle.tmem_disk.specs.Disk.{DeviceView, LeavesOnly}
-use Rattle.tmem_journal.specs.Stands.{StandsForEither}
+use Rattle.tmem_journal.specs.Contents.{ContentRepresentsEither}
 use Rattle.tmem_effect.specs.Prefix.{IsPrefix}
 use Rattle.tmem_effect.specs.State.{State, fold, first_state}
 use Rattle.tmem_effect.specs.declared.effect.Effect.{Effect}
@@ -12,8 +12,8 @@ use Rattle.tmem_spine.specs.declared.view.Entry.{Entry}
 use Rattle.tmem_spine.specs.History.{entry, unmarked}
 
 -- the state after a history
-abbrev pub after : State → List Entry → State
-after opening log = fold opening (unmarked log)
+abbrev pub state_after_history : State → List Entry → State
+state_after_history opening log = fold opening (unmarked log)
 
 -- effects under one mark
 abbrev pub marked : ℕ → List Effect → List Entry
@@ -29,11 +29,11 @@ IsSoundState p s = IsSound p.tests p.names s.names s.values
 
 -- the state after each beginning of a history is sound
 abbrev pub AreSound : Program → State → List Entry → Type 0
-AreSound p opening log = (xs : List Entry) → IsPrefix xs log → IsSoundState p (after opening xs)
+AreSound p opening log = (xs : List Entry) → IsPrefix xs log → IsSoundState p (state_after_history opening xs)
 
 -- some list of effects makes of the opening state a sound one, in which the variable has this value
 abbrev pub IsPossibleValue : Program → State → ℕ → ℤ → Type 0
-IsPossibleValue p opening var n = ∥ ((log : List Entry) × IsSoundState p (after opening log) × (slice_get (after opening log).values var ≡ Some n)) ∥₁
+IsPossibleValue p opening var n = ∥ ((log : List Entry) × IsSoundState p (state_after_history opening log) × (slice_get (state_after_history opening log).values var ≡ Some n)) ∥₁
 
 -- the state of no store, and a program that brings nothing
 abbrev pub no_state : State
@@ -42,10 +42,10 @@ no_state = first_state 0
 abbrev pub no_program : Program
 no_program = record { steps = λ index args. Retry; names = []; tests = record { footprint = λ name. []; test = λ name values. true } }
 
--- Every crash leaves a content that stands for the state after a history, or after one that it begins.
+-- Every crash leaves a content that represents the state after a history, or after one that it begins.
 pub record IsLeftOpen (opening : State) (d : DeviceView) : Type 0 where
   pub slots : ℕ
   pub durable : List Entry
   pub aimed : List Entry
   pub begins : IsPrefix durable aimed
-  pub leaves : LeavesOnly d (StandsForEither (length opening.values) slots (after opening durable) (after opening aimed))
+  pub leaves : LeavesOnly d (ContentRepresentsEither (length opening.values) slots (state_after_history opening durable) (state_after_history opening aimed))

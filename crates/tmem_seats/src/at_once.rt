@@ -6,7 +6,7 @@ ghost use Rattle.tmem_tentative.specs.Fits.{IsForVariables, IsForNames};
 ghost use Rattle.tmem_tentative.specs.Right.{IsRight};
 ghost use Rattle.tmem_tree.specs.Plans.{FitsSteps, FitsVariables, FitsNames, FitsShapes};
 ghost use Rattle.tmem_tree.specs.StepAnswers.{StepMeanings};
-ghost use Rattle.tmem_seats.specs.Histories.{after};
+ghost use Rattle.tmem_seats.specs.Histories.{state_after_history};
 
 use crate::core_seat::CoreSeat;
 use crate::naming::StoreNaming;
@@ -34,7 +34,7 @@ impl<N: StoreNaming, T: Invariants + Drop> CoreSeat<N, T> {
         ensures right { (m : StepMeanings) → S.is_stated steps.now m → IfOk result (λ _. IsRight m N.program.tests plan.now.tree (attempt_of cursor.new)) }
         ensures variables { IfOk result (λ _. IsForVariables (length N.opening.values) (attempt_of cursor.new)) }
         ensures names { IfOk result (λ _. IsForNames N.program.names (attempt_of cursor.new)) }
-        ensures present { IfOk result (λ _. is_stale (after N.opening self.now.accepted) (attempt_of cursor.new).reads.entries ≡ false) }
+        ensures present { IfOk result (λ _. is_stale (state_after_history N.opening self.now.committed) (attempt_of cursor.new).reads.entries ≡ false) }
         ensures memory { IfErr result (λ fault. fault ≡ Fault.Memory) }
     {
         cursor.restart(plan)?;

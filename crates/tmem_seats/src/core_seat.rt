@@ -4,15 +4,15 @@ ghost use Rattle.tmem_effect.specs.Prefix.{IsPrefix};
 ghost use Rattle.tmem_effect.specs.Names.{has_name};
 ghost use Rattle.tmem_tentative.specs.declared.attempt.Attempt.{Attempt as AttemptOf};
 ghost use Rattle.tmem_tentative.specs.Fits.{IsForVariables, IsForNames};
-ghost use Rattle.tmem_core.specs.Held.{state_of, waiting_of, durable_of, is_shut_of, table_of};
+ghost use Rattle.tmem_core.specs.Held.{core_state, waiting_of, durable_of, is_shut_of, core_table};
 ghost use Rattle.tmem_core.specs.Decisions.{answer_of, taken_by, RetriesAt};
 ghost use Rattle.tmem_core.specs.Program.{IsProgramOf};
 ghost use Rattle.tmem_spine.specs.History.{count};
 ghost use Rattle.tmem_spine.specs.Views.{new_core, new_pass};
 ghost use Rattle.tmem_spine.specs.declared.spine.TheConstants.{MOST_PASSES};
 ghost use Rattle.tmem_seats.specs.Deciding.{Decides};
-ghost use Rattle.tmem_seats.specs.Flushing.{GoesOn, TakesOldest};
-ghost use Rattle.tmem_seats.specs.Histories.{after, marked, numbered, IsSoundState};
+ghost use Rattle.tmem_seats.specs.Flushing.{BatchGoesOn, TakesOldest};
+ghost use Rattle.tmem_seats.specs.Histories.{state_after_history, marked, numbered, IsSoundState};
 ghost use Rattle.tmem_seats.specs.Seats.{HasMoreOrShut, HasFlushedOrEnded, HasRoomOrShut, HasWorkOrShut, first_failure};
 
 use crate::failure::Failure;
@@ -27,7 +27,7 @@ use tmem_spine::{CoreSide, JournalSide, Pass, Spine};
 use tmem_state::Batch;
 use tmem_tentative::{Attempt, Probe, Reads};
 
-/// The core, beside its seat. Contracts see what it accepted, how many are known durable, how many passes it gave out,
+/// The core, beside its seat. Contracts see what it committed, how many are known durable, how many passes it gave out,
 /// whether it is shut, whether it then still waits for a flush, and how its device failed.
 pub struct CoreSeat<N: StoreNaming, T: Invariants> {
     core: Core<T>,
@@ -61,18 +61,18 @@ impl<N: StoreNaming, T: Invariants> Model for CoreSeat<N, T> {
 
     ghost Value = { CoreSeatView };
 
-    ghost view = { λ s. record { accepted = s.side.accepted; trimmed = s.side.trimmed; given = s.side.given; is_shut = is_shut_of s.core; is_draining = s.is_draining; failure = s.failure } };
+    ghost view = { λ s. record { committed = s.side.committed; trimmed = s.side.trimmed; given = s.side.given; is_shut = is_shut_of s.core; is_draining = s.is_draining; failure = s.failure } };
 
     ghost invariant = { λ s. IsCoreOf N.name.start N.opening N.program s.core s.side };
 }
 
 impl<N: StoreNaming, T: Invariants + Drop> CoreSeat<N, T> {
-    /// A core that has accepted nothing yet, beside its seat.
+    /// A core that has committed nothing yet, beside its seat.
     pub fn new(core: Core<T>, side: CoreSide<N>) -> CoreSeat<N, T>
-        requires opening { (state_of core ≡ N.opening) × (N.opening.count ≡ N.name.start) }
+        requires opening { (core_state core ≡ N.opening) × (N.opening.count ≡ N.name.start) }
         requires fresh { (waiting_of core ≡ []) × (durable_of core ≡ N.name.start) × (side ≡ new_core N.name.start) }
-        requires program { IsProgramOf T.Invariants (table_of core) N.program }
-        ensures { (result.accepted ≡ []) × (result.trimmed ≡ N.name.start) × (result.given ≡ 0) × (result.is_shut ≡ is_shut_of core) × (result.is_draining ≡ false) × (result.failure ≡ Failure.None) }
+        requires program { IsProgramOf T.Invariants (core_table core) N.program }
+        ensures { (result.committed ≡ []) × (result.trimmed ≡ N.name.start) × (result.given ≡ 0) × (result.is_shut ≡ is_shut_of core) × (result.is_draining ≡ false) × (result.failure ≡ Failure.None) }
     {
         let (looks, is_draining, failure) = (0, false, Failure::None);
         CoreSeat {
@@ -87,7 +87,7 @@ impl<N: StoreNaming, T: Invariants + Drop> CoreSeat<N, T> {
 
     /// Settles an attempt for a pass. The core first learns how many are durable, at least as many as the pass saw, and
     /// then answers by its present state. The answer leaves out the registers, which are those of the attempt. What commits
-    /// is accepted under the mark of the pass, which has it as its own. The pass knows all that is accepted then.
+    /// is committed under the mark of the pass, which has it as its own. The pass knows all that is committed then.
     pub fn decide(
         &mut self,
         spine: &Spine<N>,
@@ -97,7 +97,7 @@ impl<N: StoreNaming, T: Invariants + Drop> CoreSeat<N, T> {
         requires variables { IsForVariables (length N.opening.values) attempt.now }
         requires names { IsForNames N.program.names attempt.now }
         ensures decided { Decides N.name.start N.opening N.program attempt.now self.old pass.old (answer_of result attempt.now.registers) self.new pass.new }
-        ensures retries { RetriesAt (count N.name.start self.old.accepted) result }
+        ensures retries { RetriesAt (count N.name.start self.old.committed) result }
     {
         let durable = spine.trim(&mut self.side, pass);
         self.core.note_durable(durable);
@@ -138,13 +138,13 @@ impl<N: StoreNaming, T: Invariants + Drop> CoreSeat<N, T> {
         self.side.given()
     }
 
-    /// A pass knows all that is accepted then, and the core learns how many are durable. Answers how many are accepted.
+    /// A pass knows all that is committed then, and the core learns how many are durable. Answers how many are committed.
     pub fn meet(&mut self, spine: &Spine<N>, seat: &mut Pass<N>) -> u64
-        ensures count { result ≡ count N.name.start self.new.accepted }
+        ensures count { result ≡ count N.name.start self.new.committed }
         ensures core { self.new ≡ record self.old { trimmed = self.new.trimmed } }
         ensures trimmed { (self.old.trimmed ≤ self.new.trimmed) × (count N.name.start seat.old.seen ≤ self.new.trimmed) }
-        ensures pass { seat.new ≡ record seat.old { known = self.new.accepted } }
-        ensures begins { IsPrefix seat.old.known self.new.accepted }
+        ensures pass { seat.new ≡ record seat.old { known = self.new.committed } }
+        ensures begins { IsPrefix seat.old.known self.new.committed }
     {
         let durable = spine.trim(&mut self.side, seat);
         self.core.note_durable(durable);
@@ -154,7 +154,7 @@ impl<N: StoreNaming, T: Invariants + Drop> CoreSeat<N, T> {
 
     /// Whether an invariant of this name is registered.
     pub fn has(&self, name: &Name) -> bool
-        ensures { result ≡ has_name (after N.opening self.now.accepted).names name.now }
+        ensures { result ≡ has_name (state_after_history N.opening self.now.committed).names name.now }
     {
         self.core.has(name)
     }
@@ -162,8 +162,8 @@ impl<N: StoreNaming, T: Invariants + Drop> CoreSeat<N, T> {
     /// The present value of a variable.
     pub fn peek(&self, var: u16) -> i64
         requires { var < length N.opening.values }
-        ensures value { slice_get (after N.opening self.now.accepted).values var ≡ Some result }
-        ensures sound { IsSoundState N.program (after N.opening self.now.accepted) }
+        ensures value { slice_get (state_after_history N.opening self.now.committed).values var ≡ Some result }
+        ensures sound { IsSoundState N.program (state_after_history N.opening self.now.committed) }
     {
         self.core.peek(var)
     }
@@ -180,7 +180,7 @@ impl<N: StoreNaming, T: Invariants + Drop> CoreSeat<N, T> {
     /// Pushes the present values of variables, in their order. Refused by `Memory`.
     pub fn peek_all(&self, vars: &[u16], values: &mut Vec<i64>) -> Result<(), Fault>
         requires { All (λ var. var < length N.opening.values) vars.now }
-        ensures values { OnOk result (map (λ n. Some n) values.new.items ≡ map (λ n. Some n) values.old.items ++ map (λ var. slice_get (after N.opening self.now.accepted).values var) vars.now) }
+        ensures values { OnOk result (map (λ n. Some n) values.new.items ≡ map (λ n. Some n) values.old.items ++ map (λ var. slice_get (state_after_history N.opening self.now.committed).values var) vars.now) }
         ensures refused { IfErr result (λ fault. fault ≡ Fault.Memory) }
     {
         for var in vars {
@@ -194,8 +194,8 @@ impl<N: StoreNaming, T: Invariants + Drop> CoreSeat<N, T> {
     pub fn take(&mut self, spine: &Spine<N>, journal: &mut JournalSide<N>, batch: &mut Batch)
         ensures core { self.new ≡ record self.old { trimmed = count N.name.start journal.old.durable } }
         ensures durable { journal.new.durable ≡ journal.old.durable }
-        ensures goes_on { GoesOn N.name.start N.opening journal.old.durable batch.new journal.new.aimed }
-        ensures oldest { TakesOldest self.old.accepted journal.old.durable batch.new journal.new.aimed }
+        ensures goes_on { BatchGoesOn N.name.start N.opening journal.old.durable batch.new journal.new.aimed }
+        ensures oldest { TakesOldest self.old.committed journal.old.durable batch.new journal.new.aimed }
     {
         let durable = spine.trim_beside(&mut self.side, journal);
         self.core.note_durable(durable);
@@ -212,9 +212,9 @@ impl<N: StoreNaming, T: Invariants + Drop> CoreSeat<N, T> {
         self.core.note_durable(known);
     }
 
-    /// How many transactions are accepted.
+    /// How many transactions are committed.
     fn count(&self) -> u64
-        ensures { result ≡ count N.name.start self.now.accepted }
+        ensures { result ≡ count N.name.start self.now.committed }
     {
         self.core.count()
     }
@@ -228,7 +228,7 @@ impl<N: StoreNaming, T: Invariants + Drop> CoreSeat<N, T> {
 
     /// Whether some of them are not known durable.
     pub fn has_waiting(&self) -> bool
-        ensures { IsTrue result ↔ (self.now.trimmed < count N.name.start self.now.accepted) }
+        ensures { IsTrue result ↔ (self.now.trimmed < count N.name.start self.now.committed) }
     {
         self.durable() < self.count()
     }
@@ -240,7 +240,7 @@ impl<N: StoreNaming, T: Invariants + Drop> CoreSeat<N, T> {
         self.core.is_shut()
     }
 
-    /// Whether more than so many are accepted, or it was shut: what a transaction waits for that retried. The look is counted.
+    /// Whether more than so many are committed, or it was shut: what a transaction waits for that retried. The look is counted.
     pub fn has_more(&mut self, at: u64) -> bool
         ensures more { IsTrue result ↔ HasMoreOrShut N.name.start at self.new }
         ensures same { self.new ≡ self.old }
@@ -335,7 +335,7 @@ impl<N: StoreNaming, T: Invariants + Drop> CoreSeat<N, T> {
     }
 }
 
-// Enters into the history what was decided of an attempt for a pass. The pass knows all that is accepted then.
+// Enters into the history what was decided of an attempt for a pass. The pass knows all that is committed then.
 fn enter<N: StoreNaming>(
     spine: &Spine<N>,
     side: &mut CoreSide<N>,
@@ -343,10 +343,10 @@ fn enter<N: StoreNaming>(
     decision: &Result<Decision, Fault>,
     attempt: &Attempt,
 )
-    requires begins { IsPrefix pass.old.known side.old.accepted }
-    requires room { count N.name.start side.old.accepted + length (taken_by decision.now attempt.now) < 2 ^ 64 }
-    ensures side { side.new ≡ record side.old { accepted = side.old.accepted ++ marked pass.old.mark (taken_by decision.now attempt.now) } }
-    ensures pass { pass.new ≡ record pass.old { known = side.new.accepted; own = pass.old.own ++ numbered (count N.name.start side.old.accepted) (taken_by decision.now attempt.now) } }
+    requires begins { IsPrefix pass.old.known side.old.committed }
+    requires room { count N.name.start side.old.committed + length (taken_by decision.now attempt.now) < 2 ^ 64 }
+    ensures side { side.new ≡ record side.old { committed = side.old.committed ++ marked pass.old.mark (taken_by decision.now attempt.now) } }
+    ensures pass { pass.new ≡ record pass.old { known = side.new.committed; own = pass.old.own ++ numbered (count N.name.start side.old.committed) (taken_by decision.now attempt.now) } }
 {
     if commits(decision) {
         spine.accept(side, pass, &attempt.effect);
@@ -355,7 +355,7 @@ fn enter<N: StoreNaming>(
     }
 }
 
-// Whether a decision accepts the effect of its attempt.
+// Whether a decision commits the effect of its attempt.
 fn commits(decision: &Result<Decision, Fault>) -> bool
     ensures { (attempt : AttemptOf) → MatchBool result (taken_by decision.now attempt ≡ attempt.effect ∷ []) (taken_by decision.now attempt ≡ []) }
 {

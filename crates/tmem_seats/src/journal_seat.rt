@@ -4,14 +4,14 @@ ghost use Rattle.tmem_disk.specs.Disk.{LeavesOnly, AtEachMoment};
 ghost use Rattle.tmem_effect.specs.Prefix.{IsPrefix};
 ghost use Rattle.tmem_effect.specs.declared.effect.Effect.{Effect as EffectOf};
 ghost use Rattle.tmem_gate.specs.Calls.{Uses, WritesWithin};
-ghost use Rattle.tmem_record.specs.Layout.{slot_place, image_place, image_size};
-ghost use Rattle.tmem_journal.specs.Held.{device_of, layout_of, state_of, doubtful_of, position_of, is_closed_of};
-ghost use Rattle.tmem_journal.specs.Stands.{StandsForEither, StandsForState};
+ghost use Rattle.tmem_record.specs.Layout.{slot_at, image_at, image_size};
+ghost use Rattle.tmem_journal.specs.Held.{journal_device, journal_layout, journal_state, doubtful_of, journal_position, is_closed_of};
+ghost use Rattle.tmem_journal.specs.Contents.{ContentRepresentsEither, ContentRepresentsState};
 ghost use Rattle.tmem_spine.specs.History.{count, entry, longer, Has, HasAt};
 ghost use Rattle.tmem_spine.specs.Views.{new_journal};
 ghost use Rattle.tmem_journal.specs.Journals.{Flushes, Checkpoints, HasSlot};
-ghost use Rattle.tmem_seats.specs.Flushing.{GoesOn, TakesOldest, IsFlushRefusal, IsCheckpointRefusal, IsFlusherRefusal};
-ghost use Rattle.tmem_seats.specs.Histories.{after};
+ghost use Rattle.tmem_seats.specs.Flushing.{BatchGoesOn, TakesOldest, IsFlushRefusal, IsCheckpointRefusal, IsFlusherRefusal};
+ghost use Rattle.tmem_seats.specs.Histories.{state_after_history};
 ghost use Rattle.tmem_seats.specs.Seats.{KnowsOrEnded, first_failure};
 
 use crate::core_seat::CoreSeat;
@@ -46,19 +46,19 @@ pub struct JournalSeat<D: Disk, N: StoreNaming> {
     checkpoints: u64,
 
     /// The journal's state is what the durable effects make of the opening state.
-    pub ghost state: { state_of journal ≡ after N.opening side.durable },
+    pub ghost state: { journal_state journal ≡ state_after_history N.opening side.durable },
 
     /// The history starts at the count of the opening state.
     pub ghost starts: { N.opening.count ≡ N.name.start },
 
     /// What an unknown outcome left in doubt is nothing, or what the journal aims at.
-    pub ghost doubt: { ∥ (doubtful_of journal ≡ after N.opening side.durable) ⊎ (doubtful_of journal ≡ after N.opening side.aimed) ∥₁ },
+    pub ghost doubt: { ∥ (doubtful_of journal ≡ state_after_history N.opening side.durable) ⊎ (doubtful_of journal ≡ state_after_history N.opening side.aimed) ∥₁ },
 
     /// What is durable begins what it aims at.
     pub ghost begins: { IsPrefix side.durable side.aimed },
 
     /// It is over the variables of the opening state.
-    pub ghost over: { (layout_of journal).vars ≡ length N.opening.values },
+    pub ghost over: { (journal_layout journal).vars ≡ length N.opening.values },
 }
 
 // By hand, so that a function that drops one makes one call.
@@ -79,9 +79,9 @@ impl<D: Disk, N: StoreNaming> JournalSeat<D, N> {
 
     /// A journal on whose seat nothing happened yet.
     pub fn new(journal: Journal<D>, side: JournalSide<N>, batch: Batch) -> JournalSeat<D, N>
-        requires opening { (state_of journal ≡ N.opening) × (N.opening.count ≡ N.name.start) }
+        requires opening { (journal_state journal ≡ N.opening) × (N.opening.count ≡ N.name.start) }
         requires sure { doubtful_of journal ≡ N.opening }
-        requires over { (layout_of journal).vars ≡ length N.opening.values }
+        requires over { (journal_layout journal).vars ≡ length N.opening.values }
         requires fresh { side ≡ new_journal }
         ensures { (side_of result ≡ new_journal) × (journal_of result ≡ journal) }
     {
@@ -97,7 +97,7 @@ impl<D: Disk, N: StoreNaming> JournalSeat<D, N> {
     /// The device. Every crash leaves the state after what is durable, or after what the journal aims at.
     pub fn into_disk(self) -> D
         ensures { LeavesOnly (D.view result)
-            (StandsForEither (length N.opening.values) (layout_of (journal_of self)).slots (after N.opening (side_of self).durable) (after N.opening (side_of self).aimed)) }
+            (ContentRepresentsEither (length N.opening.values) (journal_layout (journal_of self)).slots (state_after_history N.opening (side_of self).durable) (state_after_history N.opening (side_of self).aimed)) }
     {
         let JournalSeat {
             journal,
@@ -111,8 +111,8 @@ impl<D: Disk, N: StoreNaming> JournalSeat<D, N> {
 
     /// Every crash leaves the state after what is durable, or after what the journal aims at.
     pub fn crash_leaves(&self)
-        ensures { LeavesOnly (device_of (journal_of self.now))
-            (StandsForEither (layout_of (journal_of self.now)).vars (layout_of (journal_of self.now)).slots (after N.opening (side_of self.now).durable) (after N.opening (side_of self.now).aimed)) }
+        ensures { LeavesOnly (journal_device (journal_of self.now))
+            (ContentRepresentsEither (journal_layout (journal_of self.now)).vars (journal_layout (journal_of self.now)).slots (state_after_history N.opening (side_of self.now).durable) (state_after_history N.opening (side_of self.now).aimed)) }
     {}
 
     /// How many are durable. The pass then knows at least these, and its own effect at the number is among them, if it
@@ -137,8 +137,8 @@ impl<D: Disk, N: StoreNaming> JournalSeat<D, N> {
         requires { is_closed_of (journal_of self.old) ≡ false }
         ensures core { core.new ≡ record core.old { trimmed = count N.name.start (side_of self.old).durable } }
         ensures same { (journal_of self.new ≡ journal_of self.old) × ((side_of self.new).durable ≡ (side_of self.old).durable) }
-        ensures goes_on { GoesOn N.name.start N.opening (side_of self.old).durable (batch_of self.new) (side_of self.new).aimed }
-        ensures oldest { TakesOldest core.old.accepted (side_of self.old).durable (batch_of self.new) (side_of self.new).aimed }
+        ensures goes_on { BatchGoesOn N.name.start N.opening (side_of self.old).durable (batch_of self.new) (side_of self.new).aimed }
+        ensures oldest { TakesOldest core.old.committed (side_of self.old).durable (batch_of self.new) (side_of self.new).aimed }
         ensures some { IsTrue result ↔ (1 ≤ length (batch_of self.new)) }
     {
         core.take(spine, &mut self.side, &mut self.batch);
@@ -150,21 +150,21 @@ impl<D: Disk, N: StoreNaming> JournalSeat<D, N> {
     /// leave it.
     pub fn write(&mut self, spine: &Spine<N>) -> Result<u64, Fault>
         requires some { 1 ≤ length (batch_of self.old) }
-        requires goes_on { GoesOn N.name.start N.opening (side_of self.old).durable (batch_of self.old) (side_of self.old).aimed }
+        requires goes_on { BatchGoesOn N.name.start N.opening (side_of self.old).durable (batch_of self.old) (side_of self.old).aimed }
         ensures aimed { (side_of self.new).aimed ≡ (side_of self.old).aimed }
         ensures ok { IfOk result (λ n. ((side_of self.new).durable ≡ (side_of self.old).aimed) × (n ≡ count N.name.start (side_of self.new).durable)) }
         ensures err { IfErr result (λ _. (side_of self.new).durable ≡ (side_of self.old).durable) }
         ensures refused { IfErr result IsFlushRefusal }
         ensures flushed { Flushes (journal_of self.old) (batch_of self.old) result (journal_of self.new) }
         ensures batch { batch_of self.new ≡ batch_of self.old }
-        ensures layout { layout_of (journal_of self.new) ≡ layout_of (journal_of self.old) }
-        ensures uses { Uses (device_of (journal_of self.old)) (device_of (journal_of self.new)) result }
-        ensures elsewhere { WritesWithin (slot_place (layout_of (journal_of self.old)).vars (position_of (journal_of self.old)).used) 4096
-            (device_of (journal_of self.old)) (device_of (journal_of self.new)) }
+        ensures layout { journal_layout (journal_of self.new) ≡ journal_layout (journal_of self.old) }
+        ensures uses { Uses (journal_device (journal_of self.old)) (journal_device (journal_of self.new)) result }
+        ensures elsewhere { WritesWithin (slot_at (journal_layout (journal_of self.old)).vars (journal_position (journal_of self.old)).used) 4096
+            (journal_device (journal_of self.old)) (journal_device (journal_of self.new)) }
 
         // A crash at any moment leaves the state after what was durable, or after what the journal aims at.
-        ensures any_moment { AtEachMoment (device_of (journal_of self.old)) (device_of (journal_of self.new))
-            (StandsForEither (layout_of (journal_of self.old)).vars (layout_of (journal_of self.old)).slots (after N.opening (side_of self.old).durable) (after N.opening (side_of self.old).aimed)) }
+        ensures any_moment { AtEachMoment (journal_device (journal_of self.old)) (journal_device (journal_of self.new))
+            (ContentRepresentsEither (journal_layout (journal_of self.old)).vars (journal_layout (journal_of self.old)).slots (state_after_history N.opening (side_of self.old).durable) (state_after_history N.opening (side_of self.old).aimed)) }
     {
         let flushed = self.journal.flush(&self.batch);
         if flushed.is_ok() {
@@ -190,7 +190,7 @@ impl<D: Disk, N: StoreNaming> JournalSeat<D, N> {
 
     /// How many flushes and checkpoints were made, and how many slots of the log are free.
     pub fn log(&self) -> LogCounts
-        ensures { result.free_slots + (position_of (journal_of self.now)).used ≡ (layout_of (journal_of self.now)).slots }
+        ensures { result.free_slots + (journal_position (journal_of self.now)).used ≡ (journal_layout (journal_of self.now)).slots }
     {
         LogCounts {
             flushes: self.flushes,
@@ -227,15 +227,15 @@ impl<D: Disk, N: StoreNaming> JournalSeat<D, N> {
         ensures side { (side_of self.new ≡ side_of self.old) × (batch_of self.new ≡ batch_of self.old) }
         ensures refused { IfErr result IsCheckpointRefusal }
         ensures checkpointed { Checkpoints (journal_of self.old) result (journal_of self.new) }
-        ensures layout { layout_of (journal_of self.new) ≡ layout_of (journal_of self.old) }
-        ensures uses { Uses (device_of (journal_of self.old)) (device_of (journal_of self.new)) result }
-        ensures elsewhere { WritesWithin (image_place (layout_of (journal_of self.old)).vars 0)
-            (2 * image_size (layout_of (journal_of self.old)).vars + 4096 * (layout_of (journal_of self.old)).slots)
-            (device_of (journal_of self.old)) (device_of (journal_of self.new)) }
+        ensures layout { journal_layout (journal_of self.new) ≡ journal_layout (journal_of self.old) }
+        ensures uses { Uses (journal_device (journal_of self.old)) (journal_device (journal_of self.new)) result }
+        ensures elsewhere { WritesWithin (image_at (journal_layout (journal_of self.old)).vars 0)
+            (2 * image_size (journal_layout (journal_of self.old)).vars + 4096 * (journal_layout (journal_of self.old)).slots)
+            (journal_device (journal_of self.old)) (journal_device (journal_of self.new)) }
 
         // A crash at any moment leaves the state after what is durable.
-        ensures any_moment { is_closed_of (journal_of self.old) ≡ false → AtEachMoment (device_of (journal_of self.old)) (device_of (journal_of self.new))
-            (StandsForState (layout_of (journal_of self.old)).vars (layout_of (journal_of self.old)).slots (after N.opening (side_of self.old).durable)) }
+        ensures any_moment { is_closed_of (journal_of self.old) ≡ false → AtEachMoment (journal_device (journal_of self.old)) (journal_device (journal_of self.new))
+            (ContentRepresentsState (journal_layout (journal_of self.old)).vars (journal_layout (journal_of self.old)).slots (state_after_history N.opening (side_of self.old).durable)) }
     {
         let written = self.journal.checkpoint();
         count_done(&mut self.checkpoints, written.is_ok());
@@ -246,7 +246,7 @@ impl<D: Disk, N: StoreNaming> JournalSeat<D, N> {
     /// refused as a journal refuses a batch or a checkpoint, but never by `LogFull`.
     pub fn write_with_room(&mut self, spine: &Spine<N>) -> Result<u64, Fault>
         requires some { 1 ≤ length (batch_of self.old) }
-        requires goes_on { GoesOn N.name.start N.opening (side_of self.old).durable (batch_of self.old) (side_of self.old).aimed }
+        requires goes_on { BatchGoesOn N.name.start N.opening (side_of self.old).durable (batch_of self.old) (side_of self.old).aimed }
         ensures aimed { (side_of self.new).aimed ≡ (side_of self.old).aimed }
         ensures ok { IfOk result (λ n. ((side_of self.new).durable ≡ (side_of self.old).aimed) × (n ≡ count N.name.start (side_of self.new).durable)) }
         ensures err { IfErr result (λ _. (side_of self.new).durable ≡ (side_of self.old).durable) }
@@ -256,11 +256,11 @@ impl<D: Disk, N: StoreNaming> JournalSeat<D, N> {
         // Where a slot is left it does as `write`. Only at `Unknown`, or where the journal was closed before, more than the durable
         // state is in doubt.
         ensures roomy { HasSlot (journal_of self.old) → Flushes (journal_of self.old) (batch_of self.old) result (journal_of self.new) }
-        ensures certain { IfErr result (λ fault. fault ≢ Fault.Unknown → fault ≢ Fault.Closed → doubtful_of (journal_of self.new) ≡ after N.opening (side_of self.old).durable) }
+        ensures certain { IfErr result (λ fault. fault ≢ Fault.Unknown → fault ≢ Fault.Closed → doubtful_of (journal_of self.new) ≡ state_after_history N.opening (side_of self.old).durable) }
 
         // A crash at any moment leaves the state after what was durable, or after what the journal aims at.
-        ensures any_moment { AtEachMoment (device_of (journal_of self.old)) (device_of (journal_of self.new))
-            (StandsForEither (layout_of (journal_of self.old)).vars (layout_of (journal_of self.old)).slots (after N.opening (side_of self.old).durable) (after N.opening (side_of self.old).aimed)) }
+        ensures any_moment { AtEachMoment (journal_device (journal_of self.old)) (journal_device (journal_of self.new))
+            (ContentRepresentsEither (journal_layout (journal_of self.old)).vars (journal_layout (journal_of self.old)).slots (state_after_history N.opening (side_of self.old).durable) (state_after_history N.opening (side_of self.old).aimed)) }
     {
         match self.write(spine) {
             Err(Fault::LogFull) => {

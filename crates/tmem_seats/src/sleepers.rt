@@ -25,9 +25,9 @@ impl Sleepers {
         for (var, _) in reads.iter() {
             read |= bit_of(*var);
         }
-        let place = (number % 32) as usize;
-        self.reads[place] = read;
-        self.asleep |= 1u32 << place;
+        let index = (number % 32) as usize;
+        self.reads[index] = read;
+        self.asleep |= 1u32 << index;
     }
 
     /// Those that have read what the effect writes, each by its bit. They sleep no more.
@@ -40,9 +40,9 @@ impl Sleepers {
             written |= bit_of(*var);
         }
         let mut woken = 0;
-        for place in 0..32usize {
-            if self.reads[place] & written != 0 {
-                woken |= 1u32 << place;
+        for index in 0..32usize {
+            if self.reads[index] & written != 0 {
+                woken |= 1u32 << index;
             }
         }
         woken &= self.asleep;

@@ -3,7 +3,7 @@ use Rattle.std.proofs.Common.{◌≡◌, inl, inr, ℕ, List, [], ◌∷◌, ◌
 use Rattle.std.specs.Prelude.{IfErr, IsErrAnd}
 use Rattle.std.specs.Io.KnownBytes.{Appends, Consumes, Keeps}
 use Rattle.tmem_fault.specs.declared.fault.Fault.TheVariants.{Memory}
-use Rattle.tmem_lines.specs.Lines.{StandsFor}
+use Rattle.tmem_lines.specs.Lines.{HoldsRestOf}
 use Rattle.tmem_lines.specs.Views.{LinesView}
 use Rattle.tmem_desk.specs.Asking.{Store}
 use Rattle.tmem_desk.specs.Desks.{DeskView}
@@ -71,24 +71,24 @@ Keeps-then (Some x) None c one other = absurd one
 Keeps-then (Some x) (Some y) None one other = absurd other
 Keeps-then (Some x) (Some y) (Some z) one other = other ∙ one
 
--- From v to w some turns were served, and what is held stands for what is left of the last line.
+-- From v to w some turns were served, and what is held represents what is left of the last line.
 pub record HasServed (s : Store) (v w : DeskView) (held : LinesView) (unread rest before after : Option (List ℕ)) : Type 0 where
   pub turns : List Turn
   pub left : List ℕ
   pub served : ServesTurns s turns v w left
-  pub stands : StandsFor held left
+  pub stands : HoldsRestOf held left
   pub read : Consumes unread rest (read_in turns)
   pub printed : Appends before after (printed_in turns)
 
 module _ (s : Store) (v : DeskView) (unread before : Option (List ℕ)) where
   -- none yet
-  pub none_served : (held : LinesView) → StandsFor held [] → HasServed s v v held unread unread before before
+  pub none_served : (held : LinesView) → HoldsRestOf held [] → HasServed s v v held unread unread before before
   none_served held stands = record { turns = []; left = []; served = (refl, refl); stands = stands; read = Consumes-nil unread; printed = Appends-nil before }
 
   -- one more
   pub one_served : (w w' : DeskView) (held held' : LinesView) (rest rest' after printed flushed : Option (List ℕ)) (piece : List ℕ) → HasServed s v w held unread rest before after
       → Consumes rest rest' piece
-      → ((text : List ℕ) → StandsFor held text → ServesPiece s (text ++ piece) held' w w' (Appends after printed))
+      → ((text : List ℕ) → HoldsRestOf held text → ServesPiece s (text ++ piece) held' w w' (Appends after printed))
       → Keeps printed flushed → HasServed s v w' held' unread rest' before flushed
   one_served w w' held held' rest rest' after printed flushed piece so read serves kept =
       let of = serves so.left so.stands in
@@ -106,7 +106,7 @@ module _ (s : Store) (v : DeskView) (unread before : Option (List ℕ)) where
 
   -- and then the end
   pub all_served : (w w' : DeskView) (held : LinesView) (rest rest' after printed flushed : Option (List ℕ)) → HasServed s v w held unread rest before after
-      → Consumes rest rest' [] → ((text : List ℕ) → StandsFor held text → ServesEnd s text w w' (Appends after printed))
+      → Consumes rest rest' [] → ((text : List ℕ) → HoldsRestOf held text → ServesEnd s text w w' (Appends after printed))
       → Keeps printed flushed → ServesInput s v unread rest' before flushed
   all_served w w' held rest rest' after printed flushed so read serves kept =
       let of = serves so.left so.stands in
@@ -147,6 +147,6 @@ module _ (s : Store) (v : DeskView) (unread before : Option (List ℕ)) where
       stopped w held rest rest' after flushed piece f so read (subst (EndsBy (Appends after flushed)) (sym is) tt) (inr (subst (TellsAll s (IsLast so.left) w (Appends after flushed)) (sym is) tt))
 
   -- where there was no memory to begin with
-  pub not_begun : (held : LinesView) → StandsFor held [] → StopsInput s v unread unread before before (failure.Fault Memory)
+  pub not_begun : (held : LinesView) → HoldsRestOf held [] → StopsInput s v unread unread before before (failure.Fault Memory)
   not_begun held stands =
       stopped v held unread unread before before [] (failure.Fault Memory) (none_served held stands) (Consumes-nil unread) ([], (λ k one within. absurd (omega (arith, within))), Appends-nil before) (inr (inl refl))

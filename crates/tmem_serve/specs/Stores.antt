@@ -8,7 +8,7 @@ use Rattle.tmem_fault.specs.declared.fault.Fault.TheVariants as fault
 use Rattle.tmem_core.specs.Program.{Program}
 use Rattle.tmem_effect.specs.State.{State}
 use Rattle.tmem_invariants.specs.Meanings.{IsSound}
-use Rattle.tmem_journal.specs.Stands.{Position, StandsFor}
+use Rattle.tmem_journal.specs.Contents.{Position, ContentRepresents}
 use Rattle.tmem_opening.specs.Opening.{FindsState, OpeningRefused}
 use Rattle.tmem_lines.specs.Lines.{line}
 use Rattle.tmem_spine.specs.Views.{new_pass}
@@ -45,11 +45,11 @@ IsWhyStopped s vars names unread rest before after f =
     ⊎ (((f ≡ failure.Output) × (rest ≡ unread)) ⊎ StopsStore s vars names unread rest before after f)
 
 -- The opening of the first device found this state, and the second device is what it made of it: no invariant of the state that is
--- registered is false, and what a crash leaves of it stands for that state.
+-- registered is false, and what a crash leaves of it represents that state.
 pub record Finds (program : Program) (vars slots : ℕ) (old new : DeviceView) (state : State) : Type 0 where
   pub position : Position
   pub found : new.keeps_model → FindsState vars slots old new position state
-  pub leaves : LeavesOnly new (StandsFor vars slots position state)
+  pub leaves : LeavesOnly new (ContentRepresents vars slots position state)
   pub sound : IsSound program.tests program.names state.names state.values
   pub model : new.keeps_model → old.keeps_model
 

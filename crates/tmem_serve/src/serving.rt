@@ -3,9 +3,9 @@ ghost use Rattle.std.specs.Prelude.{◌≡◌, ◌≤◌, [], length, take, OnOk
 ghost use Rattle.std.specs.Io.KnownBytes.{Appends, Consumes, IsAtEnd, Keeps};
 ghost use Rattle.tmem_core.specs.Program.{Program, IsProgramOf};
 ghost use Rattle.tmem_desk.specs.Asking.{store};
-ghost use Rattle.tmem_desk.specs.Held.{view_of};
+ghost use Rattle.tmem_desk.specs.Held.{desk_view};
 ghost use Rattle.tmem_desk.specs.declared.failure.Failure.TheVariants as failure;
-ghost use Rattle.tmem_front.specs.Held.{found_of, spine_of, steps_of, table_of};
+ghost use Rattle.tmem_front.specs.Held.{front_found, spine_of, front_steps, front_table};
 ghost use Rattle.tmem_serve.specs.Turns.{ServesInput, StopsInput};
 ghost use Rattle.tmem_serve.specs.Stores.{IsWhyEnded, IsWhyStopped, OpensAndServes, ServesStore, first_line};
 
@@ -23,7 +23,7 @@ use tmem_requests::OpenedLine;
 use tmem_tree::StoredSteps;
 
 // So many bytes are read at once at most.
-const PIECE: usize = 65536;
+const PIECE_BYTES: usize = 65536;
 
 /// What a store is served with, beside its table of invariants.
 #[derive(Clone, Copy)]
@@ -106,11 +106,11 @@ fn serve_opened<
     out: &mut W,
 ) -> Result<InputEnd, Failure>
     requires spine { spine_of opened ≡ N.name }
-    requires opening { found_of opened ≡ N.opening }
-    requires names { T.names (table_of opened) ≡ N.program.names }
-    requires stated { T.is_stated (table_of opened) N.program.tests }
-    requires steps { S.is_stated (steps_of opened) N.program.steps }
-    requires arities { S.arities (steps_of opened) ≡ N.arities }
+    requires opening { front_found opened ≡ N.opening }
+    requires names { T.names (front_table opened) ≡ N.program.names }
+    requires stated { T.is_stated (front_table opened) N.program.tests }
+    requires steps { S.is_stated (front_steps opened) N.program.steps }
+    requires arities { S.arities (front_steps opened) ≡ N.arities }
     requires vars { served.vars ≡ length N.opening.values }
     requires told { served.names.now ≡ N.program.names }
     requires always { served.always.now ≡ N.always }
@@ -198,9 +198,9 @@ fn serve_lines<
     input: &mut I,
     out: &mut W,
 ) -> Result<InputEnd, Failure>
-    ensures served { OnOk result (ServesInput (store N.name.start N.opening N.program N.arities N.always) (view_of desk.old) (I.remaining input.old) (I.remaining input.new) (W.contents out.old) (W.contents out.new)) }
+    ensures served { OnOk result (ServesInput (store N.name.start N.opening N.program N.arities N.always) (desk_view desk.old) (I.remaining input.old) (I.remaining input.new) (W.contents out.old) (W.contents out.new)) }
     ensures whole { IfOk result (λ end. end ≡ InputEnd.Reached → IsAtEnd (I.remaining input.new)) }
-    ensures stopped { IfErr result (StopsInput (store N.name.start N.opening N.program N.arities N.always) (view_of desk.old) (I.remaining input.old) (I.remaining input.new) (W.contents out.old) (W.contents out.new)) }
+    ensures stopped { IfErr result (StopsInput (store N.name.start N.opening N.program N.arities N.always) (desk_view desk.old) (I.remaining input.old) (I.remaining input.new) (W.contents out.old) (W.contents out.new)) }
 {
     let mut lines = Lines::new(alloc);
     let mut piece = room_for_piece(alloc)?;
@@ -225,7 +225,7 @@ fn room_for_piece(alloc: Global) -> Result<Vec<u8>, Failure>
     ensures room { IfOk result (λ piece. 1 ≤ length piece.items) }
     ensures refused { IfErr result (λ f. f ≡ failure.Fault Fault.Memory) }
 {
-    match vec![in alloc; 0; PIECE] {
+    match vec![in alloc; 0; PIECE_BYTES] {
         Ok(piece) => Ok(piece),
         Err(_) => Err(Failure::Fault(Fault::Memory)),
     }

@@ -4,7 +4,7 @@ use Rattle.std.proofs.lemmas.List.Elements.{All-head, All-tail}
 use Rattle.serde_json.specs.Data.{Data, object, Members, no_members, member}
 use Rattle.serde_json.specs.Find.{get}
 use Rattle.tmem_forms.specs.TxForms.{natural}
-use Rattle.tmem_shape.specs.Shapes.{AreNamesOf, HasNames, IsNamed, IsVariableName, names_form}
+use Rattle.tmem_shape.specs.Shapes.{AreNamesOf, HasNames, IsVariableNamed, IsVariableName, names_form}
 use Rattle.tmem_forms.proofs.Laws.{same_members}
 
 abbrev pub Names : Type 0
@@ -26,17 +26,17 @@ followed-more (n ∷ ns) k d ms name var key is =
     ap (member (string_bytes n.0) (natural n.1)) (followed-more ns k d ms name var key is)
 
 -- where one member is no name of a variable, the members are no names
-pub no_names_at : (vars : ℕ) (ns : Names) (k : List ℕ) (d : Data) (ms : Members) → ((var : ℕ) → IsVariableName k → var < vars → ¬ (d ≡ natural var)) → (others : Names) → All (IsNamed vars) others → ¬ (followed ns (member k d ms) ≡ names_form others)
+pub no_names_at : (vars : ℕ) (ns : Names) (k : List ℕ) (d : Data) (ms : Members) → ((var : ℕ) → IsVariableName k → var < vars → ¬ (d ≡ natural var)) → (others : Names) → All (IsVariableNamed vars) others → ¬ (followed ns (member k d ms) ≡ names_form others)
 no_names_at vars [] k d ms none [] named same = cc
 no_names_at vars [] k d ms none (o ∷ others) named same =
     let key : string_bytes o.0 ≡ k = cc in
     let value : d ≡ natural o.1 = cc in
-    let is = All-head (IsNamed vars) o others named in
+    let is = All-head (IsVariableNamed vars) o others named in
     none o.1 (subst IsVariableName key is.name) is.below value
 no_names_at vars (n ∷ ns) k d ms none [] named same = cc
 no_names_at vars (n ∷ ns) k d ms none (o ∷ others) named same =
     let tail : followed ns (member k d ms) ≡ names_form others = cc in
-    no_names_at vars ns k d ms none others (All-tail (IsNamed vars) o others named) tail
+    no_names_at vars ns k d ms none others (All-tail (IsVariableNamed vars) o others named) tail
 
 -- the same members name the same variables
 pub names_same : (ns os : Names) → names_form ns ≡ names_form os → map (λ n. n.1) ns ≡ map (λ n. n.1) os

@@ -110,7 +110,7 @@ names_form [] = no_members
 names_form (named ∷ rest) = member (string_bytes named.0) (natural named.1) (names_form rest)
 
 -- a name for a variable below the number of variables
-pub record IsNamed (vars : ℕ) (named : String Global × ℕ) : Type 0 where
+pub record IsVariableNamed (vars : ℕ) (named : String Global × ℕ) : Type 0 where
   pub name : IsVariableName (string_bytes named.0)
   pub below : named.1 < vars
 
@@ -122,7 +122,7 @@ AreNamesOf (Some d) names = d ≡ object (names_form names)
 -- an object of these names stands at `names`, or the key is left out; no variable has two
 pub record HasNames (vars : ℕ) (names : List (String Global × ℕ)) (d : Data) : Type 0 where
   pub stands : AreNamesOf (get (codes "names") d) names
-  pub named : All (IsNamed vars) names
+  pub named : All (IsVariableNamed vars) names
   pub distinct : AreDistinct (map (λ named. named.1) names)
 
 -- ---- the whole

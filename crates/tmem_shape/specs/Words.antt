@@ -6,26 +6,26 @@ use Rattle.tmem_shape.specs.declared.why.Why.{Why}
 use Rattle.tmem_shape.specs.declared.why.Why.TheVariants as why
 
 -- what is wrong, in words
-abbrev pub why_text : Why → List ℕ
-why_text why.NotJson = codes "this is not JSON"
-why_text why.NotObject = codes "this is not an object"
-why_text why.NotArray = codes "this is not an array"
-why_text why.UnknownKey = codes "this key is not known"
-why_text (why.Missing key) = codes "there is no " ++ key_text key
-why_text (why.NotWithin least most) =
+abbrev pub shape_why_text : Why → List ℕ
+shape_why_text why.NotJson = codes "this is not JSON"
+shape_why_text why.NotObject = codes "this is not an object"
+shape_why_text why.NotArray = codes "this is not an array"
+shape_why_text why.UnknownKey = codes "this key is not known"
+shape_why_text (why.Missing key) = codes "there is no " ++ key_text key
+shape_why_text (why.NotWithin least most) =
     codes "this is not a whole number from " ++ decimal least ++ codes " to " ++ decimal most
-why_text why.TooManyInvariants = codes "there are more than 64 invariants"
-why_text why.NotWord = codes "this is not one to sixteen letters from a to z"
-why_text why.Taken = codes "nonneg, ordered and sum are names of other invariants"
-why_text why.NameTwice = codes "an earlier invariant has this name"
-why_text why.NoTerm = codes "there is no term"
-why_text why.TooManyTerms = codes "there are more than 16 terms"
-why_text why.NotTerm = codes "this is neither [C,VAR] nor [C,VAR,\"nonzero\"]"
-why_text why.NotCoefficient = codes "this is not a whole number of 32 bits"
-why_text why.NotVariable = codes "this is not a variable of the store"
-why_text why.VariableTwice = codes "an earlier term has this variable"
-why_text why.NotBound = codes "this is not a whole number of 64 bits"
-why_text why.NoBound = codes "there is neither a least nor a most"
-why_text why.NotTrue = codes "this is not true"
-why_text why.NotName = codes "this name is not 1 to 32 of a to z, 0 to 9 and _, a letter first"
-why_text why.NamedTwice = codes "another name has this variable"
+shape_why_text why.TooManyInvariants = codes "there are more than 64 invariants"
+shape_why_text why.NotWord = codes "this is not one to sixteen letters from a to z"
+shape_why_text why.Taken = codes "nonneg, ordered and sum are names of other invariants"
+shape_why_text why.NameTwice = codes "an earlier invariant has this name"
+shape_why_text why.NoTerm = codes "there is no term"
+shape_why_text why.TooManyTerms = codes "there are more than 16 terms"
+shape_why_text why.NotTerm = codes "this is neither [C,VAR] nor [C,VAR,\"nonzero\"]"
+shape_why_text why.NotCoefficient = codes "this is not a whole number of 32 bits"
+shape_why_text why.NotVariable = codes "this is not a variable of the store"
+shape_why_text why.VariableTwice = codes "an earlier term has this variable"
+shape_why_text why.NotBound = codes "this is not a whole number of 64 bits"
+shape_why_text why.NoBound = codes "there is neither a least nor a most"
+shape_why_text why.NotTrue = codes "this is not true"
+shape_why_text why.NotName = codes "this name is not 1 to 32 of a to z, 0 to 9 and _, a letter first"
+shape_why_text why.NamedTwice = codes "another name has this variable"

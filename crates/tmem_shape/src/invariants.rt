@@ -6,7 +6,7 @@ ghost use Rattle.serde_json.specs.View.{view};
 ghost use Rattle.tmem_fault.specs.Name.{IsName};
 ghost use Rattle.tmem_invariants.specs.TableNames.{AreDistinct, has_name};
 ghost use Rattle.tmem_linear.specs.declared.linear.Linear.{Linear};
-ghost use Rattle.tmem_shape.specs.Errors.{Refuses};
+ghost use Rattle.tmem_shape.specs.Errors.{RefusesText};
 ghost use Rattle.tmem_shape.specs.Keys.{key_text};
 ghost use Rattle.tmem_shape.specs.Shapes.{HasAlways, HasBound, HasInvariants, HasName, IsInvariant};
 
@@ -31,7 +31,7 @@ pub(crate) fn invariants_of(
     vars: u16,
 ) -> Result<Vec<Linear>, ShapeError>
     ensures ok { IfOk result (λ invariants. HasInvariants vars invariants.items (view value.now)) }
-    ensures refused { IfErr result (λ e. Refuses e ((invariants : List Linear) → ¬ HasInvariants vars invariants (view value.now))) }
+    ensures refused { IfErr result (λ e. RefusesText e ((invariants : List Linear) → ¬ HasInvariants vars invariants (view value.now))) }
 {
     let found = member(value, Key::Invariants, Place::Whole)?;
     let items = found.as_array().ok_or(ShapeError::NoShape {
@@ -57,7 +57,7 @@ pub(crate) fn invariants_of(
 // The invariants, in order.
 fn linears_of(alloc: Global, items: &[Value], vars: u16) -> Result<Vec<Linear>, ShapeError>
     ensures ok { IfOk result (λ invariants. AllZip (IsInvariant vars) invariants.items (map view items.now)) }
-    ensures refused { IfErr result (λ e. Refuses e ((invariants : List Linear) → ¬ AllZip (IsInvariant vars) invariants (map view items.now))) }
+    ensures refused { IfErr result (λ e. RefusesText e ((invariants : List Linear) → ¬ AllZip (IsInvariant vars) invariants (map view items.now))) }
 {
     let mut invariants = Vec::with_capacity(alloc, items.len())?;
     for (i, item) in items.iter().enumerate() {
@@ -93,7 +93,7 @@ fn linear_of(
     vars: u16,
 ) -> Result<Linear, ShapeError>
     ensures ok { IfOk result (λ linear. IsInvariant vars linear (view value.now)) }
-    ensures refused { IfErr result (λ e. Refuses e ((linear : Linear) → ¬ IsInvariant vars linear (view value.now))) }
+    ensures refused { IfErr result (λ e. RefusesText e ((linear : Linear) → ¬ IsInvariant vars linear (view value.now))) }
 {
     check_keys(
         alloc,
@@ -118,7 +118,7 @@ fn linear_of(
 // The name of an invariant.
 fn name_of(value: &Value, invariant: usize) -> Result<Name, ShapeError>
     ensures ok { IfOk result (λ name. HasName name (view value.now)) }
-    ensures refused { IfErr result (λ e. Refuses e ((name : List ℕ) → ¬ HasName name (view value.now))) }
+    ensures refused { IfErr result (λ e. RefusesText e ((name : List ℕ) → ¬ HasName name (view value.now))) }
 {
     let found = member(value, Key::Name, Place::Invariant(invariant))?;
     let name = word_of(found).ok_or(ShapeError::NoShape {
@@ -146,7 +146,7 @@ fn word_of(value: &Value) -> Option<Name>
 // The bound at a key, if there is one.
 fn bound_of(value: &Value, key: Key, invariant: usize) -> Result<Option<i64>, ShapeError>
     ensures ok { IfOk result (λ bound. HasBound (key_text key) bound (view value.now)) }
-    ensures refused { IfErr result (λ e. Refuses e ((bound : Option ℤ) → ¬ HasBound (key_text key) bound (view value.now))) }
+    ensures refused { IfErr result (λ e. RefusesText e ((bound : Option ℤ) → ¬ HasBound (key_text key) bound (view value.now))) }
 {
     let Some(found) = value.get(key.as_str()) else {
         return Ok(None);
@@ -161,7 +161,7 @@ fn bound_of(value: &Value, key: Key, invariant: usize) -> Result<Option<i64>, Sh
 // Whether it is registered as the store is made.
 fn always_of(value: &Value, invariant: usize) -> Result<bool, ShapeError>
     ensures ok { IfOk result (λ always. HasAlways always (view value.now)) }
-    ensures refused { IfErr result (λ e. Refuses e ((always : Bool) → ¬ HasAlways always (view value.now))) }
+    ensures refused { IfErr result (λ e. RefusesText e ((always : Bool) → ¬ HasAlways always (view value.now))) }
 {
     match value.get("always") {
         None => Ok(false),

@@ -3,7 +3,7 @@ ghost use Rattle.std.specs.Prelude.{◌≡◌, true, false, map, Some, None, OnO
 ghost use Rattle.serde_json.specs.Find.{get};
 ghost use Rattle.serde_json.specs.View.{view, members_view};
 ghost use Rattle.tmem_fault.specs.Name.{has_name};
-ghost use Rattle.tmem_shape.specs.Errors.{Refuses};
+ghost use Rattle.tmem_shape.specs.Errors.{RefusesText};
 ghost use Rattle.tmem_forms.specs.Members.{AreAmong, HasOnly, member_keys};
 ghost use Rattle.tmem_shape.specs.Keys.{key_text};
 
@@ -17,7 +17,7 @@ use std::alloc::Global;
 /// What stands at a key of an object, which is at this place.
 pub(crate) fn member(value: &Value, key: Key, at: Place) -> Result<&Value, ShapeError>
     ensures ok { IfOk result (λ found. get (key_text key) (view value.now) ≡ Some (view found.now)) }
-    ensures refused { IfErr result (λ e. Refuses e (get (key_text key) (view value.now) ≡ None)) }
+    ensures refused { IfErr result (λ e. RefusesText e (get (key_text key) (view value.now) ≡ None)) }
 {
     value.get(key.as_str()).ok_or(ShapeError::NoShape {
         why: Why::Missing(key),
@@ -33,7 +33,7 @@ pub(crate) fn check_keys(
     invariant: Option<usize>,
 ) -> Result<(), ShapeError>
     ensures ok { OnOk result (HasOnly (map key_text keys.now) (view value.now)) }
-    ensures refused { IfErr result (λ e. Refuses e (¬ HasOnly (map key_text keys.now) (view value.now))) }
+    ensures refused { IfErr result (λ e. RefusesText e (¬ HasOnly (map key_text keys.now) (view value.now))) }
 {
     let members = value.as_object().ok_or(ShapeError::NoShape {
         why: Why::NotObject,

@@ -3,8 +3,8 @@ ghost use Rattle.std.specs.Prelude.{◌≡◌, ◌↔◌, ◌<◌, ℕ, List, ma
 ghost use Rattle.std.specs.declared.alloc.Global.{Global};
 ghost use Rattle.serde_json.specs.View.{view, members_view};
 ghost use Rattle.tmem_forms.specs.TxForms.{natural};
-ghost use Rattle.tmem_shape.specs.Errors.{Refuses};
-ghost use Rattle.tmem_shape.specs.Shapes.{HasNames, IsNameByte, IsNamed, IsVariableName, names_form};
+ghost use Rattle.tmem_shape.specs.Errors.{RefusesText};
+ghost use Rattle.tmem_shape.specs.Shapes.{HasNames, IsNameByte, IsVariableNamed, IsVariableName, names_form};
 
 use crate::error::ShapeError;
 use crate::key::Key;
@@ -15,7 +15,7 @@ use serde_json::{Map, Value};
 use std::alloc::{AllocError, Global};
 use tmem_invariants::first_repeated;
 
-const LONGEST: usize = 32;
+const MAX_VARIABLE_NAME_BYTES: usize = 32;
 
 /// The names of variables of a shape with so many.
 pub(crate) fn names_of(
@@ -24,7 +24,7 @@ pub(crate) fn names_of(
     vars: u16,
 ) -> Result<Vec<(String, u16)>, ShapeError>
     ensures ok { IfOk result (λ names. HasNames vars names.items (view value.now)) }
-    ensures refused { IfErr result (λ e. Refuses e ((names : List (String Global × ℕ)) → ¬ HasNames vars names (view value.now))) }
+    ensures refused { IfErr result (λ e. RefusesText e ((names : List (String Global × ℕ)) → ¬ HasNames vars names (view value.now))) }
 {
     let Some(found) = value.get("names") else {
         return Ok(Vec::new(alloc));
@@ -52,8 +52,8 @@ fn named_of(
     vars: u16,
 ) -> Result<Vec<(String, u16)>, ShapeError>
     ensures ok { IfOk result (λ names. members_view members.now.entries ≡ names_form names.items) }
-    ensures named { IfOk result (λ names. All (IsNamed vars) names.items) }
-    ensures refused { IfErr result (λ e. Refuses e ((names : List (String Global × ℕ)) → All (IsNamed vars) names
+    ensures named { IfOk result (λ names. All (IsVariableNamed vars) names.items) }
+    ensures refused { IfErr result (λ e. RefusesText e ((names : List (String Global × ℕ)) → All (IsVariableNamed vars) names
         → ¬ (members_view members.now.entries ≡ names_form names))) }
 {
     let mut names = Vec::with_capacity(alloc, members.len())?;
@@ -68,7 +68,7 @@ fn named_of(
 fn named_variable(alloc: Global, name: &str, value: &Value, vars: u16) -> Result<u16, ShapeError>
     ensures ok { IfOk result (λ var. view value.now ≡ natural var) }
     ensures fits { IfOk result (λ var. IsVariableName name.now × (var < vars)) }
-    ensures refused { IfErr result (λ e. Refuses e ((var : ℕ) → IsVariableName name.now → var < vars → ¬ (view value.now ≡ natural var))) }
+    ensures refused { IfErr result (λ e. RefusesText e ((var : ℕ) → IsVariableName name.now → var < vars → ¬ (view value.now ≡ natural var))) }
 {
     if !is_variable_name(name) {
         let name = String::from_str(alloc, name)?;
@@ -92,7 +92,7 @@ fn is_variable_name(text: &str) -> bool
     ensures { IsTrue result ↔ IsVariableName text.now }
 {
     let bytes = text.as_bytes();
-    if bytes.is_empty() || bytes.len() > LONGEST {
+    if bytes.is_empty() || bytes.len() > MAX_VARIABLE_NAME_BYTES {
         return false;
     }
     bytes[0].is_ascii_lowercase() && bytes.iter().all(|b| is_name_byte(*b))

@@ -3,7 +3,7 @@ ghost use Rattle.std.specs.Prelude.{◌≡◌, ◌<◌, ◌≤◌, ℕ, ℤ, Fit
 ghost use Rattle.std.specs.Int.{w32, w64};
 ghost use Rattle.serde_json.specs.View.{view};
 ghost use Rattle.tmem_forms.specs.TxForms.{integer, natural};
-ghost use Rattle.tmem_shape.specs.Errors.{Refuses};
+ghost use Rattle.tmem_shape.specs.Errors.{RefusesText};
 ghost use Rattle.tmem_shape.specs.Keys.{key_text};
 ghost use Rattle.tmem_shape.specs.Shapes.{HasNumber};
 
@@ -17,7 +17,7 @@ use serde_json::Value;
 /// The number at a key of the whole, which is within these bounds.
 pub(crate) fn number_at(value: &Value, key: Key, least: u16, most: u16) -> Result<u16, ShapeError>
     ensures ok { IfOk result (λ n. HasNumber (key_text key) least most n (view value.now)) }
-    ensures refused { IfErr result (λ e. Refuses e ((n : ℕ) → ¬ HasNumber (key_text key) least most n (view value.now))) }
+    ensures refused { IfErr result (λ e. RefusesText e ((n : ℕ) → ¬ HasNumber (key_text key) least most n (view value.now))) }
 {
     let found = member(value, key, Place::Whole)?;
     natural_within(found, least, most).ok_or(ShapeError::NoShape {

@@ -2,7 +2,7 @@
 ghost use Rattle.std.specs.Prelude.{◌≡◌, None, Some, IsUtf8, IfOk, IfErr};
 ghost use Rattle.serde_json.specs.Read.{read};
 ghost use Rattle.serde_json.specs.View.{view};
-ghost use Rattle.tmem_shape.specs.Errors.{Refuses};
+ghost use Rattle.tmem_shape.specs.Errors.{RefusesText};
 
 use crate::error::ShapeError;
 use crate::invariants::invariants_of;
@@ -39,7 +39,7 @@ impl Shape {
     /// Reads a shape from its text, and refuses a text that is none, with why and where.
     pub fn from_slice(alloc: Global, text: &[u8]) -> Result<Shape, ShapeError>
         ensures ok { IfOk result (λ shape. IsShapeText shape text.now) }
-        ensures refused { IfErr result (λ e. Refuses e ((shape : Shape) → ¬ IsShapeText shape text.now)) }
+        ensures refused { IfErr result (λ e. RefusesText e ((shape : Shape) → ¬ IsShapeText shape text.now)) }
     {
         let value = value_of(alloc, text)?;
         Shape::from_value(alloc, &value)
@@ -47,7 +47,7 @@ impl Shape {
 
     fn from_value(alloc: Global, value: &Value) -> Result<Shape, ShapeError>
         ensures ok { IfOk result (λ shape. IsShape shape (view value.now)) }
-        ensures refused { IfErr result (λ e. Refuses e ((shape : Shape) → ¬ IsShape shape (view value.now))) }
+        ensures refused { IfErr result (λ e. RefusesText e ((shape : Shape) → ¬ IsShape shape (view value.now))) }
     {
         check_keys(
             alloc,
@@ -96,7 +96,7 @@ impl Shape {
 fn value_of(alloc: Global, text: &[u8]) -> Result<Value, ShapeError>
     ensures utf8 { IfOk result (λ value. IsUtf8 text.now) }
     ensures ok { IfOk result (λ value. read text.now ≡ Some (view value)) }
-    ensures refused { IfErr result (λ e. Refuses e (IsUtf8 text.now → read text.now ≡ None)) }
+    ensures refused { IfErr result (λ e. RefusesText e (IsUtf8 text.now → read text.now ≡ None)) }
 {
     let error = match Value::from_slice(alloc, text) {
         Ok(value) => return Ok(value),

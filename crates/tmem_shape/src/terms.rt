@@ -4,7 +4,7 @@ ghost use Rattle.serde_json.specs.Data.{string};
 ghost use Rattle.serde_json.specs.View.{view};
 ghost use Rattle.tmem_forms.specs.TxForms.{array_of};
 ghost use Rattle.tmem_linear.specs.declared.weight.Weight.{Weight};
-ghost use Rattle.tmem_shape.specs.Errors.{Refuses};
+ghost use Rattle.tmem_shape.specs.Errors.{RefusesText};
 ghost use Rattle.tmem_shape.specs.Shapes.{AreTerms, HasSum, WeightFits, term_form, terms_form};
 
 use crate::error::ShapeError;
@@ -26,7 +26,7 @@ pub(crate) fn sum_of(
     vars: u16,
 ) -> Result<(Vec<u16>, Vec<Weight>), ShapeError>
     ensures ok { IfOk result (λ terms. HasSum vars terms.0.items terms.1.items (view value.now)) }
-    ensures refused { IfErr result (λ e. Refuses e ((footprint : List ℕ) (weights : List Weight) → ¬ HasSum vars footprint weights (view value.now))) }
+    ensures refused { IfErr result (λ e. RefusesText e ((footprint : List ℕ) (weights : List Weight) → ¬ HasSum vars footprint weights (view value.now))) }
 {
     let found = member(value, Key::Sum, Place::Invariant(invariant))?;
     let items = found.as_array().ok_or(ShapeError::NoShape {
@@ -64,7 +64,7 @@ fn terms_of(
 ) -> Result<(Vec<u16>, Vec<Weight>), ShapeError>
     ensures ok { IfOk result (λ terms. map view items.now ≡ terms_form terms.0.items terms.1.items) }
     ensures fits { IfOk result (λ terms. AreTerms vars terms.0.items terms.1.items) }
-    ensures refused { IfErr result (λ e. Refuses e ((footprint : List ℕ) (weights : List Weight) → AreTerms vars footprint weights
+    ensures refused { IfErr result (λ e. RefusesText e ((footprint : List ℕ) (weights : List Weight) → AreTerms vars footprint weights
         → ¬ (map view items.now ≡ terms_form footprint weights))) }
 {
     let mut footprint = Vec::with_capacity(alloc, items.len())?;
@@ -86,7 +86,7 @@ fn term_of(
 ) -> Result<(u16, Weight), ShapeError>
     ensures ok { IfOk result (λ read. view value.now ≡ term_form read.0 read.1) }
     ensures fits { IfOk result (λ read. (read.0 < vars) × WeightFits read.1) }
-    ensures refused { IfErr result (λ e. Refuses e ((var : ℕ) (weight : Weight) → var < vars → WeightFits weight
+    ensures refused { IfErr result (λ e. RefusesText e ((var : ℕ) (weight : Weight) → var < vars → WeightFits weight
         → ¬ (view value.now ≡ term_form var weight))) }
 {
     let (number, var, is_nonzero) = term_items(value).ok_or(ShapeError::NoShape {

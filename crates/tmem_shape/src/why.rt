@@ -40,9 +40,9 @@ pub enum Why {
 
 impl fmt::Display for Why {
     ghost use Rattle.std.specs.Prelude.{Some};
-    ghost use Rattle.tmem_shape.specs.Words.{why_text};
+    ghost use Rattle.tmem_shape.specs.Words.{shape_why_text};
 
-    ghost output = { λ why. Some (why_text why) };
+    ghost output = { λ why. Some (shape_why_text why) };
 
     fn fmt<W: fmt::Write>(&self, f: &mut fmt::Formatter<W>) -> fmt::Result {
         match self {

@@ -1,6 +1,6 @@
 //! Which image is chosen, and which slots are of its log.
 ghost use Rattle.std.specs.Prelude.{◌≤◌, ◌+◌, length};
-ghost use Rattle.tmem_record.specs.Layout.{end_place};
+ghost use Rattle.tmem_record.specs.Layout.{end_at};
 
 use tmem_gate::reads_open;
 use tmem_parts::{Why, Wrong};
@@ -17,7 +17,7 @@ pub(crate) struct Chosen {
 
 /// The copy that is chosen: the open one of the greater generation.
 pub(crate) fn choose(bytes: &[u8], layout: Layout) -> Result<Chosen, Wrong>
-    requires { end_place layout.vars layout.slots ≤ length bytes.now }
+    requires { end_at layout.vars layout.slots ≤ length bytes.now }
 {
     let (first, second) = (layout.image(0), layout.image(1));
     match (generation_at(bytes, first), generation_at(bytes, second)) {
@@ -54,7 +54,7 @@ pub(crate) fn generation_at(bytes: &[u8], at: u64) -> Option<u64>
 
 /// How many slots are of the log over the chosen image: those from the first one on that are open and of its generation.
 pub(crate) fn used(bytes: &[u8], layout: Layout, generation: u64) -> u16
-    requires { end_place layout.vars layout.slots ≤ length bytes.now }
+    requires { end_at layout.vars layout.slots ≤ length bytes.now }
     ensures { result ≤ layout.slots }
 {
     for k in 0..layout.slots {
@@ -67,7 +67,7 @@ pub(crate) fn used(bytes: &[u8], layout: Layout, generation: u64) -> u16
 
 /// The first open slot behind the log that is not of an earlier generation.
 pub(crate) fn not_stale(bytes: &[u8], layout: Layout, used: u16, generation: u64) -> Option<Wrong>
-    requires { end_place layout.vars layout.slots ≤ length bytes.now }
+    requires { end_at layout.vars layout.slots ≤ length bytes.now }
 {
     for k in used..layout.slots {
         let at = layout.slot(k);

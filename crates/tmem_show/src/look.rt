@@ -1,6 +1,6 @@
 //! What is known of a store once its block 0 was read.
 ghost use Rattle.std.specs.Prelude.{◌≡◌, ◌≤◌, ◌<◌, length, IfOk, IfErr};
-ghost use Rattle.tmem_record.specs.Layout.{end_place};
+ghost use Rattle.tmem_record.specs.Layout.{end_at};
 
 use crate::fields::{Field, walk_block, walk_image, walk_slot, walk_stale};
 use crate::log::{Chosen, choose, generation_at, used};
@@ -10,7 +10,7 @@ use crate::walk::{Stop, Walk};
 use std::alloc::Global;
 use tmem_fault::Fault;
 use tmem_parts::{Image, Recovery, Slot, Why, Wrong, image_of, recovery_of, slot_of};
-use tmem_record::{BLOCK_SIZE, LEAST_SLOTS, Layout, SLOT_SIZE};
+use tmem_record::{BLOCK_BYTES, LEAST_SLOTS, Layout, SLOT_BYTES};
 use tmem_state::{Records, State, Version};
 
 /// What counts of an image copy or a slot that is open.
@@ -44,7 +44,7 @@ pub(crate) struct Look<'a> {
     version: Version,
     // how many slots are of the log
     used: u16,
-    ghost long: { end_place layout.vars layout.slots ≤ length bytes.now },
+    ghost long: { end_at layout.vars layout.slots ≤ length bytes.now },
 }
 
 /// A part as it was walked over: its fields, and where it goes wrong.
@@ -58,7 +58,7 @@ pub(crate) struct Walked {
 impl<'a> Look<'a> {
     /// Looks which image is chosen, and how far its log goes.
     pub(crate) fn new(alloc: Global, bytes: &'a [u8], layout: Layout) -> Result<Look<'a>, Fault>
-        requires { end_place layout.vars layout.slots ≤ length bytes.now }
+        requires { end_at layout.vars layout.slots ≤ length bytes.now }
         ensures { IfOk result (λ look. look.layout ≡ layout) }
     {
         let Ok(it) = choose(bytes, layout) else {
@@ -135,7 +135,7 @@ impl<'a> Look<'a> {
 
     /// Walks over block 0.
     pub(crate) fn walk_block(&self) -> Result<Walked, Fault> {
-        let mut walk = Walk::new(self.alloc, self.bytes, 0, BLOCK_SIZE);
+        let mut walk = Walk::new(self.alloc, self.bytes, 0, BLOCK_BYTES);
         let outcome = walk_block(&mut walk);
         passed(0, walk, outcome)
     }
@@ -156,7 +156,7 @@ impl<'a> Look<'a> {
         requires { k < self.now.layout.slots }
     {
         let at = self.layout.slot(k) as usize;
-        let mut walk = Walk::new(self.alloc, self.bytes, at, at + SLOT_SIZE);
+        let mut walk = Walk::new(self.alloc, self.bytes, at, at + SLOT_BYTES);
         let outcome = match self.role_of_slot(k) {
             Role::Stale => walk_stale(&mut walk),
             _ => walk_slot(&mut walk, self.layout.vars, self.version),

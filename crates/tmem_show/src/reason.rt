@@ -1,6 +1,6 @@
 //! Why an opening is refused, and at which byte.
 ghost use Rattle.std.specs.Prelude.{◌≤◌, ◌<◌, length};
-ghost use Rattle.tmem_record.specs.Layout.{end_place};
+ghost use Rattle.tmem_record.specs.Layout.{end_at};
 
 use crate::fields::{MARK_AT, walk_image, walk_slot};
 use crate::log::{choose, not_stale, used};
@@ -8,7 +8,7 @@ use crate::walk::{Stop, Walk};
 use std::alloc::Global;
 use tmem_parts::{Why, Wrong};
 use tmem_record::bytes::{number_at, short_at};
-use tmem_record::{Layout, SLOT_SIZE};
+use tmem_record::{Layout, SLOT_BYTES};
 use tmem_state::Version;
 
 /// The first thing that is wrong with bytes that an opening refuses, in the order in which it reads them, for a store that was
@@ -19,7 +19,7 @@ pub(crate) fn reason(
     layout: Layout,
     formatted: Version,
 ) -> Result<Wrong, Stop>
-    requires { end_place layout.vars layout.slots ≤ length bytes.now }
+    requires { end_at layout.vars layout.slots ≤ length bytes.now }
 {
     match first_wrong(alloc, bytes, layout, formatted) {
         Ok(wrong) | Err(Stop::Wrong(wrong)) => Ok(wrong),
@@ -34,7 +34,7 @@ fn first_wrong(
     layout: Layout,
     formatted: Version,
 ) -> Result<Wrong, Stop>
-    requires { end_place layout.vars layout.slots ≤ length bytes.now }
+    requires { end_at layout.vars layout.slots ≤ length bytes.now }
 {
     let it = match choose(bytes, layout) {
         Ok(it) => it,
@@ -72,7 +72,7 @@ fn walk_log(
     used: u16,
     count: u64,
 ) -> Result<(), Stop>
-    requires long { end_place layout.vars layout.slots ≤ length bytes.now }
+    requires long { end_at layout.vars layout.slots ≤ length bytes.now }
     requires few { used ≤ layout.slots }
 {
     let mut reached = count;
@@ -91,11 +91,11 @@ fn walk_on(
     k: u16,
     count: u64,
 ) -> Result<u64, Stop>
-    requires long { end_place layout.vars layout.slots ≤ length bytes.now }
+    requires long { end_at layout.vars layout.slots ≤ length bytes.now }
     requires there { k < layout.slots }
 {
     let at = layout.slot(k) as usize;
-    let mut walk = Walk::new(alloc, bytes, at, at + SLOT_SIZE);
+    let mut walk = Walk::new(alloc, bytes, at, at + SLOT_BYTES);
     walk_slot(&mut walk, layout.vars, version)?;
     if number_at(bytes, at + 9) != count {
         return Err(Stop::Wrong(amiss(at + 9, Why::First)));

@@ -145,8 +145,8 @@ impl<'a> Walk<'a> {
     }
 
     /// Passes zeros up to a place of the part.
-    pub(crate) fn zeros_to(&mut self, place: usize) -> Result<(), Stop> {
-        let end = place.min(self.end);
+    pub(crate) fn zeros_to(&mut self, at: usize) -> Result<(), Stop> {
+        let end = at.min(self.end);
         if end <= self.at {
             return Ok(());
         }

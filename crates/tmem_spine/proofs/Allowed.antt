@@ -20,9 +20,9 @@ use Rattle.tmem_spine.proofs.Keeps.{fits_as, kept_step}
 pub unread : {r q : Role} → r ≡ q → q ≢ Spent → r ≢ Spent
 unread is other spent = other (sym is ∙ spent)
 
--- what is durable is a prefix of what is accepted
-pub durable_accepted : (start : ℕ) (h : History) (words : List ℕ) → IsHistory start h words → IsPrefix h.durable h.accepted
-durable_accepted start h words is = IsPrefix-trans h.durable h.aimed h.accepted is.durable is.aimed
+-- what is durable is a prefix of what is committed
+pub durable_committed : (start : ℕ) (h : History) (words : List ℕ) → IsHistory start h words → IsPrefix h.durable h.committed
+durable_committed start h words is = IsPrefix-trans h.durable h.aimed h.committed is.durable is.aimed
 
 -- a load leaves the words
 loaded : (start : ℕ) (h : History) (words : List ℕ) (i : ℕ) → i < 2 → IsHistory start h words → IsHistory start h (set words i (slice_index words i))
@@ -33,17 +33,17 @@ loaded start h words i below is = record { counts = again i below ∙ is.counts;
     again (suc zero) lt = ap (λ (ws : List ℕ). set ws 1 (slice_index ws 1)) is.counts ∙ sym is.counts
     again (suc (suc k)) lt = absurd (omega arith)
 
-first_word : (start : ℕ) (h : History) (words : List ℕ) → IsHistory start h words → slice_index words 0 ≡ count start h.accepted
+first_word : (start : ℕ) (h : History) (words : List ℕ) → IsHistory start h words → slice_index words 0 ≡ count start h.committed
 first_word start h words is = ap (λ (ws : List ℕ). slice_index ws 0) is.counts
 
 second_word : (start : ℕ) (h : History) (words : List ℕ) → IsHistory start h words → slice_index words 1 ≡ count start h.durable
 second_word start h words is = ap (λ (ws : List ℕ). slice_index ws 1) is.counts
 
--- what the others know fits once one effect more is accepted
-accepted_else : (start : ℕ) (h : History) (e : Entry) (j : ℕ) (u : View) → h.core ≢ j → Fits start h j u → Fits start (record h { accepted = h.accepted ++ e ∷ [] }) j u
-accepted_else start h e j u other f = record {
+-- what the others know fits once one effect more is committed
+committed_else : (start : ℕ) (h : History) (e : Entry) (j : ℕ) (u : View) → h.core ≢ j → Fits start h j u → Fits start (record h { committed = h.committed ++ e ∷ [] }) j u
+committed_else start h e j u other f = record {
   based = f.based;
-  known = prefix_more u.known h.accepted (e ∷ []) f.known;
+  known = prefix_more u.known h.committed (e ∷ []) f.known;
   seen = f.seen;
   trimmed = f.trimmed;
   is_start = λ is. absurd (other (sym (f.is_start is).0));
@@ -52,7 +52,7 @@ accepted_else start h e j u other f = record {
   is_pass = f.is_pass;
 }
 
-pub accepts : (start slots id : ℕ) (v : View) (carried : List (ℕ × ℕ)) (e : Entry) → v.role ≡ Core → count v.start v.accepted + 1 < 2 ^ 64
+pub accepts : (start slots id : ℕ) (v : View) (carried : List (ℕ × ℕ)) (e : Entry) → v.role ≡ Core → count v.start v.committed + 1 < 2 ^ 64
     → Allows (KeepsHistory start) slots id (v, carried) 0 (λ n. (n + 1) % 2 ^ 64) (told (Accepts e) (step slots 0 1 0 none) (v, carried))
 accepts start slots id v carried e role room s kept len at small =
     let h = kept.history in
@@ -61,24 +61,24 @@ accepts start slots id v carried e role room s kept len at small =
     let mine = f.is_core role in
     let based = f.based (unread role (λ r. absurd (cc r))) in
     let word = first_word start h s.words is in
-    let same : length v.accepted ≡ length h.accepted = ap length mine.1 in
-    let more : length (h.accepted ++ e ∷ []) ≡ length h.accepted + 1 = length-append h.accepted (e ∷ []) in
-    let fits : count start h.accepted + 1 < 18446744073709551616 = omega arith in
-    let h' : History = record h { accepted = h.accepted ++ e ∷ [] } in
-    let next : (slice_index s.words 0 + 1) % 2 ^ 64 ≡ count start h'.accepted = rw (word, more) (omega arith) in (
-      record v { accepted = v.accepted ++ e ∷ [] },
+    let same : length v.committed ≡ length h.committed = ap length mine.1 in
+    let more : length (h.committed ++ e ∷ []) ≡ length h.committed + 1 = length-append h.committed (e ∷ []) in
+    let fits : count start h.committed + 1 < 18446744073709551616 = omega arith in
+    let h' : History = record h { committed = h.committed ++ e ∷ [] } in
+    let next : (slice_index s.words 0 + 1) % 2 ^ 64 ≡ count start h'.committed = rw (word, more) (omega arith) in (
+      record v { committed = v.committed ++ e ∷ [] },
       keeps,
       tt,
-      kept_step start s kept h' (set s.words 0 ((slice_index s.words 0 + 1) % 2 ^ 64)) s.homes id v (record v { accepted = v.accepted ++ e ∷ [] }) at
+      kept_step start s kept h' (set s.words 0 ((slice_index s.words 0 + 1) % 2 ^ 64)) s.homes id v (record v { committed = v.committed ++ e ∷ [] }) at
           (record {
             counts = ap (λ (ws : List ℕ). set ws 0 ((slice_index s.words 0 + 1) % 2 ^ 64)) is.counts ∙ ap (λ (k : ℕ). k ∷ count start h.durable ∷ []) next;
             room = omega arith;
             durable = is.durable;
-            aimed = prefix_more h.aimed h.accepted (e ∷ []) is.aimed;
+            aimed = prefix_more h.aimed h.committed (e ∷ []) is.aimed;
             few = is.few;
           })
-          (λ j u ne fu. accepted_else start h e j u (λ eq. ne (sym eq ∙ sym mine.0)) fu)
-          (fits_as Core role f.based (prefix_more v.known h.accepted (e ∷ []) f.known) f.seen f.trimmed (mine.0, ap (λ (xs : List Entry). xs ++ e ∷ []) mine.1, mine.2))
+          (λ j u ne fu. committed_else start h e j u (λ eq. ne (sym eq ∙ sym mine.0)) fu)
+          (fits_as Core role f.based (prefix_more v.known h.committed (e ∷ []) f.known) f.seen f.trimmed (mine.0, ap (λ (xs : List Entry). xs ++ e ∷ []) mine.1, mine.2))
           (λ r. (r, refl)),
       (refl, (refl, word ∙ omega (arith, based))),
     )
@@ -107,9 +107,9 @@ aims start slots id v carried upto role low high s kept len at small =
     let h' : History = record h { aimed = xs } in
     let long : length xs ≡ upto - v.start = length-take-le (upto - v.start) v.known (omega arith) in
     let begins : IsPrefix xs v.known = ap (λ (k : ℕ). take k v.known) long in
-    let within : IsPrefix xs h.accepted = IsPrefix-trans xs v.known h.accepted begins f.known in
+    let within : IsPrefix xs h.committed = IsPrefix-trans xs v.known h.committed begins f.known in
     let same : length v.durable ≡ length h.durable = ap length mine.3 in
-    let durable : IsPrefix h.durable xs = prefix_shorter h.durable xs h.accepted (durable_accepted start h s.words is) within (omega arith) in (
+    let durable : IsPrefix h.durable xs = prefix_shorter h.durable xs h.committed (durable_committed start h s.words is) within (omega arith) in (
       record v { aimed = xs },
       keeps,
       tt,
@@ -131,7 +131,7 @@ stays start slots id v carried role s kept len at small =
     let based = f.based (unread role (λ r. absurd (cc r))) in
     let same : length v.durable ≡ length h.durable = ap length mine.3 in
     let trimmed : v.trimmed ≤ count start h.durable = f.trimmed in
-    let l = longer_is v.known h.durable h.accepted f.known (durable_accepted start h s.words is) in (
+    let l = longer_is v.known h.durable h.committed f.known (durable_committed start h s.words is) in (
       v,
       keeps,
       tt,
@@ -165,9 +165,9 @@ hardens start slots id v carried by role sum s kept len at small =
     let word = second_word start h s.words is in
     let aimed : length v.aimed ≡ length h.aimed = ap length mine.2 in
     let durable : length v.durable ≡ length h.durable = ap length mine.3 in
-    let all : length h.aimed ≤ length h.accepted = IsPrefix-length h.aimed h.accepted is.aimed in
+    let all : length h.aimed ≤ length h.committed = IsPrefix-length h.aimed h.committed is.aimed in
     let longer : length h.durable ≤ length h.aimed = IsPrefix-length h.durable h.aimed is.durable in
-    let room : count start h.accepted < 18446744073709551616 = is.room in
+    let room : count start h.committed < 18446744073709551616 = is.room in
     let trimmed : v.trimmed ≤ count start h.durable = f.trimmed in
     let h' : History = record h { durable = h.aimed } in
     let next : (slice_index s.words 1 + by) % 2 ^ 64 ≡ count start h.aimed = rw word (omega arith) in (
@@ -176,7 +176,7 @@ hardens start slots id v carried by role sum s kept len at small =
       tt,
       kept_step start s kept h' (set s.words 1 ((slice_index s.words 1 + by) % 2 ^ 64)) s.homes id v (record v { durable = v.aimed }) at
           (record {
-            counts = ap (λ (ws : List ℕ). set ws 1 ((slice_index s.words 1 + by) % 2 ^ 64)) is.counts ∙ ap (λ (k : ℕ). count start h.accepted ∷ k ∷ []) next;
+            counts = ap (λ (ws : List ℕ). set ws 1 ((slice_index s.words 1 + by) % 2 ^ 64)) is.counts ∙ ap (λ (k : ℕ). count start h.committed ∷ k ∷ []) next;
             room = is.room;
             durable = IsPrefix-self h.aimed;
             aimed = is.aimed;
@@ -197,9 +197,9 @@ trims start slots id v carried role s kept len at small =
     let mine = f.is_core role in
     let based = f.based (unread role (λ r. absurd (cc r))) in
     let word = second_word start h s.words is in
-    let within = durable_accepted start h s.words is in
-    let all : length h.durable ≤ length h.accepted = IsPrefix-length h.durable h.accepted within in
-    let same : length v.accepted ≡ length h.accepted = ap length mine.1 in
+    let within = durable_committed start h s.words is in
+    let all : length h.durable ≤ length h.committed = IsPrefix-length h.durable h.committed within in
+    let same : length v.committed ≡ length h.committed = ap length mine.1 in
     let seen : length v.seen ≤ length h.durable = IsPrefix-length v.seen h.durable f.seen in
     let less : v.trimmed ≤ count start h.durable = f.trimmed in (
       record v { trimmed = slice_index s.words 1 },
@@ -217,7 +217,7 @@ trims start slots id v carried role s kept len at small =
           omega arith,
           omega arith,
           subst (λ (xs : List Entry). IsPrefix v.known xs) (sym mine.1) f.known,
-          subst (λ (xs : List Entry). IsPrefix v.seen xs) (sym mine.1) (IsPrefix-trans v.seen h.durable h.accepted f.seen within),
+          subst (λ (xs : List Entry). IsPrefix v.seen xs) (sym mine.1) (IsPrefix-trans v.seen h.durable h.committed f.seen within),
         ),
       ),
     )
@@ -231,7 +231,7 @@ looks start slots id v carried role s kept len at small =
     let mine = f.is_pass role in
     let based = f.based (unread role (λ r. absurd (cc r))) in
     let word = second_word start h s.words is in
-    let l = longer_is v.known h.durable h.accepted f.known (durable_accepted start h s.words is) in
+    let l = longer_is v.known h.durable h.committed f.known (durable_committed start h s.words is) in
     let w : View = record v { seen = h.durable; known = longer v.known h.durable } in
     let is_pass : IsPass start w = (l.1, owns_more start v.mark v.known w.known v.own l.0 mine.0.1) in (
       w,

@@ -102,7 +102,7 @@ SeesAs Pass start h id v = IsPass start v × (v.mark < h.given)
 SeesAs _ start h id v = Unit {0}
 
 -- what a seat knows is so, where what its role sees is
-pub fits_as : {start : ℕ} {h : History} {id : ℕ} {v : View} (role : Role) → v.role ≡ role → (v.role ≢ Spent → v.start ≡ start) → IsPrefix v.known h.accepted → IsPrefix v.seen h.durable → v.trimmed ≤ count start h.durable
+pub fits_as : {start : ℕ} {h : History} {id : ℕ} {v : View} (role : Role) → v.role ≡ role → (v.role ≢ Spent → v.start ≡ start) → IsPrefix v.known h.committed → IsPrefix v.seen h.durable → v.trimmed ≤ count start h.durable
     → SeesAs role start h id v → Fits start h id v
 fits_as {start} {h} {id} {v} role of based known seen trimmed is = record {
   based = based;

@@ -17,7 +17,7 @@ use Rattle.tmem_spine.specs.Steps.{meets_core, gains, meets_journal}
 use Rattle.tmem_spine.proofs.Prefixes.{prefix_empty, longer_is}
 use Rattle.tmem_spine.proofs.Owning.{pass_more, pass_one}
 use Rattle.tmem_spine.proofs.Keeps.{fits_as, kept_split, kept_join, IsNewMark}
-use Rattle.tmem_spine.proofs.Allowed.{durable_accepted}
+use Rattle.tmem_spine.proofs.Allowed.{durable_committed}
 
 only_first : (start id : ℕ) (v : View) → get_elem? (first_view start ∷ []) id ≡ some v → (id ≡ 0) × (first_view start ≡ v)
 only_first start zero v there = (refl, some-injective (first_view start) v there)
@@ -26,7 +26,7 @@ only_first start (suc id) v there = absurd (some-ne-none v (sym there))
 -- the table at the start
 pub opens : (start : ℕ) → start < 2 ^ 64 → KeepsHistory start (opening {S = ℕ} (start ∷ start ∷ []) [] (first_view start))
 opens start fits =
-    let h : History = record { accepted = []; aimed = []; durable = []; core = 0; journal = 0; given = 0; has_journal = false } in
+    let h : History = record { committed = []; aimed = []; durable = []; core = 0; journal = 0; given = 0; has_journal = false } in
     let first : Fits start h 0 (first_view start) = fits_as Start refl (λ n. refl) refl refl (omega arith) (refl, refl, refl, refl, refl) in
     let none : start ≡ count start [] = omega arith in
     record {
@@ -46,7 +46,7 @@ begins start id v role based s kept at =
     let mine = f.is_start role in
     let left : View = as_core v in
     let h' : History = record h { journal = length (set s.views id left); has_journal = true } in
-    let none : h.aimed ≡ [] = prefix_empty h.aimed h.accepted is.aimed mine.1 in
+    let none : h.aimed ≡ [] = prefix_empty h.aimed h.committed is.aimed mine.1 in
     let none' : h.durable ≡ [] = prefix_empty h.durable h.aimed is.durable none in
     kept_split start s kept h' id v left (journal_from v) at (record { counts = is.counts; room = is.room; durable = is.durable; aimed = is.aimed; few = is.few })
     (λ j u ne fu. record {
@@ -96,25 +96,25 @@ passes start id v role based few s kept at =
 
 -- a note of what is so
 noted : (start id : ℕ) (v : View) (known seen : List Entry) (trimmed : ℕ) → v.start ≡ start
-    → ((h : History) → IsPrefix h.durable h.accepted → Fits start h id v → IsPrefix known h.accepted × IsPrefix seen h.durable × (trimmed ≤ count start h.durable))
+    → ((h : History) → IsPrefix h.durable h.committed → Fits start h id v → IsPrefix known h.committed × IsPrefix seen h.durable × (trimmed ≤ count start h.durable))
     → Splits (KeepsHistory start) id v v (note v.start known seen trimmed)
 noted start id v known seen trimmed based so s kept at =
     let h = kept.history in
     let is = kept.is_history in
     let f = kept.each id v at in
-    let t = so h (durable_accepted start h s.words is) f in
+    let t = so h (durable_committed start h s.words is) f in
     kept_split start s kept h id v v (note v.start known seen trimmed) at is (λ j u ne fu. fu) f (λ r. (r, refl))
     (fits_as Note refl (λ n. based) t.0 t.1 t.2 tt)
     (λ r. absurd (cc r))
 
-pub core_notes : (start id : ℕ) (v : View) → v.role ≡ Core → v.start ≡ start → Splits (KeepsHistory start) id v v (note v.start v.accepted [] v.trimmed)
-core_notes start id v role based = noted start id v v.accepted [] v.trimmed based (λ h all f.
-    (subst (λ (xs : List Entry). IsPrefix xs h.accepted) (sym (f.is_core role).1) (IsPrefix-self h.accepted), refl, f.trimmed))
+pub core_notes : (start id : ℕ) (v : View) → v.role ≡ Core → v.start ≡ start → Splits (KeepsHistory start) id v v (note v.start v.committed [] v.trimmed)
+core_notes start id v role based = noted start id v v.committed [] v.trimmed based (λ h all f.
+    (subst (λ (xs : List Entry). IsPrefix xs h.committed) (sym (f.is_core role).1) (IsPrefix-self h.committed), refl, f.trimmed))
 
 pub journal_notes : (start id : ℕ) (v : View) → v.role ≡ Journal → v.start ≡ start → Splits (KeepsHistory start) id v v (note v.start v.durable v.durable 0)
 journal_notes start id v role based = noted start id v v.durable v.durable 0 based (λ h all f.
     let durable = sym (f.is_journal role).3 in
-    (subst (λ (xs : List Entry). IsPrefix xs h.accepted) durable all, subst (λ (xs : List Entry). IsPrefix xs h.durable) durable (IsPrefix-self h.durable), omega arith))
+    (subst (λ (xs : List Entry). IsPrefix xs h.committed) durable all, subst (λ (xs : List Entry). IsPrefix xs h.durable) durable (IsPrefix-self h.durable), omega arith))
 
 pub pass_notes : (start id : ℕ) (v : View) → v.start ≡ start → Splits (KeepsHistory start) id v v (note v.start v.known v.seen 0)
 pass_notes start id v based = noted start id v v.known v.seen 0 based (λ h all f. (f.known, f.seen, omega arith))
@@ -129,7 +129,7 @@ journal_hears start id v other w role =
 
 -- a pass knows more, and perhaps has an effect more
 pass_hears : (start id : ℕ) (v : View) (other : ℕ) (w : View) (known : List Entry) (own : List (ℕ × Effect)) → v.role ≡ Pass
-    → ((h : History) → IsPrefix v.known h.accepted → IsPrefix w.known h.accepted → IsPrefix known h.accepted)
+    → ((h : History) → IsPrefix v.known h.committed → IsPrefix w.known h.committed → IsPrefix known h.committed)
     → (IsPass start v → IsPass start (record v { known = known; own = own })) → Joins (KeepsHistory start) id v other w (record v { known = known; own = own }) spent
 pass_hears start id v other w known own role so is_pass =
     kept_join start id v other w (record v { known = known; own = own }) (λ r. (r, refl)) (λ h f t. fits_as Pass role f.based (so h f.known t.known) f.seen f.trimmed (is_pass (f.is_pass role).0, (f.is_pass role).1))
@@ -145,4 +145,4 @@ gains_note start id v other w n e role more behind at =
 pub meets_journal_note : (start id : ℕ) (v : View) (other : ℕ) (w : View) → v.role ≡ Pass → IsPrefix v.known (longer v.known w.known)
     → Joins (KeepsHistory start) id v other w (meets_journal v w) spent
 meets_journal_note start id v other w role more =
-    pass_hears start id v other w (longer v.known w.known) v.own role (λ h p q. (longer_is v.known w.known h.accepted p q).2) (λ is. pass_more start v (longer v.known w.known) is more)
+    pass_hears start id v other w (longer v.known w.known) v.own role (λ h p q. (longer_is v.known w.known h.committed p q).2) (λ is. pass_more start v (longer v.known w.known) is more)

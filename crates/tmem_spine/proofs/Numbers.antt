@@ -23,7 +23,7 @@ number_of_one start s i j v w n e f kept there there' rv rw has has' =
     let two = kept.each j w there' in
     let at = owned_at start v.mark v.known v.own n e (one.is_pass rv).0.1 has in
     let at' = owned_at start w.mark w.known w.own n f (two.is_pass rw).0.1 has' in
-    let here = get_more v.known h.accepted (n - start) (entry v.mark e) one.known at.1 in
-    let here' = get_more w.known h.accepted (n - start) (entry w.mark f) two.known at'.1 in
+    let here = get_more v.known h.committed (n - start) (entry v.mark e) one.known at.1 in
+    let here' = get_more w.known h.committed (n - start) (entry w.mark f) two.known at'.1 in
     let same : entry v.mark e ≡ entry w.mark f = some_is (entry v.mark e) (entry w.mark f) (sym here ∙ here') in
     kept.apart i j v w there there' rv rw (ap (λ (x : Entry). x.mark) same)

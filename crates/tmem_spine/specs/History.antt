@@ -1,4 +1,4 @@
--- The history: the accepted effects after an opening state, in order, each under the mark of a pass.
+-- The history: the committed effects after an opening state, in order, each under the mark of a pass.
 use Rattle.std.specs.Prelude.{◌≡◌, ℕ, ◌+◌, ◌-◌, ◌≤◌, nat_lt, if◌then◌else◌, List, length, map, Some, slice_get}
 use Rattle.tmem_effect.specs.declared.effect.Effect.{Effect}
 use Rattle.tmem_spine.specs.declared.view.Entry.{Entry}

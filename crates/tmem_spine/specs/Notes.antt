@@ -7,11 +7,11 @@ use Rattle.tmem_spine.specs.declared.view.View.{View}
 use Rattle.tmem_spine.specs.Views.{SpineName}
 
 -- a view that knows nothing
-abbrev pub blank : Role → ℕ → ℕ → View
-blank role start mark = record {
+abbrev pub blank_view : Role → ℕ → ℕ → View
+blank_view role start mark = record {
   role = role;
   start = start;
-  accepted = [];
+  committed = [];
   given = 0;
   aimed = [];
   durable = [];
@@ -24,29 +24,29 @@ blank role start mark = record {
 
 -- the first seat, before all steps
 abbrev pub first_view : ℕ → View
-first_view start = blank Start start 0
+first_view start = blank_view Start start 0
 
 -- the core's seat, from the first one
 abbrev pub as_core : View → View
 as_core v = record v { role = Core; trimmed = v.start }
 
 abbrev pub journal_from : View → View
-journal_from v = blank Journal v.start 0
+journal_from v = blank_view Journal v.start 0
 
 -- a new pass from the core's seat, whose mark is how many there were
 abbrev pub pass_from : View → View
-pass_from v = blank Pass v.start v.given
+pass_from v = blank_view Pass v.start v.given
 
 abbrev pub gives : View → View
 gives v = record v { given = v.given + 1 }
 
--- a note of what is accepted, of what is durable, and of how many are
+-- a note of what is committed, of what is durable, and of how many are
 abbrev pub note : ℕ → List Entry → List Entry → ℕ → View
-note start known seen trimmed = record (blank Note start 0) { known = known; seen = seen; trimmed = trimmed }
+note start known seen trimmed = record (blank_view Note start 0) { known = known; seen = seen; trimmed = trimmed }
 
 -- a note that was read
 abbrev pub spent : View
-spent = blank Spent 0 0
+spent = blank_view Spent 0 0
 
 -- the core after it read a note
 abbrev pub core_told : View → View → View

@@ -10,10 +10,10 @@ use Rattle.tmem_spine.specs.declared.view.Role.TheVariants.{Start, Core, Journal
 use Rattle.tmem_spine.specs.declared.view.View.{View}
 use Rattle.tmem_spine.specs.History.{count, entry, HasAt}
 
--- What is accepted, aimed at and durable, which seats are the core's and the journal's, how many passes were given out, and
+-- What is committed, aimed at and durable, which seats are the core's and the journal's, how many passes were given out, and
 -- whether the journal has its seat.
 pub record History : Type 0 where
-  pub accepted : List Entry
+  pub committed : List Entry
   pub aimed : List Entry
   pub durable : List Entry
   pub core : ℕ
@@ -21,13 +21,13 @@ pub record History : Type 0 where
   pub given : ℕ
   pub has_journal : Bool
 
--- The words count what is accepted and what is durable. What is durable is a prefix of what the journal aims at, and that is
--- a prefix of what is accepted. There are 32 passes at most.
+-- The words count what is committed and what is durable. What is durable is a prefix of what the journal aims at, and that is
+-- a prefix of what is committed. There are 32 passes at most.
 pub record IsHistory (start : ℕ) (h : History) (words : List ℕ) : Type 0 where
-  pub counts : words ≡ count start h.accepted ∷ count start h.durable ∷ []
-  pub room : count start h.accepted < 2 ^ 64
+  pub counts : words ≡ count start h.committed ∷ count start h.durable ∷ []
+  pub room : count start h.committed < 2 ^ 64
   pub durable : IsPrefix h.durable h.aimed
-  pub aimed : IsPrefix h.aimed h.accepted
+  pub aimed : IsPrefix h.aimed h.committed
   pub few : h.given ≤ 32
 
 -- a pass's own effects stand in what it knows at their numbers, which ascend, under its mark
@@ -41,21 +41,21 @@ IsPass start v = IsPrefix v.seen v.known × Owns start v.mark v.known v.own
 
 -- the first seat sees that nothing has happened
 abbrev pub IsStart : ℕ → History → ℕ → View → Type 0
-IsStart start h id v = (id ≡ h.core) × (h.accepted ≡ []) × (h.has_journal ≡ false) × (v.accepted ≡ []) × (v.given ≡ h.given)
+IsStart start h id v = (id ≡ h.core) × (h.committed ≡ []) × (h.has_journal ≡ false) × (v.committed ≡ []) × (v.given ≡ h.given)
 
--- the core sees what is accepted
+-- the core sees what is committed
 abbrev pub IsCore : History → ℕ → View → Type 0
-IsCore h id v = (id ≡ h.core) × (v.accepted ≡ h.accepted) × (v.given ≡ h.given)
+IsCore h id v = (id ≡ h.core) × (v.committed ≡ h.committed) × (v.given ≡ h.given)
 
 -- the journal sees what it aims at and what is durable
 abbrev pub IsJournal : History → ℕ → View → Type 0
 IsJournal h id v = (id ≡ h.journal) × (h.has_journal ≡ true) × (v.aimed ≡ h.aimed) × (v.durable ≡ h.durable)
 
--- What a seat knows is so: what it knows is a prefix of what is accepted, what it saw is a prefix of what is durable, and at
+-- What a seat knows is so: what it knows is a prefix of what is committed, what it saw is a prefix of what is durable, and at
 -- least so many are durable as it was trimmed to.
 pub record Fits (start : ℕ) (h : History) (id : ℕ) (v : View) : Type 0 where
   pub based : v.role ≢ Spent → v.start ≡ start
-  pub known : IsPrefix v.known h.accepted
+  pub known : IsPrefix v.known h.committed
   pub seen : IsPrefix v.seen h.durable
   pub trimmed : v.trimmed ≤ count start h.durable
   pub is_start : v.role ≡ Start → IsStart start h id v

@@ -15,16 +15,16 @@ Kind = View → ℕ → View → Type 0
 abbrev pub told : Kind → Step ℕ → Me ℕ View → ℕ → Me ℕ View → Type 0
 told kind st m n m' = (m'.1 ≡ m.1) × kind m.0 n m'.0
 
--- accept: the core raises the accepted word by one, for one effect
+-- accept: the core raises the committed word by one, for one effect
 abbrev pub Accepts : Entry → Kind
-Accepts e v n w = (w ≡ record v { accepted = v.accepted ++ e ∷ [] }) × (n ≡ count v.start v.accepted)
+Accepts e v n w = (w ≡ record v { committed = v.committed ++ e ∷ [] }) × (n ≡ count v.start v.committed)
 
--- aim: the journal aims at what it was told is accepted, up to a number. What is durable is a prefix of that.
+-- aim: the journal aims at what it was told is committed, up to a number. What is durable is a prefix of that.
 abbrev pub Aims : ℕ → Kind
 Aims upto v n w = (w ≡ record v { aimed = take (upto - v.start) v.known }) × IsPrefix v.durable w.aimed
 
 -- aim, where the journal stays with what it aims at: what it was told of what is durable is so, and what it was told is
--- accepted is a prefix of what is durable, or goes on from it
+-- committed is a prefix of what is durable, or goes on from it
 abbrev pub Stays : Kind
 Stays v n w =
     (w ≡ v) × IsPrefix v.seen v.durable × (v.trimmed ≤ count v.start v.durable) × IsPrefix v.known (longer v.known v.durable)
@@ -35,11 +35,11 @@ abbrev pub Hardens : Kind
 Hardens v n w = w ≡ record v { durable = v.aimed }
 
 -- trim: the core learns the durable word, which is not less than before, nor than what it was told is durable. What it was
--- told is a prefix of what is accepted.
+-- told is a prefix of what is committed.
 abbrev pub Trims : Kind
 Trims v n w =
-    (w ≡ record v { trimmed = n }) × (v.trimmed ≤ n) × (count v.start v.seen ≤ n) × (n ≤ count v.start v.accepted)
-    × IsPrefix v.known v.accepted × IsPrefix v.seen v.accepted
+    (w ≡ record v { trimmed = n }) × (v.trimmed ≤ n) × (count v.start v.seen ≤ n) × (n ≤ count v.start v.committed)
+    × IsPrefix v.known v.committed × IsPrefix v.seen v.committed
 
 -- look: a pass sees all that is durable
 abbrev pub Looks : Kind
@@ -47,7 +47,7 @@ Looks v n w =
     (w ≡ record v { seen = w.seen; known = longer v.known w.seen }) × (n ≡ count v.start w.seen) × IsPrefix v.seen w.seen
     × IsPrefix v.known w.known × IsPass v.start w
 
--- meet, beside the core: a pass knows all that is accepted
+-- meet, beside the core: a pass knows all that is committed
 abbrev pub meets_core : View → View → View
 meets_core v w = record v { known = w.known }
 

@@ -10,40 +10,40 @@ pub record SpineName : Type 0 where
   pub table : TableId
   pub start : ℕ
 
--- the core sees what is accepted, the number up to which it was trimmed, and how many passes were given out
-pub record CoreView : Type 0 where
-  pub accepted : List Entry
+-- the core sees what is committed, the number up to which it was trimmed, and how many passes were given out
+pub record CoreRoleView : Type 0 where
+  pub committed : List Entry
   pub trimmed : ℕ
   pub given : ℕ
 
 -- the journal sees what it aims at, and what is durable
-pub record JournalView : Type 0 where
+pub record JournalRoleView : Type 0 where
   pub aimed : List Entry
   pub durable : List Entry
 
--- a pass sees its mark, what it knows to be accepted, what it saw to be durable, and its own effects with their numbers
-pub record PassView : Type 0 where
+-- a pass sees its mark, what it knows to be committed, what it saw to be durable, and its own effects with their numbers
+pub record PassRoleView : Type 0 where
   pub mark : ℕ
   pub known : List Entry
   pub seen : List Entry
   pub own : List (ℕ × Effect)
 
-abbrev pub core_view : View → CoreView
-core_view v = record { accepted = v.accepted; trimmed = v.trimmed; given = v.given }
+abbrev pub core_role_view : View → CoreRoleView
+core_role_view v = record { committed = v.committed; trimmed = v.trimmed; given = v.given }
 
-abbrev pub journal_view : View → JournalView
-journal_view v = record { aimed = v.aimed; durable = v.durable }
+abbrev pub journal_role_view : View → JournalRoleView
+journal_role_view v = record { aimed = v.aimed; durable = v.durable }
 
-abbrev pub pass_view : View → PassView
-pass_view v = record { mark = v.mark; known = v.known; seen = v.seen; own = v.own }
+abbrev pub pass_role_view : View → PassRoleView
+pass_role_view v = record { mark = v.mark; known = v.known; seen = v.seen; own = v.own }
 
--- the core before it has accepted anything
-abbrev pub new_core : ℕ → CoreView
-new_core start = record { accepted = []; trimmed = start; given = 0 }
+-- the core before it has committed anything
+abbrev pub new_core : ℕ → CoreRoleView
+new_core start = record { committed = []; trimmed = start; given = 0 }
 
-abbrev pub new_journal : JournalView
+abbrev pub new_journal : JournalRoleView
 new_journal = record { aimed = []; durable = [] }
 
 -- a pass that knows nothing yet
-abbrev pub new_pass : ℕ → PassView
+abbrev pub new_pass : ℕ → PassRoleView
 new_pass mark = record { mark = mark; known = []; seen = []; own = [] }

@@ -84,13 +84,13 @@ impl Split<View> for Give {
     ghost right = { pass_from };
 }
 
-/// The core writes a note of what is accepted, and of how many it knows to be durable.
+/// The core writes a note of what is committed, and of how many it knows to be durable.
 pub(crate) struct CoreTells;
 
 impl Split<View> for CoreTells {
     ghost left = { λ v. v };
 
-    ghost right = { λ v. note v.start v.accepted [] v.trimmed };
+    ghost right = { λ v. note v.start v.committed [] v.trimmed };
 }
 
 /// The journal writes a note of what is durable.

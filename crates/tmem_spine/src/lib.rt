@@ -1,6 +1,6 @@
-//! One history for all threads: what the core accepted, what the journal aims at, and what is durable.
+//! One history for all threads: what the core committed, what the journal aims at, and what is durable.
 //!
-//! Two words count it, the accepted one and the durable one. The history itself exists in the proofs alone. The core, the
+//! Two words count it, the committed one and the durable one. The history itself exists in the proofs alone. The core, the
 //! journal and each pass of a caller have a seat, which knows a part of it. `Rule` in `specs/` says how the parts fit
 //! together, and it holds between any two steps of any threads. `Steps` has the six kinds of step. Each of them changes
 //! what one seat knows: accept, aim, durable, trim, look and meet.

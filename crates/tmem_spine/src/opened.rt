@@ -36,7 +36,7 @@ impl Model for Opened {
 }
 
 impl Opened {
-    /// A spine on which nothing happened, where so many transactions were accepted before and are durable.
+    /// A spine on which nothing happened, where so many transactions were committed before and are durable.
     pub fn new(alloc: Global, start: u64) -> Result<Opened, AllocError>
         ensures { IfOk result (λ o. o.start ≡ start) }
     {

@@ -8,7 +8,7 @@ use crate::naming::Naming;
 use crate::place::Place;
 use std::marker::Model;
 
-/// The core's seat. Contracts see what is accepted, the number that it was trimmed to, and how many passes it gave out.
+/// The core's seat. Contracts see what is committed, the number that it was trimmed to, and how many passes it gave out.
 #[derive(Drop)]
 pub struct CoreSide<N: Naming> {
     pub(crate) place: Place<N>,
@@ -18,11 +18,11 @@ pub struct CoreSide<N: Naming> {
 impl<N: Naming> Model for CoreSide<N> {
     ghost use Rattle.std.specs.Prelude.{◌≡◌, ◌≤◌};
     ghost use Rattle.tmem_spine.specs.declared.view.Role.TheVariants.{Core};
-    ghost use Rattle.tmem_spine.specs.Views.{CoreView, core_view};
+    ghost use Rattle.tmem_spine.specs.Views.{CoreRoleView, core_role_view};
 
-    ghost Value = { CoreView };
+    ghost Value = { CoreRoleView };
 
-    ghost view = { λ c. core_view c.place };
+    ghost view = { λ c. core_role_view c.place };
 
     ghost invariant = { λ c. (c.place.role ≡ Core) × (c.given ≡ c.place.given) × (c.given ≤ 32) };
 }
@@ -36,16 +36,16 @@ pub struct JournalSide<N: Naming> {
 impl<N: Naming> Model for JournalSide<N> {
     ghost use Rattle.std.specs.Prelude.{◌≡◌};
     ghost use Rattle.tmem_spine.specs.declared.view.Role.TheVariants.{Journal};
-    ghost use Rattle.tmem_spine.specs.Views.{JournalView, journal_view};
+    ghost use Rattle.tmem_spine.specs.Views.{JournalRoleView, journal_role_view};
 
-    ghost Value = { JournalView };
+    ghost Value = { JournalRoleView };
 
-    ghost view = { λ j. journal_view j.place };
+    ghost view = { λ j. journal_role_view j.place };
 
     ghost invariant = { λ j. j.place.role ≡ Journal };
 }
 
-/// A caller's seat. Contracts see its mark, what it knows to be accepted, what it saw to be durable, and its own effects.
+/// A caller's seat. Contracts see its mark, what it knows to be committed, what it saw to be durable, and its own effects.
 /// It may go to another thread, and is used with the spine that gave it.
 #[derive(Drop)]
 pub struct Pass<N: Naming> {
@@ -55,11 +55,11 @@ pub struct Pass<N: Naming> {
 
 impl<N: Naming> Model for Pass<N> {
     ghost use Rattle.tmem_spine.specs.Seats.{IsPassOf};
-    ghost use Rattle.tmem_spine.specs.Views.{PassView, pass_view};
+    ghost use Rattle.tmem_spine.specs.Views.{PassRoleView, pass_role_view};
 
-    ghost Value = { PassView };
+    ghost Value = { PassRoleView };
 
-    ghost view = { λ p. pass_view p.place };
+    ghost view = { λ p. pass_role_view p.place };
 
     ghost invariant = { λ p. IsPassOf N.name p.answered p.place };
 }

@@ -16,7 +16,7 @@ use tmem_effect::Effect;
 /// How many passes a spine gives out over its life. A pass that was dropped is not given out again.
 pub const MOST_PASSES: u64 = 32;
 
-/// The two words: how many transactions were accepted, and how many of them are durable.
+/// The two words: how many transactions were committed, and how many of them are durable.
 #[derive(Drop)]
 pub struct Spine<N: Naming> {
     pub(crate) table: Table<u8, View, u64, Law, Global>,
@@ -48,27 +48,27 @@ impl<N: Naming> Spine<N> {
     }
 
     /// The core learns how many are durable, for a pass beside it: at least as many as it knew of, and as the pass saw. What
-    /// the pass knows is a prefix of what is accepted.
+    /// the pass knows is a prefix of what is committed.
     pub fn trim(&self, core: &mut CoreSide<N>, pass: &mut Pass<N>) -> u64
         ensures core { core.new ≡ record core.old { trimmed = result } }
         ensures pass { pass.new ≡ pass.old }
         ensures least { (core.old.trimmed ≤ result) × (count N.name.start pass.old.seen ≤ result) }
-        ensures most { result ≤ count N.name.start core.old.accepted }
-        ensures begins { IsPrefix pass.old.known core.old.accepted }
+        ensures most { result ≤ count N.name.start core.old.committed }
+        ensures begins { IsPrefix pass.old.known core.old.committed }
     {
         let note = self.pass_tells(&mut pass.place);
         self.core_hears(&mut core.place, note);
         self.trim_step(&mut core.place)
     }
 
-    /// The core accepts an effect for a pass, which then knows all that is accepted and has the effect as its own. Answers
+    /// The core commits an effect for a pass, which then knows all that is committed and has the effect as its own. Answers
     /// the effect's number.
     pub fn accept(&self, core: &mut CoreSide<N>, pass: &mut Pass<N>, effect: &Effect) -> u64
-        requires room { count N.name.start core.old.accepted + 1 < 2 ^ 64 }
-        requires begins { IsPrefix pass.old.known core.old.accepted }
-        ensures number { result ≡ count N.name.start core.old.accepted }
-        ensures core { core.new ≡ record core.old { accepted = core.old.accepted ++ entry pass.old.mark effect.now ∷ [] } }
-        ensures pass { pass.new ≡ record pass.old { known = core.new.accepted; own = pass.old.own ++ (result, effect.now) ∷ [] } }
+        requires room { count N.name.start core.old.committed + 1 < 2 ^ 64 }
+        requires begins { IsPrefix pass.old.known core.old.committed }
+        ensures number { result ≡ count N.name.start core.old.committed }
+        ensures core { core.new ≡ record core.old { committed = core.old.committed ++ entry pass.old.mark effect.now ∷ [] } }
+        ensures pass { pass.new ≡ record pass.old { known = core.new.committed; own = pass.old.own ++ (result, effect.now) ∷ [] } }
     {
         let number = self.accept_step::<Brand>(&mut core.place, &pass.place, effect);
         let note = self.core_tells(&mut core.place);
@@ -76,25 +76,25 @@ impl<N: Naming> Spine<N> {
         number
     }
 
-    /// A pass meets the core: it knows all that is accepted.
+    /// A pass meets the core: it knows all that is committed.
     pub fn meet_core(&self, core: &mut CoreSide<N>, pass: &mut Pass<N>)
-        requires begins { IsPrefix pass.old.known core.old.accepted }
+        requires begins { IsPrefix pass.old.known core.old.committed }
         ensures core { core.new ≡ core.old }
-        ensures pass { pass.new ≡ record pass.old { known = core.old.accepted } }
+        ensures pass { pass.new ≡ record pass.old { known = core.old.committed } }
     {
         let note = self.core_tells(&mut core.place);
         self.meet_core_step(&mut pass.place, note);
     }
 
     /// The core learns how many are durable, with the journal beside it, so it is exactly as many as the journal has. These
-    /// are a prefix of what is accepted.
+    /// are a prefix of what is committed.
     pub fn trim_beside(&self, core: &mut CoreSide<N>, journal: &mut JournalSide<N>) -> u64
         ensures core { core.new ≡ record core.old { trimmed = result } }
         ensures journal { journal.new ≡ journal.old }
         ensures exact { result ≡ count N.name.start journal.old.durable }
         ensures least { core.old.trimmed ≤ result }
-        ensures most { result ≤ count N.name.start core.old.accepted }
-        ensures begins { IsPrefix journal.old.durable core.old.accepted }
+        ensures most { result ≤ count N.name.start core.old.committed }
+        ensures begins { IsPrefix journal.old.durable core.old.committed }
     {
         let note = self.journal_tells(&mut journal.place);
         self.core_hears(&mut core.place, note);
@@ -105,15 +105,15 @@ impl<N: Naming> Spine<N> {
         durable
     }
 
-    /// The journal aims at what the core beside it has accepted, up to a number: it is about to make that durable.
+    /// The journal aims at what the core beside it has committed, up to a number: it is about to make that durable.
     pub fn aim(&self, core: &mut CoreSide<N>, journal: &mut JournalSide<N>, upto: u64)
         requires least { count N.name.start journal.old.durable ≤ upto }
-        requires most { upto ≤ count N.name.start core.old.accepted }
+        requires most { upto ≤ count N.name.start core.old.committed }
         ensures core { core.new ≡ core.old }
-        ensures journal { journal.new ≡ record journal.old { aimed = take (upto - N.name.start) core.old.accepted } }
+        ensures journal { journal.new ≡ record journal.old { aimed = take (upto - N.name.start) core.old.committed } }
         ensures number { count N.name.start journal.new.aimed ≡ upto }
         ensures begins { IsPrefix journal.old.durable journal.new.aimed }
-        ensures ahead { IsPrefix journal.new.aimed core.old.accepted }
+        ensures ahead { IsPrefix journal.new.aimed core.old.committed }
     {
         let note = self.core_tells(&mut core.place);
         self.journal_hears(&mut journal.place, note);

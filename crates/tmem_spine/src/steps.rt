@@ -29,7 +29,7 @@ impl<N: Naming> Spine<N> {
         }
     }
 
-    // The accepted word rises by one, for an effect under the mark of a pass. Answers what it was.
+    // The committed word rises by one, for an effect under the mark of a pass. Answers what it was.
     pub(crate) fn accept_step<C: Choice>(
         &self,
         core: &mut Place<N>,
@@ -38,9 +38,9 @@ impl<N: Naming> Spine<N> {
     ) -> u64
         requires role { core.old.role ≡ role.Core }
         requires choice { C.entry ≡ entry pass.now.mark effect.now }
-        requires room { count N.name.start core.old.accepted + 1 < 2 ^ 64 }
-        ensures core { core.new ≡ record core.old { accepted = core.old.accepted ++ C.entry ∷ [] } }
-        ensures number { result ≡ count N.name.start core.old.accepted }
+        requires room { count N.name.start core.old.committed + 1 < 2 ^ 64 }
+        ensures core { core.new ≡ record core.old { committed = core.old.committed ++ C.entry ∷ [] } }
+        ensures number { result ≡ count N.name.start core.old.committed }
     {
         self.table
             .shared
@@ -52,13 +52,13 @@ impl<N: Naming> Spine<N> {
         requires { core.old.role ≡ role.Core }
         ensures core { core.new ≡ record core.old { trimmed = result } }
         ensures least { (core.old.trimmed ≤ result) × (count N.name.start core.old.seen ≤ result) }
-        ensures most { result ≤ count N.name.start core.old.accepted }
-        ensures begins { IsPrefix core.old.known core.old.accepted × IsPrefix core.old.seen core.old.accepted }
+        ensures most { result ≤ count N.name.start core.old.committed }
+        ensures begins { IsPrefix core.old.known core.old.committed × IsPrefix core.old.seen core.old.committed }
     {
         self.table.shared.load::<Trim>(&mut core.seat, 1)
     }
 
-    // The journal loads the accepted word, and aims at what it was told is accepted, up to a number.
+    // The journal loads the committed word, and aims at what it was told is committed, up to a number.
     pub(crate) fn aim_step<C: Choice>(&self, journal: &mut Place<N>, upto: u64)
         requires role { journal.old.role ≡ role.Journal }
         requires choice { C.number ≡ upto }
@@ -70,7 +70,7 @@ impl<N: Naming> Spine<N> {
         self.table.shared.load::<Aim<C>>(&mut journal.seat, 0);
     }
 
-    // The journal loads the accepted word, and stays with what it aims at.
+    // The journal loads the committed word, and stays with what it aims at.
     pub(crate) fn stay_step(&self, journal: &mut Place<N>)
         requires { journal.old.role ≡ role.Journal }
         ensures same { journal.new ≡ journal.old }

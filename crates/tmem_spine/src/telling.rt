@@ -13,7 +13,7 @@ impl<N: Naming> Spine<N> {
     pub(crate) fn core_tells(&self, core: &mut Place<N>) -> Place<N>
         requires { core.old.role ≡ role.Core }
         ensures same { core.new ≡ core.old }
-        ensures note { result ≡ note N.name.start core.old.accepted [] core.old.trimmed }
+        ensures note { result ≡ note N.name.start core.old.committed [] core.old.trimmed }
     {
         Place {
             seat: self.table.shared.split_seat::<CoreTells>(&mut core.seat),

@@ -3,7 +3,7 @@ use atomic_table::TableRule;
 use std::collections::LinkedList;
 use tmem_effect::Effect;
 
-/// An accepted effect, under the mark of the pass for which it was accepted.
+/// An committed effect, under the mark of the pass for which it was committed.
 #[derive(Drop)]
 pub struct Entry {
     pub mark: u64,
@@ -31,8 +31,8 @@ pub struct View {
     /// The count before the first effect of the history.
     pub start: u64,
 
-    /// Of the core: what is accepted, and how many passes were given out.
-    pub accepted: LinkedList<Entry>,
+    /// Of the core: what is committed, and how many passes were given out.
+    pub committed: LinkedList<Entry>,
     pub given: u64,
 
     /// Of the journal: what it aims at, and what is durable.
@@ -43,14 +43,14 @@ pub struct View {
     pub mark: u64,
     pub own: LinkedList<(u64, Effect)>,
 
-    /// What is known of the accepted effects and of the durable ones, and a number that so many are durable. The core and
+    /// What is known of the committed effects and of the durable ones, and a number that so many are durable. The core and
     /// the journal have the first two from whoever told them last.
     pub known: LinkedList<Entry>,
     pub seen: LinkedList<Entry>,
     pub trimmed: u64,
 }
 
-/// The rule of the history. Word 0 counts what is accepted, word 1 what is durable. The table has no slots.
+/// The rule of the history. Word 0 counts what is committed, word 1 what is durable. The table has no slots.
 pub struct Law;
 
 impl TableRule<u8, View, u64> for Law {

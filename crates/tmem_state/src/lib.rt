@@ -1,4 +1,4 @@
-//! A state is what all accepted transactions made, and a batch is a list of effects that fits one slot of the log. Both take memory when
+//! A state is what all committed transactions made, and a batch is a list of effects that fits one slot of the log. Both take memory when
 //! they are made, and none after that. The format has two versions, which differ in what a record may tell. Words that take no version
 //! speak of the second.
 #![tactic(auto)]

@@ -1,4 +1,4 @@
-// What all accepted transactions made.
+// What all committed transactions made.
 ghost use Rattle.std.specs.Prelude.{◌≡◌, ◌≤◌, ◌<◌, ◌+◌, ◌^◌, ◌↔◌, length, All, IsTrue, IfOk, Some, slice_get};
 ghost use Rattle.tmem_effect.specs.Names.{has_name, with_names, without_names, AreRegistered};
 ghost use Rattle.tmem_effect.specs.State.{apply, overwrite, written};
@@ -9,7 +9,7 @@ use std::marker::Model;
 use tmem_effect::{Effect, count_new, count_others};
 use tmem_fault::Name;
 
-/// How many transactions were accepted, the registered names, and the value of each variable.
+/// How many transactions were committed, the registered names, and the value of each variable.
 pub struct State {
     count: u64,
     names: NameSet,
@@ -49,7 +49,7 @@ impl State {
         }
     }
 
-    /// How many transactions were accepted.
+    /// How many transactions were committed.
     pub fn count(&self) -> u64
         ensures { result ≡ self.now.count }
     {
@@ -117,10 +117,10 @@ impl State {
         set_all(&mut self.values, writes);
     }
 
-    /// Accepts a transaction: its variables are set, the names that it retires are removed, those that it checks are added,
+    /// Commits a transaction: its variables are set, the names that it retires are removed, those that it checks are added,
     /// and the count grows by 1.
     #[inline(always)]
-    pub fn accept(&mut self, effect: &Effect)
+    pub fn commit(&mut self, effect: &Effect)
         requires within { All (λ w. w.0 < length self.old.values) effect.now.writes }
         requires countable { self.old.count + 1 < 2 ^ 64 }
         requires room { length (apply self.old effect.now).names ≤ MAX_NAMES }

@@ -16,7 +16,7 @@ use Rattle.tmem_tentative.specs.Ends.{start_state, IsMadeOf}
 use Rattle.tmem_tentative.specs.Eval.{eval}
 use Rattle.tmem_tentative.specs.Places.{Place}
 use Rattle.tmem_tentative.specs.Right.{HaveAnswered}
-use Rattle.tmem_tentative.specs.Cursors.{IsAt, StandsIn, IsAtStage, IsAsBefore, MayGoOn, StandsAt, AsksFor, given, answers, unused, place, probe_of, attempt_of}
+use Rattle.tmem_tentative.specs.Cursors.{IsAt, StandsIn, IsAtStage, IsAsBefore, MayGoOn, EvaluationStandsAt, AsksFor, given, answers, unused, place, probe_of, attempt_of}
 use Rattle.tmem_tentative.proofs.MadeOutcomes.{copy_made}
 
 module _ (old new : Cursor) (same : IsAsBefore old new) where
@@ -32,11 +32,11 @@ module _ (old new : Cursor) (same : IsAsBefore old new) where
   module _ (m : StepMeanings) (footprint : List ℕ → List ℕ) (plan : Tx) where
     stays_at_stage : (stage : Stage) → IsAtStage m footprint plan stage old → IsAtStage m footprint plan stage new
     stays_at_stage Going at =
-        again (λ p reads answers left probe. MayGoOn plan p × StandsAt m footprint plan answers p reads (record { reads = reads; left = left })) at
+        again (λ p reads answers left probe. MayGoOn plan p × EvaluationStandsAt m footprint plan answers p reads (record { reads = reads; left = left })) at
     stays_at_stage (Waits var) at =
-        again (λ p reads answers left probe. MayGoOn plan p × AsksFor m footprint plan reads answers (Visit var) × ((n : ℤ) → StandsAt m footprint plan answers p reads (record { reads = insert_entry nat_eq reads var n; left = left }))) at
+        again (λ p reads answers left probe. MayGoOn plan p × AsksFor m footprint plan reads answers (Visit var) × ((n : ℤ) → EvaluationStandsAt m footprint plan answers p reads (record { reads = insert_entry nat_eq reads var n; left = left }))) at
     stays_at_stage Tests at =
-        again (λ p reads answers left probe. MayGoOn plan p × AsksFor m footprint plan reads answers (Probe probe.name probe.values) × StandsAt m footprint plan answers p reads (record { reads = reads; left = left }) × (left ≡ [])) at
+        again (λ p reads answers left probe. MayGoOn plan p × AsksFor m footprint plan reads answers (Probe probe.name probe.values) × EvaluationStandsAt m footprint plan answers p reads (record { reads = reads; left = left }) × (left ≡ [])) at
     stays_at_stage Ended at =
         copy_made (eval m footprint (given new) plan (start_state (answers new))) (unused new) (attempt_of old) (attempt_of new) same.given same.ending (ap (λ (p : Place). p.registers) same.place) (ap (λ (p : Place). p.effect) same.place)
         (again (λ p reads answers left probe. IsMadeOf (eval m footprint reads plan (start_state answers)) left (outcome.Ended (attempt_of old))) at)

@@ -29,7 +29,7 @@ use Rattle.tmem_tentative.specs.Ends.{start_state, ended_as, IsEndOf, IsMadeOf}
 use Rattle.tmem_tentative.specs.Logs.{AreOf, Out, Went, Stopped, Gave_way, Left, IsLeaving, left_for, run_state_of}
 use Rattle.tmem_tentative.specs.Places.{Covers, Place, LeadsTo, MayRunFrom, RunsTo, place_of, place_at, eval_from, with_more, read_behind, WritesFit, NamesFit, RetiresFit}
 use Rattle.tmem_tentative.specs.Right.{HaveAnswered, IsOutcome}
-use Rattle.tmem_tentative.specs.Cursors.{IsAt, StandsIn, IsAtStage, MayGoOn, StandsAt, AsksFor, Answered, HasEnded, given, answers, unused, taken, outcome_of, place}
+use Rattle.tmem_tentative.specs.Cursors.{IsAt, StandsIn, IsAtStage, MayGoOn, EvaluationStandsAt, AsksFor, Answered, HasEnded, given, answers, unused, taken, outcome_of, place}
 use Rattle.tmem_tentative.specs.CursorFacts.{MayGoOn-prop}
 use Rattle.tmem_tentative.proofs.EvalSeen.{covers_refl}
 use Rattle.tmem_tentative.proofs.MadeOutcomes.{FitsPlan, need_lacks, made_fits_plan, end_made}
@@ -76,13 +76,13 @@ module _ (m : StepMeanings) (footprint : List ℕ → List ℕ) (plan : Tx) (ans
       covers_before (insert_entry nat_eq seen var n) seen var n (need_lacks m footprint seen plan answers var asks) (covers_refl _)
 
   -- once it is given the value that it needs
-  pub given_stands : (var : ℕ) (n : ℤ) (left : List Bool) → AsksFor m footprint plan seen answers (Visit var) → StandsAt m footprint plan answers p seen (record { reads = insert_entry nat_eq seen var n; left = left })
-      → StandsAt m footprint plan answers p (insert_entry nat_eq seen var n) (record { reads = insert_entry nat_eq seen var n; left = left })
+  pub given_stands : (var : ℕ) (n : ℤ) (left : List Bool) → AsksFor m footprint plan seen answers (Visit var) → EvaluationStandsAt m footprint plan answers p seen (record { reads = insert_entry nat_eq seen var n; left = left })
+      → EvaluationStandsAt m footprint plan answers p (insert_entry nat_eq seen var n) (record { reads = insert_entry nat_eq seen var n; left = left })
   given_stands var n left asks stands reads more c d =
       stands reads more (covers_before reads seen var n (need_lacks m footprint seen plan answers var asks) c) d
 
   -- once it is answered
-  pub answered_stands : (left : List Bool) (held : Bool) → left ≡ [] → StandsAt m footprint plan answers p seen (record { reads = seen; left = left }) → StandsAt m footprint plan (answers ++ held ∷ []) p seen (record { reads = seen; left = held ∷ [] })
+  pub answered_stands : (left : List Bool) (held : Bool) → left ≡ [] → EvaluationStandsAt m footprint plan answers p seen (record { reads = seen; left = left }) → EvaluationStandsAt m footprint plan (answers ++ held ∷ []) p seen (record { reads = seen; left = held ∷ [] })
   answered_stands left held none stands reads more c d =
       ap (λ all. eval m footprint reads plan (start_state all)) (append_assoc answers (held ∷ []) more)
       ∙ stands reads (held ∷ more) c d
@@ -115,7 +115,7 @@ leaving_out Retry is = absurd is
 leaving_out (Abort code) is = refl
 leaving_out (Broken name) is = refl
 
-module _ (m : StepMeanings) (footprint : List ℕ → List ℕ) (plan : Tx) (answers : List Bool) (before : Place) (seen : Taken) (stands : StandsAt m footprint plan answers before seen.reads seen) where
+module _ (m : StepMeanings) (footprint : List ℕ → List ℕ) (plan : Tx) (answers : List Bool) (before : Place) (seen : Taken) (stands : EvaluationStandsAt m footprint plan answers before seen.reads seen) where
   from_start : eval m footprint seen.reads plan (start_state answers) ≡ eval_from m footprint seen.reads plan before (with_more seen [])
   from_start =
       ap (λ all. eval m footprint seen.reads plan (start_state all)) (sym (append-nil answers)) ∙ stands seen.reads [] (covers_refl seen.reads) (covers_refl seen.reads)
@@ -124,7 +124,7 @@ module _ (m : StepMeanings) (footprint : List ℕ → List ℕ) (plan : Tx) (ans
   stops : {ask : Ask} {after : Place} {left : List Bool} → LeadsTo m footprint seen plan before (Stopped ask) after left → AsksFor m footprint plan seen.reads answers ask
   stops {ask} l = from_start ∙ l.asks ask refl
 
-  goes_on : {ask : Ask} {after : Place} {left : List Bool} → LeadsTo m footprint seen plan before (Stopped ask) after left → (n : ℤ) → StandsAt m footprint plan answers after seen.reads (record { reads = read_behind (Stopped ask) seen.reads n; left = left })
+  goes_on : {ask : Ask} {after : Place} {left : List Bool} → LeadsTo m footprint seen plan before (Stopped ask) after left → (n : ℤ) → EvaluationStandsAt m footprint plan answers after seen.reads (record { reads = read_behind (Stopped ask) seen.reads n; left = left })
   goes_on l n reads more c d = stands reads more c c ∙ l.goes_on reads n more c d
 
   -- behind one that has ended
@@ -141,7 +141,7 @@ module _ (m : StepMeanings) (footprint : List ℕ → List ℕ) (plan : Tx) (ans
     on (Broken name) l = l.goes_on seen.reads (pos 0) [] (covers_refl seen.reads) (covers_refl seen.reads) ∙ ap (λ (t : Taken). Leaves (Breaks name) t) both
 
 module _ (m : StepMeanings) (footprint : List ℕ → List ℕ) (plan : Tx) (old : Cursor) (course : Course) (going : old.stage ≡ Going) (at : IsAtStage m footprint plan old.stage old) (reads : course.attempt.reads ≡ old.course.attempt.reads) where
-  here : MayGoOn plan (place old) × StandsAt m footprint plan (answers old) (place old) (given old) (taken old)
+  here : MayGoOn plan (place old) × EvaluationStandsAt m footprint plan (answers old) (place old) (given old) (taken old)
   here = subst (λ s. IsAtStage m footprint plan s old) going at
 
   module _ {IsStated : StepMeanings → Type 0} {shapes : List Shape} {saves : List Save} {left : List Bool} {ask : Ask} (long : length saves ≡ length old.saves.items) (run : RunsTo IsStated shapes (taken old) plan (place old) (Stopped ask) (place_at course saves) left) (leads : LeadsTo m footprint (taken old) plan (place old) (Stopped ask) (place_at course saves) left) where
@@ -151,13 +151,13 @@ module _ (m : StepMeanings) (footprint : List ℕ → List ℕ) (plan : Tx) (old
     asks_still : AsksFor m footprint plan course.attempt.reads.entries (answers old) ask
     asks_still = subst (λ rs. AsksFor m footprint plan rs.entries (answers old) ask) (sym reads) (stops m footprint plan (answers old) (place old) (taken old) here.1 leads)
 
-    stands_still : (n : ℤ) → StandsAt m footprint plan (answers old) (place_at course saves) course.attempt.reads.entries (record { reads = read_behind (Stopped ask) course.attempt.reads.entries n; left = left })
-    stands_still n = subst (λ rs. StandsAt m footprint plan (answers old) (place_at course saves) rs.entries (record { reads = read_behind (Stopped ask) rs.entries n; left = left })) (sym reads) (goes_on m footprint plan (answers old) (place old) (taken old) here.1 leads n)
+    stands_still : (n : ℤ) → EvaluationStandsAt m footprint plan (answers old) (place_at course saves) course.attempt.reads.entries (record { reads = read_behind (Stopped ask) course.attempt.reads.entries n; left = left })
+    stands_still n = subst (λ rs. EvaluationStandsAt m footprint plan (answers old) (place_at course saves) rs.entries (record { reads = read_behind (Stopped ask) rs.entries n; left = left })) (sym reads) (goes_on m footprint plan (answers old) (place old) (taken old) here.1 leads n)
 
   -- a cursor that has gone on to a value that it needs
   pub waits_at : {IsStated : StepMeanings → Type 0} {shapes : List Shape} {saves : List Save} {left : List Bool} {var : ℕ} → IsStated m → AreOf shapes footprint → length saves ≡ length old.saves.items → RunsTo IsStated shapes (taken old) plan (place old) (Stopped (Visit var)) (place_at course saves) left
       → MayGoOn plan (place_at course saves) × AsksFor m footprint plan course.attempt.reads.entries (answers old) (Visit var)
-      × ((n : ℤ) → StandsAt m footprint plan (answers old) (place_at course saves) course.attempt.reads.entries (record { reads = insert_entry nat_eq course.attempt.reads.entries var n; left = left }))
+      × ((n : ℤ) → EvaluationStandsAt m footprint plan (answers old) (place_at course saves) course.attempt.reads.entries (record { reads = insert_entry nat_eq course.attempt.reads.entries var n; left = left }))
   waits_at stated of long run =
       let leads = run.leads m footprint stated of in
       (may_still long run leads, asks_still long run leads, stands_still long run leads)
@@ -165,7 +165,7 @@ module _ (m : StepMeanings) (footprint : List ℕ → List ℕ) (plan : Tx) (old
   -- one that has gone on to a test
   pub tests_at : {IsStated : StepMeanings → Type 0} {shapes : List Shape} {saves : List Save} {left : List Bool} {name : List ℕ} {values : List ℤ} → IsStated m → AreOf shapes footprint → length saves ≡ length old.saves.items → RunsTo IsStated shapes (taken old) plan (place old) (Stopped (Probe name values)) (place_at course saves) left
       → MayGoOn plan (place_at course saves) × AsksFor m footprint plan course.attempt.reads.entries (answers old) (Probe name values)
-      × StandsAt m footprint plan (answers old) (place_at course saves) course.attempt.reads.entries (record { reads = course.attempt.reads.entries; left = left }) × (left ≡ [])
+      × EvaluationStandsAt m footprint plan (answers old) (place_at course saves) course.attempt.reads.entries (record { reads = course.attempt.reads.entries; left = left }) × (left ≡ [])
   tests_at {name = name} {values = values} stated of long run =
       let leads = run.leads m footprint stated of in
       (may_still long run leads, asks_still long run leads, stands_still long run leads (pos 0), leads.spent name values refl)
@@ -182,7 +182,7 @@ module _ (m : StepMeanings) (footprint : List ℕ → List ℕ) (plan : Tx) (old
 
 -- at the start of a plan
 pub start_stands : (m : StepMeanings) (footprint : List ℕ → List ℕ) (plan : Tx) (p : Place) (answers : List Bool) (seen : Taken) → p.path ≡ [] → p.registers ≡ no_registers → p.effect ≡ no_effect → answers ≡ [] → seen.reads ≡ [] → seen.left ≡ [] → choices plan ≤ length p.saves → IsWithinLimits plan
-    → MayGoOn plan p × StandsAt m footprint plan answers p seen.reads seen
+    → MayGoOn plan p × EvaluationStandsAt m footprint plan answers p seen.reads seen
 start_stands m footprint plan p answers seen path registers effect no_answers no_reads no_left enough limits = (
   record {
     enough = enough;

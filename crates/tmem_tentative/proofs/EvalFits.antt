@@ -23,7 +23,7 @@ use Rattle.tmem_effect.proofs.Laws.{AreApart-check, AreApart-retire, All-with_na
 use Rattle.tmem_tree.specs.Limits.{one_if, count, count_all, is_write, is_check, is_retire, has_bad_variable, has_unknown_name, lacks_shape}
 use Rattle.tmem_tree.specs.Run.{register, is_zero}
 use Rattle.tmem_tentative.proofs.ReadEntries.{write_is_insert}
-use Rattle.tmem_tentative.specs.Eval.{RunState, Taken, Leaving, Gives_up, Breaks, Flow, Goes, Stops, Retries, Leaves, Looked, Lacks, Found, eval, eval_all, then_eval, else_eval, read, answered, saw, check, retire, before, look_first, looked, tested, checked}
+use Rattle.tmem_tentative.specs.Eval.{RunState, Taken, Leaving, Gives_up, Breaks, Flow, Goes, Stops, Retries, Leaves, Looked, Lacks, Found, eval, eval_all, then_eval, else_eval, read, eval_answered, saw, eval_check, eval_retire, before, look_first, looked, tested, eval_checked}
 
 -- each of these variables is one of so many
 abbrev pub Below : ℕ → List (ℕ × ℤ) → Type 0
@@ -129,7 +129,7 @@ module _ (Q R U : Type 0) (vars : ℕ) (names : List (List ℕ)) where
     read_good w c r s var reg None (Some x) e h b g = ((λ q. below_insert vars s.seen.reads var x (h q) (b q)), g)
     read_good w c r s var reg None None e h b g = (h, e)
 
-    answered_good : (w c r : ℕ) (a : StepAnswer) (s : RunState) (out : ℕ) → (Q → Below vars s.seen.reads) → IsGood w c r s.effect → IsGoodFlow w c r (answered a s out)
+    answered_good : (w c r : ℕ) (a : StepAnswer) (s : RunState) (out : ℕ) → (Q → Below vars s.seen.reads) → IsGood w c r s.effect → IsGoodFlow w c r (eval_answered a s out)
     answered_good w c r (answer.Value x) s out b g = (b, g)
     answered_good w c r answer.Retry s out b g = b
     answered_good w c r (answer.Abort code) s out b g = (b, tt)
@@ -191,12 +191,12 @@ module _ (Q R U : Type 0) (vars : ℕ) (names : List (List ℕ)) where
       apart = AreApart-retire effect.names effect.retired name g.apart;
     }
 
-    tested_good : (w c r : ℕ) (left : List Bool) (name : List ℕ) (values : List ℤ) (s : RunState) → IsGoodAsk (Probe name values) → (Q → Below vars s.seen.reads) → IsGood w c r (check s name).effect → IsGoodFlow w c r (tested left name values s)
+    tested_good : (w c r : ℕ) (left : List Bool) (name : List ℕ) (values : List ℤ) (s : RunState) → IsGoodAsk (Probe name values) → (Q → Below vars s.seen.reads) → IsGood w c r (eval_check s name).effect → IsGoodFlow w c r (tested left name values s)
     tested_good w c r [] name values s a b g = a
     tested_good w c r (true ∷ left) name values s a b g = (b, g)
     tested_good w c r (false ∷ left) name values s a b g = (b, a.0)
 
-    checked_good : (w c r : ℕ) (name : List ℕ) (effect : Effect) (l : Looked) → IsGoodLook (length (footprint name)) effect l → (R → has_name names name ≡ true) → IsGood w c r (named effect name) → IsGoodFlow w c r (checked l name)
+    checked_good : (w c r : ℕ) (name : List ℕ) (effect : Effect) (l : Looked) → IsGoodLook (length (footprint name)) effect l → (R → has_name names name ≡ true) → IsGood w c r (named effect name) → IsGoodFlow w c r (eval_checked l name)
     checked_good w c r name effect (Lacks var) l known g = l
     checked_good w c r name effect (Found values s) l known g =
         tested_good w c r s.seen.left name values s (known, l.0) l.2 (subst (λ e. IsGood w c r (named e name)) (sym l.1) g)

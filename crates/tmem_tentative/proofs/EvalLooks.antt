@@ -2,11 +2,11 @@
 use Rattle.std.proofs.Common.{◌≡◌, ℕ, ℤ, List, [], ◌∷◌, ◌++◌, Option, Some, None, refl, sym, ap, ◌∙◌, append_assoc}
 use Rattle.tmem_effect.specs.Writes.{look}
 use Rattle.tmem_tree.specs.Visited.{Visit}
-use Rattle.tmem_tentative.specs.Eval.{RunState, Flow, Goes, Stops, Looked, Lacks, Found, put, read, seen_of, noted_of, before, look_first, looked}
+use Rattle.tmem_tentative.specs.Eval.{RunState, Flow, Goes, Stops, Looked, Lacks, Found, eval_put, read, seen_of, noted_of, before, look_first, looked}
 
 -- a Read, where this value is seen
 abbrev pub read_on : Option ℤ → RunState → ℕ → ℕ → Flow
-read_on (Some n) s var reg = Goes (put s reg n)
+read_on (Some n) s var reg = Goes (eval_put s reg n)
 read_on None s var reg = Stops (Visit var)
 
 pub read_on_seen : (own value : Option ℤ) (s : RunState) (var reg : ℕ) → read own value s var reg ≡ read_on (seen_of own value) (noted_of own value s var) var reg

@@ -13,7 +13,7 @@ use Rattle.tmem_effect.specs.Writes.{look, with_write}
 use Rattle.tmem_tree.specs.Run as run
 use Rattle.tmem_tree.specs.Run.{View, RunResult, Normal, Retried, Aborted, Broken, run, run_all, updated, register, is_zero, then_run, or_else}
 use Rattle.tmem_tree.specs.Visited.{Ask, Visit, Probe, asks, asks_all, read_of, unwritten, then_ask, else_ask, visits_in}
-use Rattle.tmem_tentative.specs.Eval.{RunState, Taken, Leaving, Gives_up, Breaks, Flow, Goes, Stops, Retries, Leaves, Looked, Lacks, Found, eval, eval_all, then_eval, else_eval, read, answered, saw, before, look_first, looked, tested, checked}
+use Rattle.tmem_tentative.specs.Eval.{RunState, Taken, Leaving, Gives_up, Breaks, Flow, Goes, Stops, Retries, Leaves, Looked, Lacks, Found, eval, eval_all, then_eval, else_eval, read, eval_answered, saw, before, look_first, looked, tested, eval_checked}
 use Rattle.tmem_tentative.specs.Right.{Agrees, Gave, if_there, first_open}
 use Rattle.tmem_tentative.proofs.ReadEntries.{write_is_insert, look-insert, note, note-append}
 
@@ -210,7 +210,7 @@ module _ (reads : List (ℕ × ℤ)) (values : ℕ → ℤ) where
 
   -- and then the test
   checked_tells : (tests : Meanings) (s : RunState) (name : List ℕ) (vs : List ℤ) (xs : List Ask) (l : Looked) → LookTells s vs xs l → Gave tests s.seen.left (xs ++ Probe name vs ∷ [])
-      → Tells s.seen (run.checked (tests.test name vs) (view_of values s) name) (xs ++ Probe name vs ∷ []) (checked l name)
+      → Tells s.seen (run.checked (tests.test name vs) (view_of values s) name) (xs ++ Probe name vs ∷ []) (eval_checked l name)
   checked_tells tests s name vs xs (Lacks var) t g = open_early reads (length s.seen.left) xs (Probe name vs ∷ []) (Visit var) t
   checked_tells tests s name vs xs (Found more s') t g =
       let e = run.checked (tests.test name vs) (view_of values s) name in
@@ -221,7 +221,7 @@ module _ (reads : List (ℕ × ℤ)) (values : ℕ → ℤ) where
       (subst (λ (x : RunState). Tells s.seen e (xs ++ Probe name vs ∷ []) (f x)) (sym t.2)
       (after s.seen (took s.seen xs) xs (Probe name vs ∷ []) t.1 refl e (f (record s { seen = took s.seen xs })) here))
 
-  answered_tells : (a : StepAnswer) (s : RunState) (out : ℕ) → Tells s.seen (run.answered a (view_of values s) out) [] (answered a s out)
+  answered_tells : (a : StepAnswer) (s : RunState) (out : ℕ) → Tells s.seen (run.answered a (view_of values s) out) [] (eval_answered a s out)
   answered_tells (answer.Value n) s out = (refl, refl, refl)
   answered_tells answer.Retry s out = (refl, refl, refl)
   answered_tells (answer.Abort code) s out = (refl, refl, refl)

@@ -19,7 +19,7 @@ use Rattle.tmem_effect.specs.State.{no_effect}
 use Rattle.tmem_effect.specs.Writes.{look}
 use Rattle.tmem_tentative.specs.Eval.{Flow, Stops, Retries, Leaves, Gives_up, Breaks, eval}
 use Rattle.tmem_tentative.specs.Ends.{start_state, ended_as, IsEndOf, IsMadeOf}
-use Rattle.tmem_tentative.specs.Fits.{IsFit, IsWithin, IsNamed, IsFilled, IsBlankUnlessNormal, IsEndingFor}
+use Rattle.tmem_tentative.specs.Fits.{IsFit, IsWithinVariables, IsNamed, IsFilled, IsBlankUnlessNormal, IsEndingFor}
 use Rattle.tmem_tentative.specs.Logs.{run_state_of}
 use Rattle.tmem_tentative.specs.Right.{IsBlank}
 use Rattle.tmem_tentative.specs.CursorFacts.{IsBlankUnlessNormal-prop, IsEndingFor-prop}
@@ -35,7 +35,7 @@ use Rattle.tmem_tentative.proofs.ShapeFootprints.{within_of}
 -- what holds of each answer of an evaluation of this plan
 pub record FitsPlan (reads : List (ℕ × ℤ)) (plan : PlanView) (o : Outcome) : Type 0 where
   pub fits : count is_write plan.tree ≤ 64 → count is_check plan.tree ≤ 8 → count is_retire plan.tree ≤ 8 → IsFit reads o
-  pub within : (vars : ℕ) → FitsVariables vars plan → IsWithin vars o
+  pub within : (vars : ℕ) → FitsVariables vars plan → IsWithinVariables vars o
   pub named : (names : List (List ℕ)) → FitsNames names plan.tree → IsNamed names o
   pub filled : IsFilled plan.shapes o
 
@@ -47,7 +47,7 @@ IsFit-prop reads (Need var) = Coded-set value_coded _ _
 IsFit-prop reads (outcome.Probe probe) = hlevel props
 IsFit-prop reads (Ended a) = hlevel (props, IsDistinct-prop, IsBlankUnlessNormal-prop)
 
-IsWithin-prop : (vars : ℕ) (o : Outcome) → IsProp (IsWithin vars o)
+IsWithin-prop : (vars : ℕ) (o : Outcome) → IsProp (IsWithinVariables vars o)
 IsWithin-prop vars (Need var) = hlevel props
 IsWithin-prop vars (outcome.Probe probe) = hlevel props
 IsWithin-prop vars (Ended a) = hlevel props

@@ -12,7 +12,7 @@ use Rattle.tmem_tentative.specs.declared.attempt.Probe.{Probe as Asked}
 use Rattle.tmem_tentative.specs.declared.flow.Flow as code
 use Rattle.tmem_tentative.specs.declared.flow.Flow.TheVariants.{Normal, Need, Test, Retry}
 use Rattle.tmem_tentative.specs.declared.save.Save.{Save}
-use Rattle.tmem_tentative.specs.Eval.{RunState, Taken, Goes, Stops, Looked, Lacks, Found, eval, put, saw, read, seen_of, noted_of, before, look_first, looked, checked, tested}
+use Rattle.tmem_tentative.specs.Eval.{RunState, Taken, Goes, Stops, Looked, Lacks, Found, eval, eval_put, saw, read, seen_of, noted_of, before, look_first, looked, eval_checked, tested}
 use Rattle.tmem_tentative.specs.Logs.{Out, Went, Stopped, Gave_way, flow_at, out_of, taken_of, run_state_of}
 use Rattle.tmem_tentative.specs.Places.{Covers, Place, LeadsTo, place_of, behind, read_behind, read_seen}
 use Rattle.tmem_tentative.proofs.EvalSeen.{look-saw}
@@ -79,7 +79,7 @@ module _ (m : StepMeanings) (footprint : List ℕ → List ℕ) where
           let s = run_state_of log (left ++ more) in
           let r = saw s var n in
           ap (λ o. read o (look reads var) s var reg) h ∙ ap (λ p. read None p s var reg) there
-          ∙ ap (λ x. Goes (put x reg n)) (sym (saw-same r var n (look-saw log.reads.entries var n)))
+          ∙ ap (λ x. Goes (eval_put x reg n)) (sym (saw-same r var n (look-saw log.reads.entries var n)))
           ∙ sym (ap (λ o. read o (look reads var) r var reg) h ∙ ap (λ p. read None p r var reg) there);
     }
 
@@ -87,8 +87,8 @@ module _ (m : StepMeanings) (footprint : List ℕ → List ℕ) where
         → ((left : List Bool) → flow_at out (run_state_of log' left) ≡ read_seen (look log.effect.writes var) (look log.reads.entries var) (run_state_of log left) var reg)
         → LeadsTo m footprint (taken_of log left) (Read var reg) (place_of log [] saves) out (place_of log' [] saves) left
     read_leads out log' same stays flow = on (look log.effect.writes var) (look log.reads.entries var) refl refl flow where
-      ends : (n : ℤ) → flow_at out (run_state_of log' []) ≡ Goes (put (run_state_of log []) reg n) → (ask : Ask) → out ≡ Stopped ask → ⊥
-      ends n e ask is = let no : Stops ask ≡ Goes (put (run_state_of log []) reg n) = sym (ap (λ o. flow_at o (run_state_of log' [])) is) ∙ e in cc
+      ends : (n : ℤ) → flow_at out (run_state_of log' []) ≡ Goes (eval_put (run_state_of log []) reg n) → (ask : Ask) → out ≡ Stopped ask → ⊥
+      ends n e ask is = let no : Stops ask ≡ Goes (eval_put (run_state_of log []) reg n) = sym (ap (λ o. flow_at o (run_state_of log' [])) is) ∙ e in cc
 
       on : (o p : Option ℤ) → look log.effect.writes var ≡ o → look log.reads.entries var ≡ p → ((left : List Bool) → flow_at out (run_state_of log' left) ≡ read_seen o p (run_state_of log left) var reg)
           → LeadsTo m footprint (taken_of log left) (Read var reg) (place_of log [] saves) out (place_of log' [] saves) left
@@ -97,7 +97,7 @@ module _ (m : StepMeanings) (footprint : List ℕ → List ℕ) where
       on None (Some n) h k flow =
           leaf_leads (Read var reg) log log' saves left out (ends n (flow [])) same (λ reads left c.
           ap (λ o. read o (look reads var) (run_state_of log left) var reg) h ∙ ap (λ p. read None p (run_state_of log left) var reg) (c.at var n k)
-          ∙ ap (λ x. Goes (put x reg n)) (saw-same (run_state_of log left) var n k) ∙ sym (flow left))
+          ∙ ap (λ x. Goes (eval_put x reg n)) (saw-same (run_state_of log left) var n k) ∙ sym (flow left))
       on None None h k flow = stopped out (flow []) stays where
         stopped : (out : Out) → flow_at out (run_state_of log' []) ≡ Stops (Visit var) → ((ask : Ask) → out ≡ Stopped ask → log' ≡ log) → LeadsTo m footprint (taken_of log left) (Read var reg) (place_of log [] saves) out (place_of log' [] saves) left
         stopped (Stopped ask) e stays =
@@ -149,17 +149,17 @@ module _ (reads : List (ℕ × ℤ)) (s : RunState) (covers : Covers reads s.see
 
 -- A Check, whose footprint is this.
 module _ (m : StepMeanings) (footprint : List ℕ → List ℕ) (name vars : List ℕ) (meant : footprint name ≡ vars) (log : Attempt) (saves : List Save) where
-  eval_check : (reads : List (ℕ × ℤ)) (s : RunState) → eval m footprint reads (Check name) s ≡ checked (looked reads vars s) name
-  eval_check reads s = ap (λ vs. checked (looked reads vs s) name) meant
+  eval_check : (reads : List (ℕ × ℤ)) (s : RunState) → eval m footprint reads (Check name) s ≡ eval_checked (looked reads vars s) name
+  eval_check reads s = ap (λ vs. eval_checked (looked reads vs s) name) meant
 
   -- that lacks a variable
   pub lacks_leads : (var : ℕ) (left : List Bool) → ((left : List Bool) → looked log.reads.entries vars (run_state_of log left) ≡ Lacks var) → LeadsTo m footprint (taken_of log left) (Check name) (place_of log [] saves) (Stopped (Visit var)) (place_of log [] saves) left
   lacks_leads var left lacks = record {
-    asks = λ ask is. eval_check log.reads.entries (run_state_of log (left ++ [])) ∙ ap (λ l. checked l name) (lacks (left ++ [])) ∙ cc;
+    asks = λ ask is. eval_check log.reads.entries (run_state_of log (left ++ [])) ∙ ap (λ l. eval_checked l name) (lacks (left ++ [])) ∙ cc;
     spent = λ name values is. cc;
     goes_on = λ reads n more c d.
         let s = run_state_of log (left ++ more) in
-        eval_check reads s ∙ ap (λ l. checked l name) (lacks_over reads s c vars var n (lacks (left ++ more)) (d.at var n (look-saw log.reads.entries var n)))
+        eval_check reads s ∙ ap (λ l. eval_checked l name) (lacks_over reads s c vars var n (lacks (left ++ more)) (d.at var n (look-saw log.reads.entries var n)))
         ∙ sym (eval_check reads (saw s var n));
   }
 
@@ -167,7 +167,7 @@ module _ (m : StepMeanings) (footprint : List ℕ → List ℕ) (name vars : Lis
     tests : (reads : List (ℕ × ℤ)) (left : List Bool) → Covers reads log.reads.entries → eval m footprint reads (Check name) (run_state_of log left) ≡ tested left name values (run_state_of log left)
     tests reads left c =
         eval_check reads (run_state_of log left)
-        ∙ ap (λ l. checked l name) (found_over reads (run_state_of log left) c vars (λ var e. let no : Found values (run_state_of log left) ≡ Lacks var = sym (found left) ∙ e in cc) ∙ found left)
+        ∙ ap (λ l. eval_checked l name) (found_over reads (run_state_of log left) c vars (λ var e. let no : Found values (run_state_of log left) ≡ Lacks var = sym (found left) ∙ e in cc) ∙ found left)
 
     -- that has an answer
     answered_leads : (held : Bool) → ((left : List Bool) → flow_at out (run_state_of log' left) ≡ tested (held ∷ left) name values (run_state_of log (held ∷ left)))

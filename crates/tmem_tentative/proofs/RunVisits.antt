@@ -98,25 +98,25 @@ module _ (v w : ℕ → ℤ) where
   cond_same false e e' f f' xs ys xs' ys' t t' a = t' a
 
   answered_same : (a : StepAnswer) (s : RunState) (out : ℕ) → AreSame (run.answered a (view_of v s) out) (run.answered a (view_of w s) out) [] []
-  answered_same (answer.Value n) s out = ((eval.put s out n, refl, refl), refl)
+  answered_same (answer.Value n) s out = ((eval.eval_put s out n, refl, refl), refl)
   answered_same answer.Retry s out = (refl, refl)
   answered_same (answer.Abort code) s out = (refl, refl)
 
   checked_same : (b : Bool) (s : RunState) (name : List ℕ) → EndLike (run.checked b (view_of v s) name) (run.checked b (view_of w s) name)
-  checked_same true s name = (eval.check s name, refl, refl)
+  checked_same true s name = (eval.eval_check s name, refl, refl)
   checked_same false s name = refl
 
   module _ (steps : StepMeanings) (tests : Meanings) where
     mutual
       pub same : (tx : Tx) (s : RunState) → AgreeOn (asks steps tests tx (view_of v s)) → AreSame (run steps tests tx (view_of v s)) (run steps tests tx (view_of w s)) (asks steps tests tx (view_of v s)) (asks steps tests tx (view_of w s))
       same (Seq' shape txs) s a = same_all txs s a
-      same (Put reg number) s a = ((eval.put s reg number, refl, refl), refl)
+      same (Put reg number) s a = ((eval.eval_put s reg number, refl, refl), refl)
       same (Read var reg) s a =
-          ((eval.put s reg (overlay v s.effect.writes var), refl, ap (λ n. Normal (run.put (view_of w s) reg n)) (sym (read_same s.effect.writes var a))), refl)
+          ((eval.eval_put s reg (overlay v s.effect.writes var), refl, ap (λ n. Normal (run.put (view_of w s) reg n)) (sym (read_same s.effect.writes var a))), refl)
       same (Write var reg) s a =
           let n = register s.registers reg in
           let after : (ℕ → ℤ) → View = λ m. record { values = m; registers = s.registers; effect = record { writes = with_write s.effect.writes var n; names = s.effect.names; retired = s.effect.retired } } in
-          ((eval.write s var n, ap after (sym (overlay-write v s.effect.writes var n)), ap (λ m. Normal (after m)) (sym (overlay-write w s.effect.writes var n))), refl)
+          ((eval.eval_write s var n, ap after (sym (overlay-write v s.effect.writes var n)), ap (λ m. Normal (after m)) (sym (overlay-write w s.effect.writes var n))), refl)
       same (Step index args out) s a = answered_same (steps index (map (register s.registers) args.items)) s out
       same (When' reg p x q y) s a = cond_same (is_zero (register s.registers reg)) _ _ _ _ _ _ _ _ (same y s) (same x s) a
       same (OrElse' p x q y) s a =
@@ -130,7 +130,7 @@ module _ (v w : ℕ → ℤ) where
             subst (λ l. EndLike (run.checked (tests.test name (map (overlay v s.effect.writes) vars)) (view_of v s) name) (run.checked (tests.test name l) (view_of w s) name)) eq (checked_same (tests.test name (map (overlay v s.effect.writes) vars)) s name),
             ap (λ l. unwritten s.effect.writes vars ++ Probe name l ∷ []) eq,
           )
-      same (Retire name) s a = ((eval.retire s name, refl, refl), refl)
+      same (Retire name) s a = ((eval.eval_retire s name, refl, refl), refl)
       same tx s a = ((s, refl, refl), refl)
 
       pub same_all : {m : _} (txs : Row_of-Tx m) (s : RunState) → AgreeOn (asks_all steps tests txs (view_of v s)) → AreSame (run_all steps tests txs (view_of v s)) (run_all steps tests txs (view_of w s)) (asks_all steps tests txs (view_of v s)) (asks_all steps tests txs (view_of w s))

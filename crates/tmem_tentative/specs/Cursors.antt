@@ -60,8 +60,8 @@ pub record MayGoOn (plan : Tx) (p : Place) : Type 0 where
 
 -- whatever else will be read and answered, the evaluation of the plan from its start, with these answers first, is the one from
 -- here, where so much was taken
-abbrev pub StandsAt : StepMeanings → (List ℕ → List ℕ) → Tx → List Bool → Place → List (ℕ × ℤ) → Taken → Type 0
-StandsAt m footprint plan answers p before seen =
+abbrev pub EvaluationStandsAt : StepMeanings → (List ℕ → List ℕ) → Tx → List Bool → Place → List (ℕ × ℤ) → Taken → Type 0
+EvaluationStandsAt m footprint plan answers p before seen =
     (reads : List (ℕ × ℤ)) (more : List Bool) → Covers reads before → Covers reads seen.reads
     → eval m footprint reads plan (start_state (answers ++ more)) ≡ eval_from m footprint reads plan p (with_more seen more)
 
@@ -72,15 +72,15 @@ AsksFor m footprint plan reads answers ask = eval m footprint reads plan (start_
 -- it goes on from here; or from here once it is given the value, or the answer, that it needs; or it has ended
 abbrev pub IsAtStage : StepMeanings → (List ℕ → List ℕ) → Tx → Stage → Cursor → Type 0
 IsAtStage m footprint plan Going cursor =
-    MayGoOn plan (place cursor) × StandsAt m footprint plan (answers cursor) (place cursor) (given cursor) (taken cursor)
+    MayGoOn plan (place cursor) × EvaluationStandsAt m footprint plan (answers cursor) (place cursor) (given cursor) (taken cursor)
 IsAtStage m footprint plan (Waits var) cursor =
     MayGoOn plan (place cursor)
     × AsksFor m footprint plan (given cursor) (answers cursor) (Visit var)
-    × ((n : ℤ) → StandsAt m footprint plan (answers cursor) (place cursor) (given cursor) (record { reads = insert_entry nat_eq (given cursor) var n; left = unused cursor }))
+    × ((n : ℤ) → EvaluationStandsAt m footprint plan (answers cursor) (place cursor) (given cursor) (record { reads = insert_entry nat_eq (given cursor) var n; left = unused cursor }))
 IsAtStage m footprint plan Tests cursor =
     MayGoOn plan (place cursor)
     × AsksFor m footprint plan (given cursor) (answers cursor) (Probe (probe_of cursor).name (probe_of cursor).values)
-    × StandsAt m footprint plan (answers cursor) (place cursor) (given cursor) (taken cursor)
+    × EvaluationStandsAt m footprint plan (answers cursor) (place cursor) (given cursor) (taken cursor)
     × (unused cursor ≡ [])
 IsAtStage m footprint plan Ended cursor =
     IsMadeOf (eval m footprint (given cursor) plan (start_state (answers cursor))) (unused cursor) (outcome.Ended (attempt_of cursor))

@@ -36,14 +36,14 @@ pub data Flow : Type 0 where
   Retries : (seen : Taken) → Flow
   Leaves : (how : Leaving) (seen : Taken) → Flow
 
-abbrev pub put : RunState → ℕ → ℤ → RunState
-put s reg n = record s { registers = slice_set s.registers reg n }
+abbrev pub eval_put : RunState → ℕ → ℤ → RunState
+eval_put s reg n = record s { registers = slice_set s.registers reg n }
 
-abbrev pub write : RunState → ℕ → ℤ → RunState
-write s var n = record s { effect = record { writes = with_write s.effect.writes var n; names = s.effect.names; retired = s.effect.retired } }
+abbrev pub eval_write : RunState → ℕ → ℤ → RunState
+eval_write s var n = record s { effect = record { writes = with_write s.effect.writes var n; names = s.effect.names; retired = s.effect.retired } }
 
-abbrev pub check : RunState → List ℕ → RunState
-check s name = record s {
+abbrev pub eval_check : RunState → List ℕ → RunState
+eval_check s name = record s {
   effect = record {
     writes = s.effect.writes;
     names = with_name s.effect.names name;
@@ -51,8 +51,8 @@ check s name = record s {
   };
 }
 
-abbrev pub retire : RunState → List ℕ → RunState
-retire s name = record s {
+abbrev pub eval_retire : RunState → List ℕ → RunState
+eval_retire s name = record s {
   effect = record {
     writes = s.effect.writes;
     names = without_name s.effect.names name;
@@ -79,14 +79,14 @@ noted_of _ _ s var = s
 
 -- its own write, or else the value of the map
 abbrev pub read : Option ℤ → Option ℤ → RunState → ℕ → ℕ → Flow
-read (Some n) value s var reg = Goes (put s reg n)
-read None (Some n) s var reg = Goes (put (saw s var n) reg n)
+read (Some n) value s var reg = Goes (eval_put s reg n)
+read None (Some n) s var reg = Goes (eval_put (saw s var n) reg n)
 read None None s var reg = Stops (Visit var)
 
-abbrev pub answered : StepAnswer → RunState → ℕ → Flow
-answered (answer.Value n) s out = Goes (put s out n)
-answered answer.Retry s out = Retries s.seen
-answered (answer.Abort code) s out = Leaves (Gives_up code) s.seen
+abbrev pub eval_answered : StepAnswer → RunState → ℕ → Flow
+eval_answered (answer.Value n) s out = Goes (eval_put s out n)
+eval_answered answer.Retry s out = Retries s.seen
+eval_answered (answer.Abort code) s out = Leaves (Gives_up code) s.seen
 
 -- the values of a footprint, and the state that saw those of them that it did not write; or the first variable that the map lacks
 pub data Looked : Type 0 where
@@ -110,12 +110,12 @@ looked reads (var ∷ vars) s = look_first (look s.effect.writes var) (look read
 -- an invariant on these values: the next answer says whether it holds, and is used; with none left the run asks
 abbrev pub tested : List Bool → List ℕ → List ℤ → RunState → Flow
 tested [] name values s = Stops (Probe name values)
-tested (true ∷ left) name values s = Goes (check (used s left) name)
+tested (true ∷ left) name values s = Goes (eval_check (used s left) name)
 tested (false ∷ left) name values s = Leaves (Breaks name) (used s left).seen
 
-abbrev pub checked : Looked → List ℕ → Flow
-checked (Lacks var) name = Stops (Visit var)
-checked (Found values s) name = tested s.seen.left name values s
+abbrev pub eval_checked : Looked → List ℕ → Flow
+eval_checked (Lacks var) name = Stops (Visit var)
+eval_checked (Found values s) name = tested s.seen.left name values s
 
 abbrev pub then_eval : Flow → (RunState → Flow) → Flow
 then_eval (Goes s) next = next s
@@ -135,17 +135,17 @@ module _ (steps : StepMeanings) (footprint : List ℕ → List ℕ) (reads : Lis
     pub eval : Tx → RunState → Flow
     eval Skip s = Goes s
     eval (Seq' shape txs) s = eval_all txs s
-    eval (Put reg number) s = Goes (put s reg number)
+    eval (Put reg number) s = Goes (eval_put s reg number)
     eval (Read var reg) s = read (look s.effect.writes var) (look reads var) s var reg
-    eval (Write var reg) s = Goes (write s var (register s.registers reg))
-    eval (Step index args out) s = answered (steps index (map (register s.registers) args.items)) s out
+    eval (Write var reg) s = Goes (eval_write s var (register s.registers reg))
+    eval (Step index args out) s = eval_answered (steps index (map (register s.registers) args.items)) s out
     eval (When' reg p a q b) s = if is_zero (register s.registers reg) then eval b s else eval a s
     -- what the first branch took stays, and nothing else of it
     eval (OrElse' p a q b) s = else_eval (eval a s) (λ seen. eval b (record s { seen = seen }))
     eval Retry s = Retries s.seen
     eval (Abort code) s = Leaves (Gives_up code) s.seen
-    eval (Check name) s = checked (looked reads (footprint name) s) name
-    eval (Retire name) s = Goes (retire s name)
+    eval (Check name) s = eval_checked (looked reads (footprint name) s) name
+    eval (Retire name) s = Goes (eval_retire s name)
 
     pub eval_all : {m : _} → Row_of-Tx m → RunState → Flow
     eval_all end_of-Tx s = Goes s

@@ -41,10 +41,10 @@ IsForVariables vars a =
     All (λ var. var < vars) (keys_of a.reads.entries) × All (λ var. var < vars) (keys_of a.effect.writes)
 
 -- each variable is one of so many
-abbrev pub IsWithin : ℕ → Outcome → Type 0
-IsWithin vars (Need var) = var < vars
-IsWithin vars (outcome.Probe probe) = ⊤
-IsWithin vars (Ended a) = IsForVariables vars a
+abbrev pub IsWithinVariables : ℕ → Outcome → Type 0
+IsWithinVariables vars (Need var) = var < vars
+IsWithinVariables vars (outcome.Probe probe) = ⊤
+IsWithinVariables vars (Ended a) = IsForVariables vars a
 
 -- the name of an invariant that was false is one of these
 abbrev pub IsEndingFor : List (List ℕ) → Ending → Type 0

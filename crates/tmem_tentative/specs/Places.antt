@@ -14,7 +14,7 @@ use Rattle.tmem_tentative.specs.declared.attempt.Attempt.{Attempt}
 use Rattle.tmem_tentative.specs.declared.course.Course.{Course}
 use Rattle.tmem_tentative.specs.declared.flow.Flow as code
 use Rattle.tmem_tentative.specs.declared.save.Save.{Save}
-use Rattle.tmem_tentative.specs.Eval.{RunState, Taken, Flow, Stops, Goes, put, eval, eval_all, then_eval, else_eval}
+use Rattle.tmem_tentative.specs.Eval.{RunState, Taken, Flow, Stops, Goes, eval_put, eval, eval_all, then_eval, else_eval}
 use Rattle.tmem_tentative.specs.Logs.{AreOf, Out, Went, Stopped, flow_at, out_of, taken_of}
 
 -- The path of a place has the child that is entered at each node, from the root on: of a Seq by its index, of a When and
@@ -183,6 +183,6 @@ IsLeaf _ = ⊤
 
 -- a Read of its own write, or else of what was given
 abbrev pub read_seen : Option ℤ → Option ℤ → RunState → ℕ → ℕ → Flow
-read_seen (Some n) value s var reg = Goes (put s reg n)
-read_seen None (Some n) s var reg = Goes (put s reg n)
+read_seen (Some n) value s var reg = Goes (eval_put s reg n)
+read_seen None (Some n) s var reg = Goes (eval_put s reg n)
 read_seen None None s var reg = Stops (Visit var)

@@ -67,7 +67,7 @@ impl Drop for Cursor {
 impl Cursor {
     ghost use Rattle.tmem_tentative.specs.Right.{IsOutcome};
     ghost use Rattle.tmem_tentative.specs.Ends.{IsEndOf};
-    ghost use Rattle.tmem_tentative.specs.Fits.{IsFit, IsWithin, IsNamed, IsFilled};
+    ghost use Rattle.tmem_tentative.specs.Fits.{IsFit, IsWithinVariables, IsNamed, IsFilled};
     ghost use Rattle.tmem_tentative.specs.Cursors.{IsAt, StandsIn, IsAtStage, NeedsValue, NeedsAnswer, HasEnded, Answered, IsAnswer, IsAsBefore, given, answers, probe_of, attempt_of, outcome_of};
     ghost use Rattle.tmem_tentative.specs.Logs.{AreOf};
 
@@ -148,7 +148,7 @@ impl Cursor {
         ensures right { (m : StepMeanings) (tests : Meanings) → S.is_stated steps.now m → FitsShapes tests plan.now → IsAt m tests plan.now.tree self.old
             → IfOk result (λ progress. IsOutcome m tests plan.now.tree (given self.new) (length (answers self.new)) (outcome_of self.new progress)) }
         ensures fits { IfOk result (λ progress. IsFit (given self.new) (outcome_of self.new progress)) }
-        ensures within { (vars : ℕ) → FitsVariables vars plan.now → IfOk result (λ progress. IsWithin vars (outcome_of self.new progress)) }
+        ensures within { (vars : ℕ) → FitsVariables vars plan.now → IfOk result (λ progress. IsWithinVariables vars (outcome_of self.new progress)) }
         ensures named { (names : List (List ℕ)) → FitsNames names plan.now.tree → IfOk result (λ progress. IsNamed names (outcome_of self.new progress)) }
         ensures filled { IfOk result (λ progress. IsFilled plan.now.shapes (outcome_of self.new progress)) }
         ensures same { IfErr result (λ _. IsAsBefore self.old self.new) }
@@ -179,7 +179,7 @@ impl Cursor {
         ensures right { (m : StepMeanings) (tests : Meanings) → S.is_stated steps.now m → FitsShapes tests plan.now → IsAt m tests plan.now.tree self.old
             → IfOk result (IsOutcome m tests plan.now.tree (given self.new) (length (answers self.new))) }
         ensures fits { IfOk result (IsFit (given self.new)) }
-        ensures within { (vars : ℕ) → FitsVariables vars plan.now → IfOk result (IsWithin vars) }
+        ensures within { (vars : ℕ) → FitsVariables vars plan.now → IfOk result (IsWithinVariables vars) }
         ensures named { (names : List (List ℕ)) → FitsNames names plan.now.tree → IfOk result (IsNamed names) }
         ensures filled { IfOk result (IsFilled plan.now.shapes) }
         ensures same { IfErr result (λ _. IsAsBefore self.old self.new) }

@@ -7,7 +7,7 @@ ghost use Rattle.tmem_tree.specs.Plans.{FitsSteps, FitsVariables, FitsNames, Fit
 ghost use Rattle.tmem_tentative.specs.Right.{IsOutcome, HaveAnswered};
 ghost use Rattle.tmem_tentative.specs.Logs.{IsLeaving, run_state_of, flow_at, out_of};
 ghost use Rattle.tmem_tentative.specs.Ends.{IsEndOf, IsMadeOf};
-ghost use Rattle.tmem_tentative.specs.Fits.{IsFit, IsWithin, IsNamed, IsFilled};
+ghost use Rattle.tmem_tentative.specs.Fits.{IsFit, IsWithinVariables, IsNamed, IsFilled};
 
 use crate::attempt::{Attempt, Ending, Outcome, Probe, Reads};
 use crate::flow::Flow;
@@ -34,7 +34,7 @@ pub fn evaluate<S: StoredSteps>(
 
     // What holds of each answer, whatever the steps mean.
     ensures fits { IfOk result (IsFit reads.now.entries) }
-    ensures within { (vars : ℕ) → FitsVariables vars plan.now → IfOk result (IsWithin vars) }
+    ensures within { (vars : ℕ) → FitsVariables vars plan.now → IfOk result (IsWithinVariables vars) }
     ensures named { (names : List (List ℕ)) → FitsNames names plan.now.tree → IfOk result (IsNamed names) }
     ensures filled { IfOk result (IsFilled plan.now.shapes) }
     ensures fault { IfErr result (λ fault. fault ≡ Fault.Memory) }

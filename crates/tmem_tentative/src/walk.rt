@@ -9,7 +9,7 @@ ghost use Rattle.tmem_effect.specs.Writes.{look};
 ghost use Rattle.tmem_tree.specs.Limits.{count, is_write, is_check, is_retire, is_no_register};
 ghost use Rattle.tmem_tree.specs.Run.{register};
 ghost use Rattle.tmem_tree.specs.Shapes.{names_of, footprint_in};
-ghost use Rattle.tmem_tentative.specs.Eval.{eval, read, answered, seen_of, noted_of, looked, checked, tested};
+ghost use Rattle.tmem_tentative.specs.Eval.{eval, read, eval_answered, seen_of, noted_of, looked, eval_checked, tested};
 ghost use Rattle.tmem_tentative.specs.declared.attempt.Probe.{Probe as Asked};
 ghost use Rattle.tmem_tentative.specs.Logs.{AreOf, MayWalk, IsLeaving, run_state_of, flow_at, out_of, looked_at};
 
@@ -199,7 +199,7 @@ fn check(given: &Given, log: &mut Attempt, tests: &mut Tests, name: &Name) -> Re
     ensures names { length log.new.effect.names ≤ length log.old.effect.names + 1 }
     ensures retired { length log.new.effect.retired ≤ length log.old.effect.retired }
     ensures flow { IfOk result (λ flow. flow_at (out_of flow log.new tests.new.probe) (run_state_of log.new (drop tests.new.used given.now.answers.now))
-        ≡ checked (looked given.now.reads.now.entries (footprint_in given.now.shapes.now name.now) (run_state_of log.old (drop tests.old.used given.now.answers.now))) name.now) }
+        ≡ eval_checked (looked given.now.reads.now.entries (footprint_in given.now.shapes.now name.now) (run_state_of log.old (drop tests.old.used given.now.answers.now))) name.now) }
     ensures leaves { result ≡ Ok Flow.Leave → IsLeaving log.new.ending }
     ensures fault { IfErr result (λ fault. fault ≡ Fault.Memory) }
 {
@@ -280,7 +280,7 @@ pub(crate) fn call<S: StoredSteps>(
     ensures tests_none { result ≡ Flow.Test → ⊥ }
     ensures effect { log.new.effect ≡ log.old.effect }
     ensures reads { log.new.reads ≡ log.old.reads }
-    ensures flow { (m : StepMeanings) → S.is_stated steps.now m → (left : List Bool) (probe : Asked) → flow_at (out_of result log.new probe) (run_state_of log.new left) ≡ answered (m index (map (register log.old.registers) args.now)) (run_state_of log.old left) out }
+    ensures flow { (m : StepMeanings) → S.is_stated steps.now m → (left : List Bool) (probe : Asked) → flow_at (out_of result log.new probe) (run_state_of log.new left) ≡ eval_answered (m index (map (register log.old.registers) args.now)) (run_state_of log.old left) out }
     ensures leaves { result ≡ Flow.Leave → IsLeaving log.new.ending }
 {
     let mut given = [0; MAX_ARGUMENTS as usize];

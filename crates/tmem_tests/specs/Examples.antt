@@ -14,8 +14,8 @@ abbrev pub is_sum_not_negative : List ℤ → Bool
 is_sum_not_negative values = int_le (pos 0) (first values +ℤ second values)
 
 -- the stored steps of scripts, and one invariant: variable 0 is at least 0
-abbrev pub checked : Program
-checked = record {
+abbrev pub checked_program : Program
+checked_program = record {
   steps = builtin_steps;
   names = codes "nonneg" ∷ [];
   tests = record { footprint = λ name. 0 ∷ []; test = λ name values. is_not_negative values };

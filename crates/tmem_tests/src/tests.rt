@@ -16,7 +16,7 @@ use tmem_invariants::Invariants;
 use tmem_tree::{MAX_TURNS, StoredSteps, Tx};
 use tmem_world::{Event, Layout, Reply, Settled, World, format};
 
-/// What is answered to a transaction that was accepted, and left this number in register 0 alone.
+/// What is answered to a transaction that was committed, and left this number in register 0 alone.
 fn committed(number: u64, first: i64) -> Reply {
     let mut registers = [0; 16];
     registers[0] = first;

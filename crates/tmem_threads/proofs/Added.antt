@@ -16,14 +16,14 @@ use Rattle.tmem_tentative.specs.declared.attempt.Ending.TheVariants as ended
 use Rattle.tmem_tree.specs.declared.settled.Settled.{Settled}
 use Rattle.tmem_tree.specs.declared.settled.Settled.TheVariants.{Committed, Seen, Retry, Aborted, Refused}
 use Rattle.tmem_core.specs.Program.{Program}
-use Rattle.tmem_core.specs.Verdict.{first_broken, accepted}
+use Rattle.tmem_core.specs.Verdict.{first_broken, committed}
 use Rattle.tmem_core.specs.SettleAnswer.{settle_answer, ending_answer, sound_answer, unless_refused, is_stale}
 use Rattle.tmem_spine.specs.declared.view.Entry.{Entry}
 use Rattle.tmem_spine.specs.History.{count}
-use Rattle.tmem_spine.specs.Views.{PassView}
-use Rattle.tmem_seats.specs.Histories.{after, numbered}
+use Rattle.tmem_spine.specs.Views.{PassRoleView}
+use Rattle.tmem_seats.specs.Histories.{state_after_history, numbered}
 use Rattle.tmem_tree.specs.declared.tx.Tx.{Tx}
-use Rattle.tmem_front.specs.Settling.{Settles, SettlesAtLast, SettlesDurably, SeesMore}
+use Rattle.tmem_front.specs.Settling.{SettlesPass, SettlesAtLast, SettlesDurably, SeesMore}
 use Rattle.tmem_threads.specs.Counting.{AddsDurable, is_commit, once}
 
 -- the number of a transaction that was committed
@@ -81,60 +81,60 @@ of_core false stale n r numbers = of_open stale n r numbers
 committed_number : (p : Program) (shut : Bool) (s : State) (durable : ℕ) (a : Attempt) → Numbers s.count (settle_answer p shut s durable a)
 committed_number p shut s durable a = of_core shut (is_stale s a.reads.entries) s.count _ (of_ending p a.ending s durable a.effect a.registers)
 
--- one effect is accepted by an answer with a number, and none by the others
-accepts_one : (s : Settled) (e : Effect) (n : ℕ) → number_in s ≡ Some n → accepted s e ≡ e ∷ []
-accepts_one (Committed number registers) e n is = refl
-accepts_one (Seen at registers) e n is = cc
-accepts_one Retry e n is = cc
-accepts_one (Aborted code) e n is = cc
-accepts_one (Refused name) e n is = cc
+-- one effect is committed by an answer with a number, and none by the others
+commits_one : (s : Settled) (e : Effect) (n : ℕ) → number_in s ≡ Some n → committed s e ≡ e ∷ []
+commits_one (Committed number registers) e n is = refl
+commits_one (Seen at registers) e n is = cc
+commits_one Retry e n is = cc
+commits_one (Aborted code) e n is = cc
+commits_one (Refused name) e n is = cc
 
-accepts_none : (s : Settled) (e : Effect) → number_in s ≡ None → accepted s e ≡ []
-accepts_none (Committed number registers) e is = cc
-accepts_none (Seen at registers) e is = refl
-accepts_none Retry e is = refl
-accepts_none (Aborted code) e is = refl
-accepts_none (Refused name) e is = refl
+commits_none : (s : Settled) (e : Effect) → number_in s ≡ None → committed s e ≡ []
+commits_none (Committed number registers) e is = cc
+commits_none (Seen at registers) e is = refl
+commits_none Retry e is = refl
+commits_none (Aborted code) e is = refl
+commits_none (Refused name) e is = refl
 
 -- a transaction that was settled at last, where there was memory
-settles : (start : ℕ) (opening : State) (p : Program) (tx : Tx) (old mid : PassView) (r : Result Settled Fault) (settled : Settled)
-    → r ≡ Ok settled → SettlesAtLast start opening p tx old r mid → ∥ ((attempt : Attempt) × Settles start opening p attempt old (Ok settled) mid) ∥₁
+settles : (start : ℕ) (opening : State) (p : Program) (tx : Tx) (old mid : PassRoleView) (r : Result Settled Fault) (settled : Settled)
+    → r ≡ Ok settled → SettlesAtLast start opening p tx old r mid → ∥ ((attempt : Attempt) × SettlesPass start opening p attempt old (Ok settled) mid) ∥₁
 settles start opening p tx old mid r settled was last = elim last [
   | inl memory ↦ let bad : Ok settled ≡ Err fault.Memory = sym was ∙ memory.0 in cc
-  | inr held ↦ ∥∥₁_map held (λ h. (h.0, subst (λ (x : Result Settled Fault). Settles start opening p h.0 old x mid) was h.2))
+  | inr held ↦ ∥∥₁_map held (λ h. (h.0, subst (λ (x : Result Settled Fault). SettlesPass start opening p h.0 old x mid) was h.2))
 ]
 
 prefix_count : (start : ℕ) (xs ys : List Entry) → IsPrefix xs ys → count start xs ≤ count start ys
 prefix_count start xs ys begins = let shorter = IsPrefix-length xs ys begins in omega (arith, shorter)
 
 -- a transaction that was committed, and then awaited
-one : (start : ℕ) (opening : State) (p : Program) (attempt : Attempt) (old mid new : PassView) (settled : Settled) (n : ℕ)
-    → Settles start opening p attempt old (Ok settled) mid → number_in settled ≡ Some n
+one : (start : ℕ) (opening : State) (p : Program) (attempt : Attempt) (old mid new : PassRoleView) (settled : Settled) (n : ℕ)
+    → SettlesPass start opening p attempt old (Ok settled) mid → number_in settled ≡ Some n
     → new ≡ record mid { seen = new.seen; known = new.known } → IsPrefix mid.seen new.seen → n < count start new.seen → AddsDurable start old 1 new
 one start opening p attempt old mid new settled n s is same later durable =
-    let at : n ≡ count start s.before = committed_number p s.is_shut (after opening s.before) s.durable attempt n settled s.answered is ∙ s.number in
+    let at : n ≡ count start s.before = committed_number p s.is_shut (state_after_history opening s.before) s.durable attempt n settled s.answered is ∙ s.number in
     record {
       added = (n, attempt.effect) ∷ [];
-      own = ap (λ (v : PassView). v.own) same ∙ (ap (λ (v : PassView). v.own) s.pass
-          ∙ (ap (λ (es : List Effect). old.own ++ numbered (count start s.before) es) (accepts_one settled attempt.effect n is) ∙ ap (λ (k : ℕ). old.own ++ (k, attempt.effect) ∷ []) (sym at)));
+      own = ap (λ (v : PassRoleView). v.own) same ∙ (ap (λ (v : PassRoleView). v.own) s.pass
+          ∙ (ap (λ (es : List Effect). old.own ++ numbered (count start s.before) es) (commits_one settled attempt.effect n is) ∙ ap (λ (k : ℕ). old.own ++ (k, attempt.effect) ∷ []) (sym at)));
       many = refl;
       durable = All-cons (λ (it : ℕ × Effect). it.0 < count start new.seen) (n, attempt.effect) [] durable (All-nil (λ (it : ℕ × Effect). it.0 < count start new.seen));
-      later = subst (λ (l : List Entry). count start l ≤ count start new.seen) (ap (λ (v : PassView). v.seen) s.pass) (prefix_count start mid.seen new.seen later);
+      later = subst (λ (l : List Entry). count start l ≤ count start new.seen) (ap (λ (v : PassRoleView). v.seen) s.pass) (prefix_count start mid.seen new.seen later);
     }
 
 -- one that was not
-none : (start : ℕ) (opening : State) (p : Program) (attempt : Attempt) (old new : PassView) (settled : Settled)
-    → Settles start opening p attempt old (Ok settled) new → number_in settled ≡ None → AddsDurable start old 0 new
+none : (start : ℕ) (opening : State) (p : Program) (attempt : Attempt) (old new : PassRoleView) (settled : Settled)
+    → SettlesPass start opening p attempt old (Ok settled) new → number_in settled ≡ None → AddsDurable start old 0 new
 none start opening p attempt old new settled s is = record {
   added = [];
-  own = ap (λ (v : PassView). v.own) s.pass ∙ ap (λ (es : List Effect). old.own ++ numbered (count start s.before) es) (accepts_none settled attempt.effect is);
+  own = ap (λ (v : PassRoleView). v.own) s.pass ∙ ap (λ (es : List Effect). old.own ++ numbered (count start s.before) es) (commits_none settled attempt.effect is);
   many = refl;
   durable = All-nil (λ (it : ℕ × Effect). it.0 < count start new.seen);
-  later = subst (λ (l : List Entry). count start old.seen ≤ count start l) (sym (ap (λ (v : PassView). v.seen) s.pass)) (omega arith);
+  later = subst (λ (l : List Entry). count start old.seen ≤ count start l) (sym (ap (λ (v : PassRoleView). v.seen) s.pass)) (omega arith);
 }
 
 -- nothing was done yet
-pub nothing : (start : ℕ) (old : PassView) → AddsDurable start old 0 old
+pub nothing : (start : ℕ) (old : PassRoleView) → AddsDurable start old 0 old
 nothing start old = record {
   added = [];
   own = sym (append-nil old.own);
@@ -144,7 +144,7 @@ nothing start old = record {
 }
 
 -- one thing after another
-pub both : (start : ℕ) (old mid new : PassView) (n m k : ℕ) → AddsDurable start old n mid → AddsDurable start mid m new → k ≡ n + m → AddsDurable start old k new
+pub both : (start : ℕ) (old mid new : PassRoleView) (n m k : ℕ) → AddsDurable start old n mid → AddsDurable start mid m new → k ≡ n + m → AddsDurable start old k new
 both start old mid new n m k a b is = record {
   added = a.added ++ b.added;
   own = b.own ∙ (ap (λ (l : List (ℕ × Effect)). l ++ b.added) a.own ∙ append_assoc old.own a.added b.added);
@@ -156,40 +156,40 @@ both start old mid new n m k a b is = record {
 }
 
 -- the same where the first was kept from view
-pub both_held : (start : ℕ) (old mid new : PassView) (n m k : ℕ) → ∥ AddsDurable start old n mid ∥₁ → ∥ AddsDurable start mid m new ∥₁ → k ≡ n + m → ∥ AddsDurable start old k new ∥₁
+pub both_held : (start : ℕ) (old mid new : PassRoleView) (n m k : ℕ) → ∥ AddsDurable start old n mid ∥₁ → ∥ AddsDurable start mid m new ∥₁ → k ≡ n + m → ∥ AddsDurable start old k new ∥₁
 both_held start old mid new n m k a b is = ∥∥₁_elim a ∥∥₁_prop (λ x. ∥∥₁_map b (λ y. both start old mid new n m k x y is))
 
 -- looks add nothing
-sees : (start : ℕ) (old new : PassView) → SeesMore old new → AddsDurable start old 0 new
+sees : (start : ℕ) (old new : PassRoleView) → SeesMore old new → AddsDurable start old 0 new
 sees start old new more = record {
   added = [];
-  own = ap (λ (v : PassView). v.own) more.pass ∙ sym (append-nil old.own);
+  own = ap (λ (v : PassRoleView). v.own) more.pass ∙ sym (append-nil old.own);
   many = refl;
   durable = All-nil (λ (it : ℕ × Effect). it.0 < count start new.seen);
   later = prefix_count start old.seen new.seen more.seen;
 }
 
 -- what was settled first, where the answer is no refusal
-first : (start : ℕ) (opening : State) (p : Program) (tx : Tx) (old new : PassView) (settled : Settled) (s : SettlesDurably start opening p tx old (Ok settled) new)
-    → ∥ ((attempt : Attempt) × Settles start opening p attempt old (Ok settled) s.then) ∥₁
+first : (start : ℕ) (opening : State) (p : Program) (tx : Tx) (old new : PassRoleView) (settled : Settled) (s : SettlesDurably start opening p tx old (Ok settled) new)
+    → ∥ ((attempt : Attempt) × SettlesPass start opening p attempt old (Ok settled) s.then) ∥₁
 first start opening p tx old new settled s = elim s.answered [
   | inl same ↦ settles start opening p tx old s.then s.first settled (sym same) s.settled
   | inr unknown ↦ cc
 ]
 
-adds_one : (start : ℕ) (opening : State) (p : Program) (tx : Tx) (old new : PassView) (n : ℕ) (registers : List ℤ)
+adds_one : (start : ℕ) (opening : State) (p : Program) (tx : Tx) (old new : PassRoleView) (n : ℕ) (registers : List ℤ)
     → SettlesDurably start opening p tx old (Ok (Committed n registers)) new → ∥ AddsDurable start old 1 new ∥₁
 adds_one start opening p tx old new n registers s =
     ∥∥₁_map (first start opening p tx old new (Committed n registers) s)
     (λ held. one start opening p held.0 old s.then new (Committed n registers) n held.1 refl s.sees.pass s.sees.seen s.durable)
 
-adds_none : (start : ℕ) (opening : State) (p : Program) (tx : Tx) (old new : PassView) (settled : Settled)
+adds_none : (start : ℕ) (opening : State) (p : Program) (tx : Tx) (old new : PassRoleView) (settled : Settled)
     → number_in settled ≡ None → SettlesDurably start opening p tx old (Ok settled) new → ∥ AddsDurable start old 0 new ∥₁
 adds_none start opening p tx old new settled is s =
     ∥∥₁_map (first start opening p tx old new settled s)
     (λ held. both start old s.then new 0 0 0 (none start opening p held.0 old s.then settled held.1 is) (sees start s.then new s.sees) refl)
 
-adds : (start : ℕ) (opening : State) (p : Program) (tx : Tx) (old new : PassView) (settled : Settled)
+adds : (start : ℕ) (opening : State) (p : Program) (tx : Tx) (old new : PassRoleView) (settled : Settled)
     → SettlesDurably start opening p tx old (Ok settled) new → ∥ AddsDurable start old (once (is_commit settled)) new ∥₁
 adds start opening p tx old new (Committed n registers) s = adds_one start opening p tx old new n registers s
 adds start opening p tx old new (Seen at registers) s = adds_none start opening p tx old new (Seen at registers) refl s
@@ -198,7 +198,7 @@ adds start opening p tx old new (Aborted code) s = adds_none start opening p tx 
 adds start opening p tx old new (Refused name) s = adds_none start opening p tx old new (Refused name) refl s
 
 -- a transaction that was committed durably, or was not committed
-pub adds_held : (start : ℕ) (opening : State) (p : Program) (tx : Tx) (old new : PassView) (r : Result Settled Fault) (settled : Settled) (is : Bool)
+pub adds_held : (start : ℕ) (opening : State) (p : Program) (tx : Tx) (old new : PassRoleView) (r : Result Settled Fault) (settled : Settled) (is : Bool)
     → r ≡ Ok settled → is ≡ is_commit settled → ∥ SettlesDurably start opening p tx old r new ∥₁ → ∥ AddsDurable start old (once is) new ∥₁
 adds_held start opening p tx old new r settled is was same held =
     ∥∥₁_elim (subst (λ (x : Result Settled Fault). ∥ SettlesDurably start opening p tx old x new ∥₁) was held) ∥∥₁_prop

@@ -9,7 +9,7 @@ use Rattle.tmem_seats.specs.Histories.{IsPossibleValue}
 use Rattle.tmem_effect.specs.State.{State}
 use Rattle.tmem_effect.specs.declared.effect.Effect.{Effect}
 use Rattle.tmem_spine.specs.History.{count}
-use Rattle.tmem_spine.specs.Views.{PassView}
+use Rattle.tmem_spine.specs.Views.{PassRoleView}
 use Rattle.tmem_tree.specs.declared.settled.Settled.{Settled}
 use Rattle.tmem_tree.specs.declared.settled.Settled.TheVariants.{Committed}
 use Rattle.tmem_threads.specs.declared.store.Totals.{Totals}
@@ -21,7 +21,7 @@ counting = record { steps = builtin_steps; names = []; tests = builtin_tests }
 
 -- The pass has so many more transactions of its own, each of which it has seen to be durable, and it has seen at least as
 -- many to be durable as before.
-pub record AddsDurable (start : ℕ) (old : PassView) (n : ℕ) (new : PassView) : Type 0 where
+pub record AddsDurable (start : ℕ) (old : PassRoleView) (n : ℕ) (new : PassRoleView) : Type 0 where
   pub added : List (ℕ × Effect)
   pub own : new.own ≡ old.own ++ added
   pub many : length added ≡ n
@@ -38,8 +38,8 @@ abbrev pub once : Bool → ℕ
 once is = if is then 1 else 0
 
 -- what the workers committed together, where each was answered its own number
-abbrev pub sum_of : List (Result ℕ Fault) → ℕ
-sum_of answers = sum_by (λ answer. result_unwrap_or answer 0) answers
+abbrev pub committed_together : List (Result ℕ Fault) → ℕ
+committed_together answers = sum_by (λ answer. result_unwrap_or answer 0) answers
 
 -- so many workers were each answered a number like that, and these add up to this one
 pub record AreCounted (IsAnswer : ℕ → Type 0) (workers committed : ℕ) : Type 0 where
@@ -47,7 +47,7 @@ pub record AreCounted (IsAnswer : ℕ → Type 0) (workers committed : ℕ) : Ty
   pub many : length answers ≡ workers
   pub all : All (λ answer. IsOk answer) answers
   pub each : All (λ answer. IfOk answer IsAnswer) answers
-  pub sum : committed ≡ sum_of answers
+  pub sum : committed ≡ committed_together answers
 
 -- What is told of a store that was opened in this state: no more was committed than was to be, variable 0 has a value
 -- that it may have, and at least as many transactions are durable as the state counts. Where nothing is registered in

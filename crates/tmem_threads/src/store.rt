@@ -1,7 +1,7 @@
 // A store for the threads, from its opening to their totals.
 ghost use Rattle.std.specs.Prelude.{◌≡◌, ◌<◌, ◌≤◌, ◌∷◌, [], length, IfOk};
 ghost use Rattle.tmem_builtins.specs.Builtins.{builtin_steps, builtin_names, builtin_tests};
-ghost use Rattle.tmem_front.specs.Held.{found_of, spine_of, steps_of as held_steps, table_of as held_table};
+ghost use Rattle.tmem_front.specs.Held.{front_found, spine_of, front_steps, front_table};
 ghost use Rattle.tmem_seats.specs.Histories.{IsPossibleValue};
 ghost use Rattle.tmem_effect.specs.State.{State};
 ghost use Rattle.tmem_spine.specs.History.{count};
@@ -49,11 +49,11 @@ pub fn count_up<R: Threads + Wait + Clock + Sync, D: Disk + Drop + Send>(
     ensures { IfOk result (λ totals. (opening : State) × AreTotals opening work totals) }
 {
     let table = Table::of(alloc, Vec::new(alloc), VARS)?;
-    count_with(rt, alloc, disk, table, stored_steps(), work)
+    open_and_count(rt, alloc, disk, table, stored_steps(), work)
 }
 
 // The same with these steps.
-fn count_with<
+fn open_and_count<
     R: Threads + Wait + Clock + Sync,
     D: Disk + Drop + Send,
     T: Invariants + Drop + Send,
@@ -66,13 +66,13 @@ fn count_with<
     ensures { IfOk result (λ totals. (opening : State) × AreTotals opening work totals) }
 {
     match OpenedFront::open(alloc, disk, VARS, SLOTS, table, steps) {
-        Ok(opened) => count_in::<Brand, D, T, S, R>(rt, alloc, opened, work),
+        Ok(opened) => count_opened::<Brand, D, T, S, R>(rt, alloc, opened, work),
         Err((fault, _disk)) => Err(fault),
     }
 }
 
 // The same in a store that was opened.
-fn count_in<
+fn count_opened<
     N: StoreNaming + Send + Sync,
     D: Disk + Drop + Send,
     T: Invariants + Drop + Send,
@@ -80,13 +80,13 @@ fn count_in<
     R: Threads + Wait + Clock + Sync,
 >(rt: &R, alloc: Global, opened: OpenedFront<D, T, S>, work: Work) -> Result<Totals, Fault>
     requires spine { spine_of opened ≡ N.name }
-    requires opening { found_of opened ≡ N.opening }
+    requires opening { front_found opened ≡ N.opening }
     requires program { N.program ≡ counting }
-    requires values { length (found_of opened).values ≡ VARS }
-    requires names { T.names (held_table opened) ≡ counting.names }
-    requires stated { T.is_stated (held_table opened) counting.tests }
-    requires steps { S.is_stated (held_steps opened) counting.steps }
-    ensures { IfOk result (AreTotals (found_of opened) work) }
+    requires values { length (front_found opened).values ≡ VARS }
+    requires names { T.names (front_table opened) ≡ counting.names }
+    requires stated { T.is_stated (front_table opened) counting.tests }
+    requires steps { S.is_stated (front_steps opened) counting.steps }
+    ensures { IfOk result (AreTotals (front_found opened) work) }
 {
     let front = opened.named::<N>();
     let mut pass = front.pass(rt)?;

@@ -1,6 +1,6 @@
 // The threads.
 ghost use Rattle.std.specs.Prelude.{◌≡◌, ◌<◌, ◌^◌, Err, IsOk, IfOk, IfErr, All, Contains};
-ghost use Rattle.tmem_threads.specs.Counting.{AreCounted, sum_of as sum};
+ghost use Rattle.tmem_threads.specs.Counting.{AreCounted, committed_together};
 
 use crate::counting::Counting;
 use std::alloc::Global;
@@ -67,8 +67,8 @@ fn work_all<F: Counting + Sync, R: Threads + Wait + Sync>(
 
 // The sum of what the workers answered, or the first refusal among them.
 fn sum_of(answers: &[Result<u64, Fault>]) -> Result<u64, Fault>
-    requires { sum answers.now < 2 ^ 64 }
-    ensures sum { IfOk result (λ committed. committed ≡ sum answers.now) }
+    requires { committed_together answers.now < 2 ^ 64 }
+    ensures sum { IfOk result (λ committed. committed ≡ committed_together answers.now) }
     ensures all { IfOk result (λ committed. All (λ answer. IsOk answer) answers.now) }
     ensures refused { IfErr result (λ fault. Contains answers.now (Err fault)) }
 {

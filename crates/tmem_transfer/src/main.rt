@@ -91,7 +91,7 @@ fn write(alloc: Global, var: u16, number: i64) -> Result<Tx, Fault> {
     Ok(Tx::Seq(vec![in alloc; Tx::Put { reg: 0, number }, Tx::Write { var, reg: 0 }]?))
 }
 
-/// Begins a transaction, evaluates it to its end and settles it. Answers whether it was accepted.
+/// Begins a transaction, evaluates it to its end and settles it. Answers whether it was committed.
 fn commit<D: Disk + Drop, T: Invariants + Drop, S: StoredSteps + Drop>(
     world: &mut World<D, T, S>,
     tx: Tx,

@@ -6,7 +6,7 @@ use Rattle.tmem_tree.specs.declared.tx.Tx.{Tx, Row_of-Tx, end_of-Tx, more_of-Tx}
 use Rattle.tmem_tree.specs.declared.tx.Tx.TheVariants.{Seq', Put, When', OrElse'}
 use Rattle.tmem_tree.specs.Limits.{depth, depth_of_all, choices, choices_of_all, one_if, count, count_all, is_put, is_node, is_write, is_check, is_retire, is_step, has_bad_register, has_bad_variable, has_bad_step, has_bad_arguments, has_unknown_name, lacks_shape}
 use Rattle.tmem_tree.specs.declared.shape.Shape.{Shape}
-use Rattle.tmem_tree.specs.Plans.{IsWithinLimits, FitsSteps, FitsVariables, FitsNames, HasShapes, IsShort}
+use Rattle.tmem_tree.specs.Plans.{IsWithinLimits, FitsSteps, FitsVariables, FitsNames, HasShapes, IsShortTx}
 use Rattle.tmem_tree.specs.Numbers.{with_number, with_number_in}
 
 -- a test that looks at what a node is, and at no number and no tree below it
@@ -122,7 +122,7 @@ module _ {old new : Tx} (same : IsAlike old new) where
     registers = same.counts has_bad_register looks-has_bad_register ∙ within.registers;
   }
 
-  pub short_kept : IsShort new ↔ IsShort old
+  pub short_kept : IsShortTx new ↔ IsShortTx old
   short_kept =
       let steps = same.counts is_step looks-is_step in
       let nodes = same.counts is_node looks-is_node in

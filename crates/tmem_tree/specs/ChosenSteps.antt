@@ -15,7 +15,7 @@ abbrev pub OnlyNone : {E : Type 0} → Option E → Type 0
 OnlyNone None = Unit {0}
 OnlyNone (Some e) = ⊥
 
-pub chosen : {E F : Type 0} (P : E → F → Type 0) (none : F) → ((e : E) → ∥ ((f : F) × P e f) ∥₁) → (es : List E) → ∥ ((fs : ℕ → F) × ((i : ℕ) (e : E) → slice_get es i ≡ Some e → P e (fs i))) ∥₁
-chosen P none each [] = ∣ (λ i. none, λ i e is. absurd (subst OnlyNone is tt)) ∣₁
-chosen P none each (e ∷ es) =
-    ∥∥₁_elim (each e) ∥∥₁_prop (λ f. ∥∥₁_map (chosen P none each es) (λ fs. (first_then f.0 fs.0, with_first P e es f.0 fs.0 f.1 fs.1)))
+pub chosen_steps : {E F : Type 0} (P : E → F → Type 0) (none : F) → ((e : E) → ∥ ((f : F) × P e f) ∥₁) → (es : List E) → ∥ ((fs : ℕ → F) × ((i : ℕ) (e : E) → slice_get es i ≡ Some e → P e (fs i))) ∥₁
+chosen_steps P none each [] = ∣ (λ i. none, λ i e is. absurd (subst OnlyNone is tt)) ∣₁
+chosen_steps P none each (e ∷ es) =
+    ∥∥₁_elim (each e) ∥∥₁_prop (λ f. ∥∥₁_map (chosen_steps P none each es) (λ fs. (first_then f.0 fs.0, with_first P e es f.0 fs.0 f.1 fs.1)))

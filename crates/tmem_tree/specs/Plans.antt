@@ -87,8 +87,8 @@ abbrev pub HasShapes : List (List ℕ) → Tx → Type 0
 HasShapes names tx = count (lacks_shape names) tx ≡ 0
 
 -- it calls no stored step and has at most 64 nodes
-abbrev pub IsShort : Tx → Type 0
-IsShort tx = (count is_step tx ≡ 0) × (count is_node tx ≤ 64)
+abbrev pub IsShortTx : Tx → Type 0
+IsShortTx tx = (count is_step tx ≡ 0) × (count is_node tx ≤ 64)
 
 -- what a plan keeps beside its tree is so: the shapes of the invariants that it checks, how many of its choices may stand in their
 -- first branch at once, and whether it is short
@@ -96,4 +96,4 @@ pub record IsPlan (tx : Tx) (shapes : List Shape) (open_choices : ℕ) (is_short
   pub limits : IsWithinLimits tx
   pub shaped : HasShapes (names_of shapes) tx
   pub choices : open_choices ≡ choices tx
-  pub short : IsTrue is_short ↔ IsShort tx
+  pub short : IsTrue is_short ↔ IsShortTx tx

@@ -5,7 +5,7 @@ ghost use Rattle.std.specs.List.{Contains};
 ghost use Rattle.tmem_fault.specs.Distinct.{AreDistinct};
 ghost use Rattle.tmem_invariants.specs.Meanings.{Meanings};
 ghost use Rattle.tmem_tree.specs.Limits.{choices, count, is_node, is_check, is_step, is_put, Checks};
-ghost use Rattle.tmem_tree.specs.Plans.{BreaksNone, IsLeastBroken, IsWithinLimits, FitsSteps, FitsVariables, FitsNames, FitsShapes, HasShapes, IsShort};
+ghost use Rattle.tmem_tree.specs.Plans.{BreaksNone, IsLeastBroken, IsWithinLimits, FitsSteps, FitsVariables, FitsNames, FitsShapes, HasShapes, IsShortTx};
 ghost use Rattle.tmem_tree.specs.Shapes.{AreMeant, AreWithin, names_of};
 ghost use Rattle.tmem_tree.specs.Numbers.{numbers, with_number};
 
@@ -139,7 +139,7 @@ impl Plan {
 
     /// Whether it calls no stored step and has at most `MAX_SHORT` nodes.
     pub fn is_short(&self) -> bool
-        ensures { IsTrue result ↔ IsShort self.now.tree }
+        ensures { IsTrue result ↔ IsShortTx self.now.tree }
     {
         self.is_short
     }
@@ -157,7 +157,7 @@ impl Plan {
         ensures steps { (arities : List ℕ) → FitsSteps arities self.old.tree → FitsSteps arities self.new.tree }
         ensures variables { (vars : ℕ) → FitsVariables vars self.old → FitsVariables vars self.new }
         ensures names { (names : List (List ℕ)) → FitsNames names self.old.tree → FitsNames names self.new.tree }
-        ensures short { IsShort self.new.tree ↔ IsShort self.old.tree }
+        ensures short { IsShortTx self.new.tree ↔ IsShortTx self.old.tree }
         ensures choices { choices self.new.tree ≡ choices self.old.tree }
     {
         change_number(&mut self.tx, place, number).is_none()

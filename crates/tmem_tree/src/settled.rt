@@ -6,12 +6,12 @@ use tmem_fault::Name;
 /// What a transaction is answered once it has run and is settled.
 #[derive(Clone, Copy, Debug, PartialEq, Eq)]
 pub enum Settled {
-    /// It was accepted, as the one of this number, and ended with these registers.
+    /// It was committed, as the one of this number, and ended with these registers.
     Committed {
         number: u64,
         registers: [i64; REGISTERS],
     },
-    /// It changes nothing. It ended with these registers, after so many accepted ones.
+    /// It changes nothing. It ended with these registers, after so many committed ones.
     Seen {
         at: u64,
         registers: [i64; REGISTERS],

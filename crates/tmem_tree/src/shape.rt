@@ -76,23 +76,23 @@ pub fn shapes_of<T: Invariants>(alloc: Global, table: &T) -> Result<Vec<Shape>, 
     ensures within { IfOk result (λ shapes. AreWithin (T.vars table.now) shapes.items) }
 {
     let mut shapes = Vec::with_capacity(alloc, table.len())?;
-    for place in 0..table.len() {
-        shapes.push(shape_at(table, place))?;
+    for index in 0..table.len() {
+        shapes.push(shape_at(table, index))?;
     }
     Ok(shapes)
 }
 
-// The shape of the invariant at a place of a table.
-fn shape_at<T: Invariants>(table: &T, place: usize) -> Shape
-    requires { place < length (T.names table.now) }
-    ensures name { slice_get (T.names table.now) place ≡ Some result.name }
-    ensures footprint { slice_get (T.footprints table.now) place ≡ Some result.footprint }
+// The shape of the invariant at an index of a table.
+fn shape_at<T: Invariants>(table: &T, index: usize) -> Shape
+    requires { index < length (T.names table.now) }
+    ensures name { slice_get (T.names table.now) index ≡ Some result.name }
+    ensures footprint { slice_get (T.footprints table.now) index ≡ Some result.footprint }
     ensures meant { (tests : Meanings) → T.is_stated table.now tests → result.footprint ≡ tests.footprint result.name }
     ensures within { AreBelow (T.vars table.now) result.footprint }
 {
     Shape {
-        name: table.name(place),
-        footprint: Footprint::of(table.footprint(place)),
+        name: table.name(index),
+        footprint: Footprint::of(table.footprint(index)),
     }
 }
 

@@ -1,7 +1,7 @@
 // One stored step.
 
 ghost use Rattle.std.specs.Prelude.{◌≡◌, ℕ, ◌≤◌, ℤ, List, length, IsOk, IfOk, IfErr, ◌↔◌};
-ghost use Rattle.tmem_tree.specs.StepAnswers.{MayCall, Gives, HasMeaning};
+ghost use Rattle.tmem_tree.specs.StepAnswers.{MayCallStep, StepGives, StepHasMeaning};
 
 use tmem_fault::{Cause, Fault};
 
@@ -31,15 +31,15 @@ pub struct StepEntry {
     /// The closure.
     pub step: Step,
     ghost few: { arity ≤ 4 },
-    ghost callable: { MayCall (Step.pre step) arity },
-    ghost stated: { HasMeaning (Step.post step) arity },
+    ghost callable: { MayCallStep (Step.pre step) arity },
+    ghost stated: { StepHasMeaning (Step.post step) arity },
 }
 
 impl StepEntry {
     /// The entry. Refused with `BadArguments` where it takes more than `MAX_ARGUMENTS`.
     pub fn new(arity: u8, step: Step) -> Result<StepEntry, Fault>
-        requires callable { MayCall (Step.pre step) arity }
-        requires stated { HasMeaning (Step.post step) arity }
+        requires callable { MayCallStep (Step.pre step) arity }
+        requires stated { StepHasMeaning (Step.post step) arity }
         ensures few { IsOk result ↔ (arity ≤ 4) }
         ensures arity { IfOk result (λ entry. entry.arity ≡ arity) }
         ensures step { IfOk result (λ entry. entry.step ≡ step) }
@@ -54,7 +54,7 @@ impl StepEntry {
     /// What the step answers.
     pub fn call(&self, args: &[i64]) -> StepAnswer
         requires { length args.now ≡ self.now.arity }
-        ensures { (meaning : List ℤ → StepAnswer) → Gives (Step.post self.now.step) self.now.arity meaning → result ≡ meaning args.now }
+        ensures { (meaning : List ℤ → StepAnswer) → StepGives (Step.post self.now.step) self.now.arity meaning → result ≡ meaning args.now }
     {
         (self.step)(args)
     }

@@ -1,7 +1,7 @@
 // The stored steps of a program, in order.
 
 ghost use Rattle.std.specs.Prelude.{◌≡◌, ℕ, ◌<◌, ◌≤◌, List, length, vec_len, map, All, slice_index, slice_get, Some, IsOk, IfOk, IfErr, ◌↔◌};
-ghost use Rattle.tmem_tree.specs.StepAnswers.{StepMeanings, Gives};
+ghost use Rattle.tmem_tree.specs.StepAnswers.{StepMeanings, StepGives};
 
 use crate::step::{Step, StepAnswer, StepEntry};
 use tmem_fault::{Cause, Fault};
@@ -67,7 +67,7 @@ impl Steps {
 impl StoredSteps for Steps {
     ghost arities = { λ steps. map (λ entry. entry.arity) steps.entries.items };
 
-    ghost is_stated = { λ steps m. (index : ℕ) (entry : _) → slice_get steps.entries.items index ≡ Some entry → Gives (Step.post entry.step) entry.arity (m index) };
+    ghost is_stated = { λ steps m. (index : ℕ) (entry : _) → slice_get steps.entries.items index ≡ Some entry → StepGives (Step.post entry.step) entry.arity (m index) };
 
     fn len(&self) -> usize {
         self.entries.len()
@@ -90,7 +90,7 @@ impl StoredSteps for Steps {
     ghost small = { λ steps. All-map (λ n. n ≤ 4) (λ entry. entry.arity) steps.entries.items (λ k d below. (get_or steps.entries.items k d).few) };
 
     ghost use Rattle.tmem_tree.specs.declared.step.StepAnswer.TheVariants.{Retry};
-    ghost use Rattle.tmem_tree.specs.ChosenSteps.{chosen};
+    ghost use Rattle.tmem_tree.specs.ChosenSteps.{chosen_steps};
 
-    ghost has_meanings = { λ steps. chosen _ (λ _. Retry) (λ entry. entry.stated) steps.entries.items };
+    ghost has_meanings = { λ steps. chosen_steps _ (λ _. Retry) (λ entry. entry.stated) steps.entries.items };
 }

@@ -13,7 +13,7 @@ use Rattle.tmem_journal.specs.Calls.{FitsOn}
 use Rattle.tmem_journal.specs.Refusals.{IsWhy, IsRefusedBy}
 use Rattle.tmem_opening.specs.Opening.{NamesInvariant, FindsUnsound, IsWhyNot, OpeningRefused}
 use Rattle.tmem_world.specs.WorldModel.{WorldModel, opening}
-use Rattle.tmem_world.specs.Represents.{Represents, Means, IsStep, held_table, setting_of, view_of}
+use Rattle.tmem_world.specs.Represents.{Represents, Means, IsStep, held_table, setting_of, world_view}
 use Rattle.tmem_world.specs.AnyDevice.{IsOpeningFault, dropped_by, AllowsReopenOnAnyDevice, AllowsOnAnyDevice, IsReopened, Reopens}
 
 -- what an opening is refused for is among its faults
@@ -41,7 +41,7 @@ module _ {D T S : Type 0} {d t s : _} (program : Program) (w w' : World D T S d 
   reopens : (x : Reply) → IsReopened w x w' → (m' : WorldModel) × AllowsReopenOnAnyDevice m x m' × Represents program w' m'
   reopens (reply.Opened n) it =
       (opening it.0 it.1 m.failures, (it.0, it.1, it.2, refl), subst (λ (k : ℕ). Represents program w' (opening it.0 it.1 k)) r.failures (it.3 program means))
-  reopens (reply.Fault f) it = (dropped_by f m, (refusals (IsProgramOf t (held_table w)) w.layout.vars w.layout.slots (view_of w) f (view_of w') it.refused, refl), it.point program m r)
+  reopens (reply.Fault f) it = (dropped_by f m, (refusals (IsProgramOf t (held_table w)) w.layout.vars w.layout.slots (world_view w) f (world_view w') it.refused, refl), it.point program m r)
   reopens _ it = absurd it
 
   -- the point of the run after an event, by the clauses of a step

@@ -18,35 +18,35 @@ use Rattle.tmem_event.specs.declared.event.Event.TheVariants as event
 use Rattle.tmem_event.specs.declared.event.Reply.{Reply}
 use Rattle.tmem_event.specs.declared.event.Reply.TheVariants as reply
 use Rattle.tmem_world.specs.Replies.{reply_of, acknowledged}
-use Rattle.tmem_world.specs.WorldModel.{WorldModel, SlotModel, NoTransaction, Begun, Ended, SessionStatus, Open, Gone, Setting, present, slot_at, goes_on, open_in, AllowsBegin, AllowsTurn, is_closed, settled_by, settle_result, AllowsFlushOfSome, AllowsFlush, AllowsNextImage, AllowsCheckpoint, AllowsReopen, InSession, Allows}
+use Rattle.tmem_world.specs.WorldModel.{WorldModel, AttemptModel, NoTransaction, Begun, Ended, SessionStatus, Open, Gone, Setting, present, attempt_at, goes_on, open_in, AllowsBegin, AllowsTurn, is_closed, settled_by, settle_result, AllowsFlushOfSome, AllowsFlush, AllowsNextImage, AllowsCheckpoint, AllowsReopen, InSession, Allows}
 use Rattle.tmem_world.specs.Represents.{IsNumbered}
-use Rattle.tmem_world.specs.Chain.{History, GoesOn, ended_plan, accepted_after, history_after}
+use Rattle.tmem_world.specs.Chain.{ChainHistory, GoesOn, ended_plan, committed_after, history_after}
 use Rattle.tmem_world.proofs.Prefixes.{count_found, take_behind}
 
--- A run goes on by an event: behind what was accepted before its opening, it has accepted what the history says. Nothing durable
+-- A run goes on by an event: behind what was committed before its opening, it has committed what the history says. Nothing durable
 -- is lost, and the reply acknowledges no more than is durable.
 pub record Moves (m : WorldModel) (e : Event) (r : Reply) (m' : WorldModel) : Type 0 where
   pub opened : m'.opened ≡ m.opened
-  pub accepted : (found : List Tx) → length found ≡ m.opened.count → accepted_after m e r (found ++ m.accepted) ≡ found ++ m'.accepted
+  pub committed : (found : List Tx) → length found ≡ m.opened.count → committed_after m e r (found ++ m.committed) ≡ found ++ m'.committed
   pub acknowledged : acknowledged r ≤ m'.durable
   pub durable : m.durable ≤ m'.durable
 
 module _ (m : WorldModel) (e : Event) where
-  -- the event accepted nothing and dropped nothing
-  stays : (r : Reply) (m' x : WorldModel) → m' ≡ x → ((txs : List Tx) → accepted_after m e r txs ≡ txs) → x.opened ≡ m.opened → x.accepted ≡ m.accepted → acknowledged r ≤ x.durable → m.durable ≤ x.durable → Moves m e r m'
-  stays r m' x is same opened accepted told kept = subst (Moves m e r) (sym is) (record {
+  -- the event committed nothing and dropped nothing
+  stays : (r : Reply) (m' x : WorldModel) → m' ≡ x → ((txs : List Tx) → committed_after m e r txs ≡ txs) → x.opened ≡ m.opened → x.committed ≡ m.committed → acknowledged r ≤ x.durable → m.durable ≤ x.durable → Moves m e r m'
+  stays r m' x is same opened committed told kept = subst (Moves m e r) (sym is) (record {
     opened = opened;
-    accepted = λ found count. same (found ++ m.accepted) ∙ ap (λ (l : List Tx). found ++ l) (sym accepted);
+    committed = λ found count. same (found ++ m.committed) ∙ ap (λ (l : List Tx). found ++ l) (sym committed);
     acknowledged = told;
     durable = kept;
   })
 
   -- the run is at the same point
-  unmoved : (r s : Reply) (m' : WorldModel) → ((txs : List Tx) → accepted_after m e s txs ≡ txs) → acknowledged s ≤ m.durable → (r ≡ s) × (m' ≡ m) → Moves m e r m'
+  unmoved : (r s : Reply) (m' : WorldModel) → ((txs : List Tx) → committed_after m e s txs ≡ txs) → acknowledged s ≤ m.durable → (r ≡ s) × (m' ≡ m) → Moves m e r m'
   unmoved r s m' same told is = subst (λ (x : Reply). Moves m e x m') (sym is.0) (stays s m' m is.1 same refl refl told (omega arith))
 
   -- what happens in a session, or a refusal that changes nothing
-  in_session : (s : SessionStatus) (r : Reply) (m' : WorldModel) (allowed : Type 0) → ((txs : List Tx) → accepted_after m e (reply.Fault fault.Closed) txs ≡ txs) → (allowed → Moves m e r m') → InSession s m r m' allowed → Moves m e r m'
+  in_session : (s : SessionStatus) (r : Reply) (m' : WorldModel) (allowed : Type 0) → ((txs : List Tx) → committed_after m e (reply.Fault fault.Closed) txs ≡ txs) → (allowed → Moves m e r m') → InSession s m r m' allowed → Moves m e r m'
   in_session Gone r m' allowed same then is = unmoved r (reply.Fault fault.Closed) m' same (omega arith) is
   in_session _ r m' allowed same then is = then is
 
@@ -61,7 +61,7 @@ module _ (m : WorldModel) where
   goes (Some (Probe name values)) program slot plan reads answered = stays m _ _ _ _ refl (λ txs. refl) refl refl (omega arith) (omega arith)
   goes None program slot plan reads answered = stays m _ _ _ _ refl (λ txs. refl) refl refl (omega arith) (omega arith)
 
-  turns : (program : Program) (a : SlotModel) (slot : ℕ) (r : Reply) (m' : WorldModel) → AllowsTurn program a m slot r m' → Moves m (event.Turn slot) r m'
+  turns : (program : Program) (a : AttemptModel) (slot : ℕ) (r : Reply) (m' : WorldModel) → AllowsTurn program a m slot r m' → Moves m (event.Turn slot) r m'
   turns program NoTransaction slot r m' is = unmoved m _ r reply.Idle m' (λ txs. refl) (omega arith) is
   turns program (Ended plan reads) slot r m' is = unmoved m _ r reply.Ended m' (λ txs. refl) (omega arith) is
   turns program (Begun plan reads answered) slot r m' is =
@@ -98,17 +98,17 @@ module _ (m : WorldModel) where
   checkpoints _ r m' is = unmoved m _ r (reply.Fault fault.Closed) m' (λ txs. refl) (omega arith) is
 
   -- a plan that has ended is settled
-  settles_ended : (slot : ℕ) (plan : Tx) (reads : List (ℕ × ℤ)) → slot_at m slot ≡ Ended plan reads → (x : Result Settled Fault) → Moves m (event.Settle slot) (reply_of x) (settled_by x m slot plan)
+  settles_ended : (slot : ℕ) (plan : Tx) (reads : List (ℕ × ℤ)) → attempt_at m slot ≡ Ended plan reads → (x : Result Settled Fault) → Moves m (event.Settle slot) (reply_of x) (settled_by x m slot plan)
   settles_ended slot plan reads here (Ok (Committed number registers)) = record {
     opened = refl;
-    accepted = λ found count. ap (λ (a : SlotModel). (found ++ m.accepted) ++ ended_plan a) here ∙ append_assoc found m.accepted (plan ∷ []);
+    committed = λ found count. ap (λ (a : AttemptModel). (found ++ m.committed) ++ ended_plan a) here ∙ append_assoc found m.committed (plan ∷ []);
     acknowledged = omega arith;
     durable = omega arith;
   }
   settles_ended slot plan reads here (Ok _) = stays m _ _ _ _ refl (λ txs. refl) refl refl (omega arith) (omega arith)
   settles_ended slot plan reads here (Err f) = stays m _ _ _ _ refl (λ txs. refl) refl refl (omega arith) (omega arith)
 
-  settles : (program : Program) (slot : ℕ) (a : SlotModel) → slot_at m slot ≡ a → Moves m (event.Settle slot) (settle_result program a m slot).0 (settle_result program a m slot).1
+  settles : (program : Program) (slot : ℕ) (a : AttemptModel) → attempt_at m slot ≡ a → Moves m (event.Settle slot) (settle_result program a m slot).0 (settle_result program a m slot).1
   settles program slot (Ended plan reads) here = settles_ended slot plan reads here (judged (is_closed m.session) (present program m) m.durable reads (verdict program plan (present program m)))
   settles program slot _ here = stays m _ _ _ _ refl (λ txs. refl) refl refl (omega arith) (omega arith)
 
@@ -117,7 +117,7 @@ module _ (m : WorldModel) where
       let from : m.durable ≤ n = ⊎_elim (λ (same : n ≡ m.durable). omega (arith, same)) (λ (same : n ≡ m.doubtful). omega (arith, same, numbers.durable)) is.0 in
       subst (Moves m event.Reopen (reply.Opened n)) (sym is.1.4) (record {
         opened = refl;
-        accepted = λ found count. take_behind found m.accepted n (n - m.opened.count) (omega (arith, count, numbers.opened, from));
+        committed = λ found count. take_behind found m.committed n (n - m.opened.count) (omega (arith, count, numbers.opened, from));
         acknowledged = omega arith;
         durable = from;
       })
@@ -129,26 +129,26 @@ module _ (m : WorldModel) where
 -- so it is of each event
 pub moves : (set : Setting) (m : WorldModel) → IsNumbered set.program m → (e : Event) (r : Reply) (m' : WorldModel) → Allows set m e r m' → Moves m e r m'
 moves set m numbers (event.Begin slot tx) r m' is = in_session m _ m.session r m' _ (λ txs. refl) (begins m set slot tx r m') is
-moves set m numbers (event.Turn slot) r m' is = in_session m _ m.session r m' _ (λ txs. refl) (turns m set.program (slot_at m slot) slot r m') is
+moves set m numbers (event.Turn slot) r m' is = in_session m _ m.session r m' _ (λ txs. refl) (turns m set.program (attempt_at m slot) slot r m') is
 moves set m numbers (event.Settle slot) r m' is =
-    in_session m _ m.session r m' _ (λ txs. refl) (λ (so : (r, m') ≡ settle_result set.program (slot_at m slot) m slot). subst (λ (x : Reply × WorldModel). Moves m (event.Settle slot) x.0 x.1) (sym so) (settles m set.program slot (slot_at m slot) refl)) is
+    in_session m _ m.session r m' _ (λ txs. refl) (λ (so : (r, m') ≡ settle_result set.program (attempt_at m slot) m slot). subst (λ (x : Reply × WorldModel). Moves m (event.Settle slot) x.0 x.1) (sym so) (settles m set.program slot (attempt_at m slot) refl)) is
 moves set m numbers event.Flush r m' is = in_session m _ m.session r m' _ (λ txs. refl) (flushes m set.program set.slots m.session r m') is
 moves set m numbers event.Checkpoint r m' is = in_session m _ m.session r m' _ (λ txs. refl) (checkpoints m m.session r m') is
 moves set m numbers event.Look r m' is = in_session m _ m.session r m' _ (λ txs. refl) (unmoved m _ r (reply.Looked m.durable) m' (λ txs. refl) (omega arith)) is
 moves set m numbers event.Reopen r m' is = reopens m set numbers r m' is
 
 -- the run goes on with the next history
-pub goes_on_next : (program : Program) (m : WorldModel) (e : Event) (r : Reply) (m' : WorldModel) → Moves m e r m' → (vars : ℕ) (h : History) → GoesOn program vars h m → GoesOn program vars (history_after m e r m' h) m'
+pub goes_on_next : (program : Program) (m : WorldModel) (e : Event) (r : Reply) (m' : WorldModel) → Moves m e r m' → (vars : ℕ) (h : ChainHistory) → GoesOn program vars h m → GoesOn program vars (history_after m e r m' h) m'
 goes_on_next program m e r m' by vars h goes =
     let opened : m'.opened ≡ serial_state program (first_state vars) goes.found = by.opened ∙ goes.opened in
-    let accepted : accepted_after m e r h.accepted ≡ goes.found ++ m'.accepted = ap (accepted_after m e r) goes.accepted ∙ by.accepted goes.found (sym (count_found program vars h m goes)) in
+    let committed : committed_after m e r h.committed ≡ goes.found ++ m'.committed = ap (committed_after m e r) goes.committed ∙ by.committed goes.found (sym (count_found program vars h m goes)) in
     record {
       found = goes.found;
       each = goes.each;
       opened = opened;
-      accepted = accepted;
+      committed = committed;
       acknowledged = max-le (omega (arith, goes.acknowledged, by.durable)) by.acknowledged;
       durable = refl;
       doubtful = refl;
-      present = ap (λ (s : State). serial_state program s m'.accepted) opened ∙ sym (serial_state-append program (first_state vars) goes.found m'.accepted) ∙ ap (serial_state program (first_state vars)) (sym accepted);
+      present = ap (λ (s : State). serial_state program s m'.committed) opened ∙ sym (serial_state-append program (first_state vars) goes.found m'.committed) ∙ ap (serial_state program (first_state vars)) (sym committed);
     }

@@ -5,17 +5,17 @@ use Rattle.tmem_disk.specs.Disk.{DeviceView, IsDevice}
 use Rattle.tmem_core.specs.Program.{Program, IsProgramOf}
 use Rattle.tmem_core.proofs.Laws.{count-committed}
 use Rattle.tmem_effect.specs.State.{first_state}
-use Rattle.tmem_record.specs.Layout.{image_place, image_size}
+use Rattle.tmem_record.specs.Layout.{image_at, image_size}
 use Rattle.tmem_record.specs.declared.layout.Layout.{Layout}
 use Rattle.tmem_gate.proofs.Laws.{WritesWithin-refl, WritesWithin-trans}
 use Rattle.tmem_event.specs.declared.event.Event.{Event}
 use Rattle.tmem_event.specs.declared.event.Event.TheVariants as event
 use Rattle.tmem_event.specs.declared.event.Reply.{Reply}
 use Rattle.tmem_journal.specs.Mended.{IsFoundAt}
-use Rattle.tmem_journal.specs.Stands.{Position}
+use Rattle.tmem_journal.specs.Contents.{Position}
 use Rattle.tmem_world.specs.declared.world.World.{World}
 use Rattle.tmem_world.specs.Represents.{Means, KeepsSetting, RestsOn, WritesInStore, setting_of}
-use Rattle.tmem_world.specs.Chain.{History, IsSafePrefix, RunsOn, SessionRun, IsChain, IsChainAt, GrowsChain, just_opened, state_at, history_found, history_after}
+use Rattle.tmem_world.specs.Chain.{ChainHistory, IsSafePrefix, RunsOn, SessionRun, IsChain, IsChainAt, GrowsChain, just_opened, state_at, history_found, history_after}
 use Rattle.tmem_world.specs.WorldModel.{WorldModel, Setting, Allows, opening}
 
 module _ {D T S : Type 0} {d t s : _} where
@@ -53,21 +53,21 @@ rests_on premise _ p = tt
 -- Chains of sessions.
 module _ (set : Setting) where
   -- events and then others
-  pub runs_on-append : (m : WorldModel) (h : History) (es : List Event) (rs : List Reply) (x : WorldModel) (g : History) → RunsOn set m h es rs x g
-      → (more : List Event) (later : List Reply) (m' : WorldModel) (h' : History) → RunsOn set x g more later m' h' → RunsOn set m h (es ++ more) (rs ++ later) m' h'
+  pub runs_on-append : (m : WorldModel) (h : ChainHistory) (es : List Event) (rs : List Reply) (x : WorldModel) (g : ChainHistory) → RunsOn set m h es rs x g
+      → (more : List Event) (later : List Reply) (m' : WorldModel) (h' : ChainHistory) → RunsOn set x g more later m' h' → RunsOn set m h (es ++ more) (rs ++ later) m' h'
   runs_on-append m h [] [] x g so more later m' h' then =
-      subst (λ (y : WorldModel). RunsOn set y h more later m' h') so.0 (subst (λ (f : History). RunsOn set x f more later m' h') so.1 then)
+      subst (λ (y : WorldModel). RunsOn set y h more later m' h') so.0 (subst (λ (f : ChainHistory). RunsOn set x f more later m' h') so.1 then)
   runs_on-append m h [] (r ∷ rs) x g so more later m' h' then = absurd so
   runs_on-append m h (e ∷ es) [] x g so more later m' h' then = absurd so
   runs_on-append m h (e ∷ es) (r ∷ rs) x g so more later m' h' then =
       (so.0, so.1, runs_on-append so.0 (history_after m e r so.0 h) es rs x g so.2 more later m' h' then)
 
   -- one event
-  pub runs_on-one : (m : WorldModel) (h : History) (e : Event) (r : Reply) (m' : WorldModel) → Allows set m e r m' → RunsOn set m h (e ∷ []) (r ∷ []) m' (history_after m e r m' h)
+  pub runs_on-one : (m : WorldModel) (h : ChainHistory) (e : Event) (r : Reply) (m' : WorldModel) → Allows set m e r m' → RunsOn set m h (e ∷ []) (r ∷ []) m' (history_after m e r m' h)
   runs_on-one m h e r m' allowed = (m', allowed, (refl, refl))
 
 -- so the last session of a chain goes on
-pub grows : (set : Setting) (m : WorldModel) (h : History) (es : List Event) (rs : List Reply) (m' : WorldModel) (h' : History) → RunsOn set m h es rs m' h' → GrowsChain set m h es rs m' h'
+pub grows : (set : Setting) (m : WorldModel) (h : ChainHistory) (es : List Event) (rs : List Reply) (m' : WorldModel) (h' : ChainHistory) → RunsOn set m h es rs m' h' → GrowsChain set m h es rs m' h'
 grows set m h es rs m' h' so = λ vars slots earlier s same at. (
   at.0,
   at.1,
@@ -82,7 +82,7 @@ grows set m h es rs m' h' so = λ vars slots earlier s same at. (
 )
 
 -- the session that found it is the next of each chain that led to the history
-pub opens_chain : (set : Setting) (h : History) (vars slots : ℕ) → set.vars ≡ vars → set.slots ≡ slots → (n : ℕ) (position : Position) (content : List ℕ) (failures : ℕ) → IsSafePrefix set.program vars h n
+pub opens_chain : (set : Setting) (h : ChainHistory) (vars slots : ℕ) → set.vars ≡ vars → set.slots ≡ slots → (n : ℕ) (position : Position) (content : List ℕ) (failures : ℕ) → IsSafePrefix set.program vars h n
     → IsFoundAt vars slots content (state_at set.program vars h n) position → failures < 2 ^ 64
     → (earlier : List SessionRun) → IsChain vars slots earlier h → IsChainAt vars slots earlier (just_opened set content n position failures) (history_found n h) (opening (state_at set.program vars h n) position failures)
 opens_chain set h vars slots same log n position content failures safe stands counted earlier chain =
@@ -95,12 +95,12 @@ opens_chain set h vars slots same log n position content failures safe stands co
     )) safe stands chain
 
 -- a safe prefix is as long as the count of the state after it
-pub count_at : (program : Program) (vars : ℕ) (h : History) (n : ℕ) → IsSafePrefix program vars h n → (state_at program vars h n).count ≡ n
-count_at program vars h n safe = omega (arith, count-committed program (first_state vars) (take n h.accepted) safe.each, length-take-le n h.accepted safe.accepted)
+pub count_at : (program : Program) (vars : ℕ) (h : ChainHistory) (n : ℕ) → IsSafePrefix program vars h n → (state_at program vars h n).count ≡ n
+count_at program vars h n safe = omega (arith, count-committed program (first_state vars) (take n h.committed) safe.each, length-take-le n h.committed safe.committed)
 
 -- what no call writes, and what two calls write
 pub WritesInStore-refl : (layout : Layout) (d : DeviceView) → IsDevice d → WritesInStore layout d d
-WritesInStore-refl layout d device = WritesWithin-refl (image_place layout.vars 0) (2 * image_size layout.vars + 4096 * layout.slots) d device
+WritesInStore-refl layout d device = WritesWithin-refl (image_at layout.vars 0) (2 * image_size layout.vars + 4096 * layout.slots) d device
 
 pub WritesInStore-trans : (layout : Layout) (old mid new : DeviceView) → (new.keeps_model → mid.keeps_model) → WritesInStore layout old mid → WritesInStore layout mid new → WritesInStore layout old new
-WritesInStore-trans layout old mid new model first second = WritesWithin-trans (image_place layout.vars 0) (2 * image_size layout.vars + 4096 * layout.slots) old mid new model first second
+WritesInStore-trans layout old mid new model first second = WritesWithin-trans (image_at layout.vars 0) (2 * image_size layout.vars + 4096 * layout.slots) old mid new model first second

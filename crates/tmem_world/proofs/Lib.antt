@@ -3,7 +3,7 @@ pub mod Chains
 pub mod DroppedPoints
 pub mod CheckpointedPoints
 pub mod FlushedPoints
-pub mod HeldSlots
+pub mod HeldAttempts
 pub mod Histories
 pub mod TakenBatches
 pub mod Laws

@@ -9,11 +9,11 @@ use Rattle.tmem_event.specs.declared.event.Event.{Event}
 use Rattle.tmem_event.specs.declared.event.Reply.{Reply}
 use Rattle.tmem_world.specs.declared.world.World.{World}
 use Rattle.tmem_world.specs.AnyDevice.{RunOnAnyDevice, PlaysOnAnyDevice}
-use Rattle.tmem_world.specs.Chain.{History, IsSafe, IsSafeWithin, Carries, RunsOn, PlaysOn, history_after}
+use Rattle.tmem_world.specs.Chain.{ChainHistory, IsSafe, IsSafeWithin, Carries, RunsOn, PlaysOn, history_after}
 use Rattle.tmem_world.specs.EachPlayed.{PlaysEach}
 use Rattle.tmem_world.specs.OneByOne.{OneByOne}
 use Rattle.tmem_world.specs.Replies.{failures_by_all}
-use Rattle.tmem_world.specs.Represents.{Represents, KeepsSetting, Plays, WritesInStore, numbers_of, device_of, setting_of, view_of}
+use Rattle.tmem_world.specs.Represents.{Represents, KeepsSetting, Plays, WritesInStore, numbers_of, world_disk, setting_of, world_view}
 use Rattle.tmem_world.specs.WorldModel.{Setting, WorldModel, Allows, Run}
 use Rattle.tmem_world.proofs.AnyDevicePoints.{steps}
 use Rattle.tmem_world.proofs.Histories.{moves}
@@ -28,7 +28,7 @@ one_by_one-append One x (f ∷ es) (q ∷ rs) y e r z so is = (so.0, so.1, one_b
 
 module _ (set : Setting) where
   -- what is safe before the first event is so within all of them
-  safe_first : (m : WorldModel) (h : History) (es : List Event) (rs : List Reply) (m' : WorldModel) (h' : History) → RunsOn set m h es rs m' h' → (c : List ℕ) → IsSafe set.program set.vars set.slots h c → IsSafeWithin set m h es rs m' h' c
+  safe_first : (m : WorldModel) (h : ChainHistory) (es : List Event) (rs : List Reply) (m' : WorldModel) (h' : ChainHistory) → RunsOn set m h es rs m' h' → (c : List ℕ) → IsSafe set.program set.vars set.slots h c → IsSafeWithin set m h es rs m' h' c
   safe_first m h es rs m' h' so c safe = record {
     first = [];
     rest = es;
@@ -44,7 +44,7 @@ module _ (set : Setting) where
   }
 
   -- and what is safe within the later ones
-  safe_later : (m : WorldModel) (h : History) (e : Event) (r : Reply) (x : WorldModel) → Allows set m e r x → (es : List Event) (rs : List Reply) (m' : WorldModel) (h' : History) (c : List ℕ) → IsSafeWithin set x (history_after m e r x h) es rs m' h' c
+  safe_later : (m : WorldModel) (h : ChainHistory) (e : Event) (r : Reply) (x : WorldModel) → Allows set m e r x → (es : List Event) (rs : List Reply) (m' : WorldModel) (h' : ChainHistory) (c : List ℕ) → IsSafeWithin set x (history_after m e r x h) es rs m' h' c
       → IsSafeWithin set m h (e ∷ es) (r ∷ rs) m' h' c
   safe_later m h e r x allowed es rs m' h' c within = record {
     first = e ∷ within.first;
@@ -67,8 +67,8 @@ module _ {D T S : Type 0} {d t s : _} where
   all_kept w (e ∷ es) [] new is = absurd is
   all_kept w (e ∷ es) (r ∷ rs) new it = KeepsSetting-trans w it.0 new it.1.answered.kept (all_kept it.0 es rs new it.2)
 
-  pub all_failures : (w : World D T S d t s) (es : List Event) (rs : List Reply) (new : World D T S d t s) → PlaysEach w es rs new → (view_of new).failures ≡ failures_by_all rs (view_of w).failures
-  all_failures w [] [] new is = ap (λ (x : World D T S d t s). (view_of x).failures) is
+  pub all_failures : (w : World D T S d t s) (es : List Event) (rs : List Reply) (new : World D T S d t s) → PlaysEach w es rs new → (world_view new).failures ≡ failures_by_all rs (world_view w).failures
+  all_failures w [] [] new is = ap (λ (x : World D T S d t s). (world_view x).failures) is
   all_failures w [] (r ∷ rs) new is = absurd is
   all_failures w (e ∷ es) [] new is = absurd is
   all_failures w (e ∷ es) (r ∷ rs) new it = all_failures it.0 es rs new it.2 ∙ ap (failures_by_all rs) it.1.answered.failures
@@ -102,14 +102,14 @@ module _ {D T S : Type 0} {d t s : _} where
       (later.0, (now.0, now.1, subst (λ (x : Setting). RunOnAnyDevice x now.0 es rs later.0) (setting_stays w mid program it.1.answered.kept) later.1), later.2)
 
 module _ {D T S : Type 0} {d : disk.Ghosts D} {t s : _} (device : (x : D) → IsDevice (d.view x)) where
-  pub all_elsewhere : (w : World D T S d t s) (es : List Event) (rs : List Reply) (new : World D T S d t s) → PlaysEach w es rs new → WritesInStore (numbers_of w) (view_of w) (view_of new)
-  all_elsewhere w [] [] new is = subst (λ (x : World D T S d t s). WritesInStore (numbers_of w) (view_of w) (view_of x)) (sym is) (WritesInStore-refl (numbers_of w) (view_of w) (device (device_of w)))
+  pub all_elsewhere : (w : World D T S d t s) (es : List Event) (rs : List Reply) (new : World D T S d t s) → PlaysEach w es rs new → WritesInStore (numbers_of w) (world_view w) (world_view new)
+  all_elsewhere w [] [] new is = subst (λ (x : World D T S d t s). WritesInStore (numbers_of w) (world_view w) (world_view x)) (sym is) (WritesInStore-refl (numbers_of w) (world_view w) (device (world_disk w)))
   all_elsewhere w [] (r ∷ rs) new is = absurd is
   all_elsewhere w (e ∷ es) [] new is = absurd is
   all_elsewhere w (e ∷ es) (r ∷ rs) new it =
       let mid = it.0 in
-      WritesInStore-trans (numbers_of w) (view_of w) (view_of mid) (view_of new) (all_kept mid es rs new it.2).model it.1.answered.elsewhere
-      (subst (λ (l : Layout). WritesInStore l (view_of mid) (view_of new)) it.1.answered.kept.numbers (all_elsewhere mid es rs new it.2))
+      WritesInStore-trans (numbers_of w) (world_view w) (world_view mid) (world_view new) (all_kept mid es rs new it.2).model it.1.answered.elsewhere
+      (subst (λ (l : Layout). WritesInStore l (world_view mid) (world_view new)) it.1.answered.kept.numbers (all_elsewhere mid es rs new it.2))
 
   pub all_on : (w : World D T S d t s) (es : List Event) (rs : List Reply) (new : World D T S d t s) → PlaysEach w es rs new → PlaysOn w es rs new
   all_on w [] [] new is = λ program means h m has keeps.
@@ -118,8 +118,8 @@ module _ {D T S : Type 0} {d : disk.Ghosts D} {t s : _} (device : (x : D) → Is
         m,
         (refl, refl),
         subst (λ (x : World D T S d t s). Carries program x h m) (sym is) has,
-        subst (λ (x : World D T S d t s). AtEachMoment (view_of w) (view_of x) (λ c. ∥ IsSafeWithin set m h [] [] m h c ∥₁)) (sym is)
-            (record { each = λ k c left. ∣ safe_first set m h [] [] m h (refl, refl) c (has.store.device.each k c ((device (device_of w)).only_now c k left)) ∣₁ }),
+        subst (λ (x : World D T S d t s). AtEachMoment (world_view w) (world_view x) (λ c. ∥ IsSafeWithin set m h [] [] m h c ∥₁)) (sym is)
+            (record { each = λ k c left. ∣ safe_first set m h [] [] m h (refl, refl) c (has.store.device.each k c ((device (world_disk w)).only_now c k left)) ∣₁ }),
         grows set m h [] [] m h (refl, refl),
       )
   all_on w [] (r ∷ rs) new is = absurd is
@@ -136,7 +136,7 @@ module _ {D T S : Type 0} {d : disk.Ghosts D} {t s : _} (device : (x : D) → Is
       let h' = later.0 in
       let m' = later.1 in
       let runs = subst (λ (y : Setting). RunsOn y x g es rs m' h') same later.2 in
-      let during = subst (λ (y : Setting). AtEachMoment (view_of mid) (view_of new) (λ c. ∥ IsSafeWithin y x g es rs m' h' c ∥₁)) same later.4 in
+      let during = subst (λ (y : Setting). AtEachMoment (world_view mid) (world_view new) (λ c. ∥ IsSafeWithin y x g es rs m' h' c ∥₁)) same later.4 in
       let all : RunsOn set m h (e ∷ es) (r ∷ rs) m' h' = (x, now.1, runs) in (
         h',
         m',
@@ -148,7 +148,7 @@ module _ {D T S : Type 0} {d : disk.Ghosts D} {t s : _} (device : (x : D) → Is
               (λ safe. safe_first set m h (e ∷ es) (r ∷ rs) m' h' all c safe)
               (λ safe. safe_later set m h e r x now.1 es rs m' h' c (safe_first set x g es rs m' h' runs c safe))))
               (λ is. ∥∥₁_map (during.each k c is) (safe_later set m h e r x now.1 es rs m' h' c))
-              (either_time (view_of w) (view_of mid) (view_of new) _ model it.1.answered.elsewhere.time.later (all_elsewhere mid es rs new it.2).time k c left);
+              (either_time (world_view w) (world_view mid) (world_view new) _ model it.1.answered.elsewhere.time.later (all_elsewhere mid es rs new it.2).time k c left);
         },
         grows set m h (e ∷ es) (r ∷ rs) m' h' all,
       )

@@ -6,31 +6,31 @@ use Rattle.std.proofs.lemmas.List.{set-get_or}
 use Rattle.std.specs.List.{AllZip}
 use Rattle.tmem_disk.specs.Disk.{IsDevice, LeavesOnly, AtEachMoment}
 use Rattle.tmem_core.specs.Program.{Program, IsProgramOf}
-use Rattle.tmem_core.specs.Held.{state_of, waiting_of, is_shut_of, table_of}
+use Rattle.tmem_core.specs.Held.{core_state, waiting_of, is_shut_of, core_table}
 use Rattle.tmem_core.specs.Verdict.{serial_effects}
 use Rattle.tmem_fault.specs.declared.fault.Fault.TheVariants as fault
 use Rattle.tmem_event.specs.declared.event.Event.{Event}
 use Rattle.tmem_event.specs.declared.event.Event.TheVariants as event
 use Rattle.tmem_event.specs.declared.event.Reply.{Reply}
 use Rattle.tmem_event.specs.declared.event.Reply.TheVariants as reply
-use Rattle.tmem_world.specs.declared.slot.Slot.{Slot}
+use Rattle.tmem_world.specs.declared.attempt.WorldAttempt.{WorldAttempt}
 use Rattle.tmem_world.specs.declared.session.Session as core
 use Rattle.tmem_world.specs.declared.held.Held.{Held}
 use Rattle.tmem_world.specs.declared.held.Held.TheVariants.{With, Without}
 use Rattle.std.proofs.lemmas.Bool.{false≢true}
-use Rattle.tmem_world.specs.Parts.{what, disk_in, layout_in, table_in, IsWith}
+use Rattle.tmem_world.specs.Parts.{what, held_disk, layout_in, table_in, IsWith}
 use Rattle.tmem_effect.specs.State.{State}
 use Rattle.tmem_journal.specs.Held as journal
 use Rattle.tmem_journal.specs.Journals as journals
 use Rattle.tmem_journal.specs.Mended.{RecoveredBy}
-use Rattle.tmem_journal.specs.Stands.{Position, StandsForEither}
+use Rattle.tmem_journal.specs.Contents.{Position, ContentRepresentsEither}
 use Rattle.tmem_journal.specs.declared.journal.Journal as owner
 use Rattle.tmem_record.specs.declared.layout.Layout.{Layout}
 use Rattle.tmem_world.specs.declared.world.World.{World}
-use Rattle.tmem_world.specs.WorldModel.{WorldModel, SlotModel, NoTransaction, SessionStatus, InSession, cut, holding, slot_at}
-use Rattle.tmem_world.proofs.Mending.{mended_stands}
+use Rattle.tmem_world.specs.WorldModel.{WorldModel, AttemptModel, NoTransaction, SessionStatus, InSession, cut, holding, attempt_at}
+use Rattle.tmem_world.proofs.Mending.{mended_represents}
 use Rattle.tmem_world.proofs.Serial.{count-cut}
-use Rattle.tmem_world.specs.Represents.{SlotIs, SessionIs, HasSession, IsNumbered, Represents, Means, IsStep, EachMoment, WritesInStore, StandsCut, session_of, held_of, held_table, device_of, view_of}
+use Rattle.tmem_world.specs.Represents.{AttemptIs, SessionIs, HasSession, IsNumbered, Represents, Means, IsStep, EachMoment, WritesInStore, RepresentsCut, session_of, held_of, held_table, world_disk, world_view}
 use Rattle.tmem_world.specs.AnyDevice.{Reopens}
 use Rattle.tmem_world.specs.EachPlayed.{IsAnswered}
 use Rattle.tmem_world.specs.Replies.{failures_by, IsFailedCall}
@@ -88,26 +88,26 @@ is_with (Without left) o is = cc
 
 module _ {D T S : Type 0} {d t s : _} (program : Program) (w : World D T S d t s) (m : WorldModel) (o : core.Session D T d t) (here : held_of w ≡ With o) (is : SessionIs program o m) where
   -- what the journal of a session allows is the serial order cut where it may be
-  pub may_be : (c : List ℕ) → journal.MayBe o.journal c → StandsCut program w.layout.vars w.layout.slots m c
+  pub may_be : (c : List ℕ) → journal.MayBe o.journal c → RepresentsCut program w.layout.vars w.layout.slots m c
   may_be c it =
-      let vars : (journal.layout_of o.journal).vars ≡ w.layout.vars = sym (ap (λ (h : Held D T d t). (layout_in h).vars) here) ∙ w.same_vars in
-      let slots : (journal.layout_of o.journal).slots ≡ w.layout.slots = sym (ap (λ (h : Held D T d t). (layout_in h).slots) here) ∙ w.same_slots in
-      subst (λ (v : ℕ). StandsForEither v w.layout.slots (cut program m m.durable) (cut program m m.doubtful) c) vars
-      (subst (λ (n : ℕ). StandsForEither (journal.layout_of o.journal).vars n (cut program m m.durable) (cut program m m.doubtful) c) slots
-      (subst (λ (x : State). StandsForEither (journal.layout_of o.journal).vars (journal.layout_of o.journal).slots x (cut program m m.doubtful) c) is.durable
-      (subst (λ (x : State). StandsForEither (journal.layout_of o.journal).vars (journal.layout_of o.journal).slots (journal.state_of o.journal) x c) is.doubtful it)))
+      let vars : (journal.journal_layout o.journal).vars ≡ w.layout.vars = sym (ap (λ (h : Held D T d t). (layout_in h).vars) here) ∙ w.same_vars in
+      let slots : (journal.journal_layout o.journal).slots ≡ w.layout.slots = sym (ap (λ (h : Held D T d t). (layout_in h).slots) here) ∙ w.same_slots in
+      subst (λ (v : ℕ). ContentRepresentsEither v w.layout.slots (cut program m m.durable) (cut program m m.doubtful) c) vars
+      (subst (λ (n : ℕ). ContentRepresentsEither (journal.journal_layout o.journal).vars n (cut program m m.durable) (cut program m m.doubtful) c) slots
+      (subst (λ (x : State). ContentRepresentsEither (journal.journal_layout o.journal).vars (journal.journal_layout o.journal).slots x (cut program m m.doubtful) c) is.durable
+      (subst (λ (x : State). ContentRepresentsEither (journal.journal_layout o.journal).vars (journal.journal_layout o.journal).slots (journal.journal_state o.journal) x c) is.doubtful it)))
 
   -- so every crash leaves that
-  pub stands_in : LeavesOnly (view_of w) (StandsCut program w.layout.vars w.layout.slots m)
-  stands_in = subst (λ (h : Held D T d t). LeavesOnly (d.view (disk_in h)) (StandsCut program w.layout.vars w.layout.slots m)) (sym here) (record { each = λ keeps c left. may_be c (o.journal.stands.each keeps c left) })
+  pub stands_in : LeavesOnly (world_view w) (RepresentsCut program w.layout.vars w.layout.slots m)
+  stands_in = subst (λ (h : Held D T d t). LeavesOnly (d.view (held_disk h)) (RepresentsCut program w.layout.vars w.layout.slots m)) (sym here) (record { each = λ keeps c left. may_be c (o.journal.stands.each keeps c left) })
 
   -- a world with this session is at the point
-  pub in_point : IsNumbered program m → AllZip (SlotIs program) w.slots.items m.slots → (journal.device_of o.journal).failures ≡ m.failures → Represents program w m
-  in_point numbers slots failures = record {
+  pub in_point : IsNumbered program m → AllZip (AttemptIs program) w.attempts.items m.attempts → (journal.journal_device o.journal).failures ≡ m.failures → Represents program w m
+  in_point numbers attempts failures = record {
     numbers = numbers;
-    slots = slots;
+    attempts = attempts;
     session = subst (λ (h : Held D T d t). HasSession program h m) (sym here) is;
-    failures = ap (λ (h : Held D T d t). (d.view (disk_in h)).failures) here ∙ failures;
+    failures = ap (λ (h : Held D T d t). (d.view (held_disk h)).failures) here ∙ failures;
     device = stands_in;
   }
 
@@ -116,26 +116,26 @@ module _ {D T S : Type 0} {d t s : _} (program : Program) (w : World D T S d t s
   pub session_at : SessionIs program o m
   session_at = subst (λ (h : Held D T d t). HasSession program h m) here r.session
 
-  pub failures_at : (journal.device_of o.journal).failures ≡ m.failures
-  failures_at = sym (ap (λ (h : Held D T d t). (d.view (disk_in h)).failures) here) ∙ r.failures
+  pub failures_at : (journal.journal_device o.journal).failures ≡ m.failures
+  failures_at = sym (ap (λ (h : Held D T d t). (d.view (held_disk h)).failures) here) ∙ r.failures
 
--- What a call of a session's journal leaves, which accepts nothing.
+-- What a call of a session's journal leaves, which commits nothing.
 module _ {D T S : Type 0} {d t s : _} (program : Program) (w w' : World D T S d t s) (m : WorldModel) (o o' : core.Session D T d t) (r : Represents program w m)
-    (before : held_of w ≡ With o) (after : held_of w' ≡ With o') (slots : w'.slots.items ≡ w.slots.items) (state : state_of o'.core ≡ state_of o.core) where
+    (before : held_of w ≡ With o) (after : held_of w' ≡ With o') (attempts : w'.attempts.items ≡ w.attempts.items) (state : core_state o'.core ≡ core_state o.core) where
   was : SessionIs program o m
   was = session_at program w m o before r
 
   -- the point where n transactions are durable, and k may be in their place
-  pub point_at : (first second : State) (n k : ℕ) (moved : Position → Position) (shut : Bool) (status : SessionStatus) (failed : ℕ → ℕ) → journals.IsAt o'.journal first second (moved (journal.position_of o.journal)) shut → first ≡ cut program m n → second ≡ cut program m k
-      → (journal.device_of o'.journal).failures ≡ failed (journal.device_of o.journal).failures → waiting_of o'.core ≡ drop (n - m.opened.count) (serial_effects program m.opened m.accepted) → status ≡ session_of shut → (shut ≡ false → k ≡ n)
-      → m.opened.count ≤ n → n ≤ k → k ≤ m.opened.count + length m.accepted → Represents program w' (record m { durable = n; doubtful = k; position = moved m.position; session = status; failures = failed m.failures })
+  pub point_at : (first second : State) (n k : ℕ) (moved : Position → Position) (shut : Bool) (status : SessionStatus) (failed : ℕ → ℕ) → journals.IsJournalAt o'.journal first second (moved (journal.journal_position o.journal)) shut → first ≡ cut program m n → second ≡ cut program m k
+      → (journal.journal_device o'.journal).failures ≡ failed (journal.journal_device o.journal).failures → waiting_of o'.core ≡ drop (n - m.opened.count) (serial_effects program m.opened m.committed) → status ≡ session_of shut → (shut ≡ false → k ≡ n)
+      → m.opened.count ≤ n → n ≤ k → k ≤ m.opened.count + length m.committed → Represents program w' (record m { durable = n; doubtful = k; position = moved m.position; session = status; failures = failed m.failures })
   point_at first second n k moved shut status failed at durable doubtful failures waiting is certain low between high =
       let now : is_shut_of o'.core ≡ shut = o'.shut ∙ at.closed in
-      let here : journal.state_of o'.journal ≡ cut program m n = at.state ∙ durable in
+      let here : journal.journal_state o'.journal ≡ cut program m n = at.state ∙ durable in
       in_point program w' (record m { durable = n; doubtful = k; position = moved m.position; session = status; failures = failed m.failures }) o' after
       (record {
         state = state ∙ was.state;
-        number = o'.known ∙ ap (λ (x : State). x.count) here ∙ count-cut program m.opened m.accepted n r.numbers.each low (omega (arith, between, high));
+        number = o'.known ∙ ap (λ (x : State). x.count) here ∙ count-cut program m.opened m.committed n r.numbers.each low (omega (arith, between, high));
         waiting = waiting;
         durable = here;
         doubtful = at.doubtful ∙ doubtful;
@@ -143,54 +143,54 @@ module _ {D T S : Type 0} {d t s : _} (program : Program) (w w' : World D T S d 
         status = is ∙ ap session_of (sym now);
         certain = λ yes. certain (sym now ∙ yes);
       })
-      (record { opened = low; durable = between; doubtful = high; each = r.numbers.each; sound = r.numbers.sound }) (subst (λ (l : List Slot). AllZip (SlotIs program) l m.slots) (sym slots) r.slots) (failures ∙ ap failed (failures_at program w m o before r))
+      (record { opened = low; durable = between; doubtful = high; each = r.numbers.each; sound = r.numbers.sound }) (subst (λ (l : List WorldAttempt). AllZip (AttemptIs program) l m.attempts) (sym attempts) r.attempts) (failures ∙ ap failed (failures_at program w m o before r))
 
   -- the same point, where the journal is as it was
   pub refused_at : o'.journal ≡ o.journal → waiting_of o'.core ≡ waiting_of o.core → Represents program w' m
   refused_at same waits =
-      let at : journals.IsAt o'.journal (journal.state_of o.journal) (journal.doubtful_of o.journal) (journal.position_of o.journal) (is_shut_of o.core) = record {
-        state = ap (λ (j : owner.Journal D d). journal.state_of j) same;
+      let at : journals.IsJournalAt o'.journal (journal.journal_state o.journal) (journal.doubtful_of o.journal) (journal.journal_position o.journal) (is_shut_of o.core) = record {
+        state = ap (λ (j : owner.Journal D d). journal.journal_state j) same;
         doubtful = ap (λ (j : owner.Journal D d). journal.doubtful_of j) same;
-        position = ap (λ (j : owner.Journal D d). journal.position_of j) same;
+        position = ap (λ (j : owner.Journal D d). journal.journal_position j) same;
         closed = ap (λ (j : owner.Journal D d). journal.is_closed_of j) same ∙ sym o.shut;
       } in
-      point_at _ _ m.durable m.doubtful (λ p. p) (is_shut_of o.core) m.session (λ n. n) at was.durable was.doubtful (ap (λ (j : owner.Journal D d). (journal.device_of j).failures) same) (waits ∙ was.waiting) was.status was.certain r.numbers.opened r.numbers.durable r.numbers.doubtful
+      point_at _ _ m.durable m.doubtful (λ p. p) (is_shut_of o.core) m.session (λ n. n) at was.durable was.doubtful (ap (λ (j : owner.Journal D d). (journal.journal_device j).failures) same) (waits ∙ was.waiting) was.status was.certain r.numbers.opened r.numbers.durable r.numbers.doubtful
 
 module _ {D T S : Type 0} {d t s : _} (w w' : World D T S d t s) (layout : w'.layout ≡ w.layout) where
   -- a session's journal at each moment of a flush or a checkpoint
-  pub call_moments : (o o' : core.Session D T d t) → held_of w ≡ With o → held_of w' ≡ With o' → AtEachMoment (journal.device_of o.journal) (journal.device_of o'.journal) (λ c. ∥ journal.MayBe o.journal c ⊎ journal.MayBe o'.journal c ∥₁) → EachMoment w w'
+  pub call_moments : (o o' : core.Session D T d t) → held_of w ≡ With o → held_of w' ≡ With o' → AtEachMoment (journal.journal_device o.journal) (journal.journal_device o'.journal) (λ c. ∥ journal.MayBe o.journal c ⊎ journal.MayBe o'.journal c ∥₁) → EachMoment w w'
   call_moments o o' before after during = λ program m m' r r'.
-      let P : List ℕ → Type 0 = λ c. ∥ StandsCut program w.layout.vars w.layout.slots m c ⊎ StandsCut program w.layout.vars w.layout.slots m' c ∥₁ in
-      let then : (c : List ℕ) → journal.MayBe o'.journal c → StandsCut program w.layout.vars w.layout.slots m' c =
-      λ c it. subst (λ (l : Layout). StandsCut program l.vars l.slots m' c) layout (may_be program w' m' o' after (session_at program w' m' o' after r') c it) in
-      let both : AtEachMoment (journal.device_of o.journal) (journal.device_of o'.journal) P = record {
+      let P : List ℕ → Type 0 = λ c. ∥ RepresentsCut program w.layout.vars w.layout.slots m c ⊎ RepresentsCut program w.layout.vars w.layout.slots m' c ∥₁ in
+      let then : (c : List ℕ) → journal.MayBe o'.journal c → RepresentsCut program w.layout.vars w.layout.slots m' c =
+      λ c it. subst (λ (l : Layout). RepresentsCut program l.vars l.slots m' c) layout (may_be program w' m' o' after (session_at program w' m' o' after r') c it) in
+      let both : AtEachMoment (journal.journal_device o.journal) (journal.journal_device o'.journal) P = record {
         each = λ k c left. ∥∥₁_map (during.each k c left) (λ either. ⊎_elim
             (λ (it : journal.MayBe o.journal c). inl (may_be program w m o before (session_at program w m o before r) c it))
             (λ (it : journal.MayBe o'.journal c). inr (then c it)) either);
       } in
-      subst (λ (h : Held D T d t). AtEachMoment (d.view (disk_in h)) (view_of w') P) (sym before)
-      (subst (λ (h : Held D T d t). AtEachMoment (journal.device_of o.journal) (d.view (disk_in h)) P) (sym after) both)
+      subst (λ (h : Held D T d t). AtEachMoment (d.view (held_disk h)) (world_view w') P) (sym before)
+      (subst (λ (h : Held D T d t). AtEachMoment (journal.journal_device o.journal) (d.view (held_disk h)) P) (sym after) both)
 
   -- an event without a call of the device
-  pub still_moments : IsDevice (view_of w) → device_of w' ≡ device_of w → EachMoment w w'
+  pub still_moments : IsDevice (world_view w) → world_disk w' ≡ world_disk w → EachMoment w w'
   still_moments device same = λ program m m' r r'.
-      subst (λ (x : D). AtEachMoment (view_of w) (d.view x) (λ c. ∥ StandsCut program w.layout.vars w.layout.slots m c ⊎ StandsCut program w.layout.vars w.layout.slots m' c ∥₁)) (sym same)
+      subst (λ (x : D). AtEachMoment (world_view w) (d.view x) (λ c. ∥ RepresentsCut program w.layout.vars w.layout.slots m c ⊎ RepresentsCut program w.layout.vars w.layout.slots m' c ∥₁)) (sym same)
       (record { each = λ k c left. ∣ inl (r.device.each k c (device.only_now c k left)) ∣₁ })
 
   -- an event that opens the device again
-  pub mending_moments : ((view_of w').keeps_model → (view_of w).keeps_model) → AtEachMoment (view_of w) (view_of w') (RecoveredBy w.layout.vars w.layout.slots (view_of w)) → EachMoment w w'
+  pub mending_moments : ((world_view w').keeps_model → (world_view w).keeps_model) → AtEachMoment (world_view w) (world_view w') (RecoveredBy w.layout.vars w.layout.slots (world_view w)) → EachMoment w w'
   mending_moments model during = λ program m m' r r'.
-      record { each = λ k c left. ∣ inl (mended_stands w.layout.vars w.layout.slots (cut program m m.durable) (cut program m m.doubtful) (view_of w) r.device (model k) c (during.each k c left)) ∣₁ }
+      record { each = λ k c left. ∣ inl (mended_represents w.layout.vars w.layout.slots (cut program m m.durable) (cut program m m.doubtful) (world_view w) r.device (model k) c (during.each k c left)) ∣₁ }
 
 module _ {D T S : Type 0} {d t s : _} (program : Program) (w w' : World D T S d t s) (m : WorldModel) where
   -- one attempt changes, and nothing else
-  pub with_slot : (k : ℕ) (x : Slot) (a : SlotModel) → Represents program w m → SlotIs program x a → w'.slots.items ≡ slice_set w.slots.items k x → w'.held ≡ w.held → w'.layout ≡ w.layout → Represents program w' (holding m k a)
-  with_slot k x a r here slots kept_held layout = record {
+  pub with_attempt : (k : ℕ) (x : WorldAttempt) (a : AttemptModel) → Represents program w m → AttemptIs program x a → w'.attempts.items ≡ slice_set w.attempts.items k x → w'.held ≡ w.held → w'.layout ≡ w.layout → Represents program w' (holding m k a)
+  with_attempt k x a r here attempts kept_held layout = record {
     numbers = record { opened = r.numbers.opened; durable = r.numbers.durable; doubtful = r.numbers.doubtful; each = r.numbers.each; sound = r.numbers.sound };
-    slots = subst (λ (l : List Slot). AllZip (SlotIs program) l (slice_set m.slots k a)) (sym slots) (AllZip-set (SlotIs program) w.slots.items m.slots k x a r.slots here);
+    attempts = subst (λ (l : List WorldAttempt). AllZip (AttemptIs program) l (slice_set m.attempts k a)) (sym attempts) (AllZip-set (AttemptIs program) w.attempts.items m.attempts k x a r.attempts here);
     session = subst (λ (h : Held D T d t). HasSession program h (holding m k a)) (sym held) (kept (held_of w) r.session);
-    failures = ap (λ (h : Held D T d t). (d.view (disk_in h)).failures) held ∙ r.failures;
-    device = subst (λ (h : Held D T d t). LeavesOnly (d.view (disk_in h)) (StandsCut program w'.layout.vars w'.layout.slots m)) (sym held) (subst (λ (l : Layout). LeavesOnly (view_of w) (StandsCut program l.vars l.slots m)) (sym layout) r.device);
+    failures = ap (λ (h : Held D T d t). (d.view (held_disk h)).failures) held ∙ r.failures;
+    device = subst (λ (h : Held D T d t). LeavesOnly (d.view (held_disk h)) (RepresentsCut program w'.layout.vars w'.layout.slots m)) (sym held) (subst (λ (l : Layout). LeavesOnly (world_view w) (RepresentsCut program l.vars l.slots m)) (sym layout) r.device);
   }
     where
       held : held_of w' ≡ held_of w
@@ -201,55 +201,55 @@ module _ {D T S : Type 0} {d t s : _} (program : Program) (w w' : World D T S d 
       kept (With o) has = record { state = has.state; number = has.number; waiting = has.waiting; durable = has.durable; doubtful = has.doubtful; position = has.position; status = has.status; certain = has.certain }
 
 -- what the closures of a world mean, those of its session's table mean
-pub core_means : {D T S : Type 0} {d t s : _} (program : Program) (w : World D T S d t s) (o : core.Session D T d t) → held_of w ≡ With o → Means w program → IsProgramOf t (table_of o.core) program
+pub core_means : {D T S : Type 0} {d t s : _} (program : Program) (w : World D T S d t s) (o : core.Session D T d t) → held_of w ≡ With o → Means w program → IsProgramOf t (core_table o.core) program
 core_means {D} {T} {t = t} program w o is means = subst (λ (x : T). IsProgramOf t x program) (ap (λ (h : Held D T _ t). table_in h) is) means.invariants
 
 module _ {D T S : Type 0} {d t s : _} (w w' : World D T S d t s) (same : w'.held ≡ w.held) where
   pub held_stays : held_of w' ≡ held_of w
   held_stays = same_what w.held w'.held w.here w'.here same
 
-  pub device_stays : device_of w' ≡ device_of w
-  device_stays = ap (λ (h : Held D T d t). disk_in h) held_stays
+  pub device_stays : world_disk w' ≡ world_disk w
+  device_stays = ap (λ (h : Held D T d t). held_disk h) held_stays
 
-  pub failures_stay : (view_of w').failures ≡ (view_of w).failures
+  pub failures_stay : (world_view w').failures ≡ (world_view w).failures
   failures_stay = ap (λ (x : D). (d.view x).failures) device_stays
 
   -- where nothing changes
-  pub same_point : (program : Program) (m : WorldModel) → Represents program w m → w'.slots.items ≡ w.slots.items → w'.layout ≡ w.layout → Represents program w' m
-  same_point program m r slots layout = record {
+  pub same_point : (program : Program) (m : WorldModel) → Represents program w m → w'.attempts.items ≡ w.attempts.items → w'.layout ≡ w.layout → Represents program w' m
+  same_point program m r attempts layout = record {
     numbers = r.numbers;
-    slots = subst (λ (l : List Slot). AllZip (SlotIs program) l m.slots) (sym slots) r.slots;
+    attempts = subst (λ (l : List WorldAttempt). AllZip (AttemptIs program) l m.attempts) (sym attempts) r.attempts;
     session = subst (λ (h : Held D T d t). HasSession program h m) (sym held_stays) r.session;
     failures = failures_stay ∙ r.failures;
-    device = subst (λ (x : D). LeavesOnly (d.view x) (StandsCut program w'.layout.vars w'.layout.slots m)) (sym device_stays) (subst (λ (l : Layout). LeavesOnly (view_of w) (StandsCut program l.vars l.slots m)) (sym layout) r.device);
+    device = subst (λ (x : D). LeavesOnly (d.view x) (RepresentsCut program w'.layout.vars w'.layout.slots m)) (sym device_stays) (subst (λ (l : Layout). LeavesOnly (world_view w) (RepresentsCut program l.vars l.slots m)) (sym layout) r.device);
   }
 
 -- an event without a call of the device
-pub still_answered : {D T S : Type 0} {d t s : _} (w w' : World D T S d t s) (e : Event) (r : Reply) → w'.layout ≡ w.layout → w'.steps ≡ w.steps → held_table w' ≡ held_table w → device_of w' ≡ device_of w → IsDevice (view_of w)
-    → IsStep w e r w' → Reopens w e r w' → ((n : ℕ) → failures_by r n ≡ n) → IsFailedCall e r (view_of w').last_fault → IsAnswered w e r w'
+pub still_answered : {D T S : Type 0} {d t s : _} (w w' : World D T S d t s) (e : Event) (r : Reply) → w'.layout ≡ w.layout → w'.steps ≡ w.steps → held_table w' ≡ held_table w → world_disk w' ≡ world_disk w → IsDevice (world_view w)
+    → IsStep w e r w' → Reopens w e r w' → ((n : ℕ) → failures_by r n ≡ n) → IsFailedCall e r (world_view w').last_fault → IsAnswered w e r w'
 still_answered {D} {d = d} w w' e r layout steps table same device step again failures which = record {
   step = step;
   reopened = again;
   any_moment = still_moments w w' layout device same;
-  elsewhere = subst (λ (x : D). WritesInStore w.layout (view_of w) (d.view x)) (sym same) (WritesInStore-refl w.layout (view_of w) device);
-  failures = ap (λ (x : D). (d.view x).failures) same ∙ sym (failures (view_of w).failures);
+  elsewhere = subst (λ (x : D). WritesInStore w.layout (world_view w) (d.view x)) (sym same) (WritesInStore-refl w.layout (world_view w) device);
+  failures = ap (λ (x : D). (d.view x).failures) same ∙ sym (failures (world_view w).failures);
   failed_call = which;
   still = λ _. same;
-  kept = record { numbers = layout; steps = steps; table = table; model = subst (λ (x : D). (d.view x).keeps_model → (view_of w).keeps_model) (sym same) (λ keeps. keeps) };
+  kept = record { numbers = layout; steps = steps; table = table; model = subst (λ (x : D). (d.view x).keeps_model → (world_view w).keeps_model) (sym same) (λ keeps. keeps) };
 }
 
--- so it is of one that changes slots alone
-pub slots_answered : {D T S : Type 0} {d t s : _} (w w' : World D T S d t s) (e : Event) (r : Reply) → w'.layout ≡ w.layout → w'.steps ≡ w.steps → w'.held ≡ w.held → IsDevice (view_of w)
-    → IsStep w e r w' → Reopens w e r w' → ((n : ℕ) → failures_by r n ≡ n) → IsFailedCall e r (view_of w').last_fault → IsAnswered w e r w'
-slots_answered {D} {T} {d = d} {t = t} w w' e r layout steps same device step again failures which =
+-- so it is of one that changes attempts alone
+pub attempts_answered : {D T S : Type 0} {d t s : _} (w w' : World D T S d t s) (e : Event) (r : Reply) → w'.layout ≡ w.layout → w'.steps ≡ w.steps → w'.held ≡ w.held → IsDevice (world_view w)
+    → IsStep w e r w' → Reopens w e r w' → ((n : ℕ) → failures_by r n ≡ n) → IsFailedCall e r (world_view w').last_fault → IsAnswered w e r w'
+attempts_answered {D} {T} {d = d} {t = t} w w' e r layout steps same device step again failures which =
     still_answered w w' e r layout steps (ap (λ (h : Held D T d t). table_in h) (held_stays w w' same)) (device_stays w w' same) device step again failures which
 
 -- Settle is refused without a session
-pub settles_without : {D T S : Type 0} {d t s : _} (w w' : World D T S d t s) (slot : ℕ) → (IsWith (held_of w) → ⊥) → w'.layout ≡ w.layout → w'.steps ≡ w.steps → w'.held ≡ w.held → w'.slots.items ≡ w.slots.items → IsDevice (view_of w)
+pub settles_without : {D T S : Type 0} {d t s : _} (w w' : World D T S d t s) (slot : ℕ) → (IsWith (held_of w) → ⊥) → w'.layout ≡ w.layout → w'.steps ≡ w.steps → w'.held ≡ w.held → w'.attempts.items ≡ w.attempts.items → IsDevice (world_view w)
     → IsAnswered w (event.Settle slot) (reply.Fault fault.Closed) w'
-settles_without w w' slot none layout steps same slots device =
-    slots_answered w w' (event.Settle slot) (reply.Fault fault.Closed) layout steps same device
-    (λ program means m r keeps. (m, closed_session program (held_of w) m _ none r.session, same_point w w' same program m r slots layout)) tt (λ n. refl) tt
+settles_without w w' slot none layout steps same attempts device =
+    attempts_answered w w' (event.Settle slot) (reply.Fault fault.Closed) layout steps same device
+    (λ program means m r keeps. (m, closed_session program (held_of w) m _ none r.session, same_point w w' same program m r attempts layout)) tt (λ n. refl) tt
 
 pub AllZip-at : {A B : Type 0} (R : A → B → Type 0) (xs : List A) (ys : List B) (k : ℕ) (d : A) (e : B) → AllZip R xs ys → k < length xs → R (get_or xs k d) (get_or ys k e)
 AllZip-at R [] ys k d e each below = absurd (omega arith)
@@ -263,10 +263,10 @@ at_place [] k d e below = absurd (omega arith)
 at_place (x ∷ xs) zero d e below = refl
 at_place (x ∷ xs) (suc k) d e below = at_place xs k d e (omega arith)
 
--- the attempt that a slot holds
-pub slot_holds : {D T S : Type 0} {d t s : _} (program : Program) (w : World D T S d t s) (m : WorldModel) (k : ℕ) (x : Slot) → Represents program w m → k < length w.slots.items → x ≡ get_or w.slots.items k x → SlotIs program x (slot_at m k)
-slot_holds program w m k x r below is = subst (λ (t : Slot). SlotIs program t (slot_at m k)) (sym is) (AllZip-at (SlotIs program) w.slots.items m.slots k x NoTransaction r.slots below)
+-- the attempt of a number
+pub attempt_holds : {D T S : Type 0} {d t s : _} (program : Program) (w : World D T S d t s) (m : WorldModel) (k : ℕ) (x : WorldAttempt) → Represents program w m → k < length w.attempts.items → x ≡ get_or w.attempts.items k x → AttemptIs program x (attempt_at m k)
+attempt_holds program w m k x r below is = subst (λ (t : WorldAttempt). AttemptIs program t (attempt_at m k)) (sym is) (AllZip-at (AttemptIs program) w.attempts.items m.attempts k x NoTransaction r.attempts below)
 
 -- the attempt that is there
-pub same_attempt : (m : WorldModel) (k : ℕ) → holding m k (slot_at m k) ≡ m
-same_attempt m k = ap (λ (xs : List SlotModel). record m { slots = xs }) (set-get_or m.slots k NoTransaction)
+pub same_attempt : (m : WorldModel) (k : ℕ) → holding m k (attempt_at m k) ≡ m
+same_attempt m k = ap (λ (xs : List AttemptModel). record m { attempts = xs }) (set-get_or m.attempts k NoTransaction)

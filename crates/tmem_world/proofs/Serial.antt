@@ -1,4 +1,4 @@
--- The serial order of accepted transactions, cut at a number.
+-- The serial order of committed transactions, cut at a number.
 use Rattle.std.proofs.Common.{◌≡◌, ℕ, zero, suc, ◌+◌, ◌-◌, ◌≤◌, List, [], ◌∷◌, ◌++◌, length, take, drop, refl, sym, ◌∙◌, ap, arith}
 use Rattle.std.proofs.lemmas.List.{take-append-drop, take-take, drop-take, drop-drop, drop_at, drop_all, drop-append-le, length-take, length-drop, length-append}
 use Rattle.std.proofs.Math.Seq.{take-append_seam}
@@ -6,9 +6,9 @@ use Rattle.tmem_effect.specs.State.{State, fold}
 use Rattle.tmem_effect.specs.declared.effect.Effect.{Effect}
 use Rattle.tmem_tree.specs.declared.tx.Tx.{Tx}
 use Rattle.tmem_core.specs.Program.{Program}
-use Rattle.tmem_core.specs.Verdict.{effect_of, accepted_of, state_after, serial_state, serial_effects, IsCommitted, AreCommitted, verdict}
+use Rattle.tmem_core.specs.Verdict.{effect_of, committed_of, state_after, serial_state, serial_effects, IsCommitted, AreCommitted, verdict}
 use Rattle.tmem_effect.proofs.Laws.{fold-append}
-use Rattle.tmem_core.proofs.Laws.{accepted_of-committed, serial_effects-push, serial_state-fold, length-serial_effects, count-committed}
+use Rattle.tmem_core.proofs.Laws.{committed_of-one, serial_effects-push, serial_state-fold, length-serial_effects, count-committed}
 
 module _ (program : Program) where
   pub committed-take : (k : ℕ) (s : State) (txs : List Tx) → AreCommitted program s txs → AreCommitted program s (take k txs)
@@ -23,7 +23,7 @@ module _ (program : Program) where
       omega (arith, low, high, count-committed program s (take k txs) (committed-take k s txs are), length-take k txs)
 
   effects-cons : (s : State) (t : Tx) (txs : List Tx) → IsCommitted (verdict program t s) → serial_effects program s (t ∷ txs) ≡ effect_of program t s ∷ serial_effects program (state_after program s t) txs
-  effects-cons s t txs is = ap (λ (es : List Effect). es ++ serial_effects program (state_after program s t) txs) (accepted_of-committed program s t is)
+  effects-cons s t txs is = ap (λ (es : List Effect). es ++ serial_effects program (state_after program s t) txs) (committed_of-one program s t is)
 
   -- each has one effect
   effects-take : (k : ℕ) (s : State) (txs : List Tx) → AreCommitted program s txs → serial_effects program s (take k txs) ≡ take k (serial_effects program s txs)
@@ -36,12 +36,12 @@ module _ (program : Program) where
   cut-fold : (k : ℕ) (s : State) (txs : List Tx) → AreCommitted program s txs → serial_state program s (take k txs) ≡ fold s (take k (serial_effects program s txs))
   cut-fold k s txs are = serial_state-fold program s (take k txs) ∙ ap (fold s) (effects-take k s txs are)
 
-  -- what waits, once one more was accepted
+  -- what waits, once one more was committed
   pub waiting-append : (k : ℕ) (s : State) (txs : List Tx) (tx : Tx) → AreCommitted program s txs → k ≤ length txs
-      → drop k (serial_effects program s (txs ++ tx ∷ [])) ≡ drop k (serial_effects program s txs) ++ accepted_of program tx (serial_state program s txs)
+      → drop k (serial_effects program s (txs ++ tx ∷ [])) ≡ drop k (serial_effects program s txs) ++ committed_of program tx (serial_state program s txs)
   waiting-append k s txs tx are le =
       let all = length-serial_effects program s txs are in
-      ap (drop k) (serial_effects-push program s txs tx) ∙ drop-append-le k (serial_effects program s txs) (accepted_of program tx (serial_state program s txs)) (omega (arith, all, le))
+      ap (drop k) (serial_effects-push program s txs tx) ∙ drop-append-le k (serial_effects program s txs) (committed_of program tx (serial_state program s txs)) (omega (arith, all, le))
 
   -- nothing waits behind the last
   pub none_waits : (k : ℕ) (s : State) (txs : List Tx) → AreCommitted program s txs → drop k (serial_effects program s (take k txs)) ≡ []

@@ -2,12 +2,12 @@
 use Rattle.std.proofs.Common.{◌≡◌, inr, false, ℕ, ◌+◌, ◌-◌, ◌≤◌, List, ◌++◌, length, drop, sym, ◌∙◌, ap, subst, arith}
 use Rattle.std.specs.Prelude.{Result}
 use Rattle.tmem_fault.specs.declared.fault.Fault.{Fault}
-use Rattle.tmem_core.specs.Held.{state_of, waiting_of, durable_of, is_shut_of}
+use Rattle.tmem_core.specs.Held.{core_state, waiting_of, durable_of, is_shut_of}
 use Rattle.tmem_core.specs.Taking.{IsTaken}
 use Rattle.tmem_journal.specs.Held as journal
 use Rattle.tmem_journal.specs.Journals as journals
 use Rattle.tmem_world.specs.declared.session.Session as core
-use Rattle.tmem_world.specs.Sessions.{Flushes, waiting_after}
+use Rattle.tmem_world.specs.Sessions.{SessionFlushes, waiting_after}
 use Rattle.tmem_effect.specs.State.{StaysWithin, fold}
 use Rattle.tmem_effect.specs.declared.effect.Effect.{Effect}
 use Rattle.tmem_effect.proofs.Laws.{fold-append, count-fold, StaysWithin-front, StaysWithin-back}
@@ -24,36 +24,36 @@ module _ {D T : Type 0} {d t : _} (o : core.Session D T d t) (from : ℕ) (is : 
   waited = sym (ap (λ (k : ℕ). drop k (waiting_of o.core)) none) ∙ taken ∙ ap (λ (k : ℕ). es ++ drop k (waiting_of o.core)) so_many
 
   -- the state after all that waits is the core's
-  whole : fold (journal.state_of o.journal) (es ++ drop (length es) (waiting_of o.core)) ≡ state_of o.core
-  whole = ap (fold (journal.state_of o.journal)) (sym waited) ∙ o.waits
+  whole : fold (journal.journal_state o.journal) (es ++ drop (length es) (waiting_of o.core)) ≡ core_state o.core
+  whole = ap (fold (journal.journal_state o.journal)) (sym waited) ∙ o.waits
 
   -- the states up to that after the batch are within the limits, and so are those behind it
-  within_all : StaysWithin (journal.state_of o.journal) (es ++ drop (length es) (waiting_of o.core))
-  within_all = subst (StaysWithin (journal.state_of o.journal)) waited o.within
+  within_all : StaysWithin (journal.journal_state o.journal) (es ++ drop (length es) (waiting_of o.core))
+  within_all = subst (StaysWithin (journal.journal_state o.journal)) waited o.within
 
-  pub within_taken : StaysWithin (journal.state_of o.journal) es
-  within_taken = StaysWithin-front (journal.state_of o.journal) es (drop (length es) (waiting_of o.core)) within_all
+  pub within_taken : StaysWithin (journal.journal_state o.journal) es
+  within_taken = StaysWithin-front (journal.journal_state o.journal) es (drop (length es) (waiting_of o.core)) within_all
 
-  pub within_rest : StaysWithin (fold (journal.state_of o.journal) es) (drop (length es) (waiting_of o.core))
-  within_rest = StaysWithin-back (journal.state_of o.journal) es (drop (length es) (waiting_of o.core)) within_all
+  pub within_rest : StaysWithin (fold (journal.journal_state o.journal) es) (drop (length es) (waiting_of o.core))
+  within_rest = StaysWithin-back (journal.journal_state o.journal) es (drop (length es) (waiting_of o.core)) within_all
 
   -- the rest goes on from the state after the batch
-  pub rest_waits : fold (fold (journal.state_of o.journal) es) (drop (length es) (waiting_of o.core)) ≡ state_of o.core
-  rest_waits = sym (fold-append (journal.state_of o.journal) es (drop (length es) (waiting_of o.core))) ∙ whole
+  pub rest_waits : fold (fold (journal.journal_state o.journal) es) (drop (length es) (waiting_of o.core)) ≡ core_state o.core
+  rest_waits = sym (fold-append (journal.journal_state o.journal) es (drop (length es) (waiting_of o.core))) ∙ whole
 
   -- the number behind the batch
-  pub number_taken : (fold (journal.state_of o.journal) es).count ≡ durable_of o.core + length es
-  number_taken = omega (arith, count-fold (journal.state_of o.journal) es, o.known)
+  pub number_taken : (fold (journal.journal_state o.journal) es).count ≡ durable_of o.core + length es
+  number_taken = omega (arith, count-fold (journal.journal_state o.journal) es, o.known)
 
   -- what waits behind that number
-  pub behind : (n : ℕ) → n ≡ (fold (journal.state_of o.journal) es).count → drop (n - durable_of o.core) (waiting_of o.core) ≡ drop (length es) (waiting_of o.core)
+  pub behind : (n : ℕ) → n ≡ (fold (journal.journal_state o.journal) es).count → drop (n - durable_of o.core) (waiting_of o.core) ≡ drop (length es) (waiting_of o.core)
   behind n same =
       let more : n - durable_of o.core ≡ length es = omega (arith, same, number_taken) in
       ap (λ (k : ℕ). drop k (waiting_of o.core)) more
 
   -- the journal answered so, and what waits is what an answer leaves
   pub handed : (new : core.Session D T d t) (answer : Result ℕ Fault) → is_shut_of o.core ≡ false → 1 ≤ length es → length es ≤ 64 → IsTaken (drop (from - durable_of o.core) (waiting_of o.core)) es
-      → journals.Flushes o.journal es answer new.journal → waiting_of new.core ≡ waiting_after answer (waiting_of o.core) (drop (length es) (waiting_of o.core)) → Flushes o answer new
+      → journals.Flushes o.journal es answer new.journal → waiting_of new.core ≡ waiting_after answer (waiting_of o.core) (drop (length es) (waiting_of o.core)) → SessionFlushes o answer new
   handed new answer running some few first flushed waits = inr (inr (record {
     oldest = es;
     rest = drop (length es) (waiting_of o.core);

@@ -25,11 +25,11 @@ use Rattle.tmem_core.specs.Program.{Program}
 use Rattle.tmem_core.specs.Verdict.{map_of}
 use Rattle.tmem_event.specs.declared.event.Reply.{Reply}
 use Rattle.tmem_event.specs.declared.event.Reply.TheVariants as reply
-use Rattle.tmem_world.specs.declared.slot.Slot.{Slot}
-use Rattle.tmem_world.specs.Slots.{HoldsEnded, ComesTo, TurnsBegun}
-use Rattle.tmem_world.specs.WorldModel.{WorldModel, SlotModel, NoTransaction, Begun, Ended, AllowsTurn, value_or, overridden, goes_on, present, holding, slot_at}
-use Rattle.tmem_world.specs.Represents.{SlotIs}
-use Rattle.tmem_world.proofs.HeldSlots.{plan_of, is_there}
+use Rattle.tmem_world.specs.declared.attempt.WorldAttempt.{WorldAttempt}
+use Rattle.tmem_world.specs.Attempts.{HoldsEnded, ComesTo, TurnsBegun}
+use Rattle.tmem_world.specs.WorldModel.{WorldModel, AttemptModel, NoTransaction, Begun, Ended, AllowsTurn, value_or, overridden, goes_on, present, holding, attempt_at}
+use Rattle.tmem_world.specs.Represents.{AttemptIs}
+use Rattle.tmem_world.proofs.HeldAttempts.{plan_of, is_there}
 use Rattle.tmem_world.proofs.Points.{same_attempt}
 
 -- the map overridden by reads agrees with them
@@ -62,20 +62,20 @@ module _ (stated : StepMeanings → Type 0) (tested : Meanings → Type 0) (held
 -- a test that a plan asks for is one of the table's, with as many values as its footprint has variables there
 pub filled_in : (names footprints : List (List ℕ)) (stated : Meanings → Type 0) → ∥ ((m : Meanings) × stated m) ∥₁ → ((m : Meanings) → stated m → map m.footprint names ≡ footprints)
     → (shapes : List Shape) → ((m : Meanings) → stated m → AreMeant m shapes) → (name : List ℕ) (values : List ℤ) → has_name (names_of shapes) name ≡ true → length values ≡ length (footprint_in shapes name)
-    → (place : ℕ) → slice_get names place ≡ Some name → length values ≡ length (slice_index_or footprints place [])
-filled_in names footprints stated some over shapes meant name values known filled place there = ∥∥₁_elim some (hlevel props) (λ (it : (m : Meanings) × stated m).
-    filled_by it.0 names footprints name (length values) (over it.0 it.1) (filled ∙ ap length (footprint_in-AreMeant it.0 shapes name (meant it.0 it.1) known)) place there)
+    → (index : ℕ) → slice_get names index ≡ Some name → length values ≡ length (slice_index_or footprints index [])
+filled_in names footprints stated some over shapes meant name values known filled index there = ∥∥₁_elim some (hlevel props) (λ (it : (m : Meanings) × stated m).
+    filled_by it.0 names footprints name (length values) (over it.0 it.1) (filled ∙ ap length (footprint_in-AreMeant it.0 shapes name (meant it.0 it.1) known)) index there)
 
-module _ (program : Program) (m : WorldModel) (k : ℕ) (old new : Slot) (state : State) (now : state ≡ present program m) (stated : StepMeanings → Type 0) (means : stated program.steps)
+module _ (program : Program) (m : WorldModel) (k : ℕ) (old new : WorldAttempt) (state : State) (now : state ≡ present program m) (stated : StepMeanings → Type 0) (means : stated program.steps)
     (tested : Meanings → Type 0) (asked : tested program.tests) where
-  -- the answer to a turn, and the attempt that the slot holds then
-  abbrev Turned : SlotModel → Reply → Type 0
-  Turned a r = (after : SlotModel) × AllowsTurn program a m k r (holding m k after) × SlotIs program new after
+  -- the answer to a turn, and the attempt then
+  abbrev Turned : AttemptModel → Reply → Type 0
+  Turned a r = (after : AttemptModel) × AllowsTurn program a m k r (holding m k after) × AttemptIs program new after
 
-  unchanged : (a : SlotModel) → slot_at m k ≡ a → holding m k a ≡ m
+  unchanged : (a : AttemptModel) → attempt_at m k ≡ a → holding m k a ≡ m
   unchanged a here = ap (holding m k) (sym here) ∙ same_attempt m k
 
-  -- what the plan's evaluation comes to, on what the slot was given
+  -- what the plan's evaluation comes to, on what the attempt was given
   outcome_here : (plan : Tx) (reads : List (ℕ × ℤ)) (answered : ℕ) → IsAt program.steps program.tests plan old.cursor → given old.cursor ≡ reads → length (answers old.cursor) ≡ answered
       → (o : Outcome) → ComesTo stated tested plan old.cursor o → IsOutcome program.steps program.tests plan reads answered o
   outcome_here plan reads answered was read counted o comes =
@@ -83,7 +83,7 @@ module _ (program : Program) (m : WorldModel) (k : ℕ) (old new : Slot) (state 
       (subst (λ (n : ℕ). IsOutcome program.steps program.tests plan (given old.cursor) n o) counted (comes program.steps program.tests means asked was))
 
   -- a begun plan
-  begun_turns : (plan : Tx) (reads : List (ℕ × ℤ)) (answered : ℕ) → slot_at m k ≡ Begun plan reads answered → IsAt program.steps program.tests plan old.cursor → given old.cursor ≡ reads → length (answers old.cursor) ≡ answered → (¬ HasEnded old.cursor)
+  begun_turns : (plan : Tx) (reads : List (ℕ × ℤ)) (answered : ℕ) → attempt_at m k ≡ Begun plan reads answered → IsAt program.steps program.tests plan old.cursor → given old.cursor ≡ reads → length (answers old.cursor) ≡ answered → (¬ HasEnded old.cursor)
       → option_map (λ p. p.tree) new.plan ≡ Some plan → IsAt program.steps program.tests plan new.cursor
       → (r : Reply) → TurnsBegun stated tested state plan old.cursor r new.cursor → Turned (Begun plan reads answered) r
   begun_turns plan reads answered here was read counted going held at (reply.Read var value) it =
@@ -133,7 +133,7 @@ module _ (program : Program) (m : WorldModel) (k : ℕ) (old new : Slot) (state 
   begun_turns plan reads answered here was read counted going held at _ it = absurd it
 
   -- any attempt
-  pub turns : (a : SlotModel) (r : Reply) → slot_at m k ≡ a → SlotIs program old a
+  pub turns : (a : AttemptModel) (r : Reply) → attempt_at m k ≡ a → AttemptIs program old a
       → (old.plan ≡ None → (r ≡ reply.Idle) × (new ≡ old))
       → (HoldsEnded old → (r ≡ reply.Ended) × (new ≡ old))
       → ((plan : PlanView) → old.plan ≡ Some plan → (¬ HasEnded old.cursor) → TurnsBegun stated tested state plan.tree old.cursor r new.cursor)
@@ -142,10 +142,10 @@ module _ (program : Program) (m : WorldModel) (k : ℕ) (old new : Slot) (state 
       → Turned a r
   turns NoTransaction r here holds idle ended begun at same =
       let it = idle holds in
-      (NoTransaction, (it.0, unchanged NoTransaction here), subst (λ (s : Slot). SlotIs program s NoTransaction) (sym it.1) holds)
+      (NoTransaction, (it.0, unchanged NoTransaction here), subst (λ (s : WorldAttempt). AttemptIs program s NoTransaction) (sym it.1) holds)
   turns (Ended plan reads) r here holds idle ended begun at same =
       let it = ended (is_there old.plan plan holds.0.plan, holds.1) in
-      (Ended plan reads, (it.0, unchanged (Ended plan reads) here), subst (λ (s : Slot). SlotIs program s (Ended plan reads)) (sym it.1) holds)
+      (Ended plan reads, (it.0, unchanged (Ended plan reads) here), subst (λ (s : WorldAttempt). AttemptIs program s (Ended plan reads)) (sym it.1) holds)
   turns (Begun tx reads answered) r here holds idle ended begun at same =
       let so = plan_of old.plan tx holds.0.plan in
       let stays = at so.plan so.held (subst (λ (p : Tx). IsAt program.steps program.tests p old.cursor) (sym so.tree) holds.0.at) in

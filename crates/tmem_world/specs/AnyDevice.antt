@@ -10,13 +10,13 @@ use Rattle.tmem_event.specs.declared.event.Reply.TheVariants as reply
 use Rattle.tmem_effect.specs.State.{State}
 use Rattle.tmem_core.specs.Program.{Program, IsProgramOf}
 use Rattle.tmem_gate.specs.Calls.{failures_after}
-use Rattle.tmem_journal.specs.Stands.{Position, NeedsNoMigration}
+use Rattle.tmem_journal.specs.Contents.{Position, NeedsNoMigration}
 use Rattle.tmem_opening.specs.Opening.{FindsState, OpeningRefused, LooksWhereClosed}
-use Rattle.tmem_world.specs.declared.slot.Slot.{Slot}
+use Rattle.tmem_world.specs.declared.attempt.WorldAttempt.{WorldAttempt}
 use Rattle.tmem_world.specs.declared.world.World.{World}
 use Rattle.tmem_world.specs.OneByOne.{OneByOne}
 use Rattle.tmem_world.specs.WorldModel.{Setting, WorldModel, Allows, opening, dropped}
-use Rattle.tmem_world.specs.Represents.{Represents, Means, HoldsSession, held_table, setting_of, view_of}
+use Rattle.tmem_world.specs.Represents.{Represents, Means, HoldsSession, held_table, setting_of, world_view}
 
 -- what an opening can be refused for
 abbrev pub IsOpeningFault : Fault → Type 0
@@ -49,26 +49,26 @@ AllowsOnAnyDevice set m e r m' = Allows set m e r m'
 abbrev pub RunOnAnyDevice : Setting → WorldModel → List Event → List Reply → WorldModel → Type 0
 RunOnAnyDevice set m es rs m' = OneByOne (AllowsOnAnyDevice set) m es rs m'
 
--- each of the sixteen slots is empty
+-- each of the sixteen attempts is empty
 abbrev pub HoldsNoTransaction : {D T S : Type 0} {d t s : _} → World D T S d t s → Type 0
-HoldsNoTransaction w = All (λ (slot : Slot). slot.plan ≡ None) w.slots.items
+HoldsNoTransaction w = All (λ (attempt : WorldAttempt). attempt.plan ≡ None) w.attempts.items
 
--- Opening again was refused, as any opening is. No session stands then, each slot is empty, and the run goes on so.
+-- Opening again was refused, as any opening is. No session stands then, each attempt is empty, and the run goes on so.
 pub record ReopeningRefused {D T S : Type 0} {d t s : _} (old : World D T S d t s) (f : Fault) (new : World D T S d t s) : Type 0 where
-  pub refused : OpeningRefused (IsProgramOf t (held_table old)) old.layout.vars old.layout.slots (view_of old) f (view_of new)
+  pub refused : OpeningRefused (IsProgramOf t (held_table old)) old.layout.vars old.layout.slots (world_view old) f (world_view new)
   pub session : ¬ HoldsSession new
-  pub slots : HoldsNoTransaction new
+  pub attempts : HoldsNoTransaction new
   pub point : (program : Program) (m : WorldModel) → Represents program old m → Represents program new (dropped_by f m)
 
 -- What Reopen is answered, and where the world is then. After Opened it is where a run begins, at a state of that count:
--- the one that the content stood for, and stands for there, where the device keeps the model. Where that was of version 2 and the
+-- the one that the content represented, and represents there, where the device keeps the model. Where that was of version 2 and the
 -- gates behind its log read closed, nothing was written.
 abbrev pub IsReopened : {D T S : Type 0} {d t s : _} → World D T S d t s → Reply → World D T S d t s → Type 0
 IsReopened old (reply.Opened n) new =
     (s : State) × (position : Position) × (s.count ≡ n)
-    × ((program : Program) → Means new program → Represents program new (opening s position (view_of old).failures))
-    × ((view_of new).keeps_model → FindsState new.layout.vars new.layout.slots (view_of old) (view_of new) position s)
-    × (NeedsNoMigration old.layout.vars old.layout.slots (view_of old).seen → LooksWhereClosed old.layout.vars old.layout.slots (view_of old) (view_of new))
+    × ((program : Program) → Means new program → Represents program new (opening s position (world_view old).failures))
+    × ((world_view new).keeps_model → FindsState new.layout.vars new.layout.slots (world_view old) (world_view new) position s)
+    × (NeedsNoMigration old.layout.vars old.layout.slots (world_view old).seen → LooksWhereClosed old.layout.vars old.layout.slots (world_view old) (world_view new))
 IsReopened old (reply.Fault f) new = ReopeningRefused old f new
 IsReopened old _ new = ⊥
 

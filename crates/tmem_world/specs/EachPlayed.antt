@@ -7,17 +7,17 @@ use Rattle.tmem_world.specs.AnyDevice.{Reopens}
 use Rattle.tmem_world.specs.Chain.{StepsOn}
 use Rattle.tmem_world.specs.OneByOne.{OneByOne}
 use Rattle.tmem_world.specs.Replies.{failures_by, CallsNoDevice, IsFailedCall}
-use Rattle.tmem_world.specs.Represents.{IsStep, EachMoment, WritesInStore, KeepsSetting, numbers_of, device_of, view_of, durable_number}
+use Rattle.tmem_world.specs.Represents.{IsStep, EachMoment, WritesInStore, KeepsSetting, numbers_of, world_disk, world_view, durable_number}
 
 -- what an event was answered, and what became of the device and of the setting
 pub record IsAnswered {D T S : Type 0} {d t s : _} (old : World D T S d t s) (e : Event) (r : Reply) (new : World D T S d t s) : Type 0 where
   pub step : IsStep old e r new
   pub reopened : Reopens old e r new
   pub any_moment : EachMoment old new
-  pub elsewhere : WritesInStore (numbers_of old) (view_of old) (view_of new)
-  pub failures : (view_of new).failures ≡ failures_by r (view_of old).failures
-  pub failed_call : IsFailedCall e r (view_of new).last_fault
-  pub still : CallsNoDevice (durable_number old) e r → device_of new ≡ device_of old
+  pub elsewhere : WritesInStore (numbers_of old) (world_view old) (world_view new)
+  pub failures : (world_view new).failures ≡ failures_by r (world_view old).failures
+  pub failed_call : IsFailedCall e r (world_view new).last_fault
+  pub still : CallsNoDevice (durable_number old) e r → world_disk new ≡ world_disk old
   pub kept : KeepsSetting old new
 
 -- what a step says of an event: so it was answered, and the history goes on by it

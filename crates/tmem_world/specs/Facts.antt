@@ -8,15 +8,15 @@ use Rattle.tmem_tree.specs.Plans.{PlanView}
 use Rattle.tmem_tree.specs.StepAnswers.{StepMeanings}
 use Rattle.tmem_tentative.specs.CursorFacts.{StandsIn-prop, IsEndingFor-prop}
 use Rattle.tmem_tentative.specs.declared.cursor.Cursor.{Cursor}
-use Rattle.tmem_world.specs.declared.slot.Slot.{Slot}
-use Rattle.tmem_world.specs.Slots.{FitsOption, FitsSlot}
+use Rattle.tmem_world.specs.declared.attempt.WorldAttempt.{WorldAttempt}
+use Rattle.tmem_world.specs.Attempts.{FitsOption, FitsAttempt}
 
 FitsOption-prop : (vars : ℕ) (arities : List ℕ) (stated : StepMeanings → Type 0) (names : List (List ℕ)) (tested : Meanings → Type 0) (plan : Option PlanView) (cursor : Cursor) → IsProp (FitsOption vars arities stated names tested plan cursor)
 FitsOption-prop vars arities stated names tested None cursor = hlevel
 FitsOption-prop vars arities stated names tested (Some plan) cursor = hlevel (props, StandsIn-prop, IsEndingFor-prop)
 
-pub FitsSlot-prop : (vars : ℕ) (arities : List ℕ) (stated : StepMeanings → Type 0) (names : List (List ℕ)) (tested : Meanings → Type 0) (slot : Slot) → IsProp (FitsSlot vars arities stated names tested slot)
-FitsSlot-prop vars arities stated names tested slot = FitsOption-prop vars arities stated names tested slot.plan slot.cursor
+pub FitsAttempt-prop : (vars : ℕ) (arities : List ℕ) (stated : StepMeanings → Type 0) (names : List (List ℕ)) (tested : Meanings → Type 0) (attempt : WorldAttempt) → IsProp (FitsAttempt vars arities stated names tested attempt)
+FitsAttempt-prop vars arities stated names tested attempt = FitsOption-prop vars arities stated names tested attempt.plan attempt.cursor
 
 pub StaysWithin-prop : (s : State) (es : List Effect) → IsProp (StaysWithin s es)
 StaysWithin-prop s [] = hlevel props

@@ -7,6 +7,6 @@ pub mod Parts
 pub mod Replies
 pub mod Represents
 pub mod Sessions
-pub mod SettleSlot
-pub mod Slots
+pub mod SettleAttempt
+pub mod Attempts
 pub mod WorldModel

@@ -1,8 +1,8 @@
 -- What a world holds: a session, or the device and the table that are left without one.
 use Rattle.std.specs.Prelude.{Option, Some, None, IsSome}
 use Rattle.std.proofs.lemmas.Bool.{false≢true}
-use Rattle.tmem_core.specs.Held.{table_of}
-use Rattle.tmem_journal.specs.Held.{disk_of, layout_of}
+use Rattle.tmem_core.specs.Held.{core_table}
+use Rattle.tmem_journal.specs.Held.{disk_of, journal_layout}
 use Rattle.tmem_record.specs.declared.layout.Layout.{Layout}
 use Rattle.tmem_world.specs.declared.held.Held.{Held}
 use Rattle.tmem_world.specs.declared.held.Held.TheVariants.{With, Without}
@@ -13,18 +13,18 @@ what (Some x) is = x
 what None is = absurd (false≢true is)
 
 -- its device
-abbrev pub disk_in : {D T : Type 0} {d t : _} → Held D T d t → D
-disk_in (With session) = disk_of session.journal
-disk_in (Without left) = left.disk
+abbrev pub held_disk : {D T : Type 0} {d t : _} → Held D T d t → D
+held_disk (With session) = disk_of session.journal
+held_disk (Without left) = left.disk
 
 -- its numbers of variables and log slots
 abbrev pub layout_in : {D T : Type 0} {d t : _} → Held D T d t → Layout
-layout_in (With session) = layout_of session.journal
+layout_in (With session) = journal_layout session.journal
 layout_in (Without left) = left.layout
 
 -- the table of its invariants
 abbrev pub table_in : {D T : Type 0} {d t : _} → Held D T d t → T
-table_in (With session) = table_of session.core
+table_in (With session) = core_table session.core
 table_in (Without left) = left.table
 
 -- a session stands

@@ -9,7 +9,7 @@ use Rattle.tmem_effect.specs.declared.effect.Effect.{Effect}
 use Rattle.tmem_tree.specs.declared.tx.Tx.{Tx}
 use Rattle.tmem_core.specs.Program.{Program}
 use Rattle.tmem_state.specs.declared.version.Version.TheVariants.{Two}
-use Rattle.tmem_journal.specs.Stands.{Position, StandsFor, next_slot, next_image}
+use Rattle.tmem_journal.specs.Contents.{Position, ContentRepresents, next_slot, next_image}
 use Rattle.tmem_tree.specs.Plans.{BreaksNone, IsLeastBroken}
 use Rattle.tmem_tree.specs.Run.{start}
 use Rattle.tmem_tree.specs.Visited.{Ask, Visit, Probe, asks, visited}
@@ -36,10 +36,10 @@ pub record Setting : Type 0 where
 
 -- one caller's attempt: a plan with the values that it has read so far and the number of its tests that were answered, or one that
 -- has ended with all that it read
-pub data SlotModel : Type 0 where
-  NoTransaction : SlotModel
-  Begun : (plan : Tx) → (reads : List (ℕ × ℤ)) → (answered : ℕ) → SlotModel
-  Ended : (plan : Tx) → (reads : List (ℕ × ℤ)) → SlotModel
+pub data AttemptModel : Type 0 where
+  NoTransaction : AttemptModel
+  Begun : (plan : Tx) → (reads : List (ℕ × ℤ)) → (answered : ℕ) → AttemptModel
+  Ended : (plan : Tx) → (reads : List (ℕ × ℤ)) → AttemptModel
 
 pub data SessionStatus : Type 0 where
   Open : SessionStatus
@@ -51,14 +51,14 @@ abbrev pub stands : SessionStatus → Bool
 stands Gone = false
 stands _ = true
 
--- none of the sixteen slots holds one
-unfoldable pub no_transactions : List SlotModel
+-- none of the sixteen attempts has a plan
+unfoldable pub no_transactions : List AttemptModel
 no_transactions = replicate 16 NoTransaction
 
--- A run so far. Its opening found one state, and these plans were accepted since, in this order.
+-- A run so far. Its opening found one state, and these plans were committed since, in this order.
 pub record WorldModel : Type 0 where
   pub opened : State
-  pub accepted : List Tx
+  pub committed : List Tx
   -- how many records are durable; a flush whose outcome is unknown may have made it the doubtful number
   pub durable : ℕ
   pub doubtful : ℕ
@@ -67,35 +67,35 @@ pub record WorldModel : Type 0 where
   -- how many calls of the device have failed
   pub failures : ℕ
   -- sixteen attempts
-  pub slots : List SlotModel
+  pub attempts : List AttemptModel
   pub session : SessionStatus
 
--- the state after those of the accepted transactions whose numbers are below n
+-- the state after those of the committed transactions whose numbers are below n
 abbrev pub cut : Program → WorldModel → ℕ → State
-cut program m n = serial_state program m.opened (take (n - m.opened.count) m.accepted)
+cut program m n = serial_state program m.opened (take (n - m.opened.count) m.committed)
 
--- the state after every accepted transaction
+-- the state after every committed transaction
 abbrev pub present : Program → WorldModel → State
-present program m = serial_state program m.opened m.accepted
+present program m = serial_state program m.opened m.committed
 
 -- where a run begins
 abbrev pub opening : State → Position → ℕ → WorldModel
 opening s position failures = record {
   opened = s;
-  accepted = [];
+  committed = [];
   durable = s.count;
   doubtful = s.count;
   position = position;
   failures = failures;
-  slots = no_transactions;
+  attempts = no_transactions;
   session = Open;
 }
 
-abbrev pub slot_at : WorldModel → ℕ → SlotModel
-slot_at m slot = slice_index_or m.slots slot NoTransaction
+abbrev pub attempt_at : WorldModel → ℕ → AttemptModel
+attempt_at m slot = slice_index_or m.attempts slot NoTransaction
 
-abbrev pub holding : WorldModel → ℕ → SlotModel → WorldModel
-holding m slot a = record m { slots = slice_set m.slots slot a }
+abbrev pub holding : WorldModel → ℕ → AttemptModel → WorldModel
+holding m slot a = record m { attempts = slice_set m.attempts slot a }
 
 -- a plan is begun, or the least broken limit is named; for one that breaks none memory may be wanting
 abbrev pub IsPlanFault : Setting → Tx → Fault → Type 0
@@ -134,7 +134,7 @@ open_in program m plan reads answered =
     first_open reads answered (asks program.steps program.tests plan (start (overridden reads (map_of (present program m)))))
 
 -- a begun plan is run on the present map overridden by its reads; one that has ended stays so
-abbrev pub AllowsTurn : Program → SlotModel → WorldModel → ℕ → Reply → WorldModel → Type 0
+abbrev pub AllowsTurn : Program → AttemptModel → WorldModel → ℕ → Reply → WorldModel → Type 0
 AllowsTurn program NoTransaction m slot r m' = (r ≡ reply.Idle) × (m' ≡ m)
 AllowsTurn program (Ended plan reads) m slot r m' = (r ≡ reply.Ended) × (m' ≡ m)
 AllowsTurn program (Begun plan reads answered) m slot r m' =
@@ -145,14 +145,14 @@ abbrev pub is_closed : SessionStatus → Bool
 is_closed Open = false
 is_closed _ = true
 
--- The run after the answer to a plan that has ended. A refused attempt stays in its slot.
+-- The run after the answer to a plan that has ended. A refused attempt stays.
 abbrev pub settled_by : Result Settled Fault → WorldModel → ℕ → Tx → WorldModel
-settled_by (Ok (Committed number registers)) m slot plan = record (holding m slot NoTransaction) { accepted = m.accepted ++ plan ∷ [] }
+settled_by (Ok (Committed number registers)) m slot plan = record (holding m slot NoTransaction) { committed = m.committed ++ plan ∷ [] }
 settled_by (Ok settled) m slot plan = holding m slot NoTransaction
 settled_by (Err f) m slot plan = m
 
 -- A plan that has ended is answered by its verdict on the present state, while the values that it read are the present ones.
-abbrev pub settle_result : Program → SlotModel → WorldModel → ℕ → Reply × WorldModel
+abbrev pub settle_result : Program → AttemptModel → WorldModel → ℕ → Reply × WorldModel
 settle_result program NoTransaction m slot = (reply.Idle, m)
 settle_result program (Begun plan reads answered) m slot = (reply.Idle, m)
 settle_result program (Ended plan reads) m slot =
@@ -161,14 +161,14 @@ settle_result program (Ended plan reads) m slot =
 
 -- the records that are not durable, the oldest first
 abbrev pub not_durable : Program → WorldModel → List Effect
-not_durable program m = drop (m.durable - m.opened.count) (serial_effects program m.opened m.accepted)
+not_durable program m = drop (m.durable - m.opened.count) (serial_effects program m.opened m.committed)
 
 -- A batch of the oldest records that are not durable reaches this number: it takes the next record exactly while it has
 -- fewer than 64 and the longest record would still fit.
 pub record IsBatchEnd (program : Program) (m : WorldModel) (n : ℕ) : Type 0 where
   pub more : m.durable < n
   pub few : n ≤ m.durable + 64
-  pub accepted : n ≤ (present program m).count
+  pub committed : n ≤ (present program m).count
   pub taken : IsTaken (not_durable program m) (take (n - m.durable) (not_durable program m))
 
 -- A batch is made durable, or the device fails and the session is closed. After an unknown outcome the doubtful number is
@@ -204,7 +204,7 @@ AllowsCheckpoint _ m r m' = (r ≡ reply.Fault fault.Closed) × (m' ≡ m)
 
 -- without a session
 abbrev pub dropped : WorldModel → WorldModel
-dropped m = record m { slots = no_transactions; session = Gone }
+dropped m = record m { attempts = no_transactions; session = Gone }
 
 -- While no call of the device has failed, the device has the image and the log slots that the session knows of.
 abbrev pub KeepsPosition : SessionStatus → Position → Position → Type 0
@@ -213,7 +213,7 @@ KeepsPosition _ known position = ⊤
 
 -- the image and the log of a content, which make this state, are at that position
 abbrev pub IsReadOff : Setting → State → Position → Type 0
-IsReadOff set s position = (content : List ℕ) × StandsFor set.vars set.slots position s content
+IsReadOff set s position = (content : List ℕ) × ContentRepresents set.vars set.slots position s content
 
 -- Opening the device again finds the durable number or the doubtful one, and keeps the transactions below it. Which
 -- image is chosen, and how many log slots are used, is read off the content that the opening leaves. That image is of version 2, since
@@ -221,7 +221,7 @@ IsReadOff set s position = (content : List ℕ) × StandsFor set.vars set.slots 
 abbrev pub AllowsReopen : Setting → WorldModel → Reply → WorldModel → Type 0
 AllowsReopen set m (reply.Opened n) m' =
     ((n ≡ m.durable) ⊎ (n ≡ m.doubtful))
-    × ((position : Position) × KeepsPosition m.session m.position position × (position.version ≡ Two) × IsReadOff set (cut set.program m n) position × (m' ≡ record m { accepted = take (n - m.opened.count) m.accepted; durable = n; doubtful = n; position = position; slots = no_transactions; session = Open }))
+    × ((position : Position) × KeepsPosition m.session m.position position × (position.version ≡ Two) × IsReadOff set (cut set.program m n) position × (m' ≡ record m { committed = take (n - m.opened.count) m.committed; durable = n; doubtful = n; position = position; attempts = no_transactions; session = Open }))
 AllowsReopen set m (reply.Fault fault.Memory) m' = m' ≡ dropped m
 AllowsReopen set m (reply.Fault fault.Device) m' = m' ≡ record (dropped m) { failures = after_fault m.failures }
 AllowsReopen set m _ m' = ⊥
@@ -234,8 +234,8 @@ InSession _ m r m' allowed = allowed
 -- In this run the event may be answered so, and leads to that run.
 abbrev pub Allows : Setting → WorldModel → Event → Reply → WorldModel → Type 0
 Allows set m (event.Begin slot tx) r m' = InSession m.session m r m' (AllowsBegin set m slot tx r m')
-Allows set m (event.Turn slot) r m' = InSession m.session m r m' (AllowsTurn set.program (slot_at m slot) m slot r m')
-Allows set m (event.Settle slot) r m' = InSession m.session m r m' ((r, m') ≡ settle_result set.program (slot_at m slot) m slot)
+Allows set m (event.Turn slot) r m' = InSession m.session m r m' (AllowsTurn set.program (attempt_at m slot) m slot r m')
+Allows set m (event.Settle slot) r m' = InSession m.session m r m' ((r, m') ≡ settle_result set.program (attempt_at m slot) m slot)
 Allows set m event.Flush r m' = InSession m.session m r m' (AllowsFlush set.program set.slots m.session m r m')
 Allows set m event.Checkpoint r m' = InSession m.session m r m' (AllowsCheckpoint m.session m r m')
 Allows set m event.Look r m' = InSession m.session m r m' ((r ≡ reply.Looked m.durable) × (m' ≡ m))

@@ -1,8 +1,8 @@
 // What a world holds between two events.
 ghost use Rattle.std.specs.Prelude.{◌≡◌, ◌≤◌};
 ghost use Rattle.tmem_disk.specs.Disk.{LeavesOnly};
-ghost use Rattle.tmem_journal.specs.Stands.{IsCurrent};
-ghost use Rattle.tmem_record.specs.Layout.{end_place};
+ghost use Rattle.tmem_journal.specs.Contents.{IsCurrent};
+ghost use Rattle.tmem_record.specs.Layout.{end_at};
 
 use crate::session::Session;
 use tmem_disk::Disk;
@@ -15,7 +15,7 @@ pub(crate) struct Left<D: Disk, T: Invariants> {
     pub(crate) disk: D,
     pub(crate) layout: Layout,
     pub(crate) table: T,
-    ghost room: { end_place layout.vars layout.slots ≤ (D.view disk).capacity },
+    ghost room: { end_at layout.vars layout.slots ≤ (D.view disk).capacity },
     ghost over: { T.vars table ≡ layout.vars },
 
     // The session wrote an image of version 2, or found one.
@@ -30,13 +30,13 @@ pub(crate) enum Held<D: Disk, T: Invariants> {
 }
 
 impl<D: Disk + Drop, T: Invariants + Drop> Held<D, T> {
-    ghost use Rattle.tmem_world.specs.Parts.{disk_in, layout_in, table_in};
+    ghost use Rattle.tmem_world.specs.Parts.{held_disk, layout_in, table_in};
 
     /// Ends the session, if one stands, and hands out the device and the table.
     pub(crate) fn into_parts(self) -> (D, T)
-        ensures disk { result.0 ≡ disk_in self }
+        ensures disk { result.0 ≡ held_disk self }
         ensures table { result.1 ≡ table_in self }
-        ensures room { end_place (layout_in self).vars (layout_in self).slots ≤ (D.view result.0).capacity }
+        ensures room { end_at (layout_in self).vars (layout_in self).slots ≤ (D.view result.0).capacity }
         ensures over { T.vars result.1 ≡ (layout_in self).vars }
     {
         match self {

@@ -1,14 +1,14 @@
-// A session: the core, and the journal that makes durable what it accepts.
+// A session: the core, and the journal that makes durable what it commits.
 ghost use Rattle.std.specs.Prelude.{◌≡◌, ◌*◌, ◌+◌, ℕ, Some, length, IfSome, IsErrOf};
 ghost use Rattle.std.proofs.Props.{props};
 ghost use Rattle.tmem_disk.specs.Disk.{IsWriteOrSync};
 ghost use Rattle.tmem_effect.specs.State.{State, StaysWithin, fold};
-ghost use Rattle.tmem_core.specs.Held.{state_of, waiting_of, durable_of, is_shut_of, table_of};
-ghost use Rattle.tmem_journal.specs.Held.{device_of, layout_of, is_closed_of, state_of as durable_state};
+ghost use Rattle.tmem_core.specs.Held.{core_state, waiting_of, durable_of, is_shut_of, core_table};
+ghost use Rattle.tmem_journal.specs.Held.{journal_device, journal_layout, is_closed_of, journal_state};
 ghost use Rattle.tmem_world.specs.Facts.{StaysWithin-prop};
-ghost use Rattle.tmem_record.specs.Layout.{image_place, image_size, slot_place};
+ghost use Rattle.tmem_record.specs.Layout.{image_at, image_size, slot_at};
 
-use crate::slot::Slot;
+use crate::attempt::WorldAttempt;
 use tmem_core::Core;
 use tmem_disk::{DeviceFault, Disk};
 use tmem_event::Reply;
@@ -25,13 +25,13 @@ pub(crate) struct Session<D: Disk, T: Invariants> {
     pub(crate) core: Core<T>,
     pub(crate) journal: Journal<D>,
     pub(crate) batch: Batch,
-    ghost known: { durable_of core ≡ (durable_state journal).count },
+    ghost known: { durable_of core ≡ (journal_state journal).count },
     ghost shut: { is_shut_of core ≡ is_closed_of journal },
-    ghost over: { length (state_of core).values ≡ (layout_of journal).vars },
-    ghost waits: { fold (durable_state journal) (waiting_of core) ≡ state_of core },
+    ghost over: { length (core_state core).values ≡ (journal_layout journal).vars },
+    ghost waits: { fold (journal_state journal) (waiting_of core) ≡ core_state core },
 
     // Each state from the durable one on, as one effect after another is made durable, is within the limits.
-    ghost within: { StaysWithin (durable_state journal) (waiting_of core) } by { Prim.hlevel (props, StaysWithin-prop) },
+    ghost within: { StaysWithin (journal_state journal) (waiting_of core) } by { Prim.hlevel (props, StaysWithin-prop) },
 }
 
 impl<D: Disk, T: Invariants + Drop> Session<D, T> {
@@ -55,26 +55,26 @@ impl<D: Disk, T: Invariants + Drop> Session<D, T> {
         (session, shapes)
     }
 
-    ghost use Rattle.tmem_world.specs.Sessions.{Flushes, Checkpoints, CallsDevice};
+    ghost use Rattle.tmem_world.specs.Sessions.{SessionFlushes, SessionCheckpoints, CallsDevice};
     ghost use Rattle.tmem_world.specs.Replies.{failures_by};
     ghost use Rattle.tmem_tentative.specs.Cursors.{attempt_of};
-    ghost use Rattle.tmem_world.specs.Slots.{HoldsEnded, IsForStore};
-    ghost use Rattle.tmem_world.specs.SettleSlot.{Settles};
+    ghost use Rattle.tmem_world.specs.Attempts.{HoldsEnded, IsForStore};
+    ghost use Rattle.tmem_world.specs.SettleAttempt.{SettlesAttempt};
 
-    /// Settles what a slot holds, which is emptied unless the answer is a refusal.
-    pub(crate) fn settle_slot(&mut self, slot: &mut Slot) -> Reply
-        requires { HoldsEnded slot.old → IsForStore (length (state_of self.old.core).values) (T.names (table_of self.old.core)) (attempt_of slot.old.cursor) }
-        ensures settled { Settles self.old slot.old result self.new slot.new }
+    /// Settles what an attempt holds, which is emptied unless the answer is a refusal.
+    pub(crate) fn settle_attempt(&mut self, held: &mut WorldAttempt) -> Reply
+        requires { HoldsEnded held.old → IsForStore (length (core_state self.old.core).values) (T.names (core_table self.old.core)) (attempt_of held.old.cursor) }
+        ensures settled { SettlesAttempt self.old held.old result self.new held.new }
         ensures failures { (n : ℕ) → failures_by result n ≡ n }
         ensures journal { self.new.journal ≡ self.old.journal }
-        ensures table { table_of self.new.core ≡ table_of self.old.core }
+        ensures table { core_table self.new.core ≡ core_table self.old.core }
     {
-        if !slot.is_ended() {
+        if !held.is_ended() {
             return Reply::Idle;
         }
-        match self.core.settle(slot.cursor.attempt()) {
+        match self.core.settle(held.cursor.attempt()) {
             Ok(settled) => {
-                slot.plan = None;
+                held.plan = None;
                 Reply::Settled(settled)
             }
             Err(fault) => Reply::Fault(fault),
@@ -84,12 +84,12 @@ impl<D: Disk, T: Invariants + Drop> Session<D, T> {
     /// Makes the oldest transactions that wait durable, as long as any record would still fit into the batch, and answers
     /// how many are durable then.
     pub(crate) fn flush(&mut self) -> Result<u64, Fault>
-        ensures flushed { Flushes self.old result self.new }
-        ensures device { CallsDevice (slot_place (layout_of self.old.journal).vars 0) (4096 * (layout_of self.old.journal).slots) self.old result self.new }
+        ensures flushed { SessionFlushes self.old result self.new }
+        ensures device { CallsDevice (slot_at (journal_layout self.old.journal).vars 0) (4096 * (journal_layout self.old.journal).slots) self.old result self.new }
 
         // At `Device` the last call that failed was a write, at `Unknown` a write or a sync.
-        ensures write_failed { IsErrOf result Fault.Device → (device_of self.new.journal).last_fault ≡ Some DeviceFault.Write }
-        ensures gate_failed { IsErrOf result Fault.Unknown → IfSome (device_of self.new.journal).last_fault IsWriteOrSync }
+        ensures write_failed { IsErrOf result Fault.Device → (journal_device self.new.journal).last_fault ≡ Some DeviceFault.Write }
+        ensures gate_failed { IsErrOf result Fault.Unknown → IfSome (journal_device self.new.journal).last_fault IsWriteOrSync }
     {
         if self.core.is_shut() {
             return Err(Fault::Closed);
@@ -113,9 +113,9 @@ impl<D: Disk, T: Invariants + Drop> Session<D, T> {
 
     /// Writes the durable state as the next image, and frees every log slot.
     pub(crate) fn checkpoint(&mut self) -> Result<(), Fault>
-        ensures checkpointed { Checkpoints self.old result self.new }
-        ensures device { CallsDevice (image_place (layout_of self.old.journal).vars 0)
-            (2 * image_size (layout_of self.old.journal).vars + 4096 * (layout_of self.old.journal).slots) self.old result self.new }
+        ensures checkpointed { SessionCheckpoints self.old result self.new }
+        ensures device { CallsDevice (image_at (journal_layout self.old.journal).vars 0)
+            (2 * image_size (journal_layout self.old.journal).vars + 4096 * (journal_layout self.old.journal).slots) self.old result self.new }
     {
         let renewed = self.journal.checkpoint();
         if self.journal.is_closed() {

@@ -7,24 +7,24 @@ ghost use Rattle.tmem_invariants.specs.Meanings.{Meanings};
 ghost use Rattle.tmem_tree.specs.Shapes.{AreMeant as HaveFootprints, AreWithin, names_of};
 ghost use Rattle.tmem_core.specs.Program.{Program, IsProgramOf};
 ghost use Rattle.tmem_gate.specs.Calls.{Uses};
-ghost use Rattle.tmem_journal.specs.Stands.{Position};
+ghost use Rattle.tmem_journal.specs.Contents.{Position};
 ghost use Rattle.tmem_journal.specs.Calls.{FitsOn, fault_alone};
 ghost use Rattle.tmem_opening.specs.Opening.{FindsState, Mending, OpeningRefused, RecoversEither, without_device};
 ghost use Rattle.tmem_world.specs.Parts.{what, layout_in, table_in};
-ghost use Rattle.tmem_world.specs.Slots.{FitsSlot};
-ghost use Rattle.tmem_world.specs.Facts.{FitsSlot-prop};
+ghost use Rattle.tmem_world.specs.Attempts.{FitsAttempt};
+ghost use Rattle.tmem_world.specs.Facts.{FitsAttempt-prop};
 ghost use Rattle.tmem_event.specs.Events.{NamesSlot};
 ghost use Rattle.tmem_world.specs.WorldModel.{WorldModel, opening, present, stands, Run};
 
+use crate::attempt::WorldAttempt;
 use crate::held::{Held, Left};
 use crate::session::Session;
-use crate::slot::Slot;
 use std::alloc::{AllocError, Global};
 use tmem_disk::Disk;
 use tmem_event::{ATTEMPTS, Event, Reply};
 use tmem_fault::{Fault, Name};
 use tmem_invariants::Invariants;
-use tmem_journal::{Layout, refused_stands_for_none, spent_stands_at_last, stands_for_one};
+use tmem_journal::{Layout, refused_represents_none, represents_one, spent_is_at_last};
 use tmem_opening::Opening;
 use tmem_tree::{Plan, Shape, StoredSteps, Tx};
 
@@ -37,15 +37,15 @@ pub struct World<D: Disk, T: Invariants, S: StoredSteps> {
     shapes: Vec<Shape>,
     // a session, or what is left without one: it is away only while the device is opened again
     held: Option<Held<D, T>>,
-    slots: Vec<Slot>,
-    ghost sized: { length slots.items ≡ 16 },
+    attempts: Vec<WorldAttempt>,
+    ghost sized: { length attempts.items ≡ 16 },
     ghost here: { IsSome held },
     ghost same_vars: { (layout_in (what held here)).vars ≡ layout.vars },
     ghost same_slots: { (layout_in (what held here)).slots ≡ layout.slots },
     ghost named: { names_of shapes.items ≡ T.names (table_in (what held here)) },
     ghost meant: { (tests : Meanings) → T.is_stated (table_in (what held here)) tests → HaveFootprints tests shapes.items },
     ghost within: { AreWithin layout.vars shapes.items },
-    ghost fit: { All (FitsSlot layout.vars (S.arities steps) (S.is_stated steps) (names_of shapes.items) (λ tests. HaveFootprints tests shapes.items)) slots.items } by { Prim.hlevel (props, FitsSlot-prop) },
+    ghost fit: { All (FitsAttempt layout.vars (S.arities steps) (S.is_stated steps) (names_of shapes.items) (λ tests. HaveFootprints tests shapes.items)) attempts.items } by { Prim.hlevel (props, FitsAttempt-prop) },
 }
 
 // By hand, so that a function that drops one makes one call.
@@ -57,22 +57,22 @@ impl<D: Disk + Drop, T: Invariants + Drop, S: StoredSteps + Drop> Drop for World
             steps: _steps,
             shapes: _shapes,
             held: _held,
-            slots: _slots,
+            attempts: _attempts,
         } = self;
     }
 }
 
 impl<D: Disk + Drop, T: Invariants + Drop, S: StoredSteps + Drop> World<D, T, S> {
-    ghost use Rattle.tmem_world.specs.Represents.{Represents, AreMeant, Means, IsStep, Plays, EachMoment, WritesInStore, HoldsSession, BeginsAt, KeepsSetting, numbers_of, device_of, view_of, device_after, steps_of, held_table, durable_number};
+    ghost use Rattle.tmem_world.specs.Represents.{Represents, AreMeantBy, Means, IsStep, Plays, EachMoment, WritesInStore, HoldsSession, BeginsAt, KeepsSetting, numbers_of, world_disk, world_view, world_device_after, world_steps, held_table, durable_number};
     ghost use Rattle.tmem_world.specs.AnyDevice.{Reopens, PlaysOnAnyDevice};
     ghost use Rattle.tmem_world.specs.Replies.{failures_by, failures_by_all, CallsNoDevice, IsFailedCall};
-    ghost use Rattle.tmem_world.specs.Chain.{History, IsStore, OpensStore, StepsOn, PlaysOn};
+    ghost use Rattle.tmem_world.specs.Chain.{ChainHistory, IsStore, OpensStore, StepsOn, PlaysOn};
     ghost use Rattle.tmem_world.specs.EachPlayed.{IsAnswered, PlaysEach};
 
-    /// Opens a device of these numbers: finds what its content stands for, and begins a session there, with these
+    /// Opens a device of these numbers: finds what its content represents, and begins a session there, with these
     /// invariants and stored steps. Refused by `Geometry` where the numbers are out of limits, the device is smaller than
     /// their layout, or it was formatted for others; by `NotFormatted` where it lacks the open block 0 with its letters;
-    /// else by `Damaged` where its content stands for no state; by `Missing` with the first registered name, by bytes,
+    /// else by `Damaged` where its content represents no state; by `Missing` with the first registered name, by bytes,
     /// that the table lacks; by `Broken` with the first registered invariant, in the table's order, that is false; by `Spent`
     /// where its image is of format version 1 and of the last generation, so that none of version 2 can follow; by `Memory`,
     /// before the device is touched or where the state that was found is sound; by `Device` where a call of the device failed.
@@ -89,40 +89,40 @@ impl<D: Disk + Drop, T: Invariants + Drop, S: StoredSteps + Drop> World<D, T, S>
     ) -> Result<World<D, T, S>, (Fault, D)>
         requires { T.vars table ≡ vars }
         ensures found { IfOk result (λ w. (s : State) × (position : Position) × ((program : Program) → Means w program → Represents program w (opening s position (D.view disk).failures))
-            × ((view_of w).keeps_model → FindsState vars slots (D.view disk) (view_of w) position s)) }
-        ensures steps { IfOk result (λ w. steps_of w ≡ steps) }
+            × ((world_view w).keeps_model → FindsState vars slots (D.view disk) (world_view w) position s)) }
+        ensures steps { IfOk result (λ w. world_steps w ≡ steps) }
         ensures table { IfOk result (λ w. held_table w ≡ table) }
         ensures fits { IfOk result (λ w. ((numbers_of w).vars ≡ vars) × ((numbers_of w).slots ≡ slots) × HoldsSession w × FitsOn vars slots (D.view disk).capacity) }
-        ensures uses { Uses (D.view disk) (device_after result) (fault_alone result) }
+        ensures uses { Uses (D.view disk) (world_device_after result) (fault_alone result) }
         ensures refused { IfErr result (λ e. OpeningRefused (IsProgramOf T.Invariants table) vars slots (D.view disk) e.0 (D.view e.1)) }
 
         // Where every crash left one of two states, and both are sound, one of them is found, unless memory or the device
         // fails, or no image of version 2 can follow.
-        ensures recovers { RecoversEither (BeginsAt (D.view disk).failures) (AreMeant S.StoredSteps T.Invariants steps table) vars slots (D.view disk) (device_after result) (without_device result) }
+        ensures recovers { RecoversEither (BeginsAt (D.view disk).failures) (AreMeantBy S.StoredSteps T.Invariants steps table) vars slots (D.view disk) (world_device_after result) (without_device result) }
 
         // Gates behind the log may be closed, and an image of version 2 be written where that which is found is of version 1.
         // Nothing else is written, whatever the answer.
-        ensures mends { Mending vars slots (D.view disk) (device_after result) }
+        ensures mends { Mending vars slots (D.view disk) (world_device_after result) }
 
         // A store is opened with its history: what is found is the state after a prefix of it that has every acknowledged
         // transaction, and that state is sound, unless memory or the device fails, or no image of version 2 can follow. The
         // world begins the next session of the
         // history's chain there. A crash at any moment leaves what is safe for the same history.
-        ensures chain { (program : Program) (h : History) → AreMeant S.StoredSteps T.Invariants steps table program
-            → IsStore program vars slots h (D.view disk) → (device_after result).keeps_model → OpensStore program vars slots h (D.view disk) result }
+        ensures chain { (program : Program) (h : ChainHistory) → AreMeantBy S.StoredSteps T.Invariants steps table program
+            → IsStore program vars slots h (D.view disk) → (world_device_after result).keeps_model → OpensStore program vars slots h (D.view disk) result }
 
         // Where the numbers do not fit the device, no call of it is made: the one that was handed in is handed back.
         ensures untouched { ¬ FitsOn vars slots (D.view disk).capacity → IfErr result (λ e. e.1 ≡ disk) }
     {
         // what is found on a store is a state of its history, and that is not refused
-        stands_for_one();
-        refused_stands_for_none();
+        represents_one();
+        refused_represents_none();
         let opening = match Opening::open(alloc, disk, vars, slots, table) {
             Ok(opening) => opening,
             Err((fault, disk, _)) => return Err((fault, disk)),
         };
-        let slots = match empty_slots(alloc) {
-            Ok(slots) => slots,
+        let attempts = match empty_attempts(alloc) {
+            Ok(attempts) => attempts,
             Err(_) => return Err((Fault::Memory, opening.into_disk())),
         };
         let (session, shapes) = Session::begin(opening);
@@ -132,7 +132,7 @@ impl<D: Disk + Drop, T: Invariants + Drop, S: StoredSteps + Drop> World<D, T, S>
             steps,
             shapes,
             held: Some(Held::With(session)),
-            slots,
+            attempts,
         })
     }
 
@@ -145,15 +145,15 @@ impl<D: Disk + Drop, T: Invariants + Drop, S: StoredSteps + Drop> World<D, T, S>
         // A crash at any moment of the event leaves the serial order, cut as before the event or as after it. Block 0 is not
         // written, nor anything behind the log.
         ensures any_moment { EachMoment self.old self.new }
-        ensures elsewhere { WritesInStore (numbers_of self.old) (view_of self.old) (view_of self.new) }
+        ensures elsewhere { WritesInStore (numbers_of self.old) (world_view self.old) (world_view self.new) }
 
         // The history of a chain of sessions goes on by the event, and a crash at any moment of it leaves what is safe for the
         // history before it, or for the one after it.
         ensures chain { StepsOn self.old event result self.new }
 
-        ensures failures { (view_of self.new).failures ≡ failures_by result (view_of self.old).failures }
-        ensures failed_call { IsFailedCall event result (view_of self.new).last_fault }
-        ensures still { CallsNoDevice (durable_number self.old) event result → device_of self.new ≡ device_of self.old }
+        ensures failures { (world_view self.new).failures ≡ failures_by result (world_view self.old).failures }
+        ensures failed_call { IsFailedCall event result (world_view self.new).last_fault }
+        ensures still { CallsNoDevice (durable_number self.old) event result → world_disk self.new ≡ world_disk self.old }
         ensures kept { KeepsSetting self.old self.new }
     {
         match event {
@@ -176,8 +176,8 @@ impl<D: Disk + Drop, T: Invariants + Drop, S: StoredSteps + Drop> World<D, T, S>
         ensures run { IfOk result (λ replies. Plays self.old events.items replies.items self.new) }
         ensures any_device { IfOk result (λ replies. PlaysOnAnyDevice self.old events.items replies.items self.new) }
         ensures chain { IfOk result (λ replies. PlaysOn self.old events.items replies.items self.new) }
-        ensures elsewhere { WritesInStore (numbers_of self.old) (view_of self.old) (view_of self.new) }
-        ensures failures { IfOk result (λ replies. (view_of self.new).failures ≡ failures_by_all replies.items (view_of self.old).failures) }
+        ensures elsewhere { WritesInStore (numbers_of self.old) (world_view self.old) (world_view self.new) }
+        ensures failures { IfOk result (λ replies. (world_view self.new).failures ≡ failures_by_all replies.items (world_view self.old).failures) }
         ensures kept { KeepsSetting self.old self.new }
         ensures err { IfErr result (λ f. (f ≡ Fault.Memory) × (self.new ≡ self.old)) }
     {
@@ -197,7 +197,7 @@ impl<D: Disk + Drop, T: Invariants + Drop, S: StoredSteps + Drop> World<D, T, S>
         matches!(&self.held, Some(Held::With(_)))
     }
 
-    /// How many transactions were accepted. A session stands.
+    /// How many transactions were committed. A session stands.
     pub fn count(&self) -> u64
         requires { HoldsSession self.now }
         ensures { (program : Program) (m : WorldModel) → Represents program self.now m → result ≡ (present program m).count }
@@ -208,7 +208,7 @@ impl<D: Disk + Drop, T: Invariants + Drop, S: StoredSteps + Drop> World<D, T, S>
         }
     }
 
-    /// The value of a variable after every accepted transaction. A session stands, and the variable is one of the store's.
+    /// The value of a variable after every committed transaction. A session stands, and the variable is one of the store's.
     pub fn value(&self, var: u16) -> i64
         requires open { HoldsSession self.now }
         requires var { var < (numbers_of self.now).vars }
@@ -233,7 +233,7 @@ impl<D: Disk + Drop, T: Invariants + Drop, S: StoredSteps + Drop> World<D, T, S>
 
     /// The device.
     pub fn into_disk(self) -> D
-        ensures { result ≡ device_of self }
+        ensures { result ≡ world_disk self }
     {
         let World {
             alloc: _alloc,
@@ -241,7 +241,7 @@ impl<D: Disk + Drop, T: Invariants + Drop, S: StoredSteps + Drop> World<D, T, S>
             steps: _steps,
             shapes: _shapes,
             held,
-            slots: _slots,
+            attempts: _attempts,
         } = self;
         held.unwrap().into_parts().0
     }
@@ -258,7 +258,7 @@ impl<D: Disk + Drop, T: Invariants + Drop, S: StoredSteps + Drop> World<D, T, S>
             Ok(plan) => plan,
             Err(fault) => return Reply::Fault(fault),
         };
-        match self.slots[slot as usize].begin(plan) {
+        match self.attempts[slot as usize].begin(plan) {
             Ok(()) => Reply::Begun,
             Err(fault) => Reply::Fault(fault),
         }
@@ -271,7 +271,7 @@ impl<D: Disk + Drop, T: Invariants + Drop, S: StoredSteps + Drop> World<D, T, S>
     {
         match &self.held {
             Some(Held::With(session)) => {
-                self.slots[slot as usize].turn(&self.steps, &session.core)
+                self.attempts[slot as usize].turn(&self.steps, &session.core)
             }
             _ => Reply::Fault(Fault::Closed),
         }
@@ -283,7 +283,7 @@ impl<D: Disk + Drop, T: Invariants + Drop, S: StoredSteps + Drop> World<D, T, S>
         ensures { IsAnswered self.old (Event.Settle slot) result self.new }
     {
         match &mut self.held {
-            Some(Held::With(session)) => session.settle_slot(&mut self.slots[slot as usize]),
+            Some(Held::With(session)) => session.settle_attempt(&mut self.attempts[slot as usize]),
             _ => Reply::Fault(Fault::Closed),
         }
     }
@@ -324,13 +324,13 @@ impl<D: Disk + Drop, T: Invariants + Drop, S: StoredSteps + Drop> World<D, T, S>
         }
     }
 
-    // Drops the session and what the slots hold, and opens the device again.
+    // Drops the session and what the attempts hold, and opens the device again.
     fn reopen(&mut self) -> Reply
         ensures { IsAnswered self.old Event.Reopen result self.new }
     {
-        stands_for_one();
-        spent_stands_at_last();
-        clear(&mut self.slots);
+        represents_one();
+        spent_is_at_last();
+        clear(&mut self.attempts);
         let layout = self.layout;
         let (disk, table) = self.held.take().unwrap().into_parts();
         match Opening::open(self.alloc, disk, layout.vars, layout.slots, table) {
@@ -353,24 +353,24 @@ impl<D: Disk + Drop, T: Invariants + Drop, S: StoredSteps + Drop> World<D, T, S>
     }
 }
 
-// Slots that hold nothing.
-fn empty_slots(alloc: Global) -> Result<Vec<Slot>, AllocError>
-    ensures emptied { IfOk result (λ slots. All (λ slot. slot.plan ≡ None) slots.items) }
-    ensures len { IfOk result (λ slots. length slots.items ≡ 16) }
+// Attempts that hold nothing.
+fn empty_attempts(alloc: Global) -> Result<Vec<WorldAttempt>, AllocError>
+    ensures emptied { IfOk result (λ attempts. All (λ attempt. attempt.plan ≡ None) attempts.items) }
+    ensures len { IfOk result (λ attempts. length attempts.items ≡ 16) }
 {
-    let mut slots = Vec::with_capacity(alloc, ATTEMPTS)?;
+    let mut attempts = Vec::with_capacity(alloc, ATTEMPTS)?;
     for _ in 0..ATTEMPTS {
-        slots.push(Slot::new(alloc))?;
+        attempts.push(WorldAttempt::new(alloc))?;
     }
-    Ok(slots)
+    Ok(attempts)
 }
 
-// Empties each slot, which keeps its memory.
-fn clear(slots: &mut Vec<Slot>)
-    ensures emptied { All (λ slot. slot.plan ≡ None) slots.new.items }
-    ensures len { length slots.new.items ≡ length slots.old.items }
+// Empties each attempt, which keeps its memory.
+fn clear(attempts: &mut Vec<WorldAttempt>)
+    ensures emptied { All (λ attempt. attempt.plan ≡ None) attempts.new.items }
+    ensures len { length attempts.new.items ≡ length attempts.old.items }
 {
-    for slot in slots.iter_mut() {
-        slot.plan = None;
+    for attempt in attempts.iter_mut() {
+        attempt.plan = None;
     }
 }

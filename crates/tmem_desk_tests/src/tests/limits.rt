@@ -41,7 +41,7 @@ fn one_more_is_kept_than_may(rt: HostRuntime) -> Result<(), Fail> {
     serve_text(&rt, alloc, piece, wanted)
 }
 
-// 256 are accepted that are not durable, so that the last one meets no room
+// 256 are committed that are not durable, so that the last one meets no room
 #[test]
 fn more_is_settled_in_one_piece_than_may_be_undurable(rt: HostRuntime) -> Result<(), Fail> {
     commit_all(&rt, rt.alloc(), r#""settle":{"writes":[[2,7]]}"#)

@@ -1,8 +1,9 @@
 //! A served store in memory, and what it prints.
 ghost use Rattle.std.specs.Prelude.{◌≡◌, ◌∷◌, [], length};
 ghost use Rattle.std.specs.List.{list_any};
-ghost use Rattle.tmem_front.specs.Held.{found_of, spine_of, steps_of, table_of};
-ghost use Rattle.tmem_desk_tests.specs.Examples.{solvent, has_no_negative, is_negative};
+ghost use Rattle.tmem_front.specs.Held.{front_found, spine_of, front_steps, front_table};
+ghost use Rattle.tmem_builtins.specs.Invariants.{has_no_negative, is_negative};
+ghost use Rattle.tmem_desk_tests.specs.Examples.{solvent};
 
 use std::alloc::Global;
 use std::marker::Brand;
@@ -68,7 +69,7 @@ pub(super) fn serve_case<R: Wait>(rt: &R, alloc: Global, case: &Case) -> Result<
     )?;
     let invariant = Invariant::new(Name::new("solvent")?, vec![in alloc; 0, 1]?, test)?;
     let table = Table::of(alloc, vec![in alloc; invariant]?, VARS)?;
-    serve_with(rt, alloc, case, table, stored_steps())
+    serve_new_store(rt, alloc, case, table, stored_steps())
 }
 
 // Whether a value is below zero.
@@ -79,7 +80,7 @@ fn has_negative(values: &[i64]) -> bool
 }
 
 // The same with this table and these steps.
-fn serve_with<R: Wait, T: Invariants + Drop, S: StoredSteps + Drop>(
+fn serve_new_store<R: Wait, T: Invariants + Drop, S: StoredSteps + Drop>(
     rt: &R,
     alloc: Global,
     case: &Case,
@@ -112,13 +113,13 @@ fn serve_named<N: ServedNaming, T: Invariants + Drop, S: StoredSteps + Drop, R: 
     opened: OpenedFront<SimDisk, T, S>,
 ) -> Result<Vec<u8>, Fault>
     requires spine { spine_of opened ≡ N.name }
-    requires opening { found_of opened ≡ N.opening }
+    requires opening { front_found opened ≡ N.opening }
     requires program { N.program ≡ solvent }
-    requires values { length (found_of opened).values ≡ VARS }
-    requires names { T.names (table_of opened) ≡ solvent.names }
-    requires stated { T.is_stated (table_of opened) solvent.tests }
-    requires steps { S.is_stated (steps_of opened) solvent.steps }
-    requires arities { S.arities (steps_of opened) ≡ N.arities }
+    requires values { length (front_found opened).values ≡ VARS }
+    requires names { T.names (front_table opened) ≡ solvent.names }
+    requires stated { T.is_stated (front_table opened) solvent.tests }
+    requires steps { S.is_stated (front_steps opened) solvent.steps }
+    requires arities { S.arities (front_steps opened) ≡ N.arities }
     requires always { N.always ≡ [] }
 {
     let front = opened.named::<N>();

@@ -42,15 +42,15 @@ pub(super) enum Act<'a> {
     FailRead(u64),
     FailWrite(u64),
     FailSync(u64),
-    /// Arms a stop, at a write or a sync by its number from now, or at a write by the place where it starts.
+    /// Arms a crash, at a write or a sync by its number from now, or at a write by the place where it starts.
     StopAtWrite(u64, Fill),
     StopAtSync(u64, Fill),
     StopAtPlace(u64, Fill),
-    /// Stops it now.
+    /// Crashes it now.
     StopNow(Fill),
-    /// It stands at a stop.
-    IsStopped,
-    /// It stands at a stop, and is started again.
+    /// It has crashed.
+    IsCrashed,
+    /// It has crashed, and is started again.
     Restarts,
     /// Counts its calls anew.
     CountsAnew,
@@ -448,7 +448,7 @@ fn is_so_of_counting(disk: &mut Device, act: &Act) -> bool {
     }
 }
 
-/// Whether it fails and stops so.
+/// Whether it fails and crashes so.
 fn is_so_of_power(disk: &mut SimDisk, act: &Act) -> bool {
     match act {
         Act::FailRead(k) => disk.fail_read(*k),
@@ -458,9 +458,9 @@ fn is_so_of_power(disk: &mut SimDisk, act: &Act) -> bool {
         Act::StopAtSync(k, fill) => disk.stop_at_sync(*k, *fill),
         Act::StopAtPlace(at, fill) => disk.stop_at_place(*at, *fill),
         Act::StopNow(fill) => disk.stop_now(*fill),
-        Act::IsStopped => return disk.is_stopped(),
+        Act::IsCrashed => return disk.is_crashed(),
         Act::Restarts => {
-            if !disk.is_stopped() {
+            if !disk.is_crashed() {
                 return false;
             }
             disk.restart();

@@ -1,6 +1,6 @@
-//! A device in memory: what is read, whose calls fail, and what a stop leaves.
+//! A device in memory: what is read, whose calls fail, and what a crash leaves.
 use super::acts::Act::{
-    Case, FailRead, FailSync, FailWrite, IsStopped, Made, Makes, ReadFails, Reads, Restarts, Row,
+    Case, FailRead, FailSync, FailWrite, IsCrashed, Made, Makes, ReadFails, Reads, Restarts, Row,
     Size, StopAtPlace, StopAtSync, StopAtWrite, StopNow, SyncFails, Syncs, WriteFails, Writes,
 };
 use super::acts::{Act, play};
@@ -44,7 +44,7 @@ static CONTENTS: &[Act<'static>] = &[
 ];
 
 #[test]
-fn a_read_gives_what_was_written_and_a_stop_leaves_what_was_synced(
+fn a_read_gives_what_was_written_and_a_crash_leaves_what_was_synced(
     rt: HostRuntime,
 ) -> Result<(), Fail> {
     play(&rt, rt.alloc(), CONTENTS)
@@ -120,51 +120,51 @@ fn a_call_that_is_armed_fails_once(rt: HostRuntime) -> Result<(), Fail> {
     play(&rt, rt.alloc(), FAILURES)
 }
 
-static STOPS: &[Act<'static>] = &[
-    Case("a device that is stopped now, with the bytes of the last sync, fails until its restart"),
+static CRASHES: &[Act<'static>] = &[
+    Case("a device that crashes now, with the bytes of the last sync, fails until its restart"),
     Makes(4),
     Writes(0, &[1, 2]),
     Syncs,
     Writes(0, &[3]),
     StopNow(Old),
     Row,
-    IsStopped,
+    IsCrashed,
     ReadFails(0, 4),
     WriteFails(2, &[7, 7]),
     SyncFails,
-    IsStopped,
+    IsCrashed,
     Restarts,
     Reads(0, &[1, 2, 0, 0]),
-    Case("a device that is stopped now, with what was written, fails until its restart"),
+    Case("a device that crashes now, with what was written, fails until its restart"),
     Makes(4),
     Writes(0, &[1, 2]),
     Syncs,
     Writes(0, &[3]),
     StopNow(New),
     Row,
-    IsStopped,
+    IsCrashed,
     ReadFails(0, 4),
     WriteFails(2, &[7, 7]),
     SyncFails,
-    IsStopped,
+    IsCrashed,
     Restarts,
     Reads(0, &[3, 2, 0, 0]),
-    Case("a device that is stopped now, with a byte, fails until its restart"),
+    Case("a device that crashes now, with a byte, fails until its restart"),
     Makes(4),
     Writes(0, &[1, 2]),
     Syncs,
     Writes(0, &[3]),
     StopNow(Byte(9)),
     Row,
-    IsStopped,
+    IsCrashed,
     ReadFails(0, 4),
     WriteFails(2, &[7, 7]),
     SyncFails,
-    IsStopped,
+    IsCrashed,
     Restarts,
     Reads(0, &[9, 2, 0, 0]),
-    // so does a sync that fails, with a stop behind it
-    Case("a stop at a sync leaves what was written before to the fill"),
+    // so does a sync that fails, with a crash behind it
+    Case("a crash at a sync leaves what was written before to the fill"),
     Makes(4),
     Row,
     StopAtSync(1, Old),
@@ -172,7 +172,7 @@ static STOPS: &[Act<'static>] = &[
     Syncs,
     Writes(1, &[5]),
     SyncFails,
-    IsStopped,
+    IsCrashed,
     Restarts,
     Reads(0, &[1, 2, 0, 0]),
     Row,
@@ -181,7 +181,7 @@ static STOPS: &[Act<'static>] = &[
     Syncs,
     Writes(1, &[5]),
     SyncFails,
-    IsStopped,
+    IsCrashed,
     Restarts,
     Reads(0, &[1, 5, 0, 0]),
     Row,
@@ -190,10 +190,10 @@ static STOPS: &[Act<'static>] = &[
     Syncs,
     Writes(1, &[5]),
     SyncFails,
-    IsStopped,
+    IsCrashed,
     Restarts,
     Reads(0, &[1, 9, 0, 0]),
-    Case("what is armed waits at a stop, which wins over a failure"),
+    Case("what is armed waits at a crash, which wins over a failure"),
     Makes(4),
     FailWrite(2),
     FailWrite(1),
@@ -201,10 +201,10 @@ static STOPS: &[Act<'static>] = &[
     Row,
     Writes(0, &[1]),
     WriteFails(1, &[2]),
-    IsStopped,
+    IsCrashed,
     FailRead(0),
     ReadFails(0, 4),
-    IsStopped,
+    IsCrashed,
     Restarts,
     ReadFails(0, 4),
     Reads(0, &[1, 2, 0, 0]),
@@ -213,13 +213,13 @@ static STOPS: &[Act<'static>] = &[
 ];
 
 #[test]
-fn a_stopped_device_fails_until_its_restart(rt: HostRuntime) -> Result<(), Fail> {
-    play(&rt, rt.alloc(), STOPS)
+fn a_crashed_device_fails_until_its_restart(rt: HostRuntime) -> Result<(), Fail> {
+    play(&rt, rt.alloc(), CRASHES)
 }
 
 static PLACES: &[Act<'static>] = &[
     // one that covers the place, one before it and one behind it; and it is met once
-    Case("only a write that starts at the place meets its stop"),
+    Case("only a write that starts at the place meets its crash"),
     Makes(4),
     Row,
     StopAtPlace(2, Old),
@@ -229,7 +229,7 @@ static PLACES: &[Act<'static>] = &[
     Syncs,
     Writes(0, &[7]),
     WriteFails(2, &[8]),
-    IsStopped,
+    IsCrashed,
     Restarts,
     Reads(0, &[1, 5, 5, 6]),
     Writes(2, &[8]),
@@ -241,7 +241,7 @@ static PLACES: &[Act<'static>] = &[
     Syncs,
     Writes(0, &[7]),
     WriteFails(2, &[8]),
-    IsStopped,
+    IsCrashed,
     Restarts,
     Reads(0, &[7, 5, 8, 6]),
     Writes(2, &[8]),
@@ -253,11 +253,11 @@ static PLACES: &[Act<'static>] = &[
     Syncs,
     Writes(0, &[7]),
     WriteFails(2, &[8]),
-    IsStopped,
+    IsCrashed,
     Restarts,
     Reads(0, &[9, 5, 9, 6]),
     Writes(2, &[8]),
-    Case("a stop at a place takes the place of an armed one, and waits at a stop"),
+    Case("a crash at a place takes the place of an armed one, and waits at a crash"),
     Makes(4),
     StopAtWrite(0, New),
     StopAtPlace(1, New),
@@ -265,16 +265,16 @@ static PLACES: &[Act<'static>] = &[
     Writes(0, &[1]),
     StopNow(New),
     WriteFails(1, &[2]),
-    IsStopped,
+    IsCrashed,
     Restarts,
     Reads(0, &[1, 0, 0, 0]),
     WriteFails(1, &[2]),
-    IsStopped,
+    IsCrashed,
     Restarts,
     Reads(0, &[1, 2, 0, 0]),
 ];
 
 #[test]
-fn a_stop_is_met_at_its_place(rt: HostRuntime) -> Result<(), Fail> {
+fn a_crash_is_met_at_its_place(rt: HostRuntime) -> Result<(), Fail> {
     play(&rt, rt.alloc(), PLACES)
 }

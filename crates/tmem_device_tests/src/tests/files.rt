@@ -9,7 +9,7 @@ use std::{env, fs};
 use tmem_fault::Fault;
 use tmem_file::{FileDisk, NewFile};
 
-const SIZE: u64 = 10_000;
+const FILE_BYTES: u64 = 10_000;
 
 /// The path of a folder of this number in the system's folder for such files.
 fn numbered_folder(rt: &HostRuntime, number: u16) -> Result<PathBuf, Fail> {
@@ -55,18 +55,18 @@ fn stand(rt: &HostRuntime, folder: &str, count: u64, path: &str, is_there: bool)
     files_in(rt, folder) == Some(count) && fs::exists(rt, path).ok() == Some(is_there)
 }
 
-/// What is done to a file that is new, to the same once it is placed, and to it in another opening; and to one of no byte.
+/// What is done to a file that is new, to the same once it is named, and to it in another opening; and to one of no byte.
 const NEW: &[Act<'static>] = &[
-    Size(SIZE),
+    Size(FILE_BYTES),
     Reads(9994, &[0, 0, 0, 0, 0, 0]),
     Writes(4094, b"abcd"),
     Syncs,
 ];
 
-const PLACED: &[Act<'static>] = &[Writes(0, b"xy"), Syncs];
+const NAMED: &[Act<'static>] = &[Writes(0, b"xy"), Syncs];
 
 const AGAIN: &[Act<'static>] = &[
-    Size(SIZE),
+    Size(FILE_BYTES),
     Reads(4093, b"\0abcd\0"),
     Reads(0, b"xy\0\0\0\0"),
 ];
@@ -75,7 +75,7 @@ const IN_PART: &[Act<'static>] = &[Size(4096), Reads(4093, b"\0ab")];
 
 const EMPTY: &[Act<'static>] = &[Size(0)];
 
-/// Whether another file may be made beside a new one, until that is placed.
+/// Whether another file may be made beside a new one, until that is named.
 fn another_is_made(rt: &HostRuntime, folder: &str, path: &str) -> Result<bool, Fault> {
     let other = NewFile::create(rt, path, 1)?;
     let is_so = stand(rt, folder, 2, path, false);
@@ -87,8 +87,8 @@ fn is_new(rt: &HostRuntime, folder: &str, path: &str, disk: &mut FileDisk) -> Re
     Ok(are_so(rt.alloc(), disk, NEW)? && another_is_made(rt, folder, path)?)
 }
 
-/// Whether a file is placed alone in the folder, and nobody else opens it while it is open.
-fn is_placed(
+/// Whether a file is named alone in the folder, and nobody else opens it while it is open.
+fn has_its_name(
     rt: &HostRuntime,
     folder: &str,
     path: &str,
@@ -97,16 +97,16 @@ fn is_placed(
     Ok(
         stand(rt, folder, 1, path, true)
             && is_refused(rt, path, false)
-            && are_so(rt.alloc(), disk, PLACED)?,
+            && are_so(rt.alloc(), disk, NAMED)?,
     )
 }
 
 /// Makes a file and places it: whether it is as it should be before and behind.
-fn is_made_and_placed(rt: &HostRuntime, folder: &str, path: &str) -> Result<bool, Fault> {
-    let mut new = NewFile::create(rt, path, SIZE)?;
+fn is_made_and_named(rt: &HostRuntime, folder: &str, path: &str) -> Result<bool, Fault> {
+    let mut new = NewFile::create(rt, path, FILE_BYTES)?;
     let was_new = is_new(rt, folder, path, &mut new.disk);
-    let mut disk = new.place(rt)?;
-    Ok(was_new? && is_placed(rt, folder, path, &mut disk)?)
+    let mut disk = new.give_name(rt)?;
+    Ok(was_new? && has_its_name(rt, folder, path, &mut disk)?)
 }
 
 /// Whether a file is opened with so many bytes at most, and answers these acts so.
@@ -118,8 +118,8 @@ fn is_opened(rt: &HostRuntime, path: &str, most: u64, acts: &[Act]) -> Result<bo
 /// The same, and whether the next openings find it, and the first bytes of it alone where no more are asked for.
 fn is_found_again(rt: &HostRuntime, folder: &str, path: &str) -> Result<bool, Fault> {
     Ok(
-        is_made_and_placed(rt, folder, path)?
-            && is_opened(rt, path, SIZE, AGAIN)?
+        is_made_and_named(rt, folder, path)?
+            && is_opened(rt, path, FILE_BYTES, AGAIN)?
             && is_opened(rt, path, u64::MAX, AGAIN)?
             && is_opened(rt, path, 4096, IN_PART)?,
     )
@@ -129,7 +129,7 @@ fn is_found_again(rt: &HostRuntime, folder: &str, path: &str) -> Result<bool, Fa
 fn is_refused(rt: &HostRuntime, path: &str, is_made: bool) -> bool {
     let refused = Some(Fault::Device);
     FileDisk::open(rt, path, u64::MAX).err() == refused
-        && (!is_made || NewFile::create(rt, path, SIZE).err() == refused)
+        && (!is_made || NewFile::create(rt, path, FILE_BYTES).err() == refused)
 }
 
 /// Whether what is no file is refused, and so is a missing file, by this name in a folder.
@@ -151,21 +151,21 @@ fn is_empty_alone_opened(rt: &HostRuntime, folder: &str, path: &PathBuf) -> Resu
     Ok(
         are_refused(rt, folder, path)?
             && fs::write(rt, path.as_str(), "".as_bytes()).is_ok()
-            && is_opened(rt, path.as_str(), SIZE, EMPTY)?,
+            && is_opened(rt, path.as_str(), FILE_BYTES, EMPTY)?,
     )
 }
 
 /// Whether no file is made under a name that another file takes.
 fn is_taken(rt: &HostRuntime, path: &str) -> bool {
     fs::write(rt, path, b"kept".as_slice()).is_ok()
-        && NewFile::create(rt, path, SIZE).err() == Some(Fault::Device)
+        && NewFile::create(rt, path, FILE_BYTES).err() == Some(Fault::Device)
 }
 
-/// Whether a name is taken before a new file is placed, which is refused then.
+/// Whether a name is taken before a new file is named, which is refused then.
 fn is_late(rt: &HostRuntime, path: &str) -> Result<bool, Fault> {
-    let late = NewFile::create(rt, path, SIZE)?;
+    let late = NewFile::create(rt, path, FILE_BYTES)?;
     let is_taken = is_taken(rt, path);
-    Ok(late.place(rt).err() == Some(Fault::Device) && is_taken)
+    Ok(late.give_name(rt).err() == Some(Fault::Device) && is_taken)
 }
 
 /// Whether what took the name has kept it, alone.
@@ -204,7 +204,7 @@ fn is_well_done_anew(rt: &HostRuntime, doing: Doing) -> Result<bool, Fail> {
 }
 
 #[test]
-fn a_placed_file_is_read_by_the_next_opening(rt: HostRuntime) -> Result<(), Fail> {
+fn a_named_file_is_read_by_the_next_opening(rt: HostRuntime) -> Result<(), Fail> {
     assert!(rt; is_well_done_anew(&rt, Doing::Places)?);
     Ok(())
 }

@@ -1,7 +1,7 @@
 //! Batches that tests flush.
 ghost use Rattle.std.specs.Bool.{OnTrue};
 ghost use Rattle.std.specs.Prelude.{◌≡◌, ◌<◌, [], ◌∷◌, All};
-ghost use Rattle.tmem_journal.specs.Held.{layout_of, state_of};
+ghost use Rattle.tmem_journal.specs.Held.{journal_layout, journal_state};
 ghost use Rattle.tmem_effect.specs.State.{AreApart, StaysWithin};
 
 use std::alloc::Global;
@@ -79,7 +79,7 @@ fn flush<D: Disk>(alloc: Global, journal: &mut Journal<D>, effect: &Effect) -> R
 
 /// Whether a journal stays within the limits with this effect.
 fn has_room<D: Disk>(journal: &Journal<D>, effect: &Effect) -> bool
-    ensures { OnTrue result (StaysWithin (state_of journal.now) (effect.now ∷ [])) }
+    ensures { OnTrue result (StaysWithin (journal_state journal.now) (effect.now ∷ [])) }
 {
     let state = journal.state();
     // brings in that there are not too many names
@@ -91,7 +91,7 @@ fn has_room<D: Disk>(journal: &Journal<D>, effect: &Effect) -> bool
 fn has_room_for_two<D: Disk>(journal: &Journal<D>, first: &Effect, second: &Effect) -> bool
     requires first { (first.now.names ≡ []) × (first.now.retired ≡ []) }
     requires second { (second.now.names ≡ []) × (second.now.retired ≡ []) }
-    ensures { OnTrue result (StaysWithin (state_of journal.now) (first.now ∷ second.now ∷ [])) }
+    ensures { OnTrue result (StaysWithin (journal_state journal.now) (first.now ∷ second.now ∷ [])) }
 {
     let state = journal.state();
     // brings in that there are not too many names
@@ -101,7 +101,7 @@ fn has_room_for_two<D: Disk>(journal: &Journal<D>, first: &Effect, second: &Effe
 
 /// Whether an effect is over the variables of a journal.
 fn is_within<D: Disk>(journal: &Journal<D>, effect: &Effect) -> bool
-    ensures { OnTrue result (All (λ w. w.0 < (layout_of journal.now).vars) effect.now.writes) }
+    ensures { OnTrue result (All (λ w. w.0 < (journal_layout journal.now).vars) effect.now.writes) }
 {
     let vars = journal.layout().vars;
     effect.writes.as_slice().iter().all(|w| w.0 < vars)

@@ -1,4 +1,4 @@
-//! Images by themselves: what is written to one copy, chosen and read again, and what a stop leaves.
+//! Images by themselves: what is written to one copy, chosen and read again, and what a crash leaves.
 //!
 //! A device of 14848 bytes has room for 70 variables and two slots. Once it is formatted, copy 0 of the image, which begins at
 //! 512, has generation 1, and copy 1 is closed.
@@ -48,9 +48,9 @@ fn the_greater_open_image_is_chosen(rt: HostRuntime) -> Result<(), Fail> {
     play(&rt, rt.alloc(), IMAGES)
 }
 
-static STOPS: &[Act<'static>] = &[
+static CRASHES: &[Act<'static>] = &[
     // the two pages, and the header
-    Case("a stop before the gate leaves the old image"),
+    Case("a crash before the gate leaves the old image"),
     Makes(14848),
     Formats(70, 2, Ok(())),
     Row,
@@ -113,7 +113,7 @@ static STOPS: &[Act<'static>] = &[
     Puts(1, 2, Err("device")),
     Restarts,
     Chooses(Ok(0)),
-    Case("a stop at the gate leaves the old image or the new one"),
+    Case("a crash at the gate leaves the old image or the new one"),
     Makes(14848),
     Formats(70, 2, Ok(())),
     Row,
@@ -137,7 +137,7 @@ static STOPS: &[Act<'static>] = &[
     Restarts,
     Chooses(Ok(1)),
     // the gate of the older image, the two pages and the header; and the gate of the new one
-    Case("a stop over an older image leaves the chosen one or the new one"),
+    Case("a crash over an older image leaves the chosen one or the new one"),
     Makes(14848),
     Formats(70, 2, Ok(())),
     Puts(1, 2, Ok(())),
@@ -205,6 +205,6 @@ static STOPS: &[Act<'static>] = &[
 ];
 
 #[test]
-fn a_stop_leaves_the_old_image_or_the_new_one(rt: HostRuntime) -> Result<(), Fail> {
-    play(&rt, rt.alloc(), STOPS)
+fn a_crash_leaves_the_old_image_or_the_new_one(rt: HostRuntime) -> Result<(), Fail> {
+    play(&rt, rt.alloc(), CRASHES)
 }

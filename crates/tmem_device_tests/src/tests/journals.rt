@@ -1,4 +1,4 @@
-//! A journal by itself: what it flushes, what is found again, and what a stop inside a flush leaves.
+//! A journal by itself: what it flushes, what is found again, and what a crash inside a flush leaves.
 //!
 //! A device of 13824 bytes has room for four variables and two slots, and one of 22016 bytes for four slots.
 use super::acts::Act::{
@@ -105,7 +105,7 @@ static FLUSHES: &[Act<'static>] = &[
     Closes,
     Made(None, 5, 5),
     // the bytes of the batch behind a closed gate, and the gate with both outcomes
-    Case("a stop inside a flush leaves the state before or after it"),
+    Case("a crash inside a flush leaves the state before or after it"),
     Makes(13824),
     Formats(4, 2, Ok(())),
     Row,
@@ -138,7 +138,7 @@ static FLUSHES: &[Act<'static>] = &[
     Closes,
     Restarts,
     Opens(4, 2, Ok(0)),
-    Case("a stop at the gate of a second batch leaves the first"),
+    Case("a crash at the gate of a second batch leaves the first"),
     Makes(13824),
     Formats(4, 2, Ok(())),
     Row,
@@ -161,7 +161,7 @@ static FLUSHES: &[Act<'static>] = &[
     Closes,
     Restarts,
     Opens(4, 2, Ok(1)),
-    Case("a stop at the gate of a second batch of four leaves the first"),
+    Case("a crash at the gate of a second batch of four leaves the first"),
     Makes(22016),
     Formats(4, 4, Ok(())),
     Row,

@@ -193,7 +193,7 @@ pub(super) enum Answer {
     Done,
     Refused(Refusal),
     Committed(u64),
-    /// Changes nothing: how many were accepted before it, and its registers.
+    /// Changes nothing: how many were committed before it, and its registers.
     Saw(u64, [i64; 16]),
     Retried,
     Aborted(u16),

@@ -53,7 +53,7 @@ impl Invariants for AlwaysTrue {
         true
     }
 
-    fn place(&self, name: &Name) -> Option<usize> {
+    fn index_of(&self, name: &Name) -> Option<usize> {
         if ALWAYS == name.as_str() {
             Some(0)
         } else {

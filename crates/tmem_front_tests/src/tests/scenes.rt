@@ -1,6 +1,6 @@
 //! Scenes: in each a new store, and what one thread does with it, then several at once, and then that one again.
 ghost use Rattle.std.specs.Prelude.{◌≡◌};
-ghost use Rattle.tmem_front.specs.Held.{found_of, spine_of};
+ghost use Rattle.tmem_front.specs.Held.{front_found, spine_of};
 ghost use Rattle.tmem_front_tests.specs.Examples.{adding};
 
 use super::moves::{Answer, Move};
@@ -316,7 +316,7 @@ fn play_all<F: Plays + Sync, R: Clock + Threads + Wait + Sync>(
 }
 
 // A scene in a store, with the hands that begin it and end it.
-fn play_in<
+fn play_whole_scene<
     D: Disk + Drop + Send,
     N: StoreNaming + Send + Sync,
     T: Invariants + Drop + Send,
@@ -341,7 +341,7 @@ pub(super) fn play_on<
     S: StoredSteps + Drop + Send + Sync,
     R: Clock + Threads + Wait + Sync,
 >(stage: &Stage<R>, front: &Front<D, N, T, S>) -> Option<Wrong> {
-    play_in(stage, front, &mut Hands::new())
+    play_whole_scene(stage, front, &mut Hands::new())
 }
 
 /// A store on a device that waits and fails as a scene wants it.
@@ -390,7 +390,7 @@ fn play_named<N: StoreNaming + Send + Sync, R: Clock + Threads + Wait + Sync>(
     opened: Opened<R>,
 ) -> Option<Wrong>
     requires spine { spine_of opened ≡ N.name }
-    requires opening { found_of opened ≡ N.opening }
+    requires opening { front_found opened ≡ N.opening }
     requires program { N.program ≡ adding }
 {
     let front = opened.named::<N>();

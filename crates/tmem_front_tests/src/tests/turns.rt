@@ -1,6 +1,6 @@
 //! An evaluation of more turns than a plan may have nodes, behind two conflicts. The invariant that it tests is over variables.
 ghost use Rattle.std.specs.Prelude.{◌≡◌, true, length};
-ghost use Rattle.tmem_front.specs.Held.{found_of, spine_of, table_of};
+ghost use Rattle.tmem_front.specs.Held.{front_found, spine_of, front_table};
 ghost use Rattle.tmem_front_tests.specs.Examples.{over_two};
 
 use super::moves::Answer::{Committed, Done};
@@ -64,17 +64,17 @@ fn play_named<
     R: Clock + Threads + Wait + Sync,
 >(stage: &Stage<R>, opened: Opened<T, R>) -> Option<Wrong>
     requires spine { spine_of opened ≡ N.name }
-    requires opening { found_of opened ≡ N.opening }
+    requires opening { front_found opened ≡ N.opening }
     requires program { N.program ≡ over_two }
-    requires names { T.names (table_of opened) ≡ over_two.names }
-    requires stated { T.is_stated (table_of opened) over_two.tests }
+    requires names { T.names (front_table opened) ≡ over_two.names }
+    requires stated { T.is_stated (front_table opened) over_two.tests }
 {
     let front = opened.named::<N>();
     play_on(stage, &front)
 }
 
 // The scene in a new store over a table.
-fn play_over<T: Invariants + Drop + Send, R: Clock + Threads + Wait + Sync>(
+fn play_on_stage<T: Invariants + Drop + Send, R: Clock + Threads + Wait + Sync>(
     stage: &Stage<R>,
     table: T,
 ) -> Result<Option<Wrong>, Fault>
@@ -93,7 +93,7 @@ fn play_over<T: Invariants + Drop + Send, R: Clock + Threads + Wait + Sync>(
 }
 
 // The same on a stage of its own.
-fn play_with<T: Invariants + Drop + Send, R: Clock + Threads + Wait + Sync>(
+fn play_staged<T: Invariants + Drop + Send, R: Clock + Threads + Wait + Sync>(
     rt: &R,
     alloc: Global,
     table: T,
@@ -111,7 +111,7 @@ fn play_with<T: Invariants + Drop + Send, R: Clock + Threads + Wait + Sync>(
         skip: Duration::ZERO,
         readings: u64::MAX,
     };
-    play_over(&stage, table)
+    play_on_stage(&stage, table)
 }
 
 // at: 512 nodes, 1024 variables
@@ -127,7 +127,7 @@ fn an_evaluation_alone_takes_more_turns_than_a_plan_has_nodes(rt: HostRuntime) -
     )?;
     let invariant = Invariant::new(always(), vec![in alloc; 1, 2]?, test)?;
     let table = Table::of(alloc, vec![in alloc; invariant]?, VARS)?;
-    let wrong = play_with(&rt, alloc, table)?;
+    let wrong = play_staged(&rt, alloc, table)?;
     assert!(rt; wrong.is_none(), "{wrong:?}");
     Ok(())
 }

@@ -2,7 +2,7 @@
 ghost use Rattle.std.specs.Prelude.{◌≡◌, Some, IsOk, IfErr};
 ghost use Rattle.serde_json.specs.Data.{Data};
 ghost use Rattle.tmem_forms.specs.Errors.{Refuses};
-ghost use Rattle.tmem_requests.specs.Wrong.{IsTrueOf, IsWrong, Scope, TellsTruth, inner, next};
+ghost use Rattle.tmem_requests.specs.Wrong.{IsTrueOf, IsWrong, Scope, TellsTruth, inner, step_value};
 
 use crate::place::{Place, Step};
 use crate::refusal::NoRequest;
@@ -41,7 +41,7 @@ impl Wrong {
 
     // The same of the value that this step begins at.
     fn behind(self, step: Step) -> Wrong
-        ensures { (scope : Scope) (d e : Data) → next step d ≡ Some e → IsTrueOf (inner scope) e self → IsTrueOf scope d result }
+        ensures { (scope : Scope) (d e : Data) → step_value step d ≡ Some e → IsTrueOf (inner scope) e self → IsTrueOf scope d result }
     {
         let Wrong { why, mut steps } = self;
         match why {
@@ -78,7 +78,7 @@ impl Wrong {
 /// Hands on what was found in the value that a step leads to.
 pub(crate) fn inside(step: Step, found: Result<(), Wrong>) -> Result<(), Wrong>
     ensures fine { IsOk found → IsOk result }
-    ensures told { (scope : Scope) (d e : Data) → next step d ≡ Some e → IfErr found (λ w. IsTrueOf (inner scope) e w) → IfErr result (λ w. IsTrueOf scope d w) }
+    ensures told { (scope : Scope) (d e : Data) → step_value step d ≡ Some e → IfErr found (λ w. IsTrueOf (inner scope) e w) → IfErr result (λ w. IsTrueOf scope d w) }
 {
     match found {
         Ok(()) => Ok(()),

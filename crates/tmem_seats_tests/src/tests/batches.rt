@@ -5,7 +5,7 @@ use std::alloc::{AllocError, Global};
 use std::test::Fail;
 use tmem_effect::Effect;
 use tmem_fault::{Fault, Name};
-use tmem_record::{BATCH_ROOM, Decoded, decode_batch, encode_batch};
+use tmem_record::{Decoded, SLOT_BODY_BYTES, decode_batch, encode_batch};
 use tmem_state::Version::{One, Two};
 use tmem_state::{Batch, Version};
 
@@ -171,7 +171,7 @@ fn is_spelled(alloc: Global, effects: &[Made], bytes: &[u8]) -> Result<bool, Fau
     if batch.len() != effects.len() || batch.effects().is_empty() {
         return Ok(false);
     }
-    let mut buffer = [0xee; BATCH_ROOM];
+    let mut buffer = [0xee; SLOT_BODY_BYTES];
     let length = encode_batch(&batch, 1, 0, &mut buffer);
     Ok(&buffer[..length] == bytes)
 }

@@ -17,7 +17,7 @@ const TURNS: u64 = 200;
 /// writer saw.
 type Told = (u64, u64, u64, u64, u64);
 
-// One effect is accepted, aimed at and durable, and two passes look.
+// One effect is committed, aimed at and durable, and two passes look.
 fn told<N: Naming>(
     spine: &Spine<N>,
     core: &mut CoreSide<N>,
@@ -26,19 +26,19 @@ fn told<N: Naming>(
     reader: &mut Pass<N>,
 ) -> Told
     requires start { N.name.start ≡ 5 }
-    requires core { core.old.accepted ≡ [] }
+    requires core { core.old.committed ≡ [] }
     requires journal { journal.old.durable ≡ [] }
 {
     let before = spine.look(reader);
     spine.trim(core, writer);
     let number = spine.accept(core, writer, &Effect::new());
-    let accepted = spine.look(reader);
+    let committed = spine.look(reader);
     let from = spine.trim_beside(core, journal);
     spine.aim(core, journal, from + 1);
     spine.harden(journal, 1);
     spine.meet_journal(journal, reader);
     let durable = spine.look(reader);
-    (before, number, accepted, durable, writer.seen())
+    (before, number, committed, durable, writer.seen())
 }
 
 // The same by new passes.
@@ -48,7 +48,7 @@ fn told_by_two<N: Naming>(
     journal: &mut JournalSide<N>,
 ) -> Option<Told>
     requires start { N.name.start ≡ 5 }
-    requires core { core.old.accepted ≡ [] }
+    requires core { core.old.committed ≡ [] }
     requires journal { journal.old.durable ≡ [] }
 {
     let mut writer = spine.pass(core)?;
@@ -93,7 +93,7 @@ fn a_dropped_pass_is_not_given_out_again(rt: HostRuntime) -> Result<(), Fail> {
     Ok(())
 }
 
-// In each turn one effect is accepted and made durable. Answers the last number.
+// In each turn one effect is committed and made durable. Answers the last number.
 fn writes<N: Naming>(
     spine: &Spine<N>,
     mut core: CoreSide<N>,
@@ -101,7 +101,7 @@ fn writes<N: Naming>(
     mut pass: Pass<N>,
 ) -> u64
     requires start { N.name.start ≡ 5 }
-    requires core { core.accepted ≡ [] }
+    requires core { core.committed ≡ [] }
     requires journal { journal.durable ≡ [] }
 {
     let mut last = 0;
@@ -126,9 +126,9 @@ fn looks<N: Naming>(spine: &Spine<N>, mut pass: Pass<N>) -> (bool, Pass<N>) {
     (ascends, pass)
 }
 
-// Two passes. What is accepted stays.
+// Two passes. What is committed stays.
 fn two_passes<N: Naming>(spine: &Spine<N>, core: &mut CoreSide<N>) -> Option<(Pass<N>, Pass<N>)>
-    ensures { core.new.accepted ≡ core.old.accepted }
+    ensures { core.new.committed ≡ core.old.committed }
 {
     let writer = spine.pass(core)?;
     let reader = spine.pass(core)?;
@@ -145,13 +145,13 @@ fn at_once<N: Naming + Send + Sync, R: Threads + Sync>(
     reader: Pass<N>,
 ) -> (u64, bool, u64)
     requires start { N.name.start ≡ 5 }
-    requires core { core.accepted ≡ [] }
+    requires core { core.committed ≡ [] }
     requires journal { journal.durable ≡ [] }
 {
     let (last, (ascends, mut reader)) = join(
         rt,
         || -> u64
-            requires { (N.name.start ≡ 5) × (core.accepted ≡ []) × (journal.durable ≡ []) }
+            requires { (N.name.start ≡ 5) × (core.committed ≡ []) × (journal.durable ≡ []) }
         { writes(spine, core, journal, writer) },
         || looks(spine, reader),
     );

@@ -40,11 +40,11 @@ fn effect_of(checks: &[u8], retires: &[u8]) -> Result<Effect, Fault> {
     Ok(effect)
 }
 
-/// Accepts an effect where there is room for its names, and answers whether there is.
-fn is_accepted(state: &mut State, effect: &Effect) -> bool {
+/// Commits an effect where there is room for its names, and answers whether there is.
+fn is_committed(state: &mut State, effect: &Effect) -> bool {
     let is_room = state.has_room_for(effect);
     if is_room && effect.writes.as_slice().is_empty() && state.count() < u64::MAX {
-        state.accept(effect);
+        state.commit(effect);
     }
     is_room
 }
@@ -58,7 +58,7 @@ fn after(
 ) -> Result<Option<(u64, usize, [bool; 4])>, Fault> {
     let mut state = full_state(alloc)?;
     let effect = effect_of(checks, retires)?;
-    if !is_accepted(&mut state, &effect) {
+    if !is_committed(&mut state, &effect) {
         return Ok(None);
     }
     let has = [

@@ -1,8 +1,8 @@
 //! A front by one caller: transactions of each form and at each limit, by each call that settles them.
 ghost use Rattle.std.specs.Prelude.{◌≡◌, length};
 ghost use Rattle.tmem_builtins.specs.Invariants.{is_not_negative};
-ghost use Rattle.tmem_front.specs.Held.{found_of, spine_of, steps_of, table_of};
-ghost use Rattle.tmem_tests.specs.Examples.{checked};
+ghost use Rattle.tmem_front.specs.Held.{front_found, spine_of, front_steps, front_table};
+ghost use Rattle.tmem_tests.specs.Examples.{checked_program};
 ghost use Rattle.tmem_tree.specs.Plans.{FitsSteps, FitsVariables, FitsNames, FitsShapes};
 
 use super::{formatted, write};
@@ -78,7 +78,7 @@ enum Task {
 enum Ends {
     /// With the next number, from 0.
     Commits,
-    /// Sees what there was before anything was accepted, and has no number in any register.
+    /// Sees what there was before anything was committed, and has no number in any register.
     SeesNothing,
     Aborts(u16),
     Breaks,
@@ -244,18 +244,18 @@ fn attempt_and_settle<
     front.settle(rt, pass, &attempt)
 }
 
-/// How it ended, where so many were accepted before.
-fn end_of(settled: Result<Settled, Fault>, accepted: u64) -> Ends {
+/// How it ended, where so many were committed before.
+fn end_of(settled: Result<Settled, Fault>, committed: u64) -> Ends {
     match settled {
-        Ok(settled) => end_settled(&settled, accepted),
+        Ok(settled) => end_settled(&settled, committed),
         Err(Fault::Full) => Ends::IsFull,
         Err(_) => Ends::Otherwise,
     }
 }
 
-fn end_settled(settled: &Settled, accepted: u64) -> Ends {
+fn end_settled(settled: &Settled, committed: u64) -> Ends {
     match settled {
-        Settled::Committed { number, .. } => end_where(*number == accepted, Ends::Commits),
+        Settled::Committed { number, .. } => end_where(*number == committed, Ends::Commits),
         Settled::Seen { at, registers } => {
             end_where(*at == 0 && *registers == [0; 16], Ends::SeesNothing)
         }
@@ -270,7 +270,7 @@ fn end_where(is_so: bool, end: Ends) -> Ends {
     if is_so { end } else { Ends::Otherwise }
 }
 
-/// How a task ends by a call, where so many were accepted before.
+/// How a task ends by a call, where so many were committed before.
 fn end_by<
     D: Disk + Drop,
     N: StoreNaming,
@@ -283,10 +283,10 @@ fn end_by<
     front: &Front<D, N, T, S>,
     pass: &mut Pass<N>,
     (call, task): (Call, Task),
-    accepted: u64,
+    committed: u64,
 ) -> Result<Ends, Fault> {
     let plan = front.plan(task.tx(alloc)?)?;
-    Ok(end_of(settled(rt, front, pass, &plan, call), accepted))
+    Ok(end_of(settled(rt, front, pass, &plan, call), committed))
 }
 
 /// The value that is told alone, of variable 0.
@@ -353,22 +353,22 @@ fn play<
     S: StoredSteps + Drop,
     R: Abort + Clock + Wait,
 >(rt: &R, alloc: Global, front: &Front<D, N, T, S>, pass: &mut Pass<N>) -> Result<(), Fault> {
-    let mut accepted = 0u64;
+    let mut committed = 0u64;
     for (calls, task, times, want) in ROWS {
         for call in *calls {
             for _ in 0..*times {
-                let had = end_by(rt, alloc, front, pass, (*call, *task), accepted)?;
+                let had = end_by(rt, alloc, front, pass, (*call, *task), committed)?;
                 assert!(rt; had == *want, "{task:?} by {call:?} ends so: {had:?}");
-                accepted = accepted.wrapping_add(u64::from(had == Ends::Commits));
+                committed = committed.wrapping_add(u64::from(had == Ends::Commits));
             }
         }
     }
-    assert!(rt; accepted == 256);
+    assert!(rt; committed == 256);
     ask_why(rt, alloc, front, pass)
 }
 
 /// Plays them in a store that was opened.
-fn play_in<
+fn play_opened<
     N: StoreNaming,
     D: Disk + Drop,
     T: Invariants + Drop,
@@ -376,11 +376,11 @@ fn play_in<
     R: Abort + Clock + Wait,
 >(rt: &R, alloc: Global, opened: OpenedFront<D, T, S>) -> Result<(), Fault>
     requires spine { spine_of opened ≡ N.name }
-    requires opening { found_of opened ≡ N.opening }
-    requires program { N.program ≡ checked }
-    requires names { T.names (table_of opened) ≡ checked.names }
-    requires stated { T.is_stated (table_of opened) checked.tests }
-    requires steps { S.is_stated (steps_of opened) checked.steps }
+    requires opening { front_found opened ≡ N.opening }
+    requires program { N.program ≡ checked_program }
+    requires names { T.names (front_table opened) ≡ checked_program.names }
+    requires stated { T.is_stated (front_table opened) checked_program.tests }
+    requires steps { S.is_stated (front_steps opened) checked_program.steps }
 {
     let front = opened.named::<N>();
     let mut pass = front.pass(rt)?;
@@ -388,20 +388,20 @@ fn play_in<
 }
 
 /// Plays them in a new store of 1024 variables and 64 slots.
-fn play_with<T: Invariants + Drop, S: StoredSteps + Drop, R: Abort + Clock + Wait>(
+fn play_new_store<T: Invariants + Drop, S: StoredSteps + Drop, R: Abort + Clock + Wait>(
     rt: &R,
     alloc: Global,
     table: T,
     steps: S,
 ) -> Result<(), Fault>
     requires vars { T.vars table ≡ 1024 }
-    requires names { T.names table ≡ checked.names }
-    requires tests { T.is_stated table checked.tests }
-    requires steps { S.is_stated steps checked.steps }
+    requires names { T.names table ≡ checked_program.names }
+    requires tests { T.is_stated table checked_program.tests }
+    requires steps { S.is_stated steps checked_program.steps }
 {
     let disk = formatted(alloc, 1024, 64)?;
     match OpenedFront::open(alloc, disk, 1024, 64, table, steps) {
-        Ok(opened) => play_in::<Brand, _, T, S, R>(rt, alloc, opened),
+        Ok(opened) => play_opened::<Brand, _, T, S, R>(rt, alloc, opened),
         Err((fault, _disk)) => Err(fault),
     }
 }
@@ -419,6 +419,6 @@ fn each_call_of_a_front_settles_each_form_at_each_limit(rt: HostRuntime) -> Resu
     )?;
     let invariant = Invariant::new(names()[0], vec![in alloc; 0]?, test)?;
     let table = Table::of(alloc, vec![in alloc; invariant]?, 1024)?;
-    play_with(&rt, alloc, table, stored_steps())?;
+    play_new_store(&rt, alloc, table, stored_steps())?;
     Ok(())
 }

@@ -13,7 +13,7 @@ use tmem_effect::Effect;
 use tmem_fault::Fault;
 use tmem_front::OpenedFront;
 use tmem_invariants::{Invariants, Table};
-use tmem_record::{BATCH_ROOM, Decoded, decode_batch, encode_batch};
+use tmem_record::{Decoded, SLOT_BODY_BYTES, decode_batch, encode_batch};
 use tmem_state::{Batch, Version};
 use tmem_tree::{Steps, StoredSteps};
 use tmem_world::{Event, Reply, Settled, World};
@@ -245,7 +245,7 @@ fn is_read_again(alloc: Global) -> Result<bool, Fault> {
     if batch.effects().is_empty() {
         return Ok(false);
     }
-    let mut buffer = [0; BATCH_ROOM];
+    let mut buffer = [0; SLOT_BODY_BYTES];
     let length = encode_batch(&batch, 1, 0, &mut buffer);
     match decode_batch(alloc, &buffer[..length], VARS, Version::Two)? {
         Some(decoded) => Ok(length == 850 && is_batch_of_64(&decoded)),

@@ -42,8 +42,8 @@ fn turns<T: Invariants + Drop, S: StoredSteps + Drop>(
     0
 }
 
-/// How many turns that transaction takes as the first of a store, or 0 where it is not accepted then.
-fn accepted_after<T: Invariants + Drop, S: StoredSteps + Drop>(
+/// How many turns that transaction takes as the first of a store, or 0 where it is not committed then.
+fn committed_after<T: Invariants + Drop, S: StoredSteps + Drop>(
     alloc: Global,
     world: &mut World<SimDisk, T, S>,
 ) -> Result<u32, Fault> {
@@ -56,13 +56,13 @@ fn accepted_after<T: Invariants + Drop, S: StoredSteps + Drop>(
 }
 
 /// The same in a new store.
-fn turns_in<T: Invariants + Drop, S: StoredSteps + Drop>(
+fn turns_of_new_store<T: Invariants + Drop, S: StoredSteps + Drop>(
     alloc: Global,
     table: T,
     steps: S,
 ) -> Result<u32, Fault> {
     let mut world = opened(alloc, table, steps)?;
-    accepted_after(alloc, &mut world)
+    committed_after(alloc, &mut world)
 }
 
 /// Whether the shapes of a table are those of the eight invariants.
@@ -89,7 +89,7 @@ fn turns_over<T: Invariants + Drop, S: StoredSteps + Drop>(
     steps: S,
 ) -> Result<Option<u32>, Fault> {
     if has_eight_shapes(alloc, &table)? {
-        Ok(Some(turns_in(alloc, table, steps)?))
+        Ok(Some(turns_of_new_store(alloc, table, steps)?))
     } else {
         Ok(None)
     }

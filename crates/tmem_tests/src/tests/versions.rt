@@ -45,7 +45,7 @@ fn begin_on<T: Invariants + Drop, S: StoredSteps + Drop>(
 }
 
 /// Plays the second version on the device that the first one left.
-fn go_on_with<T: Invariants + Drop, S: StoredSteps + Drop>(
+fn reopen_and_play<T: Invariants + Drop, S: StoredSteps + Drop>(
     rt: &impl Abort,
     alloc: Global,
     disk: SimDisk,
@@ -55,13 +55,13 @@ fn go_on_with<T: Invariants + Drop, S: StoredSteps + Drop>(
     requires { T.vars table ≡ 4 }
 {
     match World::open(alloc, disk, 4, 4, table, steps) {
-        Ok(world) => go_on_in(rt, alloc, world),
+        Ok(world) => play_later(rt, alloc, world),
         Err((fault, _disk)) => Err(fault),
     }
 }
 
 /// Plays it in a world that was opened.
-fn go_on_in<T: Invariants + Drop, S: StoredSteps + Drop>(
+fn play_later<T: Invariants + Drop, S: StoredSteps + Drop>(
     rt: &impl Abort,
     alloc: Global,
     mut world: World<SimDisk, T, S>,
@@ -76,6 +76,6 @@ fn a_store_outlives_the_steps_of_its_program(rt: HostRuntime) -> Result<(), Fail
     let none = Steps::of(Vec::new(alloc))?;
     let disk = begin_on(&rt, alloc, Table::of(alloc, Vec::new(alloc), 4)?, none)?;
     let table = Table::of(alloc, Vec::new(alloc), 4)?;
-    go_on_with(&rt, alloc, disk, table, stored_steps())?;
+    reopen_and_play(&rt, alloc, disk, table, stored_steps())?;
     Ok(())
 }

@@ -2,7 +2,7 @@ use Rattle.std.proofs.Common.{◌≡◌, ◌<◌, [], ℕ, List, true, false, sy
 use Rattle.std.proofs.lemmas.List.Elements.{All-weaker}
 use Rattle.tmem_effect.specs.Names.{has_name}
 use Rattle.tmem_tentative.specs.Cursors.{outcome_of}
-use Rattle.tmem_tentative.specs.Fits.{IsForVariables, IsForNames, IsEndingFor, IsWithin, IsNamed}
+use Rattle.tmem_tentative.specs.Fits.{IsForVariables, IsForNames, IsEndingFor, IsWithinVariables, IsNamed}
 use Rattle.tmem_tentative.specs.declared.attempt.Ending.{Ending}
 use Rattle.tmem_tentative.specs.declared.attempt.Ending.TheVariants.{Normal, Retry, Abort, Broken}
 use Rattle.tmem_bench.proofs.on_core.settle.Goals as goal
@@ -10,7 +10,7 @@ use Rattle.tmem_bench.proofs.on_core.settle.Goals as goal
 pub peek-requires : goal.peek-requires
 peek-requires g c =
     let vars = c.args.vars in
-    let within = subst (λ p. IsWithin vars (outcome_of c.advance.new.self p)) c.in-Need.is (c.in_ok-var.ensures.within vars c.requires.variables) in
+    let within = subst (λ p. IsWithinVariables vars (outcome_of c.advance.new.self p)) c.in-Need.is (c.in_ok-var.ensures.within vars c.requires.variables) in
     subst (λ (n : ℕ). c.in-Need.var < n) (sym c.loop.invariant.0) within
 
 -- no name is one of none, so it asks for no test
@@ -22,7 +22,7 @@ unreachable-requires g c =
 pub decide-requires-clause-variables : goal.decide-requires-clause-variables
 decide-requires-clause-variables g c =
     let vars = c.args.vars in
-    let ended = subst (λ p. IsWithin vars (outcome_of c.advance.new.self p)) c.in-Ended.is (c.in_ok-var.ensures.within vars c.requires.variables) in
+    let ended = subst (λ p. IsWithinVariables vars (outcome_of c.advance.new.self p)) c.in-Ended.is (c.in_ok-var.ensures.within vars c.requires.variables) in
     subst (λ (n : ℕ). IsForVariables n c.attempt.result.now) (sym c.loop.invariant.0) (subst (IsForVariables vars) (sym c.attempt.ensures.attempt) ended)
 
 -- it names none

@@ -1,6 +1,6 @@
 use Rattle.std.proofs.Common.{refl}
 use borrow.Pointer.Called.{made_tells}
-use Rattle.tmem_bench.specs.Accounts.{has_no_negative}
+use Rattle.tmem_builtins.specs.Invariants.{has_no_negative}
 use Rattle.tmem_bench.proofs.store.with_bank.OwnLists.{own-1, at-1-1}
 use Rattle.tmem_bench.proofs.store.with_bank.Goals as goal
 

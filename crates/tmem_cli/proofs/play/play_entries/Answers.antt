@@ -1,7 +1,7 @@
 use Rattle.std.proofs.Common.{rules, ◌≡◌, ◌++◌, ◌∷◌, [], List, ◌∙◌, ap, sym, subst, append_assoc, arith}
 use Rattle.std.proofs.lemmas.Grind.{common_steps}
 use Rattle.std.specs.Io.KnownBytes.{Appends}
-use Rattle.tmem_world.specs.Represents.{device_of, numbers_of, view_of}
+use Rattle.tmem_world.specs.Represents.{world_disk, numbers_of, world_view}
 use Rattle.tmem_world.proofs.Laws.{KeepsSetting-refl, KeepsSetting-trans, WritesInStore-refl}
 use Rattle.tmem_cli.specs.Chains.{PlaysEntriesOn, PlaysFirstOn}
 use Rattle.tmem_cli.proofs.Outcomes.{err_of}
@@ -36,11 +36,11 @@ returns-clause-played g c =
 pub loop-entry-init : goal.loop-entry-init
 loop-entry-init g c =
     let w = c.args.world.now in
-    let device = g.met.D.Disk.is_device (device_of w) in
+    let device = g.met.D.Disk.is_device (world_disk w) in
     record {
       kept = KeepsSetting-refl w;
       parts = search rules;
-      elsewhere = WritesInStore-refl (numbers_of w) (view_of w) device;
+      elsewhere = WritesInStore-refl (numbers_of w) (world_view w) device;
       chain = λ program means h m has keeps. ([], go_on-nil program w device h m has, Appends-nil _);
       played = PlaysEntries-nil w _;
     }

@@ -6,7 +6,7 @@ use Rattle.tmem_script.specs.Lines.{line_of}
 use Rattle.tmem_script.specs.declared.script.Entry.{Entry}
 use Rattle.tmem_script.specs.declared.script.Entry.TheVariants.{Event, Show}
 use Rattle.tmem_world.specs.WorldModel.{present}
-use Rattle.tmem_world.specs.Represents.{setting_of, device_of}
+use Rattle.tmem_world.specs.Represents.{setting_of, world_disk}
 use Rattle.tmem_cli.specs.Chains.{PlaysEntriesOn}
 use Rattle.tmem_cli.specs.Printed.{line, shown, PlaysEntries}
 use Rattle.tmem_world.proofs.Laws.{rests_on}
@@ -51,6 +51,6 @@ returns-in-Show-clause-chain g c =
     subst (λ (e : Entry). PlaysEntriesOn w (e ∷ []) w (λ text. OnOk c.print_state.result (Appends before after text))) (sym c.in-Show.is)
     (λ program means h m has keeps. (
       line (shown w.layout.vars m.session (present program m)),
-      go_on-show program w (g.met.D.Disk.is_device (device_of w)) h m has,
+      go_on-show program w (g.met.D.Disk.is_device (world_disk w)) h m has,
       on_ok_weaker c.print_state.result (λ wrote. subst (λ (v : ℕ). Appends before after (line (shown v m.session (present program m)))) (sym c.requires) (wrote program m has.point)) c.print_state.ensures.shown,
     ))

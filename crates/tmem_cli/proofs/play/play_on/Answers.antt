@@ -6,7 +6,7 @@ use Rattle.tmem_event.specs.declared.event.Reply.TheVariants as reply
 use Rattle.tmem_script.specs.Lines.{line_of}
 use Rattle.tmem_script.specs.declared.failure.Failure.{Failure}
 use Rattle.tmem_world.specs.WorldModel.{opening}
-use Rattle.tmem_world.specs.Represents.{Represents, device_of, view_of}
+use Rattle.tmem_world.specs.Represents.{Represents, world_disk, world_view}
 use Rattle.tmem_core.specs.Program.{IsProgramOf}
 use Rattle.tmem_world.specs.Chain.{state_at}
 use Rattle.tmem_world.proofs.Laws.{KeepsSetting-refl, WritesInStore-refl, count_at}
@@ -79,7 +79,7 @@ returns-in-Err-print_line-clause-failed g c =
     let slots = c.args.layout.slots in
     let so = c.in-Ok.ensures in
     let fits = so.fits in
-    let device = g.met.D.Disk.is_device (device_of w) in
+    let device = g.met.D.Disk.is_device (world_disk w) in
     let means = means_builtin w vars slots c.args.table c.args.steps fits.0 fits.1 so.table so.steps c.requires.meant in
     let set = setting_builtin w vars slots c.args.table c.args.steps fits.0 fits.1 so.table so.steps c.requires.arities in
     subst (λ (x : g.row.D.Denot). StopsOver g.D.Disk.view vars slots c.args.entries.items c.args.disk x c.in-Err-print_line.failure ⊎ RefusesOver g.D.Disk.view vars slots c.args.disk x c.in-Err-print_line.failure) (sym c.into_disk.ensures)
@@ -87,7 +87,7 @@ returns-in-Err-print_line-clause-failed g c =
       c.in-Err-print_line.ensures.failed,
       λ h store premise.
           let opened = so.chain (builtin_program vars) h c.requires.meant store premise in
-          let it = plays_store w w vars slots (g.D.Disk.view c.args.disk) fits.0 fits.1 means set (KeepsSetting-refl w) so.mends (WritesInStore-refl w.layout (view_of w) device) h opened [] (λ text. Unit {0}) (λ program known f m has keeps. ([], go_on-nil program w device f m has, tt)) premise in
+          let it = plays_store w w vars slots (g.D.Disk.view c.args.disk) fits.0 fits.1 means set (KeepsSetting-refl w) so.mends (WritesInStore-refl w.layout (world_view w) device) h opened [] (λ text. Unit {0}) (λ program known f m has keeps. ([], go_on-nil program w device f m has, tt)) premise in
           ([], line (line_of (reply.Opened opened.found.0)) ++ it.0, (c.args.entries.items, refl), it.1),
     ))
 

@@ -1,7 +1,7 @@
 use Rattle.std.proofs.Common.{◌≡◌, ap, sym, subst}
 use Rattle.std.specs.Prelude.{All}
 use Rattle.tmem_spine.specs.History.{count}
-use Rattle.tmem_spine.specs.Views.{PassView}
+use Rattle.tmem_spine.specs.Views.{PassRoleView}
 use Rattle.tmem_desk.specs.Desks.{DeskView}
 use Rattle.tmem_desk.specs.Durable.{TellsAmong}
 use Rattle.tmem_desk.specs.Serving.{with_closed}
@@ -13,13 +13,13 @@ pub returns-clause-pieces : goal.returns-clause-pieces
 returns-clause-pieces c s text held v w before after served none =
     let taken = texts_told s served.runs.takes.texts v served.runs.taken (nothing_told s v none) served.runs.takes.takes in
     let pass : w.pass ≡ served.ran.pass = ap (λ (x : DeskView). x.pass) served.is in
-    subst (λ (p : PassView). All (TellsAmong (count s.start p.seen)) served.ran.told) (sym pass) (finished_told s served.runs.taken served.ran taken served.runs.finishes)
+    subst (λ (p : PassRoleView). All (TellsAmong (count s.start p.seen)) served.ran.told) (sym pass) (finished_told s served.runs.taken served.ran taken served.runs.finishes)
 
 pub returns-clause-end : goal.returns-clause-end
 returns-clause-end c s text v w before after served none =
     let taken = last_taken_told s text v served.runs.taken (nothing_told s v none) served.runs.takes in
     let pass : w.pass ≡ served.ran.pass = ap (λ (x : DeskView). x.pass) served.is in
-    subst (λ (p : PassView). All (TellsAmong (count s.start p.seen)) (with_closed served.ran).told) (sym pass)
+    subst (λ (p : PassRoleView). All (TellsAmong (count s.start p.seen)) (with_closed served.ran).told) (sym pass)
     (closed_told (count s.start served.ran.pass.seen) served.ran (finished_told s served.runs.taken served.ran taken served.runs.finishes))
 
 pub returns-clause-lines : goal.returns-clause-lines

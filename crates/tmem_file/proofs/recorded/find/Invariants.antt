@@ -1,12 +1,12 @@
 use Rattle.std.proofs.Common.{◌-◌, ◌≡◌, ◌≤◌, length}
-use Rattle.tmem_file.specs.Recorded.{bytes_of}
+use Rattle.tmem_file.specs.Recorded.{range_bytes}
 use Rattle.tmem_file.proofs.recorded.find.Given as goal
 
 abbrev pub invariant-loop-done : goal.invariant-loop-done
 invariant-loop-done l = record {
   within : l.done ≤ l.count;
-  place : l.found.at ≡ l.at;
-  so_far : length (bytes_of l.found) ≡ l.done;
+  at : l.found.at ≡ l.at;
+  so_far : length (range_bytes l.found) ≡ l.done;
 }
 
 abbrev pub decreases-loop-done : goal.decreases-loop-done

@@ -11,7 +11,7 @@ returns-clause-any_moment g c = λ body has. record {
       let old = g.D.Disk.view c.args.disk.now in
       let new = g.D.Disk.view c.write_at.new.self in
       let model = c.write_at.ensures.call.model in
-      let from = (in_time c.args.at 1 old new (g.met.D.Disk.is_device c.args.disk.now) model (Elapses-write old new c.args.at 1 c.write_at.ensures.time c.write_at.ensures.stop)).each k d left in
+      let from = (in_time c.args.at 1 old new (g.met.D.Disk.is_device c.args.disk.now) model (Elapses-write old new c.args.at 1 c.write_at.ensures.time c.write_at.ensures.crash)).each k d left in
       whole_after c.args.at body from.0 d (has.each (model k) from.0 from.1) from.2;
 }
 

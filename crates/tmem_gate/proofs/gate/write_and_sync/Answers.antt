@@ -8,5 +8,5 @@ returns-clause-elsewhere g c =
     let write = c.write_at.ensures in
     let sync = c.sync.ensures in
     let device = g.met.D.Disk.is_device in
-    WritesWithin-trans c.args.at n _ _ _ sync.call.model (by_write c.args.at n _ _ (device c.args.disk.now) write.call.model write.elsewhere write.stop write.time)
-    (by_look c.args.at n _ _ (device c.write_at.new.self) sync.call.model (looks _ _ sync.seen sync.stop sync.time))
+    WritesWithin-trans c.args.at n _ _ _ sync.call.model (by_write c.args.at n _ _ (device c.args.disk.now) write.call.model write.elsewhere write.crash write.time)
+    (by_look c.args.at n _ _ (device c.write_at.new.self) sync.call.model (looks _ _ sync.seen sync.crash sync.time))

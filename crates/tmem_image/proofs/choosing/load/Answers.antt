@@ -1,7 +1,7 @@
 use Rattle.std.proofs.Common.{◌+◌, ◌-◌, ℕ, List, length, take, drop, refl, sym, ◌∙◌, ap, subst}
 use Rattle.std.specs.Prelude.{slice_range}
 use Rattle.tmem_gate.specs.Gate.{IsOpenAt}
-use Rattle.tmem_record.specs.Layout.{image_size, image_place}
+use Rattle.tmem_record.specs.Layout.{image_size, image_at}
 use Rattle.tmem_image.proofs.Loading.{none_for, some_for, image_found, image_there}
 use Rattle.tmem_image.proofs.choosing.load.Goals as goal
 
@@ -12,7 +12,7 @@ returns-clause-found g c = λ k.
     let size = image_size vars in
     let seen = (g.D.Disk.view c.args.disk.now).seen in
     let bytes = c.in_ok-bytes.bytes.items in
-    let read = c.in_ok-bytes.ensures.bytes k ∙ ap (λ (p : ℕ). slice_range seen p (p + length c.args.room.bytes.items)) c.image.ensures ∙ ap (λ (n : ℕ). slice_range seen (image_place vars copy) (image_place vars copy + n)) c.requires.room.bytes in
+    let read = c.in_ok-bytes.ensures.bytes k ∙ ap (λ (p : ℕ). slice_range seen p (p + length c.args.room.bytes.items)) c.image.ensures ∙ ap (λ (n : ℕ). slice_range seen (image_at vars copy) (image_at vars copy + n)) c.requires.room.bytes in
     let opened = subst (λ (l : List ℕ). IsOpenAt 0 l) c.deref.ensures.value (c.reads_open.ensures.0 c.if-not-reads_open.false) in
     let behind = ap (λ (n : ℕ). take (n - 1) (drop 1 bytes)) (sym (c.in_ok-bytes.ensures.length ∙ c.requires.room.bytes)) ∙ ap (λ (l : List ℕ). take (length l - 1) (drop 1 l)) (sym c.deref-2.ensures.value) in
     some_for _ _ _ _ c.read_image.result c.ok_or.result c.ok_or.ensures.value c.read_image.ensures.number c.read_image.ensures.fits c.read_image.ensures.found
@@ -26,6 +26,6 @@ returns-clause-refused g c =
     let size = image_size vars in
     let seen = (g.D.Disk.view c.args.disk.now).seen in
     let bytes = c.in_ok-bytes.bytes.items in
-    let read = c.in_ok-bytes.ensures.bytes k ∙ ap (λ (p : ℕ). slice_range seen p (p + length c.args.room.bytes.items)) c.image.ensures ∙ ap (λ (n : ℕ). slice_range seen (image_place vars copy) (image_place vars copy + n)) c.requires.room.bytes in
+    let read = c.in_ok-bytes.ensures.bytes k ∙ ap (λ (p : ℕ). slice_range seen p (p + length c.args.room.bytes.items)) c.image.ensures ∙ ap (λ (n : ℕ). slice_range seen (image_at vars copy) (image_at vars copy + n)) c.requires.room.bytes in
     let behind = ap (λ (l : List ℕ). take (length l - 1) (drop 1 l)) c.deref-2.ensures.value ∙ ap (λ (n : ℕ). take (n - 1) (drop 1 bytes)) (c.in_ok-bytes.ensures.length ∙ c.requires.room.bytes) in
     other v generation s holds.number holds.fits (behind ∙ image_there vars copy size seen bytes refl read v generation s holds))

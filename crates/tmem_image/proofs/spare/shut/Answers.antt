@@ -12,7 +12,7 @@ returns-in-Ok-false-clause-spares g c =
 pub returns-in-Ok-false-clause-closed : goal.returns-in-Ok-false-clause-closed
 returns-in-Ok-false-clause-closed g c =
     let looks = c.in-Ok-false.ensures.looks (search) in
-    record { each = λ k d left. let before = c.close_if_open.ensures.call.model k in closed_along (c.requires.settled.each before d (looks.stop.each k d left) ∙ sym (ap (λ (l : List ℕ). slice_get l c.args.at) (looks.seen k))) (c.in-Ok-false.ensures.closed k) }
+    record { each = λ k d left. let before = c.close_if_open.ensures.call.model k in closed_along (c.requires.settled.each before d (looks.crash.each k d left) ∙ sym (ap (λ (l : List ℕ). slice_get l c.args.at) (looks.seen k))) (c.in-Ok-false.ensures.closed k) }
 
 pub returns-in-Err-clause-spares : goal.returns-in-Err-clause-spares
 returns-in-Err-clause-spares g c =

@@ -5,11 +5,11 @@ use Rattle.tmem_fault.specs.declared.fault.Fault.{Fault}
 use Rattle.tmem_disk.specs.Disk.{DeviceView, IsDevice, LeavesOnly, AtEachMoment}
 use Rattle.tmem_disk.proofs.Laws.{LeavesOnly-moment}
 use Rattle.tmem_gate.specs.Calls.{WritesWithin}
-use Rattle.tmem_gate.specs.Changes.{outcome_of}
-use Rattle.tmem_record.specs.Layout.{pages_of, image_place}
+use Rattle.tmem_gate.specs.Changes.{call_outcome}
+use Rattle.tmem_record.specs.Layout.{pages_of, image_at}
 use Rattle.tmem_state.specs.declared.version.Version.TheVariants.{Two}
-use Rattle.tmem_image.specs.Pages.{HoldsOthers, pages_place}
-use Rattle.tmem_image.specs.Spare.{placed}
+use Rattle.tmem_image.specs.Pages.{HoldsOthers, pages_at}
+use Rattle.tmem_image.specs.Spare.{image_placed}
 use Rattle.tmem_image.specs.Spelling.{IsImage}
 use Rattle.tmem_image.proofs.Changed.{HoldsOthers-after, moments_none, moments_write, moments_both}
 use Rattle.tmem_image.proofs.Lengths.{length-header_body}
@@ -19,28 +19,28 @@ use Rattle.tmem_image.proofs.spare.write_spare.Goals as goal
 pub returns-in_err-shut-clause-puts : goal.returns-in_err-shut-clause-puts
 returns-in_err-shut-clause-puts g c =
     let returned = err_from_is_err_and c.from_residual.result c.from_residual.ensures.1 in
-    let p = placed c.args.layout c.args.copy c.args.generation c.args.state.now in
+    let p = image_placed c.args.layout c.args.copy c.args.generation c.args.state.now in
     spared p _ _ (g.met.D.Disk.is_device c.shut.new.disk) (once_shut p c.image-at.result c.image-at.ensures _ _ c.shut.ensures.spares)
     c.from_residual.result c.in_err-shut.field-0.0 (returned.1 ∙ ap (λ (f : Fault). Err f) returned.2) c.in_err-shut.ensures.errors
 
 pub returns-in_err-write_pages-clause-puts : goal.returns-in_err-write_pages-clause-puts
 returns-in_err-write_pages-clause-puts g c =
     let returned = err_from_is_err_and c.from_residual-in_err-write_pages.result c.from_residual-in_err-write_pages.ensures.1 in
-    let p = placed c.args.layout c.args.copy c.args.generation c.args.state.now in
+    let p = image_placed c.args.layout c.args.copy c.args.generation c.args.state.now in
     let it = c.write_pages.ensures in
     spared p _ _ (g.met.D.Disk.is_device c.write_pages.new.disk) (once_paged p c.image-at.result c.image-at.ensures _ _ c.shut.ensures.spares _ (g.met.D.Disk.is_device c.shut.new.disk) c.in_ok-shut.ensures.closed it.elsewhere it.uses.model)
     c.from_residual-in_err-write_pages.result c.in_err-write_pages.field-0.0 (returned.1 ∙ ap (λ (f : Fault). Err f) returned.2) (inl c.in_err-write_pages.ensures.err)
 
 pub put_cell-requires-clause-closed : goal.put_cell-requires-clause-closed
 put_cell-requires-clause-closed g c =
-    let p = placed c.args.layout c.args.copy c.args.generation c.args.state.now in
+    let p = image_placed c.args.layout c.args.copy c.args.generation c.args.state.now in
     let it = c.write_pages.ensures in
     closed_once_paged p c.image-at.result c.image-at.ensures _ _ c.shut.ensures.spares _ (g.met.D.Disk.is_device c.shut.new.disk) c.in_ok-shut.ensures.closed it.elsewhere it.uses.model
 
 pub returns-clause-puts : goal.returns-clause-puts
 returns-clause-puts g c =
     let vars = c.args.layout.vars in
-    let p = placed c.args.layout c.args.copy c.args.generation c.args.state.now in
+    let p = image_placed c.args.layout c.args.copy c.args.generation c.args.state.now in
     let at = c.image-at.result in
     let mid = g.D.Disk.view c.shut.new.disk in
     let device = g.met.D.Disk.is_device c.shut.new.disk in
@@ -48,12 +48,12 @@ returns-clause-puts g c =
     let fits : IsImage vars c.args.state.now = search rules in
     put_last p c.header_of.result c.requires.number fits _ _ _ (g.met.D.Disk.is_device c.write_pages.new.disk) (once_paged p at c.image-at.ensures _ _ c.shut.ensures.spares _ device c.in_ok-shut.ensures.closed pages.elsewhere pages.uses.model)
     (paged p at c.image-at.ensures c.header_of.result c.header_of.ensures.bytes c.header_of.ensures.names c.requires.sized _ c.values-2.result.now c.values-2.ensures c.in_ok-write_pages.ensures.stand)
-    (outcome_of c.put_cell.result) (is_begun c.put_cell.result c.put_cell.ensures.errors) c.put_cell.ensures.uses.model (rw c.image-at.ensures at c.put_cell.ensures.puts)
+    (call_outcome c.put_cell.result) (is_begun c.put_cell.result c.put_cell.ensures.errors) c.put_cell.ensures.uses.model (rw c.image-at.ensures at c.put_cell.ensures.puts)
 
 pub returns-clause-gate_write_failed : goal.returns-clause-gate_write_failed
 returns-clause-gate_write_failed g c = λ unknown write.
     let vars = c.args.layout.vars in
-    let p = placed c.args.layout c.args.copy c.args.generation c.args.state.now in
+    let p = image_placed c.args.layout c.args.copy c.args.generation c.args.state.now in
     let at = c.image-at.result in
     let mid = g.D.Disk.view c.shut.new.disk in
     let device = g.met.D.Disk.is_device c.shut.new.disk in
@@ -67,14 +67,14 @@ returns-clause-gate_write_failed g c = λ unknown write.
     }
 
 -- once the gate is closed
-module _ (vars copy at pages : ℕ) (place : at ≡ image_place vars copy) (values : List ℤ) (old shut : DeviceView) (device : IsDevice old) (after : IsDevice shut) (model : shut.keeps_model → old.keeps_model) (others : LeavesOnly old (HoldsOthers (pages_place vars copy) vars pages values)) (writes : WritesWithin at 1 old shut) where
+module _ (vars copy at pages : ℕ) (place : at ≡ image_at vars copy) (values : List ℤ) (old shut : DeviceView) (device : IsDevice old) (after : IsDevice shut) (model : shut.keeps_model → old.keeps_model) (others : LeavesOnly old (HoldsOthers (pages_at vars copy) vars pages values)) (writes : WritesWithin at 1 old shut) where
   abbrev Kept : List ℕ → Type 0
-  Kept = HoldsOthers (pages_place vars copy) vars pages values
+  Kept = HoldsOthers (pages_at vars copy) vars pages values
 
   kept_shut : AtEachMoment old shut Kept
-  kept_shut = moments_write Kept old old device (moments_none Kept old device others) (λ k. omega arith) at 1 shut model (λ b c same. HoldsOthers-after at 1 (pages_place vars copy) vars pages values b c same (omega (arith, place))) writes
+  kept_shut = moments_write Kept old old device (moments_none Kept old device others) (λ k. omega arith) at 1 shut model (λ b c same. HoldsOthers-after at 1 (pages_at vars copy) vars pages values b c same (omega (arith, place))) writes
 
-  behind : pages_place vars copy ≡ at + 2048
+  behind : pages_at vars copy ≡ at + 2048
   behind = omega (arith, place)
 
   left_shut : (values' : List ℤ) → values ≡ values' → LeavesOnly shut (HoldsOthers (at + 2048) vars pages values')
@@ -85,13 +85,13 @@ module _ (vars copy at pages : ℕ) (place : at ≡ image_place vars copy) (valu
   module _ (values' : List ℤ) (same : values' ≡ values) (n : ℕ) (paged : DeviceView) (model_now : paged.keeps_model → shut.keeps_model) (paging : WritesWithin (at + 2048) n shut paged) (kept : AtEachMoment shut paged (HoldsOthers (at + 2048) vars pages values')) where
     kept_paged : AtEachMoment old paged Kept
     kept_paged = moments_both Kept old shut after kept_shut writes.time.later paged _ model_now paging.time
-        (subst (λ (zs : List ℤ). AtEachMoment shut paged (HoldsOthers (pages_place vars copy) vars pages zs)) same (subst (λ (k : ℕ). AtEachMoment shut paged (HoldsOthers k vars pages values')) (sym behind) kept))
+        (subst (λ (zs : List ℤ). AtEachMoment shut paged (HoldsOthers (pages_at vars copy) vars pages zs)) same (subst (λ (k : ℕ). AtEachMoment shut paged (HoldsOthers k vars pages values')) (sym behind) kept))
 
     -- and then the header
     kept_put : IsDevice paged → (header : ℕ) → header ≡ 2047 → (new : DeviceView) → (new.keeps_model → paged.keeps_model) → WritesWithin at (1 + header) paged new → AtEachMoment old new Kept
     kept_put device_now header long new model_then puts =
         moments_write Kept old paged device_now kept_paged (λ k. let a = writes.time.later (model_now k) in let b = paging.time.later k in omega arith) at (1 + header) new model_then
-        (λ b c outside. HoldsOthers-after at (1 + header) (pages_place vars copy) vars pages values b c outside (omega (arith, place, long))) puts
+        (λ b c outside. HoldsOthers-after at (1 + header) (pages_at vars copy) vars pages values b c outside (omega (arith, place, long))) puts
 
 pub write_pages-requires-clause-others : goal.write_pages-requires-clause-others
 write_pages-requires-clause-others g c =

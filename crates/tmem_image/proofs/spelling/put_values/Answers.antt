@@ -12,7 +12,7 @@ loop-value-preserved c =
     let same = ap (λ (z : ℤ). little_bytes 8 (cast_unsigned w64 z)) (to_z-of_z w64 _ fits) in
     let long = ap length c.to_le_bytes.ensures in
     record {
-      place = omega (arith, long, c.put-at.ensures.next, c.loop-value.invariant.place);
+      at = omega (arith, long, c.put-at.ensures.next, c.loop-value.invariant.at);
       front = value_put c.args.values.now c.loop-value.value-index c.loop-value-test.true _ _ _ c.loop-value.invariant.front c.put-at.ensures.front (c.to_le_bytes.ensures ∙ same);
       rest = c.put-at.ensures.rest ∙ drop_further c.loop-value.at c.put-at.result _ _ (omega (arith, c.put-at.ensures.next)) c.loop-value.invariant.rest;
       numbers = number_more c.args.values.now c.loop-value.value-index c.loop-value-test.true c.loop-value.invariant.numbers fits;

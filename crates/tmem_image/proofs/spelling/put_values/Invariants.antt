@@ -5,7 +5,7 @@ use Rattle.tmem_image.proofs.spelling.put_values.Given as goal
 
 abbrev pub invariant-loop-value : goal.invariant-loop-value
 invariant-loop-value l = record {
-  place : l.at ≡ 8 * l.value-index;
+  at : l.at ≡ 8 * l.value-index;
   front : take l.at l.into ≡ flat_map value_bytes (take l.value-index l.values);
   rest : drop l.at l.into ≡ drop l.at l.fn.into;
   numbers : AreValues (take l.value-index l.values);

@@ -11,7 +11,7 @@ returns-then-is_some g c =
     let x = c.name.result in
     let at = slice_get-map_read c.args.entries.now g.E.Entry.name c.loop-i.i c.index-entries-i.result c.loop-i-test.true c.index-entries-i.is ∙ ap Some (sym c.name.ensures) in
     let before = take-map g.E.Entry.name c.loop-i.i c.args.entries.now in
-    let some = ap (λ names. has_name names x) before ∙ c.place_of.ensures.there.0 (sym c.is_some.ensures ∙ c.if-is_some.true) in (
+    let some = ap (λ names. has_name names x) before ∙ c.index_among.ensures.there.0 (sym c.is_some.ensures ∙ c.if-is_some.true) in (
       λ no. absurd (cc),
       λ distinct. absurd (not-AreDistinct bytes_eq bytes_eq-Decides _ c.loop-i.i x at some distinct),
     )
@@ -21,7 +21,7 @@ loop-i-preserved g c =
     let x = c.name.result in
     let at = slice_get-map_read c.args.entries.now g.E.Entry.name c.loop-i.i c.index-entries-i.result c.loop-i-test.true c.index-entries-i.is ∙ ap Some (sym c.name.ensures) in
     let before = take-map g.E.Entry.name c.loop-i.i c.args.entries.now in
-    let none = ap (λ names. has_name names x) before ∙ false_from_ne_true _ (λ among. let some = c.place_of.ensures.there.1 among in cc) in
+    let none = ap (λ names. has_name names x) before ∙ false_from_ne_true _ (λ among. let some = c.index_among.ensures.there.1 among in cc) in
     AreDistinct-take_more bytes_eq bytes_eq-Decides _ c.loop-i.i x at c.loop-i.invariant none
 
 pub returns : goal.returns

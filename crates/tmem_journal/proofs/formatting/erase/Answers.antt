@@ -2,7 +2,7 @@ use Rattle.std.proofs.Common.{◌≡◌, ◌≤◌, ◌*◌, ◌+◌, ◌/◌, �
 use Rattle.std.proofs.lemmas.List.{take-replicate, length-replicate}
 use Rattle.tmem_disk.specs.Disk.{overwritten}
 use Rattle.tmem_journal.proofs.Overwriting.{zeros_more}
-use Rattle.tmem_journal.proofs.FormattedStands.{on_ok}
+use Rattle.tmem_journal.proofs.FormattedContent.{on_ok}
 use Rattle.tmem_gate.proofs.Laws.{WritesWithin-wider, WritesWithin-trans, by_look}
 use Rattle.tmem_journal.proofs.formatting.erase.Goals as goal
 

@@ -1,8 +1,8 @@
 use Rattle.std.proofs.Common.{◌+◌, ◌≤◌, ◌∙◌, arith}
-use Rattle.tmem_record.specs.Layout.{IsLayout, end_place}
+use Rattle.tmem_record.specs.Layout.{IsLayout, end_at}
 use Rattle.tmem_gate.proofs.Laws.{WritesWithin-wider, WritesWithin-trans}
 use Rattle.tmem_journal.proofs.Building.{still_zeros, same_rest}
-use Rattle.tmem_journal.proofs.FormattedStands.{formatted_device, on_ok, on_ok_2}
+use Rattle.tmem_journal.proofs.FormattedContent.{formatted_device, on_ok, on_ok_2}
 use Rattle.tmem_journal.proofs.formatting.format.Goals as goal
 
 pub build-requires-clause-zeros : goal.build-requires-clause-zeros
@@ -15,13 +15,13 @@ returns-clause-written g c =
 
 pub returns-clause-elsewhere : goal.returns-clause-elsewhere
 returns-clause-elsewhere g c =
-    let end = end_place c.args.vars c.args.slots in
+    let end = end_at c.args.vars c.args.slots in
     let vars = c.in_ok-layout.ensures.vars in
     let slots = c.in_ok-layout.ensures.slots in
     let erased : 0 + c.end-end.result ≤ 0 + end = omega (arith, vars, slots, c.end-end.ensures) in
-    let built : 0 + end_place c.in_ok-layout.layout.vars c.in_ok-layout.layout.slots ≤ 0 + end = omega (arith, vars, slots) in
+    let built : 0 + end_at c.in_ok-layout.layout.vars c.in_ok-layout.layout.slots ≤ 0 + end = omega (arith, vars, slots) in
     WritesWithin-trans 0 end _ _ _ c.build.ensures.uses.model (WritesWithin-wider 0 c.end-end.result 0 end (omega arith) erased _ _ c.erase.ensures.elsewhere)
-    (WritesWithin-wider 0 (end_place c.in_ok-layout.layout.vars c.in_ok-layout.layout.slots) 0 end (omega arith) built _ _ c.build.ensures.elsewhere)
+    (WritesWithin-wider 0 (end_at c.in_ok-layout.layout.vars c.in_ok-layout.layout.slots) 0 end (omega arith) built _ _ c.build.ensures.elsewhere)
 
 pub returns-clause-stands : goal.returns-clause-stands
 returns-clause-stands g c =

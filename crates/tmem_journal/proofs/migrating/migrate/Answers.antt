@@ -1,7 +1,7 @@
 use Rattle.std.proofs.Common.{refl}
 use Rattle.tmem_disk.proofs.Laws.{LeavesOnly-more}
 use Rattle.tmem_image.specs.Image.{other_copy}
-use Rattle.tmem_image.specs.Pages.{pages_place}
+use Rattle.tmem_image.specs.Pages.{pages_at}
 use Rattle.tmem_image.proofs.Laws.{HoldsOthers-all}
 use Rattle.tmem_journal.proofs.Migrated.{no_call, any_position}
 use Rattle.tmem_journal.proofs.migrating.migrate.Goals as goal
@@ -21,7 +21,7 @@ returns-then-found-eq18446744073709551615-clause-stands g c = LeavesOnly-more _ 
 pub renew-requires-clause-others : goal.renew-requires-clause-others
 renew-requires-clause-others g c =
     let layout = c.args.layout in
-    record { each = λ k content left. HoldsOthers-all (pages_place layout.vars (other_copy c.args.found.copy)) layout.vars c.args.found.state.values content layout.fits.vars_fit }
+    record { each = λ k content left. HoldsOthers-all (pages_at layout.vars (other_copy c.args.found.copy)) layout.vars c.args.found.state.values content layout.fits.vars_fit }
 
 pub returns-in-Two-clause-beside : goal.returns-in-Two-clause-beside
 returns-in-Two-clause-beside g c = λ k i beside none. refl

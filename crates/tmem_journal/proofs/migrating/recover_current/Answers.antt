@@ -3,7 +3,7 @@ use Rattle.tmem_disk.proofs.Laws.{LeavesOnly-synced}
 use Rattle.tmem_state.specs.declared.version.Version.TheVariants.{Two}
 use Rattle.tmem_image.specs.Image.{other_copy}
 use Rattle.tmem_journal.specs.Mended.{MendsDevice, IsFoundAt, SameBesideCopy}
-use Rattle.tmem_journal.specs.Stands.{position_at, position_in, StandsFor}
+use Rattle.tmem_journal.specs.Contents.{position_at, position_in, ContentRepresents}
 use Rattle.tmem_journal.proofs.Recovers.{RecoversDevice-mends, SameBesideCopy-mends, SameBesideCopy-after, one_copy}
 use Rattle.tmem_journal.proofs.Migrated.{mends_given, migrating, if_ok_2, if_err, not_migrated}
 use Rattle.tmem_journal.proofs.migrating.recover_current.Goals as goal
@@ -45,7 +45,7 @@ returns-clause-found g c = λ k.
     if_ok_2 _ _ (λ f. IsFoundAt layout.vars layout.slots seen f.state (position_in f.copy f.log))
     (λ f state position. record {
       position = p;
-      stands = subst (λ s. StandsFor layout.vars layout.slots p s seen) (sym state) (c.in_ok-found.ensures.found (c.migrate.ensures.uses.model k));
+      stands = subst (λ s. ContentRepresents layout.vars layout.slots p s seen) (sym state) (c.in_ok-found.ensures.found (c.migrate.ensures.uses.model k));
       goes_on = position;
     })
     c.migrate.result c.migrate.ensures.state c.migrate.ensures.position

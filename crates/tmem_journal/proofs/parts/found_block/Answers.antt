@@ -1,5 +1,5 @@
 use Rattle.std.proofs.Common.{◌≡◌, take, drop, refl, arith}
-use Rattle.tmem_journal.proofs.FormattedStands.{if_ok}
+use Rattle.tmem_journal.proofs.FormattedContent.{if_ok}
 use Rattle.tmem_record.proofs.Laws.{gate_open, part_read}
 use Rattle.tmem_journal.specs.BlockSpelling.{block_body}
 use Rattle.tmem_journal.proofs.Refused.{whole, why_read}

@@ -1,5 +1,5 @@
 use Rattle.std.proofs.Common.{arith}
-use Rattle.tmem_journal.specs.Stands.{position_at}
+use Rattle.tmem_journal.specs.Contents.{position_at}
 use Rattle.tmem_journal.proofs.Recovered.{looking_mends, closing_mends}
 use Rattle.tmem_journal.proofs.recovery.recover.Goals as goal
 

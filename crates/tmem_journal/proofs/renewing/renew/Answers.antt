@@ -1,7 +1,7 @@
 use Rattle.std.proofs.Common.{◌-◌, ◌+◌, refl, inl, inr, rules}
-use Rattle.tmem_gate.specs.Changes.{outcome_of}
-use Rattle.tmem_journal.specs.Stands.{position_at}
-use Rattle.tmem_journal.proofs.FormattedStands.{on_ok}
+use Rattle.tmem_gate.specs.Changes.{call_outcome}
+use Rattle.tmem_journal.specs.Contents.{position_at}
+use Rattle.tmem_journal.proofs.FormattedContent.{on_ok}
 use Rattle.tmem_journal.proofs.Logged.{other_one}
 use Rattle.tmem_journal.proofs.Recovers.{sure_current}
 use Rattle.tmem_journal.proofs.Renewed.{after_writing, current_writing, beside_copy, beside_emptied, not_written, while_writing, sure_emptied, after_emptying, while_emptying, copy_within, renewed_within, settled, pages_aside, pages_in_front, pages_written}
@@ -14,13 +14,13 @@ pub returns-in_err-write_spare-clause-any_moment : goal.returns-in_err-write_spa
 returns-in_err-write_spare-clause-any_moment g c =
     let layout = c.args.layout in
     let p = position_at c.args.version c.args.copy c.args.log.now in
-    while_writing layout.vars layout.slots p c.args.state.now c.requires.number _ _ c.write_spare.ensures.uses.model c.requires.stands (outcome_of c.write_spare.result) c.write_spare.ensures.puts.any_moment
+    while_writing layout.vars layout.slots p c.args.state.now c.requires.number _ _ c.write_spare.ensures.uses.model c.requires.stands (call_outcome c.write_spare.result) c.write_spare.ensures.puts.any_moment
 
 pub returns-in_err-write_spare-clause-stands : goal.returns-in_err-write_spare-clause-stands
 returns-in_err-write_spare-clause-stands g c =
     let layout = c.args.layout in
     let p = position_at c.args.version c.args.copy c.args.log.now in
-    after_writing layout.vars layout.slots p c.args.state.now c.requires.number _ _ c.write_spare.ensures.uses.model c.requires.stands (outcome_of c.write_spare.result) c.write_spare.ensures.puts.stands
+    after_writing layout.vars layout.slots p c.args.state.now c.requires.number _ _ c.write_spare.ensures.uses.model c.requires.stands (call_outcome c.write_spare.result) c.write_spare.ensures.puts.stands
 
 pub returns-clause-elsewhere : goal.returns-clause-elsewhere
 returns-clause-elsewhere g c = renewed_within c.args.layout.vars c.args.layout.slots (1 - c.args.copy) (other_one c.args.copy) _ _ _ c.empty.ensures.uses.model c.write_spare.ensures.puts.elsewhere c.empty.ensures.closes.elsewhere
@@ -29,20 +29,20 @@ pub returns-clause-any_moment : goal.returns-clause-any_moment
 returns-clause-any_moment g c =
     let layout = c.args.layout in
     let p = position_at c.args.version c.args.copy c.args.log.now in
-    let first = while_writing layout.vars layout.slots p c.args.state.now c.requires.number _ _ c.write_spare.ensures.uses.model c.requires.stands (outcome_of c.write_spare.result) c.write_spare.ensures.puts.any_moment in
+    let first = while_writing layout.vars layout.slots p c.args.state.now c.requires.number _ _ c.write_spare.ensures.uses.model c.requires.stands (call_outcome c.write_spare.result) c.write_spare.ensures.puts.any_moment in
     while_emptying layout.vars layout.slots p c.args.state.now c.requires.number _ _ c.write_spare.ensures.uses.model c.requires.stands _ c.empty.ensures.uses.model c.in_ok-write_spare.ensures.puts.stands c.write_spare.ensures.puts.elsewhere.time.later first (c.empty.ensures.closes.time c.in_ok-write_spare.ensures.durable)
 
 pub returns-clause-stands : goal.returns-clause-stands
 returns-clause-stands g c =
     let layout = c.args.layout in
     let p = position_at c.args.version c.args.copy c.args.log.now in
-    after_emptying layout.vars layout.slots p c.args.state.now c.requires.number _ _ c.write_spare.ensures.uses.model c.requires.stands _ c.empty.ensures.uses.model c.in_ok-write_spare.ensures.puts.stands (c.empty.ensures.closes.stop c.in_ok-write_spare.ensures.durable)
+    after_emptying layout.vars layout.slots p c.args.state.now c.requires.number _ _ c.write_spare.ensures.uses.model c.requires.stands _ c.empty.ensures.uses.model c.in_ok-write_spare.ensures.puts.stands (c.empty.ensures.closes.crash c.in_ok-write_spare.ensures.durable)
 
 pub returns-clause-sure : goal.returns-clause-sure
 returns-clause-sure g c =
     let layout = c.args.layout in
     let p = position_at c.args.version c.args.copy c.args.log.now in
-    on_ok (λ synced. sure_emptied layout.vars layout.slots p c.args.state.now c.requires.number _ _ c.write_spare.ensures.uses.model c.requires.stands _ c.empty.ensures.uses.model c.in_ok-write_spare.ensures.puts.stands (c.empty.ensures.closes.stop c.in_ok-write_spare.ensures.durable))
+    on_ok (λ synced. sure_emptied layout.vars layout.slots p c.args.state.now c.requires.number _ _ c.write_spare.ensures.uses.model c.requires.stands _ c.empty.ensures.uses.model c.in_ok-write_spare.ensures.puts.stands (c.empty.ensures.closes.crash c.in_ok-write_spare.ensures.durable))
     c.empty.result (c.empty.ensures.durable c.in_ok-write_spare.ensures.durable)
 
 pub returns-in_err-write_spare-clause-certain : goal.returns-in_err-write_spare-clause-certain
@@ -55,7 +55,7 @@ pub returns-clause-certain : goal.returns-clause-certain
 returns-clause-certain g c = λ is.
     let layout = c.args.layout in
     let p = position_at c.args.version c.args.copy c.args.log.now in
-    inr (sure_emptied layout.vars layout.slots p c.args.state.now c.requires.number _ _ c.write_spare.ensures.uses.model c.requires.stands _ c.empty.ensures.uses.model c.in_ok-write_spare.ensures.puts.stands (c.empty.ensures.closes.stop c.in_ok-write_spare.ensures.durable))
+    inr (sure_emptied layout.vars layout.slots p c.args.state.now c.requires.number _ _ c.write_spare.ensures.uses.model c.requires.stands _ c.empty.ensures.uses.model c.in_ok-write_spare.ensures.puts.stands (c.empty.ensures.closes.crash c.in_ok-write_spare.ensures.durable))
 
 pub write_spare-requires-clause-settled : goal.write_spare-requires-clause-settled
 write_spare-requires-clause-settled g c = settled (g.D.Disk.view c.args.disk.now) c.requires.synced
@@ -86,13 +86,13 @@ pub returns-in_err-write_spare-clause-current : goal.returns-in_err-write_spare-
 returns-in_err-write_spare-clause-current g c = λ two.
     let layout = c.args.layout in
     let p = position_at c.args.version c.args.copy c.args.log.now in
-    current_writing layout.vars layout.slots p c.args.state.now c.requires.number _ _ c.write_spare.ensures.uses.model c.requires.stands two (outcome_of c.write_spare.result) c.write_spare.ensures.puts.stands
+    current_writing layout.vars layout.slots p c.args.state.now c.requires.number _ _ c.write_spare.ensures.uses.model c.requires.stands two (call_outcome c.write_spare.result) c.write_spare.ensures.puts.stands
 
 pub returns-clause-current : goal.returns-clause-current
 returns-clause-current g c = λ two.
     let layout = c.args.layout in
     let p = position_at c.args.version c.args.copy c.args.log.now in
-    sure_current (sure_emptied layout.vars layout.slots p c.args.state.now c.requires.number _ _ c.write_spare.ensures.uses.model c.requires.stands _ c.empty.ensures.uses.model c.in_ok-write_spare.ensures.puts.stands (c.empty.ensures.closes.stop c.in_ok-write_spare.ensures.durable)) refl
+    sure_current (sure_emptied layout.vars layout.slots p c.args.state.now c.requires.number _ _ c.write_spare.ensures.uses.model c.requires.stands _ c.empty.ensures.uses.model c.in_ok-write_spare.ensures.puts.stands (c.empty.ensures.closes.crash c.in_ok-write_spare.ensures.durable)) refl
 
 pub returns-in_err-write_spare-clause-beside : goal.returns-in_err-write_spare-clause-beside
 returns-in_err-write_spare-clause-beside g c = λ k. beside_copy c.args.layout.vars c.args.layout.slots (1 - c.args.copy) _ _ (c.write_spare.ensures.puts.elsewhere.seen k)

@@ -8,7 +8,7 @@ loop-name-preserved c =
     let same = c.as_bytes-letters.ensures.bytes ∙ c.name-item.is in
     let more = sum_by_more (λ n. 1 + length n) c.args.names.now c.loop-name.name-index c.name-item.result c.loop-name-test.true in
     record {
-      place = omega (arith, more, ap length same, c.put-at.ensures.next, c.put-at-in-loop-name.ensures.next, c.loop-name.invariant.place);
+      at = omega (arith, more, ap length same, c.put-at.ensures.next, c.put-at-in-loop-name.ensures.next, c.loop-name.invariant.at);
       front = name_put c.args.names.now c.loop-name.name-index c.name-item.result c.loop-name-test.true _ _ _ _ _ _ c.loop-name.invariant.front c.put-at.ensures.front c.put-at-in-loop-name.ensures.front refl same;
       rest =
           let once = c.put-at-in-loop-name.ensures.next in

@@ -6,6 +6,6 @@ use Rattle.tmem_record.proofs.codec.put_records.Given as goal
 
 abbrev pub invariant-loop-effect : goal.invariant-loop-effect
 invariant-loop-effect l = record {
-  place : l.at ≡ l.start + records_length (take l.effect-index l.effects);
+  at : l.at ≡ l.start + records_length (take l.effect-index l.effects);
   front : take l.at l.into ≡ take l.start l.fn.into ++ flat_map (record_bytes Two) (take l.effect-index l.effects);
 }

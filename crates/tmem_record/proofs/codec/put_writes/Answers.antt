@@ -10,6 +10,6 @@ loop-write-preserved c =
     let fits : FitsSigned w64 (get_or c.args.writes.now c.loop-write.write-index (0, pos 0)).1 = search rules in
     let same = ap (λ (z : ℤ). little_bytes 8 (cast_unsigned w64 z)) (to_z-of_z w64 _ fits) in
     record {
-      place = omega (arith, ap length c.to_le_bytes.ensures, ap length c.to_le_bytes-in-loop-write.ensures);
+      at = omega (arith, ap length c.to_le_bytes.ensures, ap length c.to_le_bytes-in-loop-write.ensures);
       front = write_put c.args.writes.now c.loop-write.write-index (omega arith) _ _ _ _ _ _ c.loop-write.invariant.front c.put-at.ensures.front c.put-at-in-loop-write.ensures.front c.to_le_bytes.ensures (c.to_le_bytes-in-loop-write.ensures ∙ same);
     }

@@ -4,6 +4,6 @@ use Rattle.tmem_record.proofs.codec.put_writes.Given as goal
 
 abbrev pub invariant-loop-write : goal.invariant-loop-write
 invariant-loop-write l = record {
-  place : l.at ≡ l.start + 10 * l.write-index;
+  at : l.at ≡ l.start + 10 * l.write-index;
   front : take l.at l.into ≡ take l.start l.fn.into ++ flat_map write_bytes (take l.write-index l.writes);
 }

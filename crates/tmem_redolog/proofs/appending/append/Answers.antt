@@ -1,8 +1,8 @@
 use Rattle.std.proofs.Common.{ℕ, ◌+◌, ◌<◌, ◌≤◌, List, length, take, arith, length-take}
 use Rattle.tmem_disk.proofs.Laws.{SameOutside-wider}
-use Rattle.tmem_gate.specs.Changes.{outcome_of}
+use Rattle.tmem_gate.specs.Changes.{call_outcome}
 use Rattle.tmem_gate.proofs.Laws.{not_begun}
-use Rattle.tmem_redolog.specs.Appends.{placed}
+use Rattle.tmem_redolog.specs.Appends.{batch_placed}
 use Rattle.tmem_redolog.proofs.Appended.{append_put, still_closed}
 use Rattle.tmem_redolog.proofs.appending.append.Goals as goal
 
@@ -16,7 +16,7 @@ returns-then-log-layout-clause-puts g c = not_begun _ _ _ _ _ (g.met.D.Disk.is_d
 pub returns-then-is_ok-clause-puts : goal.returns-then-is_ok-clause-puts
 returns-then-is_ok-clause-puts g c =
     let room : c.args.log.now.used < c.args.layout.slots = omega (arith, c.requires.used, c.if-log-layout.false) in
-    append_put (placed c.args.layout c.args.log.now c.args.first c.args.batch.now) room c.requires.batch c.slot.result _ _ _ (outcome_of c.put_cell-put.result) c.slot.ensures c.encode_batch-len.ensures.bytes c.put_cell-put.ensures.puts
+    append_put (batch_placed c.args.layout c.args.log.now c.args.first c.args.batch.now) room c.requires.batch c.slot.result _ _ _ (call_outcome c.put_cell-put.result) c.slot.ensures c.encode_batch-len.ensures.bytes c.put_cell-put.ensures.puts
 
 pub returns-then-is_ok-clause-behind : goal.returns-then-is_ok-clause-behind
 returns-then-is_ok-clause-behind g c = still_closed c.args.layout.vars c.args.log.now.used _ _ c.put_cell-put.ensures.uses.model (returns-then-is_ok-clause-puts g c).elsewhere
@@ -24,7 +24,7 @@ returns-then-is_ok-clause-behind g c = still_closed c.args.layout.vars c.args.lo
 pub returns-else-is_ok-clause-puts : goal.returns-else-is_ok-clause-puts
 returns-else-is_ok-clause-puts g c =
     let room : c.args.log.now.used < c.args.layout.slots = omega (arith, c.requires.used, c.if-log-layout.false) in
-    append_put (placed c.args.layout c.args.log.now c.args.first c.args.batch.now) room c.requires.batch c.slot.result _ _ _ (outcome_of c.put_cell-put.result) c.slot.ensures c.encode_batch-len.ensures.bytes c.put_cell-put.ensures.puts
+    append_put (batch_placed c.args.layout c.args.log.now c.args.first c.args.batch.now) room c.requires.batch c.slot.result _ _ _ (call_outcome c.put_cell-put.result) c.slot.ensures c.encode_batch-len.ensures.bytes c.put_cell-put.ensures.puts
 
 pub returns-else-is_ok-clause-behind : goal.returns-else-is_ok-clause-behind
 returns-else-is_ok-clause-behind g c = still_closed c.args.layout.vars c.args.log.now.used _ _ c.put_cell-put.ensures.uses.model (returns-else-is_ok-clause-puts g c).elsewhere

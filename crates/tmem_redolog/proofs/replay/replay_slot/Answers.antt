@@ -23,11 +23,11 @@ returns-then-head-generation-clause-refused c = λ es may.
       | then-head-generation-via-else-head-generation+then-head-count w ↦ absurd (omega (arith, w.if-head-count, w.count.ensures, same.1))
     ]
 
-pub returns-then-not-accept_all-clause-refused : goal.returns-then-not-accept_all-clause-refused
-returns-then-not-accept_all-clause-refused c = λ es may.
+pub returns-then-not-commit_all-clause-refused : goal.returns-then-not-commit_all-clause-refused
+returns-then-not-commit_all-clause-refused c = λ es may.
     let few : c.args.vars ≤ 2 ^ 16 = omega (arith, c.ranges.vars) in
     let fits : c.args.generation < 2 ^ 64 = omega (arith, c.ranges.generation) in
     let read = from_all c.args.version c.args.vars c.in-Some.head.generation c.in-Some.head.first c.in-Some.head.length c.read_batch.new.records c.args.slot.now c.in-Some.ensures.found in
     let same = same_batch c.args.version c.args.vars c.args.generation few fits c.args.state.now c.args.slot.now c.in-Some.head.generation c.in-Some.head.first c.in-Some.head.length c.read_batch.new.records read es may in
     let within = subst (StaysWithin c.args.state.now) (sym (c.effects.ensures.effects ∙ same.2)) may.within in
-    false≢true (sym c.if-not-accept_all.true ∙ c.accept_all.ensures.accepted.1 within)
+    false≢true (sym c.if-not-commit_all.true ∙ c.commit_all.ensures.committed.1 within)

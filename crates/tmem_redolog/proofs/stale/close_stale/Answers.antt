@@ -8,9 +8,9 @@ returns-in_err-close_gates-clause-closes g c = c.close_gates.ensures.closes c.ar
 pub returns-in_err-sync-clause-closes : goal.returns-in_err-sync-clause-closes
 returns-in_err-sync-clause-closes g c =
     let sync = c.sync.ensures in
-    Closes-then_look c.args.layout.vars c.args.layout.slots c.args.log.now.generation c.args.log.now.used _ _ _ (g.met.D.Disk.is_device c.close_gates.new.disk) sync.call.model (c.close_gates.ensures.closes c.args.log.now.generation) (looks _ _ sync.seen sync.stop sync.time)
+    Closes-then_look c.args.layout.vars c.args.layout.slots c.args.log.now.generation c.args.log.now.used _ _ _ (g.met.D.Disk.is_device c.close_gates.new.disk) sync.call.model (c.close_gates.ensures.closes c.args.log.now.generation) (looks _ _ sync.seen sync.crash sync.time)
 
 pub returns-in_ok-sync-clause-closes : goal.returns-in_ok-sync-clause-closes
 returns-in_ok-sync-clause-closes g c =
     let sync = c.sync.ensures in
-    Closes-then_look c.args.layout.vars c.args.layout.slots c.args.log.now.generation c.args.log.now.used _ _ _ (g.met.D.Disk.is_device c.close_gates.new.disk) sync.call.model (c.close_gates.ensures.closes c.args.log.now.generation) (looks _ _ sync.seen sync.stop sync.time)
+    Closes-then_look c.args.layout.vars c.args.layout.slots c.args.log.now.generation c.args.log.now.used _ _ _ (g.met.D.Disk.is_device c.close_gates.new.disk) sync.call.model (c.close_gates.ensures.closes c.args.log.now.generation) (looks _ _ sync.seen sync.crash sync.time)

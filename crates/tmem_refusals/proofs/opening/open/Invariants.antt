@@ -1,4 +1,4 @@
-use Rattle.tmem_front.specs.Held.{found_of, spine_of}
+use Rattle.tmem_front.specs.Held.{front_found, spine_of}
 use Rattle.tmem_refusals.specs.Stored.{stored}
 use Rattle.tmem_refusals.proofs.opening.open.Given as goal
 
@@ -10,4 +10,4 @@ abbrev pub ghosts-with_front-N-ProgramNaming : goal.ghosts-with_front-N-ProgramN
 ghosts-with_front-N-ProgramNaming g a = record { program = stored }
 
 abbrev pub ghosts-with_front-N-StoreNaming : goal.ghosts-with_front-N-StoreNaming
-ghosts-with_front-N-StoreNaming g a = record { opening = found_of a.opened }
+ghosts-with_front-N-StoreNaming g a = record { opening = front_found a.opened }

@@ -2,10 +2,10 @@ use Rattle.std.proofs.Common.{◌≡◌, ℕ, inr, subst, ap, ◌∙◌, arith}
 use Rattle.std.specs.Io.KnownBytes.{Appends}
 use Rattle.std.proofs.lemmas.Result.{on_ok_weaker}
 use Rattle.tmem_spine.specs.History.{count}
-use Rattle.tmem_spine.specs.Views.{PassView, new_pass}
+use Rattle.tmem_spine.specs.Views.{PassRoleView, new_pass}
 use Rattle.tmem_desk.specs.Asking.{store}
 use Rattle.tmem_desk.specs.Desks.{DeskView}
-use Rattle.tmem_desk.specs.Held.{view_of, empty_desk}
+use Rattle.tmem_desk.specs.Held.{desk_view, empty_desk}
 use Rattle.tmem_serve.specs.Turns.{ServesInput, StopsInput}
 use Rattle.tmem_serve.specs.Stores.{IsWhyStopped, first_line}
 use Rattle.tmem_serve.proofs.Turning.{err_more}
@@ -22,9 +22,9 @@ returns-clause-served g c =
     let rest = g.I.Read.remaining c.serve_lines.new.input in
     let after = g.W.Write.contents c.serve_lines.new.out in
     let new = c.in_ok-pass.ensures.pass.0 in
-    let opened : c.seen.result ≡ s.start = c.seen.ensures.seen ∙ ap (λ (p : PassView). count s.start p.seen) new ∙ (omega arith) in
+    let opened : c.seen.result ≡ s.start = c.seen.ensures.seen ∙ ap (λ (p : PassRoleView). count s.start p.seen) new ∙ (omega arith) in
     let first = subst (λ (n : ℕ). Appends before between (first_line n vars names)) opened c.in_ok-print_first.ensures.printed in
-    let fresh : view_of c.new-desk.result ≡ empty_desk (new_pass c.in_ok-pass.pass.mark) = c.new-desk.ensures ∙ ap (λ (p : PassView). empty_desk p) new in
+    let fresh : desk_view c.new-desk.result ≡ empty_desk (new_pass c.in_ok-pass.pass.mark) = c.new-desk.ensures ∙ ap (λ (p : PassRoleView). empty_desk p) new in
     on_ok_weaker c.serve_lines.result
     (λ so. record { between = between; first = first; mark = c.in_ok-pass.pass.mark; input = subst (λ (v : DeskView). ServesInput s v unread rest between after) fresh so })
     c.serve_lines.ensures.served
@@ -40,9 +40,9 @@ returns-clause-stopped g c =
     let rest = g.I.Read.remaining c.serve_lines.new.input in
     let after = g.W.Write.contents c.serve_lines.new.out in
     let new = c.in_ok-pass.ensures.pass.0 in
-    let opened : c.seen.result ≡ s.start = c.seen.ensures.seen ∙ ap (λ (p : PassView). count s.start p.seen) new ∙ (omega arith) in
+    let opened : c.seen.result ≡ s.start = c.seen.ensures.seen ∙ ap (λ (p : PassRoleView). count s.start p.seen) new ∙ (omega arith) in
     let first = subst (λ (n : ℕ). Appends before between (first_line n vars names)) opened c.in_ok-print_first.ensures.printed in
-    let fresh : view_of c.new-desk.result ≡ empty_desk (new_pass c.in_ok-pass.pass.mark) = c.new-desk.ensures ∙ ap (λ (p : PassView). empty_desk p) new in
-    err_more (StopsInput s (view_of c.new-desk.result) unread rest between after) (IsWhyStopped s vars names unread rest before after) c.serve_lines.result
+    let fresh : desk_view c.new-desk.result ≡ empty_desk (new_pass c.in_ok-pass.pass.mark) = c.new-desk.ensures ∙ ap (λ (p : PassRoleView). empty_desk p) new in
+    err_more (StopsInput s (desk_view c.new-desk.result) unread rest between after) (IsWhyStopped s vars names unread rest before after) c.serve_lines.result
     (λ f so. inr (inr (record { between = between; first = first; mark = c.in_ok-pass.pass.mark; input = subst (λ (v : DeskView). StopsInput s v unread rest between after f) fresh so })))
     c.serve_lines.ensures.stopped

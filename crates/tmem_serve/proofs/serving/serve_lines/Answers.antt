@@ -2,7 +2,7 @@ use Rattle.std.proofs.Common.{inl, inr, ◌≡◌, ◌≤◌, ℕ, List, sym, �
 use Rattle.std.specs.Io.KnownBytes.{Consumes}
 use Rattle.std.proofs.lemmas.List.{take_at}
 use Rattle.tmem_desk.specs.Asking.{store}
-use Rattle.tmem_desk.specs.Held.{view_of}
+use Rattle.tmem_desk.specs.Held.{desk_view}
 use Rattle.tmem_serve.specs.Turns.{StopsInput}
 use Rattle.tmem_serve.proofs.Turning.{err_is, none_served, one_served, all_served, stopped, unflushed, not_begun}
 use Rattle.tmem_serve.proofs.serving.serve_lines.Goals as goal
@@ -10,7 +10,7 @@ use Rattle.tmem_serve.proofs.serving.serve_lines.Goals as goal
 pub returns-in_err-piece-clause-stopped : goal.returns-in_err-piece-clause-stopped
 returns-in_err-piece-clause-stopped g c =
     let s = store g.N.Naming.name.start g.N.StoreNaming.opening g.N.ProgramNaming.program g.N.ServedNaming.arities g.N.ServedNaming.always in
-    let v = view_of c.args.desk.now in
+    let v = desk_view c.args.desk.now in
     let unread = g.I.Read.remaining c.args.input.now in
     let before = g.W.Write.contents c.args.out.now in
     let none = not_begun s v unread before c.new-lines.result c.new-lines.ensures in
@@ -19,7 +19,7 @@ returns-in_err-piece-clause-stopped g c =
 pub loop-init : goal.loop-init
 loop-init g c =
     let s = store g.N.Naming.name.start g.N.StoreNaming.opening g.N.ProgramNaming.program g.N.ServedNaming.arities g.N.ServedNaming.always in
-    let v = view_of c.args.desk.now in
+    let v = desk_view c.args.desk.now in
     let unread = g.I.Read.remaining c.args.input.now in
     let before = g.W.Write.contents c.args.out.now in
     record { served = none_served s v unread before c.new-lines.result c.new-lines.ensures; room = c.in_ok-piece.ensures.room }
@@ -27,10 +27,10 @@ loop-init g c =
 pub returns-in_err-end-in-Err-clause-stopped : goal.returns-in_err-end-in-Err-clause-stopped
 returns-in_err-end-in-Err-clause-stopped g c =
     let s = store g.N.Naming.name.start g.N.StoreNaming.opening g.N.ProgramNaming.program g.N.ServedNaming.arities g.N.ServedNaming.always in
-    let v = view_of c.args.desk.now in
+    let v = desk_view c.args.desk.now in
     let unread = g.I.Read.remaining c.args.input.now in
     let before = g.W.Write.contents c.args.out.now in
-    let met = view_of c.loop.desk in
+    let met = desk_view c.loop.desk in
     let rest = g.I.Read.remaining c.loop.input in
     let left = g.I.Read.remaining c.read_some.new.input in
     let so = c.loop.invariant.served in
@@ -43,25 +43,25 @@ returns-in_err-end-in-Err-clause-stopped g c =
 pub returns-in-Err-clause-served : goal.returns-in-Err-clause-served
 returns-in-Err-clause-served g c =
     let s = store g.N.Naming.name.start g.N.StoreNaming.opening g.N.ProgramNaming.program g.N.ServedNaming.arities g.N.ServedNaming.always in
-    let v = view_of c.args.desk.now in
+    let v = desk_view c.args.desk.now in
     let unread = g.I.Read.remaining c.args.input.now in
     let before = g.W.Write.contents c.args.out.now in
-    let met = view_of c.loop.desk in
+    let met = desk_view c.loop.desk in
     let rest = g.I.Read.remaining c.loop.input in
     let left = g.I.Read.remaining c.read_some.new.input in
     let so = c.loop.invariant.served in
     let after = g.W.Write.contents c.loop.out in
     let given = g.W.Write.contents c.end.new.out in
     let flushed = g.W.Write.contents c.flush-in-Err.new.out in
-    all_served s v unread before met (view_of c.end.new.self) c.loop.lines rest left after given flushed so c.in-Err.ensures.none c.in_ok-end-in-Err.ensures.serves c.in_ok-flush-in-Err.ensures.kept
+    all_served s v unread before met (desk_view c.end.new.self) c.loop.lines rest left after given flushed so c.in-Err.ensures.none c.in_ok-end-in-Err.ensures.serves c.in_ok-flush-in-Err.ensures.kept
 
 pub returns-in_err-flush-in-Err-clause-stopped : goal.returns-in_err-flush-in-Err-clause-stopped
 returns-in_err-flush-in-Err-clause-stopped g c =
     let s = store g.N.Naming.name.start g.N.StoreNaming.opening g.N.ProgramNaming.program g.N.ServedNaming.arities g.N.ServedNaming.always in
-    let v = view_of c.args.desk.now in
+    let v = desk_view c.args.desk.now in
     let unread = g.I.Read.remaining c.args.input.now in
     let before = g.W.Write.contents c.args.out.now in
-    let met = view_of c.loop.desk in
+    let met = desk_view c.loop.desk in
     let rest = g.I.Read.remaining c.loop.input in
     let left = g.I.Read.remaining c.read_some.new.input in
     let so = c.loop.invariant.served in
@@ -73,10 +73,10 @@ returns-in_err-flush-in-Err-clause-stopped g c =
 pub returns-in_err-serve-in-Ok-clause-stopped : goal.returns-in_err-serve-in-Ok-clause-stopped
 returns-in_err-serve-in-Ok-clause-stopped g c =
     let s = store g.N.Naming.name.start g.N.StoreNaming.opening g.N.ProgramNaming.program g.N.ServedNaming.arities g.N.ServedNaming.always in
-    let v = view_of c.args.desk.now in
+    let v = desk_view c.args.desk.now in
     let unread = g.I.Read.remaining c.args.input.now in
     let before = g.W.Write.contents c.args.out.now in
-    let met = view_of c.loop.desk in
+    let met = desk_view c.loop.desk in
     let rest = g.I.Read.remaining c.loop.input in
     let left = g.I.Read.remaining c.read_some.new.input in
     let so = c.loop.invariant.served in
@@ -93,10 +93,10 @@ returns-in_err-serve-in-Ok-clause-stopped g c =
 pub loop-preserved : goal.loop-preserved
 loop-preserved g c =
     let s = store g.N.Naming.name.start g.N.StoreNaming.opening g.N.ProgramNaming.program g.N.ServedNaming.arities g.N.ServedNaming.always in
-    let v = view_of c.args.desk.now in
+    let v = desk_view c.args.desk.now in
     let unread = g.I.Read.remaining c.args.input.now in
     let before = g.W.Write.contents c.args.out.now in
-    let met = view_of c.loop.desk in
+    let met = desk_view c.loop.desk in
     let rest = g.I.Read.remaining c.loop.input in
     let left = g.I.Read.remaining c.read_some.new.input in
     let so = c.loop.invariant.served in
@@ -109,17 +109,17 @@ loop-preserved g c =
     let piece : c.first_of.result.now ≡ take c.in-Ok.count c.read_some.new.piece = subst (λ (xs : List ℕ). c.first_of.result.now ≡ take c.in-Ok.count xs) same c.first_of.ensures in
     let came = subst (Consumes rest left) (sym piece) read in
     record {
-      served = one_served s v unread before met (view_of c.serve.new.self) c.loop.lines c.serve.new.lines rest left after given flushed c.first_of.result.now so came c.in_ok-serve-in-Ok.ensures.serves c.in_ok-flush-in-Ok.ensures.kept;
+      served = one_served s v unread before met (desk_view c.serve.new.self) c.loop.lines c.serve.new.lines rest left after given flushed c.first_of.result.now so came c.in_ok-serve-in-Ok.ensures.serves c.in_ok-flush-in-Ok.ensures.kept;
       room = subst (λ (xs : List ℕ). 1 ≤ length xs) (sym (take_at c.read_some.new.piece _ c.loop.piece.len long)) (omega (arith, long, c.loop.invariant.room));
     }
 
 pub returns-in_err-flush-in-Ok-clause-stopped : goal.returns-in_err-flush-in-Ok-clause-stopped
 returns-in_err-flush-in-Ok-clause-stopped g c =
     let s = store g.N.Naming.name.start g.N.StoreNaming.opening g.N.ProgramNaming.program g.N.ServedNaming.arities g.N.ServedNaming.always in
-    let v = view_of c.args.desk.now in
+    let v = desk_view c.args.desk.now in
     let unread = g.I.Read.remaining c.args.input.now in
     let before = g.W.Write.contents c.args.out.now in
-    let met = view_of c.loop.desk in
+    let met = desk_view c.loop.desk in
     let rest = g.I.Read.remaining c.loop.input in
     let left = g.I.Read.remaining c.read_some.new.input in
     let so = c.loop.invariant.served in

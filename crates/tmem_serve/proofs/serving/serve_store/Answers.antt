@@ -3,8 +3,8 @@ use Rattle.std.proofs.lemmas.Result.{on_ok_weaker}
 use Rattle.tmem_core.specs.Program.{IsProgramOf}
 use Rattle.tmem_invariants.specs.Meanings.{IsSound}
 use Rattle.tmem_journal.specs.Held.{disk_of}
-use Rattle.tmem_opening.specs.Held.{position_of}
-use Rattle.tmem_front.specs.Held.{found_of, opening_of, spine_of, steps_of}
+use Rattle.tmem_opening.specs.Held.{opening_position}
+use Rattle.tmem_front.specs.Held.{front_found, opening_of, spine_of, front_steps}
 use Rattle.tmem_desk.specs.Asking.{store}
 use Rattle.tmem_serve.specs.Stores.{IsOpenedAs, IsWhyEnded, IsWhyStopped}
 use Rattle.tmem_serve.proofs.Turning.{err_more}
@@ -14,13 +14,13 @@ pub returns-in-Ok-clause-served : goal.returns-in-Ok-clause-served
 returns-in-Ok-clause-served g c =
     let o = c.in-Ok.opened in
     let so = c.in-Ok.ensures.opened in
-    let it = store (spine_of o).start (found_of o) g.program (g.S.StoredSteps.arities (steps_of o)) c.args.served.always.now in
-    let state = found_of o in
+    let it = store (spine_of o).start (front_found o) g.program (g.S.StoredSteps.arities (front_steps o)) c.args.served.always.now in
+    let state = front_found o in
     let sound = so.sound g.program.tests c.requires.1.1.1.1.1.1.1.1.1.0 in
     let opens : IsOpenedAs g.D.Disk.view g.program (g.S.StoredSteps.arities c.args.steps) c.args.served.always.now c.args.served.vars c.args.served.slots c.args.disk it = record {
       opened = disk_of (opening_of o).journal;
       finds = record {
-        position = position_of (opening_of o);
+        position = opening_position (opening_of o);
         found = so.found;
         leaves = so.leaves;
         sound = subst (λ (names : List (List ℕ)). IsSound g.program.tests names state.names state.values) c.requires.1.1.1.1.1.1.1.0 sound;
@@ -37,13 +37,13 @@ pub returns-in-Ok-clause-ended : goal.returns-in-Ok-clause-ended
 returns-in-Ok-clause-ended g c =
     let o = c.in-Ok.opened in
     let so = c.in-Ok.ensures.opened in
-    let it = store (spine_of o).start (found_of o) g.program (g.S.StoredSteps.arities (steps_of o)) c.args.served.always.now in
-    let state = found_of o in
+    let it = store (spine_of o).start (front_found o) g.program (g.S.StoredSteps.arities (front_steps o)) c.args.served.always.now in
+    let state = front_found o in
     let sound = so.sound g.program.tests c.requires.1.1.1.1.1.1.1.1.1.0 in
     let opens : IsOpenedAs g.D.Disk.view g.program (g.S.StoredSteps.arities c.args.steps) c.args.served.always.now c.args.served.vars c.args.served.slots c.args.disk it = record {
       opened = disk_of (opening_of o).journal;
       finds = record {
-        position = position_of (opening_of o);
+        position = opening_position (opening_of o);
         found = so.found;
         leaves = so.leaves;
         sound = subst (λ (names : List (List ℕ)). IsSound g.program.tests names state.names state.values) c.requires.1.1.1.1.1.1.1.0 sound;

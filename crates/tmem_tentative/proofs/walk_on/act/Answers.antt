@@ -2,7 +2,7 @@ use Rattle.std.proofs.Common.{sym, ap, ◌∙◌, map, arith, option_to_list}
 use Rattle.tmem_effect.proofs.Laws.{length-without_name-le}
 use Rattle.tmem_tree.specs.Run.{register}
 use Rattle.tmem_tree.specs.declared.tx.Tx.TheVariants.{Step}
-use Rattle.tmem_tentative.specs.Eval.{answered}
+use Rattle.tmem_tentative.specs.Eval.{eval_answered}
 use Rattle.tmem_tentative.specs.Logs.{out_of, run_state_of}
 use Rattle.tmem_tentative.proofs.EvalFits.{length-write}
 use Rattle.tmem_tentative.proofs.PlaceLeaves.{leaf_leads, read_leads, out_is_stopped}
@@ -25,7 +25,7 @@ returns-in-Step-clause-leads g c = λ m footprint stated of saves.
     let out = c.in-Step.out in
     rw c.in-Step.is (leaf_leads m footprint (Step index c.in-Step.args out) old.attempt log saves (option_to_list old.pending) (out_of c.call.result log old.probe)
     (λ ask is. c.call.ensures.tests_none (out_is_stopped c.call.result log old.probe ask is c.call.ensures.needs_none)) c.call.ensures.reads
-    (λ reads left covers. sym (c.call.ensures.flow m stated left old.probe ∙ ap (λ items. answered (m index (map (register old.attempt.registers) items)) (run_state_of old.attempt left) out) c.deref.ensures.value)))
+    (λ reads left covers. sym (c.call.ensures.flow m stated left old.probe ∙ ap (λ items. eval_answered (m index (map (register old.attempt.registers) items)) (run_state_of old.attempt left) out) c.deref.ensures.value)))
 
 pub returns-in-Retire-clause-names : goal.returns-in-Retire-clause-names
 returns-in-Retire-clause-names g c = grind (arith, length-without_name-le)

@@ -12,25 +12,25 @@ use Rattle.tmem_tree.specs.Shapes.{AreMeant, AreWithin}
 use Rattle.tmem_tree.proofs.shape.shapes_of.Goals as goal
 
 -- what is shown of one more
-shown_more : {X : Type 0} (show : Shape → X) (was now : List Shape) (shape : Shape) (all : List X) (place : ℕ) → now ≡ was ++ shape ∷ [] → map show was ≡ take place all → slice_get all place ≡ Some (show shape) → map show now ≡ take (place + 1) all
-shown_more show was now shape all place is so_far here =
+shown_more : {X : Type 0} (show : Shape → X) (was now : List Shape) (shape : Shape) (all : List X) (index : ℕ) → now ≡ was ++ shape ∷ [] → map show was ≡ take index all → slice_get all index ≡ Some (show shape) → map show now ≡ take (index + 1) all
+shown_more show was now shape all index is so_far here =
     ap (map show) is
     ∙ map-append show was (shape ∷ [])
     ∙ ap (λ xs. xs ++ show shape ∷ []) so_far
-    ∙ ap (λ x. take place all ++ x ∷ []) (sym (get_or_from_slice_get all place (show shape) (show shape) here))
-    ∙ sym (take_more all place (show shape) (slice_get_within all place (show shape) here))
+    ∙ ap (λ x. take index all ++ x ∷ []) (sym (get_or_from_slice_get all index (show shape) (show shape) here))
+    ∙ sym (take_more all index (show shape) (slice_get_within all index (show shape) here))
 
-pub loop-place-preserved : goal.loop-place-preserved
-loop-place-preserved g c =
+pub loop-index-preserved : goal.loop-index-preserved
+loop-index-preserved g c =
     let t = g.T.Invariants in
-    let was = c.loop-place.shapes.items in
+    let was = c.loop-index.shapes.items in
     let shape = c.shape_at.result in
     let now = c.in_ok-push.ensures.items in
     record {
-      names = shown_more (λ (s : Shape). s.name) was _ shape (t.names c.args.table.now) c.loop-place.place now c.loop-place.invariant.names c.shape_at.ensures.name;
-      footprints = shown_more (λ (s : Shape). s.footprint) was _ shape (t.footprints c.args.table.now) c.loop-place.place now c.loop-place.invariant.footprints c.shape_at.ensures.footprint;
-      meant = λ tests stated. subst (AreMeant tests) (sym now) (All-push (λ (s : Shape). s.footprint ≡ tests.footprint s.name) was shape (c.loop-place.invariant.meant tests stated) (c.shape_at.ensures.meant tests stated));
-      within = subst (AreWithin (t.vars c.args.table.now)) (sym now) (All-push (λ (s : Shape). AreBelow (t.vars c.args.table.now) s.footprint) was shape c.loop-place.invariant.within c.shape_at.ensures.within);
+      names = shown_more (λ (s : Shape). s.name) was _ shape (t.names c.args.table.now) c.loop-index.index now c.loop-index.invariant.names c.shape_at.ensures.name;
+      footprints = shown_more (λ (s : Shape). s.footprint) was _ shape (t.footprints c.args.table.now) c.loop-index.index now c.loop-index.invariant.footprints c.shape_at.ensures.footprint;
+      meant = λ tests stated. subst (AreMeant tests) (sym now) (All-push (λ (s : Shape). s.footprint ≡ tests.footprint s.name) was shape (c.loop-index.invariant.meant tests stated) (c.shape_at.ensures.meant tests stated));
+      within = subst (AreWithin (t.vars c.args.table.now)) (sym now) (All-push (λ (s : Shape). AreBelow (t.vars c.args.table.now) s.footprint) was shape c.loop-index.invariant.within c.shape_at.ensures.within);
     }
 
 -- there are as many footprints as names, since there are meanings
@@ -39,5 +39,5 @@ returns-clause-footprints g c =
     let t = g.T.Invariants in
     let table = c.args.table.now in
     let as_many : length (t.footprints table) ≡ length (t.names table) = ∥∥₁_elim (g.met.T.Invariants.has_meanings table) (hlevel props) (λ (stated : (m : Meanings) × t.is_stated table m). ap length (sym (g.met.T.Invariants.over table stated.0 stated.1)) ∙ length-map (t.names table) stated.0.footprint) in
-    c.loop-place.invariant.footprints
-    ∙ take_all c.loop-place.place (t.footprints table) (omega (arith, as_many, c.len-place-end.ensures))
+    c.loop-index.invariant.footprints
+    ∙ take_all c.loop-index.index (t.footprints table) (omega (arith, as_many, c.len-index-end.ensures))

@@ -4,12 +4,12 @@ use Rattle.tmem_tree.specs.declared.shape.Shape.{Shape}
 use Rattle.tmem_tree.specs.Shapes.{AreMeant, AreWithin, names_of}
 use Rattle.tmem_tree.proofs.shape.shapes_of.Given as goal
 
-abbrev pub invariant-loop-place : goal.invariant-loop-place
-invariant-loop-place g l =
+abbrev pub invariant-loop-index : goal.invariant-loop-index
+invariant-loop-index g l =
     let t = g.T.Invariants in
     record {
-      names : names_of l.shapes.items ≡ take l.place (t.names l.table);
-      footprints : map (λ (shape : Shape). shape.footprint) l.shapes.items ≡ take l.place (t.footprints l.table);
+      names : names_of l.shapes.items ≡ take l.index (t.names l.table);
+      footprints : map (λ (shape : Shape). shape.footprint) l.shapes.items ≡ take l.index (t.footprints l.table);
       meant : (tests : Meanings) → t.is_stated l.table tests → AreMeant tests l.shapes.items;
       within : AreWithin (t.vars l.table) l.shapes.items;
     }

@@ -1,7 +1,7 @@
 use Rattle.std.proofs.Common.{sym, subst, inl, inr, ⊎_elim}
 use Rattle.std.proofs.Math.Logic.{∥∥₁_map}
 use Rattle.tmem_journal.specs.Calls.{FitsOn}
-use Rattle.tmem_world.specs.Chain.{History, IsSafe, IsStore}
+use Rattle.tmem_world.specs.Chain.{ChainHistory, IsSafe, IsStore}
 use Rattle.tmem_world.proofs.Laws.{grows}
 use Rattle.tmem_world.proofs.chain.crash_leaves_store.Goals as goal
 
@@ -17,7 +17,7 @@ returns g c = record {
   };
   within_event = λ program vars slots h h' old new left fits during by synced keeps.
       let view = g.D.Disk.view in
-      let store : (f : History) → IsSafe program vars slots f (view left).seen → IsStore program vars slots f (view left) =
+      let store : (f : ChainHistory) → IsSafe program vars slots f (view left).seen → IsStore program vars slots f (view left) =
       λ f safe. record {
         fits = subst (FitsOn vars slots) (sym by.capacity) fits;
         device = record { each = λ k x may. subst (IsSafe program vars slots f) (sym (synced k x may)) safe };

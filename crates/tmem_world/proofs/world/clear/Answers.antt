@@ -1,7 +1,7 @@
 use Rattle.std.proofs.Common.{◌≡◌, None, refl, arith}
 use Rattle.std.proofs.lemmas.List.Elements.{AllWithin-more_set}
-use Rattle.tmem_world.specs.declared.slot.Slot.{Slot}
+use Rattle.tmem_world.specs.declared.attempt.WorldAttempt.{WorldAttempt}
 use Rattle.tmem_world.proofs.world.clear.Goals as goal
 
-pub loop-slot-preserved : goal.loop-slot-preserved
-loop-slot-preserved c = AllWithin-more_set c.loop-slot.slot-items c.loop-slot.slot-index _ (omega arith) (λ (slot : Slot). slot.plan ≡ None) c.loop-slot.invariant refl
+pub loop-attempt-preserved : goal.loop-attempt-preserved
+loop-attempt-preserved c = AllWithin-more_set c.loop-attempt.attempt-items c.loop-attempt.attempt-index _ (omega arith) (λ (attempt : WorldAttempt). attempt.plan ≡ None) c.loop-attempt.invariant refl

@@ -1,7 +1,7 @@
 use Rattle.std.proofs.Common.{◌≡◌, None}
 use Rattle.std.specs.List.{AllWithin}
-use Rattle.tmem_world.specs.declared.slot.Slot.{Slot}
+use Rattle.tmem_world.specs.declared.attempt.WorldAttempt.{WorldAttempt}
 use Rattle.tmem_world.proofs.world.clear.Given as goal
 
-abbrev pub invariant-loop-slot : goal.invariant-loop-slot
-invariant-loop-slot l = AllWithin (λ (slot : Slot). slot.plan ≡ None) l.slot-items 0 l.slot-index
+abbrev pub invariant-loop-attempt : goal.invariant-loop-attempt
+invariant-loop-attempt l = AllWithin (λ (attempt : WorldAttempt). attempt.plan ≡ None) l.attempt-items 0 l.attempt-index

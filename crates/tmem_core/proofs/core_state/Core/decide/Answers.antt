@@ -1,5 +1,5 @@
 use Rattle.std.proofs.Common.{sym, ◌∙◌}
-use Rattle.tmem_core.proofs.SettleAnswers.{settles, accepting-none, refused_with}
+use Rattle.tmem_core.proofs.SettleAnswers.{settles, committing-none, refused_with}
 use Rattle.tmem_core.proofs.core_state.Core.decide.Goals as goal
 
 pub returns-in-Normal-clause-settles : goal.returns-in-Normal-clause-settles
@@ -9,12 +9,12 @@ returns-in-Normal-clause-settles g c =
 
 pub returns-in-Retry-clause-settles : goal.returns-in-Retry-clause-settles
 returns-in-Retry-clause-settles g c =
-    settles c.args.self.now c.args.self.now c.args.attempt.now _ c.if-self.false (sym c.is_stale.ensures ∙ c.if-is_stale.false) (λ p are. rw c.in-Retry.is) tt (accepting-none _)
+    settles c.args.self.now c.args.self.now c.args.attempt.now _ c.if-self.false (sym c.is_stale.ensures ∙ c.if-is_stale.false) (λ p are. rw c.in-Retry.is) tt (committing-none _)
 
 pub returns-in-Abort-clause-settles : goal.returns-in-Abort-clause-settles
 returns-in-Abort-clause-settles g c =
-    settles c.args.self.now c.args.self.now c.args.attempt.now _ c.if-self.false (sym c.is_stale.ensures ∙ c.if-is_stale.false) (λ p are. rw c.in-Abort.is) tt (accepting-none _)
+    settles c.args.self.now c.args.self.now c.args.attempt.now _ c.if-self.false (sym c.is_stale.ensures ∙ c.if-is_stale.false) (λ p are. rw c.in-Abort.is) tt (committing-none _)
 
 pub returns-in-Broken-clause-settles : goal.returns-in-Broken-clause-settles
 returns-in-Broken-clause-settles g c =
-    settles c.args.self.now c.args.self.now c.args.attempt.now _ c.if-self.false (sym c.is_stale.ensures ∙ c.if-is_stale.false) (λ p are. rw c.in-Broken.is) tt (accepting-none _)
+    settles c.args.self.now c.args.self.now c.args.attempt.now _ c.if-self.false (sym c.is_stale.ensures ∙ c.if-is_stale.false) (λ p are. rw c.in-Broken.is) tt (committing-none _)

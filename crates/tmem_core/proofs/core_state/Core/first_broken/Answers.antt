@@ -1,5 +1,5 @@
 use Rattle.std.proofs.Common.{length}
-use Rattle.tmem_core.proofs.Places.{writes_within}
+use Rattle.tmem_core.proofs.Indices.{writes_within}
 use Rattle.tmem_core.proofs.core_state.Core.first_broken.Goals as goal
 
 pub first_false-requires-clause-variables : goal.first_false-requires-clause-variables

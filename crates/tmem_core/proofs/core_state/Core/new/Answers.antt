@@ -1,7 +1,7 @@
 use Rattle.std.proofs.Common.{◌≡◌, ◌≤◌, None, Some, length, sym, subst, ◌∙◌, arith}
 use Rattle.tmem_effect.specs.State.{State, IsWithin}
 use Rattle.tmem_invariants.specs.Meanings.{AllHold}
-use Rattle.tmem_invariants.specs.Places.{ArePlacesOf}
+use Rattle.tmem_invariants.specs.Indices.{AreIndicesOf}
 use Rattle.tmem_core.proofs.Folded.{folded-none}
 use Rattle.tmem_core.proofs.Known.{AreAmong}
 use Rattle.tmem_core.proofs.Opens.{opens, sound-opens}
@@ -19,9 +19,9 @@ pub invariant_of-result-clause-sound : goal.invariant_of-result-clause-sound
 invariant_of-result-clause-sound g c = λ m stated.
     subst (λ (x : State). AllHold m x.names x.values) (sym c.in-Ok.ensures.state) (opens (g.T.Invariants.names c.args.table) m c.args.state.now (sym (c.fault_against.ensures.which m stated) ∙ c.in_default.is)).hold
 
-pub invariant_of-result-clause-placed : goal.invariant_of-result-clause-placed
-invariant_of-result-clause-placed g c =
-    subst (λ (x : State). ArePlacesOf x.names (g.T.Invariants.names c.args.table) c.places_of-places.result) (sym c.in-Ok.ensures.state) (rw c.names.ensures.names at c.places_of-places.ensures)
+pub invariant_of-result-clause-indexed : goal.invariant_of-result-clause-indexed
+invariant_of-result-clause-indexed g c =
+    subst (λ (x : State). AreIndicesOf x.names (g.T.Invariants.names c.args.table) c.indices_of-indices.result) (sym c.in-Ok.ensures.state) (rw c.names.ensures.names at c.indices_of-indices.ensures)
 
 pub invariant_of-result-clause-known : goal.invariant_of-result-clause-known
 invariant_of-result-clause-known g c =

@@ -4,31 +4,31 @@ use Rattle.tmem_effect.specs.State.{apply}
 use Rattle.tmem_invariants.specs.Meanings.{first_false}
 use Rattle.tmem_core.specs.Held.{CoreView}
 use Rattle.tmem_core.specs.SettleAnswer.{sound_answer, unless_refused}
-use Rattle.tmem_core.proofs.Known.{AllHold-apply, AreAmong-apply, few-apply, places-apply}
+use Rattle.tmem_core.proofs.Known.{AllHold-apply, AreAmong-apply, few-apply, indices-apply}
 use Rattle.tmem_core.proofs.core_state.Core.settle_normal.Goals as goal
 
-pub accept-requires-clause-places : goal.accept-requires-clause-places
-accept-requires-clause-places g c =
+pub commit-requires-clause-indices : goal.commit-requires-clause-indices
+commit-requires-clause-indices g c =
     let core = c.args.self.now in
     let state = ap (λ (v : CoreView _). v.state) c.first_broken.ensures.view in
     let table = ap (λ (v : CoreView _). v.table) c.first_broken.ensures.view in
-    rw (state, table) (places-apply (g.T.Invariants.names core.table) core.state c.args.effect.now _ _ c.places_kept-kept.ensures (rw c.as_slice.ensures.names at c.places_of-proposed.ensures))
+    rw (state, table) (indices-apply (g.T.Invariants.names core.table) core.state c.args.effect.now _ _ c.indices_kept-kept.ensures (rw c.as_slice.ensures.names at c.indices_of-proposed.ensures))
 
-pub accept-requires-clause-room : goal.accept-requires-clause-room
-accept-requires-clause-room g c =
+pub commit-requires-clause-room : goal.commit-requires-clause-room
+commit-requires-clause-room g c =
     let core = c.args.self.now in
     let state = ap (λ (v : CoreView _). v.state) c.first_broken.ensures.view in
     rw state (few-apply (g.T.Invariants.names core.table) core.state c.args.effect.now core.registered.ascending core.known c.requires.names (g.met.T.Invariants.few core.table))
 
-pub accept-requires-clause-known : goal.accept-requires-clause-known
-accept-requires-clause-known g c =
+pub commit-requires-clause-known : goal.commit-requires-clause-known
+commit-requires-clause-known g c =
     let core = c.args.self.now in
     let state = ap (λ (v : CoreView _). v.state) c.first_broken.ensures.view in
     let table = ap (λ (v : CoreView _). v.table) c.first_broken.ensures.view in
     rw (state, table) (AreAmong-apply (g.T.Invariants.names core.table) core.state c.args.effect.now core.known c.requires.names)
 
-pub accept-requires-clause-sound : goal.accept-requires-clause-sound
-accept-requires-clause-sound g c = λ m stated.
+pub commit-requires-clause-sound : goal.commit-requires-clause-sound
+commit-requires-clause-sound g c = λ m stated.
     let core = c.args.self.now in
     let e = c.args.effect.now in
     let names = g.T.Invariants.names core.table in
@@ -50,5 +50,5 @@ returns-in-None-clause-answer g c = λ p are registers.
     let s = c.args.self.now.state in
     let e = c.args.effect.now in
     let broken = sym c.in-None.is ∙ c.first_broken.ensures.first p.tests are.tests ∙ ap (λ ns. first_false p.tests ns (without_names s.names e.retired) e.names (apply s e).values) (sym are.names) in
-    c.accept.ensures.answer registers ∙ ap (λ (v : CoreView _). sound_answer v.state v.durable e registers) c.first_broken.ensures.view
+    c.commit.ensures.answer registers ∙ ap (λ (v : CoreView _). sound_answer v.state v.durable e registers) c.first_broken.ensures.view
     ∙ ap (λ o. unless_refused o (sound_answer s c.args.self.now.durable e registers)) broken

@@ -5,7 +5,7 @@ use Rattle.std.proofs.lemmas.List.{length_push}
 use Rattle.tmem_effect.specs.Loggable.{IsLoggable}
 use Rattle.tmem_core.specs.Taking.{HasRoom}
 use Rattle.tmem_disk.proofs.Laws.{slice_get-drop}
-use Rattle.tmem_core.proofs.Places.{All-there}
+use Rattle.tmem_core.proofs.Indices.{All-there}
 use Rattle.tmem_core.proofs.Taken.{taken_more, taken_full, rest_of}
 use Rattle.tmem_core.proofs.core_state.Core.take.Goals as goal
 

@@ -7,7 +7,7 @@ use Rattle.tmem_desk.specs.Desks.{DeskView}
 use Rattle.tmem_desk.proofs.Places.{found_at}
 use Rattle.std.proofs.lemmas.Int.{to_z-of_z}
 use Rattle.std.proofs.lemmas.Result.{on_ok_weaker}
-use Rattle.tmem_desk.specs.Held.{view_of}
+use Rattle.tmem_desk.specs.Held.{desk_view}
 use Rattle.tmem_desk.proofs.Lists.{cancels_first_at}
 use Rattle.tmem_desk.proofs.Losing.{handed}
 use Rattle.tmem_desk.proofs.desk.Desk.cancel_at.Goals as goal
@@ -23,9 +23,9 @@ found_below {X} g id xs at v all found =
 
 pub returns-clause-ok : goal.returns-clause-ok
 returns-clause-ok g c =
-    let below : c.args.place < length c.args.self.now.waiting.items = found_below _ c.args.other c.args.self.now.waiting.items c.args.place (view_of c.args.self.now) refl c.requires in
+    let below : c.args.place < length c.args.self.now.waiting.items = found_below _ c.args.other c.args.self.now.waiting.items c.args.place (desk_view c.args.self.now) refl c.requires in
     on_ok_weaker c.tell-2.result
-    (cancels_first_at _ c.args.id c.args.other _ _ c.args.self.now.waiting.items c.remove.new.self.items c.args.place (view_of c.args.self.now) (view_of c.tell.new.self) (view_of c.tell-2.new.self) (to_z-of_z w64 c.args.id c.ranges.id) (to_z-of_z w64 c.args.other c.ranges.other) refl c.requires
+    (cancels_first_at _ c.args.id c.args.other _ _ c.args.self.now.waiting.items c.remove.new.self.items c.args.place (desk_view c.args.self.now) (desk_view c.tell.new.self) (desk_view c.tell-2.new.self) (to_z-of_z w64 c.args.id c.ranges.id) (to_z-of_z w64 c.args.other c.ranges.other) refl c.requires
     (on_some c.remove.result c.remove.ensures.items (c.remove.ensures.variant.1 (omega arith))) c.in_ok-tell.ensures.ok)
     c.tell-2.ensures.ok
 

@@ -2,9 +2,9 @@ use Rattle.std.proofs.Common.{◌++◌, ◌∷◌, [], ℤ, FitsSigned, w64, ap,
 use Rattle.std.proofs.lemmas.Int.{to_z-of_z}
 use Rattle.tmem_fault.specs.declared.fault.Fault.TheVariants as fault
 use Rattle.tmem_requests.specs.declared.answer.Answer.TheVariants as answer
-use Rattle.tmem_desk.specs.Held.{asked, view_of}
+use Rattle.tmem_desk.specs.Held.{asked, desk_view}
 use Rattle.tmem_desk.specs.Serving.{tells}
-use Rattle.tmem_desk.specs.Told.{answered}
+use Rattle.tmem_desk.specs.Told.{answer_told}
 use Rattle.tmem_desk.proofs.Telling.{closes_more}
 use Rattle.tmem_desk.proofs.Losing.{handed}
 use Rattle.tmem_desk.proofs.desk.Desk.close_waiting.Goals as goal
@@ -14,8 +14,8 @@ loop-one-preserved-in_ok-tell g c =
     let fits : FitsSigned w64 c.in-Some.one.id = first_of (search (rules, c.next.type_inv), search rules) in
     record {
       parts = append_assoc c.loop-one.yielded (c.in-Some.one ∷ []) c.next.new.self.rest.items ∙ (ap (λ ws. c.loop-one.yielded ++ ws) (sym c.in-Some.ensures.steps.0) ∙ c.loop-one.invariant.parts);
-      told = closes_more (λ w. (w.id, asked w.held)) c.loop-one.yielded c.in-Some.one (record (view_of c.args.self.now) { waiting = [] }) (view_of c.loop-one.self) (view_of c.tell.new.self) c.loop-one.invariant.told
-          (c.in_ok-tell.ensures.ok ∙ ap (λ (id : ℤ). tells (view_of c.loop-one.self) (answered id (answer.Fault fault.Closed) ∷ [])) (to_z-of_z w64 c.in-Some.one.id fits));
+      told = closes_more (λ w. (w.id, asked w.held)) c.loop-one.yielded c.in-Some.one (record (desk_view c.args.self.now) { waiting = [] }) (desk_view c.loop-one.self) (desk_view c.tell.new.self) c.loop-one.invariant.told
+          (c.in_ok-tell.ensures.ok ∙ ap (λ (id : ℤ). tells (desk_view c.loop-one.self) (answer_told id (answer.Fault fault.Closed) ∷ [])) (to_z-of_z w64 c.in-Some.one.id fits));
     }
 
 pub loop-one-preserved : goal.loop-one-preserved
@@ -23,8 +23,8 @@ loop-one-preserved g c =
     let fits : FitsSigned w64 c.in-Some.one.id = first_of (search (rules, c.next.type_inv), search rules) in
     record {
       parts = append_assoc c.loop-one.yielded (c.in-Some.one ∷ []) c.next.new.self.rest.items ∙ (ap (λ ws. c.loop-one.yielded ++ ws) (sym c.in-Some.ensures.steps.0) ∙ c.loop-one.invariant.parts);
-      told = closes_more (λ w. (w.id, asked w.held)) c.loop-one.yielded c.in-Some.one (record (view_of c.args.self.now) { waiting = [] }) (view_of c.loop-one.self) (view_of c.tell.new.self) c.loop-one.invariant.told
-          (c.in_ok-tell.ensures.ok ∙ ap (λ (id : ℤ). tells (view_of c.loop-one.self) (answered id (answer.Fault fault.Closed) ∷ [])) (to_z-of_z w64 c.in-Some.one.id fits));
+      told = closes_more (λ w. (w.id, asked w.held)) c.loop-one.yielded c.in-Some.one (record (desk_view c.args.self.now) { waiting = [] }) (desk_view c.loop-one.self) (desk_view c.tell.new.self) c.loop-one.invariant.told
+          (c.in_ok-tell.ensures.ok ∙ ap (λ (id : ℤ). tells (desk_view c.loop-one.self) (answer_told id (answer.Fault fault.Closed) ∷ [])) (to_z-of_z w64 c.in-Some.one.id fits));
     }
 
 pub returns-in_err-tell-clause-err : goal.returns-in_err-tell-clause-err

@@ -1,5 +1,5 @@
 use Rattle.std.proofs.Common.{◌≡◌, ◌++◌, []}
-use Rattle.tmem_desk.specs.Held.{asking, view_of}
+use Rattle.tmem_desk.specs.Held.{asking, desk_view}
 use Rattle.tmem_desk.specs.Serving.{closed, tells}
 use Rattle.tmem_desk.proofs.desk.Desk.close_waiting.Given as goal
 
@@ -7,5 +7,5 @@ use Rattle.tmem_desk.proofs.desk.Desk.close_waiting.Given as goal
 abbrev pub invariant-loop-one : goal.invariant-loop-one
 invariant-loop-one g l = record {
   parts : l.yielded ++ l.one-iterator.rest.items ≡ l.fn.self.waiting.items;
-  told : view_of l.self ≡ tells (record (view_of l.fn.self) { waiting = [] }) (closed (asking l.yielded));
+  told : desk_view l.self ≡ tells (record (desk_view l.fn.self) { waiting = [] }) (closed (asking l.yielded));
 }

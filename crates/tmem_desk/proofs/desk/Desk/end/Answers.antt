@@ -1,6 +1,6 @@
 use Rattle.std.specs.Io.KnownBytes.{Appends}
 use Rattle.tmem_desk.specs.Asking.{store}
-use Rattle.tmem_desk.specs.Held.{view_of}
+use Rattle.tmem_desk.specs.Held.{desk_view}
 use Rattle.tmem_desk.proofs.Giving.{on_ok_both, serves_end}
 use Rattle.std.proofs.Common.{inl}
 use Rattle.tmem_desk.specs.Failing.{IsLast}
@@ -11,15 +11,15 @@ use Rattle.tmem_desk.proofs.desk.Desk.end.Goals as goal
 pub returns-in_ok-close_waiting-in-Ok-clause-serves : goal.returns-in_ok-close_waiting-in-Ok-clause-serves
 returns-in_ok-close_waiting-in-Ok-clause-serves g c =
     on_ok_both c.give.result
-    (λ printed is text stands. serves_end (store g.N.Naming.name.start g.N.StoreNaming.opening g.N.ProgramNaming.program g.N.ServedNaming.arities g.N.ServedNaming.always) text (view_of c.args.self.now) (view_of c.run_last.new.self) (view_of c.close_waiting.new.self) (view_of c.give.new.self) (Appends (g.W.Write.contents c.args.out.now) (g.W.Write.contents c.give.new.out)) (c.in-Ok.ensures.runs text stands) c.in_ok-close_waiting-in-Ok.ensures.told printed is)
+    (λ printed is text stands. serves_end (store g.N.Naming.name.start g.N.StoreNaming.opening g.N.ProgramNaming.program g.N.ServedNaming.arities g.N.ServedNaming.always) text (desk_view c.args.self.now) (desk_view c.run_last.new.self) (desk_view c.close_waiting.new.self) (desk_view c.give.new.self) (Appends (g.W.Write.contents c.args.out.now) (g.W.Write.contents c.give.new.out)) (c.in-Ok.ensures.runs text stands) c.in_ok-close_waiting-in-Ok.ensures.told printed is)
     c.give.ensures.printed c.give.ensures.desk
 
 pub returns-in_ok-close_waiting-in-Ok-clause-told : goal.returns-in_ok-close_waiting-in-Ok-clause-told
-returns-in_ok-close_waiting-in-Ok-clause-told g c = unprinted_texts _ (store g.N.Naming.name.start g.N.StoreNaming.opening g.N.ProgramNaming.program g.N.ServedNaming.arities g.N.ServedNaming.always) IsLast (view_of c.args.self.now) (Appends (g.W.Write.contents c.args.out.now) (g.W.Write.contents c.give.new.out)) c.give.result c.give.ensures.err
+returns-in_ok-close_waiting-in-Ok-clause-told g c = unprinted_texts _ (store g.N.Naming.name.start g.N.StoreNaming.opening g.N.ProgramNaming.program g.N.ServedNaming.arities g.N.ServedNaming.always) IsLast (desk_view c.args.self.now) (Appends (g.W.Write.contents c.args.out.now) (g.W.Write.contents c.give.new.out)) c.give.result c.give.ensures.err
 
 pub returns-in_err-close_waiting-in-Ok-clause-told : goal.returns-in_err-close_waiting-in-Ok-clause-told
 returns-in_err-close_waiting-in-Ok-clause-told g c = handed c.from_residual.result (failure.Fault c.in_err-close_waiting-in-Ok.field-0.0) _ c.from_residual.ensures.1 (λ text stands. inl c.in_err-close_waiting-in-Ok.ensures.err)
 
 pub returns-in-Err-clause-told : goal.returns-in-Err-clause-told
 returns-in-Err-clause-told g c =
-    end_fails c.fail.result (store g.N.Naming.name.start g.N.StoreNaming.opening g.N.ProgramNaming.program g.N.ServedNaming.arities g.N.ServedNaming.always) c.run_last.new.lines c.fail.new.lines (view_of c.args.self.now) (view_of c.run_last.new.self) (Appends (g.W.Write.contents c.args.out.now) (g.W.Write.contents c.fail.new.out)) c.in-Err.fault c.in-Err.ensures.err c.run_last.ensures.rest c.fail.ensures.memory c.fail.ensures.told
+    end_fails c.fail.result (store g.N.Naming.name.start g.N.StoreNaming.opening g.N.ProgramNaming.program g.N.ServedNaming.arities g.N.ServedNaming.always) c.run_last.new.lines c.fail.new.lines (desk_view c.args.self.now) (desk_view c.run_last.new.self) (Appends (g.W.Write.contents c.args.out.now) (g.W.Write.contents c.fail.new.out)) c.in-Err.fault c.in-Err.ensures.err c.run_last.ensures.rest c.fail.ensures.memory c.fail.ensures.told

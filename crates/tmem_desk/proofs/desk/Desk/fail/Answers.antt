@@ -2,7 +2,7 @@ use Rattle.std.proofs.Common.{◌∙◌, inr, inl, ℕ, List, ap}
 use Rattle.std.specs.Io.KnownBytes.{Appends}
 use Rattle.tmem_desk.proofs.Giving.{ends_failed, only_failed}
 use Rattle.tmem_desk.specs.Asking.{store}
-use Rattle.tmem_desk.specs.Held.{view_of}
+use Rattle.tmem_desk.specs.Held.{desk_view}
 use Rattle.tmem_desk.specs.Serving.{Splits}
 use Rattle.tmem_desk.specs.declared.failure.Failure.TheVariants as failure
 use Rattle.tmem_desk.proofs.Losing.{handed, tells_each, unprinted_all}
@@ -20,19 +20,19 @@ returns-clause-memory g c = λ wanting. inl (ap (λ f. failure.Fault f) (c.why_e
 pub returns-clause-told : goal.returns-clause-told
 returns-clause-told g c = λ text stands.
     let s = (store g.N.Naming.name.start g.N.StoreNaming.opening g.N.ProgramNaming.program g.N.ServedNaming.arities g.N.ServedNaming.always) in
-    let v = view_of c.args.self.now in
+    let v = desk_view c.args.self.now in
     let over = c.in_ok-pass_over.ensures.ok text stands in
     inr (
       over.texts,
       over.splits,
-      tells_each s over.texts v (view_of c.pass_over.new.self) (view_of c.close_waiting.new.self) c.why_ended-fault.result c.replace-told.result.items _ (Appends (g.W.Write.contents c.args.out.now) (g.W.Write.contents c.print.new.out)) over.loses c.in_ok-close_waiting.ensures.told (ap (λ v. v.items) c.replace-told.ensures.value)
+      tells_each s over.texts v (desk_view c.pass_over.new.self) (desk_view c.close_waiting.new.self) c.why_ended-fault.result c.replace-told.result.items _ (Appends (g.W.Write.contents c.args.out.now) (g.W.Write.contents c.print.new.out)) over.loses c.in_ok-close_waiting.ensures.told (ap (λ v. v.items) c.replace-told.ensures.value)
           (c.deref.ensures.value ∙ c.in-Ok.ensures) c.in_ok-print.ensures.printed,
     )
 
 pub returns-in_err-print-clause-told : goal.returns-in_err-print-clause-told
 returns-in_err-print-clause-told g c =
     handed c.from_residual-in_err-print.result c.in_err-print.field-0.0 _ c.from_residual-in_err-print.ensures.1
-    (λ text stands. unprinted_all (store g.N.Naming.name.start g.N.StoreNaming.opening g.N.ProgramNaming.program g.N.ServedNaming.arities g.N.ServedNaming.always) (λ (texts : List (List ℕ)). Splits text texts c.pass_over.new.lines) (view_of c.args.self.now) (Appends (g.W.Write.contents c.args.out.now) (g.W.Write.contents c.print.new.out)) c.in_err-print.field-0.0 c.in_err-print.ensures.err)
+    (λ text stands. unprinted_all (store g.N.Naming.name.start g.N.StoreNaming.opening g.N.ProgramNaming.program g.N.ServedNaming.arities g.N.ServedNaming.always) (λ (texts : List (List ℕ)). Splits text texts c.pass_over.new.lines) (desk_view c.args.self.now) (Appends (g.W.Write.contents c.args.out.now) (g.W.Write.contents c.print.new.out)) c.in_err-print.field-0.0 c.in_err-print.ensures.err)
 
 pub returns-in_err-print-clause-memory : goal.returns-in_err-print-clause-memory
 returns-in_err-print-clause-memory g c = λ wanting. handed c.from_residual-in_err-print.result c.in_err-print.field-0.0 _ c.from_residual-in_err-print.ensures.1 c.in_err-print.ensures.err

@@ -3,7 +3,7 @@ use Rattle.std.proofs.lemmas.Int.{to_z-of_z}
 use Rattle.std.proofs.lemmas.Result.{on_ok_weaker}
 use Rattle.tmem_tree.specs.declared.tx.Tx.{Tx}
 use Rattle.tmem_desk.specs.Asking.{store}
-use Rattle.tmem_desk.specs.Held.{view_of}
+use Rattle.tmem_desk.specs.Held.{desk_view}
 use Rattle.tmem_desk.specs.Serving.{HasNoPlan, kept_as}
 use Rattle.tmem_desk.proofs.desk.Desk.keep.Goals as goal
 
@@ -13,8 +13,8 @@ returns-in-Ok-clause-ok g c =
     (λ is.
     inr (
       c.in-Ok.ensures.fine,
-      subst (λ (tx : Tx). view_of c.keep_ready.new.self ≡ kept_as c.args.id c.args.word tx (view_of c.args.self.now)) c.in-Ok.ensures.plan
-          (subst (λ (id : ℤ). view_of c.keep_ready.new.self ≡ kept_as id c.args.word c.in-Ok.ready.plan.tree (view_of c.args.self.now)) (to_z-of_z w64 c.args.id c.ranges.id) is),
+      subst (λ (tx : Tx). desk_view c.keep_ready.new.self ≡ kept_as c.args.id c.args.word tx (desk_view c.args.self.now)) c.in-Ok.ensures.plan
+          (subst (λ (id : ℤ). desk_view c.keep_ready.new.self ≡ kept_as id c.args.word c.in-Ok.ready.plan.tree (desk_view c.args.self.now)) (to_z-of_z w64 c.args.id c.ranges.id) is),
     ))
     c.keep_ready.ensures.ok
 
@@ -23,6 +23,6 @@ returns-in-Err-clause-ok g c =
     on_ok_weaker c.tell.result
     (λ is.
     inl (
-    subst (λ (id : ℤ). HasNoPlan (store g.N.Naming.name.start g.N.StoreNaming.opening g.N.ProgramNaming.program g.N.ServedNaming.arities g.N.ServedNaming.always) id c.args.tx (view_of c.args.self.now) (view_of c.tell.new.self)) (to_z-of_z w64 c.args.id c.ranges.id) (record { cause = c.in-Err.cause; least = c.in-Err.ensures.none; is = is })
+    subst (λ (id : ℤ). HasNoPlan (store g.N.Naming.name.start g.N.StoreNaming.opening g.N.ProgramNaming.program g.N.ServedNaming.arities g.N.ServedNaming.always) id c.args.tx (desk_view c.args.self.now) (desk_view c.tell.new.self)) (to_z-of_z w64 c.args.id c.ranges.id) (record { cause = c.in-Err.cause; least = c.in-Err.ensures.none; is = is })
     ))
     c.tell.ensures.ok

@@ -4,7 +4,7 @@ use Rattle.std.proofs.lemmas.Result.{on_ok_weaker}
 use Rattle.tmem_fault.specs.declared.fault.Fault.TheVariants.{Closed}
 use Rattle.tmem_requests.specs.declared.answer.Answer.TheVariants.{Fault}
 use Rattle.tmem_desk.specs.Asking.{store}
-use Rattle.tmem_desk.specs.Held.{view_of}
+use Rattle.tmem_desk.specs.Held.{desk_view}
 use Rattle.tmem_desk.proofs.Losing.{passed_over}
 use Rattle.tmem_desk.proofs.desk.Desk.pass_line_over.Goals as goal
 
@@ -12,7 +12,7 @@ pub returns-in-Ok-clause-ok : goal.returns-in-Ok-clause-ok
 returns-in-Ok-clause-ok g c =
     on_ok_weaker c.tell.result
     (λ is.
-    inl (passed_over (store g.N.Naming.name.start g.N.StoreNaming.opening g.N.ProgramNaming.program g.N.ServedNaming.arities g.N.ServedNaming.always) c.args.text.now c.in-Ok.request.id _ c.in-Ok.request.ask (Fault Closed) (view_of c.args.self.now) (view_of c.tell.new.self)
+    inl (passed_over (store g.N.Naming.name.start g.N.StoreNaming.opening g.N.ProgramNaming.program g.N.ServedNaming.arities g.N.ServedNaming.always) c.args.text.now c.in-Ok.request.id _ c.in-Ok.request.ask (Fault Closed) (desk_view c.args.self.now) (desk_view c.tell.new.self)
     (to_z-of_z w64 c.in-Ok.request.id c.in-Ok.ensures.request.0.request.numbered.is.fits) c.in-Ok.ensures.request is))
     c.tell.ensures.ok
 

@@ -4,7 +4,7 @@ use Rattle.std.proofs.lemmas.Result.{on_ok_weaker}
 use Rattle.tmem_requests.specs.declared.answer.Answer.TheVariants as answer
 use Rattle.tmem_requests.specs.declared.request.Ask.TheVariants as ask
 use Rattle.tmem_desk.specs.Asking.{SeesValues, store}
-use Rattle.tmem_desk.specs.Held.{view_of}
+use Rattle.tmem_desk.specs.Held.{desk_view}
 use Rattle.tmem_desk.specs.Keeping.{kept_under}
 use Rattle.tmem_desk.specs.Serving.{Runs}
 use Rattle.tmem_desk.proofs.Answering.{is_answered, takes_as, looked}
@@ -12,54 +12,54 @@ use Rattle.tmem_desk.proofs.Losing.{handed, memory_only}
 use Rattle.tmem_desk.proofs.desk.Desk.take.Goals as goal
 
 pub returns-in-Do-clause-ok : goal.returns-in-Do-clause-ok
-returns-in-Do-clause-ok g c = on_ok_weaker c.take_do.result (takes_as (store g.N.Naming.name.start g.N.StoreNaming.opening g.N.ProgramNaming.program g.N.ServedNaming.arities g.N.ServedNaming.always) c.args.id _ (ask.Do c.in-Do.tx) c.args.ask (view_of c.args.self.now) (view_of c.take_do.new.self) (to_z-of_z w64 c.args.id c.ranges.id) c.in-Do.is) c.take_do.ensures.ok
+returns-in-Do-clause-ok g c = on_ok_weaker c.take_do.result (takes_as (store g.N.Naming.name.start g.N.StoreNaming.opening g.N.ProgramNaming.program g.N.ServedNaming.arities g.N.ServedNaming.always) c.args.id _ (ask.Do c.in-Do.tx) c.args.ask (desk_view c.args.self.now) (desk_view c.take_do.new.self) (to_z-of_z w64 c.args.id c.ranges.id) c.in-Do.is) c.take_do.ensures.ok
 
 pub returns-in-Changed-clause-ok : goal.returns-in-Changed-clause-ok
-returns-in-Changed-clause-ok g c = on_ok_weaker c.take_held.result (takes_as (store g.N.Naming.name.start g.N.StoreNaming.opening g.N.ProgramNaming.program g.N.ServedNaming.arities g.N.ServedNaming.always) c.args.id _ (ask.Changed c.in-Changed.reads) c.args.ask (view_of c.args.self.now) (view_of c.take_held.new.self) (to_z-of_z w64 c.args.id c.ranges.id) c.in-Changed.is) c.take_held.ensures.ok
+returns-in-Changed-clause-ok g c = on_ok_weaker c.take_held.result (takes_as (store g.N.Naming.name.start g.N.StoreNaming.opening g.N.ProgramNaming.program g.N.ServedNaming.arities g.N.ServedNaming.always) c.args.id _ (ask.Changed c.in-Changed.reads) c.args.ask (desk_view c.args.self.now) (desk_view c.take_held.new.self) (to_z-of_z w64 c.args.id c.ranges.id) c.in-Changed.is) c.take_held.ensures.ok
 
 pub returns-in-Keep-clause-ok : goal.returns-in-Keep-clause-ok
-returns-in-Keep-clause-ok g c = on_ok_weaker c.keep.result (takes_as (store g.N.Naming.name.start g.N.StoreNaming.opening g.N.ProgramNaming.program g.N.ServedNaming.arities g.N.ServedNaming.always) c.args.id _ (ask.Keep c.in-Keep.word c.in-Keep.tx) c.args.ask (view_of c.args.self.now) (view_of c.keep.new.self) (to_z-of_z w64 c.args.id c.ranges.id) c.in-Keep.is) c.keep.ensures.ok
+returns-in-Keep-clause-ok g c = on_ok_weaker c.keep.result (takes_as (store g.N.Naming.name.start g.N.StoreNaming.opening g.N.ProgramNaming.program g.N.ServedNaming.arities g.N.ServedNaming.always) c.args.id _ (ask.Keep c.in-Keep.word c.in-Keep.tx) c.args.ask (desk_view c.args.self.now) (desk_view c.keep.new.self) (to_z-of_z w64 c.args.id c.ranges.id) c.in-Keep.is) c.keep.ensures.ok
 
 pub returns-in-Run-clause-ok : goal.returns-in-Run-clause-ok
-returns-in-Run-clause-ok g c = on_ok_weaker c.run_kept.result (λ taken. takes_as (store g.N.Naming.name.start g.N.StoreNaming.opening g.N.ProgramNaming.program g.N.ServedNaming.arities g.N.ServedNaming.always) c.args.id _ (ask.Run c.in-Run.word c.in-Run.numbers) c.args.ask (view_of c.args.self.now) (view_of c.run_kept.new.self) (to_z-of_z w64 c.args.id c.ranges.id) c.in-Run.is (subst (λ (numbers : List ℤ). Runs (store g.N.Naming.name.start g.N.StoreNaming.opening g.N.ProgramNaming.program g.N.ServedNaming.arities g.N.ServedNaming.always) (to_z w64 (of_z w64 c.args.id)) numbers (kept_under c.in-Run.word (view_of c.args.self.now).kept) (view_of c.args.self.now) (view_of c.run_kept.new.self)) c.deref-in-Run.ensures.value taken)) c.run_kept.ensures.ok
+returns-in-Run-clause-ok g c = on_ok_weaker c.run_kept.result (λ taken. takes_as (store g.N.Naming.name.start g.N.StoreNaming.opening g.N.ProgramNaming.program g.N.ServedNaming.arities g.N.ServedNaming.always) c.args.id _ (ask.Run c.in-Run.word c.in-Run.numbers) c.args.ask (desk_view c.args.self.now) (desk_view c.run_kept.new.self) (to_z-of_z w64 c.args.id c.ranges.id) c.in-Run.is (subst (λ (numbers : List ℤ). Runs (store g.N.Naming.name.start g.N.StoreNaming.opening g.N.ProgramNaming.program g.N.ServedNaming.arities g.N.ServedNaming.always) (to_z w64 (of_z w64 c.args.id)) numbers (kept_under c.in-Run.word (desk_view c.args.self.now).kept) (desk_view c.args.self.now) (desk_view c.run_kept.new.self)) c.deref-in-Run.ensures.value taken)) c.run_kept.ensures.ok
 
 pub returns-in-Stats-clause-ok : goal.returns-in-Stats-clause-ok
-returns-in-Stats-clause-ok g c = on_ok_weaker c.tell_stats.result (takes_as (store g.N.Naming.name.start g.N.StoreNaming.opening g.N.ProgramNaming.program g.N.ServedNaming.arities g.N.ServedNaming.always) c.args.id _ ask.Stats c.args.ask (view_of c.args.self.now) (view_of c.tell_stats.new.self) (to_z-of_z w64 c.args.id c.ranges.id) c.in-Stats.is) c.tell_stats.ensures.ok
+returns-in-Stats-clause-ok g c = on_ok_weaker c.tell_stats.result (takes_as (store g.N.Naming.name.start g.N.StoreNaming.opening g.N.ProgramNaming.program g.N.ServedNaming.arities g.N.ServedNaming.always) c.args.id _ ask.Stats c.args.ask (desk_view c.args.self.now) (desk_view c.tell_stats.new.self) (to_z-of_z w64 c.args.id c.ranges.id) c.in-Stats.is) c.tell_stats.ensures.ok
 
 pub returns-in_ok-answer-in-Try-clause-ok : goal.returns-in_ok-answer-in-Try-clause-ok
 returns-in_ok-answer-in-Try-clause-ok g c =
     on_ok_weaker c.tell.result
-    (λ is. takes_as (store g.N.Naming.name.start g.N.StoreNaming.opening g.N.ProgramNaming.program g.N.ServedNaming.arities g.N.ServedNaming.always) c.args.id _ (ask.Try c.in-Try.tx) c.args.ask (view_of c.args.self.now) (view_of c.tell.new.self) (to_z-of_z w64 c.args.id c.ranges.id) c.in-Try.is (is_answered (store g.N.Naming.name.start g.N.StoreNaming.opening g.N.ProgramNaming.program g.N.ServedNaming.arities g.N.ServedNaming.always) _ (ask.Try c.in-Try.tx) (view_of c.args.self.now) (view_of c.tell.new.self) c.try_once.new.pass c.in_ok-answer-in-Try.answer c.in_ok-answer-in-Try.ensures is))
+    (λ is. takes_as (store g.N.Naming.name.start g.N.StoreNaming.opening g.N.ProgramNaming.program g.N.ServedNaming.arities g.N.ServedNaming.always) c.args.id _ (ask.Try c.in-Try.tx) c.args.ask (desk_view c.args.self.now) (desk_view c.tell.new.self) (to_z-of_z w64 c.args.id c.ranges.id) c.in-Try.is (is_answered (store g.N.Naming.name.start g.N.StoreNaming.opening g.N.ProgramNaming.program g.N.ServedNaming.arities g.N.ServedNaming.always) _ (ask.Try c.in-Try.tx) (desk_view c.args.self.now) (desk_view c.tell.new.self) c.try_once.new.pass c.in_ok-answer-in-Try.answer c.in_ok-answer-in-Try.ensures is))
     c.tell.ensures.ok
 
 pub returns-in_ok-count-in-Get-clause-ok : goal.returns-in_ok-count-in-Get-clause-ok
 returns-in_ok-count-in-Get-clause-ok g c =
     on_ok_weaker c.tell-in-Get.result
-    (λ is. takes_as (store g.N.Naming.name.start g.N.StoreNaming.opening g.N.ProgramNaming.program g.N.ServedNaming.arities g.N.ServedNaming.always) c.args.id _ (ask.Get c.in-Get.vars) c.args.ask (view_of c.args.self.now) (view_of c.tell-in-Get.new.self) (to_z-of_z w64 c.args.id c.ranges.id) c.in-Get.is (is_answered (store g.N.Naming.name.start g.N.StoreNaming.opening g.N.ProgramNaming.program g.N.ServedNaming.arities g.N.ServedNaming.always) _ (ask.Get c.in-Get.vars) (view_of c.args.self.now) (view_of c.tell-in-Get.new.self) c.see.new.pass (answer.Values c.in_ok-count-in-Get.count c.in_ok-count-in-Get.values) (subst (λ (vars : List ℕ). SeesValues (store g.N.Naming.name.start g.N.StoreNaming.opening g.N.ProgramNaming.program g.N.ServedNaming.arities g.N.ServedNaming.always) vars c.args.self.now.pass c.in_ok-count-in-Get.count c.in_ok-count-in-Get.values.items c.see.new.pass) c.deref.ensures.value c.in_ok-count-in-Get.ensures) is))
+    (λ is. takes_as (store g.N.Naming.name.start g.N.StoreNaming.opening g.N.ProgramNaming.program g.N.ServedNaming.arities g.N.ServedNaming.always) c.args.id _ (ask.Get c.in-Get.vars) c.args.ask (desk_view c.args.self.now) (desk_view c.tell-in-Get.new.self) (to_z-of_z w64 c.args.id c.ranges.id) c.in-Get.is (is_answered (store g.N.Naming.name.start g.N.StoreNaming.opening g.N.ProgramNaming.program g.N.ServedNaming.arities g.N.ServedNaming.always) _ (ask.Get c.in-Get.vars) (desk_view c.args.self.now) (desk_view c.tell-in-Get.new.self) c.see.new.pass (answer.Values c.in_ok-count-in-Get.count c.in_ok-count-in-Get.values) (subst (λ (vars : List ℕ). SeesValues (store g.N.Naming.name.start g.N.StoreNaming.opening g.N.ProgramNaming.program g.N.ServedNaming.arities g.N.ServedNaming.always) vars c.args.self.now.pass c.in_ok-count-in-Get.count c.in_ok-count-in-Get.values.items c.see.new.pass) c.deref.ensures.value c.in_ok-count-in-Get.ensures) is))
     c.tell-in-Get.ensures.ok
 
 pub returns-in_ok-answer-in-Settle-clause-ok : goal.returns-in_ok-answer-in-Settle-clause-ok
 returns-in_ok-answer-in-Settle-clause-ok g c =
     on_ok_weaker c.tell-in-Settle.result
-    (λ is. takes_as (store g.N.Naming.name.start g.N.StoreNaming.opening g.N.ProgramNaming.program g.N.ServedNaming.arities g.N.ServedNaming.always) c.args.id _ (ask.Settle c.in-Settle.proposal) c.args.ask (view_of c.args.self.now) (view_of c.tell-in-Settle.new.self) (to_z-of_z w64 c.args.id c.ranges.id) c.in-Settle.is (is_answered (store g.N.Naming.name.start g.N.StoreNaming.opening g.N.ProgramNaming.program g.N.ServedNaming.arities g.N.ServedNaming.always) _ (ask.Settle c.in-Settle.proposal) (view_of c.args.self.now) (view_of c.tell-in-Settle.new.self) c.propose.new.pass c.in_ok-answer-in-Settle.answer c.in_ok-answer-in-Settle.ensures is))
+    (λ is. takes_as (store g.N.Naming.name.start g.N.StoreNaming.opening g.N.ProgramNaming.program g.N.ServedNaming.arities g.N.ServedNaming.always) c.args.id _ (ask.Settle c.in-Settle.proposal) c.args.ask (desk_view c.args.self.now) (desk_view c.tell-in-Settle.new.self) (to_z-of_z w64 c.args.id c.ranges.id) c.in-Settle.is (is_answered (store g.N.Naming.name.start g.N.StoreNaming.opening g.N.ProgramNaming.program g.N.ServedNaming.arities g.N.ServedNaming.always) _ (ask.Settle c.in-Settle.proposal) (desk_view c.args.self.now) (desk_view c.tell-in-Settle.new.self) c.propose.new.pass c.in_ok-answer-in-Settle.answer c.in_ok-answer-in-Settle.ensures is))
     c.tell-in-Settle.ensures.ok
 
 pub returns-in-Look-clause-ok : goal.returns-in-Look-clause-ok
 returns-in-Look-clause-ok g c =
     on_ok_weaker c.tell-in-Look.result
-    (λ is. takes_as (store g.N.Naming.name.start g.N.StoreNaming.opening g.N.ProgramNaming.program g.N.ServedNaming.arities g.N.ServedNaming.always) c.args.id _ ask.Look c.args.ask (view_of c.args.self.now) (view_of c.tell-in-Look.new.self) (to_z-of_z w64 c.args.id c.ranges.id) c.in-Look.is (is_answered (store g.N.Naming.name.start g.N.StoreNaming.opening g.N.ProgramNaming.program g.N.ServedNaming.arities g.N.ServedNaming.always) _ ask.Look (view_of c.args.self.now) (view_of c.tell-in-Look.new.self) c.look-number.new.pass (answer.Durable c.look-number.result) (looked (store g.N.Naming.name.start g.N.StoreNaming.opening g.N.ProgramNaming.program g.N.ServedNaming.arities g.N.ServedNaming.always) c.args.self.now.pass c.look-number.new.pass c.look-number.result c.look-number.ensures.pass c.look-number.ensures.answer c.look-number.ensures.later c.look-number.ensures.begins) is))
+    (λ is. takes_as (store g.N.Naming.name.start g.N.StoreNaming.opening g.N.ProgramNaming.program g.N.ServedNaming.arities g.N.ServedNaming.always) c.args.id _ ask.Look c.args.ask (desk_view c.args.self.now) (desk_view c.tell-in-Look.new.self) (to_z-of_z w64 c.args.id c.ranges.id) c.in-Look.is (is_answered (store g.N.Naming.name.start g.N.StoreNaming.opening g.N.ProgramNaming.program g.N.ServedNaming.arities g.N.ServedNaming.always) _ ask.Look (desk_view c.args.self.now) (desk_view c.tell-in-Look.new.self) c.look-number.new.pass (answer.Durable c.look-number.result) (looked (store g.N.Naming.name.start g.N.StoreNaming.opening g.N.ProgramNaming.program g.N.ServedNaming.arities g.N.ServedNaming.always) c.args.self.now.pass c.look-number.new.pass c.look-number.result c.look-number.ensures.pass c.look-number.ensures.answer c.look-number.ensures.later c.look-number.ensures.begins) is))
     c.tell-in-Look.ensures.ok
 
 pub returns-in_ok-answer-in-State-clause-ok : goal.returns-in_ok-answer-in-State-clause-ok
 returns-in_ok-answer-in-State-clause-ok g c =
     on_ok_weaker c.tell-in-State.result
-    (λ is. takes_as (store g.N.Naming.name.start g.N.StoreNaming.opening g.N.ProgramNaming.program g.N.ServedNaming.arities g.N.ServedNaming.always) c.args.id _ ask.State c.args.ask (view_of c.args.self.now) (view_of c.tell-in-State.new.self) (to_z-of_z w64 c.args.id c.ranges.id) c.in-State.is (is_answered (store g.N.Naming.name.start g.N.StoreNaming.opening g.N.ProgramNaming.program g.N.ServedNaming.arities g.N.ServedNaming.always) _ ask.State (view_of c.args.self.now) (view_of c.tell-in-State.new.self) c.see_all.new.pass c.in_ok-answer-in-State.answer c.in_ok-answer-in-State.ensures is))
+    (λ is. takes_as (store g.N.Naming.name.start g.N.StoreNaming.opening g.N.ProgramNaming.program g.N.ServedNaming.arities g.N.ServedNaming.always) c.args.id _ ask.State c.args.ask (desk_view c.args.self.now) (desk_view c.tell-in-State.new.self) (to_z-of_z w64 c.args.id c.ranges.id) c.in-State.is (is_answered (store g.N.Naming.name.start g.N.StoreNaming.opening g.N.ProgramNaming.program g.N.ServedNaming.arities g.N.ServedNaming.always) _ ask.State (desk_view c.args.self.now) (desk_view c.tell-in-State.new.self) c.see_all.new.pass c.in_ok-answer-in-State.answer c.in_ok-answer-in-State.ensures is))
     c.tell-in-State.ensures.ok
 
 pub returns-in_ok-answer-in-Checkpoint-clause-ok : goal.returns-in_ok-answer-in-Checkpoint-clause-ok
 returns-in_ok-answer-in-Checkpoint-clause-ok g c =
     on_ok_weaker c.tell-in-Checkpoint.result
-    (λ is. takes_as (store g.N.Naming.name.start g.N.StoreNaming.opening g.N.ProgramNaming.program g.N.ServedNaming.arities g.N.ServedNaming.always) c.args.id _ ask.Checkpoint c.args.ask (view_of c.args.self.now) (view_of c.tell-in-Checkpoint.new.self) (to_z-of_z w64 c.args.id c.ranges.id) c.in-Checkpoint.is (is_answered (store g.N.Naming.name.start g.N.StoreNaming.opening g.N.ProgramNaming.program g.N.ServedNaming.arities g.N.ServedNaming.always) _ ask.Checkpoint (view_of c.args.self.now) (view_of c.tell-in-Checkpoint.new.self) c.args.self.now.pass c.in_ok-answer-in-Checkpoint.answer (c.in_ok-answer-in-Checkpoint.ensures, refl) is))
+    (λ is. takes_as (store g.N.Naming.name.start g.N.StoreNaming.opening g.N.ProgramNaming.program g.N.ServedNaming.arities g.N.ServedNaming.always) c.args.id _ ask.Checkpoint c.args.ask (desk_view c.args.self.now) (desk_view c.tell-in-Checkpoint.new.self) (to_z-of_z w64 c.args.id c.ranges.id) c.in-Checkpoint.is (is_answered (store g.N.Naming.name.start g.N.StoreNaming.opening g.N.ProgramNaming.program g.N.ServedNaming.arities g.N.ServedNaming.always) _ ask.Checkpoint (desk_view c.args.self.now) (desk_view c.tell-in-Checkpoint.new.self) c.args.self.now.pass c.in_ok-answer-in-Checkpoint.answer (c.in_ok-answer-in-Checkpoint.ensures, refl) is))
     c.tell-in-Checkpoint.ensures.ok
 
 pub returns-in-Cancel-clause-err : goal.returns-in-Cancel-clause-err

@@ -2,8 +2,8 @@ use Rattle.std.proofs.Common.{w64, inl, inr, refl}
 use Rattle.std.proofs.lemmas.Int.{to_z-of_z}
 use Rattle.std.proofs.lemmas.Result.{on_ok_weaker}
 use Rattle.tmem_desk.specs.Asking.{store}
-use Rattle.tmem_desk.specs.Held.{view_of}
-use Rattle.tmem_desk.specs.Serving.{counted}
+use Rattle.tmem_desk.specs.Held.{desk_view}
+use Rattle.tmem_desk.specs.Serving.{one_line_more}
 use Rattle.tmem_desk.proofs.Answering.{takes_as}
 use Rattle.tmem_desk.proofs.Losing.{answers_line, err_or_memory, memory_only}
 use Rattle.tmem_desk.proofs.desk.Desk.take_line.Goals as goal
@@ -17,7 +17,7 @@ returns-in-Ok-clause-ok g c =
       ask = c.in-Ok.request.ask;
       is = c.in-Ok.ensures.request;
       takes =
-          takes_as (store g.N.Naming.name.start g.N.StoreNaming.opening g.N.ProgramNaming.program g.N.ServedNaming.arities g.N.ServedNaming.always) c.in-Ok.request.id _ c.in-Ok.request.ask c.in-Ok.request.ask (counted (view_of c.args.self.now)) (view_of c.take_or_fail.new.self)
+          takes_as (store g.N.Naming.name.start g.N.StoreNaming.opening g.N.ProgramNaming.program g.N.ServedNaming.arities g.N.ServedNaming.always) c.in-Ok.request.id _ c.in-Ok.request.ask c.in-Ok.request.ask (one_line_more (desk_view c.args.self.now)) (desk_view c.take_or_fail.new.self)
           (to_z-of_z w64 c.in-Ok.request.id c.in-Ok.ensures.request.0.request.numbered.is.fits) refl taken;
     }))
     c.take_or_fail.ensures.ok
@@ -30,7 +30,7 @@ returns-in-Err-NoRequest-clause-ok g c =
 pub returns-in-Ok-clause-err : goal.returns-in-Ok-clause-err
 returns-in-Ok-clause-err g c =
     err_or_memory c.take_or_fail.result
-    (answers_line (store g.N.Naming.name.start g.N.StoreNaming.opening g.N.ProgramNaming.program g.N.ServedNaming.arities g.N.ServedNaming.always) c.args.text.now c.in-Ok.request.id _ c.in-Ok.request.ask (view_of c.args.self.now) (view_of c.take_or_fail.new.self)
+    (answers_line (store g.N.Naming.name.start g.N.StoreNaming.opening g.N.ProgramNaming.program g.N.ServedNaming.arities g.N.ServedNaming.always) c.args.text.now c.in-Ok.request.id _ c.in-Ok.request.ask (desk_view c.args.self.now) (desk_view c.take_or_fail.new.self)
     (to_z-of_z w64 c.in-Ok.request.id c.in-Ok.ensures.request.0.request.numbered.is.fits) c.in-Ok.ensures.request)
     c.take_or_fail.ensures.err
 

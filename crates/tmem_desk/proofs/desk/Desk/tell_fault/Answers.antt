@@ -1,9 +1,9 @@
 use Rattle.std.proofs.Common.{◌≡◌, [], ◌∷◌, ℤ, w64, inl, inr, refl, subst}
 use Rattle.std.proofs.lemmas.Int.{to_z-of_z}
 use Rattle.tmem_requests.specs.declared.answer.Answer.TheVariants as answer
-use Rattle.tmem_desk.specs.Held.{view_of}
+use Rattle.tmem_desk.specs.Held.{desk_view}
 use Rattle.tmem_desk.specs.Serving.{tells}
-use Rattle.tmem_desk.specs.Told.{answered}
+use Rattle.tmem_desk.specs.Told.{answer_told}
 use Rattle.tmem_desk.proofs.Losing.{handed}
 use Rattle.tmem_desk.proofs.desk.Desk.tell_fault.Goals as goal
 
@@ -14,5 +14,5 @@ pub returns-clause-err : goal.returns-clause-err
 returns-clause-err g c =
     inr (
       refl,
-      subst (λ (id : ℤ). view_of c.tell.new.self ≡ tells (view_of c.args.self.now) (answered id (answer.Fault c.args.fault.now) ∷ [])) (to_z-of_z w64 c.args.id c.ranges.id) c.in_ok-tell.ensures.ok,
+      subst (λ (id : ℤ). desk_view c.tell.new.self ≡ tells (desk_view c.args.self.now) (answer_told id (answer.Fault c.args.fault.now) ∷ [])) (to_z-of_z w64 c.args.id c.ranges.id) c.in_ok-tell.ensures.ok,
     )

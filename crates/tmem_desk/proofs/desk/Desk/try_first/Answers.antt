@@ -3,7 +3,7 @@ use Rattle.std.proofs.lemmas.Int.{to_z-of_z}
 use Rattle.std.proofs.lemmas.Result.{on_ok_weaker}
 use Rattle.tmem_requests.specs.declared.answer.Answer.{Answer}
 use Rattle.tmem_desk.specs.Asking.{Tries, store}
-use Rattle.tmem_desk.specs.Held.{asked, asking, view_of}
+use Rattle.tmem_desk.specs.Held.{asked, asking, desk_view}
 use Rattle.tmem_desk.proofs.Waking.{none_first, answers_first, waits_again}
 use Rattle.tmem_fault.specs.declared.fault.Fault.TheVariants.{Memory}
 use Rattle.tmem_desk.proofs.Losing.{handed, memory_only, waits_behind}
@@ -12,20 +12,20 @@ use Rattle.tmem_desk.proofs.desk.Desk.try_first.Goals as goal
 pub returns-in_default-clause-ok : goal.returns-in_default-clause-ok
 returns-in_default-clause-ok g c =
     let none : length c.args.self.now.waiting.items ≡ 0 = first_of (omega (arith, c.in_default.ensures.cases.0, c.args.self.now.waiting.ok.0), search rules) in
-    none_first (λ w. (w.id, asked w.held)) (store g.N.Naming.name.start g.N.StoreNaming.opening g.N.ProgramNaming.program g.N.ServedNaming.arities g.N.ServedNaming.always) c.args.self.now.waiting.items (view_of c.args.self.now) _ refl none
-    (ap (λ ws. record (view_of c.args.self.now) { waiting = asking ws }) (sym c.in_default.ensures.items))
+    none_first (λ w. (w.id, asked w.held)) (store g.N.Naming.name.start g.N.StoreNaming.opening g.N.ProgramNaming.program g.N.ServedNaming.arities g.N.ServedNaming.always) c.args.self.now.waiting.items (desk_view c.args.self.now) _ refl none
+    (ap (λ ws. record (desk_view c.args.self.now) { waiting = asking ws }) (sym c.in_default.ensures.items))
 
 pub returns-in-Ok-Some-clause-ok : goal.returns-in-Ok-Some-clause-ok
 returns-in-Ok-Some-clause-ok g c =
     let fits : FitsSigned w64 c.in-Some.one.id = first_of (search (rules, c.pop_front.type_inv), search rules) in
     on_ok_weaker c.tell.result
-    (answers_first (λ w. (w.id, asked w.held)) (store g.N.Naming.name.start g.N.StoreNaming.opening g.N.ProgramNaming.program g.N.ServedNaming.arities g.N.ServedNaming.always) c.in-Some.one c.args.self.now.waiting.items c.pop_front.new.self.items _ c.in-Ok-Some.answer (view_of c.args.self.now) (view_of c.tell.new.self) c.attempt.new.pass refl c.in-Some.ensures.items (to_z-of_z w64 c.in-Some.one.id fits)
+    (answers_first (λ w. (w.id, asked w.held)) (store g.N.Naming.name.start g.N.StoreNaming.opening g.N.ProgramNaming.program g.N.ServedNaming.arities g.N.ServedNaming.always) c.in-Some.one c.args.self.now.waiting.items c.pop_front.new.self.items _ c.in-Ok-Some.answer (desk_view c.args.self.now) (desk_view c.tell.new.self) c.attempt.new.pass refl c.in-Some.ensures.items (to_z-of_z w64 c.in-Some.one.id fits)
     (subst (λ (o : Option Answer). Tries (store g.N.Naming.name.start g.N.StoreNaming.opening g.N.ProgramNaming.program g.N.ServedNaming.arities g.N.ServedNaming.always) (asked c.in-Some.one.held) c.args.self.now.pass o c.attempt.new.pass) c.in-Ok-Some.field-0-is c.in-Ok-Some.ensures))
     c.tell.ensures.ok
 
 pub returns-in_ok-push_back-in-Ok-None-clause-ok : goal.returns-in_ok-push_back-in-Ok-None-clause-ok
 returns-in_ok-push_back-in-Ok-None-clause-ok g c =
-    waits_again (λ w. (w.id, asked w.held)) (store g.N.Naming.name.start g.N.StoreNaming.opening g.N.ProgramNaming.program g.N.ServedNaming.arities g.N.ServedNaming.always) c.in-Some.one c.args.self.now.waiting.items c.pop_front.new.self.items c.push_back.new.self.items (view_of c.args.self.now) _ c.attempt.new.pass refl c.in-Some.ensures.items
+    waits_again (λ w. (w.id, asked w.held)) (store g.N.Naming.name.start g.N.StoreNaming.opening g.N.ProgramNaming.program g.N.ServedNaming.arities g.N.ServedNaming.always) c.in-Some.one c.args.self.now.waiting.items c.pop_front.new.self.items c.push_back.new.self.items (desk_view c.args.self.now) _ c.attempt.new.pass refl c.in-Some.ensures.items
     (subst (λ (o : Option Answer). Tries (store g.N.Naming.name.start g.N.StoreNaming.opening g.N.ProgramNaming.program g.N.ServedNaming.arities g.N.ServedNaming.always) (asked c.in-Some.one.held) c.args.self.now.pass o c.attempt.new.pass) c.in-Ok-None.field-0-is c.in-Ok-None.ensures) c.in_ok-push_back-in-Ok-None.ensures.items refl
 
 pub returns-in-Ok-Some-clause-err : goal.returns-in-Ok-Some-clause-err
@@ -39,4 +39,4 @@ returns-in_err-push_back-in-Err-clause-err g c = handed c.from_residual-in_err-p
 
 pub returns-in_ok-push_back-in-Err-clause-err : goal.returns-in_ok-push_back-in-Err-clause-err
 returns-in_ok-push_back-in-Err-clause-err g c =
-    inr (waits_behind (λ w. (w.id, asked w.held)) c.in-Some.one c.args.self.now.waiting.items c.pop_front.new.self.items c.push_back-in-Err.new.self.items (view_of c.args.self.now) _ c.attempt.new.pass refl c.in-Some.ensures.items c.in_ok-push_back-in-Err.ensures.items refl)
+    inr (waits_behind (λ w. (w.id, asked w.held)) c.in-Some.one c.args.self.now.waiting.items c.pop_front.new.self.items c.push_back-in-Err.new.self.items (desk_view c.args.self.now) _ c.attempt.new.pass refl c.in-Some.ensures.items c.in_ok-push_back-in-Err.ensures.items refl)

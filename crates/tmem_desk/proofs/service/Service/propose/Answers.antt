@@ -1,7 +1,7 @@
 use Rattle.std.proofs.Common.{Result, Ok, Err, IfOk, subst}
 use Rattle.tmem_fault.specs.declared.fault.Fault.{Fault}
 use Rattle.tmem_tree.specs.declared.settled.Settled.{Settled}
-use Rattle.tmem_front.specs.Settling.{Settles}
+use Rattle.tmem_front.specs.Settling.{SettlesPass}
 use Rattle.tmem_front.proofs.Laws.{knows_still, settles_later}
 use Rattle.tmem_desk.proofs.service.Service.propose.Goals as goal
 
@@ -20,7 +20,7 @@ returns-in-Ok g c =
       made = c.in_ok-attempt.ensures;
       result = Ok c.in-Ok.settled;
       then = c.settle.new.pass;
-      settles = subst (λ (r : Result Settled Fault). Settles g.N.Naming.name.start g.N.StoreNaming.opening g.N.ProgramNaming.program c.in_ok-attempt.attempt c.args.pass.now r c.settle.new.pass) c.in-Ok.is settles;
+      settles = subst (λ (r : Result Settled Fault). SettlesPass g.N.Naming.name.start g.N.StoreNaming.opening g.N.ProgramNaming.program c.in_ok-attempt.attempt c.args.pass.now r c.settle.new.pass) c.in-Ok.is settles;
       knows = c.told_ending_of.ensures.knows;
       tells = tells;
       end = end;
@@ -37,7 +37,7 @@ returns-in-Err-Conflict g c =
       result = Err c.in-Err-Conflict.field-0;
       then = c.settle.new.pass;
       settles =
-          subst (λ (r : Result Settled Fault). Settles g.N.Naming.name.start g.N.StoreNaming.opening g.N.ProgramNaming.program c.in_ok-attempt.attempt c.args.pass.now r c.settle.new.pass) c.in-Err-Conflict.is settles;
+          subst (λ (r : Result Settled Fault). SettlesPass g.N.Naming.name.start g.N.StoreNaming.opening g.N.ProgramNaming.program c.in_ok-attempt.attempt c.args.pass.now r c.settle.new.pass) c.in-Err-Conflict.is settles;
       knows = knows_still c.settle.new.pass;
       tells = cc;
       end = tt;

@@ -2,7 +2,7 @@ use Rattle.std.proofs.Common.{◌≡◌, ℕ, ℤ, Bool, List, length, map, sym,
 use Rattle.std.specs.Prelude.{filter, slice_get}
 use Rattle.tmem_effect.specs.Names.{has_name}
 use Rattle.tmem_effect.proofs.Laws.{length-values-fold}
-use Rattle.tmem_seats.specs.Histories.{after}
+use Rattle.tmem_seats.specs.Histories.{state_after_history}
 use Rattle.tmem_spine.specs.History.{unmarked}
 use Rattle.tmem_desk.specs.Held.{first_numbers}
 use Rattle.tmem_desk.proofs.Seen.{all_values}
@@ -10,8 +10,8 @@ use Rattle.tmem_desk.proofs.service.Service.see_all.Goals as goal
 
 pub returns : goal.returns
 returns g c =
-    let known : List ℤ = (after g.N.StoreNaming.opening c.moment.new.pass.known).values in
-    let has : List ℕ → Bool = λ (name : List ℕ). has_name (after g.N.StoreNaming.opening c.moment.new.pass.known).names name in
+    let known : List ℤ = (state_after_history g.N.StoreNaming.opening c.moment.new.pass.known).values in
+    let has : List ℕ → Bool = λ (name : List ℕ). has_name (state_after_history g.N.StoreNaming.opening c.moment.new.pass.known).names name in
     let vars : c.deref.result.now ≡ first_numbers c.args.self.now.vars = cc (c.deref.ensures.value, c.in_ok-vars.ensures) in
     let long : c.args.self.now.vars ≡ length known =
     c.args.self.now.over ∙ sym (length-values-fold g.N.StoreNaming.opening (unmarked c.moment.new.pass.known)) in

@@ -10,10 +10,10 @@ invariant_of-self-clause-agrees c =
     let kept = ap (λ (b : Bytes). b.present) c.touch.ensures.bytes in
     let left = overwritten d.present.items c.args.from c.args.bytes.now in
     let same = SameOutside-overwritten d.present.items c.args.from c.args.bytes.now c.requires in
-    rw (c.overwrite.ensures, kept) ((c.touch.ensures.stop tt left).1 (d.present.items, d.agrees, same))
+    rw (c.overwrite.ensures, kept) ((c.touch.ensures.crash tt left).1 (d.present.items, d.agrees, same))
 
-pub returns-clause-stop : goal.returns-clause-stop
-returns-clause-stop c = c.touch.ensures.stop
+pub returns-clause-crash : goal.returns-clause-crash
+returns-clause-crash c = c.touch.ensures.crash
 
 pub returns-clause-time : goal.returns-clause-time
 returns-clause-time c =

@@ -1,6 +1,6 @@
 use Rattle.std.proofs.Common.{◌<◌, ℕ, length, ap, subst, ◌∙◌}
 use Rattle.tmem_tentative.specs.Cursors.{outcome_of, attempt_of, probe_of}
-use Rattle.tmem_tentative.specs.Fits.{IsForVariables, IsWithin, IsNamed, IsFilled}
+use Rattle.tmem_tentative.specs.Fits.{IsForVariables, IsWithinVariables, IsNamed, IsFilled}
 use Rattle.tmem_tree.proofs.Laws.{footprint_in-AreMeant}
 use Rattle.tmem_front.proofs.front.Front.evaluate.Goals as goal
 
@@ -13,7 +13,7 @@ loop-init g c = record {
 pub peek-value-requires : goal.peek-value-requires
 peek-value-requires g c =
     let front = c.args.self.now in
-    let within = subst (λ p. IsWithin front.vars (outcome_of c.advance.new.self p)) c.in-Need.is (c.in_ok-var.ensures.within front.vars c.requires.variables) in
+    let within = subst (λ p. IsWithinVariables front.vars (outcome_of c.advance.new.self p)) c.in-Need.is (c.in_ok-var.ensures.within front.vars c.requires.variables) in
     subst (λ (k : ℕ). c.in-Need.var < k) front.over within
 
 pub probe-held-requires-clause-named : goal.probe-held-requires-clause-named
@@ -30,7 +30,7 @@ probe-held-requires-clause-filled g c =
 pub returns-in-Ended-clause-variables : goal.returns-in-Ended-clause-variables
 returns-in-Ended-clause-variables g c =
     let front = c.args.self.now in
-    let within = subst (λ p. IsWithin front.vars (outcome_of c.advance.new.self p)) c.in-Ended.is (c.in_ok-var.ensures.within front.vars c.requires.variables) in
+    let within = subst (λ p. IsWithinVariables front.vars (outcome_of c.advance.new.self p)) c.in-Ended.is (c.in_ok-var.ensures.within front.vars c.requires.variables) in
     subst (λ (k : ℕ). IsForVariables k (attempt_of c.advance.new.self)) front.over within
 
 pub returns-in-Ended-clause-names : goal.returns-in-Ended-clause-names

@@ -1,6 +1,6 @@
 use Rattle.std.proofs.Common.{◌<◌, ℕ, length, ap, subst, ◌∙◌}
 use Rattle.tmem_tentative.specs.Cursors.{outcome_of, probe_of}
-use Rattle.tmem_tentative.specs.Fits.{IsWithin, IsNamed, IsFilled}
+use Rattle.tmem_tentative.specs.Fits.{IsWithinVariables, IsNamed, IsFilled}
 use Rattle.tmem_tree.proofs.Laws.{footprint_in-AreMeant}
 use Rattle.tmem_front.proofs.Refused.{some_filled}
 use Rattle.tmem_front.proofs.front.Front.last_test.Goals as goal
@@ -8,7 +8,7 @@ use Rattle.tmem_front.proofs.front.Front.last_test.Goals as goal
 pub peek-value-requires : goal.peek-value-requires
 peek-value-requires g c =
     let front = c.args.self.now in
-    let within = subst (λ p. IsWithin front.vars (outcome_of c.advance.new.self p)) c.in-Need.is (c.in_ok-var.ensures.within front.vars c.requires.variables) in
+    let within = subst (λ p. IsWithinVariables front.vars (outcome_of c.advance.new.self p)) c.in-Need.is (c.in_ok-var.ensures.within front.vars c.requires.variables) in
     subst (λ (k : ℕ). c.in-Need.var < k) front.over within
 
 pub probe-held-requires-clause-named : goal.probe-held-requires-clause-named

@@ -4,4 +4,4 @@ use Rattle.tmem_front.proofs.front.Front.peek.Goals as goal
 
 pub returns : goal.returns
 returns g c =
-    ∣ (c.deref.result.now.accepted, c.peek.ensures.sound, c.peek.ensures.value ∙ ap (λ (n : ℤ). Some n) (sym (to_z-of_z {w = w64} {z = c.peek.result} (search (rules, c.peek.type_inv))))) ∣₁
+    ∣ (c.deref.result.now.committed, c.peek.ensures.sound, c.peek.ensures.value ∙ ap (λ (n : ℤ). Some n) (sym (to_z-of_z {w = w64} {z = c.peek.result} (search (rules, c.peek.type_inv))))) ∣₁

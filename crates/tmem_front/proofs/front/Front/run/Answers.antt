@@ -1,11 +1,11 @@
 use Rattle.std.proofs.Common.{sym, subst}
-use Rattle.tmem_spine.specs.Views.{PassView}
+use Rattle.tmem_spine.specs.Views.{PassRoleView}
 use Rattle.tmem_front.specs.Settling.{KnowsMore}
 use Rattle.tmem_front.proofs.Again.{knows_still, knows_more_at_last, settles_at_last}
 use Rattle.tmem_front.proofs.front.Front.run.Goals as goal
 
 pub loop-init : goal.loop-init
-loop-init g c = subst (λ (v : PassView). KnowsMore c.args.pass.now v) (sym c.pass.view_is) (knows_still c.args.pass.now)
+loop-init g c = subst (λ (v : PassRoleView). KnowsMore c.args.pass.now v) (sym c.pass.view_is) (knows_still c.args.pass.now)
 
 pub loop-preserved : goal.loop-preserved
 loop-preserved g c =

@@ -1,8 +1,8 @@
 use Rattle.std.proofs.Common.{◌≡◌, ℕ, ℤ, List, map, Some, ap, sym, ◌∙◌, subst}
 use Rattle.std.specs.Prelude.{IfOk, IfSome}
 use Rattle.tmem_tree.specs.Shapes.{names_of, AreMeant}
-use Rattle.tmem_seats.specs.Histories.{after}
-use Rattle.tmem_spine.specs.Views.{PassView}
+use Rattle.tmem_seats.specs.Histories.{state_after_history}
+use Rattle.tmem_spine.specs.Views.{PassRoleView}
 use Rattle.tmem_front.specs.Refusing.{AreEndValues, end_value}
 use Rattle.tmem_front.proofs.Refused.{named_among, meant_among, ends_told}
 use Rattle.tmem_front.proofs.front.Front.why_attempt_refused.Goals as goal
@@ -19,8 +19,8 @@ returns-clause-end g c =
     let shape = c.in-Some.shape.now in
     let meant = meant_among tests c.deref.result.now shape (rw c.deref.ensures.value c.args.self.now.meant) c.in-Some.ensures.among in
     let writes = c.args.attempt.now.effect.writes in
-    let accepted = c.meet-count.new.self.accepted in
-    let ends : map (λ (n : ℤ). Some n) c.at_end-values.result ≡ map (end_value (after g.N.StoreNaming.opening accepted).values writes) shape.footprint = rw (← c.deref-2.ensures) c.at_end-values.ensures.values in
-    let known : c.meet-count.new.seat.known ≡ accepted = ap (λ (p : PassView). p.known) c.meet-count.ensures.pass in
-    subst (λ log. IfOk c.told_where_false.result (λ found. IfSome found (λ values. AreEndValues (after g.N.StoreNaming.opening log).values writes values.items))) (sym known)
+    let committed = c.meet-count.new.self.committed in
+    let ends : map (λ (n : ℤ). Some n) c.at_end-values.result ≡ map (end_value (state_after_history g.N.StoreNaming.opening committed).values writes) shape.footprint = rw (← c.deref-2.ensures) c.at_end-values.ensures.values in
+    let known : c.meet-count.new.seat.known ≡ committed = ap (λ (p : PassRoleView). p.known) c.meet-count.ensures.pass in
+    subst (λ log. IfOk c.told_where_false.result (λ found. IfSome found (λ values. AreEndValues (state_after_history g.N.StoreNaming.opening log).values writes values.items))) (sym known)
     (ends_told (λ values. values.items) tests shape.name _ writes shape.footprint c.at_end-values.result c.told_where_false.result c.told_where_false.ensures.why c.told_where_false.ensures.same meant ends)

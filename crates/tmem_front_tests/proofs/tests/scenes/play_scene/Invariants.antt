@@ -1,4 +1,4 @@
-use Rattle.tmem_front.specs.Held.{found_of, spine_of}
+use Rattle.tmem_front.specs.Held.{front_found, spine_of}
 use Rattle.tmem_front_tests.specs.Examples.{adding}
 use Rattle.tmem_front_tests.proofs.tests.scenes.play_scene.Given as goal
 
@@ -10,4 +10,4 @@ abbrev pub ghosts-play_named-N-ProgramNaming : goal.ghosts-play_named-N-ProgramN
 ghosts-play_named-N-ProgramNaming g a = record { program = adding }
 
 abbrev pub ghosts-play_named-N-StoreNaming : goal.ghosts-play_named-N-StoreNaming
-ghosts-play_named-N-StoreNaming g a = record { opening = found_of a.opened }
+ghosts-play_named-N-StoreNaming g a = record { opening = front_found a.opened }

@@ -2,9 +2,9 @@ use Rattle.std.proofs.Common.{ℕ, ◌≡◌, ◌+◌, ◌-◌, ◌<◌, ◌^◌
 use Rattle.std.proofs.Math.Logic.{∥∥₁_map}
 use Rattle.tmem_disk.specs.Disk.{LeavesOnly}
 use Rattle.tmem_image.specs.Image.{IsGeneration, other_copy}
-use Rattle.tmem_image.specs.Pages.{HoldsOthers, pages_place}
+use Rattle.tmem_image.specs.Pages.{HoldsOthers, pages_at}
 use Rattle.tmem_redolog.specs.declared.log.Log.{Log}
-use Rattle.tmem_journal.specs.Stands.{position_in, StandsFor}
+use Rattle.tmem_journal.specs.Contents.{position_in, ContentRepresents}
 use Rattle.tmem_journal.proofs.Renewed.{state_either}
 use Rattle.tmem_journal.proofs.journal.Journal.checkpoint.Goals as goal
 
@@ -30,7 +30,7 @@ invariant_of-self-clause-stands g c = state_either _ c.renew.ensures.stands
 pub invariant_of-self-clause-sure : goal.invariant_of-self-clause-sure
 invariant_of-self-clause-sure g c = λ running.
     let j = c.args.self.now in
-    subst (λ (l : Log). LeavesOnly (g.D.Disk.view c.renew.new.disk) (StandsFor j.layout.vars j.layout.slots (position_in (1 - j.copy) l) j.state)) (sym c.in-Ok.ensures.emptied) c.in-Ok.ensures.sure
+    subst (λ (l : Log). LeavesOnly (g.D.Disk.view c.renew.new.disk) (ContentRepresents j.layout.vars j.layout.slots (position_in (1 - j.copy) l) j.state)) (sym c.in-Ok.ensures.emptied) c.in-Ok.ensures.sure
 
 pub invariant_of-self-clause-ahead : goal.invariant_of-self-clause-ahead
 invariant_of-self-clause-ahead g c = λ running k above below. c.in-Ok.ensures.closed k below
@@ -48,7 +48,7 @@ pub invariant_of-self-clause-spare_pages : goal.invariant_of-self-clause-spare_p
 invariant_of-self-clause-spare_pages g c = λ running.
     let j = c.args.self.now in
     let back : j.copy ≡ other_copy (1 - j.copy) = omega (arith, j.one) in
-    subst (λ (copy : ℕ). LeavesOnly (g.D.Disk.view c.renew.new.disk) (HoldsOthers (pages_place j.layout.vars copy) j.layout.vars j.changed.chosen j.state.values)) back (c.renew.ensures.aside j.changed.chosen j.state.values (j.chosen_pages running))
+    subst (λ (copy : ℕ). LeavesOnly (g.D.Disk.view c.renew.new.disk) (HoldsOthers (pages_at j.layout.vars copy) j.layout.vars j.changed.chosen j.state.values)) back (c.renew.ensures.aside j.changed.chosen j.state.values (j.chosen_pages running))
 
 pub invariant_of-self-clause-current : goal.invariant_of-self-clause-current
 invariant_of-self-clause-current g c = c.renew.ensures.current refl

@@ -4,7 +4,7 @@ use Rattle.tmem_fault.specs.declared.fault.Fault.{Fault}
 use Rattle.tmem_disk.proofs.Laws.{seen-left}
 use Rattle.tmem_record.specs.Layout.{IsLayout}
 use Rattle.tmem_image.specs.Image.{other_copy}
-use Rattle.tmem_image.specs.Pages.{pages_place}
+use Rattle.tmem_image.specs.Pages.{pages_at}
 use Rattle.tmem_image.proofs.Laws.{HoldsOthers-all}
 use Rattle.tmem_journal.specs.Calls.{FitsOn}
 use Rattle.tmem_journal.specs.Refusals.{IsRefusedBy}
@@ -92,12 +92,12 @@ returns-in-Err-recover_current-clause-memory g c =
 pub invariant_of-result-clause-chosen_pages : goal.invariant_of-result-clause-chosen_pages
 invariant_of-result-clause-chosen_pages g c = λ _.
     let layout = c.in-Ok.layout in
-    record { each = λ k content left. HoldsOthers-all (pages_place layout.vars c.in-Ok-recover_current.found.copy) layout.vars c.in-Ok-recover_current.found.state.values content layout.fits.vars_fit }
+    record { each = λ k content left. HoldsOthers-all (pages_at layout.vars c.in-Ok-recover_current.found.copy) layout.vars c.in-Ok-recover_current.found.state.values content layout.fits.vars_fit }
 
 pub invariant_of-result-clause-spare_pages : goal.invariant_of-result-clause-spare_pages
 invariant_of-result-clause-spare_pages g c = λ _.
     let layout = c.in-Ok.layout in
-    record { each = λ k content left. HoldsOthers-all (pages_place layout.vars (other_copy c.in-Ok-recover_current.found.copy)) layout.vars c.in-Ok-recover_current.found.state.values content layout.fits.vars_fit }
+    record { each = λ k content left. HoldsOthers-all (pages_at layout.vars (other_copy c.in-Ok-recover_current.found.copy)) layout.vars c.in-Ok-recover_current.found.state.values content layout.fits.vars_fit }
 
 pub returns-in-Ok-recover_current-clause-migrates : goal.returns-in-Ok-recover_current-clause-migrates
 returns-in-Ok-recover_current-clause-migrates g c = rw (c.in-Ok.ensures.vars, c.in-Ok.ensures.slots) at c.in-Ok-recover_current.ensures.migrates

@@ -1,6 +1,6 @@
 use Rattle.std.proofs.Common.{◌≤◌, ◌<◌, ◌+◌, ℕ, drop, false, length, sym, subst, refl}
 use Rattle.std.specs.Prelude.{slice_range}
-use Rattle.tmem_lines.specs.Lines.{StandsFor}
+use Rattle.tmem_lines.specs.Lines.{HoldsRestOf}
 use Rattle.tmem_lines.specs.Views.{LinesView}
 use Rattle.tmem_lines.proofs.Cutting.{found_in, cut_off, cut_short, cut_long}
 use Rattle.tmem_lines.proofs.lines.Lines.cut.Goals as goal
@@ -13,7 +13,7 @@ returns-clause-line c _ text stands =
     let first = slice_range bytes inside.next (inside.next + at) in
     let new : LinesView = record { line = first; rest = drop (inside.next + at + 1) bytes; is_long = false; held = length bytes } in
     let f = found_in c.deref.result.now bytes inside.next at c.memchr.result c.memchr.ensures c.deref.ensures.value c.in-Some.is in
-    let held = subst (λ (v : LinesView). StandsFor v text) (sym c.self.view_is) stands in
+    let held = subst (λ (v : LinesView). HoldsRestOf v text) (sym c.self.view_is) stands in
     let short = c.is_too_long-is_long.ensures.short c.if-is_long.false in (
       cut_short inside.is_long first text new short.0 (cut_off inside.is_long (drop inside.next bytes) first (drop (inside.next + at + 1) bytes) text new f.0 f.1 refl held),
       subst (λ (n : ℕ). n ≤ 65536) (sym f.2) short.1,
@@ -27,6 +27,6 @@ returns-then-is_long-clause-long c _ text stands =
     let first = slice_range bytes inside.next (inside.next + at) in
     let new : LinesView = record { line = first; rest = drop (inside.next + at + 1) bytes; is_long = false; held = length bytes } in
     let f = found_in c.deref.result.now bytes inside.next at c.memchr.result c.memchr.ensures c.deref.ensures.value c.in-Some.is in
-    let held = subst (λ (v : LinesView). StandsFor v text) (sym c.self.view_is) stands in
+    let held = subst (λ (v : LinesView). HoldsRestOf v text) (sym c.self.view_is) stands in
     cut_long inside.is_long first text new (λ is. subst (λ (n : ℕ). 65536 < n) (sym f.2) (c.is_too_long-is_long.ensures.long c.if-is_long.true is))
     (cut_off inside.is_long (drop inside.next bytes) first (drop (inside.next + at + 1) bytes) text new f.0 f.1 refl held)

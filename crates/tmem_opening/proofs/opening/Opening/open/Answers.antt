@@ -30,7 +30,7 @@ returns-in-Ok-made-clause-opened g c =
       fits = search rules;
       holds = search rules;
       uses = search rules;
-      mends = mending c.args.vars c.args.slots (g.D.Disk.view c.args.disk) (journal.device_of c.in-Ok.journal) (g.met.D.Disk.is_device (journal.disk_of c.in-Ok.journal)) opened.recovers opened.mends;
+      mends = mending c.args.vars c.args.slots (g.D.Disk.view c.args.disk) (journal.journal_device c.in-Ok.journal) (g.met.D.Disk.is_device (journal.disk_of c.in-Ok.journal)) opened.recovers opened.mends;
     }
 
 pub returns-in-Err-made-clause-refused : goal.returns-in-Err-made-clause-refused
@@ -38,9 +38,9 @@ returns-in-Err-made-clause-refused g c =
     let j = c.in-Ok.journal in
     let opened = c.in-Ok.ensures in
     let old = g.D.Disk.view c.args.disk in
-    let mends = mending c.args.vars c.args.slots old (journal.device_of j) (g.met.D.Disk.is_device (journal.disk_of j)) opened.recovers opened.mends in
+    let mends = mending c.args.vars c.args.slots old (journal.journal_device j) (g.met.D.Disk.is_device (journal.disk_of j)) opened.recovers opened.mends in
     subst (λ x. OpeningRefused (IsProgramOf g.T.Invariants c.args.table) c.args.vars c.args.slots old fault.Memory (g.D.Disk.view x)) (sym c.into_disk-in-Err-made.ensures)
-    (given_up g.T.Invariants c.args.table c.args.vars c.args.slots old (journal.device_of j) opened.uses opened.fits.2 mends (journal.position_of j) (journal.state_of j) (λ k. record { was = opened.found k; stands = opened.stands k })
+    (given_up g.T.Invariants c.args.table c.args.vars c.args.slots old (journal.journal_device j) opened.uses opened.fits.2 mends (journal.journal_position j) (journal.journal_state j) (λ k. record { was = opened.found k; stands = opened.stands k })
     (λ m stated. subst (λ (x : State). IsSound m (g.T.Invariants.names c.args.table) x.names x.values) c.state.ensures (c.in-Ok-new.ensures.sound m stated)))
 
 pub returns-in-Err-new-clause-refused : goal.returns-in-Err-new-clause-refused
@@ -50,9 +50,9 @@ returns-in-Err-new-clause-refused g c =
     let opened = c.in-Ok.ensures in
     let so = c.in-Err-new.ensures in
     let old = g.D.Disk.view c.args.disk in
-    let mends = mending c.args.vars c.args.slots old (journal.device_of j) (g.met.D.Disk.is_device (journal.disk_of j)) opened.recovers opened.mends in
+    let mends = mending c.args.vars c.args.slots old (journal.journal_device j) (g.met.D.Disk.is_device (journal.disk_of j)) opened.recovers opened.mends in
     subst (λ x. OpeningRefused theirs c.args.vars c.args.slots old c.in-Err-new.fault (g.D.Disk.view x)) (sym c.into_disk.ensures)
-    (core_refused theirs c.args.vars c.args.slots old (journal.device_of j) c.in-Err-new.fault mends opened.uses opened.fits.2 so.refused (journal.position_of j) (journal.state_of j) (λ k. record { was = opened.found k; stands = opened.stands k })
+    (core_refused theirs c.args.vars c.args.slots old (journal.journal_device j) c.in-Err-new.fault mends opened.uses opened.fits.2 so.refused (journal.journal_position j) (journal.journal_state j) (λ k. record { was = opened.found k; stands = opened.stands k })
     (λ no p are. (
       subst (λ (x : State). opening_fault p x ≡ Some c.in-Err-new.fault) c.state.ensures (so.fault p are no),
       subst (λ (x : State). ¬ IsSound p.tests p.names x.names x.values) c.state.ensures
@@ -65,7 +65,7 @@ returns-in-Err-new-clause-refused g c =
 pub returns-in-Err-new-clause-recovers : goal.returns-in-Err-new-clause-recovers
 returns-in-Err-new-clause-recovers g c = λ p a b are sound_a sound_b fits left keeps.
     let so = c.in-Err-new.ensures in
-    let s = journal.state_of c.in-Ok.journal in
+    let s = journal.journal_state c.in-Ok.journal in
     let either = c.in-Ok.ensures.either a b fits left (subst (λ x. (g.D.Disk.view x).keeps_model) c.into_disk.ensures keeps) in
     only_memory p s a b c.in-Err-new.fault so.refused
     (λ no. subst (λ (x : State). ¬ IsSound p.tests p.names x.names x.values) c.state.ensures

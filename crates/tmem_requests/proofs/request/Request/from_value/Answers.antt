@@ -3,7 +3,7 @@ use Rattle.std.proofs.lemmas.Bool.{false≢true}
 use Rattle.std.proofs.lemmas.Int.{to_z-of_z}
 use Rattle.serde_json.specs.View.{view}
 use Rattle.tmem_forms.proofs.Laws.{passed_on}
-use Rattle.tmem_requests.specs.Forms.{HasAt, IsInteger}
+use Rattle.tmem_requests.specs.Forms.{HasMember, IsInteger}
 use Rattle.tmem_requests.specs.Requests.{IsRequest}
 use Rattle.tmem_requests.proofs.Asked.{NoAsk}
 use Rattle.tmem_requests.proofs.Members.{NoRequestIn, no_request_unnumbered, no_request_with_more, no_request_of_none, request_of}
@@ -11,7 +11,7 @@ use Rattle.tmem_requests.proofs.request.Request.from_value.Goals as goal
 
 pub returns-in_err-id-clause-refused : goal.returns-in_err-id-clause-refused
 returns-in_err-id-clause-refused c =
-    passed_on ((id : ℤ) → ¬ HasAt (codes "id") (IsInteger id) (view c.args.value.now)) (NoRequestIn (view c.args.value.now))
+    passed_on ((id : ℤ) → ¬ HasMember (codes "id") (IsInteger id) (view c.args.value.now)) (NoRequestIn (view c.args.value.now))
     c.from_residual.result c.in_err-id.field-0.0 c.from_residual.ensures.1 c.in_err-id.ensures.refused
     (no_request_unnumbered (view c.args.value.now))
 

@@ -11,5 +11,5 @@ returns g c =
     let start = g.N.Naming.name.start in
     let was = c.self.invariant in
     let side = c.self.inside.side in
-    let view : side.accepted ≡ c.args.self.now.accepted = ap (λ (v : CoreSeatView). v.accepted) c.self.view_is in
-    c.count.ensures ∙ ap (λ (s : State). s.count) was.state ∙ count-after g.N.StoreNaming.opening start side.accepted was.starts ∙ ap (λ (l : List Entry). count start l) view
+    let view : side.committed ≡ c.args.self.now.committed = ap (λ (v : CoreSeatView). v.committed) c.self.view_is in
+    c.count.ensures ∙ ap (λ (s : State). s.count) was.state ∙ count-after g.N.StoreNaming.opening start side.committed was.starts ∙ ap (λ (l : List Entry). count start l) view

@@ -3,14 +3,14 @@ use Rattle.tmem_fault.specs.declared.fault.Fault.{Fault}
 use Rattle.tmem_effect.specs.State.{State}
 use Rattle.tmem_effect.proofs.Laws.{count-fold, IsPrefix-self}
 use Rattle.tmem_core.specs.Held as core
-use Rattle.tmem_core.specs.Held.{state_of, durable_of, is_shut_of, table_of, accepting}
+use Rattle.tmem_core.specs.Held.{core_state, durable_of, is_shut_of, core_table, committing}
 use Rattle.tmem_core.specs.Decisions.{taken_by}
 use Rattle.tmem_core.specs.Program.{IsProgramOf}
 use Rattle.tmem_core.specs.SettleAnswer.{settle_answer, judged}
 use Rattle.tmem_core.specs.Verdict.{verdict}
 use Rattle.tmem_tree.specs.declared.settled.Settled.{Settled}
-use Rattle.tmem_spine.specs.Views.{CoreView}
-use Rattle.tmem_seats.specs.Histories.{after, marked}
+use Rattle.tmem_spine.specs.Views.{CoreRoleView}
+use Rattle.tmem_seats.specs.Histories.{state_after_history, marked}
 use Rattle.tmem_seats.specs.Seats.{CoreSeatView}
 use Rattle.tmem_seats.proofs.Seated.{values-after, count-after, core_settled}
 use Rattle.tmem_seats.proofs.core_seat.CoreSeat.decide.Goals as goal
@@ -19,8 +19,8 @@ pub decide-decision-requires-clause-variables : goal.decide-decision-requires-cl
 decide-decision-requires-clause-variables g c =
     let opening = g.N.StoreNaming.opening in
     let was = c.self.invariant in
-    let same : length (state_of c.note_durable.new.self).values ≡ length opening.values =
-    ap (λ (v : core.CoreView _). length v.state.values) c.note_durable.ensures ∙ ap (λ (s : State). length s.values) was.state ∙ values-after opening c.self.inside.side.accepted in
+    let same : length (core_state c.note_durable.new.self).values ≡ length opening.values =
+    ap (λ (v : core.CoreView _). length v.state.values) c.note_durable.ensures ∙ ap (λ (s : State). length s.values) was.state ∙ values-after opening c.self.inside.side.committed in
     rw same c.requires.variables
 
 pub enter-requires-clause-room : goal.enter-requires-clause-room
@@ -28,27 +28,27 @@ enter-requires-clause-room g c =
     let was = c.self.invariant in
     let side = c.self.inside.side in
     let es = taken_by c.decide-decision.result c.args.attempt.now in
-    let more : (state_of c.decide-decision.new.self).count ≡ (state_of c.self.inside.core).count + length es =
-    ap (λ (v : core.CoreView _). v.state.count) (c.decide-decision.ensures.settles.view ∙ ap (accepting es) c.note_durable.ensures) ∙ count-fold (state_of c.self.inside.core) es in
-    omega (arith, c.decide-decision.new.self.countable, more, ap (λ (s : State). s.count) was.state, count-after g.N.StoreNaming.opening g.N.Naming.name.start side.accepted was.starts, ap (λ (v : CoreView). length v.accepted) c.trim-durable.ensures.core)
+    let more : (core_state c.decide-decision.new.self).count ≡ (core_state c.self.inside.core).count + length es =
+    ap (λ (v : core.CoreView _). v.state.count) (c.decide-decision.ensures.settles.view ∙ ap (committing es) c.note_durable.ensures) ∙ count-fold (core_state c.self.inside.core) es in
+    omega (arith, c.decide-decision.new.self.countable, more, ap (λ (s : State). s.count) was.state, count-after g.N.StoreNaming.opening g.N.Naming.name.start side.committed was.starts, ap (λ (v : CoreRoleView). length v.committed) c.trim-durable.ensures.core)
 
 pub invariant_of-self : goal.invariant_of-self
 invariant_of-self g c =
     let d = c.decide-decision.result in
     let a = c.args.attempt.now in
     core_settled g.N.Naming.name.start g.N.StoreNaming.opening g.N.ProgramNaming.program c.self.inside.core c.decide-decision.new.self c.self.inside.side c.enter.new.side c.trim-durable.new.pass.mark c.trim-durable.result d a c.self.invariant
-    (c.decide-decision.ensures.settles.view ∙ ap (accepting (taken_by d a)) c.note_durable.ensures) c.trim-durable.ensures.least.0 c.trim-durable.ensures.most
-    (c.enter.ensures.side ∙ ap (λ (v : CoreView). record v { accepted = v.accepted ++ marked c.trim-durable.new.pass.mark (taken_by d a) }) c.trim-durable.ensures.core)
+    (c.decide-decision.ensures.settles.view ∙ ap (committing (taken_by d a)) c.note_durable.ensures) c.trim-durable.ensures.least.0 c.trim-durable.ensures.most
+    (c.enter.ensures.side ∙ ap (λ (v : CoreRoleView). record v { committed = v.committed ++ marked c.trim-durable.new.pass.mark (taken_by d a) }) c.trim-durable.ensures.core)
 
 -- what is answered by the core that learned how many are durable, by what its seat showed before
-as_seen : (g : _) (c : goal.After-enter g) (F : Bool → State → ℕ → Result Settled Fault) → F (is_shut_of c.note_durable.new.self) (state_of c.note_durable.new.self) (durable_of c.note_durable.new.self)
-    ≡ F c.args.self.now.is_shut (after g.N.StoreNaming.opening c.args.self.now.accepted) c.enter.new.side.trimmed
+as_seen : (g : _) (c : goal.After-enter g) (F : Bool → State → ℕ → Result Settled Fault) → F (is_shut_of c.note_durable.new.self) (core_state c.note_durable.new.self) (durable_of c.note_durable.new.self)
+    ≡ F c.args.self.now.is_shut (state_after_history g.N.StoreNaming.opening c.args.self.now.committed) c.enter.new.side.trimmed
 as_seen g c F =
     ap (λ (v : core.CoreView _). F v.is_shut v.state v.durable) c.note_durable.ensures ∙ ap (λ (s : State). F (is_shut_of c.self.inside.core) s c.trim-durable.result) c.self.invariant.state
-    ∙ ap (λ (v : CoreSeatView). F v.is_shut (after g.N.StoreNaming.opening v.accepted) c.trim-durable.result) c.self.view_is
-    ∙ sym (ap (λ (v : CoreView). F c.args.self.now.is_shut (after g.N.StoreNaming.opening c.args.self.now.accepted) v.trimmed) (c.enter.ensures.side ∙ ap (λ (v : CoreView). record v { accepted = v.accepted ++ marked c.trim-durable.new.pass.mark (taken_by c.decide-decision.result c.args.attempt.now) }) c.trim-durable.ensures.core))
+    ∙ ap (λ (v : CoreSeatView). F v.is_shut (state_after_history g.N.StoreNaming.opening v.committed) c.trim-durable.result) c.self.view_is
+    ∙ sym (ap (λ (v : CoreRoleView). F c.args.self.now.is_shut (state_after_history g.N.StoreNaming.opening c.args.self.now.committed) v.trimmed) (c.enter.ensures.side ∙ ap (λ (v : CoreRoleView). record v { committed = v.committed ++ marked c.trim-durable.new.pass.mark (taken_by c.decide-decision.result c.args.attempt.now) }) c.trim-durable.ensures.core))
 
-its_program : (g : _) (c : goal.After-enter g) → IsProgramOf g.T.Invariants (table_of c.note_durable.new.self) g.N.ProgramNaming.program
+its_program : (g : _) (c : goal.After-enter g) → IsProgramOf g.T.Invariants (core_table c.note_durable.new.self) g.N.ProgramNaming.program
 its_program g c = subst (λ x. IsProgramOf g.T.Invariants x g.N.ProgramNaming.program) (sym (ap (λ (v : core.CoreView _). v.table) c.note_durable.ensures)) c.self.invariant.table
 
 pub returns-clause-decided : goal.returns-clause-decided
@@ -57,10 +57,10 @@ returns-clause-decided g c =
       trimmed = search rules;
       answered = c.decide-decision.ensures.settles.answer p (its_program g c) ∙ as_seen g c (λ shut s n. settle_answer p shut s n c.args.attempt.now);
       verdict = λ tx right. c.decide-decision.ensures.settles.verdict p tx (its_program g c) right ∙ as_seen g c (λ shut s n. judged shut s n c.args.attempt.now.reads.entries (verdict p tx s));
-      number = count-after g.N.StoreNaming.opening g.N.Naming.name.start c.args.self.now.accepted c.self.invariant.starts;
-      accepted = search rules;
+      number = count-after g.N.StoreNaming.opening g.N.Naming.name.start c.args.self.now.committed c.self.invariant.starts;
+      committed = search rules;
       knows = search rules;
       begins = search rules;
-      sound = (invariant_of-self g c).sound c.enter.new.side.accepted (IsPrefix-self c.enter.new.side.accepted);
+      sound = (invariant_of-self g c).sound c.enter.new.side.committed (IsPrefix-self c.enter.new.side.committed);
       rest = search rules;
     }

@@ -2,8 +2,8 @@ use Rattle.std.proofs.Common.{ℤ, Some, length, ap, sym, ◌∙◌, subst, rule
 use Rattle.std.proofs.Math.Facts.{to_z-of_z}
 use Rattle.tmem_core.specs.SettleAnswer.{is_stale}
 use Rattle.tmem_tentative.specs.Cursors.{outcome_of, probe_of}
-use Rattle.tmem_tentative.specs.Fits.{IsWithin, IsNamed, IsFilled}
-use Rattle.tmem_seats.specs.Histories.{after}
+use Rattle.tmem_tentative.specs.Fits.{IsWithinVariables, IsNamed, IsFilled}
+use Rattle.tmem_seats.specs.Histories.{state_after_history}
 use Rattle.tmem_tree.proofs.Laws.{footprint_in-AreMeant}
 use Rattle.tmem_seats.proofs.Present.{present_more}
 use Rattle.tmem_seats.proofs.core_seat.CoreSeat.evaluate.Goals as goal
@@ -12,19 +12,19 @@ pub loop-init : goal.loop-init
 loop-init g c = record {
   stands = λ m stated. c.in_ok-restart.ensures.stands m;
   at = λ m stated. c.in_ok-restart.ensures.at m g.N.ProgramNaming.program.tests;
-  present = ap (λ l. is_stale (after g.N.StoreNaming.opening c.args.self.now.accepted) l) c.in_ok-restart.ensures.given;
+  present = ap (λ l. is_stale (state_after_history g.N.StoreNaming.opening c.args.self.now.committed) l) c.in_ok-restart.ensures.given;
 }
 
 pub peek-value-requires : goal.peek-value-requires
 peek-value-requires g c =
-    subst (λ p. IsWithin (length g.N.StoreNaming.opening.values) (outcome_of c.advance.new.self p)) c.in-Need.is (c.in_ok-var.ensures.within (length g.N.StoreNaming.opening.values) c.requires.variables)
+    subst (λ p. IsWithinVariables (length g.N.StoreNaming.opening.values) (outcome_of c.advance.new.self p)) c.in-Need.is (c.in_ok-var.ensures.within (length g.N.StoreNaming.opening.values) c.requires.variables)
 
 pub loop-preserved-in-Need : goal.loop-preserved-in-Need
 loop-preserved-in-Need g c = record {
   stands = λ m stated. c.give.ensures.stands m c.args.plan.now (c.advance.ensures.stands m stated);
   at = λ m stated. c.give.ensures.at m g.N.ProgramNaming.program.tests c.args.plan.now.tree (c.advance.ensures.at m g.N.ProgramNaming.program.tests stated c.requires.shapes (c.loop.invariant.at m stated));
   present =
-      let s = after g.N.StoreNaming.opening c.args.self.now.accepted in
+      let s = state_after_history g.N.StoreNaming.opening c.args.self.now.committed in
       let fresh = ap (λ l. is_stale s l) c.advance.ensures.given ∙ c.loop.invariant.present in
       ap (λ l. is_stale s l) c.give.ensures.given ∙ present_more s _ _ _ fresh
       (c.peek-value.ensures.value ∙ ap (λ (n : ℤ). Some n) (sym (to_z-of_z {w = w64} {z = c.peek-value.result} (search (rules, c.peek-value.type_inv)))));
@@ -43,7 +43,7 @@ probe-held-requires-clause-filled g c =
 
 pub returns-in-Ended-clause-variables : goal.returns-in-Ended-clause-variables
 returns-in-Ended-clause-variables g c =
-    subst (λ p. IsWithin (length g.N.StoreNaming.opening.values) (outcome_of c.advance.new.self p)) c.in-Ended.is (c.in_ok-var.ensures.within (length g.N.StoreNaming.opening.values) c.requires.variables)
+    subst (λ p. IsWithinVariables (length g.N.StoreNaming.opening.values) (outcome_of c.advance.new.self p)) c.in-Ended.is (c.in_ok-var.ensures.within (length g.N.StoreNaming.opening.values) c.requires.variables)
 
 pub returns-in-Ended-clause-names : goal.returns-in-Ended-clause-names
 returns-in-Ended-clause-names g c =

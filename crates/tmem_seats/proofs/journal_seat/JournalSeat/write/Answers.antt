@@ -6,8 +6,8 @@ use Rattle.tmem_record.specs.declared.layout.Layout.{Layout}
 use Rattle.tmem_effect.proofs.Laws.{IsPrefix-self}
 use Rattle.tmem_spine.specs.declared.view.Entry.{Entry}
 use Rattle.tmem_spine.specs.History.{count}
-use Rattle.tmem_spine.specs.Views.{JournalView}
-use Rattle.tmem_seats.specs.Histories.{after}
+use Rattle.tmem_spine.specs.Views.{JournalRoleView}
+use Rattle.tmem_seats.specs.Histories.{state_after_history}
 use Rattle.tmem_seats.proofs.Seated.{count-after}
 use Rattle.tmem_seats.proofs.Refusals.{flush_refusal}
 use Rattle.tmem_seats.proofs.Written.{Leaves, written_ok, written_err, written_number, moments, long_aimed, both, state_left, ok_number}
@@ -34,12 +34,12 @@ invariant_of-self g c =
     let opening = g.N.StoreNaming.opening in
     let seat = c.args.self.now in
     let left = written_ok g.N.Naming.name.start g.N.StoreNaming.opening seat.side.durable seat.side.aimed seat.batch c.requires.goes_on seat.journal c.flush-flushed.new.self seat.state c.flush-flushed.result (sym c.is_ok.ensures.value ∙ c.if-is_ok.true) c.flush-flushed.ensures.flushed in
-    let now_durable : c.harden.new.journal.durable ≡ seat.side.aimed = ap (λ (v : JournalView). v.durable) c.harden.ensures in
-    let now_aimed : c.harden.new.journal.aimed ≡ seat.side.aimed = ap (λ (v : JournalView). v.aimed) c.harden.ensures in
+    let now_durable : c.harden.new.journal.durable ≡ seat.side.aimed = ap (λ (v : JournalRoleView). v.durable) c.harden.ensures in
+    let now_aimed : c.harden.new.journal.aimed ≡ seat.side.aimed = ap (λ (v : JournalRoleView). v.aimed) c.harden.ensures in
     record {
-      state = left.state ∙ ap (λ (l : List Entry). after opening l) (sym now_durable);
+      state = left.state ∙ ap (λ (l : List Entry). state_after_history opening l) (sym now_durable);
       starts = seat.starts;
-      doubt = ∣ inl (both left.doubt ∙ ap (λ (l : List Entry). after opening l) (sym now_durable)) ∣₁;
+      doubt = ∣ inl (both left.doubt ∙ ap (λ (l : List Entry). state_after_history opening l) (sym now_durable)) ∣₁;
       begins = subst (λ (l : List Entry). IsPrefix l c.harden.new.journal.aimed) (now_aimed ∙ sym now_durable) (IsPrefix-self c.harden.new.journal.aimed);
       over = ap (λ (l : Layout). l.vars) c.flush-flushed.ensures.layout ∙ seat.over;
     }
@@ -60,7 +60,7 @@ returns-then-is_ok-clause-ok g c =
     let start = g.N.Naming.name.start in
     let seat = c.args.self.now in
     let aimed = seat.side.aimed in
-    let now_durable : c.harden.new.journal.durable ≡ aimed = ap (λ (v : JournalView). v.durable) c.harden.ensures in
+    let now_durable : c.harden.new.journal.durable ≡ aimed = ap (λ (v : JournalRoleView). v.durable) c.harden.ensures in
     ok_number c.flush-flushed.result (λ n. (c.harden.new.journal.durable ≡ aimed) × (n ≡ count start c.harden.new.journal.durable)) (λ n is. (
       now_durable,
       (written_number start g.N.StoreNaming.opening seat.side.durable aimed seat.batch c.requires.goes_on seat.journal c.flush-flushed.new.self seat.state c.flush-flushed.result n is c.flush-flushed.ensures.flushed ∙ count-after g.N.StoreNaming.opening start aimed seat.starts) ∙ ap (λ (l : List Entry). count start l) (sym now_durable),

@@ -6,7 +6,7 @@ use Rattle.tmem_tree.specs.Visited.{Visit, Probe}
 use Rattle.tmem_tentative.specs.declared.attempt.Ending.TheVariants.{Normal, Retry}
 use Rattle.tmem_tentative.specs.declared.save.Save.{Save}
 use Rattle.tmem_tentative.specs.Answers.{answers_of}
-use Rattle.tmem_tentative.specs.Cursors.{MayGoOn, StandsAt, AsksFor, answers}
+use Rattle.tmem_tentative.specs.Cursors.{MayGoOn, EvaluationStandsAt, AsksFor, answers}
 use Rattle.tmem_tentative.specs.Places.{place_at}
 use Rattle.tmem_tentative.proofs.CursorStands.{may_run, waits_at, tests_at, ended_at, leaving_out}
 use Rattle.tmem_tentative.proofs.cursor.Cursor.go_on.Goals as goal
@@ -25,7 +25,7 @@ returns-in-Need-clause-stands g c = λ m footprint stated of at.
     let saves = c.walk_on-flow.new.saves in
     let long : length saves ≡ length old.saves.items = c.walk_on-flow.auto.saves ∙ ap (λ (l : List Save). length l) c.as_mut_slice.ensures.value in
     let is : (with_items old.saves saves).items ≡ saves = with_items_is old.saves saves (long ∙ sym old.saves.ok.0) in
-    subst (λ l. MayGoOn plan (place_at course l) × AsksFor m footprint plan reads (answers old) (Visit var) × ((n : ℤ) → StandsAt m footprint plan (answers old) (place_at course l) reads (record { reads = insert_entry nat_eq reads var n; left = option_to_list course.pending }))) (sym is)
+    subst (λ l. MayGoOn plan (place_at course l) × AsksFor m footprint plan reads (answers old) (Visit var) × ((n : ℤ) → EvaluationStandsAt m footprint plan (answers old) (place_at course l) reads (record { reads = insert_entry nat_eq reads var n; left = option_to_list course.pending }))) (sym is)
     (waits_at m footprint plan old course c.requires.going at c.walk_on-flow.ensures.reads stated of long (rw (c.as_mut_slice.ensures.value, c.requires.tree, c.in-Need.is) at c.walk_on-flow.ensures.runs))
 
 pub returns-in-Test-clause-stands : goal.returns-in-Test-clause-stands
@@ -38,7 +38,7 @@ returns-in-Test-clause-stands g c = λ m footprint stated of at.
     let saves = c.walk_on-flow.new.saves in
     let long : length saves ≡ length old.saves.items = c.walk_on-flow.auto.saves ∙ ap (λ (l : List Save). length l) c.as_mut_slice.ensures.value in
     let is : (with_items old.saves saves).items ≡ saves = with_items_is old.saves saves (long ∙ sym old.saves.ok.0) in
-    subst (λ l. MayGoOn plan (place_at course l) × AsksFor m footprint plan reads (answers old) (Probe course.probe.name course.probe.values) × StandsAt m footprint plan (answers old) (place_at course l) reads (record { reads = reads; left = left }) × (left ≡ [])) (sym is)
+    subst (λ l. MayGoOn plan (place_at course l) × AsksFor m footprint plan reads (answers old) (Probe course.probe.name course.probe.values) × EvaluationStandsAt m footprint plan (answers old) (place_at course l) reads (record { reads = reads; left = left }) × (left ≡ [])) (sym is)
     (tests_at m footprint plan old course c.requires.going at c.walk_on-flow.ensures.reads stated of long (rw (c.as_mut_slice.ensures.value, c.requires.tree, c.in-Test.is) at c.walk_on-flow.ensures.runs))
 
 pub returns-in-Normal-clause-stands : goal.returns-in-Normal-clause-stands

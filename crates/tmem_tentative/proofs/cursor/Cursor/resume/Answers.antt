@@ -6,7 +6,7 @@ use Rattle.tmem_tentative.specs.declared.attempt.Outcome.TheVariants as outcome
 use Rattle.tmem_tentative.specs.declared.attempt.Progress.TheVariants.{Ended}
 use Rattle.tmem_tentative.specs.Cursors.{IsAt, given, answers, unused, outcome_of, Answered}
 use Rattle.tmem_tree.specs.Shapes.{names_of, footprint_in}
-use Rattle.tmem_tentative.specs.Fits.{IsWithin, IsNamed, IsFilled}
+use Rattle.tmem_tentative.specs.Fits.{IsWithinVariables, IsNamed, IsFilled}
 use Rattle.tmem_tentative.proofs.CursorStands.{at_made}
 use Rattle.tmem_tentative.proofs.MadeOutcomes.{copy_made}
 use Rattle.tmem_tentative.proofs.RightOutcomes.{made_right}
@@ -14,7 +14,7 @@ use Rattle.tmem_tentative.proofs.cursor.Cursor.resume.Goals as goal
 
 pub returns-in-Need-clause-within : goal.returns-in-Need-clause-within
 returns-in-Need-clause-within g c = λ vars fits.
-    subst (λ p. IsWithin vars (outcome_of c.advance.new.self p)) c.in-Need.is (c.in_ok-var.ensures.within vars fits)
+    subst (λ p. IsWithinVariables vars (outcome_of c.advance.new.self p)) c.in-Need.is (c.in_ok-var.ensures.within vars fits)
 
 pub returns-in-Probe-clause-named : goal.returns-in-Probe-clause-named
 returns-in-Probe-clause-named g c = λ names fits.
@@ -41,7 +41,7 @@ pub returns-in-Ended-clause-within : goal.returns-in-Ended-clause-within
 returns-in-Ended-clause-within g c = λ vars fits.
     let new = c.advance.new.self in
     let reads = c.in_ok-reads.ensures ∙ sym c.advance.ensures.given in
-    let is = subst (λ p. IsWithin vars (outcome_of new p)) c.in-Ended.is (c.in_ok-var.ensures.within vars fits) in
+    let is = subst (λ p. IsWithinVariables vars (outcome_of new p)) c.in-Ended.is (c.in_ok-var.ensures.within vars fits) in
     (subst (λ es. All (λ var. var < vars) (keys_of es)) (sym reads) is.0, subst (λ e. All (λ var. var < vars) (keys_of e.writes)) (sym c.copy-in-Ended.ensures) is.1)
 
 pub returns-in-Ended-clause-named : goal.returns-in-Ended-clause-named

@@ -19,8 +19,8 @@ note_durable-requires-clause-known g c =
     let flushed = subst (λ (x : Result ℕ Fault). journals.Flushes o.journal c.take.new.batch x c.flush-flushed.new.self) c.in-Ok.is c.flush-flushed.ensures.flushed in
     omega (arith, flushed.1, number_taken o c.durable-durable.result c.durable-durable.ensures c.take.new.batch c.take.ensures.rest)
 
-pub note_durable-requires-clause-accepted : goal.note_durable-requires-clause-accepted
-note_durable-requires-clause-accepted g c =
+pub note_durable-requires-clause-committed : goal.note_durable-requires-clause-committed
+note_durable-requires-clause-committed g c =
     let o = c.args.self.now in
     let flushed = subst (λ (x : Result ℕ Fault). journals.Flushes o.journal c.take.new.batch x c.flush-flushed.new.self) c.in-Ok.is c.flush-flushed.ensures.flushed in
     omega (arith, flushed.1, number_taken o c.durable-durable.result c.durable-durable.ensures c.take.new.batch c.take.ensures.rest, c.durable-durable.ensures, c.take.ensures.reached)
@@ -30,14 +30,14 @@ invariant_of-self-clause-waits g c =
     let o = c.args.self.now in
     let flushed = subst (λ (x : Result ℕ Fault). journals.Flushes o.journal c.take.new.batch x c.flush-flushed.new.self) c.in-Ok.is c.flush-flushed.ensures.flushed in
     let left = ap (λ v. v.waiting) c.note_durable.ensures ∙ behind o c.durable-durable.result c.durable-durable.ensures c.take.new.batch c.take.ensures.rest c.in-Ok.number flushed.1 in
-    ap (fold (journal.state_of c.flush-flushed.new.self)) left ∙ ap (λ (s : State). fold s (drop (length c.take.new.batch) (waiting_of o.core))) flushed.2.state ∙ rest_waits o c.durable-durable.result c.durable-durable.ensures c.take.new.batch c.take.ensures.rest ∙ sym (ap (λ v. v.state) c.note_durable.ensures)
+    ap (fold (journal.journal_state c.flush-flushed.new.self)) left ∙ ap (λ (s : State). fold s (drop (length c.take.new.batch) (waiting_of o.core))) flushed.2.state ∙ rest_waits o c.durable-durable.result c.durable-durable.ensures c.take.new.batch c.take.ensures.rest ∙ sym (ap (λ v. v.state) c.note_durable.ensures)
 
 pub invariant_of-self-clause-within : goal.invariant_of-self-clause-within
 invariant_of-self-clause-within g c =
     let o = c.args.self.now in
     let flushed = subst (λ (x : Result ℕ Fault). journals.Flushes o.journal c.take.new.batch x c.flush-flushed.new.self) c.in-Ok.is c.flush-flushed.ensures.flushed in
     let left = ap (λ v. v.waiting) c.note_durable.ensures ∙ behind o c.durable-durable.result c.durable-durable.ensures c.take.new.batch c.take.ensures.rest c.in-Ok.number flushed.1 in
-    subst (StaysWithin (journal.state_of c.flush-flushed.new.self)) (sym left)
+    subst (StaysWithin (journal.journal_state c.flush-flushed.new.self)) (sym left)
     (subst (λ (s : State). StaysWithin s (drop (length c.take.new.batch) (waiting_of o.core))) (sym flushed.2.state) (within_rest o c.durable-durable.result c.durable-durable.ensures c.take.new.batch c.take.ensures.rest))
 
 pub returns-in-Ok-clause-flushed : goal.returns-in-Ok-clause-flushed

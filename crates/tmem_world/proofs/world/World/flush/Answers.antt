@@ -21,7 +21,7 @@ returns-in-Ok g c =
           (done.0, in_session program (held_of w) m _ _ _ r.session (is_with (held_of w) o before) done.1, done.2);
       reopened = tt;
       any_moment = call_moments w _ refl o c.flush.new.self before refl so.device.any_moment;
-      elsewhere = flush_within w o (journal.device_of c.flush.new.self.journal) before so.device.elsewhere;
+      elsewhere = flush_within w o (journal.journal_device c.flush.new.self.journal) before so.device.elsewhere;
       failures = search rules;
       failed_call = search rules;
       still = grind (arith, common_steps);
@@ -40,7 +40,7 @@ returns-in-Err g c =
           (done.0, in_session program (held_of w) m _ _ _ r.session (is_with (held_of w) o before) done.1, done.2);
       reopened = tt;
       any_moment = call_moments w _ refl o c.flush.new.self before refl so.device.any_moment;
-      elsewhere = flush_within w o (journal.device_of c.flush.new.self.journal) before so.device.elsewhere;
+      elsewhere = flush_within w o (journal.journal_device c.flush.new.self.journal) before so.device.elsewhere;
       failures = search rules;
       failed_call = search rules;
       still = search rules;
