@@ -20,7 +20,7 @@ bit_from_index : (indices index : ℕ) → has_index indices index ≡ true → 
 unfolding has_index
 bit_from_index indices index is = eqb-true (bit_at indices index) 1 is
 
-same_bits : (a b index : ℕ) → bit_at an index ≡ bit_at b index → has_index an index ≡ has_index b index
+same_bits : (a b index : ℕ) → bit_at a index ≡ bit_at b index → has_index a index ≡ has_index b index
 unfolding has_index
 same_bits a b index is = ap (λ n. n == 1) is
 
@@ -35,24 +35,24 @@ min_is_one : (x y : ℕ) → x < 2 → y < 2 → (min x y == 1) ≡ ((x == 1) &&
 min_is_one x y p q = grind (arith, nat_tests)
 
 -- two sets joined
-pub has_index-or : (a b index : ℕ) → has_index (bit_or a b) index ≡ (has_index an index || has_index b index)
+pub has_index-or : (a b index : ℕ) → has_index (bit_or a b) index ≡ (has_index a index || has_index b index)
 unfolding has_index
 has_index-or a b index =
-    ap (λ n. n == 1) (bit_at_or a b index) ∙ max_is_one (bit_at an index) (bit_at b index) (bit_at-lt an index) (bit_at-lt b index)
+    ap (λ n. n == 1) (bit_at_or a b index) ∙ max_is_one (bit_at a index) (bit_at b index) (bit_at-lt a index) (bit_at-lt b index)
 
 -- what is in both
-pub has_index-and : (a b index : ℕ) → has_index (bit_and a b) index ≡ (has_index an index && has_index b index)
+pub has_index-and : (a b index : ℕ) → has_index (bit_and a b) index ≡ (has_index a index && has_index b index)
 unfolding has_index
 has_index-and a b index =
-    ap (λ n. n == 1) (bit_at_and a b index) ∙ min_is_one (bit_at an index) (bit_at b index) (bit_at-lt an index) (bit_at-lt b index)
+    ap (λ n. n == 1) (bit_at_and a b index) ∙ min_is_one (bit_at a index) (bit_at b index) (bit_at-lt a index) (bit_at-lt b index)
 
 -- what is in the first and not in the second
-pub has_index-without : (a b index : ℕ) → a < 2 ^ 64 → b < 2 ^ 64 → has_index (bit_and a (bit_not w64 b)) index ≡ (has_index an index && not (has_index b index))
+pub has_index-without : (a b index : ℕ) → a < 2 ^ 64 → b < 2 ^ 64 → has_index (bit_and a (bit_not w64 b)) index ≡ (has_index a index && not (has_index b index))
 unfolding has_index
 has_index-without a b index fits_a fits_b = has_index-and a (bit_not w64 b) index ∙ elim (cases_lt index 64) [
-  | inl low ↦ ap (λ n. bit_at an index == 1 && n == 1) (bit_at_not w64 b index fits_b low) ∙ ap (λ c. bit_at an index == 1 && c) (is_none (bit_at b index) (bit_at-lt b index))
+  | inl low ↦ ap (λ n. bit_at a index == 1 && n == 1) (bit_at_not w64 b index fits_b low) ∙ ap (λ c. bit_at a index == 1 && c) (is_none (bit_at b index) (bit_at-lt b index))
   | inr high ↦
-      let none : (bit_at an index == 1) ≡ false = ap (λ n. n == 1) (bit_at_above a 64 index fits_a high) in
+      let none : (bit_at a index == 1) ≡ false = ap (λ n. n == 1) (bit_at_above a 64 index fits_a high) in
       ap (λ c. c && bit_at (bit_not w64 b) index == 1) none ∙ sym (ap (λ c. c && not (bit_at b index == 1)) none)
 ] where
   is_none : (x : ℕ) → x < 2 → (1 - x == 1) ≡ not (x == 1)
