@@ -40,7 +40,7 @@ impl Model for Name {
 impl Name {
     /// The name of these letters. Anything but one to sixteen letters from a to z is refused as `BadName`.
     pub fn new(text: &str) -> Result<Name, Fault>
-        ensures committed { IsOk result ↔ IsName text.now }
+        ensures valid { IsOk result ↔ IsName text.now }
         ensures ok { IfOk result (λ name. name ≡ text.now) }
         ensures refused { IfErr result (λ fault. fault ≡ Fault.BadName) }
     {

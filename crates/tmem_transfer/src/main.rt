@@ -25,7 +25,7 @@ fn main(rt: HostRuntime) -> Result<(), Fault> {
     let table = Table::of(alloc, vec![in alloc; balanced]?, 2)?;
     let (lost, found) = transfer_in_new(alloc, table, Steps::of(Vec::new(alloc))?)?;
     let _ = println!(rt;
-        "a loss is accepted: {lost}\nfound: {} and {}",
+        "a loss is committed: {lost}\nfound: {} and {}",
         found.0, found.1
     );
     Ok(())
@@ -44,7 +44,7 @@ fn transfer_in_new<T: Invariants + Drop, S: StoredSteps + Drop>(
 }
 
 /// Moves 30 from account 0 to account 1 of a new store, tries to lose it, and opens the store again. Answers whether the
-/// loss was accepted, and what the accounts have then.
+/// loss was committed, and what the accounts have then.
 fn transfer<D: Disk + Drop, T: Invariants + Drop, S: StoredSteps + Drop>(
     alloc: Global,
     world: &mut World<D, T, S>,

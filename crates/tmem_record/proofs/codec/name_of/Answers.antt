@@ -17,7 +17,7 @@ returns-in_default-clause-none c =
 
 pub returns-in_default-new-clause-none : goal.returns-in_default-new-clause-none
 returns-in_default-new-clause-none c =
-    no_name_there c.args.bytes.now c.in_ok-len.behind.now c.split_at.result.0.now c.in_ok-len.len c.in_ok-len.ensures.found c.split_at.ensures.front (λ is. false≢true (c.in_default-new.ensures.accepted.1 (subst IsName (sym c.in-Ok.ensures.cases.0) is)))
+    no_name_there c.args.bytes.now c.in_ok-len.behind.now c.split_at.result.0.now c.in_ok-len.len c.in_ok-len.ensures.found c.split_at.ensures.front (λ is. false≢true (c.in_default-new.ensures.valid.1 (subst IsName (sym c.in-Ok.ensures.cases.0) is)))
 
 pub returns-clause-found : goal.returns-clause-found
 returns-clause-found c =
