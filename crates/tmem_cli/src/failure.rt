@@ -4,8 +4,9 @@ use std::fmt;
 use std::io::{self, ErrorKind};
 use thiserror::Error;
 use tmem_desk::Failure as DeskFailure;
-use tmem_fault::Fault;
+use tmem_fault::{Fault, Name};
 use tmem_init::InitError;
+use tmem_serve::ServeError;
 use tmem_shape::ShapeError;
 
 /// Why a store was not made, or not served to its end. Its text is what the user is told.
@@ -19,6 +20,8 @@ pub(crate) enum StoreFailure {
     NotMade(InitError),
     /// The opening was refused, the device failed, or there was not enough memory.
     Refused(Fault),
+    /// The store was opened, and this invariant, which always holds by the shape, is not registered in it.
+    Unregistered(Name),
     Input,
     Output,
 }
@@ -30,6 +33,9 @@ impl fmt::Display for StoreFailure {
             StoreFailure::NoShape(error) => write!(f, "bad shape: {error}"),
             StoreFailure::NotMade(error) => write!(f, "{error}"),
             StoreFailure::Refused(fault) => write!(f, "{fault}"),
+            StoreFailure::Unregistered(name) => {
+                write!(f, "{name} always holds by the shape, but is not registered in the store")
+            }
             StoreFailure::Input => write!(f, "input failed"),
             StoreFailure::Output => write!(f, "output failed"),
         }
@@ -79,11 +85,12 @@ impl<T: Drop> From<AllocFailed<T>> for StoreFailure {
     }
 }
 
-impl From<DeskFailure> for StoreFailure {
-    fn from(failure: DeskFailure) -> StoreFailure {
-        match failure {
-            DeskFailure::Fault(fault) => StoreFailure::Refused(fault),
-            DeskFailure::Output => StoreFailure::Output,
+impl From<ServeError> for StoreFailure {
+    fn from(error: ServeError) -> StoreFailure {
+        match error {
+            ServeError::Unregistered(name) => StoreFailure::Unregistered(name),
+            ServeError::Ended(DeskFailure::Fault(fault)) => StoreFailure::Refused(fault),
+            ServeError::Ended(DeskFailure::Output) => StoreFailure::Output,
         }
     }
 }

@@ -1,6 +1,7 @@
 // A store that was opened, before it has a name in the types.
 ghost use Rattle.std.specs.Prelude.{◌≡◌, IfOk, IfErr};
 ghost use Rattle.tmem_core.specs.Program.{IsProgramOf};
+ghost use Rattle.tmem_effect.specs.Names.{has_name};
 ghost use Rattle.tmem_journal.specs.Calls.{FitsOn};
 ghost use Rattle.tmem_opening.specs.Held.{found_of as opened_at};
 ghost use Rattle.tmem_opening.specs.Opening.{IsOpened, OpeningRefused, RecoversEither, without_device};
@@ -12,7 +13,7 @@ use crate::returned::Returned;
 use std::alloc::{AllocError, Global};
 use std::sync::Mutex;
 use tmem_disk::Disk;
-use tmem_fault::Fault;
+use tmem_fault::{Fault, Name};
 use tmem_invariants::Invariants;
 use tmem_opening::Opening;
 use tmem_seats::{CoreSeat, JournalSeat, StoreNaming};
@@ -85,6 +86,13 @@ impl<D: Disk + Drop, T: Invariants + Drop, S: StoredSteps + Drop> OpenedFront<D,
             spine,
             conditions,
         })
+    }
+
+    /// Whether a name is registered in the state that was found.
+    pub fn has(&self, name: &Name) -> bool
+        ensures { result ≡ has_name (front_found self.now).names name.now }
+    {
+        self.opening.core.has(name)
     }
 
     /// The store under its name, with the steps that it was opened with.

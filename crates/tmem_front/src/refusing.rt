@@ -154,7 +154,8 @@ fn shape_of<'a>(shapes: &'a [Shape], name: &Name) -> Option<&'a Shape>
 
 // What a test saw that failed, where it is of the invariant of this name.
 fn failed_values(held: bool, probe: &Probe, name: &Name) -> Option<Values>
-    ensures { IfSome result (λ values. (values ≡ probe.now.values) × (probe.now.name ≡ name.now)) }
+    ensures values { IfSome result (λ values. (values ≡ probe.now.values) × (probe.now.name ≡ name.now)) }
+    ensures failed { IfSome result (λ _. held ≡ false) }
 {
     if !held && probe.name == *name {
         Some(probe.values.copy())

@@ -4,6 +4,8 @@
 //! that the client was told is lost, whatever crashes.
 #![tactic(auto)]
 
+mod error;
 mod serving;
 
+pub use error::ServeError;
 pub use serving::{InputEnd, Served, serve_store};

@@ -1,5 +1,5 @@
 //! From the opening of a store to the end of the input.
-ghost use Rattle.std.specs.Prelude.{◌≡◌, ◌≤◌, [], length, take, OnOk, OnErr, IfOk, IfErr};
+ghost use Rattle.std.specs.Prelude.{◌≡◌, ◌≤◌, [], length, take, Option, option_map, OnOk, OnErr, IfOk, IfErr};
 ghost use Rattle.std.specs.Io.KnownBytes.{Appends, Consumes, IsAtEnd, Keeps};
 ghost use Rattle.tmem_core.specs.Program.{Program, IsProgramOf};
 ghost use Rattle.tmem_desk.specs.Asking.{store};
@@ -7,8 +7,9 @@ ghost use Rattle.tmem_desk.specs.Held.{desk_view};
 ghost use Rattle.tmem_desk.specs.declared.failure.Failure.TheVariants as failure;
 ghost use Rattle.tmem_front.specs.Held.{front_found, spine_of, front_steps, front_table};
 ghost use Rattle.tmem_serve.specs.Turns.{ServesInput, StopsInput};
-ghost use Rattle.tmem_serve.specs.Stores.{IsWhyEnded, IsWhyStopped, OpensAndServes, ServesStore, first_line};
+ghost use Rattle.tmem_serve.specs.Stores.{IsWhyEnded, IsWhyStopped, OpensAndServes, ServesStore, first_line, first_unregistered};
 
+use crate::error::ServeError;
 use std::alloc::Global;
 use std::io::{ErrorKind, Read, Write};
 use std::marker::Brand;
@@ -48,7 +49,8 @@ pub enum InputEnd {
 }
 
 /// Opens a store, and serves it until the end of the input, or until a read of that fails: then all that was read is answered as at the
-/// end. Refused as an opening is, before anything is read or printed; with the fault that a call of the device or want of memory ended it
+/// end. Refused as an opening is, and with the first invariant that should always hold and is not registered, before anything is read or
+/// printed; with the fault that a call of the device or want of memory ended it
 /// by, once each request of that piece of input was answered so; and with `Output` where the output failed.
 pub fn serve_store<
     R: Wait,
@@ -66,7 +68,7 @@ pub fn serve_store<
     steps: S,
     input: &mut I,
     out: &mut W,
-) -> Result<InputEnd, Failure>
+) -> Result<InputEnd, ServeError>
     ghost program: { Program }
     requires vars { T.vars table ≡ served.vars }
     requires names { T.names table ≡ program.names }
@@ -82,10 +84,26 @@ pub fn serve_store<
 {
     match OpenedFront::open(alloc, disk, served.vars, served.slots, table, steps) {
         Ok(opened) => {
-            serve_opened::<Brand, R, D, T, S, I, W>(rt, alloc, opened, served, input, out)
+            if let Some(name) = unregistered(&opened, served.always) {
+                return Err(ServeError::Unregistered(name));
+            }
+            match serve_opened::<Brand, R, D, T, S, I, W>(rt, alloc, opened, served, input, out) {
+                Ok(end) => Ok(end),
+                Err(failure) => Err(ServeError::Ended(failure)),
+            }
         }
-        Err((fault, _disk)) => Err(Failure::Fault(fault)),
+        Err((fault, _disk)) => Err(ServeError::Ended(Failure::Fault(fault))),
     }
+}
+
+// The first of these names that is not registered in a store that was opened.
+fn unregistered<D: Disk + Drop, T: Invariants + Drop, S: StoredSteps + Drop>(
+    opened: &OpenedFront<D, T, S>,
+    names: &[Name],
+) -> Option<Name>
+    ensures { result ≡ first_unregistered (front_found opened.now).names names.now }
+{
+    names.iter().find(|name| !opened.has(name)).copied()
 }
 
 // Gives the store its name in the types, and serves it.

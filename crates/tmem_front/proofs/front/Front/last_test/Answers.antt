@@ -30,5 +30,5 @@ loop-preserved g c =
     let long = filled.1 ∙ ap length (footprint_in-AreMeant g.N.ProgramNaming.program.tests shapes (probe_of c.advance.new.self).name c.requires.shapes filled.0) in
     record {
       stands = λ m stated. c.answer.ensures.stands m c.args.plan.now (c.advance.ensures.stands m stated);
-      filled = some_filled c.failed_values-failed.result c.probe-in-Probe.result.now.values c.probe-in-Probe.result.now.name c.args.name.now footprint c.failed_values-failed.ensures (rw c.probe-in-Probe.ensures long);
+      filled = some_filled c.failed_values-failed.result c.probe-in-Probe.result.now.values c.probe-in-Probe.result.now.name c.args.name.now footprint c.failed_values-failed.ensures.values (rw c.probe-in-Probe.ensures long);
     }
