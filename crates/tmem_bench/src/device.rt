@@ -33,6 +33,14 @@ impl Place<'_> {
             Place::File(_) => "file",
         }
     }
+
+    /// Whether it is a file.
+    pub fn is_file(self) -> bool {
+        match self {
+            Place::Memory => false,
+            Place::File(_) => true,
+        }
+    }
 }
 
 /// A new file of so many zeros. Refused by `Device` where something has the path.

@@ -46,8 +46,8 @@ impl Figures {
     }
 }
 
-/// What a job did. Its baseline is what the same device did in the same minute: two syncs alone, before the job and after it; or
-/// for openings, two reads of the file. On the core there is none.
+/// What a job did. Its baseline is what the same file did in the same minute: two syncs alone, before the job and after it; or for
+/// openings, two reads of it. In memory, and for reads, there is none.
 #[derive(Drop)]
 pub struct Line {
     pub device: &'static str,

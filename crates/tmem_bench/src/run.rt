@@ -84,21 +84,26 @@ fn line_of_core<R: Clock + AllocGlobal + Threads + Wait + Sync>(
     Ok(format!(in rt.alloc(); "{line}")?)
 }
 
-// A job between two loops of syncs.
+// A job on a device. One that makes a file durable runs between two loops of syncs.
 fn line_of_job<R: Clock + Files<File = File> + AllocGlobal + Threads + Wait + Sync>(
     rt: &R,
     place: Place<'_>,
     job: Job,
 ) -> Result<String, BenchError> {
-    let before = two_syncs(rt, place)?;
-    let had = run(rt, place, job)?;
-    let after = two_syncs(rt, place)?;
+    let (had, baseline) = if place.is_file() && job.act != Act::Look {
+        let before = two_syncs(rt, place)?;
+        let had = run(rt, place, job)?;
+        let after = two_syncs(rt, place)?;
+        (had, Some(before.with(after)))
+    } else {
+        (run(rt, place, job)?, None)
+    };
     let line = Line {
         device: place.name(),
         name: job.act.name(),
         callers: job.callers,
         had,
-        baseline: Some(before.with(after)),
+        baseline,
     };
     Ok(format!(in rt.alloc(); "{line}")?)
 }

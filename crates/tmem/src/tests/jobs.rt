@@ -24,8 +24,8 @@ fn a_line_has_a_column_for_each_figure(rt: HostRuntime) -> Result<(), Fail> {
     };
     // 3 a second, where the baseline is 12 a second: one caller alone has no flusher
     let alone = Line {
-        device: "memory",
-        name: "two reads",
+        device: "file",
+        name: "open 1024 variables",
         callers: Callers::Alone,
         had: figures(9, 0, 3000),
         baseline: Some(figures(48, 0, 4000)),
@@ -45,7 +45,7 @@ fn a_line_has_a_column_for_each_figure(rt: HostRuntime) -> Result<(), Fail> {
         ),
         (
             alone,
-            "memory  two reads                      1  none                   3        0          12    0.25",
+            "file    open 1024 variables            1  none                   3        0          12    0.25",
         ),
         (
             core,
