@@ -34,11 +34,11 @@ def bonus(t):
     return move(t, "alice", "bob", 1)
 
 
-tmem.create("balances.store", SHAPE)
+tmem.create("balances.store", SHAPE, exist_ok=True)
 with tmem.open("balances.store") as store:
     store.run(deposit, "alice", 100)
     print("moved:", *store.run(move, "alice", "bob", 30))
-    for attempt in (lambda t: move(t, "bob", "alice", 31), lambda t: t.__setitem__("alice", 1_000_000)):
+    for attempt in (lambda t: move(t, "bob", "alice", t["bob"] + 1), lambda t: t.__setitem__("alice", 1_000_000)):
         try:
             store.run(attempt)
         except tmem.Refused as refused:

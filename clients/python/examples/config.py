@@ -26,13 +26,13 @@ def later(t, than):
     return look(t)
 
 
-tmem.create("config.store", {"vars": 3, "slots": 16, "invariants": [], "names": NAMES})
+tmem.create("config.store", {"vars": 3, "slots": 16, "invariants": [], "names": NAMES}, exist_ok=True)
 with tmem.open("config.store") as store:
-    seen = []
+    seen, first = [], store.get("version")
 
     def follow():
-        version = 0
-        while version < 50:
+        version = first
+        while version < first + 50:
             version, rate, burst = store.run(later, version)
             seen.append((rate, burst))
 

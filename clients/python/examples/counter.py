@@ -2,7 +2,7 @@
 
 import tmem
 
-tmem.create("counter.store", {"vars": 1, "slots": 64, "invariants": [], "names": {"hits": 0}})
+tmem.create("counter.store", {"vars": 1, "slots": 64, "invariants": [], "names": {"hits": 0}}, exist_ok=True)
 with tmem.open("counter.store") as store:
     # This transaction the store runs by itself: it adds the number of its Put to the counter.
     hits = store.number("hits")

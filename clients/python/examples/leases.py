@@ -23,10 +23,11 @@ def give_back(t, lease, me):
     t["held"] -= 1
 
 
-tmem.create("leases.store", {"vars": 3, "slots": 16, "invariants": [], "names": {"lease1": 0, "lease2": 1, "held": 2}})
+tmem.create("leases.store", {"vars": 3, "slots": 16, "invariants": [], "names": {"lease1": 0, "lease2": 1, "held": 2}}, exist_ok=True)
 with tmem.open("leases.store") as store:
     print("client 7 has", store.run(take, 7))
-    print("client 8 has", store.run(take, 8))
+    taken = store.run_numbered(take, 8)
+    print("client 8 has", taken.result, "and fencing token", taken.number)
     try:
         store.run(take, 9, timeout=0.1)
     except tmem.Timeout:
@@ -41,3 +42,5 @@ with tmem.open("leases.store") as store:
     store.run(give_back, "lease2", 8)
     waiting.join()
     print("held:", store.get("held"), "by", *store.get("lease1", "lease2"))
+    store.run(give_back, "lease1", 7)
+    store.run(give_back, "lease2", 9)

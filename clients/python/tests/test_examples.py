@@ -13,6 +13,40 @@ import unittest
 
 from support import TOP, HubCase, StoreCase
 
+# What the second run of an example prints where it is not what stands beside it: the store goes on from what the first one left.
+SECOND = {
+    "balances.py": """\
+moved: 144 66
+refused: bobsolvent
+refused: balanced
+bonus: 148 72
+accounts: 148 72 220
+""",
+    "config.py": """\
+half changed: 0
+last seen by all: 3
+version, rate and burst: 100 50 100
+""",
+    # (the first run ended with 2006 hits, after 1004 transactions)
+    "counter.py": """\
+hit 2007
+hit 2008
+hit 2009
+transactions 1007 to 2006
+doubled 6018
+found 6018 after 2008 transactions
+""",
+    # (the first run had six transactions: three took a lease, and three gave one back)
+    "leases.py": """\
+client 7 has lease1
+client 8 has lease2 and fencing token 7
+client 9 would have to wait
+no: 7 does not hold lease2
+client 9 has lease2
+held: 2 by 7 9
+""",
+}
+
 SHELL = """\
 > get a held
 a = 0
@@ -36,6 +70,18 @@ registered: none
 the store has no variable nope
 > set 8 1
 the store has the variables 0 to 7, and not 8
+> set x 1 y 2 x 3
+x is named twice
+> set x 1 y 2 2 3
+x and 2 are the same variable
+> set 7 1 07 2
+7 is named twice
+> add x 1 x 1
+x is named twice
+> get x y x
+x = 0
+y = 0
+x = 0
 > set a
 set VARIABLE VALUE ..
 > set a x
@@ -76,6 +122,7 @@ class Examples(unittest.TestCase):
         for path in found:
             with self.subTest(path=path), tempfile.TemporaryDirectory() as room, open(f"{path}.stdout", encoding="utf-8") as wanted:
                 self.assertEqual(run([sys.executable, path], cwd=room), (0, wanted.read(), ""))
+                self.assertEqual(run([sys.executable, path], cwd=room), (0, SECOND[os.path.basename(path)], ""))
 
 
 class Shell(StoreCase):
@@ -100,9 +147,42 @@ class Shell(StoreCase):
         self.assertIn("status -9", told)
 
     def test_it_says_where_there_is_no_store(self):
-        status, printed, told = run([sys.executable, "-m", "tmem", self.path + ".none"], input="")
-        self.assertEqual((status, printed), (1, ""))
-        self.assertIn("tmem", told)
+        path = f"{self.path}.none"
+        wanted = 1, "", f"cannot open {path}, which is not there: tmem: cannot read shape\n"
+        self.assertEqual(run([sys.executable, "-m", "tmem", path], input=""), wanted)
+
+    def test_it_says_where_there_is_no_program(self):
+        wanted = 1, "", f"cannot start {self.folder}: it is a folder\n"
+        self.assertEqual(run([sys.executable, "-m", "tmem", self.path], input="", env={**os.environ, "TMEM": self.folder}), wanted)
+
+    def test_a_value_is_set_once(self):
+        self.set(a=3)
+        self.store.close()
+        given = "set a 1 a 2\nadd a 1 0 2\nset b 1 a 2 b 3\n.state\n"
+        wanted = "a is named twice\na and 0 are the same variable\nb is named twice\n1 transactions, registered: none\n"
+        wanted += "a = 3\nb = 0\nx = 0\ny = 0\nheld = 0\n"
+        self.assertEqual(run([sys.executable, "-m", "tmem", self.path], input=given), (1, wanted, ""))
+
+    def test_who_reads_its_output_may_go_away(self):
+        self.store.close()
+        words = [sys.executable, "-m", "tmem", self.path]
+        # (more than a pipe holds, of which one line is read)
+        lines = f"{self.folder}/lines"
+        with open(lines, "w", encoding="utf-8") as file:
+            file.write("set a 5\n" + ".help\n" * 500 + "set a 7\n")
+        status = "| head -1; echo ${PIPESTATUS[0]}"
+        ended = run(["bash", "-c", f"{' '.join(words)} < {lines} {status}"])
+        # It ends as `yes` does.
+        ending = run(["bash", "-c", f"yes {status}"])[1].split()[-1]
+        self.assertEqual((ended, ending), ((0, f"a = 5\n{ending}\n", ""), "141"))
+        self.assertEqual(run(words, input="get a\n"), (0, "a = 5\n", ""))
+        # One that has ended before it prints anything.
+        reads, writes = os.pipe()
+        os.close(reads)
+        shell = subprocess.Popen(words, stdin=subprocess.PIPE, stdout=writes, stderr=subprocess.PIPE, text=True)
+        os.close(writes)
+        self.assertEqual((shell.communicate("set a 6\nset a 7\n", 60)[1], shell.returncode), ("", 141))
+        self.assertEqual(run(words, input="get a\n"), (0, "a = 6\n", ""))
 
     def test_completion(self):
         self.store.close()

@@ -4,6 +4,7 @@ import asyncio
 import json
 import os
 import random
+import shutil
 import signal
 import socket
 import stat
@@ -274,12 +275,34 @@ class HubTests(HubCase):
         self.assertEqual(self.store.get("a"), 0)
         other = f"{self.path}.other"
         tmem.create(other, self.shape)
-        for taken, why in ((f"{self.path}.sock", b"another hub"), (other, b"no socket")):
-            words = [sys.executable, "-m", "tmem.hub", other, "--socket", taken]
-            ended = subprocess.run(words, stdout=subprocess.PIPE, stderr=subprocess.PIPE, check=False)
-            self.assertEqual(ended.returncode, 1)
-            self.assertIn(why, ended.stderr)
+        missing, long = f"{self.folder}/none/sock", f"{self.folder}/{'x' * 120}"
+        for taken, why in (
+            (f"{self.path}.sock", "another hub is there"),
+            (other, "what is there is no socket"),
+            (missing, "No such file or directory"),
+            (f"{other}/sock", "Not a directory"),
+            (long, "AF_UNIX path too long"),
+        ):
+            with self.subTest(socket=taken):
+                self.assertEqual(self.start(other, "--socket", taken), f"tmem.hub: cannot serve at {taken}: {why}\n")
         self.assertEqual(self.store.get("a"), 0)
+
+    def start(self, *words, **env):
+        """What a hub says that does not begin to serve."""
+        how = {"stdout": subprocess.PIPE, "stderr": subprocess.PIPE, "text": True, "timeout": 60, "env": {**os.environ, **env}}
+        ended = subprocess.run([sys.executable, "-m", "tmem.hub", *words], check=False, **how)
+        self.assertEqual((ended.returncode, ended.stdout), (1, ""))
+        return ended.stderr
+
+    def test_a_hub_without_a_program_or_a_store(self):
+        none = f"{self.folder}/none"
+        for program, why in ((none, "No such file or directory"), (f"{self.path}.json", "Permission denied"), (self.folder, "it is a folder")):
+            self.assertEqual(self.start(self.path, TMEM=program), f"tmem.hub: cannot start {program}: {why}\n")
+        yes, true = shutil.which("yes"), shutil.which("true")
+        self.assertEqual(self.start(none, TMEM=yes), f"tmem.hub: cannot start {yes}: it is no tmem: it printed 'serve {none}'\n")
+        self.assertEqual(self.start(none, TMEM=true), f"tmem.hub: {true} ended with status 0, and opened no store\n")
+        self.assertEqual(self.start(none), f"tmem: cannot read shape\ntmem.hub: {PROGRAM} ended with status 1, and opened no store\n")
+        self.assertEqual(self.start(none, TMEM="", PATH=self.folder), "tmem.hub: cannot start tmem: give program=.., set TMEM, or put it on the path\n")
 
 
 class NeverReads(HubCase):

@@ -635,7 +635,9 @@ class Data(StoreCase):
         bad = self.store.submit({"get": ["x"]})
         more = self.store.submit({"get": [1]})
         self.assertEqual([it.result()["values"] for it in good], [[[0, 0]]] * 3)
-        self.assertEqual((bad.result()["word"], more.result()["values"]), ("norequest", [[1, 0]]))
+        with self.assertRaises(tmem.NoRequest):
+            bad.result()
+        self.assertEqual(more.result()["values"], [[1, 0]])
 
     def test_what_is_no_json_is_not_sent(self):
         with self.assertRaises(TypeError):
@@ -643,7 +645,8 @@ class Data(StoreCase):
         with self.assertRaises(ValueError):
             self.store.submit({"id": 1, "get": [0]})
         # None of these was counted as a line: the next line that is no request still finds who sent it.
-        self.assertEqual(self.store.submit({"do": {"put": [0]}}).result(timeout=20)["word"], "norequest")
+        with self.assertRaises(tmem.NoRequest):
+            self.store.submit({"do": {"put": [0]}}).result(timeout=20)
 
 
 class Ends(StoreCase):
@@ -714,10 +717,16 @@ class Ends(StoreCase):
                 call()
 
     def test_what_speaks_otherwise(self):
-        lines = ["1", "{}", "x", '{"opened":0}', *(f'{{"opened":0,"vars":2,"names":{{}}}}\\n{it}' for it in ("x", "1", "{}", "[]"))]
-        for it in lines:
+        def serves(*lines):
+            printed = "".join(f"{it}\\n" for it in lines)
+            return tmem.open(self.path, program=["sh", "-c", f"printf '{printed}'; exec sleep 1000"])
+
+        for it in ("", "1", "{}", "x", "[1]", '{"opened":0}'):
+            with self.subTest(line=it), self.assertRaisesRegex(tmem.NoProgram, "it is no tmem: it printed "):
+                serves(it)
+        for it in ("x", "1", "{}", "[]", '{"line":1}'):
             with self.subTest(line=it), self.assertRaisesRegex(tmem.Closed, "cannot be understood"):
-                tmem.open(self.path, program=["sh", "-c", f"printf '{it}\\n'; exec sleep 1000"]).get(0)
+                serves('{"opened":0,"vars":2,"names":{}}', it).get(0)
 
     def test_a_process_that_is_forked_has_no_part_in_it(self):
         self.set(a=4)

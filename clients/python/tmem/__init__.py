@@ -2,6 +2,8 @@
 
     import tmem
 
+    shape = {"vars": 2, "slots": 16, "invariants": [], "names": {"lease1": 0, "lease2": 1}}
+    tmem.create("leases.store", shape, exist_ok=True)
     store = tmem.open("leases.store")
 
     @tmem.transaction
@@ -15,15 +17,18 @@
     lease = store.run(take, 7, timeout=5)   # waits for a lease; durable when it returns
 """
 
-from .errors import Aborted, Closed, Fault, NoRequest, Refused, Stuck, Timeout, TmemError
-from .store import Outcome, State, Store, calling, create, open
-from .transaction import Transaction, or_else, transaction
+from .errors import Aborted, Closed, Fault, NoProgram, NoRequest, NotOpened, Refused, Stuck, Timeout, TmemError
+from .making import create
+from .store import State, Store, calling, open
+from .transaction import Outcome, Transaction, or_else, transaction
 
 __all__ = [
     "Aborted",
     "Closed",
     "Fault",
+    "NoProgram",
     "NoRequest",
+    "NotOpened",
     "Outcome",
     "Refused",
     "State",

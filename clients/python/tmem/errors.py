@@ -59,6 +59,26 @@ class Closed(TmemError):
     """
 
 
+class NotOpened(Closed):
+    """The store was not opened: it is missing, in use or damaged, or it was made of another shape.
+
+    `path` is what was to be opened, and `line` says why: it is what `tmem serve` said on its error
+    stream. `status` is the one that it ended with, or None where a hub was to be reached.
+    """
+
+    def __init__(self, path: str, line: str, status: int | None = None, note: str = "") -> None:
+        self.path, self.line, self.status = path, line, status
+        super().__init__(f"cannot open {path}{note}: {line}")
+
+
+class NoProgram(TmemError):
+    """The program cannot be started, or is no `tmem`: where it was looked for (`path`), and the cause (`why`)."""
+
+    def __init__(self, path: str, why: str) -> None:
+        self.path, self.why = path, why
+        super().__init__(f"cannot start {path}: {why}")
+
+
 class Timeout(TmemError, TimeoutError):
     """The time was over before the transaction could go on. It had no effect."""
 
@@ -74,8 +94,6 @@ def raise_for(answer: Mapping, name_of) -> NoReturn:
         raise Refused(answer["refused"], because)
     if "aborted" in answer:
         raise Aborted(answer["aborted"])
-    if "line" in answer:
-        raise NoRequest(answer["why"], answer["at"])
     if answer.get("found") is False:
         raise NoRequest("nothing is kept under this word", "/run")
     if answer.get("fault") == 3:

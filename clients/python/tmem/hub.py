@@ -25,7 +25,8 @@ import stat
 import sys
 from typing import Any, Callable, NamedTuple
 
-from .link import command
+from .errors import NoProgram
+from .link import command, first_line, is_no_tmem, not_started
 
 MOST_LINE = 65536
 MOST_HELD = 8 << 20
@@ -84,6 +85,14 @@ def within(rest: bytes, length: int) -> bytes:
     """The rest of a refusal, whose column is in a line of this length."""
     head, column, end = rest.rpartition(b" column ")
     return head + column + b'%d"}' % max(1, min(length, int(end[:-2]))) if column else rest
+
+
+def is_first(line: bytes) -> bool:
+    """Whether this is the first line of a store that is served."""
+    try:
+        return bool(first_line(line))
+    except (ValueError, TypeError, RecursionError):
+        return False
 
 
 def with_last(line: bytes, **members: object) -> bytes:
@@ -230,7 +239,8 @@ class Hub(asyncio.SubprocessProtocol):
         self.most_held, self.patience = most_held, patience
         self.clients: set[Client] = set()
         self.first = b""
-        self.opened: asyncio.Future[None] = loop.create_future()
+        # Whether the first line is the one of a store.
+        self.opened: asyncio.Future[bool] = loop.create_future()
         self.ended: asyncio.Future[None] = loop.create_future()
         self.is_held = False
         self._process: Any = None
@@ -299,7 +309,9 @@ class Hub(asyncio.SubprocessProtocol):
         *lines, self._rest = (self._rest + data).split(b"\n")
         if lines and not self.first:
             self.first = lines.pop(0) + b"\n"
-            self.opened.set_result(None)
+            self.opened.set_result(is_first(self.first))
+        if not self.first or not self.opened.result():
+            return
         given: dict[Client, list[bytes]] = {}
         behind: list[Callable[[], None]] = []
         for line in lines:
@@ -336,12 +348,17 @@ class Hub(asyncio.SubprocessProtocol):
     def status(self) -> int:
         return self._process.get_returncode()
 
+    def break_off(self) -> None:
+        """Ends the program at once."""
+        with contextlib.suppress(ProcessLookupError):
+            self._process.kill()
+
 
 def place_for(path: str) -> None:
     """Makes room for a socket: removes one that a hub left behind. The store is ours by now, so no hub of it is alive."""
     try:
         if not stat.S_ISSOCK(os.lstat(path).st_mode):
-            raise FileExistsError(f"{path} is there, and no socket")
+            raise FileExistsError("what is there is no socket")
     except FileNotFoundError:
         return
     with socket.socket(socket.AF_UNIX) as other:
@@ -350,16 +367,24 @@ def place_for(path: str) -> None:
         except OSError:
             os.unlink(path)
             return
-    raise FileExistsError(f"another hub is at {path}")
+    raise FileExistsError("another hub is there")
 
 
 async def serve(words: list[str], path: str, most_held: int, patience: float) -> int:
     """Serves a socket at `path` until a signal or the end of the program that `words` start. The status is 0 after a signal."""
     loop = asyncio.get_running_loop()
-    _, hub = await loop.subprocess_exec(lambda: Hub(most_held, patience), *words, stderr=None, start_new_session=True)
+    try:
+        _, hub = await loop.subprocess_exec(lambda: Hub(most_held, patience), *words, stderr=None, start_new_session=True)
+    except OSError as error:
+        raise not_started(words, error) from None
     await asyncio.wait([hub.opened, hub.ended], return_when=asyncio.FIRST_COMPLETED)
     if not hub.opened.done():
+        hub.tell(f"{words[0]} ended with status {hub.status()}, and opened no store")
         return 1
+    if not hub.opened.result():
+        hub.break_off()
+        await hub.ended
+        raise is_no_tmem(words, hub.first)
     stopped: asyncio.Future[None] = loop.create_future()
     for number in (signal.SIGINT, signal.SIGTERM):
         loop.add_signal_handler(number, lambda: stopped.done() or stopped.set_result(None))
@@ -371,7 +396,7 @@ async def serve(words: list[str], path: str, most_held: int, patience: float) ->
         finally:
             os.umask(before)
     except OSError as error:
-        hub.tell(str(error))
+        hub.tell(f"cannot serve at {path}: {error.strerror or error}")
         hub.close()
         await hub.ended
         return 1
@@ -410,8 +435,12 @@ def main() -> int:
     parser.add_argument("--patience", type=float, default=PATIENCE, help="after how many seconds one that reads nothing is dropped (%(default)g)")
     given = parser.parse_args()
     shaped = [] if given.shape is None else ["--shape", given.shape]
-    words = [*command(given.program), "serve", given.store, *shaped]
-    return asyncio.run(serve(words, given.socket or f"{given.store}.sock", given.held, given.patience))
+    try:
+        words = [*command(given.program), "serve", given.store, *shaped]
+        return asyncio.run(serve(words, given.socket or f"{given.store}.sock", given.held, given.patience))
+    except NoProgram as error:
+        print(f"tmem.hub: {error}", file=sys.stderr)
+        return 1
 
 
 if __name__ == "__main__":

@@ -11,9 +11,9 @@ import tempfile
 import threading
 import weakref
 from concurrent.futures import Future
-from typing import Any, BinaryIO, Sequence, Union
+from typing import Any, BinaryIO, Callable, Sequence, Union
 
-from .errors import Closed, TmemError
+from .errors import Closed, NoProgram, NoRequest, NotOpened, TmemError
 
 Program = Union[str, "os.PathLike[str]", Sequence[str]]
 
@@ -23,17 +23,38 @@ def command(program: Program | None = None) -> list[str]:
     if program is None:
         found = os.environ.get("TMEM") or shutil.which("tmem")
         if not found:
-            raise TmemError("no program tmem: give program=.., set TMEM, or put it on the path")
+            raise NoProgram("tmem", "give program=.., set TMEM, or put it on the path")
         program = found
     if isinstance(program, (str, os.PathLike)):
         return [os.path.expanduser(os.fspath(program))]
     return list(program)
 
 
-class Process:
-    """A `tmem serve` that this program started, and its two pipes."""
+def not_started(words: Sequence[str], error: OSError) -> NoProgram:
+    """What the system said as it was to start the program."""
+    is_folder = isinstance(error, PermissionError) and os.path.isdir(words[0])
+    return NoProgram(words[0], "it is a folder" if is_folder else error.strerror or str(error))
 
-    def __init__(self, words: Sequence[str]) -> None:
+
+def is_no_tmem(words: Sequence[str], first: bytes) -> NoProgram:
+    """The program printed this first line."""
+    return NoProgram(words[0], f"it is no tmem: it printed {first[:60].decode(errors='replace').rstrip()!r}")
+
+
+def failure_of(words: Sequence[str], status: int, told: bytes, failure: Callable[[str], TmemError]) -> TmemError:
+    """What it means that the program ended with this status, after this on its error stream: `failure` of what it said, or that it is
+    no `tmem`, which always says what it failed at (but where a signal has ended it)."""
+    said = told.decode(errors="replace").strip()
+    if status < 0 or any(line.startswith("tmem: ") for line in said.splitlines()):
+        return failure(said or f"tmem ended with status {status}")
+    return NoProgram(words[0], f"it is no tmem: it ended with status {status}" + (f", and said {said}" if said else ""))
+
+
+class Process:
+    """A `tmem serve` of the store at `path` that this program started, and its two pipes."""
+
+    def __init__(self, words: Sequence[str], path: str) -> None:
+        self._words, self._path, self._said = words, path, b""
         # (a file, since nobody reads the error stream while the process runs)
         self._told = tempfile.TemporaryFile()
         try:
@@ -43,7 +64,7 @@ class Process:
             )
         except OSError as error:
             self._told.close()
-            raise TmemError(f"cannot start {words[0]}: {error.strerror}") from None
+            raise not_started(words, error) from None
         assert self.process.stdin and self.process.stdout
         self.output: BinaryIO = self.process.stdout
         self._input: BinaryIO = self.process.stdin
@@ -69,24 +90,33 @@ class Process:
         """Waits for the end, and says what it was where it was no good one."""
         status = self.process.wait()
         self._told.seek(0)
-        told = self._told.read().decode(errors="replace").strip()
+        self._said = self._told.read()
         self._told.close()
         self.output.close()
         if status == 0:
             return "the store is closed"
-        return told or f"tmem ended with status {status}"
+        return self._said.decode(errors="replace").strip() or f"tmem ended with status {status}"
+
+    def not_opened(self, first: bytes) -> TmemError:
+        """Why the store was not opened, once the process has ended, whose first line was this."""
+        status = self.process.returncode
+        if first.endswith(b"\n"):
+            return is_no_tmem(self._words, first)
+        note = "" if os.path.exists(self._path) else ", which is not there"
+        return failure_of(self._words, status, self._said, lambda line: NotOpened(self._path, line, status, note))
 
 
 class Socket:
     """A connection to a hub (`python3 -m tmem.hub`)."""
 
     def __init__(self, path: str) -> None:
+        self._path = path
         self._socket = socket.socket(socket.AF_UNIX, socket.SOCK_STREAM)
         try:
             self._socket.connect(path)
         except OSError as error:
             self._socket.close()
-            raise TmemError(f"no hub at {path}: {error.strerror}") from None
+            raise NotOpened(f"unix:{path}", f"no hub is there: {error.strerror or error}") from None
         self.output: BinaryIO = self._socket.makefile("rb")
 
     def write(self, data: bytes) -> None:
@@ -111,6 +141,10 @@ class Socket:
         self.output.close()
         self._socket.close()
         return "the hub has closed the connection"
+
+    def not_opened(self, first: bytes) -> TmemError:
+        """Why the store was not opened, once the connection has ended, whose first line was this."""
+        return NotOpened(f"unix:{self._path}", "what is there is no hub" if first else "the hub has closed the connection")
 
 
 class Link:
@@ -186,11 +220,11 @@ class Link:
             self._reader.join()
 
     def _read(self) -> None:
-        end = None
+        end, first = None, b""
         try:
             first = self.stream.output.readline()
             if first:
-                self._opened.set_result(first_line(json.loads(first)))
+                self._opened.set_result(first_line(first))
                 for line in self.stream.output:
                     self._hand_on(json.loads(line))
         except Exception as error:
@@ -205,17 +239,23 @@ class Link:
         for answer in left:
             answer.set_exception(Closed(end))
         if not self._opened.done():
-            self._opened.set_exception(Closed(end))
+            self._opened.set_exception(self.stream.not_opened(first))
 
     def _hand_on(self, answer: dict[str, Any]) -> None:
         number = answer["id"] if "id" in answer else answer["line"]
+        refusal = None if "id" in answer else NoRequest(answer["why"], answer["at"])
         with self._lock:
             waiting = self._pending.pop(number, None)
-        if waiting is not None:
+        if waiting is None:
+            return
+        if refusal is None:
             waiting.set_result(answer)
+        else:
+            waiting.set_exception(refusal)
 
 
-def first_line(it: dict[str, Any]) -> dict[str, Any]:
+def first_line(line: bytes) -> dict[str, Any]:
+    it = json.loads(line)
     if not {"opened", "vars", "names"} <= {*it}:
         raise ValueError("this is not the first line of a store that is served")
     return it

@@ -5,6 +5,7 @@ from __future__ import annotations
 import argparse
 import os
 import re
+import signal
 import sys
 from typing import Any, Callable, Iterable
 
@@ -25,7 +26,10 @@ wait VARIABLE                waits until the variable has another value
 .checkpoint                  writes the state as a new image, and frees the log
 .help                        this
 .quit                        ends (as the end of the input does)
-A VARIABLE is a name or a number. Each line is answered once it is durable."""
+A VARIABLE is a name or a number, from 0. Each line is answered once it is durable."""
+
+# What a shell says of a program that SIGPIPE has ended, since nobody reads its output any more.
+UNREAD = 128 + signal.SIGPIPE
 
 
 class Misused(Exception):
@@ -75,7 +79,7 @@ class Shell:
         return listed(zip(words, [found] if len(words) == 1 else found))
 
     def set(self, words: list[str]) -> str:
-        given = pairs(words, "set VARIABLE VALUE ..")
+        given = self.pairs(words, "set VARIABLE VALUE ..")
 
         def body(t: Transaction) -> str:
             for name, value in given:
@@ -85,14 +89,27 @@ class Shell:
         return self.store.run(body)
 
     def add(self, words: list[str]) -> str:
-        given = pairs(words, "add VARIABLE NUMBER ..")
+        given = self.pairs(words, "add VARIABLE NUMBER ..")
 
         def body(t: Transaction) -> str:
             for name, number in given:
                 t[name] += number
-            return listed((name, t[name]) for name in dict.fromkeys(name for name, _ in given))
+            return listed((name, t[name]) for name, _ in given)
 
         return self.store.run(body)
+
+    def pairs(self, words: list[str], usage: str) -> list[tuple[Variable, int]]:
+        """Variables, each with a number. None may be named twice: of two values one would never stand in the store."""
+        if not words or len(words) % 2:
+            raise Misused(usage)
+        found = [(variable(name), number(value)) for name, value in zip(words[::2], words[1::2])]
+        before: dict[int, Variable] = {}
+        for name, _ in found:
+            its = self.store.number(name)
+            if its in before:
+                raise Misused(f"{name} is named twice" if before[its] == name else f"{before[its]} and {name} are the same variable")
+            before[its] = name
+        return found
 
     def check(self, words: list[str]) -> str:
         return self.rule(words, "check")
@@ -138,12 +155,6 @@ def number(word: str) -> int:
     if not re.fullmatch("[+-]?[0-9]{1,20}", word):
         raise Misused(f"{word} is no number")
     return int(word)
-
-
-def pairs(words: list[str], usage: str) -> list[tuple[Variable, int]]:
-    if not words or len(words) % 2:
-        raise Misused(usage)
-    return [(variable(name), number(value)) for name, value in zip(words[::2], words[1::2])]
 
 
 def listed(values: Iterable[tuple[object, int]]) -> str:
@@ -211,6 +222,11 @@ def main() -> int:
                     print(shell.line(line), flush=True)
                 except KeyboardInterrupt:
                     print("interrupted")
+            sys.stdout.flush()
+    except BrokenPipeError:
+        # (and Python would say so once more at its end)
+        os.dup2(os.open(os.devnull, os.O_WRONLY), sys.stdout.fileno())
+        return UNREAD
     except TmemError as error:
         print(error, file=sys.stderr)
         return 1

@@ -4,31 +4,18 @@ from __future__ import annotations
 
 import asyncio
 import inspect
-import json
 import os
-import subprocess
-import tempfile
 import time
 from concurrent.futures import Future
 from concurrent.futures import TimeoutError as NotYet
 from dataclasses import dataclass
-from typing import Any, Callable, Mapping, Sequence
+from typing import Any, Callable, Generator, Mapping, Sequence
 
-from .errors import Closed, Timeout, TmemError, raise_for
+from .errors import Closed, Timeout
 from .link import Link, Process, Program, Socket, command
-from .transaction import CONFLICT, Answer, Ask, Body, Names, Transaction, Variable, integer, key_of, steps, values_of
+from .transaction import CONFLICT, Answer, Ask, Body, Moment, Names, Outcome, Transaction, Variable, expect, integer, key_of, moment_of, steps
 
 MOST_HINTS = 256
-
-
-@dataclass(frozen=True)
-class Outcome:
-    """What became of a transaction that the store ran: its number, or of one that changed nothing how many there were before it;
-    and its registers, without the zeros at their end."""
-
-    committed: bool
-    number: int
-    registers: Sequence[int]
 
 
 @dataclass(frozen=True)
@@ -82,17 +69,12 @@ class Store:
         once. `timeout` says for how many seconds: then it gets `Timeout`. (An attempt that has begun is always brought to its
         end, so after `Timeout` it is certain that nothing was changed.) An exception of the function leaves without effects.
         """
-        until = None if timeout is None else time.monotonic() + timeout
-        running = steps(self._applied(body, args, kwargs), self._names, self._hints_of(body), self._fetch)
-        answer = None
-        try:
-            while True:
-                ask = running.send(answer)
-                answer = self._wait_for(ask, until) if "changed" in ask else self._ask(ask)
-                if answer.get("fault") == CONFLICT:
-                    _check_time(until)
-        except StopIteration as end:
-            return end.value
+        return self._played(self._steps(body, args, kwargs, self._fetch), timeout).result
+
+    def run_numbered(self, body: Body, *args: Any, timeout: float | None = None, **kwargs: Any) -> Outcome:
+        """As `run`, but returns what became of the transaction: what the function returned is its `result`, and its `number` is a
+        fencing token where it has `committed`."""
+        return self._played(self._steps(body, args, kwargs, self._fetch, is_numbered=True), timeout)
 
     async def run_async(self, body: Body, *args: Any, timeout: float | None = None, **kwargs: Any) -> Any:
         """As `run`, in an event loop, which goes on meanwhile. `body` is a plain function here too.
@@ -100,22 +82,16 @@ class Store:
         It is left and run again where it needs a variable that is not there yet, so it runs once more for each that it did not
         read the last time. A task that is cancelled while it waits for a change has changed nothing; one that is cancelled while
         it commits may have."""
-        until = None if timeout is None else time.monotonic() + timeout
-        running = steps(self._applied(body, args, kwargs), self._names, self._hints_of(body), None)
-        answer = None
-        try:
-            while True:
-                ask = running.send(answer)
-                answer = await (self._wait_for_async(ask, until) if "changed" in ask else self._ask_async(ask))
-                if answer.get("fault") == CONFLICT:
-                    _check_time(until)
-        except StopIteration as end:
-            return end.value
+        return (await self._played_async(self._steps(body, args, kwargs), timeout)).result
+
+    async def run_numbered_async(self, body: Body, *args: Any, timeout: float | None = None, **kwargs: Any) -> Outcome:
+        """As `run_async`, but returns what `run_numbered` does."""
+        return await self._played_async(self._steps(body, args, kwargs, is_numbered=True), timeout)
 
     def get(self, *variables: Variable) -> Any:
         """The value of a variable, or the values of several at one moment, all of it durable."""
         numbers = [self._names.number(it) for it in variables]
-        values = self._fetch(numbers)
+        values = self._fetch(numbers).values
         return values[numbers[0]] if len(numbers) == 1 else tuple(values[number] for number in numbers)
 
     # Transactions that the store runs by itself, as data (docs/USE.md has their forms).
@@ -131,36 +107,65 @@ class Store:
 
     def keep(self, word: str, tx: Any) -> None:
         """Has the store keep a transaction under a word, of 1 to 16 letters a to z. It is kept as long as the store is served."""
-        _expect("kept", self._ask({"keep": [word, tx]}), self._names)
+        expect("kept", self._ask({"keep": [word, tx]}), self._names)
 
     def call(self, word: str, *numbers: int, timeout: float | None = None) -> Outcome:
-        """Has the store run a kept transaction, as `do`. The numbers stand for those of the Puts that it begins with."""
+        """Has the store run a kept transaction, as `do`. The numbers stand for those of the Puts that it begins with. `NoRequest` says
+        that nothing is kept under the word that begins with so many."""
         return self._outcome(self._await(calling(word, *numbers), timeout))
 
     def submit(self, ask: Ask) -> Future[Answer]:
-        """Sends a request as it is, without its id, and returns its answer to come. Many may be on their way: they share flushes."""
+        """Sends a request as it is, without its id, and returns its answer to come, a dictionary as docs/SERVE.md has it. (One that is
+        no request gives `NoRequest` there.) Many may be on their way: they share flushes."""
         return self._link.send(ask)[1]
 
     # A look at the whole.
 
     def state(self) -> State:
         """The whole state, at one moment."""
-        answer = _expect("values", self._ask({"ask": "state"}), self._names)
+        answer = expect("values", self._ask({"ask": "state"}), self._names)
         return State(answer["count"], answer["names"], answer["values"])
 
     def durable(self) -> int:
         """How many transactions are durable."""
-        return _expect("durable", self._ask({"ask": "look"}), self._names)["durable"]
+        return expect("durable", self._ask({"ask": "look"}), self._names)["durable"]
 
     def checkpoint(self) -> None:
         """Writes the state as a new image, and frees the log."""
-        _expect("checkpointed", self._ask({"ask": "checkpoint"}), self._names)
+        expect("checkpointed", self._ask({"ask": "checkpoint"}), self._names)
 
     def stats(self) -> Mapping[str, int]:
         """What was counted since the store is served."""
-        return _expect("stats", self._ask({"ask": "stats"}), self._names)["stats"]
+        return expect("stats", self._ask({"ask": "stats"}), self._names)["stats"]
 
     # How requests are sent and awaited.
+
+    def _steps(self, body: Body, args: Any, kwargs: Any, fetch: Any = None, is_numbered: bool = False) -> Generator[Ask, Answer, Outcome]:
+        return steps(self._applied(body, args, kwargs), self._names, self._hints_of(body), fetch, is_numbered)
+
+    def _played(self, running: Generator[Ask, Answer, Outcome], timeout: float | None) -> Outcome:
+        until = None if timeout is None else time.monotonic() + timeout
+        answer: Any = None
+        try:
+            while True:
+                ask = running.send(answer)
+                answer = self._wait_for(ask, until) if "changed" in ask else self._ask(ask)
+                if answer.get("fault") == CONFLICT:
+                    _check_time(until)
+        except StopIteration as end:
+            return end.value
+
+    async def _played_async(self, running: Generator[Ask, Answer, Outcome], timeout: float | None) -> Outcome:
+        until = None if timeout is None else time.monotonic() + timeout
+        answer: Any = None
+        try:
+            while True:
+                ask = running.send(answer)
+                answer = await (self._wait_for_async(ask, until) if "changed" in ask else self._ask_async(ask))
+                if answer.get("fault") == CONFLICT:
+                    _check_time(until)
+        except StopIteration as end:
+            return end.value
 
     def _applied(self, body: Body, args: Sequence[Any], kwargs: Mapping[str, Any]) -> Callable[[Transaction], Any]:
         def applied(t: Transaction) -> Any:
@@ -184,13 +189,13 @@ class Store:
             # (it cannot be a key)
             return []
 
-    def _fetch(self, numbers: list[int]) -> dict[int, int]:
-        return values_of(_expect("values", self._ask({"get": numbers}), self._names))
+    def _fetch(self, numbers: list[int]) -> Moment:
+        return moment_of(self._ask({"get": numbers}), self._names)
 
     def _outcome(self, answer: Answer) -> Outcome:
         if "committed" in answer:
             return Outcome(True, answer["committed"], answer["registers"])
-        return Outcome(False, _expect("seen", answer, self._names)["seen"], answer["registers"])
+        return Outcome(False, expect("seen", answer, self._names)["seen"], answer["registers"])
 
     def _ask(self, ask: Ask) -> Answer:
         return self._link.send(ask)[1].result()
@@ -215,7 +220,7 @@ class Store:
     def _wait_for(self, ask: Ask, until: float | None) -> Answer:
         number, answer = self._link.send(ask)
         try:
-            return _expect("values", answer.result(_left(until)), self._names)
+            return answer.result(_left(until))
         except NotYet:
             raise Timeout("no variable that was read has changed in time") from None
         finally:
@@ -224,7 +229,7 @@ class Store:
     async def _wait_for_async(self, ask: Ask, until: float | None) -> Answer:
         number, answer = self._link.send(ask)
         try:
-            return _expect("values", await asyncio.wait_for(asyncio.wrap_future(answer), _left(until)), self._names)
+            return await asyncio.wait_for(asyncio.wrap_future(answer), _left(until))
         except asyncio.TimeoutError:
             raise Timeout("no variable that was read has changed in time") from None
         finally:
@@ -248,20 +253,13 @@ def _check_time(until: float | None) -> None:
         raise Timeout("the transaction met conflicts until its time was over")
 
 
-def _expect(key: str, answer: Answer, names: Names) -> Answer:
-    """The answer, which has this key unless it is no success."""
-    if key not in answer:
-        raise_for(answer, names.name)
-    return answer
-
-
 def calling(word: str, *numbers: int) -> Ask:
     """The request to run a kept transaction, for `submit`."""
     return {"run": word, "numbers": [integer(it) for it in numbers]} if numbers else {"run": word}
 
 
 def open(path: str | os.PathLike[str], *, program: Program | None = None, shape: str | os.PathLike[str] | None = None) -> Store:
-    """Opens a store: starts `tmem serve` for the file at `path`, or connects to a hub where it is `unix:PATH`.
+    """Opens a store: starts `tmem serve` for the file at `path`, or connects to a hub where it is `unix:PATH`. `NotOpened` says why not.
 
     The program is the one given (a path, or words), else that in the variable `TMEM`, else `tmem` on the path. `shape` is the
     file with the store's shape, where it is not PATH.json."""
@@ -269,15 +267,4 @@ def open(path: str | os.PathLike[str], *, program: Program | None = None, shape:
     if path.startswith("unix:"):
         return Store(Link(Socket(path[len("unix:") :])))
     shaped = [] if shape is None else ["--shape", os.fspath(shape)]
-    return Store(Link(Process([*command(program), "serve", path, *shaped])))
-
-
-def create(path: str | os.PathLike[str], shape: Mapping[str, Any], *, program: Program | None = None) -> None:
-    """Makes a store of a shape, by `tmem init`. Where something has the path, nothing is changed, and `TmemError` says so."""
-    with tempfile.NamedTemporaryFile("w", suffix=".json", encoding="utf-8") as file:
-        json.dump(shape, file)
-        file.flush()
-        words = [*command(program), "init", os.fspath(path), file.name]
-        ended = subprocess.run(words, stdin=subprocess.DEVNULL, stdout=subprocess.PIPE, stderr=subprocess.STDOUT, check=False)
-    if ended.returncode:
-        raise TmemError(ended.stdout.decode(errors="replace").strip() or f"tmem ended with status {ended.returncode}")
+    return Store(Link(Process([*command(program), "serve", path, *shaped], path)))

@@ -13,7 +13,8 @@ anew, with the values of the later moment.
 from __future__ import annotations
 
 import functools
-from typing import Any, Callable, Dict, Generator, Iterable, List, Mapping, NoReturn, Sequence, Tuple, Union
+from dataclasses import dataclass
+from typing import Any, Callable, Dict, Generator, Iterable, List, Mapping, NamedTuple, NoReturn, Optional, Sequence, Tuple, Union
 
 from .errors import Aborted, Stuck, raise_for
 
@@ -22,12 +23,36 @@ Body = Callable[..., Any]
 Ask = Dict[str, Any]
 Answer = Mapping[str, Any]
 Effects = Tuple[Dict[int, int], Dict[str, str]]
-Fetch = Callable[[List[int]], Dict[int, int]]
 
 LEAST, MOST = -(2**63), 2**63 - 1
 MOST_READS, MOST_WRITES, MOST_CHECKS, MOST_RETIRES = 500, 64, 8, 8
 # The fault of an attempt that read a value which is no longer the present one.
 CONFLICT = 7
+
+
+class Moment(NamedTuple):
+    """What some variables had when so many transactions had committed. The count is None where nothing was asked for yet."""
+
+    count: Optional[int]
+    values: Dict[int, int]
+
+
+Fetch = Callable[[List[int]], Moment]
+UNKNOWN = Moment(None, {})
+
+
+@dataclass(frozen=True)
+class Outcome:
+    """What became of a transaction.
+
+    If it `committed`, its number is `number`: no other one has it, and each later one has a greater one. If not, it changed nothing, and
+    `number` is how many had committed before. `result` is what a function returned; of a transaction that the store ran by itself
+    `registers` are its registers, without the zeros at their end."""
+
+    committed: bool
+    number: int
+    registers: Sequence[int] = ()
+    result: Any = None
 
 
 class Left(BaseException):
@@ -81,9 +106,10 @@ def integer(value: Any) -> int:
 class Transaction:
     """The store as one run of a function sees it."""
 
-    def __init__(self, names: Names, known: Mapping[int, int], hints: Iterable[int], fetch: Fetch | None) -> None:
+    def __init__(self, names: Names, moment: Moment, hints: Iterable[int], fetch: Fetch | None) -> None:
         # `_known` has values of one moment; `_reads` are those of them that the function has seen.
-        self._names, self._known, self._hints, self._fetch = names, known, hints, fetch
+        self._names, self._hints, self._fetch = names, hints, fetch
+        self._count, self._known = moment
         self._reads: dict[int, int] = {}
         self._writes: dict[int, int] = {}
         self._rules: dict[str, str] = {}
@@ -161,7 +187,7 @@ class Transaction:
         if self._fetch is None:
             self._wanted = wanted
             self._leave(Outdated())
-        self._known = self._fetch(wanted)
+        self._count, self._known = self._fetch(wanted)
         if any(self._known[read] != value for read, value in self._reads.items()):
             self._leave(Outdated())
 
@@ -228,20 +254,30 @@ def key_of(body: Body) -> Any:
     return getattr(body, "key", None) or getattr(body, "__code__", body)
 
 
-def values_of(answer: Answer) -> dict[int, int]:
-    """The values in an answer to `get` or `changed`: all of one moment."""
-    return dict(answer["values"])
+def expect(key: str, answer: Answer, names: Names) -> Answer:
+    """The answer, which has this key unless it is no success."""
+    if key not in answer:
+        raise_for(answer, names.name)
+    return answer
 
 
-def steps(body: Callable[[Transaction], Any], names: Names, hints: list[int], fetch: Fetch | None) -> Generator[Ask, Answer, Any]:
-    """Runs a function until it commits, and returns what it returned. It yields what it asks of the store, and is sent the answers.
+def moment_of(answer: Answer, names: Names) -> Moment:
+    """The values in an answer to `get` or `changed`."""
+    return Moment(expect("values", answer, names)["count"], dict(answer["values"]))
+
+
+def steps(
+    body: Callable[[Transaction], Any], names: Names, hints: list[int], fetch: Fetch | None, is_numbered: bool
+) -> Generator[Ask, Answer, Outcome]:
+    """Runs a function until it commits, and returns its outcome. It yields what it asks of the store, and is sent the answers. (The
+    outcome of a function that neither reads nor writes lacks its number, which would have to be asked for, unless `is_numbered`.)
 
     Each request that it yields is a `get`, a `changed` (which waits) or a `settle`. Where there is no `fetch`, which has to answer
     at once, a function that needs a variable is left, and runs again once the variable is there. What was read the last time is
     put into `hints`: the next run of the function asks for all of it at once."""
-    known: dict[int, int] = {}
+    moment = UNKNOWN
     while True:
-        t = Transaction(names, known, hints, fetch)
+        t = Transaction(names, moment, hints, fetch)
         left: BaseException | None = None
         try:
             result = body(t)
@@ -252,20 +288,23 @@ def steps(body: Callable[[Transaction], Any], names: Names, hints: list[int], fe
         finally:
             left, t._left = t._left, RuntimeError("this transaction has ended")
         if isinstance(left, Outdated):
-            known = values_of((yield {"get": t._wanted})) if t._wanted else dict(t._known)
+            moment = moment_of((yield {"get": t._wanted}), names) if t._wanted else Moment(t._count, t._known)
             continue
         hints[:] = t._reads
         if isinstance(left, Retried):
             if not t._reads:
                 raise Stuck("a transaction retried before it had read a variable")
-            known = values_of((yield {"changed": sorted(t._reads.items())}))
+            moment = moment_of((yield {"changed": sorted(t._reads.items())}), names)
             continue
         if not t._writes and not t._rules:
             # All that it read was there at one moment of its run, and durable: it took place then.
-            return result
+            count: Any = t._count
+            if count is None and is_numbered:
+                count = expect("seen", (yield t._settle()), names)["seen"]
+            return Outcome(False, count, result=result)
         answer = yield t._settle()
         if "committed" in answer:
-            return result
+            return Outcome(True, answer["committed"], result=result)
         if answer.get("fault") != CONFLICT:
             raise_for(answer, names.name)
-        known = {}
+        moment = UNKNOWN
