@@ -1,0 +1,60 @@
+# Completion of tmem's command line for bash. .ci/install compares it with `tmem --help`.
+
+_tmem() {
+    local subcommands="run threads bench show init serve help"
+    local with_value=" --disk --shape "
+    local cur=${COMP_WORDS[COMP_CWORD]} subcommand="" given=0 is_value="" is_plain="" word options="" takes=()
+
+    for word in "${COMP_WORDS[@]:1:COMP_CWORD-1}"; do
+        if [[ $word == = ]]; then
+            # (bash divides --disk=PATH at the sign, which the value follows)
+            is_value=yes
+        elif [[ $is_value ]]; then
+            is_value=""
+        elif [[ ! $is_plain && $word == -- ]]; then
+            is_plain=yes
+        elif [[ ! $is_plain && $with_value == *" $word "* ]]; then
+            is_value=yes
+        elif [[ ! $is_plain && $word == -* ]]; then
+            :
+        elif [[ ! $subcommand ]]; then
+            subcommand=$word
+        else
+            given=$((given + 1))
+        fi
+    done
+    if [[ $cur == = ]]; then
+        is_value=yes cur=""
+    fi
+
+    # The options of the subcommand, and what its other words are.
+    case $subcommand in
+        "") options="--help -h --version -V" takes=(subcommand) ;;
+        run) options="--disk --help -h" takes=(file) ;;
+        threads) options="--disk --help -h" takes=(number number) ;;
+        bench) options="--disk --help -h" ;;
+        show) options="--json --hex --help -h" takes=(file) ;;
+        init) options="--in-place --help -h" takes=(file file) ;;
+        serve) options="--shape --help -h" takes=(file) ;;
+        help) takes=(subcommand) ;;
+    esac
+
+    local kind=${takes[given]-option}
+    if [[ $is_value ]]; then
+        kind=file
+    elif [[ ! $is_plain && $cur == -* ]]; then
+        kind=option
+    fi
+    COMPREPLY=()
+    case $kind in
+        file)
+            mapfile -t COMPREPLY < <(compgen -f -- "$cur")
+            # (where no name begins with the word as it stands, since it has a quote, bash looks for files itself)
+            compopt -o filenames -o default 2> /dev/null
+            ;;
+        subcommand) mapfile -t COMPREPLY < <(compgen -W "$subcommands" -- "$cur") ;;
+        option) [[ $is_plain ]] || mapfile -t COMPREPLY < <(compgen -W "$options" -- "$cur") ;;
+    esac
+}
+
+complete -F _tmem tmem
