@@ -7,7 +7,7 @@ import os
 import tarfile
 import zipfile
 
-NAME, VERSION = "tmem", "0.1.0"
+NAME, VERSION = "tmem", "1.0.0"
 METADATA = f"""\
 Metadata-Version: 2.1
 Name: {NAME}

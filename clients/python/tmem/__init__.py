@@ -43,4 +43,4 @@ __all__ = [
     "or_else",
     "transaction",
 ]
-__version__ = "0.1.0"
+__version__ = "1.0.0"

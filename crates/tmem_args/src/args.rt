@@ -12,7 +12,7 @@ use clap::{Arg, ArgAction, ArgMatches, Command, value_parser};
 use std::alloc::{AllocError, Global};
 
 // What `--version` prints behind the program's name.
-const VERSION: &str = "0.1.0";
+const VERSION: &str = "1.0.0";
 
 /// The files that a command line names.
 #[derive(Clone, Copy)]
