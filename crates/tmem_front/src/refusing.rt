@@ -1,5 +1,5 @@
 // Why an invariant refuses a transaction.
-ghost use Rattle.std.specs.Prelude.{◌≡◌, ◌<◌, true, length, map, Some, IfOk, IfErr, IfSome};
+ghost use Rattle.std.specs.Prelude.{◌≡◌, ◌<◌, true, false, length, map, Some, IfOk, IfErr, IfSome};
 ghost use Rattle.std.specs.List.{Contains};
 ghost use Rattle.std.specs.Map.{keys_of};
 ghost use Rattle.tmem_effect.specs.Names.{has_name};

@@ -51,7 +51,7 @@ fn transfer<D: Disk + Drop, T: Invariants + Drop, S: StoredSteps + Drop>(
 ) -> Result<(bool, (i64, i64)), Fault>
     requires { (numbers_of world.old).vars ≡ 2 }
 {
-    commit(world, move_thirty(alloc)?);
+    commit(world, move_once(alloc)?);
     let lost = commit(world, write(alloc, 1, 0)?);
     world.step(Event::Flush);
     world.step(Event::Reopen);
@@ -59,6 +59,17 @@ fn transfer<D: Disk + Drop, T: Invariants + Drop, S: StoredSteps + Drop>(
         return Err(Fault::Closed);
     }
     Ok((lost, accounts(world)))
+}
+
+/// Moves 30, unless account 1 has something already: then it does nothing.
+fn move_once(alloc: Global) -> Result<Tx, Fault> {
+    let unless_there = Tx::When {
+        reg: 1,
+        then: Box::new(alloc, Tx::Retry)?,
+        other: Box::new(alloc, move_thirty(alloc)?)?,
+    };
+    let once = Tx::Seq(vec![in alloc; Tx::Read { var: 1, reg: 1 }, unless_there]?);
+    Ok(Tx::OrElse(Box::new(alloc, once)?, Box::new(alloc, Tx::Skip)?))
 }
 
 /// The transaction that moves 30 from account 0 to account 1, and registers the invariant.
