@@ -21,6 +21,15 @@ class Numbered(StoreCase):
         self.assertEqual((done.committed, done.number, done.registers, done.result), (True, 3, [7], None))
         self.assertEqual(self.store.run_numbered(add).number, 4)
 
+    def test_what_commits_meanwhile_comes_before_it(self):
+        def body(t):
+            t["a"] += 1
+            # (it reads nothing of this, so it meets no conflict)
+            self.set(x=1)
+
+        self.assertEqual(self.store.run_numbered(body), tmem.Outcome(True, 1))
+        self.assertEqual(self.store.run_numbered(lambda t: t.__setitem__("a", 3)), tmem.Outcome(True, 2))
+
     def test_numbers_grow_from_opening_to_opening(self):
         before = self.store.run_numbered(add).number
         self.store.close()
