@@ -27,15 +27,16 @@ _tmem() {
         is_value=yes cur=""
     fi
 
-    # The options of the subcommand, and what its other words are.
+    # The options of the subcommand, of which each has some, and what its other words are.
+    local each="--help -h"
     case $subcommand in
         "") options="--help -h --version -V" takes=(subcommand) ;;
-        run) options="--disk --help -h" takes=(file) ;;
-        threads) options="--disk --help -h" takes=(number number) ;;
-        bench) options="--disk --help -h" ;;
-        show) options="--json --hex --help -h" takes=(file) ;;
-        init) options="--in-place --help -h" takes=(file file) ;;
-        serve) options="--shape --help -h" takes=(file) ;;
+        run) options="--disk $each" takes=(file) ;;
+        threads) options="--disk $each" takes=(number number) ;;
+        bench) options="--disk $each" ;;
+        show) options="--json --hex $each" takes=(file) ;;
+        init) options="--in-place $each" takes=(file file) ;;
+        serve) options="--shape $each" takes=(file) ;;
         help) takes=(subcommand) ;;
     esac
 
