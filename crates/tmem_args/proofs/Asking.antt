@@ -46,14 +46,15 @@ module _ (matches : ArgMatches) (words : List Text) (same : subcommand_rows_of m
 
   pub names_no_other : (subcommand_name_of matches ≡ Some (codes "threads") → ⊥) → (subcommand_name_of matches ≡ Some (codes "bench") → ⊥)
       → (subcommand_name_of matches ≡ Some (codes "show") → ⊥) → (subcommand_name_of matches ≡ Some (codes "init") → ⊥)
-      → (subcommand_name_of matches ≡ Some (codes "serve") → ⊥) → NamesNoOther words
-  names_no_other no_threads no_bench no_show no_init no_serve =
+      → (subcommand_name_of matches ≡ Some (codes "serve") → ⊥) → (subcommand_name_of matches ≡ Some (codes "check") → ⊥) → NamesNoOther words
+  names_no_other no_threads no_bench no_show no_init no_serve no_check =
       record {
         threads = λ is. no_threads (sym named ∙ is);
         bench = λ is. no_bench (sym named ∙ is);
         show = λ is. no_show (sym named ∙ is);
         init = λ is. no_init (sym named ∙ is);
         serve = λ is. no_serve (sym named ∙ is);
+        check = λ is. no_check (sym named ∙ is);
       }
 
   -- what was read of its rows is what the words give it

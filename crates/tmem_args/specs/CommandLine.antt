@@ -11,10 +11,11 @@ use Rattle.clap.specs.declared.builder.action.ArgAction.TheVariants.{SetTrue}
 use Rattle.clap.specs.declared.error.kind.ErrorKind.{ErrorKind}
 use Rattle.clap.specs.declared.error.kind.ErrorKind.TheVariants.{DisplayHelp, DisplayVersion}
 use Rattle.tmem_args.specs.declared.args.Asked.{Asked}
-use Rattle.tmem_args.specs.declared.args.Asked.TheVariants.{Run, Threads, Bench, Show, Init, Serve}
+use Rattle.tmem_args.specs.declared.args.Asked.TheVariants.{Run, Threads, Bench, Show, Init, Serve, Check}
 use Rattle.tmem_args.specs.declared.args.Showing.{Showing}
 use Rattle.tmem_args.specs.declared.args.Making.{Making}
 use Rattle.tmem_args.specs.declared.args.Serving.{Serving}
+use Rattle.tmem_args.specs.declared.args.Told.{Told}
 
 -- the path of a script
 abbrev pub script_word : Rule
@@ -24,9 +25,17 @@ script_word = record (new_rule (codes "script")) { value_names = 1 }
 abbrev pub disk_words : Rule
 disk_words = record (new_rule (codes "disk")) { long = Some (codes "disk"); value_names = 1 }
 
+-- a word that is given or not
+abbrev pub flag_word : Text → Rule
+flag_word id = record (new_rule id) { long = Some id; action = Some SetTrue }
+
+-- `--explain`
+abbrev pub explain_words : Rule
+explain_words = flag_word (codes "explain")
+
 -- `run`, with each of them or without
 abbrev pub run_words : Shape
-run_words = record (new_shape (codes "run")) { rules = script_word ∷ disk_words ∷ [] }
+run_words = record (new_shape (codes "run")) { rules = script_word ∷ disk_words ∷ explain_words ∷ [] }
 
 -- an argument that has to be there, of which a parser says what it may be
 abbrev pub parsed_word : Text → ValueParser → Rule
@@ -39,23 +48,19 @@ number_word id most = parsed_word id (vp.Signed (pos 1) (pos most))
 -- `threads`, with how many there are and how often each of them adds, and maybe with the path of a store
 abbrev pub threads_words : Shape
 threads_words =
-    record (new_shape (codes "threads")) { rules = number_word (codes "workers") 16 ∷ number_word (codes "turns") 1000 ∷ disk_words ∷ [] }
+    record (new_shape (codes "threads")) { rules = number_word (codes "workers") 16 ∷ number_word (codes "turns") 1000 ∷ disk_words ∷ explain_words ∷ [] }
 
 -- `bench`, maybe with the path of a store
 abbrev pub bench_words : Shape
-bench_words = record (new_shape (codes "bench")) { rules = disk_words ∷ [] }
+bench_words = record (new_shape (codes "bench")) { rules = disk_words ∷ explain_words ∷ [] }
 
 -- the path of a store, which has to be there
 abbrev pub store_word : Rule
 store_word = record (new_rule (codes "store")) { value_names = 1; required = true }
 
--- a word that is given or not
-abbrev pub flag_word : Text → Rule
-flag_word id = record (new_rule id) { long = Some id; action = Some SetTrue }
-
 -- `show`, with the path of a store, and how it is to be shown
 abbrev pub show_words : Shape
-show_words = record (new_shape (codes "show")) { rules = store_word ∷ flag_word (codes "json") ∷ flag_word (codes "hex") ∷ [] }
+show_words = record (new_shape (codes "show")) { rules = store_word ∷ flag_word (codes "json") ∷ flag_word (codes "hex") ∷ explain_words ∷ [] }
 
 -- the path of a file that has a shape, which has to be there
 abbrev pub file_word : Rule
@@ -63,7 +68,7 @@ file_word = record (new_rule (codes "file")) { value_names = 1; required = true 
 
 -- `init`, with the path of a store and that of a shape, and whether it is to be made in place
 abbrev pub init_words : Shape
-init_words = record (new_shape (codes "init")) { rules = store_word ∷ file_word ∷ flag_word (codes "in-place") ∷ [] }
+init_words = record (new_shape (codes "init")) { rules = store_word ∷ file_word ∷ flag_word (codes "in-place") ∷ explain_words ∷ [] }
 
 -- `--shape`, with the path of a shape
 abbrev pub shape_words : Rule
@@ -71,7 +76,15 @@ shape_words = record (new_rule (codes "shape")) { long = Some (codes "shape"); v
 
 -- `serve`, with the path of a store, and maybe with that of its shape
 abbrev pub serve_words : Shape
-serve_words = record (new_shape (codes "serve")) { rules = store_word ∷ shape_words ∷ [] }
+serve_words = record (new_shape (codes "serve")) { rules = store_word ∷ shape_words ∷ explain_words ∷ [] }
+
+-- the path of a script, which has to be there
+abbrev pub script_to_check : Rule
+script_to_check = record (new_rule (codes "script")) { value_names = 1; required = true }
+
+-- `check`, with the path of a script
+abbrev pub check_words : Shape
+check_words = record (new_shape (codes "check")) { rules = script_to_check ∷ [] }
 
 -- the program, which takes a request for its version and wants a subcommand, before it has one
 abbrev pub program_alone : App
@@ -81,7 +94,8 @@ program_alone = record { top = record (new_shape (codes "tmem")) { has_version =
 abbrev pub command_line : App
 command_line =
     let earlier = with_subcommand (with_subcommand (with_subcommand program_alone run_words) threads_words) bench_words in
-    with_subcommand (with_subcommand (with_subcommand earlier show_words) init_words) serve_words
+    let later = with_subcommand (with_subcommand (with_subcommand earlier show_words) init_words) serve_words in
+    with_subcommand later check_words
 
 -- what is wrong with the words, or which request they are; nothing where something is to be done
 abbrev pub why_not_done : List Text → Kinds
@@ -111,6 +125,10 @@ AsksToInit words = (why_not_done words ≡ []) × (command_in words ≡ Some (co
 abbrev pub AsksToServe : List Text → Type 0
 AsksToServe words = (why_not_done words ≡ []) × (command_in words ≡ Some (codes "serve"))
 
+-- a script is to be checked
+abbrev pub AsksToCheck : List Text → Type 0
+AsksToCheck words = (why_not_done words ≡ []) × (command_in words ≡ Some (codes "check"))
+
 -- the words name none of the other subcommands
 pub record NamesNoOther (words : List Text) : Type 0 where
   pub threads : command_in words ≢ Some (codes "threads")
@@ -118,6 +136,7 @@ pub record NamesNoOther (words : List Text) : Type 0 where
   pub show : command_in words ≢ Some (codes "show")
   pub init : command_in words ≢ Some (codes "init")
   pub serve : command_in words ≢ Some (codes "serve")
+  pub check : command_in words ≢ Some (codes "check")
 
 -- a script is to be played: there is no other subcommand
 abbrev pub AsksToPlay : List Text → Type 0
@@ -172,8 +191,9 @@ file_in words = option_and_then (λ found. first_of (codes "file") found.1) (sub
 abbrev pub shape_path_in : List Text → Option Text
 shape_path_in words = option_and_then (λ found. first_of (codes "shape") found.1) (subcommand_of command_line words)
 
--- what the text of a flag says
+-- what the text of a flag says: where there is none, it is not given
 pub record IsFlagOf (text : Option Text) (flag : Bool) : Type 0 where
+  pub none : text ≡ None → flag ≡ false
   pub given : text ≡ Some (codes "true") → flag ≡ true
   pub left_out : text ≡ Some (codes "false") → flag ≡ false
 
@@ -209,6 +229,16 @@ IsAsked words (Bench disk) = (command_in words ≡ Some (codes "bench")) × (opt
 IsAsked words (Show showing) = (command_in words ≡ Some (codes "show")) × IsShowingIn words showing
 IsAsked words (Init making) = (command_in words ≡ Some (codes "init")) × IsMakingIn words making
 IsAsked words (Serve serving) = (command_in words ≡ Some (codes "serve")) × IsServingIn words serving
+IsAsked words (Check script) = (command_in words ≡ Some (codes "check")) × (option_map (λ text. text.now) script ≡ path_in words)
+
+-- the words have no `--explain`
+abbrev pub ExplainsNothing : List Text → Type 0
+ExplainsNothing words = (text_in (codes "explain") words ≡ None) ⊎ (text_in (codes "explain") words ≡ Some (codes "false"))
+
+-- the same, and whether more is to be told of what fails
+pub record IsTold (words : List Text) (told : Told) : Type 0 where
+  pub asked : IsAsked words told.asked
+  pub explains : IsFlagOf (text_in (codes "explain") words) told.explains
 
 -- a script is to be played: that of this path, or of standard input, on the store of that path, or on a device in memory
 pub record AsksToPlayFrom (words : List Text) (script disk : Option Text) : Type 0 where
@@ -248,12 +278,28 @@ pub record Serves (words : List Text) (store : Text) (shape : Option Text) : Typ
   pub path : store_in words ≡ Some store
   pub with_shape : shape_path_in words ≡ shape
 
+-- the script of this path is to be checked
+pub record Checks (words : List Text) (script : Text) : Type 0 where
+  pub asks : AsksToCheck words
+  pub path : path_in words ≡ Some script
+  pub explains : ExplainsNothing words
+
+-- more is to be told of what fails where a script is played, and less where the word is left out
+pub record ExplainsPlainly (name : Text) : Type 0 where
+  pub given : text_in (codes "explain") (name ∷ codes "run" ∷ codes "--explain" ∷ []) ≡ Some (codes "true")
+  pub before_a_script : text_in (codes "explain") (name ∷ codes "run" ∷ codes "--explain" ∷ codes "first.json" ∷ []) ≡ Some (codes "true")
+  pub plays : AsksToPlayFrom (name ∷ codes "run" ∷ codes "--explain" ∷ codes "first.json" ∷ []) (Some (codes "first.json")) None
+  pub left_out : ExplainsNothing (name ∷ codes "run" ∷ codes "first.json" ∷ [])
+  pub help : ExplainsNothing (name ∷ codes "--help" ∷ [])
+  pub alone : AreRefused (name ∷ codes "--explain" ∷ [])
+  pub twice : AreRefused (name ∷ codes "run" ∷ codes "--explain" ∷ codes "--explain" ∷ [])
+
 -- how the plain command lines are read: `run` plays what stands on standard input, `run` with a path that file, each in
 -- memory or, behind `--disk`, on the store of that path; help and the version are requests; no command, an unknown one,
 -- `--disk` with no path and `--disk` twice are neither. `threads` takes two numbers, from 1 to 16 and from 1 to 1000: other ones,
 -- what is no number, and fewer than two are neither. `bench` takes no number. `show` takes the path of a store, and both of its flags or none, in any
 -- order. `init` takes the path of a store and that of a file, and maybe its flag, and `serve` the path of a store, and maybe that of a
--- shape.
+-- shape. `check` takes the path of a script alone. `--explain` stands behind each of the others.
 pub record ReadsPlainly (name : Text) : Type 0 where
   pub input : AsksToPlayFrom (name ∷ codes "run" ∷ []) None None
   pub file : AsksToPlayFrom (name ∷ codes "run" ∷ codes "first.json" ∷ []) (Some (codes "first.json")) None
@@ -290,3 +336,7 @@ pub record ReadsPlainly (name : Text) : Type 0 where
   pub serve : Serves (name ∷ codes "serve" ∷ codes "store" ∷ []) (codes "store") None
   pub serve_with_shape : Serves (name ∷ codes "serve" ∷ codes "store" ∷ codes "--shape" ∷ codes "a.json" ∷ []) (codes "store") (Some (codes "a.json"))
   pub serve_nothing : AreRefused (name ∷ codes "serve" ∷ [])
+  pub check : Checks (name ∷ codes "check" ∷ codes "first.json" ∷ []) (codes "first.json")
+  pub check_nothing : AreRefused (name ∷ codes "check" ∷ [])
+  pub check_explained : AreRefused (name ∷ codes "check" ∷ codes "first.json" ∷ codes "--explain" ∷ [])
+  pub explained : ExplainsPlainly name

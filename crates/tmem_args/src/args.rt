@@ -5,7 +5,7 @@ ghost use Rattle.clap.specs.Kinds.{FailsBy};
 ghost use Rattle.clap.specs.Matches.{found_of};
 ghost use Rattle.clap.specs.Simple.{App, Shape, app_of, subcommand_of, subcommand_rows_of, with_subcommand as adding};
 ghost use Rattle.clap.specs.Walk.{Text, first_of, one_of, rows_of, rule_of};
-ghost use Rattle.tmem_args.specs.CommandLine.{IsAsked, IsNumberOf, ReadsPlainly, IsFlagOf, bench_words, command_line, disk_words, file_word, flag_word, init_words, number_word, parsed_word, program_alone, run_words, script_word, serve_words, shape_words, show_words, store_word, threads_words, why_not_done};
+ghost use Rattle.tmem_args.specs.CommandLine.{IsAsked, IsNumberOf, IsTold, ReadsPlainly, IsFlagOf, bench_words, check_words, command_line, disk_words, explain_words, file_word, flag_word, init_words, number_word, parsed_word, program_alone, run_words, script_to_check, script_word, serve_words, shape_words, show_words, store_word, text_in, threads_words, why_not_done};
 
 use clap::builder::ValueParser;
 use clap::{Arg, ArgAction, ArgMatches, Command, value_parser};
@@ -38,6 +38,15 @@ pub enum Asked<'a> {
     Init(Making<'a>),
     /// A store is to be served.
     Serve(Serving<'a>),
+    /// The script in the file of this path is to be checked.
+    Check(Option<&'a str>),
+}
+
+/// What the words ask for, and whether more is to be told of what fails.
+#[derive(Clone, Copy)]
+pub struct Told<'a> {
+    pub asked: Asked<'a>,
+    pub explains: bool,
 }
 
 /// Which store is to be made, and of what.
@@ -84,12 +93,12 @@ pub struct Counting<'a> {
 
 /// What is asked for. Refused with what is to be told of the words: help or the version where it was asked for, else what is
 /// wrong with them.
-pub fn asked_of<'a>(alloc: Global, words: &'a [String]) -> Result<Asked<'a>, clap::Error>
-    ensures asked { IfOk result (IsAsked (map string_bytes words.now)) }
+pub fn asked_of<'a>(alloc: Global, words: &'a [String]) -> Result<Told<'a>, clap::Error>
+    ensures told { IfOk result (IsTold (map string_bytes words.now)) }
     ensures refused { FailsBy (why_not_done (map string_bytes words.now)) result }
 {
     let matches = matches_of(alloc, words)?;
-    Ok(asked_in(&matches))
+    Ok(told_in(&matches))
 }
 
 // What the words were read as: the subcommand that they name, with what it is given.
@@ -98,6 +107,26 @@ fn matches_of<'a>(alloc: Global, words: &'a [String]) -> Result<ArgMatches<'a>, 
     ensures refused { FailsBy (why_not_done (map string_bytes words.now)) result }
 {
     command(alloc)?.try_get_matches_from(words)
+}
+
+// What words that were read so ask for, and whether more is to be told.
+fn told_in<'a>(matches: &ArgMatches<'a>) -> Told<'a>
+    ensures { (words : List Text) → subcommand_rows_of matches.now ≡ subcommand_of command_line words → IsTold words result }
+{
+    Told {
+        asked: asked_in(matches),
+        explains: explains_in(matches),
+    }
+}
+
+// Whether words that were read so have `--explain`.
+fn explains_in(matches: &ArgMatches) -> bool
+    ensures { (words : List Text) → subcommand_rows_of matches.now ≡ subcommand_of command_line words → IsFlagOf (text_in (codes "explain") words) result }
+{
+    match matches.subcommand() {
+        Some((_, given)) => flag_in(given, "explain"),
+        None => false,
+    }
 }
 
 // What is asked for by words that were read so.
@@ -118,6 +147,9 @@ fn asked_in<'a>(matches: &ArgMatches<'a>) -> Asked<'a>
     }
     if let Some(serve) = matches.subcommand_matches("serve") {
         return Asked::Serve(serving_of(serve));
+    }
+    if let Some(check) = matches.subcommand_matches("check") {
+        return Asked::Check(text_of(check, "script"));
     }
     let Some((_, run)) = matches.subcommand() else {
         return Asked::Run(Paths {
@@ -225,7 +257,8 @@ fn command<'a>(alloc: Global) -> Result<Command<'a>, AllocError>
     let with_bench = with_subcommand(with_threads, bench_command(alloc));
     let with_show = with_subcommand(with_bench, show_command(alloc));
     let with_init = with_subcommand(with_show, init_command(alloc));
-    with_subcommand(with_init, serve_command(alloc))
+    let with_serve = with_subcommand(with_init, serve_command(alloc));
+    with_subcommand(with_serve, check_command(alloc))
 }
 
 // The program with no subcommand yet.
@@ -264,7 +297,8 @@ fn run_command<'a>(alloc: Global) -> Result<Command<'a>, AllocError>
         .arg(disk_arg(
             alloc,
             "The file of the store, made if it is missing [default: a device in memory]",
-        ))
+        ))?
+        .arg(explain_arg(alloc))
 }
 
 fn threads_command<'a>(alloc: Global) -> Result<Command<'a>, AllocError>
@@ -278,7 +312,8 @@ fn threads_command<'a>(alloc: Global) -> Result<Command<'a>, AllocError>
         .arg(disk_arg(
             alloc,
             "The file of the store, which must not be there yet [default: a device in memory]",
-        ))
+        ))?
+        .arg(explain_arg(alloc))
 }
 
 fn bench_command<'a>(alloc: Global) -> Result<Command<'a>, AllocError>
@@ -290,7 +325,8 @@ fn bench_command<'a>(alloc: Global) -> Result<Command<'a>, AllocError>
         .arg(disk_arg(
             alloc,
             "The file of the timed stores, which must not be there yet, and is removed again [default: tmem-bench.store]",
-        ))
+        ))?
+        .arg(explain_arg(alloc))
 }
 
 fn show_command<'a>(alloc: Global) -> Result<Command<'a>, AllocError>
@@ -301,7 +337,8 @@ fn show_command<'a>(alloc: Global) -> Result<Command<'a>, AllocError>
         .about("Shows what is in a store, without changing it")
         .arg(store_arg(alloc))?
         .arg(flag_arg(alloc, "json", "Print one JSON object"))?
-        .arg(flag_arg(alloc, "hex", "Print the bytes of each part too"))
+        .arg(flag_arg(alloc, "hex", "Print the bytes of each part too"))?
+        .arg(explain_arg(alloc))
 }
 
 fn init_command<'a>(alloc: Global) -> Result<Command<'a>, AllocError>
@@ -316,7 +353,8 @@ fn init_command<'a>(alloc: Global) -> Result<Command<'a>, AllocError>
             alloc,
             "in-place",
             "Make it on a blank file or block device that is there, and put nothing beside it",
-        ))
+        ))?
+        .arg(explain_arg(alloc))
 }
 
 fn serve_command<'a>(alloc: Global) -> Result<Command<'a>, AllocError>
@@ -326,7 +364,36 @@ fn serve_command<'a>(alloc: Global) -> Result<Command<'a>, AllocError>
     Command::new(alloc, "serve")
         .about("Answers the requests on standard input from a store")
         .arg(store_arg(alloc))?
-        .arg(shape_arg(alloc))
+        .arg(shape_arg(alloc))?
+        .arg(explain_arg(alloc))
+}
+
+fn check_command<'a>(alloc: Global) -> Result<Command<'a>, AllocError>
+    ensures app { IfOk result (λ command. app_of command ≡ record { top = check_words; subs = [] }) }
+    ensures local { IfOk result (λ command. (fields_of command).has_globals ≡ false) }
+{
+    Command::new(alloc, "check")
+        .about("Says all that is wrong with a script, and touches no store")
+        .arg(checked_arg(alloc))
+}
+
+// The path of a script, which has to be given.
+fn checked_arg<'a>(alloc: Global) -> Arg<'a>
+    ensures rule { rule_of result ≡ script_to_check }
+    ensures local { result.global ≡ false }
+{
+    Arg::new(alloc, "script")
+        .required(true)
+        .value_name("SCRIPT")
+        .help("The file with the script")
+}
+
+// `--explain`.
+fn explain_arg<'a>(alloc: Global) -> Arg<'a>
+    ensures rule { rule_of result ≡ explain_words }
+    ensures local { result.global ≡ false }
+{
+    flag_arg(alloc, "explain", "Say more of what fails, and what to do")
 }
 
 // The file of a shape, which has to be given.

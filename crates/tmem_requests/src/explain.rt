@@ -24,7 +24,9 @@ use body::{find_in_body, find_in_integer, find_in_numbers};
 pub(crate) use misfit::explained_misfit;
 use serde_json::Value;
 use std::alloc::Global;
-use wrong::{Wrong, inside};
+pub use tx::find_in_tx;
+pub use wrong::Wrong;
+use wrong::inside;
 
 /// Why a value is no request.
 #[cold]

@@ -81,8 +81,8 @@ fn write_detail<W: fmt::Write>(f: &mut fmt::Formatter<W>, fault: &Fault) -> fmt:
     }
 }
 
-// Why a transaction is no plan, in words.
-fn words_of(cause: Cause) -> &'static str
+/// Why a transaction is no plan, in words.
+pub fn words_of(cause: Cause) -> &'static str
     ensures { result.now ≡ cause_text cause }
 {
     match cause {

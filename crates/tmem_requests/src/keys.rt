@@ -9,7 +9,7 @@ ghost use Rattle.tmem_requests.specs.Requests.{keys_by};
 use serde_json::Value;
 
 /// Whether a value is an object, each of whose keys is one of these.
-pub(crate) fn has_only(value: &Value, keys: &[&str]) -> bool
+pub fn has_only(value: &Value, keys: &[&str]) -> bool
     ensures { IsTrue result ↔ HasOnly (map (λ key. key.now) keys.now) (view value.now) }
 {
     let Value::Object(members) = value else {

@@ -25,6 +25,9 @@ mod why;
 
 pub use answer::{Answer, Stats};
 pub use attempt::attempt_of;
+pub use explain::{Wrong, find_in_tx};
+pub use fault::words_of;
+pub use keys::has_only;
 pub use limits::MAX_READS;
 pub use line::AnswerLine;
 pub use opened::OpenedLine;

@@ -18,7 +18,7 @@ use tmem_forms::{pair_of, short_of};
 
 /// Finds the first thing that is wrong with a transaction.
 #[cycle(find)]
-pub(crate) fn find_in_tx(alloc: Global, value: &Value) -> Result<(), Wrong>
+pub fn find_in_tx(alloc: Global, value: &Value) -> Result<(), Wrong>
     ensures { IfErr result (λ w. IsTrueOf part (view value.now) w) }
 {
     match value {

@@ -13,9 +13,9 @@ use tmem_forms::FormError;
 /// What is wrong with a value or with one that it holds, and the steps that lead there. Where that is not known, or memory does not
 /// suffice for a step, no more is told than that the whole is no request.
 #[derive(Drop)]
-pub(crate) struct Wrong {
-    why: Why,
-    steps: Vec<Step>,
+pub struct Wrong {
+    pub why: Why,
+    pub steps: Vec<Step>,
 }
 
 impl Wrong {

@@ -7,7 +7,7 @@ use Rattle.tmem_args.proofs.args.asked_in.Goals as goal
 pub returns-in_default-subcommand : goal.returns-in_default-subcommand
 returns-in_default-subcommand c words met =
     let rows = c.in_default-subcommand.ensures.rows in (
-      names_no_other c.args.matches.now words met (λ is. cc (c.in_default.ensures.found.1 is)) (λ is. cc (c.in_default-subcommand_matches.ensures.found.1 is)) (λ is. cc (c.in_default-subcommand_matches-2.ensures.found.1 is)) (λ is. cc (c.in_default-subcommand_matches-3.ensures.found.1 is)) (λ is. cc (c.in_default-subcommand_matches-4.ensures.found.1 is)),
+      names_no_other c.args.matches.now words met (λ is. cc (c.in_default.ensures.found.1 is)) (λ is. cc (c.in_default-subcommand_matches.ensures.found.1 is)) (λ is. cc (c.in_default-subcommand_matches-2.ensures.found.1 is)) (λ is. cc (c.in_default-subcommand_matches-3.ensures.found.1 is)) (λ is. cc (c.in_default-subcommand_matches-4.ensures.found.1 is)) (λ is. cc (c.in_default-subcommand_matches-5.ensures.found.1 is)),
       given c.args.matches.now words met (first_of (codes "script")) None rows,
       given c.args.matches.now words met (first_of (codes "disk")) None rows,
     )
@@ -15,7 +15,7 @@ returns-in_default-subcommand c words met =
 pub returns : goal.returns
 returns c words met =
     let rows = c.in-Some-subcommand.ensures.rows in (
-      names_no_other c.args.matches.now words met (λ is. cc (c.in_default.ensures.found.1 is)) (λ is. cc (c.in_default-subcommand_matches.ensures.found.1 is)) (λ is. cc (c.in_default-subcommand_matches-2.ensures.found.1 is)) (λ is. cc (c.in_default-subcommand_matches-3.ensures.found.1 is)) (λ is. cc (c.in_default-subcommand_matches-4.ensures.found.1 is)),
+      names_no_other c.args.matches.now words met (λ is. cc (c.in_default.ensures.found.1 is)) (λ is. cc (c.in_default-subcommand_matches.ensures.found.1 is)) (λ is. cc (c.in_default-subcommand_matches-2.ensures.found.1 is)) (λ is. cc (c.in_default-subcommand_matches-3.ensures.found.1 is)) (λ is. cc (c.in_default-subcommand_matches-4.ensures.found.1 is)) (λ is. cc (c.in_default-subcommand_matches-5.ensures.found.1 is)),
       c.paths_of.ensures.script ∙ given c.args.matches.now words met (first_of (codes "script")) _ rows,
       c.paths_of.ensures.disk ∙ given c.args.matches.now words met (first_of (codes "disk")) _ rows,
     )
@@ -43,3 +43,8 @@ returns-in-Some-subcommand_matches-3 c words met =
         in_place = subst (λ t. IsFlagOf t c.making_of.result.is_in_place) (given c.args.matches.now words met (one_of (codes "in-place")) _ rows) c.making_of.ensures.in_place;
       },
     )
+
+pub returns-in-Some-subcommand_matches-5 : goal.returns-in-Some-subcommand_matches-5
+returns-in-Some-subcommand_matches-5 c words met =
+    let it = c.in-Some-subcommand_matches-5.ensures in
+    (named c.args.matches.now words met ∙ it.found.0 refl, c.text_of.ensures ∙ given c.args.matches.now words met (first_of (codes "script")) _ (sym it.rows))

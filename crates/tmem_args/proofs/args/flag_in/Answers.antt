@@ -6,4 +6,4 @@ use Rattle.tmem_args.proofs.args.flag_in.Goals as goal
 pub returns : goal.returns
 returns c =
     let rows = one_text-rows (found_of c.args.matches.now) c.args.id.now in
-    record { given = λ is. c.get_flag.ensures.value (rows ∙ is); left_out = λ is. c.get_flag.ensures.other (rows ∙ is) }
+    record { none = λ is. c.get_flag.ensures.none (rows ∙ is); given = λ is. c.get_flag.ensures.value (rows ∙ is); left_out = λ is. c.get_flag.ensures.other (rows ∙ is) }

@@ -5,11 +5,11 @@ use Rattle.tmem_args.proofs.args.reads_plainly.Goals as goal
 pub returns : goal.returns
 unfolding clap_on_literals
 returns c = λ name. record {
-  input = record { asks = (refl, record { threads = λ e. cc; bench = λ e. cc; show = λ e. cc; init = λ e. cc; serve = λ e. cc }); path = refl; store = refl };
-  file = record { asks = (refl, record { threads = λ e. cc; bench = λ e. cc; show = λ e. cc; init = λ e. cc; serve = λ e. cc }); path = refl; store = refl };
-  input_on_store = record { asks = (refl, record { threads = λ e. cc; bench = λ e. cc; show = λ e. cc; init = λ e. cc; serve = λ e. cc }); path = refl; store = refl };
-  file_on_store = record { asks = (refl, record { threads = λ e. cc; bench = λ e. cc; show = λ e. cc; init = λ e. cc; serve = λ e. cc }); path = refl; store = refl };
-  store_first = record { asks = (refl, record { threads = λ e. cc; bench = λ e. cc; show = λ e. cc; init = λ e. cc; serve = λ e. cc }); path = refl; store = refl };
+  input = record { asks = (refl, record { threads = λ e. cc; bench = λ e. cc; show = λ e. cc; init = λ e. cc; serve = λ e. cc; check = λ e. cc }); path = refl; store = refl };
+  file = record { asks = (refl, record { threads = λ e. cc; bench = λ e. cc; show = λ e. cc; init = λ e. cc; serve = λ e. cc; check = λ e. cc }); path = refl; store = refl };
+  input_on_store = record { asks = (refl, record { threads = λ e. cc; bench = λ e. cc; show = λ e. cc; init = λ e. cc; serve = λ e. cc; check = λ e. cc }); path = refl; store = refl };
+  file_on_store = record { asks = (refl, record { threads = λ e. cc; bench = λ e. cc; show = λ e. cc; init = λ e. cc; serve = λ e. cc; check = λ e. cc }); path = refl; store = refl };
+  store_first = record { asks = (refl, record { threads = λ e. cc; bench = λ e. cc; show = λ e. cc; init = λ e. cc; serve = λ e. cc; check = λ e. cc }); path = refl; store = refl };
   help = inl tt;
   version = inl tt;
   none = (λ e. cc, λ is. elim is [ inl e ↦ e | inr e ↦ e ]);
@@ -40,4 +40,16 @@ returns c = λ name. record {
   serve = record { asks = (refl, refl); path = refl; with_shape = refl };
   serve_with_shape = record { asks = (refl, refl); path = refl; with_shape = refl };
   serve_nothing = (λ e. cc, λ is. elim is [ inl e ↦ e | inr e ↦ e ]);
+  check = record { asks = (refl, refl); path = refl; explains = inl refl };
+  check_nothing = (λ e. cc, λ is. elim is [ inl e ↦ e | inr e ↦ e ]);
+  check_explained = (λ e. cc, λ is. elim is [ inl e ↦ e | inr e ↦ e ]);
+  explained = record {
+    given = refl;
+    before_a_script = refl;
+    plays = record { asks = (refl, record { threads = λ e. cc; bench = λ e. cc; show = λ e. cc; init = λ e. cc; serve = λ e. cc; check = λ e. cc }); path = refl; store = refl };
+    left_out = inr refl;
+    help = inl refl;
+    alone = (λ e. cc, λ is. elim is [ inl e ↦ e | inr e ↦ e ]);
+    twice = (λ e. cc, λ is. elim is [ inl e ↦ e | inr e ↦ e ]);
+  };
 }

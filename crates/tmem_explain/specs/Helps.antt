@@ -1,0 +1,57 @@
+-- What is told of a fault, of a file that could not be used, and of numbers that do not fit.
+use Rattle.std.specs.Prelude.{ℕ, List, ◌++◌, codes}
+use Rattle.std.specs.Fmt.{decimal}
+use Rattle.tmem_fault.specs.declared.fault.Fault.{Fault}
+use Rattle.tmem_fault.specs.declared.fault.Fault.TheVariants as fault
+use Rattle.tmem_requests.specs.Answers.{cause_text}
+use Rattle.tmem_explain.specs.declared.device.DeviceCause.{DeviceCause}
+use Rattle.tmem_explain.specs.declared.device.DeviceCause.TheVariants as cause
+use Rattle.tmem_explain.specs.declared.numbers.Found.{Found}
+use Rattle.tmem_explain.specs.declared.numbers.Found.TheVariants as found
+
+-- what went wrong, and what to do
+abbrev pub fault_help : Fault → List ℕ
+fault_help fault.Memory = codes "memory did not suffice; give the program more, or play a smaller script"
+fault_help fault.Device = codes "a call on the file failed; look for its rights, for room and for errors of the disk, and open it again"
+fault_help fault.Closed = codes "no session stands, since the device failed or an opening was refused; reopen the store, or run the program again"
+fault_help fault.Unknown =
+    codes "the device failed while a batch was made durable, and all of the batch is durable or nothing; open the store again, and it says how many transactions there are"
+fault_help fault.Full = codes "256 transactions wait to be durable; flush, and settle again"
+fault_help fault.LogFull = codes "every slot of the log is used; make a checkpoint, and flush again"
+fault_help fault.Conflict = codes "a value that the transaction read has changed; begin it again"
+fault_help fault.NotFormatted = codes "this does not begin as a store; check the path, or restore a copy"
+fault_help fault.Damaged =
+    codes "the content is none that a store may have, or a later version of the program wrote it; run that version, or restore a copy"
+fault_help (fault.Missing name) =
+    codes "the invariant " ++ name ++ codes " is registered in the store, and the program has none of this name; run the program that has it, and retire it there"
+fault_help (fault.Broken name) =
+    codes "the invariant " ++ name ++ codes " is registered in the store, and false of its values; compare what it means in the two programs, or restore a copy"
+fault_help (fault.BadPlan c) = cause_text c ++ codes "; change the transaction"
+fault_help fault.BadName = codes "a name is not 1 to 16 letters from a to z, or stands twice, or there are more than 64; change the program"
+fault_help fault.BadFootprint = codes "an invariant has no variable, more than 16, one twice, or one that the store lacks; change the program"
+fault_help fault.Spent = codes "the numbers of transactions or images are used up; make a new store"
+fault_help fault.NoSeat = codes "all 32 passes were given out; keep passes, or borrow them of the pool"
+fault_help fault.Geometry =
+    codes "the numbers of variables and log slots are none of a store, or not this one's, or its file is too short; state those that tmem show prints, or restore a copy"
+
+-- why a file could not be used, and what to do
+abbrev pub device_help : DeviceCause → List ℕ
+device_help cause.Locked = codes "another program has it open; wait until that ends, or end it"
+device_help cause.Folder = codes "it is a folder; name a file"
+device_help cause.NoFile = codes "it is no file and no block device; name one"
+device_help cause.NoPermission = codes "this user may not use it; change its rights, or run as its owner"
+device_help cause.Missing = codes "nothing has this path; check it"
+device_help cause.MissingFolder = codes "its folder is not there; make it, or check the path"
+device_help cause.Other =
+    codes "a call on it failed; look for rights in its folder, for room, for a name of more than 250 bytes and for errors of the disk"
+
+-- the numbers that were asked for, beside what there is
+abbrev pub numbers_help : ℕ → ℕ → Found → List ℕ
+numbers_help vars slots found.Limits =
+    codes "a store has 1 to 1024 variables and 2 to 64 log slots, and " ++ decimal vars ++ codes " and " ++ decimal slots ++ codes " were asked for"
+numbers_help vars slots (found.Store had_vars had_slots) =
+    codes "the store has " ++ decimal had_vars ++ codes " variables and " ++ decimal had_slots ++ codes " log slots, and " ++ decimal vars ++ codes " and "
+    ++ decimal slots ++ codes " were asked for; state its own"
+numbers_help vars slots (found.Short has wants) =
+    codes "it has " ++ decimal has ++ codes " bytes, and a store of " ++ decimal vars ++ codes " variables and " ++ decimal slots ++ codes " log slots has "
+    ++ decimal wants ++ codes "; check the path, or restore a copy"

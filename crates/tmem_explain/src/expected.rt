@@ -1,0 +1,79 @@
+//! What was expected where something is wrong.
+use std::fmt;
+use tmem_fault::Cause;
+use tmem_requests::{Why, words_of};
+
+/// What was expected at a place. Its text is what the user is told.
+#[derive(Clone, Copy)]
+pub enum Expected {
+    /// JSON in UTF-8.
+    Json,
+    /// More of it: the text ends too soon.
+    MoreJson,
+    Object,
+    /// A member of this key.
+    Member(&'static str),
+    /// No other key than these three.
+    ScriptKeys,
+    /// A number of variables or of log slots.
+    Number,
+    Entries,
+    Entry,
+    /// An attempt and a transaction.
+    Begin,
+    Attempt,
+    /// What a transaction has there.
+    Transaction(Why),
+    /// A transaction within the limit of this cause, for so many variables.
+    Plan { cause: Cause, vars: u16 },
+    /// A script: no reason was found why it is none.
+    Script,
+}
+
+impl fmt::Display for Expected {
+    ghost use Rattle.std.specs.Prelude.{Some};
+    ghost use Rattle.tmem_explain.specs.Told.{expected_text};
+
+    ghost output = { λ expected. Some (expected_text expected) };
+
+    fn fmt<W: fmt::Write>(&self, f: &mut fmt::Formatter<W>) -> fmt::Result {
+        match self {
+            Expected::Json => write!(
+                f,
+                "from here on this is not JSON (which may nest 127 levels deep)"
+            ),
+            Expected::MoreJson => write!(f, "the text ends here, before its JSON does"),
+            Expected::Object => write!(
+                f,
+                "this is not an object with the keys vars, slots and events"
+            ),
+            Expected::Member(key) => write!(f, "there is no {key}"),
+            Expected::ScriptKeys => write!(
+                f,
+                "this has a key that is none of vars, slots and events"
+            ),
+            Expected::Number => write!(f, "this is not a whole number from 0 to 65535"),
+            Expected::Entries => write!(f, "this is not an array of entries"),
+            Expected::Entry => write!(
+                f,
+                "this is none of \"flush\", \"checkpoint\", \"look\", \"reopen\" and \"show\", and no object with one of the keys begin, turn and settle alone"
+            ),
+            Expected::Begin => write!(f, "this is not an array of an attempt and a transaction"),
+            Expected::Attempt => write!(
+                f,
+                "this is not a whole number from 0 to 15, as an attempt is"
+            ),
+            Expected::Transaction(Why::NotTransaction) => write!(
+                f,
+                "this is neither \"skip\" nor \"retry\", and no object with one of the keys seq, put, read, write, step, when, orelse, abort, check and retire alone"
+            ),
+            Expected::Transaction(Why::NotStep) => write!(
+                f,
+                "this is none of the steps \"add\", \"sub\" and \"need\""
+            ),
+            Expected::Transaction(why) => write!(f, "{why}"),
+            Expected::Plan { cause, .. } => write!(f, "{}", words_of(*cause)),
+            Expected::Script => write!(f, "this is not a script"),
+        }
+    }
+}

@@ -1,0 +1,69 @@
+//! What is wrong with a script, and where.
+use crate::expected::Expected;
+use std::fmt;
+use tmem_requests::Step;
+
+/// What is wrong with a script.
+#[derive(Drop)]
+pub struct Flaw {
+    pub expected: Expected,
+    pub at: Spot,
+}
+
+/// A place in the text of a script.
+#[derive(Drop)]
+pub enum Spot {
+    /// The value that these steps lead to, from the whole: a JSON pointer (RFC 6901).
+    Pointer(Vec<Step>),
+    /// A line and a column of the text, from 1, where it is not JSON.
+    Text { line: u64, column: u64 },
+}
+
+impl fmt::Display for Spot {
+    ghost use Rattle.std.specs.Prelude.{Some};
+    ghost use Rattle.tmem_explain.specs.Told.{spot_text};
+
+    ghost output = { λ spot. Some (spot_text spot) };
+
+    fn fmt<W: fmt::Write>(&self, f: &mut fmt::Formatter<W>) -> fmt::Result {
+        match self {
+            Spot::Pointer(steps) => {
+                for step in steps {
+                    write!(f, "{step}")?;
+                }
+                Ok(())
+            }
+            Spot::Text { line, column } => write!(f, "line {line} column {column}"),
+        }
+    }
+}
+
+impl Flaw {
+    ghost use Rattle.std.specs.Prelude.{◌≡◌};
+    ghost use Rattle.tmem_explain.specs.Told.{is_whole};
+
+    // Whether it is the whole that is wrong.
+    fn is_whole(&self) -> bool
+        ensures { result ≡ is_whole self.now.at }
+    {
+        match &self.at {
+            Spot::Pointer(steps) => steps.is_empty(),
+            Spot::Text { .. } => false,
+        }
+    }
+}
+
+impl fmt::Display for Flaw {
+    ghost use Rattle.std.specs.Prelude.{Some};
+    ghost use Rattle.tmem_explain.specs.Told.{flaw_text};
+
+    ghost output = { λ flaw. Some (flaw_text flaw) };
+
+    fn fmt<W: fmt::Write>(&self, f: &mut fmt::Formatter<W>) -> fmt::Result {
+        if self.is_whole() {
+            write!(f, "{}", self.expected)
+        } else {
+            write!(f, "{}: {}", self.at, self.expected)
+        }
+    }
+}

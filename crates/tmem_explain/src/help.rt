@@ -1,0 +1,85 @@
+//! What a fault means, and what to do.
+use std::fmt;
+use tmem_fault::Fault;
+use tmem_requests::words_of;
+
+/// What went wrong, and what to do, in a line for a fault.
+#[derive(Clone, Copy)]
+pub struct FaultHelp(pub Fault);
+
+impl fmt::Display for FaultHelp {
+    ghost use Rattle.std.specs.Prelude.{Some};
+    ghost use Rattle.tmem_explain.specs.Helps.{fault_help};
+
+    ghost output = { λ help. Some (fault_help help.0) };
+
+    fn fmt<W: fmt::Write>(&self, f: &mut fmt::Formatter<W>) -> fmt::Result {
+        match &self.0 {
+            Fault::Memory => write!(
+                f,
+                "memory did not suffice; give the program more, or play a smaller script"
+            ),
+            Fault::Device => write!(
+                f,
+                "a call on the file failed; look for its rights, for room and for errors of the disk, and open it again"
+            ),
+            Fault::Closed => write!(
+                f,
+                "no session stands, since the device failed or an opening was refused; reopen the store, or run the program again"
+            ),
+            Fault::Unknown => write!(
+                f,
+                "the device failed while a batch was made durable, and all of the batch is durable or nothing; open the store again, and it says how many transactions there are"
+            ),
+            Fault::Full => write!(
+                f,
+                "256 transactions wait to be durable; flush, and settle again"
+            ),
+            Fault::LogFull => write!(
+                f,
+                "every slot of the log is used; make a checkpoint, and flush again"
+            ),
+            Fault::Conflict => write!(
+                f,
+                "a value that the transaction read has changed; begin it again"
+            ),
+            Fault::NotFormatted => write!(
+                f,
+                "this does not begin as a store; check the path, or restore a copy"
+            ),
+            Fault::Damaged => write!(
+                f,
+                "the content is none that a store may have, or a later version of the program wrote it; run that version, or restore a copy"
+            ),
+            Fault::Missing(name) => write!(
+                f,
+                "the invariant {name} is registered in the store, and the program has none of this name; run the program that has it, and retire it there"
+            ),
+            Fault::Broken(name) => write!(
+                f,
+                "the invariant {name} is registered in the store, and false of its values; compare what it means in the two programs, or restore a copy"
+            ),
+            Fault::BadPlan(cause) => write!(f, "{}; change the transaction", words_of(*cause)),
+            Fault::BadName => write!(
+                f,
+                "a name is not 1 to 16 letters from a to z, or stands twice, or there are more than 64; change the program"
+            ),
+            Fault::BadFootprint => write!(
+                f,
+                "an invariant has no variable, more than 16, one twice, or one that the store lacks; change the program"
+            ),
+            Fault::Spent => write!(
+                f,
+                "the numbers of transactions or images are used up; make a new store"
+            ),
+            Fault::NoSeat => write!(
+                f,
+                "all 32 passes were given out; keep passes, or borrow them of the pool"
+            ),
+            Fault::Geometry => write!(
+                f,
+                "the numbers of variables and log slots are none of a store, or not this one's, or its file is too short; state those that tmem show prints, or restore a copy"
+            ),
+        }
+    }
+}

@@ -1,0 +1,26 @@
+//! What is wrong, and where, in more words than a run spends on it.
+//!
+//! `flaws_in` says all that is wrong with the text of a script, each flaw with the place where it stands and what was expected there, and
+//! `plan_flaw` which node of a transaction breaks a limit. `FaultHelp` says what a fault means and what to do, `DeviceCause` why a file
+//! could not be used, and `NumbersHelp` which numbers a store has. Nothing here decides what is refused.
+#![tactic(auto)]
+
+mod amiss;
+mod device;
+mod entry;
+mod expected;
+mod flaw;
+mod help;
+mod numbers;
+mod plan;
+mod script;
+#[cfg(test)]
+mod tests;
+
+pub use device::{DeviceCause, cause_of};
+pub use expected::Expected;
+pub use flaw::{Flaw, Spot};
+pub use help::FaultHelp;
+pub use numbers::{Found, NumbersHelp};
+pub use plan::plan_flaw;
+pub use script::flaws_in;

@@ -1,0 +1,237 @@
+//! Which node of a transaction breaks a limit.
+ghost use Rattle.std.specs.Prelude.{◌≡◌, IsTrue, IfErr, map};
+ghost use Rattle.std.specs.List.{list_any};
+ghost use Rattle.serde_json.specs.Data.{Data};
+ghost use Rattle.tmem_builtins.specs.Builtins.{builtin_names};
+ghost use Rattle.tmem_fault.specs.Name.{has_name};
+ghost use Rattle.tmem_forms.specs.TxForms.{array_of, tx_form};
+ghost use Rattle.tmem_script.specs.Scripts.{IsScript, entry_form};
+ghost use Rattle.tmem_tree.specs.Limits.{has_bad_register, has_bad_variable, has_bad_step, has_bad_arguments, has_unknown_name, is_no_register};
+ghost use Rattle.tmem_explain.specs.Flaws.{CountsNode, IsAmissIn, IsFlawOf, step_arities};
+
+use crate::amiss::{Amiss, inside};
+use crate::expected::Expected;
+use crate::flaw::Flaw;
+use std::alloc::Global;
+use tmem_builtins::names;
+use tmem_event::Event;
+use tmem_fault::{Cause, Name};
+use tmem_requests::Step;
+use tmem_script::{Entry, Script};
+use tmem_tree::{MAX_CHECKS, MAX_DEPTH, MAX_NODES, MAX_RETIRES, MAX_WRITES, REGISTERS, Tx};
+
+/// The first node that breaks the limit of a cause, in the transaction that an entry of a script begins: for one that counts nodes, the
+/// first that is too many.
+pub fn plan_flaw(alloc: Global, script: &Script, index: usize, cause: Cause) -> Flaw
+    ensures { (d : Data) → IsScript script.now.vars script.now.slots script.now.entries.items d → IsFlawOf d result }
+{
+    match find_in_entries(alloc, script, index, cause) {
+        Ok(()) => Amiss::here(alloc, Expected::Script).into_flaw(),
+        Err(amiss) => amiss.into_flaw(),
+    }
+}
+
+fn find_in_entries(alloc: Global, script: &Script, index: usize, cause: Cause) -> Result<(), Amiss>
+    ensures { (d : Data) → IsScript script.now.vars script.now.slots script.now.entries.items d → IfErr result (IsAmissIn d) }
+{
+    if index >= script.entries.len() {
+        return Ok(());
+    }
+    let found = find_in_begun(alloc, &script.entries[index], cause, script.vars);
+    let found = inside(Step::Item(index as u64), found);
+    inside(Step::Key("events"), found)
+}
+
+fn find_in_begun(alloc: Global, entry: &Entry, cause: Cause, vars: u16) -> Result<(), Amiss>
+    ensures { IfErr result (IsAmissIn (entry_form entry.now)) }
+{
+    let Entry::Event(playable) = entry else {
+        return Ok(());
+    };
+    let Event::Begin { tx, .. } = &playable.event else {
+        return Ok(());
+    };
+    let found = match find_in_plan(alloc, tx, cause, vars, MAX_DEPTH, limit_of(cause)) {
+        Ok(_) => Ok(()),
+        Err(amiss) => Err(amiss),
+    };
+    inside(Step::Key("begin"), inside(Step::Item(1), found))
+}
+
+// How many nodes may be counted.
+fn limit_of(cause: Cause) -> u32 {
+    match cause {
+        Cause::TooManyNodes => MAX_NODES,
+        Cause::TooManyWrites => MAX_WRITES,
+        Cause::TooManyChecks => MAX_CHECKS as u32,
+        Cause::TooManyRetires => MAX_RETIRES as u32,
+        _ => 0,
+    }
+}
+
+// The first node that is too deep, or one too many. Answers how many more there may be.
+#[cycle(plan)]
+fn find_in_plan(
+    alloc: Global,
+    tx: &Tx,
+    cause: Cause,
+    vars: u16,
+    depth: u32,
+    left: u32,
+) -> Result<u32, Amiss>
+    ensures { IfErr result (IsAmissIn (tx_form tx.now)) }
+{
+    let expected = Expected::Plan { cause, vars };
+    if depth == 0 {
+        return match cause {
+            Cause::TooDeep => Err(Amiss::here(alloc, expected)),
+            _ => Ok(left),
+        };
+    }
+    let left = if is_counted(tx, cause, vars) {
+        match left.checked_sub(1) {
+            Some(left) => left,
+            None => return Err(Amiss::here(alloc, expected)),
+        }
+    } else {
+        left
+    };
+    find_below(alloc, tx, cause, vars, depth - 1, left)
+}
+
+// The same in the nodes that stand below one.
+#[cycle(plan)]
+fn find_below(
+    alloc: Global,
+    tx: &Tx,
+    cause: Cause,
+    vars: u16,
+    depth: u32,
+    left: u32,
+) -> Result<u32, Amiss>
+    ensures { IfErr result (IsAmissIn (tx_form tx.now)) }
+{
+    match tx {
+        Tx::Seq(txs) => {
+            let found = find_in_row(alloc, txs, cause, vars, depth, left);
+            inside(Step::Key("seq"), found)
+        }
+        Tx::When { then, other, .. } => {
+            let first = find_in_plan(alloc, then, cause, vars, depth, left);
+            let left = inside(Step::Key("when"), inside(Step::Item(1), first))?;
+            let second = find_in_plan(alloc, other, cause, vars, depth, left);
+            inside(Step::Key("when"), inside(Step::Item(2), second))
+        }
+        Tx::OrElse(first, second) => {
+            let first = find_in_plan(alloc, first, cause, vars, depth, left);
+            let left = inside(Step::Key("orelse"), inside(Step::Item(0), first))?;
+            let second = find_in_plan(alloc, second, cause, vars, depth, left);
+            inside(Step::Key("orelse"), inside(Step::Item(1), second))
+        }
+        _ => Ok(left),
+    }
+}
+
+#[cycle(plan)]
+fn find_in_row(
+    alloc: Global,
+    txs: &[Tx],
+    cause: Cause,
+    vars: u16,
+    depth: u32,
+    left: u32,
+) -> Result<u32, Amiss>
+    ensures { IfErr result (IsAmissIn (array_of (map tx_form txs.now))) }
+{
+    let mut left = left;
+    for (i, tx) in txs.iter().enumerate() {
+        let found = find_in_plan(alloc, tx, cause, vars, depth, left);
+        left = inside(Step::Item(i as u64), found)?;
+    }
+    Ok(left)
+}
+
+// Whether a limit counts this node.
+fn is_counted(tx: &Tx, cause: Cause, vars: u16) -> bool
+    ensures { IsTrue result → CountsNode cause vars tx.now }
+{
+    match cause {
+        Cause::TooDeep => false,
+        Cause::TooManyNodes => true,
+        Cause::TooManyWrites => matches!(tx, Tx::Write { .. }),
+        Cause::TooManyChecks => matches!(tx, Tx::Check { .. }),
+        Cause::BadRegister => has_bad_register(tx),
+        Cause::BadVariable => has_bad_variable(tx, vars),
+        Cause::BadStep => has_bad_step(tx),
+        Cause::BadArguments => has_bad_arguments(tx),
+        Cause::UnknownName => has_unknown_name(tx, vars),
+        Cause::TooManyRetires => matches!(tx, Tx::Retire { .. }),
+    }
+}
+
+// How many steps there are, each of which takes as many registers as `ARGUMENTS`.
+const STEPS: u16 = 3;
+
+const ARGUMENTS: usize = 2;
+
+fn has_bad_register(tx: &Tx) -> bool
+    ensures { result ≡ has_bad_register tx.now }
+{
+    match tx {
+        Tx::Put { reg, .. } | Tx::Read { reg, .. } | Tx::Write { reg, .. } | Tx::When { reg, .. } =>
+            *reg as usize >= REGISTERS,
+        Tx::Step { args, out, .. } => *out as usize >= REGISTERS || any_bad_register(args),
+        _ => false,
+    }
+}
+
+// Whether one of these is no register.
+fn any_bad_register(regs: &[u8]) -> bool
+    ensures { result ≡ list_any is_no_register regs.now }
+{
+    regs.iter().any(|reg| *reg as usize >= REGISTERS)
+}
+
+fn has_bad_variable(tx: &Tx, vars: u16) -> bool
+    ensures { result ≡ has_bad_variable vars tx.now }
+{
+    match tx {
+        Tx::Read { var, .. } | Tx::Write { var, .. } => *var >= vars,
+        _ => false,
+    }
+}
+
+fn has_bad_step(tx: &Tx) -> bool
+    ensures { result ≡ has_bad_step step_arities tx.now }
+{
+    match tx {
+        Tx::Step { index, .. } => *index >= STEPS,
+        _ => false,
+    }
+}
+
+fn has_bad_arguments(tx: &Tx) -> bool
+    ensures { result ≡ has_bad_arguments step_arities tx.now }
+{
+    match tx {
+        Tx::Step { index, args, .. } => *index < STEPS && args.len() != ARGUMENTS,
+        _ => false,
+    }
+}
+
+fn has_unknown_name(tx: &Tx, vars: u16) -> bool
+    ensures { result ≡ has_unknown_name (builtin_names vars) tx.now }
+{
+    match tx {
+        Tx::Check { name } | Tx::Retire { name } => !is_known(name, vars),
+        _ => false,
+    }
+}
+
+// Whether a store of so many variables has an invariant of this name.
+fn is_known(name: &Name, vars: u16) -> bool
+    ensures { result ≡ has_name (builtin_names vars) name.now }
+{
+    let [nonneg, ordered, sum] = names();
+    vars >= 1 && *name == nonneg || vars >= 2 && *name == sum || vars >= 4 && *name == ordered
+}

@@ -1,0 +1,161 @@
+//! All that is wrong with a script.
+ghost use Rattle.std.specs.Prelude.{◌≡◌, ◌≢◌, [], ℕ, List, All, IsUtf8, Some, IfErr, IfOk, OnOk, codes};
+ghost use Rattle.serde_json.specs.Data.{Data};
+ghost use Rattle.serde_json.specs.Find.{get};
+ghost use Rattle.serde_json.specs.Read.{read};
+ghost use Rattle.serde_json.specs.View.{view};
+ghost use Rattle.tmem_script.specs.Scripts.{IsScriptText};
+ghost use Rattle.tmem_script.specs.declared.script.Entry.{Entry};
+ghost use Rattle.tmem_requests.specs.Reasons.{IsNoJson};
+ghost use Rattle.tmem_explain.specs.Flaws.{IsAmissIn, IsFlawOf, IsTextFlaw};
+
+use crate::amiss::{Amiss, inside};
+use crate::entry::find_in_entry;
+use crate::expected::Expected;
+use crate::flaw::{Flaw, Spot};
+use serde_json::Value;
+use std::alloc::{AllocError, Global};
+use tmem_forms::short_of;
+use tmem_requests::{Step, has_only};
+use tmem_script::{Script, ScriptError};
+
+/// All that is wrong with the text of a script: of each of its numbers, and of each entry, the first thing. There is nothing where the
+/// text is one. Refused where memory does not suffice.
+pub fn flaws_in(alloc: Global, text: &[u8]) -> Result<Vec<Flaw>, AllocError>
+    ensures told { IfOk result (λ flaws. (value : Data) → IsUtf8 text.now → read text.now ≡ Some value → All (IsFlawOf value) flaws.items) }
+    ensures no_json { IfOk result (λ flaws. IsNoJson text.now → All IsTextFlaw flaws.items) }
+    ensures read { IfOk result (λ flaws. (vars slots : ℕ) (entries : List Entry) → IsScriptText vars slots entries text.now → flaws.items ≡ []) }
+    ensures fine { IfOk result (λ flaws. flaws.items ≡ [] → (vars : ℕ) × (slots : ℕ) × (entries : List Entry) × IsScriptText vars slots entries text.now) }
+{
+    match Script::from_slice(alloc, text) {
+        Ok(_) => Ok(Vec::new(alloc)),
+        Err(ScriptError::Memory(_)) => Err(AllocError),
+        Err(_) => flaws_of_text(alloc, text),
+    }
+}
+
+// The flaws of a text that is no script: at least one.
+fn flaws_of_text(alloc: Global, text: &[u8]) -> Result<Vec<Flaw>, AllocError>
+    ensures told { IfOk result (λ flaws. (value : Data) → IsUtf8 text.now → read text.now ≡ Some value → All (IsFlawOf value) flaws.items) }
+    ensures no_json { IfOk result (λ flaws. IsNoJson text.now → All IsTextFlaw flaws.items) }
+    ensures some { IfOk result (λ flaws. flaws.items ≢ []) }
+{
+    let error = match Value::from_slice(alloc, text) {
+        Ok(value) => return flaws_of_value(alloc, &value),
+        Err(error) => error,
+    };
+    if error.is_memory() {
+        return Err(AllocError);
+    }
+    let mut flaws = Vec::new(alloc);
+    flaws.push(text_flaw(&error))?;
+    Ok(flaws)
+}
+
+// Where a text stops to be JSON. An empty one is wrong at its first line and column.
+fn text_flaw(error: &serde_json::Error) -> Flaw
+    ensures { IsTextFlaw result }
+{
+    let expected = if error.is_eof() {
+        Expected::MoreJson
+    } else {
+        Expected::Json
+    };
+    let (line, column) = (error.line().max(1) as u64, error.column().max(1) as u64);
+    Flaw {
+        expected,
+        at: Spot::Text { line, column },
+    }
+}
+
+// The flaws of a value, or that it is not known why it is no script.
+fn flaws_of_value(alloc: Global, value: &Value) -> Result<Vec<Flaw>, AllocError>
+    ensures told { IfOk result (λ flaws. All (IsFlawOf (view value.now)) flaws.items) }
+    ensures some { IfOk result (λ flaws. flaws.items ≢ []) }
+{
+    let mut flaws = Vec::new(alloc);
+    note_all(alloc, value, &mut flaws)?;
+    if flaws.is_empty() {
+        flaws.push(Amiss::here(alloc, Expected::Script).into_flaw())?;
+    }
+    Ok(flaws)
+}
+
+// Notes what is wrong with a value.
+fn note_all(alloc: Global, value: &Value, flaws: &mut Vec<Flaw>) -> Result<(), AllocError>
+    ensures { All (IsFlawOf (view value.now)) flaws.old.items → OnOk result (All (IsFlawOf (view value.now)) flaws.new.items) }
+{
+    if !value.is_object() {
+        return note(flaws, Err(Amiss::here(alloc, Expected::Object)));
+    }
+    note(flaws, find_in_keys(alloc, value))?;
+    note(flaws, find_in_number(alloc, value, "vars"))?;
+    note(flaws, find_in_number(alloc, value, "slots"))?;
+    match value.get("events") {
+        Some(events) => note_entries(alloc, value, events, flaws),
+        None => note(flaws, Err(Amiss::here(alloc, Expected::Member("events")))),
+    }
+}
+
+// Notes one flaw, if one was found.
+fn note(flaws: &mut Vec<Flaw>, found: Result<(), Amiss>) -> Result<(), AllocError>
+    ensures { (d : Data) → IfErr found (IsAmissIn d) → All (IsFlawOf d) flaws.old.items → OnOk result (All (IsFlawOf d) flaws.new.items) }
+{
+    let Err(amiss) = found else {
+        return Ok(());
+    };
+    match flaws.push(amiss.into_flaw()) {
+        Ok(()) => Ok(()),
+        Err(_) => Err(AllocError),
+    }
+}
+
+// Notes what is wrong with the entries, which stand at `events` of the whole.
+fn note_entries(
+    alloc: Global,
+    whole: &Value,
+    events: &Value,
+    flaws: &mut Vec<Flaw>,
+) -> Result<(), AllocError>
+    requires { get (codes "events") (view whole.now) ≡ Some (view events.now) }
+    ensures { All (IsFlawOf (view whole.now)) flaws.old.items → OnOk result (All (IsFlawOf (view whole.now)) flaws.new.items) }
+{
+    let Value::Array(items) = events else {
+        let found = Err(Amiss::here(alloc, Expected::Entries));
+        return note(flaws, inside::<()>(Step::Key("events"), found));
+    };
+    for (i, item) in items.iter().enumerate() {
+        let found = inside(Step::Item(i as u64), find_in_entry(alloc, item));
+        note(flaws, inside(Step::Key("events"), found))?;
+    }
+    Ok(())
+}
+
+// Whether an object has no key that a script does not have.
+fn find_in_keys(alloc: Global, value: &Value) -> Result<(), Amiss>
+    ensures { IfErr result (IsAmissIn (view value.now)) }
+{
+    if !has_only(value, &["vars", "slots", "events"]) {
+        return Err(Amiss::here(alloc, Expected::ScriptKeys));
+    }
+    Ok(())
+}
+
+// Whether a number stands at a key.
+fn find_in_number(alloc: Global, value: &Value, key: &'static str) -> Result<(), Amiss>
+    ensures { IfErr result (IsAmissIn (view value.now)) }
+{
+    match value.get(key) {
+        Some(number) => inside(Step::Key(key), find_no_number(alloc, number)),
+        None => Err(Amiss::here(alloc, Expected::Member(key))),
+    }
+}
+
+fn find_no_number(alloc: Global, value: &Value) -> Result<(), Amiss>
+    ensures { IfErr result (IsAmissIn (view value.now)) }
+{
+    match short_of(value) {
+        Ok(_) => Ok(()),
+        Err(error) => Err(Amiss::refused(alloc, error, Expected::Number)),
+    }
+}
