@@ -11,7 +11,7 @@ use tmem_bench::{BenchError, run_jobs};
 use tmem_script::Failure;
 
 // The file of the timed stores, where the words name none.
-const STORE: &str = "tmem-bench.store";
+pub(crate) const STORE: &str = "tmem-bench.store";
 
 /// Times the jobs on stores in memory and in a file, which must not be there yet, and prints what each came to.
 pub(crate) fn run_bench<

@@ -11,6 +11,7 @@ ghost use Rattle.tmem_cli.specs.Printed.{PlaysEntries};
 ghost use Rattle.tmem_cli.specs.Stored.{PlaysOver, StopsOver, RefusesOver, PlaysWhere, StopsWhere, StopsPlaying};
 
 use crate::device::{device_in_file, device_in_memory};
+use crate::notes::Notes;
 use crate::print::{print_line, print_state};
 use std::alloc::Global;
 use std::fs::{File, Files};
@@ -46,6 +47,7 @@ pub(crate) fn play<R: Files<File = File> + AllocGlobal, W: Write>(
     path: Option<&str>,
     out: &mut W,
     device: &mut Option<Played>,
+    notes: &mut Notes,
 ) -> Result<(), Failure>
     requires { device.old ≡ None }
     ensures played { OnOk result (PlaysWhere (option_map (λ text. text.now) path.entry) device.new script.vars script.slots script.entries.items (W.contents out.old) (W.contents out.new)) }
@@ -90,6 +92,7 @@ pub(crate) fn play<R: Files<File = File> + AllocGlobal, W: Write>(
         stored_steps(),
         out,
         device,
+        notes,
     )
 }
 
@@ -109,6 +112,7 @@ fn play_with<
     steps: S,
     out: &mut W,
     device: &mut Option<Played>,
+    notes: &mut Notes,
 ) -> Result<(), Failure>
     requires none { device.old ≡ None }
     requires vars { T.vars table ≡ layout.vars }
@@ -127,12 +131,21 @@ fn play_with<
     match path {
         None => {
             let disk = device_in_memory(rt.alloc(), layout)?;
-            play_on(rt.alloc(), disk, layout, entries, table, steps, out).1
+            play_on(rt.alloc(), disk, layout, entries, table, steps, out, notes).1
         }
         Some(path) => {
             let (disk, zeros) = device_in_file(rt, path, layout)?;
             let found = Snapshot::of(&disk);
-            let (left, outcome) = play_on(rt.alloc(), disk, layout, entries, table, steps, out);
+            let (left, outcome) = play_on(
+                rt.alloc(),
+                disk,
+                layout,
+                entries,
+                table,
+                steps,
+                out,
+                notes,
+            );
             *device = Some(Played { zeros, found, left });
             outcome
         }
@@ -141,7 +154,8 @@ fn play_with<
 
 /// Opens a device, plays the entries of a script on it as `tmem run` does, and hands the device back. The invariants and the
 /// steps are the builtin ones, for as many variables as the layout has, and no call of the device has failed yet. `Output`
-/// where the output failed; `Refused` with its fault where the opening was refused, and nothing is printed then.
+/// where the output failed; `Refused` with its fault where the opening was refused, and nothing is printed then. `notes` takes the
+/// entries that are refused.
 pub fn play_on<D: Disk + Drop, T: Invariants + Drop, S: StoredSteps + Drop, W: Write>(
     alloc: Global,
     disk: D,
@@ -150,6 +164,7 @@ pub fn play_on<D: Disk + Drop, T: Invariants + Drop, S: StoredSteps + Drop, W: W
     table: T,
     steps: S,
     out: &mut W,
+    notes: &mut Notes,
 ) -> (D, Result<(), Failure>)
     requires vars { T.vars table ≡ layout.vars }
     requires arities { S.arities steps ≡ 2 ∷ 2 ∷ 2 ∷ [] }
@@ -166,7 +181,7 @@ pub fn play_on<D: Disk + Drop, T: Invariants + Drop, S: StoredSteps + Drop, W: W
         Ok(()) => {}
         Err(failure) => return (world.into_disk(), Err(failure)),
     }
-    let outcome = play_entries(&mut world, entries, layout.vars, out);
+    let outcome = play_entries(&mut world, entries, layout.vars, out, notes);
     (world.into_disk(), outcome)
 }
 
@@ -176,6 +191,7 @@ fn play_entries<D: Disk + Drop, T: Invariants + Drop, S: StoredSteps + Drop, W: 
     entries: Vec<Entry>,
     vars: u16,
     out: &mut W,
+    notes: &mut Notes,
 ) -> Result<(), Failure>
     requires { (numbers_of world.old).vars ≡ vars }
     ensures played { OnOk result (PlaysEntries world.old (W.contents out.old) entries.items world.new (W.contents out.new)) }
@@ -188,7 +204,7 @@ fn play_entries<D: Disk + Drop, T: Invariants + Drop, S: StoredSteps + Drop, W: 
     ensures kept { KeepsSetting world.old world.new }
 {
     for entry in entries {
-        play_entry(world, entry, vars, out)?;
+        play_entry(world, entry, vars, out, notes)?;
     }
     Ok(())
 }
@@ -199,6 +215,7 @@ fn play_entry<D: Disk + Drop, T: Invariants + Drop, S: StoredSteps + Drop, W: Wr
     entry: Entry,
     vars: u16,
     out: &mut W,
+    notes: &mut Notes,
 ) -> Result<(), Failure>
     requires { (numbers_of world.old).vars ≡ vars }
     ensures played { OnOk result (PlaysEntries world.old (W.contents out.old) (entry ∷ []) world.new (W.contents out.new)) }
@@ -208,7 +225,14 @@ fn play_entry<D: Disk + Drop, T: Invariants + Drop, S: StoredSteps + Drop, W: Wr
     ensures kept { KeepsSetting world.old world.new }
 {
     match entry {
-        Entry::Event(playable) => print_line(out, ReplyLine(world.step(playable.event))),
-        Entry::Show => print_state(out, world, vars),
+        Entry::Event(playable) => {
+            let reply = world.step(playable.event);
+            notes.note(reply);
+            print_line(out, ReplyLine(reply))
+        }
+        Entry::Show => {
+            notes.note_shown(world.is_open());
+            print_state(out, world, vars)
+        }
     }
 }

@@ -1,18 +1,22 @@
 //! What the program answers to the words of a command line.
-ghost use Rattle.std.specs.Prelude.{◌≡◌, ◌≤◌, None, ℕ, List, map, option_map, string_bytes, IfErr, IfOk, IfSome, IsSome, MatchResult, OnErr, OnOk};
+ghost use Rattle.std.specs.Prelude.{◌≡◌, ◌≢◌, ◌≤◌, [], false, if◌then◌else◌, codes, None, Some, ℕ, List, map, option_map, string_bytes, IfErr, IfOk, IfSome, IsSome, MatchResult, OnErr, OnOk};
 ghost use Rattle.std.specs.Io.KnownBytes.{Keeps};
 ghost use Rattle.clap.specs.Values.{kind_of};
+ghost use Rattle.clap.specs.Walk.{Text};
 ghost use Rattle.tmem_script.specs.Errors.{IsUnread};
 ghost use Rattle.tmem_script.specs.Scripts.{IsScriptText};
 ghost use Rattle.tmem_script.specs.Statuses.{status_of};
 ghost use Rattle.tmem_script.specs.declared.failure.Failure.TheVariants.{Output};
-ghost use Rattle.tmem_args.specs.CommandLine.{AreRefused, AsksToPlay, AsksToServe, IsHelpOrVersion, disk_in, path_in};
+ghost use Rattle.tmem_args.specs.CommandLine.{AreRefused, AsksToCheck, AsksToPlay, AsksToServe, ExplainsNothing, IsAsked, IsHelpOrVersion, NamesNoOther, command_in, disk_in, path_in, why_not_done};
 ghost use Rattle.tmem_cli.specs.Outcomes.{IsDone, IsFailed, HasNoScript, CountsUp, IsWhyNotCounted, IsWhyNotPlayed, IsWhyNotRead, IsWhyNotShown, IsWhyNotTimed, MayBeRead, PlaysRead, TimesJobs};
 
 use crate::bench::run_bench;
+use crate::check::check;
 use crate::count::count_on;
+use crate::explain::{explain, explain_store};
 use crate::failure::StoreFailure;
 use crate::init::init_store;
+use crate::notes::Notes;
 use crate::play::{Played, play};
 use crate::print::{TotalsText, print_line};
 use crate::serve::serve;
@@ -24,14 +28,15 @@ use std::io::{Read, Write};
 use std::rt::Clock;
 use std::sync::Wait;
 use std::thread::Threads;
-use tmem_args::{Asked, Counting, Making, Paths, Serving, Showing, asked_of};
+use tmem_args::{Asked, Counting, Making, Paths, Serving, Showing, Told, asked_of};
 use tmem_script::{Failure, Script, ScriptError, WordsError, report};
 use tmem_threads::Work;
 
 /// Does what the words of a command line say, the program's name first, and answers the status: 0 where help or the
 /// version was printed, a script was played to its end, threads counted up, jobs were timed, or a store was shown, made, or served to the
-/// end of the input; 1 where that failed on the way; 2 where the words were refused, or memory did not suffice to read them; 3 where there was no script to play. Beside it
-/// stands the device of the file that a script was played on, and how it was found.
+/// end of the input, or a script was checked and is one; 1 where that failed on the way; 2 where the words were refused, or memory did not
+/// suffice to read them; 3 where there was no script to play, or to check. Beside it stands the device of the file that a script was
+/// played on, and how it was found. Behind `--explain` more is told on the error stream of what failed.
 pub fn run_words<R: Read, W: Write, E: Write>(
     rt: &(impl Files<File = File> + AllocGlobal + Threads + Wait + Clock + Sync),
     words: Vec<String>,
@@ -41,52 +46,117 @@ pub fn run_words<R: Read, W: Write, E: Write>(
 ) -> (u8, Option<Played>)
     ensures done { result.0 ≡ 0 → IsDone (map string_bytes words.items) (R.remaining input.old) (R.remaining input.new) result.1 (W.contents out.old) (W.contents out.new) }
     ensures stopped { result.0 ≡ 1 → IsFailed (map string_bytes words.items) (R.remaining input.old) result.1 }
-    ensures no_script { result.0 ≡ 3 → HasNoScript (map string_bytes words.items) (R.remaining input.old) result.1 }
+    ensures no_script { result.0 ≡ 3 → HasNoScript (map string_bytes words.items) (R.remaining input.old) result.1 (W.contents out.old) (W.contents out.new) }
     ensures refused { AreRefused (map string_bytes words.items) → result.0 ≡ 2 }
     ensures most { result.0 ≤ 3 }
 
-    // Nothing is told where all was done. Nothing is printed where the words were refused or there was no script, and where a
-    // script was to be played on a file, that failed, and no device is handed back. The input is left alone where no script was
+    // Nothing is told where all was done, unless more is to be told. Nothing is printed where the words were refused or there was no
+    // script to play, where a script that was checked is one, and where a script was to be played on a file, that failed, and no device
+    // is handed back. The input is left alone where no script was
     // asked for and no store is to be served, where the words were not read, and where they give the path of a script.
-    ensures untold { result.0 ≡ 0 → err.new ≡ err.old }
-    ensures unprinted { 2 ≤ result.0 → out.new ≡ out.old }
+    ensures untold { ExplainsNothing (map string_bytes words.items) → result.0 ≡ 0 → err.new ≡ err.old }
+    ensures unprinted { ¬ AsksToCheck (map string_bytes words.items) → 2 ≤ result.0 → out.new ≡ out.old }
+    ensures checked { AsksToCheck (map string_bytes words.items) → result.0 ≡ 0 → out.new ≡ out.old }
     ensures withheld { AsksToPlay (map string_bytes words.items) → IsSome (disk_in (map string_bytes words.items)) → 1 ≤ result.0 → result.1 ≡ None → out.new ≡ out.old }
     ensures unasked { ¬ AsksToPlay (map string_bytes words.items) → ¬ AsksToServe (map string_bytes words.items) → input.new ≡ input.old }
     ensures unread { result.0 ≡ 2 → input.new ≡ input.old }
     ensures other_file { AsksToPlay (map string_bytes words.items) → IsSome (path_in (map string_bytes words.items)) → input.new ≡ input.old }
 {
     match asked_of(rt.alloc(), words.as_slice()) {
-        Ok(Asked::Run(paths)) => {
-            let mut device = None;
-            let status = conclude(run(rt, paths, input, out, &mut device), err);
-            (status, device)
-        }
-        Ok(Asked::Threads(counting)) => (conclude(count(rt, counting, out), err), None),
-        Ok(Asked::Bench(path)) => (conclude(bench(rt, path, out), err), None),
-        Ok(Asked::Show(showing)) => (conclude(show(rt, showing, out), err), None),
-        Ok(Asked::Init(making)) => (conclude_store(init_store(rt, making), err), None),
-        Ok(Asked::Serve(serving)) => {
-            let served = serve(rt, serving, input, out);
-            (conclude_store(served, err), None)
-        }
+        Ok(told) => run_told(rt, told, input, out, err),
         Err(refusal) => (answer(&refusal, out, err), None),
     }
 }
 
-/// Prints the failure of a run, if it failed, and answers the run's status.
-fn conclude<E: Write>(outcome: Result<(), Failure>, err: &mut E) -> u8
-    ensures status { MatchResult outcome (λ _. result ≡ 0) (λ failure. result ≡ status_of failure) }
-    ensures most { result ≤ 3 }
-    ensures untold { OnOk outcome (err.new ≡ err.old) }
+/// Does what is asked for by words that were read.
+fn run_told<R: Read, W: Write, E: Write>(
+    rt: &(impl Files<File = File> + AllocGlobal + Threads + Wait + Clock + Sync),
+    told: Told,
+    input: &mut R,
+    out: &mut W,
+    err: &mut E,
+) -> (u8, Option<Played>)
+    ensures done { (words : List Text) → why_not_done words ≡ [] → IsAsked words told.entry.asked → result.0 ≡ 0 → IsDone words (R.remaining input.old) (R.remaining input.new) result.1 (W.contents out.old) (W.contents out.new) }
+    ensures stopped { (words : List Text) → why_not_done words ≡ [] → IsAsked words told.entry.asked → result.0 ≡ 1 → IsFailed words (R.remaining input.old) result.1 }
+    ensures no_script { (words : List Text) → why_not_done words ≡ [] → IsAsked words told.entry.asked → result.0 ≡ 3 → HasNoScript words (R.remaining input.old) result.1 (W.contents out.old) (W.contents out.new) }
+    ensures read { result.0 ≢ 2 }
+    ensures most { result.0 ≤ 3 }
+    ensures untold { told.entry.explains ≡ false → result.0 ≡ 0 → err.new ≡ err.old }
+    ensures unprinted { (words : List Text) → IsAsked words told.entry.asked → ¬ (command_in words ≡ Some (codes "check")) → 2 ≤ result.0 → out.new ≡ out.old }
+    ensures checked { (words : List Text) → IsAsked words told.entry.asked → command_in words ≡ Some (codes "check") → result.0 ≡ 0 → out.new ≡ out.old }
+    ensures withheld { (words : List Text) → IsAsked words told.entry.asked → NamesNoOther words → IsSome (disk_in words) → 1 ≤ result.0 → result.1 ≡ None → out.new ≡ out.old }
+    ensures unasked { (words : List Text) → IsAsked words told.entry.asked → ¬ NamesNoOther words → ¬ (command_in words ≡ Some (codes "serve")) → input.new ≡ input.old }
+    ensures other_file { (words : List Text) → IsAsked words told.entry.asked → NamesNoOther words → IsSome (path_in words) → input.new ≡ input.old }
 {
-    match outcome {
-        Ok(()) => 0,
-        Err(failure) => report(&failure, err),
+    let mut notes = Notes::new(rt.alloc(), told.explains);
+    match told.asked {
+        Asked::Run(paths) => {
+            let mut device = None;
+            let outcome = run(rt, paths, input, out, &mut device, &mut notes);
+            (conclude(rt, told, &notes, outcome, err), device)
+        }
+        Asked::Threads(counting) => {
+            let outcome = count(rt, counting, out);
+            (conclude(rt, told, &notes, outcome, err), None)
+        }
+        Asked::Bench(path) => {
+            let outcome = bench(rt, path, out);
+            (conclude(rt, told, &notes, outcome, err), None)
+        }
+        Asked::Show(showing) => {
+            let outcome = show(rt, showing, out);
+            (conclude(rt, told, &notes, outcome, err), None)
+        }
+        Asked::Init(making) => (conclude_store(rt, told, init_store(rt, making), err), None),
+        Asked::Serve(serving) => {
+            let served = serve(rt, serving, input, out);
+            (conclude_store(rt, told, served, err), None)
+        }
+        Asked::Check(path) => (
+            conclude_check(check(rt, path.unwrap_or(""), out), err),
+            None,
+        ),
     }
 }
 
+/// Prints the failure of a run, if it failed, and answers the run's status.
+fn tell<E: Write>(outcome: &Result<(), Failure>, err: &mut E) -> u8
+    ensures status { MatchResult outcome.now (λ _. result ≡ 0) (λ failure. result ≡ status_of failure) }
+    ensures most { result ≤ 3 }
+    ensures untold { OnOk outcome.now (err.new ≡ err.old) }
+{
+    match outcome {
+        Ok(()) => 0,
+        Err(failure) => report(failure, err),
+    }
+}
+
+/// The same, and tells more, if that is asked for.
+fn conclude<E: Write>(
+    rt: &(impl Files<File = File> + AllocGlobal),
+    told: Told,
+    notes: &Notes,
+    outcome: Result<(), Failure>,
+    err: &mut E,
+) -> u8
+    ensures status { MatchResult outcome (λ _. result ≡ 0) (λ failure. result ≡ status_of failure) }
+    ensures most { result ≤ 3 }
+    ensures untold { told.entry.explains ≡ false → OnOk outcome (err.new ≡ err.old) }
+{
+    let status = tell(&outcome, err);
+    if told.explains {
+        explain(rt, told.asked, notes, &outcome, err);
+    }
+    status
+}
+
 /// Prints why a store was not made or served to its end, if it was not, and answers the status.
-fn conclude_store<E: Write>(outcome: Result<(), StoreFailure>, err: &mut E) -> u8
+fn conclude_store<E: Write>(
+    rt: &(impl Files<File = File> + AllocGlobal),
+    told: Told,
+    outcome: Result<(), StoreFailure>,
+    err: &mut E,
+) -> u8
     ensures status { MatchResult outcome (λ _. result ≡ 0) (λ _. result ≡ 1) }
     ensures untold { OnOk outcome (err.new ≡ err.old) }
 {
@@ -95,7 +165,23 @@ fn conclude_store<E: Write>(outcome: Result<(), StoreFailure>, err: &mut E) -> u
     };
     // Where this fails too, nobody is left to tell.
     let _ = writeln!(err, "tmem: {failure}");
+    if told.explains {
+        explain_store(rt, told.asked, &failure, err);
+    }
     1
+}
+
+/// Answers the status of a check: 0 where a script is one, and 3 where it is none.
+fn conclude_check<E: Write>(outcome: Result<bool, Failure>, err: &mut E) -> u8
+    ensures status { MatchResult outcome (λ fine. result ≡ (if fine then 0 else 3)) (λ failure. result ≡ status_of failure) }
+    ensures most { result ≤ 3 }
+    ensures untold { OnOk outcome (err.new ≡ err.old) }
+{
+    match outcome {
+        Ok(true) => 0,
+        Ok(false) => 3,
+        Err(failure) => report(&failure, err),
+    }
 }
 
 /// Prints what the words are answered where nothing is to be done: what was asked for, or what is wrong with them.
@@ -109,7 +195,7 @@ fn answer<W: Write, E: Write>(refusal: &clap::Error, out: &mut W, err: &mut E) -
     ensures unprinted { result ≡ 2 → out.new ≡ out.old }
 {
     match refusal.kind() {
-        ErrorKind::DisplayHelp | ErrorKind::DisplayVersion => conclude(print(refusal, out), err),
+        ErrorKind::DisplayHelp | ErrorKind::DisplayVersion => tell(&print(refusal, out), err),
         ErrorKind::OutOfMemory => report(&Failure::Words(WordsError::Memory), err),
         _ => {
             // Where this fails too, nobody is left to tell.
@@ -142,6 +228,7 @@ fn run<R: Read, W: Write>(
     input: &mut R,
     out: &mut W,
     device: &mut Option<Played>,
+    notes: &mut Notes,
 ) -> Result<(), Failure>
     requires { device.old ≡ None }
     ensures played { OnOk result (PlaysRead (MayBeRead (option_map (λ text. text.now) paths.entry.script) (R.remaining input.old)) (option_map (λ text. text.now) paths.entry.disk) device.new (W.contents out.old) (W.contents out.new)) }
@@ -150,8 +237,8 @@ fn run<R: Read, W: Write>(
     ensures withheld { IsSome paths.entry.disk → OnErr result (device.new ≡ None → out.new ≡ out.old) }
     ensures other_file { IsSome paths.entry.script → input.new ≡ input.old }
 {
-    let script = script_of(rt, paths.script, input)?;
-    play(rt, script, paths.disk, out, device)?;
+    let script = script_of(rt, paths.script, input, notes)?;
+    play(rt, script, paths.disk, out, device, notes)?;
     flush(out)
 }
 
@@ -203,6 +290,7 @@ fn script_of<R: Read>(
     rt: &(impl Files<File = File> + AllocGlobal),
     path: Option<&str>,
     input: &mut R,
+    notes: &mut Notes,
 ) -> Result<Script, ScriptError>
     ensures script { IfOk result (λ script. (text : List ℕ) × MayBeRead (option_map (λ text. text.now) path.entry) (R.remaining input.old) text
         × IsScriptText script.vars script.slots script.entries.items text) }
@@ -210,7 +298,9 @@ fn script_of<R: Read>(
     ensures other_file { IsSome path.entry → input.new ≡ input.old }
 {
     let text = text_of(rt, path, input)?;
-    Script::from_slice(rt.alloc(), &text)
+    let script = Script::from_slice(rt.alloc(), &text);
+    notes.keep(text);
+    script
 }
 
 /// Reads a whole file, or else all that is left of the input.

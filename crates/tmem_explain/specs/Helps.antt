@@ -41,6 +41,7 @@ device_help cause.Folder = codes "it is a folder; name a file"
 device_help cause.NoFile = codes "it is no file and no block device; name one"
 device_help cause.NoPermission = codes "this user may not use it; change its rights, or run as its owner"
 device_help cause.Missing = codes "nothing has this path; check it"
+device_help cause.There = codes "something has this path, and a new file was to be made; name another path"
 device_help cause.MissingFolder = codes "its folder is not there; make it, or check the path"
 device_help cause.Other =
     codes "a call on it failed; look for rights in its folder, for room, for a name of more than 250 bytes and for errors of the disk"

@@ -16,6 +16,8 @@ pub enum DeviceCause {
     NoPermission,
     /// Nothing has the path.
     Missing,
+    /// Something has the path.
+    There,
     MissingFolder,
     /// Something else.
     Other,
@@ -35,6 +37,7 @@ impl fmt::Display for DeviceCause {
             DeviceCause::NoPermission =>
                 "this user may not use it; change its rights, or run as its owner",
             DeviceCause::Missing => "nothing has this path; check it",
+            DeviceCause::There => "something has this path, and a new file was to be made; name another path",
             DeviceCause::MissingFolder => "its folder is not there; make it, or check the path",
             DeviceCause::Other =>
                 "a call on it failed; look for rights in its folder, for room, for a name of more than 250 bytes and for errors of the disk",
@@ -42,26 +45,39 @@ impl fmt::Display for DeviceCause {
     }
 }
 
-/// Why what has a path could not be opened: it is looked at, and asked for its lock, which is given back. Nothing is written.
-pub fn cause_of<R: Files<File = File>>(rt: &R, path: &str) -> DeviceCause {
+/// What was to have a path.
+#[derive(Clone, Copy, Debug, PartialEq, Eq)]
+pub enum Wanted {
+    /// What is there.
+    Found,
+    /// What is there, or else a new file.
+    FoundOrMade,
+    /// A new file.
+    Made,
+}
+
+/// Why a path could not be used so: what has it is looked at, and asked for its lock, which is given back. Nothing is written.
+pub fn cause_of<R: Files<File = File>>(rt: &R, path: &str, wanted: Wanted) -> DeviceCause {
     match fs::metadata(rt, path) {
+        Ok(_) if wanted == Wanted::Made => DeviceCause::There,
         Ok(found) => cause_of_found(rt, path, found.file_type()),
         Err(error) => match error.kind() {
             ErrorKind::PermissionDenied => DeviceCause::NoPermission,
-            ErrorKind::NotFound => cause_of_missing(rt, path),
+            ErrorKind::NotFound => cause_of_missing(rt, path, wanted),
             ErrorKind::NotADirectory => DeviceCause::MissingFolder,
             _ => DeviceCause::Other,
         },
     }
 }
 
-fn cause_of_missing<R: Files<File = File>>(rt: &R, path: &str) -> DeviceCause {
+fn cause_of_missing<R: Files<File = File>>(rt: &R, path: &str, wanted: Wanted) -> DeviceCause {
     let found = match Path::new(path).parent() {
         Some(folder) if !folder.as_os_str().is_empty() => fs::metadata(rt, folder),
         _ => fs::metadata(rt, "."),
     };
     match found {
-        Ok(_) => DeviceCause::Missing,
+        Ok(_) if wanted == Wanted::Found => DeviceCause::Missing,
+        Ok(_) => DeviceCause::Other,
         Err(_) => DeviceCause::MissingFolder,
     }
 }

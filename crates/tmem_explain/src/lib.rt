@@ -17,7 +17,7 @@ mod script;
 #[cfg(test)]
 mod tests;
 
-pub use device::{DeviceCause, cause_of};
+pub use device::{DeviceCause, Wanted, cause_of};
 pub use expected::Expected;
 pub use flaw::{Flaw, Spot};
 pub use help::FaultHelp;

@@ -1,0 +1,57 @@
+//! Says what is wrong with a script.
+ghost use Rattle.std.specs.Prelude.{◌≡◌, true, false, IfErr, IfOk, OnOk};
+ghost use Rattle.std.specs.Io.KnownBytes.{Appends};
+ghost use Rattle.tmem_script.specs.Errors.{IsUnread};
+ghost use Rattle.tmem_script.specs.Statuses.{status_of};
+ghost use Rattle.tmem_script.specs.declared.failure.Failure.TheVariants.{Output};
+ghost use Rattle.tmem_cli.specs.Checked.{HasFlaws, IsWhyNotChecked, IsScriptThere, lines_of};
+
+use crate::print::print_line;
+use std::fs::{self, File, Files};
+use std::io::Write;
+use tmem_explain::{Flaw, flaws_in};
+use tmem_fault::Fault;
+use tmem_script::{Failure, ScriptError};
+
+/// Prints a line for each flaw of the script in a file. Whether it is a script, of which nothing is printed. `Unreadable` where it is not
+/// read, and `Memory` where that does not suffice.
+pub(crate) fn check<W: Write>(
+    rt: &(impl Files<File = File> + AllocGlobal),
+    path: &str,
+    out: &mut W,
+) -> Result<bool, Failure>
+    ensures fine { IfOk result (λ fine. fine ≡ true → IsScriptThere × (out.new ≡ out.old)) }
+    ensures flawed { IfOk result (λ fine. fine ≡ false → HasFlaws (W.contents out.old) (W.contents out.new)) }
+    ensures failed { IfErr result IsWhyNotChecked }
+    ensures unread { IfErr result (λ failure. status_of failure ≡ 3 → out.new ≡ out.old) }
+{
+    let text = text_of(rt, path)?;
+    let Ok(flaws) = flaws_in(rt.alloc(), &text) else {
+        return Err(Failure::Refused(Fault::Memory));
+    };
+    if flaws.is_empty() {
+        return Ok(true);
+    }
+    print_flaws(out, flaws)?;
+    match out.flush() {
+        Ok(()) => Ok(false),
+        Err(_) => Err(Failure::Output),
+    }
+}
+
+fn text_of(rt: &(impl Files<File = File> + AllocGlobal), path: &str) -> Result<Vec<u8>, ScriptError>
+    ensures { IfErr result IsUnread }
+{
+    Ok(fs::read(rt, path)?)
+}
+
+// Prints a line for each flaw.
+fn print_flaws<W: Write>(out: &mut W, flaws: Vec<Flaw>) -> Result<(), Failure>
+    ensures lines { OnOk result (Appends (W.contents out.old) (W.contents out.new) (lines_of flaws.items)) }
+    ensures failed { IfErr result (λ failure. failure ≡ Output) }
+{
+    for flaw in flaws {
+        print_line(out, flaw)?;
+    }
+    Ok(())
+}

@@ -1,0 +1,310 @@
+//! Tells more of what failed, and what to do: for `--explain`.
+//!
+//! Nothing that the program does rests on it. What has a path is looked at once more, so it is told how that stands now.
+
+use crate::bench::STORE;
+use crate::failure::StoreFailure;
+use crate::init::text_in;
+use crate::notes::{Notes, Refused};
+use std::alloc::Global;
+use std::fmt::Display;
+use std::fs::{File, Files};
+use std::io::{self, Write};
+use tmem_args::Asked;
+use tmem_explain::{
+    DeviceCause, Expected, FaultHelp, Found, NumbersHelp, Wanted, cause_of, flaws_in, plan_flaw,
+};
+use tmem_fault::Fault;
+use tmem_init::InitError;
+use tmem_parts::block_of;
+use tmem_record::Layout;
+use tmem_script::{Failure, Script, ScriptError};
+use tmem_shape::Shape;
+use tmem_show::Source;
+
+const NO_OUTPUT: &str =
+    "standard output took no more; look whether its reader has ended, and for room";
+
+const NO_INPUT: &str = "standard input could not be read";
+
+const NO_CLOCK: &str = "the system did not tell the time; try again";
+
+const NO_SHAPE: &str =
+    "a shape is read before a file of a store is touched; change it there, and try again";
+
+const OTHER_TEXT: &str =
+    "a shape stands beside its store, as STORE.json, and what has that path is not this one; remove it, or name another path";
+
+const NOT_BLANK: &str =
+    "it has bytes other than 0, and a store is made in place of nothing else; name another, or fill it with zeros";
+
+/// Tells more of why a run ended before its last line, and of each entry that was refused.
+pub(crate) fn explain<E: Write>(
+    rt: &(impl Files<File = File> + AllocGlobal),
+    asked: Asked,
+    notes: &Notes,
+    outcome: &Result<(), Failure>,
+    err: &mut E,
+) {
+    // Where this fails, nobody is left to tell.
+    if let Err(failure) = outcome {
+        let _ = explain_failure(rt, asked, notes, failure, err);
+    }
+    let _ = explain_entries(rt.alloc(), notes, err);
+}
+
+fn explain_failure<E: Write>(
+    rt: &(impl Files<File = File> + AllocGlobal),
+    asked: Asked,
+    notes: &Notes,
+    failure: &Failure,
+    err: &mut E,
+) -> io::Result<()> {
+    match failure {
+        Failure::Script(ScriptError::NoScript) => tell_flaw(rt.alloc(), notes.text(), err),
+        Failure::Script(ScriptError::Unreadable) => tell_unread(rt, asked, err),
+        Failure::Script(ScriptError::Memory(_)) => tell(err, FaultHelp(Fault::Memory)),
+        Failure::Refused(fault) => tell_refused(rt, asked, notes, *fault, err),
+        Failure::Output => tell(err, NO_OUTPUT),
+        Failure::Clock => tell(err, NO_CLOCK),
+        Failure::Words(_) => Ok(()),
+    }
+}
+
+/// Tells more of why a store was not made, or not served to its end.
+pub(crate) fn explain_store<E: Write>(
+    rt: &(impl Files<File = File> + AllocGlobal),
+    asked: Asked,
+    failure: &StoreFailure,
+    err: &mut E,
+) {
+    // Where this fails, nobody is left to tell.
+    let _ = explain_store_failure(rt, asked, failure, err);
+}
+
+fn explain_store_failure<E: Write>(
+    rt: &(impl Files<File = File> + AllocGlobal),
+    asked: Asked,
+    failure: &StoreFailure,
+    err: &mut E,
+) -> io::Result<()> {
+    let notes = Notes::new(rt.alloc(), false);
+    match failure {
+        StoreFailure::Unread => tell_unread(rt, asked, err),
+        StoreFailure::NoShape(_) => tell(err, NO_SHAPE),
+        StoreFailure::NotMade(InitError::Refused(fault)) | StoreFailure::Refused(fault) => {
+            tell_refused(rt, asked, &notes, *fault, err)
+        }
+        StoreFailure::NotMade(InitError::StoreIsThere) => tell_of(err, asked, DeviceCause::There),
+        StoreFailure::NotMade(InitError::NotBlank) => tell_of(err, asked, NOT_BLANK),
+        StoreFailure::NotMade(_) => tell_of(err, asked, OTHER_TEXT),
+        StoreFailure::Input => tell(err, NO_INPUT),
+        StoreFailure::Output => tell(err, NO_OUTPUT),
+    }
+}
+
+// Tells the first flaw of a script, and how many more there are.
+fn tell_flaw<E: Write>(alloc: Global, text: &[u8], err: &mut E) -> io::Result<()> {
+    let Ok(flaws) = flaws_in(alloc, text) else {
+        return tell(err, FaultHelp(Fault::Memory));
+    };
+    match flaws.split_first() {
+        Some((flaw, [])) => tell(err, format_args!("{flaw}")),
+        Some((flaw, others)) => tell(err, format_args!("{flaw} (and {} more)", others.len())),
+        None => Ok(()),
+    }
+}
+
+// Tells why the file that is read first was not: a script, or a shape.
+fn tell_unread<E: Write>(
+    rt: &(impl Files<File = File> + AllocGlobal),
+    asked: Asked,
+    err: &mut E,
+) -> io::Result<()> {
+    let path = match asked {
+        Asked::Run(paths) => paths.script,
+        Asked::Check(script) => script,
+        Asked::Init(making) => making.file,
+        Asked::Serve(serving) if serving.shape.is_some() => serving.shape,
+        Asked::Serve(serving) => {
+            let Ok(beside) = shape_beside(rt.alloc(), serving.store.unwrap_or("")) else {
+                return tell(err, FaultHelp(Fault::Memory));
+            };
+            let cause = cause_of(rt, beside.as_str(), Wanted::Found);
+            return tell(err, format_args!("{beside}: {cause}"));
+        }
+        _ => None,
+    };
+    match path {
+        Some(path) => {
+            let cause = cause_of(rt, path, Wanted::Found);
+            tell(err, format_args!("{path}: {cause}"))
+        }
+        None => tell(err, NO_INPUT),
+    }
+}
+
+// Tells what a fault means, and what is known of the file of the store.
+fn tell_refused<E: Write>(
+    rt: &(impl Files<File = File> + AllocGlobal),
+    asked: Asked,
+    notes: &Notes,
+    fault: Fault,
+    err: &mut E,
+) -> io::Result<()> {
+    match (fault, store_of(asked)) {
+        (Fault::Device, Some((path, wanted))) => {
+            let cause = cause_of(rt, path, wanted);
+            tell(err, format_args!("{path}: {cause}"))
+        }
+        (Fault::Geometry, _) => tell_geometry(rt, asked, notes, err),
+        (_, _) => tell_of(err, asked, FaultHelp(fault)),
+    }
+}
+
+// Tells which numbers were asked for, and which there are.
+fn tell_geometry<E: Write>(
+    rt: &(impl Files<File = File> + AllocGlobal),
+    asked: Asked,
+    notes: &Notes,
+    err: &mut E,
+) -> io::Result<()> {
+    let Some((vars, slots)) = numbers_in(rt, asked, notes) else {
+        return tell_of(err, asked, FaultHelp(Fault::Geometry));
+    };
+    match Layout::new(vars, slots) {
+        Ok(layout) => match found_in(rt, asked, layout) {
+            Some(found) => tell_of(err, asked, NumbersHelp { vars, slots, found }),
+            None => tell_of(err, asked, FaultHelp(Fault::Geometry)),
+        },
+        Err(_) => {
+            let found = Found::Limits;
+            tell(err, NumbersHelp { vars, slots, found })
+        }
+    }
+}
+
+// The numbers that were asked for, by a script or a shape.
+fn numbers_in(
+    rt: &(impl Files<File = File> + AllocGlobal),
+    asked: Asked,
+    notes: &Notes,
+) -> Option<(u16, u16)> {
+    match asked {
+        Asked::Run(_) => match Script::from_slice(rt.alloc(), notes.text()) {
+            Ok(script) => Some((script.vars, script.slots)),
+            Err(_) => None,
+        },
+        Asked::Init(making) => numbers_of_shape(rt, making.file.unwrap_or("")),
+        Asked::Serve(serving) => match serving.shape {
+            Some(path) => numbers_of_shape(rt, path),
+            None => match shape_beside(rt.alloc(), serving.store.unwrap_or("")) {
+                Ok(beside) => numbers_of_shape(rt, beside.as_str()),
+                Err(_) => None,
+            },
+        },
+        _ => None,
+    }
+}
+
+fn numbers_of_shape(
+    rt: &(impl Files<File = File> + AllocGlobal),
+    path: &str,
+) -> Option<(u16, u16)> {
+    let Ok(text) = text_in(rt, path) else {
+        return None;
+    };
+    match Shape::from_slice(rt.alloc(), &text) {
+        Ok(shape) => Some((shape.vars, shape.slots)),
+        Err(_) => None,
+    }
+}
+
+// What a file has in place of a store of these numbers.
+fn found_in(
+    rt: &(impl Files<File = File> + AllocGlobal),
+    asked: Asked,
+    layout: Layout,
+) -> Option<Found> {
+    let (path, _) = store_of(asked)?;
+    let Ok(source) = Source::read(rt, path) else {
+        return None;
+    };
+    if let Ok(block) = block_of(&source.bytes) {
+        let Layout { vars, slots, .. } = block.layout;
+        if vars != layout.vars || slots != layout.slots {
+            return Some(Found::Store { vars, slots });
+        }
+    }
+    let wants = layout.end();
+    if source.size < wants {
+        return Some(Found::Short {
+            has: source.size,
+            wants,
+        });
+    }
+    None
+}
+
+// The path of the store, and what was to have it.
+fn store_of<'a>(asked: Asked<'a>) -> Option<(&'a str, Wanted)> {
+    match asked {
+        Asked::Run(paths) => Some((paths.disk?, Wanted::FoundOrMade)),
+        Asked::Threads(counting) => Some((counting.disk?, Wanted::Made)),
+        Asked::Bench(path) => Some((path.unwrap_or(STORE), Wanted::Made)),
+        Asked::Show(showing) => Some((showing.store?, Wanted::Found)),
+        Asked::Init(making) if making.is_in_place => Some((making.store?, Wanted::Found)),
+        Asked::Init(making) => Some((making.store?, Wanted::Made)),
+        Asked::Serve(serving) => Some((serving.store?, Wanted::Found)),
+        Asked::Check(_) => None,
+    }
+}
+
+// The path of the shape beside a store.
+fn shape_beside(alloc: Global, store: &str) -> Result<String, StoreFailure> {
+    Ok(format!(in alloc; "{store}.json")?)
+}
+
+// Tells of each entry that was refused what its fault means, and of a transaction which node breaks a limit.
+fn explain_entries<E: Write>(alloc: Global, notes: &Notes, err: &mut E) -> io::Result<()> {
+    for refused in notes.refused() {
+        explain_entry(alloc, notes.text(), *refused, err)?;
+    }
+    Ok(())
+}
+
+fn explain_entry<E: Write>(
+    alloc: Global,
+    text: &[u8],
+    refused: Refused,
+    err: &mut E,
+) -> io::Result<()> {
+    let Refused { index, fault } = refused;
+    if let Fault::BadPlan(cause) = fault {
+        if let Ok(script) = Script::from_slice(alloc, text) {
+            let flaw = plan_flaw(alloc, &script, index, cause);
+            if matches!(flaw.expected, Expected::Plan { .. }) {
+                return tell(
+                    err,
+                    format_args!("{}: {fault}: {}", flaw.at, FaultHelp(fault)),
+                );
+            }
+        }
+    }
+    tell(
+        err,
+        format_args!("/events/{index}: {fault}: {}", FaultHelp(fault)),
+    )
+}
+
+// Tells something of the store's file, or of none.
+fn tell_of<E: Write, T: Display + Drop>(err: &mut E, asked: Asked, text: T) -> io::Result<()> {
+    match store_of(asked) {
+        Some((path, _)) => tell(err, format_args!("{path}: {text}")),
+        None => tell(err, text),
+    }
+}
+
+fn tell<E: Write, T: Display + Drop>(err: &mut E, text: T) -> io::Result<()> {
+    writeln!(err, "tmem: {text}")
+}

@@ -1,0 +1,7 @@
+use Rattle.std.proofs.Common.{rules}
+use Rattle.tmem_explain.proofs.Amisses.{amiss_here}
+use Rattle.tmem_explain.specs.declared.expected.Expected.TheVariants.{Script}
+use Rattle.tmem_explain.proofs.amiss.Amiss.unknown.Goals as goal
+
+pub returns : goal.returns
+returns c = λ d. amiss_here Script _ d (search rules) tt
