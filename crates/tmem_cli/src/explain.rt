@@ -12,7 +12,7 @@ use std::fs::{File, Files};
 use std::io::{self, Write};
 use tmem_args::Asked;
 use tmem_explain::{
-    DeviceCause, Expected, FaultHelp, Found, NumbersHelp, Wanted, cause_of, flaws_in, plan_flaw,
+    DeviceCause, Expected, FaultHelp, NumbersHelp, Wanted, cause_of, flaws_in, plan_flaw,
 };
 use tmem_fault::Fault;
 use tmem_init::InitError;
@@ -174,13 +174,10 @@ fn tell_geometry<E: Write>(
     };
     match Layout::new(vars, slots) {
         Ok(layout) => match found_in(rt, asked, layout) {
-            Some(found) => tell_of(err, asked, NumbersHelp { vars, slots, found }),
+            Some(help) => tell_of(err, asked, help),
             None => tell_of(err, asked, FaultHelp(Fault::Geometry)),
         },
-        Err(_) => {
-            let found = Found::Limits;
-            tell(err, NumbersHelp { vars, slots, found })
-        }
+        Err(_) => tell(err, NumbersHelp::Limits { vars, slots }),
     }
 }
 
@@ -225,21 +222,29 @@ fn found_in(
     rt: &(impl Files<File = File> + AllocGlobal),
     asked: Asked,
     layout: Layout,
-) -> Option<Found> {
+) -> Option<NumbersHelp> {
     let (path, _) = store_of(asked)?;
     let Ok(source) = Source::read(rt, path) else {
         return None;
     };
+    let Layout { vars, slots, .. } = layout;
     if let Ok(block) = block_of(&source.bytes) {
-        let Layout { vars, slots, .. } = block.layout;
-        if vars != layout.vars || slots != layout.slots {
-            return Some(Found::Store { vars, slots });
+        let (had_vars, had_slots) = (block.layout.vars, block.layout.slots);
+        if had_vars != vars || had_slots != slots {
+            return Some(NumbersHelp::Other {
+                vars,
+                slots,
+                had_vars,
+                had_slots,
+            });
         }
     }
-    let wants = layout.end();
-    if source.size < wants {
-        return Some(Found::Short {
-            has: source.size,
+    let (has, wants) = (source.size, layout.end());
+    if has < wants {
+        return Some(NumbersHelp::Short {
+            vars,
+            slots,
+            has,
             wants,
         });
     }

@@ -1,13 +1,12 @@
 //! What the program answers to the words of a command line.
-ghost use Rattle.std.specs.Prelude.{◌≡◌, ◌≢◌, ◌≤◌, [], false, if◌then◌else◌, codes, None, Some, ℕ, List, map, option_map, string_bytes, IfErr, IfOk, IfSome, IsSome, MatchResult, OnErr, OnOk};
+ghost use Rattle.std.specs.Prelude.{◌≡◌, ◌≤◌, false, if◌then◌else◌, None, ℕ, List, map, option_map, string_bytes, IfErr, IfOk, IfSome, IsSome, MatchResult, OnErr, OnOk};
 ghost use Rattle.std.specs.Io.KnownBytes.{Keeps};
 ghost use Rattle.clap.specs.Values.{kind_of};
-ghost use Rattle.clap.specs.Walk.{Text};
 ghost use Rattle.tmem_script.specs.Errors.{IsUnread};
 ghost use Rattle.tmem_script.specs.Scripts.{IsScriptText};
 ghost use Rattle.tmem_script.specs.Statuses.{status_of};
 ghost use Rattle.tmem_script.specs.declared.failure.Failure.TheVariants.{Output};
-ghost use Rattle.tmem_args.specs.CommandLine.{AreRefused, AsksToCheck, AsksToPlay, AsksToServe, ExplainsNothing, IsAsked, IsHelpOrVersion, NamesNoOther, command_in, disk_in, path_in, why_not_done};
+ghost use Rattle.tmem_args.specs.CommandLine.{AreRefused, AsksToCheck, AsksToPlay, AsksToServe, ExplainsNothing, IsHelpOrVersion, disk_in, path_in};
 ghost use Rattle.tmem_cli.specs.Outcomes.{IsDone, IsFailed, HasNoScript, CountsUp, IsWhyNotCounted, IsWhyNotPlayed, IsWhyNotRead, IsWhyNotShown, IsWhyNotTimed, MayBeRead, PlaysRead, TimesJobs};
 
 use crate::bench::run_bench;
@@ -62,32 +61,10 @@ pub fn run_words<R: Read, W: Write, E: Write>(
     ensures unread { result.0 ≡ 2 → input.new ≡ input.old }
     ensures other_file { AsksToPlay (map string_bytes words.items) → IsSome (path_in (map string_bytes words.items)) → input.new ≡ input.old }
 {
-    match asked_of(rt.alloc(), words.as_slice()) {
-        Ok(told) => run_told(rt, told, input, out, err),
-        Err(refusal) => (answer(&refusal, out, err), None),
-    }
-}
-
-/// Does what is asked for by words that were read.
-fn run_told<R: Read, W: Write, E: Write>(
-    rt: &(impl Files<File = File> + AllocGlobal + Threads + Wait + Clock + Sync),
-    told: Told,
-    input: &mut R,
-    out: &mut W,
-    err: &mut E,
-) -> (u8, Option<Played>)
-    ensures done { (words : List Text) → why_not_done words ≡ [] → IsAsked words told.entry.asked → result.0 ≡ 0 → IsDone words (R.remaining input.old) (R.remaining input.new) result.1 (W.contents out.old) (W.contents out.new) }
-    ensures stopped { (words : List Text) → why_not_done words ≡ [] → IsAsked words told.entry.asked → result.0 ≡ 1 → IsFailed words (R.remaining input.old) result.1 }
-    ensures no_script { (words : List Text) → why_not_done words ≡ [] → IsAsked words told.entry.asked → result.0 ≡ 3 → HasNoScript words (R.remaining input.old) result.1 (W.contents out.old) (W.contents out.new) }
-    ensures read { result.0 ≢ 2 }
-    ensures most { result.0 ≤ 3 }
-    ensures untold { told.entry.explains ≡ false → result.0 ≡ 0 → err.new ≡ err.old }
-    ensures unprinted { (words : List Text) → IsAsked words told.entry.asked → ¬ (command_in words ≡ Some (codes "check")) → 2 ≤ result.0 → out.new ≡ out.old }
-    ensures checked { (words : List Text) → IsAsked words told.entry.asked → command_in words ≡ Some (codes "check") → result.0 ≡ 0 → out.new ≡ out.old }
-    ensures withheld { (words : List Text) → IsAsked words told.entry.asked → NamesNoOther words → IsSome (disk_in words) → 1 ≤ result.0 → result.1 ≡ None → out.new ≡ out.old }
-    ensures unasked { (words : List Text) → IsAsked words told.entry.asked → ¬ NamesNoOther words → ¬ (command_in words ≡ Some (codes "serve")) → input.new ≡ input.old }
-    ensures other_file { (words : List Text) → IsAsked words told.entry.asked → NamesNoOther words → IsSome (path_in words) → input.new ≡ input.old }
-{
+    let told = match asked_of(rt.alloc(), words.as_slice()) {
+        Ok(told) => told,
+        Err(refusal) => return (answer(&refusal, out, err), None),
+    };
     let mut notes = Notes::new(rt.alloc(), told.explains);
     match told.asked {
         Asked::Run(paths) => {

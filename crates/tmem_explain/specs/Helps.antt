@@ -6,8 +6,8 @@ use Rattle.tmem_fault.specs.declared.fault.Fault.TheVariants as fault
 use Rattle.tmem_requests.specs.Answers.{cause_text}
 use Rattle.tmem_explain.specs.declared.device.DeviceCause.{DeviceCause}
 use Rattle.tmem_explain.specs.declared.device.DeviceCause.TheVariants as cause
-use Rattle.tmem_explain.specs.declared.numbers.Found.{Found}
-use Rattle.tmem_explain.specs.declared.numbers.Found.TheVariants as found
+use Rattle.tmem_explain.specs.declared.numbers.NumbersHelp.{NumbersHelp}
+use Rattle.tmem_explain.specs.declared.numbers.NumbersHelp.TheVariants as numbers
 
 -- what went wrong, and what to do
 abbrev pub fault_help : Fault → List ℕ
@@ -47,12 +47,12 @@ device_help cause.Other =
     codes "a call on it failed; look for rights in its folder, for room, for a name of more than 250 bytes and for errors of the disk"
 
 -- the numbers that were asked for, beside what there is
-abbrev pub numbers_help : ℕ → ℕ → Found → List ℕ
-numbers_help vars slots found.Limits =
-    codes "a store has 1 to 1024 variables and 2 to 64 log slots, and " ++ decimal vars ++ codes " and " ++ decimal slots ++ codes " were asked for"
-numbers_help vars slots (found.Store had_vars had_slots) =
-    codes "the store has " ++ decimal had_vars ++ codes " variables and " ++ decimal had_slots ++ codes " log slots, and " ++ decimal vars ++ codes " and "
-    ++ decimal slots ++ codes " were asked for; state its own"
-numbers_help vars slots (found.Short has wants) =
-    codes "it has " ++ decimal has ++ codes " bytes, and a store of " ++ decimal vars ++ codes " variables and " ++ decimal slots ++ codes " log slots has "
-    ++ decimal wants ++ codes "; check the path, or restore a copy"
+abbrev pub numbers_help : NumbersHelp → List ℕ
+numbers_help (numbers.Limits vars slots) =
+    codes "a store has 1 to 1024 variables and 2 to 64 log slots, and " ++ (decimal vars ++ (codes " and " ++ (decimal slots ++ codes " were asked for")))
+numbers_help (numbers.Other vars slots had_vars had_slots) =
+    codes "the store has " ++ (decimal had_vars ++ (codes " variables and " ++ (decimal had_slots ++ (codes " log slots, and " ++ (decimal vars
+    ++ (codes " and " ++ (decimal slots ++ codes " were asked for; state its own")))))))
+numbers_help (numbers.Short vars slots has wants) =
+    codes "it has " ++ (decimal has ++ (codes " bytes, and a store of " ++ (decimal vars ++ (codes " variables and " ++ (decimal slots ++ (codes " log slots has "
+    ++ (decimal wants ++ codes "; check the path, or restore a copy")))))))

@@ -21,6 +21,6 @@ pub use device::{DeviceCause, Wanted, cause_of};
 pub use expected::Expected;
 pub use flaw::{Flaw, Spot};
 pub use help::FaultHelp;
-pub use numbers::{Found, NumbersHelp};
+pub use numbers::NumbersHelp;
 pub use plan::plan_flaw;
 pub use script::flaws_in;

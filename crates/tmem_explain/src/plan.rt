@@ -25,36 +25,40 @@ use tmem_tree::{MAX_CHECKS, MAX_DEPTH, MAX_NODES, MAX_RETIRES, MAX_WRITES, REGIS
 pub fn plan_flaw(alloc: Global, script: &Script, index: usize, cause: Cause) -> Flaw
     ensures { (d : Data) → IsScript script.now.vars script.now.slots script.now.entries.items d → IsFlawOf d result }
 {
-    match find_in_entries(alloc, script, index, cause) {
-        Ok(()) => Amiss::here(alloc, Expected::Script).into_flaw(),
+    let entries = script.entries.as_slice();
+    let found = find_in_entries(alloc, entries, script.vars, index, cause);
+    match inside(Step::Key("events"), found) {
+        Ok(_) => Amiss::here(alloc, Expected::Script).into_flaw(),
         Err(amiss) => amiss.into_flaw(),
     }
 }
 
-fn find_in_entries(alloc: Global, script: &Script, index: usize, cause: Cause) -> Result<(), Amiss>
-    ensures { (d : Data) → IsScript script.now.vars script.now.slots script.now.entries.items d → IfErr result (IsAmissIn d) }
+fn find_in_entries(
+    alloc: Global,
+    entries: &[Entry],
+    vars: u16,
+    index: usize,
+    cause: Cause,
+) -> Result<u32, Amiss>
+    ensures { IfErr result (IsAmissIn (array_of (map entry_form entries.now))) }
 {
-    if index >= script.entries.len() {
-        return Ok(());
+    if index >= entries.len() {
+        return Ok(0);
     }
-    let found = find_in_begun(alloc, &script.entries[index], cause, script.vars);
-    let found = inside(Step::Item(index as u64), found);
-    inside(Step::Key("events"), found)
+    let found = find_in_begun(alloc, &entries[index], cause, vars);
+    inside(Step::Item(index as u64), found)
 }
 
-fn find_in_begun(alloc: Global, entry: &Entry, cause: Cause, vars: u16) -> Result<(), Amiss>
+fn find_in_begun(alloc: Global, entry: &Entry, cause: Cause, vars: u16) -> Result<u32, Amiss>
     ensures { IfErr result (IsAmissIn (entry_form entry.now)) }
 {
     let Entry::Event(playable) = entry else {
-        return Ok(());
+        return Ok(0);
     };
     let Event::Begin { tx, .. } = &playable.event else {
-        return Ok(());
+        return Ok(0);
     };
-    let found = match find_in_plan(alloc, tx, cause, vars, MAX_DEPTH, limit_of(cause)) {
-        Ok(_) => Ok(()),
-        Err(amiss) => Err(amiss),
-    };
+    let found = find_in_plan(alloc, tx, cause, vars, MAX_DEPTH, limit_of(cause));
     inside(Step::Key("begin"), inside(Step::Item(1), found))
 }
 
@@ -233,5 +237,23 @@ fn is_known(name: &Name, vars: u16) -> bool
     ensures { result ≡ has_name (builtin_names vars) name.now }
 {
     let [nonneg, ordered, sum] = names();
-    vars >= 1 && *name == nonneg || vars >= 2 && *name == sum || vars >= 4 && *name == ordered
+    if vars < 1 {
+        return false;
+    }
+    if *name == nonneg {
+        return true;
+    }
+    if vars < 2 {
+        return false;
+    }
+    if *name == sum {
+        return true;
+    }
+    if vars < 4 {
+        return false;
+    }
+    if *name == ordered {
+        return true;
+    }
+    false
 }

@@ -27,11 +27,14 @@ pub fn flaws_in(alloc: Global, text: &[u8]) -> Result<Vec<Flaw>, AllocError>
     ensures read { IfOk result (λ flaws. (vars slots : ℕ) (entries : List Entry) → IsScriptText vars slots entries text.now → flaws.items ≡ []) }
     ensures fine { IfOk result (λ flaws. flaws.items ≡ [] → (vars : ℕ) × (slots : ℕ) × (entries : List Entry) × IsScriptText vars slots entries text.now) }
 {
-    match Script::from_slice(alloc, text) {
-        Ok(_) => Ok(Vec::new(alloc)),
-        Err(ScriptError::Memory(_)) => Err(AllocError),
-        Err(_) => flaws_of_text(alloc, text),
-    }
+    let error = match Script::from_slice(alloc, text) {
+        Ok(_) => return Ok(Vec::new(alloc)),
+        Err(error) => error,
+    };
+    let ScriptError::NoScript = error else {
+        return Err(AllocError);
+    };
+    flaws_of_text(alloc, text)
 }
 
 // The flaws of a text that is no script: at least one.
@@ -121,13 +124,22 @@ fn note_entries(
     ensures { All (IsFlawOf (view whole.now)) flaws.old.items → OnOk result (All (IsFlawOf (view whole.now)) flaws.new.items) }
 {
     let Value::Array(items) = events else {
-        let found = Err(Amiss::here(alloc, Expected::Entries));
-        return note(flaws, inside::<()>(Step::Key("events"), found));
+        let found = find_no_array(alloc, events);
+        return note(flaws, inside(Step::Key("events"), found));
     };
     for (i, item) in items.iter().enumerate() {
         let found = inside(Step::Item(i as u64), find_in_entry(alloc, item));
         note(flaws, inside(Step::Key("events"), found))?;
     }
+    Ok(())
+}
+
+fn find_no_array(alloc: Global, value: &Value) -> Result<(), Amiss>
+    ensures { IfErr result (IsAmissIn (view value.now)) }
+{
+    let Value::Array(_) = value else {
+        return Err(Amiss::here(alloc, Expected::Entries));
+    };
     Ok(())
 }
 
