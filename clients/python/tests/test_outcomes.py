@@ -171,7 +171,8 @@ class NumberedByHub(HubCase):
 
 class Submitted(StoreCase):
     def test_what_is_no_request_raises(self):
-        cases = [({"get": ["x"]}, "/get/0"), ({"get": [99]}, "/get/0"), ({"ask": "nothing"}, "/ask"), ({"do": {"put": [0]}}, "/do/put"), ({"nothing": 1}, "")]
+        cases = [({"get": ["x"]}, "/get/0"), ({"get": [99]}, "/get/0"), ({"ask": "nothing"}, "/ask"), ({"do": {"put": [0]}}, "/do/put")]
+        cases.append(({"nothing": 1}, ""))
         answers = [self.store.submit(ask) for ask, _ in cases]
         for (ask, at), answer in zip(cases, answers):
             with self.subTest(ask=ask), self.assertRaises(tmem.NoRequest) as caught:
