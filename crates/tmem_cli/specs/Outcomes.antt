@@ -21,7 +21,8 @@ use Rattle.tmem_threads.specs.declared.store.TheConstants.{VARS, SLOTS}
 use Rattle.tmem_threads.specs.declared.store.Totals.{Totals}
 use Rattle.tmem_threads.specs.declared.workers.Work.{Work}
 use Rattle.tmem_cli.specs.declared.play.Played.{Played}
-use Rattle.tmem_args.specs.CommandLine.{AsksToPlay, AsksToCount, AsksToBench, AsksToShow, AsksToInit, AsksToServe, AsksForHelp, AreNumbersIn, path_in, disk_in}
+use Rattle.tmem_args.specs.CommandLine.{AsksToPlay, AsksToCount, AsksToBench, AsksToShow, AsksToInit, AsksToServe, AsksToCheck, AsksForHelp, AreNumbersIn, path_in, disk_in}
+use Rattle.tmem_cli.specs.Checked.{HasFlaws, IsScriptThere}
 use Rattle.tmem_cli.specs.Printed.{line, totals_text}
 use Rattle.tmem_cli.specs.Shaped.{MakesStore, ServesStore}
 use Rattle.tmem_cli.specs.Stored.{IsMade, PlaysWhere, StopsPlaying}
@@ -116,12 +117,12 @@ DoesWithStore words left rest before after = AsksToShow words ⊎ ((AsksToInit w
 
 -- Status 0: help or the version was asked for; or a script was, and it was played to its end, where a path is given on the device
 -- that is handed back; or threads were, and they counted up; or the jobs of a service were, and they were timed; or a store was to be
--- shown, made or served, and it was.
+-- shown, made or served, and it was; or a script was to be checked, and it is one.
 abbrev pub IsDone : List Text → Option (List ℕ) → Option (List ℕ) → Option Played → Option (List ℕ) → Option (List ℕ) → Type 0
 IsDone words left rest device before after =
     AsksForHelp words
     ⊎ ((AsksToPlay words × PlaysRead (MayBeRead (path_in words) left) (disk_in words) device before after)
-    ⊎ ((AsksToCount words × CountsAs words before after) ⊎ ((AsksToBench words × TimesJobs before after) ⊎ DoesWithStore words left rest before after)))
+    ⊎ ((AsksToCount words × CountsAs words before after) ⊎ ((AsksToBench words × TimesJobs before after) ⊎ (DoesWithStore words left rest before after ⊎ (AsksToCheck words × IsScriptThere)))))
 
 -- Status 1: the same was asked for, and it failed on the way.
 abbrev pub IsFailed : List Text → Option (List ℕ) → Option Played → Type 0
@@ -129,8 +130,13 @@ IsFailed words left device =
     AsksForHelp words
     ⊎ ((AsksToPlay words × FailsWith 1 (MayBeRead (path_in words) left) (disk_in words) device)
     ⊎ ((AsksToCount words × ((f : Failure) × (status_of f ≡ 1) × IsWhyNotCounted f))
-    ⊎ ((AsksToBench words × ((f : Failure) × (status_of f ≡ 1) × IsWhyNotTimed f)) ⊎ AsksOfStore words)))
+    ⊎ ((AsksToBench words × ((f : Failure) × (status_of f ≡ 1) × IsWhyNotTimed f)) ⊎ (AsksOfStore words ⊎ AsksToCheck words))))
+
+-- a script that was to be checked was not read, and nothing was printed; or it is none, and its flaws were
+abbrev pub IsNotChecked : Option (List ℕ) → Option (List ℕ) → Type 0
+IsNotChecked before after = (after ≡ before) ⊎ HasFlaws before after
 
 -- Status 3: a script was asked for, and there was none.
-abbrev pub HasNoScript : List Text → Option (List ℕ) → Option Played → Type 0
-HasNoScript words left device = AsksToPlay words × FailsWith 3 (MayBeRead (path_in words) left) (disk_in words) device
+abbrev pub HasNoScript : List Text → Option (List ℕ) → Option Played → Option (List ℕ) → Option (List ℕ) → Type 0
+HasNoScript words left device before after =
+    (AsksToPlay words × FailsWith 3 (MayBeRead (path_in words) left) (disk_in words) device) ⊎ (AsksToCheck words × IsNotChecked before after)

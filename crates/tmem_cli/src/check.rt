@@ -7,6 +7,7 @@ ghost use Rattle.tmem_script.specs.declared.failure.Failure.TheVariants.{Output}
 ghost use Rattle.tmem_cli.specs.Checked.{HasFlaws, IsWhyNotChecked, IsScriptThere, lines_of};
 
 use crate::print::print_line;
+use crate::words::flush;
 use std::fs::{self, File, Files};
 use std::io::Write;
 use tmem_explain::{Flaw, flaws_in};
@@ -32,11 +33,9 @@ pub(crate) fn check<W: Write>(
     if flaws.is_empty() {
         return Ok(true);
     }
-    print_flaws(out, flaws)?;
-    match out.flush() {
-        Ok(()) => Ok(false),
-        Err(_) => Err(Failure::Output),
-    }
+    print_flaws(out, &flaws)?;
+    flush(out)?;
+    Ok(false)
 }
 
 fn text_of(rt: &(impl Files<File = File> + AllocGlobal), path: &str) -> Result<Vec<u8>, ScriptError>
@@ -46,12 +45,12 @@ fn text_of(rt: &(impl Files<File = File> + AllocGlobal), path: &str) -> Result<V
 }
 
 // Prints a line for each flaw.
-fn print_flaws<W: Write>(out: &mut W, flaws: Vec<Flaw>) -> Result<(), Failure>
-    ensures lines { OnOk result (Appends (W.contents out.old) (W.contents out.new) (lines_of flaws.items)) }
+fn print_flaws<W: Write>(out: &mut W, flaws: &[Flaw]) -> Result<(), Failure>
+    ensures lines { OnOk result (Appends (W.contents out.old) (W.contents out.new) (lines_of flaws.now)) }
     ensures failed { IfErr result (λ failure. failure ≡ Output) }
 {
     for flaw in flaws {
-        print_line(out, flaw)?;
+        print_line(out, format_args!("{flaw}"))?;
     }
     Ok(())
 }

@@ -191,7 +191,7 @@ fn print<W: Write>(request: &clap::Error, out: &mut W) -> Result<(), Failure>
 }
 
 /// Flushes what was printed.
-fn flush<W: Write>(out: &mut W) -> Result<(), Failure>
+pub(crate) fn flush<W: Write>(out: &mut W) -> Result<(), Failure>
     ensures kept { Keeps (W.contents out.old) (W.contents out.new) }
     ensures failed { IfErr result (λ failure. failure ≡ Output) }
 {
