@@ -1,7 +1,7 @@
 # Completion of tmem's command line for bash. .ci/install compares it with `tmem --help`.
 
 _tmem() {
-    local subcommands="run threads bench show init serve help"
+    local subcommands="run threads bench show init serve check help"
     local with_value=" --disk --shape "
     local cur=${COMP_WORDS[COMP_CWORD]} subcommand="" given=0 is_value="" is_plain="" word options="" takes=()
 
@@ -28,7 +28,7 @@ _tmem() {
     fi
 
     # The options of the subcommand, of which each has some, and what its other words are.
-    local each="--help -h"
+    local each="--explain --help -h"
     case $subcommand in
         "") options="--help -h --version -V" takes=(subcommand) ;;
         run) options="--disk $each" takes=(file) ;;
@@ -37,6 +37,7 @@ _tmem() {
         show) options="--json --hex $each" takes=(file) ;;
         init) options="--in-place $each" takes=(file file) ;;
         serve) options="--shape $each" takes=(file) ;;
+        check) options="$each" takes=(file) ;;
         help) takes=(subcommand) ;;
     esac
 

@@ -29,6 +29,9 @@ const NO_INPUT: &str = "standard input could not be read";
 
 const NO_CLOCK: &str = "the system did not tell the time; try again";
 
+const NOT_REGISTERED: &str =
+    "the store was made before the shape had it; serve it with a shape in which it lacks always, let a transaction check it, and try again";
+
 const NO_SHAPE: &str =
     "a shape is read before a file of a store is touched; change it there, and try again";
 
@@ -98,6 +101,7 @@ fn explain_store_failure<E: Write>(
         StoreFailure::NotMade(InitError::StoreIsThere) => tell_of(err, asked, DeviceCause::There),
         StoreFailure::NotMade(InitError::NotBlank) => tell_of(err, asked, NOT_BLANK),
         StoreFailure::NotMade(_) => tell_of(err, asked, OTHER_TEXT),
+        StoreFailure::Unregistered(_) => tell(err, NOT_REGISTERED),
         StoreFailure::Input => tell(err, NO_INPUT),
         StoreFailure::Output => tell(err, NO_OUTPUT),
     }

@@ -34,7 +34,10 @@ impl fmt::Display for StoreFailure {
             StoreFailure::NotMade(error) => write!(f, "{error}"),
             StoreFailure::Refused(fault) => write!(f, "{fault}"),
             StoreFailure::Unregistered(name) => {
-                write!(f, "{name} always holds by the shape, but is not registered in the store")
+                write!(
+                    f,
+                    "{name} always holds by the shape, but is not registered in the store"
+                )
             }
             StoreFailure::Input => write!(f, "input failed"),
             StoreFailure::Output => write!(f, "output failed"),

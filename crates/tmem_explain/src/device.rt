@@ -37,7 +37,8 @@ impl fmt::Display for DeviceCause {
             DeviceCause::NoPermission =>
                 "this user may not use it; change its rights, or run as its owner",
             DeviceCause::Missing => "nothing has this path; check it",
-            DeviceCause::There => "something has this path, and a new file was to be made; name another path",
+            DeviceCause::There =>
+                "something has this path, and a new file was to be made; name another path",
             DeviceCause::MissingFolder => "its folder is not there; make it, or check the path",
             DeviceCause::Other =>
                 "a call on it failed; look for rights in its folder, for room, for a name of more than 250 bytes and for errors of the disk",

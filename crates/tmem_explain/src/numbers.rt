@@ -5,7 +5,10 @@ use std::fmt;
 #[derive(Clone, Copy)]
 pub enum NumbersHelp {
     /// No store may have them.
-    Limits { vars: u16, slots: u16 },
+    Limits {
+        vars: u16,
+        slots: u16,
+    },
     /// The store has these.
     Other {
         vars: u16,
