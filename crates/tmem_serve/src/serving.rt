@@ -1,5 +1,5 @@
 //! From the opening of a store to the end of the input.
-ghost use Rattle.std.specs.Prelude.{◌≡◌, ◌≤◌, [], length, take, Option, option_map, OnOk, OnErr, IfOk, IfErr};
+ghost use Rattle.std.specs.Prelude.{◌≡◌, ◌≤◌, [], length, take, option_map, OnOk, OnErr, IfOk, IfErr};
 ghost use Rattle.std.specs.Io.KnownBytes.{Appends, Consumes, IsAtEnd, Keeps};
 ghost use Rattle.tmem_core.specs.Program.{Program, IsProgramOf};
 ghost use Rattle.tmem_desk.specs.Asking.{store};
@@ -83,27 +83,27 @@ pub fn serve_store<
     ensures ended { IfErr result (IsWhyEnded D.view (IsProgramOf T.Invariants table) program (S.arities steps) served.entry.always.now served.entry.vars served.entry.slots served.entry.variables.now disk (I.remaining input.old) (I.remaining input.new) (W.contents out.old) (W.contents out.new)) }
 {
     match OpenedFront::open(alloc, disk, served.vars, served.slots, table, steps) {
-        Ok(opened) => {
-            if let Some(name) = unregistered(&opened, served.always) {
-                return Err(ServeError::Unregistered(name));
-            }
-            match serve_opened::<Brand, R, D, T, S, I, W>(rt, alloc, opened, served, input, out) {
+        Ok(opened) => match unregistered(&opened, served.always) {
+            Some(name) => Err(ServeError::Unregistered(*name)),
+            None => match serve_opened::<Brand, R, D, T, S, I, W>(
+                rt, alloc, opened, served, input, out,
+            ) {
                 Ok(end) => Ok(end),
                 Err(failure) => Err(ServeError::Ended(failure)),
-            }
-        }
+            },
+        },
         Err((fault, _disk)) => Err(ServeError::Ended(Failure::Fault(fault))),
     }
 }
 
 // The first of these names that is not registered in a store that was opened.
-fn unregistered<D: Disk + Drop, T: Invariants + Drop, S: StoredSteps + Drop>(
+fn unregistered<'a, D: Disk + Drop, T: Invariants + Drop, S: StoredSteps + Drop>(
     opened: &OpenedFront<D, T, S>,
-    names: &[Name],
-) -> Option<Name>
-    ensures { result ≡ first_unregistered (front_found opened.now).names names.now }
+    names: &'a [Name],
+) -> Option<&'a Name>
+    ensures { option_map (λ name. name.now) result ≡ first_unregistered (front_found opened.now).names names.now }
 {
-    names.iter().find(|name| !opened.has(name)).copied()
+    names.iter().find(|name| !opened.has(name))
 }
 
 // Gives the store its name in the types, and serves it.
