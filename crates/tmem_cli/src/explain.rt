@@ -277,7 +277,7 @@ fn shape_beside(alloc: Global, store: &str) -> Result<String, StoreFailure> {
 // Tells of each entry that was refused what its fault means, and of a transaction which node breaks a limit.
 fn explain_entries<E: Write>(alloc: Global, notes: &Notes, err: &mut E) -> io::Result<()> {
     for refused in notes.refused() {
-        explain_entry(alloc, notes.text(), *refused, err)?;
+        explain_entry(alloc, notes.text(), refused, err)?;
     }
     Ok(())
 }
@@ -285,25 +285,20 @@ fn explain_entries<E: Write>(alloc: Global, notes: &Notes, err: &mut E) -> io::R
 fn explain_entry<E: Write>(
     alloc: Global,
     text: &[u8],
-    refused: Refused,
+    refused: &Refused,
     err: &mut E,
 ) -> io::Result<()> {
-    let Refused { index, fault } = refused;
+    let (index, fault) = (refused.index, &refused.fault);
+    let help = FaultHelp(refused.fault);
     if let Fault::BadPlan(cause) = fault {
         if let Ok(script) = Script::from_slice(alloc, text) {
-            let flaw = plan_flaw(alloc, &script, index, cause);
+            let flaw = plan_flaw(alloc, &script, index, *cause);
             if matches!(flaw.expected, Expected::Plan { .. }) {
-                return tell(
-                    err,
-                    format_args!("{}: {fault}: {}", flaw.at, FaultHelp(fault)),
-                );
+                return tell(err, format_args!("{}: {fault}: {help}", flaw.at));
             }
         }
     }
-    tell(
-        err,
-        format_args!("/events/{index}: {fault}: {}", FaultHelp(fault)),
-    )
+    tell(err, format_args!("/events/{index}: {fault}: {help}"))
 }
 
 // Tells something of the store's file, or of none.

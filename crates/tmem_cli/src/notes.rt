@@ -47,11 +47,11 @@ impl Notes {
     }
 
     /// Takes what the next entry is answered.
-    pub(crate) fn note(&mut self, reply: Reply)
-        ensures { IsNotedOf self.old.explains self.old.played reply self.old.refused.items self.new.refused.items }
+    pub(crate) fn note(&mut self, reply: &Reply)
+        ensures { IsNotedOf self.old.explains self.old.played reply.now self.old.refused.items self.new.refused.items }
     {
         if let Reply::Fault(fault) = reply {
-            self.note_fault(fault);
+            self.note_fault(*fault);
         }
         self.played = self.played.saturating_add(1);
     }
@@ -61,7 +61,7 @@ impl Notes {
         if is_open {
             self.played = self.played.saturating_add(1);
         } else {
-            self.note(Reply::Fault(Fault::Closed));
+            self.note(&Reply::Fault(Fault::Closed));
         }
     }
 

@@ -227,7 +227,7 @@ fn play_entry<D: Disk + Drop, T: Invariants + Drop, S: StoredSteps + Drop, W: Wr
     match entry {
         Entry::Event(playable) => {
             let reply = world.step(playable.event);
-            notes.note(reply);
+            notes.note(&reply);
             print_line(out, ReplyLine(reply))
         }
         Entry::Show => {
