@@ -47,6 +47,13 @@ ROUNDS = 5
 bench-peers: build
 	@bench/compare crates/tmem/out/tmem --rounds $(ROUNDS)
 
+# Breaks a store on three replicas in ten rounds, made of SEED, with a program that is not proved, and looks that nothing is lost: some five
+# minutes, as root. replicas/rounds names what it needs. No part of make test.
+replicas:
+	@replicas/rounds --look
+	@$(MAKE) --no-print-directory $(UNPROVED)
+	@replicas/rounds --program $(UNPROVED) --rounds 10 --seed $(SEED)
+
 # Installs what `make build` left, or PROGRAM, below PREFIX, and all in DESTDIR where a package is made: the program, its man page,
 # completion for bash and zsh, these documents, and the client in Python, which nothing compiles. `make uninstall` removes them.
 PREFIX = /usr/local
@@ -82,4 +89,4 @@ uninstall:
 	for folder in "$(DOC)/docs" "$(DOC)" "$(CLIENT)" "$(SHARE)/tmem/python" "$(SHARE)/tmem"; do if test -d "$$folder"; then rmdir --ignore-fail-on-non-empty "$$folder"; fi; done
 
 .DELETE_ON_ERROR:
-.PHONY: run build test mutants fuzz bench bench-peers install uninstall
+.PHONY: run build test mutants fuzz bench bench-peers replicas install uninstall
