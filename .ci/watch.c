@@ -8,7 +8,9 @@
    SLOW=N     each sync lasts N milliseconds more, and how often threads let others run is told, by hundreds
    REFUSED=N  the Nth request for memory (malloc and realloc, the only ones that the programs make)
    ROOM=N     standard output takes N bytes
-   GIVEN=N    standard input gives N bytes and then fails */
+   GIVEN=N    standard input gives N bytes and then fails
+   FEW=N      a read of it gives no more than N bytes
+   SIGNAL=N   a signal comes at the Nth read of it, which gives nothing then */
 #define _GNU_SOURCE
 #include <dlfcn.h>
 #include <errno.h>
@@ -24,8 +26,8 @@
 #include <unistd.h>
 
 #define REAL(call) static __typeof__(&call) real; if (!real) real = (__typeof__(&call))dlsym(RTLD_NEXT, #call)
-static _Atomic long made, started, requests, yields;
-static long out = -1, room = -1, given = -1, slow = -1;
+static _Atomic long made, started, requests, yields, loads;
+static long out = -1, room = -1, given = -1, slow = -1, at_once = -1, signalled = -1;
 
 static long number(const char *name) {
   const char *text = getenv(name);
@@ -37,6 +39,8 @@ __attribute__((constructor)) static void begin(void) {
   room = number("ROOM");
   given = number("GIVEN");
   slow = number("SLOW");
+  at_once = number("FEW");
+  signalled = number("SIGNAL");
 }
 
 /* It asks for no memory, since it is called by those that do. */
@@ -126,7 +130,10 @@ ssize_t write(int file, const void *bytes, size_t count) {
 ssize_t read(int file, void *bytes, size_t count) {
   REAL(read);
   if (file != 0) return real(file, bytes, count);
+  errno = EINTR;
+  if (++loads == signalled) return -1;
   errno = EIO;
+  if (at_once >= 0 && count > (size_t)at_once) count = at_once;
   return given ? moved("load", &given, real(file, bytes, given > 0 && count > (size_t)given ? (size_t)given : count)) : -1;
 }
 
