@@ -11,6 +11,7 @@ use std::fmt::Display;
 use std::fs::{File, Files};
 use std::io::{self, Write};
 use tmem_args::Asked;
+use tmem_desk::Failure as DeskFailure;
 use tmem_explain::{
     DeviceCause, Expected, FaultHelp, NumbersHelp, Wanted, cause_of, flaws_in, plan_flaw,
 };
@@ -19,6 +20,7 @@ use tmem_init::InitError;
 use tmem_parts::block_of;
 use tmem_record::Layout;
 use tmem_script::{Failure, Script, ScriptError};
+use tmem_serve::ServeError;
 use tmem_shape::Shape;
 use tmem_show::Source;
 
@@ -95,15 +97,15 @@ fn explain_store_failure<E: Write>(
     match failure {
         StoreFailure::Unread => tell_unread(rt, asked, err),
         StoreFailure::NoShape(_) => tell(err, NO_SHAPE),
-        StoreFailure::NotMade(InitError::Refused(fault)) | StoreFailure::Refused(fault) => {
-            tell_refused(rt, asked, &notes, *fault, err)
-        }
+        StoreFailure::NotMade(InitError::Refused(fault))
+        | StoreFailure::NotServed(ServeError::Ended(DeskFailure::Fault(fault)))
+        | StoreFailure::Refused(fault) => tell_refused(rt, asked, &notes, *fault, err),
         StoreFailure::NotMade(InitError::StoreIsThere) => tell_of(err, asked, DeviceCause::There),
         StoreFailure::NotMade(InitError::NotBlank) => tell_of(err, asked, NOT_BLANK),
         StoreFailure::NotMade(_) => tell_of(err, asked, OTHER_TEXT),
-        StoreFailure::Unregistered(_) => tell(err, NOT_REGISTERED),
+        StoreFailure::NotServed(ServeError::Unregistered(_)) => tell(err, NOT_REGISTERED),
         StoreFailure::Input => tell(err, NO_INPUT),
-        StoreFailure::Output => tell(err, NO_OUTPUT),
+        StoreFailure::NotServed(ServeError::Ended(DeskFailure::Output)) => tell(err, NO_OUTPUT),
     }
 }
 

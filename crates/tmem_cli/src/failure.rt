@@ -4,7 +4,7 @@ use std::fmt;
 use std::io::{self, ErrorKind};
 use thiserror::Error;
 use tmem_desk::Failure as DeskFailure;
-use tmem_fault::{Fault, Name};
+use tmem_fault::Fault;
 use tmem_init::InitError;
 use tmem_serve::ServeError;
 use tmem_shape::ShapeError;
@@ -20,10 +20,10 @@ pub(crate) enum StoreFailure {
     NotMade(InitError),
     /// The opening was refused, the device failed, or there was not enough memory.
     Refused(Fault),
-    /// The store was opened, and this invariant, which always holds by the shape, is not registered in it.
-    Unregistered(Name),
+    /// The store was not served to the end of its input.
+    NotServed(ServeError),
+    /// A read of its input failed.
     Input,
-    Output,
 }
 
 impl fmt::Display for StoreFailure {
@@ -33,14 +33,19 @@ impl fmt::Display for StoreFailure {
             StoreFailure::NoShape(error) => write!(f, "bad shape: {error}"),
             StoreFailure::NotMade(error) => write!(f, "{error}"),
             StoreFailure::Refused(fault) => write!(f, "{fault}"),
-            StoreFailure::Unregistered(name) => {
+            StoreFailure::NotServed(ServeError::Unregistered(name)) => {
                 write!(
                     f,
                     "{name} always holds by the shape, but is not registered in the store"
                 )
             }
+            StoreFailure::NotServed(ServeError::Ended(DeskFailure::Fault(fault))) => {
+                write!(f, "{fault}")
+            }
+            StoreFailure::NotServed(ServeError::Ended(DeskFailure::Output)) => {
+                write!(f, "output failed")
+            }
             StoreFailure::Input => write!(f, "input failed"),
-            StoreFailure::Output => write!(f, "output failed"),
         }
     }
 }
@@ -90,10 +95,6 @@ impl<T: Drop> From<AllocFailed<T>> for StoreFailure {
 
 impl From<ServeError> for StoreFailure {
     fn from(error: ServeError) -> StoreFailure {
-        match error {
-            ServeError::Unregistered(name) => StoreFailure::Unregistered(name),
-            ServeError::Ended(DeskFailure::Fault(fault)) => StoreFailure::Refused(fault),
-            ServeError::Ended(DeskFailure::Output) => StoreFailure::Output,
-        }
+        StoreFailure::NotServed(error)
     }
 }

@@ -16,11 +16,11 @@ use Rattle.tmem_cli.proofs.play.play_entry.Goals as goal
 
 pub returns-in-Event-clause-played : goal.returns-in-Event-clause-played
 returns-in-Event-clause-played g c =
-    subst (λ (e : Entry). OnOk c.print_line.result (PlaysEntries c.args.world.now (g.W.Write.contents c.args.out.now) (e ∷ []) c.step.new.self (g.W.Write.contents c.print_line.new.out))) (sym c.in-Event.is)
+    subst (λ (e : Entry). OnOk c.print_line.result (PlaysEntries c.args.world.now (g.W.Write.contents c.args.out.now) (e ∷ []) c.step-reply.new.self (g.W.Write.contents c.print_line.new.out))) (sym c.in-Event.is)
     (on_ok_weaker c.print_line.result
     (λ wrote program means m at premise.
-    let next = c.step.ensures.step program means m at (rests_on _ c.in-Event.playable.event premise) in
-    (next.0, line (line_of c.step.result), Prints-one (setting_of c.args.world.now program) (Event c.in-Event.playable) (line (line_of c.step.result)) m next.0 (c.step.result, next.1, refl), next.2, wrote))
+    let next = c.step-reply.ensures.step program means m at (rests_on _ c.in-Event.playable.event premise) in
+    (next.0, line (line_of c.step-reply.result), Prints-one (setting_of c.args.world.now program) (Event c.in-Event.playable) (line (line_of c.step-reply.result)) m next.0 (c.step-reply.result, next.1, refl), next.2, wrote))
     c.print_line.ensures.line)
 
 pub returns-in-Show-clause-played : goal.returns-in-Show-clause-played
@@ -35,12 +35,12 @@ returns-in-Show-clause-played g c =
 pub returns-in-Event-clause-chain : goal.returns-in-Event-clause-chain
 returns-in-Event-clause-chain g c =
     let w = c.args.world.now in
-    let new = c.step.new.self in
+    let new = c.step-reply.new.self in
     let it = c.in-Event.playable in
-    let r = c.step.result in
+    let r = c.step-reply.result in
     subst (λ (e : Entry). PlaysEntriesOn w (e ∷ []) new (λ text. OnOk c.print_line.result (Appends (g.W.Write.contents c.args.out.now) (g.W.Write.contents c.print_line.new.out) text))) (sym c.in-Event.is)
     (λ program means h m has keeps.
-    let now = c.step.ensures.chain program means h m has keeps in
+    let now = c.step-reply.ensures.chain program means h m has keeps in
     (line (line_of r), go_on-event program w new h m it r now.0 now.1 now.2 now.3, c.print_line.ensures.line))
 
 pub returns-in-Show-clause-chain : goal.returns-in-Show-clause-chain

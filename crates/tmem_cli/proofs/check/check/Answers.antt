@@ -1,0 +1,20 @@
+use Rattle.std.proofs.Common.{◌≡◌, ◌==◌, ℕ, List, length, rules, subst, sym, ap, ◌∙◌, true, vec_len}
+use Rattle.std.specs.Io.KnownBytes.{Appends}
+use Rattle.std.proofs.lemmas.Bool.{false≢true}
+use Rattle.tmem_explain.specs.declared.flaw.Flaw.{Flaw}
+use Rattle.tmem_cli.specs.Checked.{lines_of}
+use Rattle.tmem_cli.proofs.Writing.{Appends-keeps}
+use Rattle.tmem_cli.proofs.check.check.Goals as goal
+
+pub returns-clause-flawed : goal.returns-clause-flawed
+returns-clause-flawed g c same = record {
+  text = c.deref.result.now;
+  none = λ vars slots entries is.
+    let long : vec_len c.in-Ok.flaws ≡ length c.in-Ok.flaws.items = search rules in
+    let empty : c.is_empty.result ≡ true = c.is_empty.ensures ∙ ap (λ (n : ℕ). n == 0) (long ∙ ap length (c.in-Ok.ensures.read vars slots entries is)) in
+    false≢true (sym c.if-is_empty.false ∙ empty);
+  flaws = c.in-Ok.flaws.items;
+  told = c.in-Ok.ensures.told;
+  no_json = c.in-Ok.ensures.no_json;
+  printed = Appends-keeps _ _ _ _ (subst (λ (fs : List Flaw). Appends (g.W.Write.contents c.args.out.now) (g.W.Write.contents c.print_flaws.new.out) (lines_of fs)) c.deref-2.ensures.value c.in_ok-print_flaws.ensures.lines) c.flush.ensures.kept;
+}
