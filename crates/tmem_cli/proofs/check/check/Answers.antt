@@ -10,9 +10,9 @@ pub returns-clause-flawed : goal.returns-clause-flawed
 returns-clause-flawed g c same = record {
   text = c.deref.result.now;
   none = λ vars slots entries is.
-    let long : vec_len c.in-Ok.flaws ≡ length c.in-Ok.flaws.items = search rules in
-    let empty : c.is_empty.result ≡ true = c.is_empty.ensures ∙ ap (λ (n : ℕ). n == 0) (long ∙ ap length (c.in-Ok.ensures.read vars slots entries is)) in
-    false≢true (sym c.if-is_empty.false ∙ empty);
+      let long : vec_len c.in-Ok.flaws ≡ length c.in-Ok.flaws.items = search rules in
+      let empty : c.is_empty.result ≡ true = c.is_empty.ensures ∙ ap (λ (n : ℕ). n == 0) (long ∙ ap length (c.in-Ok.ensures.read vars slots entries is)) in
+      false≢true (sym c.if-is_empty.false ∙ empty);
   flaws = c.in-Ok.flaws.items;
   told = c.in-Ok.ensures.told;
   no_json = c.in-Ok.ensures.no_json;
