@@ -279,7 +279,7 @@ pub record Serves (words : List Text) (store : Text) (shape : Option Text) : Typ
   pub with_shape : shape_path_in words ≡ shape
 
 -- the script of this path is to be checked
-pub record Checks (words : List Text) (script : Text) : Type 0 where
+pub record ChecksScript (words : List Text) (script : Text) : Type 0 where
   pub asks : AsksToCheck words
   pub path : path_in words ≡ Some script
   pub explains : ExplainsNothing words
@@ -336,7 +336,7 @@ pub record ReadsPlainly (name : Text) : Type 0 where
   pub serve : Serves (name ∷ codes "serve" ∷ codes "store" ∷ []) (codes "store") None
   pub serve_with_shape : Serves (name ∷ codes "serve" ∷ codes "store" ∷ codes "--shape" ∷ codes "a.json" ∷ []) (codes "store") (Some (codes "a.json"))
   pub serve_nothing : AreRefused (name ∷ codes "serve" ∷ [])
-  pub check : Checks (name ∷ codes "check" ∷ codes "first.json" ∷ []) (codes "first.json")
+  pub check : ChecksScript (name ∷ codes "check" ∷ codes "first.json" ∷ []) (codes "first.json")
   pub check_nothing : AreRefused (name ∷ codes "check" ∷ [])
   pub check_explained : AreRefused (name ∷ codes "check" ∷ codes "first.json" ∷ codes "--explain" ∷ [])
   pub explained : ExplainsPlainly name

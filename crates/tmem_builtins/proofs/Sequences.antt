@@ -11,7 +11,7 @@ use Rattle.tmem_tree.specs.declared.tx.Tx.TheBlock.{items-the_row-Tx}
 use Rattle.tmem_tree.specs.declared.tx.Tx.TheViews.{the_lemmas}
 use Rattle.tmem_tree.specs.StepAnswers.{StepMeanings}
 use Rattle.tmem_tree.specs.Limits.{count}
-use Rattle.tmem_tree.proofs.Laws.{count_in, count-Seq}
+use Rattle.tmem_tree.proofs.Laws.{count_items, count-Seq}
 use Rattle.tmem_tree.specs.Run.{View, run, run_all, then_run}
 use Rattle.tmem_tree.specs.Visited.{Ask, asks, asks_all, then_ask}
 use Rattle.tmem_invariants.specs.Meanings.{Meanings}
@@ -44,9 +44,9 @@ module _ (steps : StepMeanings) (tests : Meanings) where
   pub asks-Seq : (txs : Vec Tx Global) (view : View) → asks steps tests (Seq txs) view ≡ asks_in txs.items view
   asks-Seq txs view = search (rules, the_lemmas, asks_all-items)
 
-count_in-sum : (test : Tx → Bool) (txs : List Tx) → count_in test txs ≡ sum_by (count test) txs
-count_in-sum test [] = refl
-count_in-sum test (tx ∷ txs) = ap (λ n. count test tx + n) (count_in-sum test txs) ∙ sym (sum_by-cons (count test) tx txs)
+count_items-sum : (test : Tx → Bool) (txs : List Tx) → count_items test txs ≡ sum_by (count test) txs
+count_items-sum test [] = refl
+count_items-sum test (tx ∷ txs) = ap (λ n. count test tx + n) (count_items-sum test txs) ∙ sym (sum_by-cons (count test) tx txs)
 
 pub numbers-Seq : (txs : Vec Tx Global) → count is_put (Seq txs) ≡ sum_by (count is_put) txs.items
-numbers-Seq txs = count-Seq is_put txs ∙ zero-add (count_in is_put txs.items) ∙ count_in-sum is_put txs.items
+numbers-Seq txs = count-Seq is_put txs ∙ zero-add (count_items is_put txs.items) ∙ count_items-sum is_put txs.items

@@ -8,7 +8,7 @@ use Rattle.tmem_tree.specs.Run.{View, RunResult, Normal, Retried, Aborted, Broke
 use Rattle.tmem_tree.specs.Visited.{Ask, asks, then_ask}
 use Rattle.tmem_invariants.specs.Meanings.{Meanings}
 use Rattle.tmem_tree.specs.Limits.{count}
-use Rattle.tmem_tree.proofs.Laws.{count_in, count-Seq}
+use Rattle.tmem_tree.proofs.Laws.{count_items, count-Seq}
 use Rattle.tmem_builtins.specs.Builtins.{builtin_steps}
 use Rattle.tmem_builtins.specs.Transactions.{IsStepCall, ReadsOnly, ReadsNone, is_put}
 use Rattle.tmem_builtins.proofs.Sequences.{asks_in, asks-Seq}
@@ -44,9 +44,9 @@ asks_quiet (tx ∷ txs) quiet tests view =
     ap (λ l. l ++ then_ask (run builtin_steps tests tx view) (asks_in builtin_steps tests txs)) (quiet.0.reads tests view)
     ∙ then_none (run builtin_steps tests tx view) (asks_in builtin_steps tests txs) (asks_quiet txs quiet.1 tests)
 
-count_quiet : (txs : List Tx) → AreQuiet txs → count_in is_put txs ≡ 0
+count_quiet : (txs : List Tx) → AreQuiet txs → count_items is_put txs ≡ 0
 count_quiet [] quiet = refl
-count_quiet (tx ∷ txs) quiet = ap (λ n. n + count_in is_put txs) quiet.0.numbers ∙ ap (λ n. 0 + n) (count_quiet txs quiet.1)
+count_quiet (tx ∷ txs) quiet = ap (λ n. n + count_items is_put txs) quiet.0.numbers ∙ ap (λ n. 0 + n) (count_quiet txs quiet.1)
 
 -- a number, and quiet ones
 pub put_reads : {n : ℤ} {rest : List Tx} (txs : Vec Tx Global) → AreQuiet rest → txs.items ≡ Put 15 n ∷ rest → ReadsNone (Seq txs)
@@ -55,7 +55,7 @@ put_reads {rest = rest} txs quiet items tests view =
 
 pub put_number : {n : ℤ} {rest : List Tx} (txs : Vec Tx Global) → AreQuiet rest → txs.items ≡ Put 15 n ∷ rest → count is_put (Seq txs) ≡ 1
 put_number {rest = rest} txs quiet items =
-    count-Seq is_put txs ∙ ap (λ l. 0 + count_in is_put l) items ∙ ap (λ m. 0 + (1 + m)) (count_quiet rest quiet)
+    count-Seq is_put txs ∙ ap (λ l. 0 + count_items is_put l) items ∙ ap (λ m. 0 + (1 + m)) (count_quiet rest quiet)
 
 -- a variable and a number, and quiet ones
 pub both_reads : {var : ℕ} {n : ℤ} {rest : List Tx} (txs : Vec Tx Global) → AreQuiet rest → txs.items ≡ Read var 14 ∷ Put 15 n ∷ rest → ReadsOnly var (Seq txs)
@@ -65,4 +65,4 @@ both_reads {var = var} {rest = rest} txs quiet items tests view =
 
 pub both_number : {var : ℕ} {n : ℤ} {rest : List Tx} (txs : Vec Tx Global) → AreQuiet rest → txs.items ≡ Read var 14 ∷ Put 15 n ∷ rest → count is_put (Seq txs) ≡ 1
 both_number {rest = rest} txs quiet items =
-    count-Seq is_put txs ∙ ap (λ l. 0 + count_in is_put l) items ∙ ap (λ m. 0 + (0 + (1 + m))) (count_quiet rest quiet)
+    count-Seq is_put txs ∙ ap (λ l. 0 + count_items is_put l) items ∙ ap (λ m. 0 + (0 + (1 + m))) (count_quiet rest quiet)

@@ -7,7 +7,7 @@ use Rattle.std.proofs.lemmas.Bool.Decides.{nat_tests}
 use Rattle.tmem_tree.specs.declared.tx.Tx.{Tx}
 use Rattle.tmem_tree.specs.declared.tx.Tx.TheVariants.{Seq, Put, Read, Write}
 use Rattle.tmem_tree.specs.Limits.{depth, one_if, count, is_node, is_write, is_check, is_retire, is_no_register, has_bad_register, has_bad_variable, has_bad_step, has_bad_arguments, has_unknown_name}
-use Rattle.tmem_tree.proofs.Laws.{depth_in, depth-Seq, count_in, count-Seq}
+use Rattle.tmem_tree.proofs.Laws.{depth_items, depth-Seq, count_items, count-Seq}
 use Rattle.tmem_builtins.specs.Transactions.{IsStepCall, IsSized}
 
 -- how many arguments the steps of scripts take
@@ -29,16 +29,16 @@ pub record IsOne (writes var : ℕ) (tx : Tx) : Type 0 where
 
 -- what several trees add
 pub record AreSized (levels nodes writes var : ℕ) (txs : List Tx) : Type 0 where
-  pub all_levels : depth_in txs ≡ levels
-  pub all_nodes : count_in is_node txs ≡ nodes
-  pub all_writes : count_in is_write txs ≡ writes
-  pub checks : count_in is_check txs ≡ 0
-  pub retires : count_in is_retire txs ≡ 0
-  pub registers : count_in has_bad_register txs ≡ 0
-  pub variables : (vars : ℕ) → var < vars → count_in (has_bad_variable vars) txs ≡ 0
-  pub there : count_in (has_bad_step arities) txs ≡ 0
-  pub given : count_in (has_bad_arguments arities) txs ≡ 0
-  pub names : (known : List (List ℕ)) → count_in (has_unknown_name known) txs ≡ 0
+  pub all_levels : depth_items txs ≡ levels
+  pub all_nodes : count_items is_node txs ≡ nodes
+  pub all_writes : count_items is_write txs ≡ writes
+  pub checks : count_items is_check txs ≡ 0
+  pub retires : count_items is_retire txs ≡ 0
+  pub registers : count_items has_bad_register txs ≡ 0
+  pub variables : (vars : ℕ) → var < vars → count_items (has_bad_variable vars) txs ≡ 0
+  pub there : count_items (has_bad_step arities) txs ≡ 0
+  pub given : count_items (has_bad_arguments arities) txs ≡ 0
+  pub names : (known : List (List ℕ)) → count_items (has_unknown_name known) txs ≡ 0
 
 pub none_sized : (var : ℕ) → AreSized 0 0 0 var []
 none_sized var = record {
@@ -59,9 +59,9 @@ sum_of_none a b first second = omega arith
 
 pub with_one : {levels nodes writes more var : ℕ} {tx : Tx} {txs : List Tx} → IsOne more var tx → AreSized levels nodes writes var txs → AreSized (max 1 levels) (1 + nodes) (more + writes) var (tx ∷ txs)
 with_one {more = more} {txs = txs} one rest = record {
-  all_levels = ap (λ n. max n (depth_in txs)) one.levels ∙ ap (max 1) rest.all_levels;
-  all_nodes = ap (λ n. n + count_in is_node txs) one.all_nodes ∙ ap (λ n. 1 + n) rest.all_nodes;
-  all_writes = ap (λ n. n + count_in is_write txs) one.all_writes ∙ ap (λ n. more + n) rest.all_writes;
+  all_levels = ap (λ n. max n (depth_items txs)) one.levels ∙ ap (max 1) rest.all_levels;
+  all_nodes = ap (λ n. n + count_items is_node txs) one.all_nodes ∙ ap (λ n. 1 + n) rest.all_nodes;
+  all_writes = ap (λ n. n + count_items is_write txs) one.all_writes ∙ ap (λ n. more + n) rest.all_writes;
   checks = sum_of_none _ _ one.checks rest.checks;
   retires = sum_of_none _ _ one.retires rest.retires;
   registers = sum_of_none _ _ one.registers rest.registers;
@@ -155,16 +155,16 @@ need_back_one var {tx = tx} call = call_one var 2 15 14 tx call (record { there 
 
 pub seq_sized : {nodes writes var : ℕ} {all : List Tx} (txs : Vec Tx Global) → txs.items ≡ all → AreSized 1 nodes writes var all → IsSized (1 + nodes) writes var (Seq txs)
 seq_sized {all = all} txs items sized = record {
-  levels = depth-Seq txs ∙ ap (λ l. 1 + depth_in l) items ∙ ap (λ n. 1 + n) sized.all_levels;
-  all_nodes = count-Seq is_node txs ∙ ap (λ l. 1 + count_in is_node l) items ∙ ap (λ n. 1 + n) sized.all_nodes;
-  all_writes = count-Seq is_write txs ∙ ap (λ l. 0 + count_in is_write l) items ∙ zero-add (count_in is_write all) ∙ sized.all_writes;
-  checks = count-Seq is_check txs ∙ ap (λ l. 0 + count_in is_check l) items ∙ ap (λ n. 0 + n) sized.checks;
-  retires = count-Seq is_retire txs ∙ ap (λ l. 0 + count_in is_retire l) items ∙ ap (λ n. 0 + n) sized.retires;
-  registers = count-Seq has_bad_register txs ∙ ap (λ l. 0 + count_in has_bad_register l) items ∙ ap (λ n. 0 + n) sized.registers;
-  variables = λ vars within. count-Seq (has_bad_variable vars) txs ∙ ap (λ l. 0 + count_in (has_bad_variable vars) l) items ∙ ap (λ n. 0 + n) (sized.variables vars within);
+  levels = depth-Seq txs ∙ ap (λ l. 1 + depth_items l) items ∙ ap (λ n. 1 + n) sized.all_levels;
+  all_nodes = count-Seq is_node txs ∙ ap (λ l. 1 + count_items is_node l) items ∙ ap (λ n. 1 + n) sized.all_nodes;
+  all_writes = count-Seq is_write txs ∙ ap (λ l. 0 + count_items is_write l) items ∙ zero-add (count_items is_write all) ∙ sized.all_writes;
+  checks = count-Seq is_check txs ∙ ap (λ l. 0 + count_items is_check l) items ∙ ap (λ n. 0 + n) sized.checks;
+  retires = count-Seq is_retire txs ∙ ap (λ l. 0 + count_items is_retire l) items ∙ ap (λ n. 0 + n) sized.retires;
+  registers = count-Seq has_bad_register txs ∙ ap (λ l. 0 + count_items has_bad_register l) items ∙ ap (λ n. 0 + n) sized.registers;
+  variables = λ vars within. count-Seq (has_bad_variable vars) txs ∙ ap (λ l. 0 + count_items (has_bad_variable vars) l) items ∙ ap (λ n. 0 + n) (sized.variables vars within);
   steps = record {
-    there = count-Seq (has_bad_step arities) txs ∙ ap (λ l. 0 + count_in (has_bad_step arities) l) items ∙ ap (λ n. 0 + n) sized.there;
-    given = count-Seq (has_bad_arguments arities) txs ∙ ap (λ l. 0 + count_in (has_bad_arguments arities) l) items ∙ ap (λ n. 0 + n) sized.given;
+    there = count-Seq (has_bad_step arities) txs ∙ ap (λ l. 0 + count_items (has_bad_step arities) l) items ∙ ap (λ n. 0 + n) sized.there;
+    given = count-Seq (has_bad_arguments arities) txs ∙ ap (λ l. 0 + count_items (has_bad_arguments arities) l) items ∙ ap (λ n. 0 + n) sized.given;
   };
-  names = λ known. count-Seq (has_unknown_name known) txs ∙ ap (λ l. 0 + count_in (has_unknown_name known) l) items ∙ ap (λ n. 0 + n) (sized.names known);
+  names = λ known. count-Seq (has_unknown_name known) txs ∙ ap (λ l. 0 + count_items (has_unknown_name known) l) items ∙ ap (λ n. 0 + n) (sized.names known);
 }

@@ -24,7 +24,7 @@ use Rattle.tmem_cli.specs.declared.play.Played.{Played}
 use Rattle.tmem_args.specs.CommandLine.{AsksToPlay, AsksToCount, AsksToBench, AsksToShow, AsksToInit, AsksToServe, AsksToCheck, AsksForHelp, AreNumbersIn, path_in, disk_in}
 use Rattle.tmem_cli.specs.Checked.{HasFlaws, IsScriptThere}
 use Rattle.tmem_cli.specs.Printed.{line, totals_text}
-use Rattle.tmem_cli.specs.Shaped.{MakesStore, ServesStore}
+use Rattle.tmem_cli.specs.Shaped.{MakesStore, ServesAnyShape}
 use Rattle.tmem_cli.specs.Stored.{IsMade, PlaysWhere, StopsPlaying}
 
 -- A text that may have been read: from the input what was left there, where that is known, and from a file any.
@@ -113,7 +113,7 @@ AsksOfStore words = AsksToShow words ⊎ (AsksToInit words ⊎ AsksToServe words
 
 -- it was shown, made or served to the end of the input
 abbrev pub DoesWithStore : List Text → Option (List ℕ) → Option (List ℕ) → Option (List ℕ) → Option (List ℕ) → Type 0
-DoesWithStore words left rest before after = AsksToShow words ⊎ ((AsksToInit words × MakesStore) ⊎ (AsksToServe words × ServesStore left rest before after))
+DoesWithStore words left rest before after = AsksToShow words ⊎ ((AsksToInit words × MakesStore) ⊎ (AsksToServe words × ServesAnyShape left rest before after))
 
 -- Status 0: help or the version was asked for; or a script was, and it was played to its end, where a path is given on the device
 -- that is handed back; or threads were, and they counted up; or the jobs of a service were, and they were timed; or a store was to be

@@ -54,5 +54,5 @@ pub record ServesShape (text : List ℕ) (unread rest before after : Option (Lis
   pub whole : IsAtEnd rest
 
 -- a store was served under the shape of a text
-abbrev pub ServesStore : Option (List ℕ) → Option (List ℕ) → Option (List ℕ) → Option (List ℕ) → Type 0
-ServesStore unread rest before after = (text : List ℕ) × ServesShape text unread rest before after
+abbrev pub ServesAnyShape : Option (List ℕ) → Option (List ℕ) → Option (List ℕ) → Option (List ℕ) → Type 0
+ServesAnyShape unread rest before after = (text : List ℕ) × ServesShape text unread rest before after

@@ -4,7 +4,7 @@ ghost use Rattle.std.specs.Io.KnownBytes.{IsAtEnd};
 ghost use Rattle.tmem_file.specs.FileView.{file_view};
 ghost use Rattle.tmem_serve.specs.Stores.{OpensAndServes};
 ghost use Rattle.tmem_cli.specs.Builtin.{builtin_arities};
-ghost use Rattle.tmem_cli.specs.Shaped.{ServesShape, ServesStore, always_in, program_of};
+ghost use Rattle.tmem_cli.specs.Shaped.{ServesShape, ServesAnyShape, always_in, program_of};
 
 use crate::failure::StoreFailure;
 use crate::init::text_in;
@@ -26,7 +26,7 @@ pub(crate) fn serve<I: Read, W: Write>(
     input: &mut I,
     out: &mut W,
 ) -> Result<(), StoreFailure>
-    ensures { OnOk result (ServesStore (I.remaining input.old) (I.remaining input.new) (W.contents out.old) (W.contents out.new)) }
+    ensures { OnOk result (ServesAnyShape (I.remaining input.old) (I.remaining input.new) (W.contents out.old) (W.contents out.new)) }
 {
     let text = shape_text(rt, serving)?;
     serve_text(rt, serving.store.unwrap_or(""), &text, input, out)

@@ -1,7 +1,7 @@
 //! Copies of transactions, and the numbers of the `Put`s that they begin with.
 //!
 //! A transaction that is kept is run many times, each time by a copy and maybe with other numbers. `copy_of` makes one of the same form,
-//! `begins_with_puts` says whether so many numbers have a `Put` to stand for, and `set_numbers` puts them there.
+//! `begins_with_puts` says whether there are `Put`s for so many numbers, and `set_numbers` puts them there.
 #![tactic(auto)]
 
 mod copying;

@@ -7,7 +7,7 @@ ghost use Rattle.tmem_copies.specs.Numbering.{with_numbers};
 
 use tmem_tree::Plan;
 
-/// The first `Put`s of a plan take these numbers, in the order in which they stand. A number that has no `Put` to stand for is left out.
+/// The first `Put`s of a plan take these numbers, in the order in which they stand. A number for which there is no `Put` is left out.
 /// Nothing else changes.
 pub fn set_numbers(plan: &mut Plan, numbers: &[i64])
     ensures tree { plan.new.tree ≡ with_numbers numbers.now plan.old.tree }

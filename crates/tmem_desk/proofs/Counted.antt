@@ -14,7 +14,7 @@ use Rattle.tmem_requests.specs.declared.request.Ask.{Ask}
 use Rattle.tmem_requests.specs.declared.request.Ask.TheVariants as ask
 use Rattle.tmem_desk.specs.Asking.{Store, IsPlanOf}
 use Rattle.tmem_desk.specs.Desks.{DeskView}
-use Rattle.tmem_desk.specs.Due.{answers_of, due_of, waits_of}
+use Rattle.tmem_desk.specs.Due.{answers_any_of, due_of, waits_of}
 use Rattle.tmem_copies.specs.Leading.{first_puts}
 use Rattle.tmem_copies.specs.Numbering.{with_numbers}
 use Rattle.tmem_desk.specs.Keeping.{kept_under, with_kept}
@@ -33,12 +33,12 @@ module _ (among : ℤ → Bool) (others : Bool) where
   one id = cond (among id) 1 0
 
   -- what is told more is due more
-  tells_more : (v : DeskView) (more : List Told) → due_of among others (tells v more) ≡ due_of among others v + count_by (answers_of among others) more
-  tells_more v more = omega (arith, sum_by-append (λ (t : Told). cond (answers_of among others t) 1 0) v.told more)
+  tells_more : (v : DeskView) (more : List Told) → due_of among others (tells v more) ≡ due_of among others v + count_by (answers_any_of among others) more
+  tells_more v more = omega (arith, sum_by-append (λ (t : Told). cond (answers_any_of among others t) 1 0) v.told more)
 
   pub tells_one : (id : ℤ) (given : Answer) (v : DeskView) → due_of among others (tells v (answer_told id given ∷ [])) ≡ due_of among others v + cond (among id) 1 0
   tells_one id given v =
-      let it : count_by (answers_of among others) (answer_told id given ∷ []) ≡ 0 + cond (among id) 1 0 = refl in
+      let it : count_by (answers_any_of among others) (answer_told id given ∷ []) ≡ 0 + cond (among id) 1 0 = refl in
       omega (arith, tells_more v (answer_told id given ∷ []))
 
   -- one more that waits
@@ -81,13 +81,13 @@ module _ (among : ℤ → Bool) (others : Bool) where
   cancelled_due : (id who : ℤ) (v : DeskView) → due_of among others (cancelled id who v) ≡ due_of among others v + one id
   cancelled_due id who v = either (waits who v.waiting) refl
     where
-      both : count_by (answers_of among others) (answer_told who answer.Cancelled ∷ answer_told id (answer.Found true) ∷ []) ≡ 0 + cond (among who) 1 0 + cond (among id) 1 0
+      both : count_by (answers_any_of among others) (answer_told who answer.Cancelled ∷ answer_told id (answer.Found true) ∷ []) ≡ 0 + cond (among who) 1 0 + cond (among id) 1 0
       both = refl
 
       either : (b : Bool) → waits who v.waiting ≡ b
           → due_of among others (if b then tells (record v { waiting = without who v.waiting }) (answer_told who answer.Cancelled ∷ answer_told id (answer.Found true) ∷ []) else tells v (answer_told id (answer.Found false) ∷ []))
           ≡ due_of among others v + one id
-      either true is = omega (arith, both, without_one who v.waiting is, count_append (answers_of among others) v.told (answer_told who answer.Cancelled ∷ answer_told id (answer.Found true) ∷ []))
+      either true is = omega (arith, both, without_one who v.waiting is, count_append (answers_any_of among others) v.told (answer_told who answer.Cancelled ∷ answer_told id (answer.Found true) ∷ []))
       either false is = tells_one id (answer.Found false) v
 
   -- one that has no plan, or may wait
@@ -136,12 +136,12 @@ module _ (among : ℤ → Bool) (others : Bool) where
 
   -- one that is tried again is due as before
   answered_again : (id : ℤ) (asks : Ask) (given : Answer) (rest : List (ℤ × Ask)) (all : List Told)
-      → count_by (waits_of among) rest + count_by (answers_of among others) (all ++ answer_told id given ∷ []) ≡ count_by (waits_of among) ((id, asks) ∷ rest) + count_by (answers_of among others) all
+      → count_by (waits_of among) rest + count_by (answers_any_of among others) (all ++ answer_told id given ∷ []) ≡ count_by (waits_of among) ((id, asks) ∷ rest) + count_by (answers_any_of among others) all
   answered_again id asks given rest all =
-      let it : count_by (answers_of among others) (answer_told id given ∷ []) ≡ 0 + cond (among id) 1 0 = refl in
+      let it : count_by (answers_any_of among others) (answer_told id given ∷ []) ≡ 0 + cond (among id) 1 0 = refl in
       let wait : count_by (waits_of among) ((id, asks) ∷ []) ≡ 0 + cond (among id) 1 0 = refl in
       let first : count_by (waits_of among) ((id, asks) ∷ rest) ≡ count_by (waits_of among) ((id, asks) ∷ []) + count_by (waits_of among) rest = count_append (waits_of among) ((id, asks) ∷ []) rest in
-      omega (arith, count_append (answers_of among others) all (answer_told id given ∷ []))
+      omega (arith, count_append (answers_any_of among others) all (answer_told id given ∷ []))
 
   pub waits_again : (id : ℤ) (asks : Ask) (rest : List (ℤ × Ask)) (more : ℕ) → count_by (waits_of among) (rest ++ (id, asks) ∷ []) + more ≡ count_by (waits_of among) ((id, asks) ∷ rest) + more
   waits_again id asks rest more =
@@ -149,14 +149,14 @@ module _ (among : ℤ → Bool) (others : Bool) where
       omega (arith, count_append (waits_of among) rest ((id, asks) ∷ []))
 
   moved_due : (id : ℤ) (asks : Ask) (outcome : Option Answer) (rest : List (ℤ × Ask)) (v : DeskView)
-      → due_of among others (tried_again id asks outcome rest v) ≡ count_by (waits_of among) ((id, asks) ∷ rest) + count_by (answers_of among others) v.told
+      → due_of among others (tried_again id asks outcome rest v) ≡ count_by (waits_of among) ((id, asks) ∷ rest) + count_by (answers_any_of among others) v.told
   moved_due id asks (Some given) rest v = answered_again id asks given rest v.told
-  moved_due id asks None rest v = waits_again id asks rest (count_by (answers_of among others) v.told)
+  moved_due id asks None rest v = waits_again id asks rest (count_by (answers_any_of among others) v.told)
 
   first_due : (s : Store) (v w : DeskView) → TriesFirst s v w → due_of among others w ≡ due_of among others v
   first_due s v w t =
       ap (due_of among others) t.is
-      ∙ (moved_due t.id t.ask t.outcome t.rest (by v w.pass) ∙ ap (λ (ws : List (ℤ × Ask)). count_by (waits_of among) ws + count_by (answers_of among others) v.told) (sym t.first))
+      ∙ (moved_due t.id t.ask t.outcome t.rest (by v w.pass) ∙ ap (λ (ws : List (ℤ × Ask)). count_by (waits_of among) ws + count_by (answers_any_of among others) v.told) (sym t.first))
 
   next_due : (s : Store) (v w : DeskView) → TriesNext s v w → due_of among others w ≡ due_of among others v
   next_due s v w t = ⊎_elim (λ (none : (v.waiting ≡ []) × (w ≡ v)). ap (due_of among others) none.1) (first_due s v w) t
@@ -171,7 +171,7 @@ module _ (among : ℤ → Bool) (others : Bool) where
   -- a line that is no request leaves each as it was
   tells_none : (v : DeskView) (number : ℕ) (refusal : NoRequest) → due_of among others (tells v (refused number refusal ∷ [])) ≡ due_of among others v + cond others 1 0
   tells_none v number refusal =
-      let it : count_by (answers_of among others) (refused number refusal ∷ []) ≡ 0 + cond others 1 0 = refl in
+      let it : count_by (answers_any_of among others) (refused number refusal ∷ []) ≡ 0 + cond others 1 0 = refl in
       omega (arith, tells_more v (refused number refusal ∷ []))
 
   pub refused_due : (s : Store) (text : List ℕ) (v w : DeskView) → RefusesLine s text v w → due_of among others w ≡ due_of among others v + cond others 1 0
@@ -193,27 +193,27 @@ module _ (among : ℤ → Bool) (others : Bool) where
   finished_due s v w f = ap (due_of among others) f.is ∙ woken_due s v f.woken f.wakes
 
   -- each that waits is answered
-  closed_count : (ws : List (ℤ × Ask)) → count_by (answers_of among others) (closed ws) ≡ count_by (waits_of among) ws
+  closed_count : (ws : List (ℤ × Ask)) → count_by (answers_any_of among others) (closed ws) ≡ count_by (waits_of among) ws
   closed_count [] = refl
   closed_count (w ∷ ws) =
-      let it : count_by (answers_of among others) (answer_told w.0 (answer.Fault fault.Closed) ∷ []) ≡ 0 + cond (among w.0) 1 0 = refl in
+      let it : count_by (answers_any_of among others) (answer_told w.0 (answer.Fault fault.Closed) ∷ []) ≡ 0 + cond (among w.0) 1 0 = refl in
       let wait : count_by (waits_of among) (w ∷ []) ≡ 0 + cond (among w.0) 1 0 = refl in
-      let all : count_by (answers_of among others) (closed (w ∷ ws)) ≡ count_by (answers_of among others) (answer_told w.0 (answer.Fault fault.Closed) ∷ []) + count_by (answers_of among others) (closed ws) =
-      count_append (answers_of among others) (answer_told w.0 (answer.Fault fault.Closed) ∷ []) (closed ws) in
+      let all : count_by (answers_any_of among others) (closed (w ∷ ws)) ≡ count_by (answers_any_of among others) (answer_told w.0 (answer.Fault fault.Closed) ∷ []) + count_by (answers_any_of among others) (closed ws) =
+      count_append (answers_any_of among others) (answer_told w.0 (answer.Fault fault.Closed) ∷ []) (closed ws) in
       omega (arith, closed_count ws, count_append (waits_of among) (w ∷ []) ws)
 
   -- so that all that is due is told
-  pub closed_due : (v : DeskView) → count_by (answers_of among others) (with_closed v).told ≡ due_of among others v
-  closed_due v = omega (arith, count_append (answers_of among others) v.told (closed v.waiting), closed_count v.waiting)
+  pub closed_due : (v : DeskView) → count_by (answers_any_of among others) (with_closed v).told ≡ due_of among others v
+  closed_due v = omega (arith, count_append (answers_any_of among others) v.told (closed v.waiting), closed_count v.waiting)
 
   -- as many are told of a fault
-  failed_one : (f : Fault) (t : Told) → count_by (answers_of among others) (failed f t ∷ []) ≡ count_by (answers_of among others) (t ∷ [])
+  failed_one : (f : Fault) (t : Told) → count_by (answers_any_of among others) (failed f t ∷ []) ≡ count_by (answers_any_of among others) (t ∷ [])
   failed_one f (told.Answer a) = refl
   failed_one f (told.NoRequest n) = refl
 
-  pub failed_count : (f : Fault) (ts : List Told) → count_by (answers_of among others) (map (failed f) ts) ≡ count_by (answers_of among others) ts
+  pub failed_count : (f : Fault) (ts : List Told) → count_by (answers_any_of among others) (map (failed f) ts) ≡ count_by (answers_any_of among others) ts
   failed_count f [] = refl
   failed_count f (t ∷ ts) =
-      let all : count_by (answers_of among others) (map (failed f) (t ∷ ts)) ≡ count_by (answers_of among others) (failed f t ∷ []) + count_by (answers_of among others) (map (failed f) ts) =
-      count_append (answers_of among others) (failed f t ∷ []) (map (failed f) ts) in
-      omega (arith, failed_one f t, failed_count f ts, count_append (answers_of among others) (t ∷ []) ts)
+      let all : count_by (answers_any_of among others) (map (failed f) (t ∷ ts)) ≡ count_by (answers_any_of among others) (failed f t ∷ []) + count_by (answers_any_of among others) (map (failed f) ts) =
+      count_append (answers_any_of among others) (failed f t ∷ []) (map (failed f) ts) in
+      omega (arith, failed_one f t, failed_count f ts, count_append (answers_any_of among others) (t ∷ []) ts)

@@ -17,7 +17,7 @@ use Rattle.tmem_requests.specs.declared.answer.Answer.TheVariants as answer
 use Rattle.tmem_requests.specs.declared.request.Ask.{Ask}
 use Rattle.tmem_desk.specs.Asking.{Store}
 use Rattle.tmem_desk.specs.Desks.{DeskView}
-use Rattle.tmem_desk.specs.Due.{LineCounts, LinesCount, LosesNone, KeepsDue, answers_of, due_of, waits_of}
+use Rattle.tmem_desk.specs.Due.{LineCounts, LinesCount, LosesNone, KeepsDue, answers_any_of, due_of, waits_of}
 use Rattle.tmem_desk.specs.Failing.{AnswersLine, AnswersOnly, IsLast, IsUnprinted, OrMemory, PassesAll, PassesLine, TakesPart, TakesRest, TellsAll, TellsEach}
 use Rattle.tmem_desk.specs.Serving.{IsAskedOf, RefusesLine, RefusesLong, Splits, TakesAll, TakesLast, TakesLine, TakesText, TakesShort, Wakes, by, one_line_more, tells, with_closed}
 use Rattle.tmem_desk.specs.Steps.{Steps}
@@ -153,8 +153,8 @@ waits_behind g x xs items behind v w pass all popped pushed is among others =
     let first : v.waiting ≡ g x ∷ map g items = all ∙ ap (map g) popped in
     let last : w ≡ record v { pass = pass; waiting = map g items ++ g x ∷ [] } = is ∙ ap (λ (ws : List (ℤ × Ask)). record v { pass = pass; waiting = ws }) (ap (map g) pushed ∙ map_push g items x) in
     ap (due_of among others) last
-    ∙ (waits_again among others (g x).0 (g x).1 (map g items) (count_by (answers_of among others) v.told)
-    ∙ ap (λ (ws : List (ℤ × Ask)). count_by (waits_of among) ws + count_by (answers_of among others) v.told) (sym first))
+    ∙ (waits_again among others (g x).0 (g x).1 (map g items) (count_by (answers_any_of among others) v.told)
+    ∙ ap (λ (ws : List (ℤ × Ask)). count_by (waits_of among) ws + count_by (answers_any_of among others) v.told) (sym first))
 
 pub finished_keeps_due : (s : Store) (v mid w : DeskView) → Wakes s v mid → w ≡ by mid w.pass → KeepsDue v w
 finished_keeps_due s v mid w wakes is among others = ap (due_of among others) is ∙ woken_due among others s v mid wakes
@@ -218,9 +218,9 @@ tells_each s texts v over shut f all given prints loses closed told is printed =
   all = given;
   only = subst (λ (l : List Told). All (TellsOnly f) l) (sym is) (tells_only f all);
   each = λ among others n c.
-      ap (count_by (answers_of among others)) is
+      ap (count_by (answers_any_of among others)) is
       ∙ (failed_count among others f all
-      ∙ (ap (count_by (answers_of among others)) (told ∙ ap (λ (d : DeskView). d.told) closed)
+      ∙ (ap (count_by (answers_any_of among others)) (told ∙ ap (λ (d : DeskView). d.told) closed)
       ∙ (closed_due among others over ∙ loses among others n c)));
   printed = printed;
 }

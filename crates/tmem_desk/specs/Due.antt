@@ -14,13 +14,13 @@ abbrev pub waits_of : (ℤ → Bool) → ℤ × Ask → Bool
 waits_of among w = among w.0
 
 -- whether it is the answer to a request of one of these ids; or tells that a line is no request, where such lines count too
-abbrev pub answers_of : (ℤ → Bool) → Bool → Told → Bool
-answers_of among others (told.Answer a) = among a.id
-answers_of among others (told.NoRequest n) = others
+abbrev pub answers_any_of : (ℤ → Bool) → Bool → Told → Bool
+answers_any_of among others (told.Answer a) = among a.id
+answers_any_of among others (told.NoRequest n) = others
 
 -- how many requests of these ids wait, or are answered and not printed yet; and lines that are none, where they count too
 abbrev pub due_of : (ℤ → Bool) → Bool → DeskView → ℕ
-due_of among others v = count_by (waits_of among) v.waiting + count_by (answers_of among others) v.told
+due_of among others v = count_by (waits_of among) v.waiting + count_by (answers_any_of among others) v.told
 
 -- this id and no other
 abbrev pub is_id : ℤ → ℤ → Bool
@@ -28,7 +28,7 @@ is_id id = λ (other : ℤ). int_eq other id
 
 -- whether it is the answer to a request of this id
 abbrev pub answers_to : ℤ → Told → Bool
-answers_to id = answers_of (is_id id) false
+answers_to id = answers_any_of (is_id id) false
 
 -- how many requests of this id wait, or are answered and not printed yet
 abbrev pub due : ℤ → DeskView → ℕ

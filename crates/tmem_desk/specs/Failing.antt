@@ -9,7 +9,7 @@ use Rattle.tmem_requests.specs.declared.answer.Answer.{Answer}
 use Rattle.tmem_requests.specs.declared.request.Ask.{Ask}
 use Rattle.tmem_desk.specs.Asking.{Store}
 use Rattle.tmem_desk.specs.Desks.{DeskView}
-use Rattle.tmem_desk.specs.Due.{LinesCount, LosesNone, answers_of, due_of}
+use Rattle.tmem_desk.specs.Due.{LinesCount, LosesNone, answers_any_of, due_of}
 use Rattle.tmem_desk.specs.Serving.{IsAskedOf, RefusesLine, Splits, by, one_line_more, tells}
 use Rattle.tmem_desk.specs.Told.{answer_told, told_lines, TellsOnly}
 use Rattle.tmem_desk.specs.declared.failure.Failure.{Failure}
@@ -31,7 +31,7 @@ MayPrint pass all = (pass.seen ≡ pass.known) ⊎ ((fault : Fault) × All (Tell
 pub record TellsEach (s : Store) (texts : List (List ℕ)) (v : DeskView) (fault : Fault) (prints : List ℕ → Type 0) : Type 0 where
   pub all : List Told
   pub only : All (TellsOnly fault) all
-  pub each : (among : ℤ → Bool) (others : Bool) (n : ℕ) → LinesCount s among others texts n → count_by (answers_of among others) all ≡ due_of among others v + n
+  pub each : (among : ℤ → Bool) (others : Bool) (n : ℕ) → LinesCount s among others texts n → count_by (answers_any_of among others) all ≡ due_of among others v + n
   pub printed : prints (told_lines all)
 
 -- Where the store cannot go on, each is told, of these lines: unless memory did not suffice, or the output failed.

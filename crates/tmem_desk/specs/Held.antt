@@ -1,4 +1,4 @@
--- What the types of the desk stand for.
+-- What the types of the desk represent.
 use Rattle.std.specs.Prelude.{ℕ, zero, suc, ℤ, List, [], ◌∷◌, ◌++◌, map}
 use Rattle.tmem_spine.specs.Views.{PassRoleView}
 use Rattle.tmem_tree.specs.declared.tx.Tx.{Tx}

@@ -87,7 +87,7 @@ kept_as id word tx v =
     then tells (record v { kept = with_kept word tx v.kept }) (answer_told id (answer.Kept word) ∷ [])
     else tells v (answer_told id (answer.Fault fault.Full) ∷ [])
 
--- A transaction that was kept is run as `do`, a copy of it, in which these numbers stand for those of the first Puts.
+-- A transaction that was kept is run as `do`, a copy of it, in which these numbers are in the place of those of the first Puts.
 pub record RunsCopy (s : Store) (id : ℤ) (numbers : List ℤ) (tx : Tx) (v w : DeskView) : Type 0 where
   pub copy : Tx
   pub same : tx_form copy ≡ tx_form tx
@@ -188,7 +188,7 @@ pub record Wakes (s : Store) (v w : DeskView) : Type 0 where
   pub last : Round s met w
   pub quiet : length w.told ≡ length met.told
 
--- The text is these lines, each with its line break, and then the beginning of one, for which stands what is held.
+-- The text is these lines, each with its line break, and then the beginning of one, which what is held represents.
 pub record Splits (text : List ℕ) (texts : List (List ℕ)) (held : LinesView) : Type 0 where
   pub rest : List ℕ
   pub is : text ≡ flat_map line texts ++ rest

@@ -8,23 +8,23 @@ pub const ATTEMPTS: usize = 16;
 /// One atomic action of a caller.
 #[derive(Debug, Drop)]
 pub enum Event {
-    /// Makes a plan of a transaction. The slot, below 16, holds it, whatever it held before.
+    /// Makes a plan of a transaction. The attempt with this number, below 16, holds it, whatever it held before.
     /// Refused with `Memory`, `Closed`, `BadPlan`.
     Begin { slot: u8, tx: Tx },
-    /// Evaluates the slot's plan on the values that it has read and the answers that it was given. Where it needs one more
+    /// Evaluates the attempt's plan on the values that it has read and the answers that it was given. Where it needs one more
     /// value, that is read; where it needs the answer to a test, that is made. Refused with `Closed`, `Memory`.
     Turn { slot: u8 },
-    /// Settles the slot's attempt once it has ended. Refused with `Closed`, `Conflict`, `Full`, `Spent`; the slot keeps
-    /// it then.
+    /// Settles the attempt once it has ended. Refused with `Closed`, `Conflict`, `Full`, `Spent`; the attempt is kept
+    /// then.
     Settle { slot: u8 },
     /// Makes the oldest committed transactions that wait durable, up to 64. Refused with `Closed`, `LogFull`, `Device`, `Unknown`.
     Flush,
-    /// Writes the durable state as the next image, and frees every log slot. No transaction is durable that was not.
+    /// Writes the durable state as the next image, and frees every slot. No transaction is durable that was not.
     /// Refused with `Closed`, `Spent`, `Device`, `Unknown`.
     Checkpoint,
     /// Asks how many committed transactions are known durable. Refused with `Closed`.
     Look,
-    /// Drops the session and all slots, and opens the same device again. Refused with `Memory`, `Device`,
+    /// Drops the session and all attempts, and opens the same device again. Refused with `Memory`, `Device`,
     /// `NotFormatted`, `Damaged`, `Geometry`, `Spent`, `Missing`, `Broken`, and then no session stands.
     Reopen,
 }
@@ -32,7 +32,7 @@ pub enum Event {
 /// What an event is answered.
 #[derive(Clone, Copy, Debug, PartialEq, Eq)]
 pub enum Reply {
-    /// The slot holds the plan.
+    /// The attempt holds the plan.
     Begun,
     /// The plan needed this variable, and read its present value.
     Read { var: u16, value: i64 },
@@ -40,13 +40,13 @@ pub enum Reply {
     Probed { name: Name, held: bool },
     /// The plan has ended.
     Ended,
-    /// The slot is empty, or what it holds has not ended.
+    /// The attempt is empty, or has not ended.
     Idle,
     /// The transaction was settled, and answered so.
     Settled(Settled),
     /// So many committed transactions are durable.
     Durable(u64),
-    /// The next image was written, and every log slot is free.
+    /// The next image was written, and every slot is free.
     Checkpointed,
     /// So many committed transactions are known durable.
     Looked(u64),

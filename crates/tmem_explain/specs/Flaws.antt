@@ -75,13 +75,13 @@ pub record LeadsToAmiss (expected : Expected) (steps : List Step) (d : Data) : T
 abbrev pub IsAmissIn : Data → Amiss → Type 0
 IsAmissIn d amiss = LeadsToAmiss amiss.expected amiss.steps.items d
 
-abbrev TellsAt : Expected → Spot → Data → Type 0
-TellsAt expected (Pointer steps) d = LeadsToAmiss expected steps.items d
-TellsAt expected (Text line column) d = ⊥
+abbrev TellsFlawAt : Expected → Spot → Data → Type 0
+TellsFlawAt expected (Pointer steps) d = LeadsToAmiss expected steps.items d
+TellsFlawAt expected (Text line column) d = ⊥
 
 -- What is told of a value is true: the pointer leads to a value inside of it, or to itself, and what was expected there is not so.
 abbrev pub IsFlawOf : Data → Flaw → Type 0
-IsFlawOf d flaw = TellsAt flaw.expected flaw.at d
+IsFlawOf d flaw = TellsFlawAt flaw.expected flaw.at d
 
 abbrev IsTextSpot : Spot → Type 0
 IsTextSpot (Pointer steps) = ⊥

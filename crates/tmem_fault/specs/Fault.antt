@@ -7,17 +7,17 @@ use Rattle.tmem_fault.specs.declared.fault.Fault.{Fault}
 use Rattle.tmem_fault.specs.declared.fault.Fault.TheVariants as fault
 
 -- the number of a cause, by which several are ordered
-abbrev pub number_of : Cause → ℕ
-number_of TooDeep = 1
-number_of TooManyNodes = 2
-number_of TooManyWrites = 3
-number_of TooManyChecks = 4
-number_of BadRegister = 5
-number_of BadVariable = 6
-number_of BadStep = 7
-number_of BadArguments = 8
-number_of UnknownName = 9
-number_of TooManyRetires = 10
+abbrev pub cause_number : Cause → ℕ
+cause_number TooDeep = 1
+cause_number TooManyNodes = 2
+cause_number TooManyWrites = 3
+cause_number TooManyChecks = 4
+cause_number BadRegister = 5
+cause_number BadVariable = 6
+cause_number BadStep = 7
+cause_number BadArguments = 8
+cause_number UnknownName = 9
+cause_number TooManyRetires = 10
 
 -- what is printed for a refusal: its number, its word, and what it names
 abbrev pub text_of : Fault → List ℕ
@@ -32,7 +32,7 @@ text_of fault.NotFormatted = codes "fault 8 notformatted"
 text_of fault.Damaged = codes "fault 9 damaged"
 text_of (fault.Missing name) = codes "fault 10 missing " ++ name
 text_of (fault.Broken name) = codes "fault 11 broken " ++ name
-text_of (fault.BadPlan cause) = codes "fault 12 badplan " ++ decimal (number_of cause)
+text_of (fault.BadPlan cause) = codes "fault 12 badplan " ++ decimal (cause_number cause)
 text_of fault.BadName = codes "fault 13 badname"
 text_of fault.BadFootprint = codes "fault 14 badfootprint"
 text_of fault.Spent = codes "fault 15 spent"

@@ -1,7 +1,7 @@
 // The refusals of all layers, as the program prints them.
 ghost use Rattle.std.specs.Prelude.{◌≡◌};
 ghost use Rattle.tmem_fault.specs.declared.fault.Fault.TheVariants.{Memory};
-ghost use Rattle.tmem_fault.specs.Fault.{number_of, text_of};
+ghost use Rattle.tmem_fault.specs.Fault.{cause_number, text_of};
 
 use crate::Name;
 use std::alloc::{AllocError, AllocFailed};
@@ -124,7 +124,7 @@ pub enum Cause {
 impl Cause {
     // The number that is printed, 1 to 10 in the order of the variants.
     fn number(self) -> u8
-        ensures { result ≡ number_of self }
+        ensures { result ≡ cause_number self }
     {
         match self {
             Cause::TooDeep => 1,
@@ -145,7 +145,7 @@ impl fmt::Display for Cause {
     ghost use Rattle.std.specs.Prelude.{Some};
     ghost use Rattle.std.specs.Fmt.{decimal};
 
-    ghost output = { λ cause. Some (decimal (number_of cause)) };
+    ghost output = { λ cause. Some (decimal (cause_number cause)) };
 
     fn fmt<W: fmt::Write>(&self, f: &mut fmt::Formatter<W>) -> fmt::Result {
         write!(f, "{}", self.number())

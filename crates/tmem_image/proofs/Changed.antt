@@ -32,19 +32,19 @@ stands_after at n p part b c same above stands = record { is = sym (between_is p
 -- a page that stands behind the first ones
 pub front_stands : (at n : ℕ) (zs : List ℤ) (c : List ℕ) → 64 * n ≤ length zs → StandsAt at (pages_front zs n) c → StandsAt (at + 512 * n) (page_bytes zs n) c → StandsAt at (pages_front zs (n + 1)) c
 front_stands at n zs c full front here =
-    let place : at + 512 * n ≡ at + length (pages_front zs n) = omega (arith, length-pages_front zs n full) in
-    subst (λ (l : List ℕ). StandsAt at l c) (sym (front_more zs n full)) (both_parts at (pages_front zs n) (page_bytes zs n) c front (moved (at + 512 * n) (at + length (pages_front zs n)) (page_bytes zs n) c place here))
+    let offset : at + 512 * n ≡ at + length (pages_front zs n) = omega (arith, length-pages_front zs n full) in
+    subst (λ (l : List ℕ). StandsAt at l c) (sym (front_more zs n full)) (both_parts at (pages_front zs n) (page_bytes zs n) c front (moved (at + 512 * n) (at + length (pages_front zs n)) (page_bytes zs n) c offset here))
 
 -- one that is written there
-pub page_written : (at n place : ℕ) (zs : List ℤ) (before after part : List ℕ) → 64 * n ≤ length zs → at + 512 * n + 512 ≤ length before → place ≡ at + 512 * n → part ≡ page_bytes zs n → after ≡ overwritten before place part → StandsAt at (pages_front zs n) before → StandsAt at (pages_front zs (n + 1)) after
-page_written at n place zs before after part full room at_is part_is after_is front =
+pub page_written : (at n offset : ℕ) (zs : List ℤ) (before after part : List ℕ) → 64 * n ≤ length zs → at + 512 * n + 512 ≤ length before → offset ≡ at + 512 * n → part ≡ page_bytes zs n → after ≡ overwritten before offset part → StandsAt at (pages_front zs n) before → StandsAt at (pages_front zs (n + 1)) after
+page_written at n offset zs before after part full room at_is part_is after_is front =
     let long : length part ≡ 512 = ap length part_is ∙ length-page_bytes zs n in
-    let same : SameOutside place (length part) before after = subst (λ (l : List ℕ). SameOutside place (length part) before l) (sym after_is) (SameOutside-overwritten before place part (omega (arith, room, at_is, long))) in
-    let here : StandsAt place part after =
-    record { is = sym (between_is place (length part) after) ∙ ap (λ (l : List ℕ). slice_range l place (place + length part)) after_is ∙ slice_range-overwritten before place part (omega (arith, room, at_is, long)) } in
+    let same : SameOutside offset (length part) before after = subst (λ (l : List ℕ). SameOutside offset (length part) before l) (sym after_is) (SameOutside-overwritten before offset part (omega (arith, room, at_is, long))) in
+    let here : StandsAt offset part after =
+    record { is = sym (between_is offset (length part) after) ∙ ap (λ (l : List ℕ). slice_range l offset (offset + length part)) after_is ∙ slice_range-overwritten before offset part (omega (arith, room, at_is, long)) } in
     front_stands at n zs after full
-    (stands_before place (length part) at (pages_front zs n) before after same (omega (arith, at_is, length-pages_front zs n full)) front)
-    (moved place (at + 512 * n) (page_bytes zs n) after at_is (subst (λ (l : List ℕ). StandsAt place l after) part_is here))
+    (stands_before offset (length part) at (pages_front zs n) before after same (omega (arith, at_is, length-pages_front zs n full)) front)
+    (moved offset (at + 512 * n) (page_bytes zs n) after at_is (subst (λ (l : List ℕ). StandsAt offset l after) part_is here))
 
 -- one that is not written, and stood there before any write
 pub page_kept : (at n : ℕ) (zs : List ℤ) (before now : List ℕ) → 64 * n ≤ length zs → SameOutside at (512 * n) before now → StandsAt (at + 512 * n) (page_bytes zs n) before → StandsAt at (pages_front zs n) now → StandsAt at (pages_front zs (n + 1)) now
@@ -52,15 +52,15 @@ page_kept at n zs before now full same there front =
     front_stands at n zs now full front (stands_after at (512 * n) (at + 512 * n) (page_bytes zs n) before now same (omega arith) there)
 
 -- so do pages
-module _ (at n place vars pages : ℕ) (values : List ℤ) (b c : List ℕ) (same : SameOutside at n b c) where
-  pub HoldsOthers-before : place + 512 * pages_of vars ≤ at → HoldsOthers place vars pages values b → HoldsOthers place vars pages values c
+module _ (at n offset vars pages : ℕ) (values : List ℤ) (b c : List ℕ) (same : SameOutside at n b c) where
+  pub HoldsOthers-before : offset + 512 * pages_of vars ≤ at → HoldsOthers offset vars pages values b → HoldsOthers offset vars pages values c
   HoldsOthers-before fits holds = record {
-    each = λ page below kept. stands_before at n (place + 512 * page) (page_bytes values page) b c same (omega (arith, fits, below, length-page_bytes values page)) (holds.each page below kept);
+    each = λ page below kept. stands_before at n (offset + 512 * page) (page_bytes values page) b c same (omega (arith, fits, below, length-page_bytes values page)) (holds.each page below kept);
   }
 
-  pub HoldsOthers-after : at + n ≤ place → HoldsOthers place vars pages values b → HoldsOthers place vars pages values c
+  pub HoldsOthers-after : at + n ≤ offset → HoldsOthers offset vars pages values b → HoldsOthers offset vars pages values c
   HoldsOthers-after above holds = record {
-    each = λ page below kept. stands_after at n (place + 512 * page) (page_bytes values page) b c same (omega (arith, above)) (holds.each page below kept);
+    each = λ page below kept. stands_after at n (offset + 512 * page) (page_bytes values page) b c same (omega (arith, above)) (holds.each page below kept);
   }
 
 -- where a page is written that is in the set
@@ -96,8 +96,8 @@ set_elsewhere values var page value other = ⊎_elim
     (λ before. ap (take 64) (drop-set-lt (64 * page) values var value before))
     (λ not_before.
     let behind : 64 ≤ var - 64 * page = omega (arith, other, not_before) in
-    let place : 64 * page + (var - 64 * page) ≡ var = omega (arith, not_before) in
-    ap (λ (k : ℕ). take 64 (drop (64 * page) (set values k value))) (sym place) ∙ ap (take 64) (drop-set-add (64 * page) values (var - 64 * page) value) ∙ take-set-le 64 (drop (64 * page) values) (var - 64 * page) value behind)
+    let offset : 64 * page + (var - 64 * page) ≡ var = omega (arith, not_before) in
+    ap (λ (k : ℕ). take 64 (drop (64 * page) (set values k value))) (sym offset) ∙ ap (take 64) (drop-set-add (64 * page) values (var - 64 * page) value) ∙ take-set-le 64 (drop (64 * page) values) (var - 64 * page) value behind)
     (cases_lt var (64 * page))
 
 written_elsewhere : (values : List ℤ) (ws : List (ℕ × ℤ)) (page : ℕ) → is_page_written ws page ≡ false → page_values (written values ws) page ≡ page_values values page

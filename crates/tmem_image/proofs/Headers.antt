@@ -13,8 +13,8 @@ use Rattle.tmem_image.specs.Spelling.{names_body, header_body}
 pub header_is : (v : Version) (generation : ℕ) (s : State) (whole : List ℕ) (at : ℕ) (names : List (List ℕ)) (b0 b1 g n : List ℕ) → b0 ≡ g → b1 ≡ b0 ++ n → take at whole ≡ b1 ++ names_bytes names → drop at whole ≡ replicate (2046 - at) 0 ++ mark_of v ∷ [] → at ≡ 16 + length (names_bytes names)
     → g ≡ little_bytes 8 generation → n ≡ little_bytes 8 s.count → names ≡ s.names → whole ≡ header_body v generation s
 unfolding header_body names_body number_bytes
-header_is v generation s whole at names b0 b1 g n e0 e1 e2 rest place g_is n_is names_is =
-    let left : 2046 - at ≡ 2030 - length (names_bytes names) = omega (arith, place) in
+header_is v generation s whole at names b0 b1 g n e0 e1 e2 rest offset g_is n_is names_is =
+    let left : 2046 - at ≡ 2030 - length (names_bytes names) = omega (arith, offset) in
     let zeros : List (List ℕ) → List ℕ = λ ns. replicate (2030 - length (names_bytes ns)) 0 in
     sym (take-append-drop at whole) ∙ ap (λ (l : List ℕ). l ++ drop at whole) (e2 ∙ ap (λ (l : List ℕ). l ++ names_bytes names) (e1 ∙ ap (λ (l : List ℕ). l ++ n) e0))
     ∙ ap (λ (l : List ℕ). ((g ++ n) ++ names_bytes names) ++ l) (rest ∙ ap (λ (k : ℕ). replicate k 0 ++ mark_of v ∷ []) left)
@@ -28,8 +28,8 @@ header_is v generation s whole at names b0 b1 g n e0 e1 e2 rest place g_is n_is 
 
 -- the mark, put last into a buffer of zeros
 pub mark_is : (mark end : ℕ) (a0 a1 part : List ℕ) → a0 ≡ replicate 2047 0 → part ≡ mark ∷ [] → end ≡ 2046 + length part → take end a1 ≡ take 2046 a0 ++ part → drop end a1 ≡ drop end a0 → a1 ≡ replicate 2046 0 ++ mark ∷ []
-mark_is mark end a0 a1 part zeros is place front rest =
-    let none : 2047 - end ≡ 0 = omega (arith, place, ap length is) in
+mark_is mark end a0 a1 part zeros is offset front rest =
+    let none : 2047 - end ≡ 0 = omega (arith, offset, ap length is) in
     sym (take-append-drop end a1)
     ∙ ap (λ (l : List ℕ). l ++ drop end a1) (front ∙ ap (λ (l : List ℕ). take 2046 l ++ part) zeros ∙ ap (λ (l : List ℕ). l ++ part) (take-replicate 2046 2047 0 (omega arith)) ∙ ap (λ (l : List ℕ). replicate 2046 0 ++ l) is)
     ∙ ap (λ (l : List ℕ). (replicate 2046 0 ++ mark ∷ []) ++ l) (rest ∙ ap (drop end) zeros ∙ drop-replicate end 2047 0 ∙ ap (λ (k : ℕ). replicate k 0) none) ∙ append-nil (replicate 2046 0 ++ mark ∷ [])

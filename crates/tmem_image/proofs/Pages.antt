@@ -20,12 +20,12 @@ pub number_more : (zs : List ℤ) (i : ℕ) → i < length zs → AreValues (tak
 number_more zs i below before fits = subst AreValues (sym (take_more zs i (pos 0) below)) (All-push (FitsSigned w64) (take i zs) (get_or zs i (pos 0)) before fits)
 
 -- a page from its values, in front of zeros
-module _ (zs : List ℤ) (page from count : ℕ) (part : List ℤ) (place : from ≡ 64 * page) (counted : count ≡ min 64 (length zs - from)) (within : from ≤ length zs) (is : part ≡ slice_range zs from (from + count)) where
+module _ (zs : List ℤ) (page from count : ℕ) (part : List ℤ) (offset : from ≡ 64 * page) (counted : count ≡ min 64 (length zs - from)) (within : from ≤ length zs) (is : part ≡ slice_range zs from (from + count)) where
   pub part_is : part ≡ page_values zs page
   part_is =
       let all : from + count - from ≡ count = omega arith in
       let rest : length zs - from ≡ length (drop from zs) = sym (length-drop from zs) in
-      is ∙ ap (λ (k : ℕ). take k (drop from zs)) (all ∙ counted ∙ ap (min 64) rest) ∙ take_min 64 (drop from zs) ∙ ap (λ (k : ℕ). take 64 (drop k zs)) place
+      is ∙ ap (λ (k : ℕ). take k (drop from zs)) (all ∙ counted ∙ ap (min 64) rest) ∙ take_min 64 (drop from zs) ∙ ap (λ (k : ℕ). take 64 (drop k zs)) offset
 
   pub page_is : (n : ℕ) (bytes : List ℕ) → n ≡ 8 * length part → take n bytes ≡ flat_map value_bytes part → drop n bytes ≡ drop n (replicate 512 0) → bytes ≡ page_bytes zs page
   unfolding page_bytes

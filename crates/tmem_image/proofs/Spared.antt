@@ -91,16 +91,16 @@ Spares-wider at n old new some spares = record {
 }
 
 -- the copy of an image once its gate is closed, and then once its pages are written too
-module _ (p : ImagePlaced) (at : ℕ) (place : at ≡ image_at p.vars p.copy) (old mid : DeviceView) (spares : Spares at 1 old mid) where
+module _ (p : ImagePlaced) (at : ℕ) (offset : at ≡ image_at p.vars p.copy) (old mid : DeviceView) (spares : Spares at 1 old mid) where
   pub once_shut : Spares (image_at p.vars p.copy) (image_size p.vars) old mid
-  once_shut = subst (λ (k : ℕ). Spares k (image_size p.vars) old mid) place (Spares-wider at (image_size p.vars) old mid (omega arith) spares)
+  once_shut = subst (λ (k : ℕ). Spares k (image_size p.vars) old mid) offset (Spares-wider at (image_size p.vars) old mid (omega arith) spares)
 
   module _ (paged : DeviceView) (device : IsDevice mid) (closed : StandsClosed at mid) (writes : WritesWithin (at + 2048) (512 * pages_of p.vars) mid paged) (model : paged.keeps_model → mid.keeps_model) where
     behind : WritesWithin (at + 1) (image_size p.vars - 1) mid paged
     behind = WritesWithin-wider (at + 2048) (512 * pages_of p.vars) (at + 1) (image_size p.vars - 1) (omega arith) (omega arith) mid paged writes
 
     pub once_paged : Spares (image_at p.vars p.copy) (image_size p.vars) old paged
-    once_paged = subst (λ (k : ℕ). Spares k (image_size p.vars) old paged) place
+    once_paged = subst (λ (k : ℕ). Spares k (image_size p.vars) old paged) offset
         (Spares-paged at (image_size p.vars) old mid device (Spares-wider at (image_size p.vars) old mid (omega arith) spares) paged (omega arith) closed behind model)
 
     pub closed_once_paged : StandsClosed at paged
@@ -115,7 +115,7 @@ parts_stand at header pages c first second =
     ap (λ (n : ℕ). take n (drop (at + 1) c)) whole
     ∙ (both_parts (at + 1) header pages c (record { is = ap (λ (n : ℕ). take n (drop (at + 1) c)) front ∙ first }) (record { is = ap (λ (n : ℕ). take n (drop (at + 1 + length header) c)) behind ∙ second })).is
 
--- The pages of an image stand in its copy, behind the place of its header.
+-- The pages of an image stand in its copy, behind the offset of its header.
 pub record IsPaged (p : ImagePlaced) (header : List ℕ) (d : DeviceView) : Type 0 where
   pub long : length header ≡ 2047
   pub pages_long : length (pages_body p.vars p.state.values) ≡ 512 * pages_of p.vars
@@ -132,10 +132,10 @@ parts_of_image v vars generation s = grouped (number_bytes 8 generation) (number
 -- once they stand there
 pub paged : (p : ImagePlaced) (at : ℕ) → at ≡ image_at p.vars p.copy → (header : List ℕ) → header ≡ header_body Two p.generation p.state → AreRegistered p.state.names → length p.state.values ≡ p.vars → (d : DeviceView) → (values : List ℤ) → values ≡ p.state.values
     → (d.keeps_model → StandsAt (at + 2048) (pages_body p.vars values) d.seen) → IsPaged p header d
-paged p at place header is names sized d values same stand =
+paged p at offset header is names sized d values same stand =
     let pages = pages_body p.vars p.state.values in
     let long : length header ≡ 2047 = ap length is ∙ length-header_body Two p.generation p.state names in
-    let behind : image_at p.vars p.copy + 1 + length header ≡ at + 2048 = omega (arith, place, long) in
+    let behind : image_at p.vars p.copy + 1 + length header ≡ at + 2048 = omega (arith, offset, long) in
     record {
       long = long;
       pages_long = length-pages_body p.vars p.state.values sized;

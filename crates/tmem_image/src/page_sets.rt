@@ -1,4 +1,4 @@
-// Sets of pages: bit `p` of a set stands for page `p`.
+// Sets of pages: bit `p` of a set is set where it has page `p`.
 ghost use Rattle.std.specs.Prelude.{◌≡◌, ◌<◌, ℕ, All};
 ghost use Rattle.tmem_record.specs.declared.layout.TheConstants.{MOST_VARS};
 ghost use Rattle.tmem_image.specs.Pages.{has_page, is_page_written, is_page_changed};

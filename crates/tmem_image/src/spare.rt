@@ -26,7 +26,7 @@ use tmem_state::State;
 /// write of that gate failed: a crash leaves the image or not; where it was that write, the whole image stands behind the
 /// gate. Nothing outside the copy is written. Every crash leaves the gate of the copy as a read gives it, and the image is of
 /// as many values as the layout has variables. Each page that is not written holds the state's values already, after every
-/// crash. Bit `p` of `pages` stands for page `p`, and bits behind the last page count for nothing.
+/// crash. `pages` has page `p` where its bit `p` is set, and bits behind the last page count for nothing.
 pub fn write_spare<D: Disk>(
     disk: &mut D,
     layout: Layout,

@@ -7,7 +7,7 @@ use Rattle.tmem_gate.proofs.Laws.{LooksOnly-trans}
 use Rattle.tmem_record.specs.Layout.{image_at}
 use Rattle.tmem_record.specs.Stale.{IsStale}
 use Rattle.tmem_effect.specs.State.{State}
-use Rattle.tmem_state.specs.Versions.{number_of}
+use Rattle.tmem_state.specs.Versions.{version_number}
 use Rattle.tmem_state.specs.declared.version.Version.{Version}
 use Rattle.tmem_effect.specs.declared.effect.Effect.{Effect}
 use Rattle.tmem_image.specs.Image.{HoldsImage, ChoosesCopy, other_copy}
@@ -28,7 +28,7 @@ other_stale version vars copy generation image c chosen holds =
     subst (λ (g : ℕ). IsStale g (image_at vars (other_copy copy)) c) same chosen.1.other
 
 -- block 0, the image of the chosen copy and a log over it make a state
-pub all_parts : (block_version version : Version) (vars slots copy generation : ℕ) (image s : State) (log : Log) (c : List ℕ) → number_of block_version ≤ number_of version → copy ≤ 1 → log.generation ≡ generation → IsOpenOver 0 (block_body block_version vars slots) c
+pub all_parts : (block_version version : Version) (vars slots copy generation : ℕ) (image s : State) (log : Log) (c : List ℕ) → version_number block_version ≤ version_number version → copy ≤ 1 → log.generation ≡ generation → IsOpenOver 0 (block_body block_version vars slots) c
     → ChoosesCopy vars copy c → HoldsImage version vars copy generation image c → FindsLog version vars slots generation image log.used s c → HoldsState vars slots (position_at version copy log) s c
 all_parts block_version version vars slots copy generation image s log c allowed one same block chosen holds found =
     let all : Holds version vars slots copy generation image found.batches c =
@@ -72,10 +72,10 @@ module _ (vars slots : ℕ) (c then : List ℕ) (same : then ≡ c) where
         none stands.batches (subst (λ (x : List ℕ). HoldsLog version vars slots generation image stands.batches x) (sym same) same_image)
 
     -- block 0 is of a later version than its image
-    pub no_later : (block_version : Version) → IsOpenOver 0 (block_body block_version vars slots) c → (number_of block_version ≤ number_of version → ⊥) → (p : Position) (s : State) → HoldsState vars slots p s c → ⊥
+    pub no_later : (block_version : Version) → IsOpenOver 0 (block_body block_version vars slots) c → (version_number block_version ≤ version_number version → ⊥) → (p : Position) (s : State) → HoldsState vars slots p s c → ⊥
     no_later block_version block later p s stands =
-        let numbers : number_of stands.holds.block_version ≡ number_of block_version = one_block vars slots stands.holds.block_version block_version c stands.holds.block block in
-        later (subst (λ (v : Version). number_of block_version ≤ number_of v) (that_image p s stands).0 (subst (λ (n : ℕ). n ≤ number_of p.version) numbers stands.holds.allowed))
+        let numbers : version_number stands.holds.block_version ≡ version_number block_version = one_block vars slots stands.holds.block_version block_version c stands.holds.block block in
+        later (subst (λ (v : Version). version_number block_version ≤ version_number v) (that_image p s stands).0 (subst (λ (n : ℕ). n ≤ version_number p.version) numbers stands.holds.allowed))
 
 -- what is synced leaves what a read gives
 pub leaves_seen : {d : DeviceView} {P : List ℕ → Type 0} → IsSynced d → (d.keeps_model → P d.seen) → LeavesOnly d P
@@ -107,7 +107,7 @@ module _ (vars slots copy : ℕ) (seen s1 s2 s3 : List ℕ) (is1 : s1 ≡ seen) 
     image_there : HoldsImage version vars copy generation image s3 → HoldsImage version vars copy generation image seen
     image_there holds = subst (λ (c : List ℕ). HoldsImage version vars copy generation image c) at_3 holds
 
-    pub block_later : (block_version : Version) → IsOpenOver 0 (block_body block_version vars slots) s1 → (number_of block_version ≤ number_of version → ⊥) → ChoosesCopy vars copy s2 → HoldsImage version vars copy generation image s3
+    pub block_later : (block_version : Version) → IsOpenOver 0 (block_body block_version vars slots) s1 → (version_number block_version ≤ version_number version → ⊥) → ChoosesCopy vars copy s2 → HoldsImage version vars copy generation image s3
         → (p : Position) (t : State) → HoldsState vars slots p t seen → ⊥
     block_later block_version block later chosen holds =
         no_later vars slots seen s3 at_3 version copy generation image (chosen_at chosen) (image_there holds) block_version (subst (λ (c : List ℕ). IsOpenOver 0 (block_body block_version vars slots) c) is1 block) later
@@ -119,7 +119,7 @@ module _ (vars slots copy : ℕ) (seen s1 s2 s3 : List ℕ) (is1 : s1 ≡ seen) 
       pub log_missing : ChoosesCopy vars copy s2 → HoldsImage version vars copy generation image s3 → ((batches : List (List Effect)) → HoldsLog version vars slots generation image batches s4 → ⊥) → (p : Position) (t : State) → HoldsState vars slots p t seen → ⊥
       log_missing chosen holds none = no_log vars slots seen s4 at_4 version copy generation image (chosen_at chosen) (image_there holds) none
 
-      pub all_found : (block_version : Version) (s : State) (log : Log) → number_of block_version ≤ number_of version → copy ≤ 1 → log.generation ≡ generation → IsOpenOver 0 (block_body block_version vars slots) s1 → ChoosesCopy vars copy s2
+      pub all_found : (block_version : Version) (s : State) (log : Log) → version_number block_version ≤ version_number version → copy ≤ 1 → log.generation ≡ generation → IsOpenOver 0 (block_body block_version vars slots) s1 → ChoosesCopy vars copy s2
           → HoldsImage version vars copy generation image s3 → FindsLog version vars slots generation image log.used s s4 → HoldsState vars slots (position_at version copy log) s seen
       all_found block_version s log allowed one same block chosen holds found =
           all_parts block_version version vars slots copy generation image s log seen allowed one same (subst (λ (c : List ℕ). IsOpenOver 0 (block_body block_version vars slots) c) is1 block) (chosen_at chosen) (image_there holds)

@@ -12,7 +12,7 @@ use Rattle.tmem_gate.specs.Gate.{IsOpenAt, IsOpenOver}
 use Rattle.tmem_effect.specs.State.{State}
 use Rattle.tmem_effect.specs.Prefix.{IsPrefix}
 use Rattle.tmem_record.specs.Spelling.{number_bytes}
-use Rattle.tmem_state.specs.Versions.{number_of}
+use Rattle.tmem_state.specs.Versions.{version_number}
 use Rattle.tmem_state.specs.declared.version.Version.{Version}
 use Rattle.tmem_record.proofs.Laws.{number-spelled}
 use Rattle.tmem_record.specs.Layout.{IsLayout}
@@ -36,21 +36,21 @@ unfolding block_body
 block_slots version vars slots few = number-spelled 2 slots (replicate 502 0) (omega (arith, few))
 
 -- and the version
-block_number : (version : Version) (vars slots : ℕ) → slice_index_or (block_body version vars slots) 4 0 ≡ number_of version
+block_number : (version : Version) (vars slots : ℕ) → slice_index_or (block_body version vars slots) 4 0 ≡ version_number version
 unfolding block_body
 block_number version vars slots = refl
 
 -- the version that is read there is that of the block 0
-pub same_version : (version : Version) (vars slots : ℕ) (bytes : List ℕ) → bytes ≡ block_body version vars slots → slice_index_or bytes 4 0 ≡ number_of version
+pub same_version : (version : Version) (vars slots : ℕ) (bytes : List ℕ) → bytes ≡ block_body version vars slots → slice_index_or bytes 4 0 ≡ version_number version
 same_version version vars slots bytes is = ap (λ (b : List ℕ). slice_index_or b 4 0) is ∙ block_number version vars slots
 
 -- blocks of one number are one
-pub same_block : (v w : Version) (vars slots : ℕ) → number_of v ≡ number_of w → block_body v vars slots ≡ block_body w vars slots
+pub same_block : (v w : Version) (vars slots : ℕ) → version_number v ≡ version_number w → block_body v vars slots ≡ block_body w vars slots
 unfolding block_body
 same_block v w vars slots same = ap (λ (n : ℕ). codes "TMEM" ++ n ∷ (little_bytes 2 vars ++ (little_bytes 2 slots ++ replicate 502 0))) same
 
 -- block 0 is of one version at the most
-pub one_block : (vars slots : ℕ) (v w : Version) (c : List ℕ) → IsOpenOver 0 (block_body v vars slots) c → IsOpenOver 0 (block_body w vars slots) c → number_of v ≡ number_of w
+pub one_block : (vars slots : ℕ) (v w : Version) (c : List ℕ) → IsOpenOver 0 (block_body v vars slots) c → IsOpenOver 0 (block_body w vars slots) c → version_number v ≡ version_number w
 one_block vars slots v w c one other =
     let same : block_body v vars slots ≡ block_body w vars slots = one_body 0 _ _ c (length-block_body v vars slots ∙ sym (length-block_body w vars slots)) one other in
     sym (block_number v vars slots) ∙ same_version w vars slots (block_body v vars slots) same

@@ -15,7 +15,7 @@ use Rattle.tmem_record.specs.Layout.{pages_of, image_at, image_size, slot_at}
 use Rattle.tmem_record.specs.Stale.{IsStale}
 use Rattle.tmem_effect.specs.State.{State, fold, IsWithin}
 use Rattle.tmem_effect.specs.declared.effect.Effect.{Effect}
-use Rattle.tmem_state.specs.Versions.{number_of}
+use Rattle.tmem_state.specs.Versions.{version_number}
 use Rattle.tmem_state.specs.declared.version.Version.{Version}
 use Rattle.tmem_state.specs.declared.version.Version.TheVariants.{One, Two}
 use Rattle.tmem_image.specs.Image.{HoldsImage, other_copy}
@@ -66,7 +66,7 @@ module _ (vars slots copy : ℕ) (one : copy ≤ 1) (b c : List ℕ) (same : Sam
   log_aside version generation image batches log = HoldsLog-front vars (image_at vars (other_copy copy)) (image_size vars) b c same (copy_below vars (other_copy copy) (other_one copy)) version slots generation image batches log
 
 -- no version is later than the one that is written
-at_most_two : (version : Version) → number_of version ≤ number_of Two
+at_most_two : (version : Version) → version_number version ≤ version_number Two
 at_most_two One = omega arith
 at_most_two Two = omega arith
 

@@ -2,20 +2,20 @@
 use Rattle.std.proofs.Common.{◌≡◌, ◌≤◌, ◌+◌, ◌-◌, ℕ, List, [], ◌∷◌, ◌++◌, length, take, drop, replicate, codes, sym, ◌∙◌, ap, arith, append_assoc, length-append}
 use Rattle.std.proofs.lemmas.List.{take-append-drop, take_at, drop-replicate, drop-drop, append-nil, length-replicate, replicate-append-replicate}
 use Rattle.byteorder.specs.Endian.{little_bytes}
-use Rattle.tmem_state.specs.Versions.{number_of}
+use Rattle.tmem_state.specs.Versions.{version_number}
 use Rattle.tmem_state.specs.declared.version.Version.{Version}
 use Rattle.tmem_journal.specs.BlockSpelling.{block_body}
 
 -- block 0 from its parts, in front of zeros
-pub block_is : (version : Version) (vars slots : ℕ) (whole : List ℕ) (at number : ℕ) (b0 b1 b2 v s : List ℕ) → b0 ≡ codes "TMEM" → number ≡ number_of version → b1 ≡ b0 ++ number ∷ [] → b2 ≡ b1 ++ v → take at whole ≡ b2 ++ s → drop at whole ≡ replicate 502 0
+pub block_is : (version : Version) (vars slots : ℕ) (whole : List ℕ) (at number : ℕ) (b0 b1 b2 v s : List ℕ) → b0 ≡ codes "TMEM" → number ≡ version_number version → b1 ≡ b0 ++ number ∷ [] → b2 ≡ b1 ++ v → take at whole ≡ b2 ++ s → drop at whole ≡ replicate 502 0
     → v ≡ little_bytes 2 vars → s ≡ little_bytes 2 slots → whole ≡ block_body version vars slots
 unfolding block_body
 block_is version vars slots whole at number b0 b1 b2 v s e0 is e1 e2 e3 rest v_is s_is =
     sym (take-append-drop at whole) ∙ ap (λ (l : List ℕ). l ++ drop at whole) (e3 ∙ ap (λ (l : List ℕ). l ++ s) (e2 ∙ ap (λ (l : List ℕ). l ++ v) (e1 ∙ ap (λ (l : List ℕ). l ++ number ∷ []) e0 ∙ ap (λ (n : ℕ). codes "TMEM" ++ n ∷ []) is)))
-    ∙ ap (λ (l : List ℕ). (((codes "TMEM" ++ number_of version ∷ []) ++ v) ++ s) ++ l) rest
-    ∙ grouped (codes "TMEM") (number_of version ∷ []) v s (replicate 502 0)
-    ∙ ap (λ (l : List ℕ). codes "TMEM" ++ number_of version ∷ (l ++ (s ++ replicate 502 0))) v_is
-    ∙ ap (λ (l : List ℕ). codes "TMEM" ++ number_of version ∷ (little_bytes 2 vars ++ (l ++ replicate 502 0))) s_is
+    ∙ ap (λ (l : List ℕ). (((codes "TMEM" ++ version_number version ∷ []) ++ v) ++ s) ++ l) rest
+    ∙ grouped (codes "TMEM") (version_number version ∷ []) v s (replicate 502 0)
+    ∙ ap (λ (l : List ℕ). codes "TMEM" ++ version_number version ∷ (l ++ (s ++ replicate 502 0))) v_is
+    ∙ ap (λ (l : List ℕ). codes "TMEM" ++ version_number version ∷ (little_bytes 2 vars ++ (l ++ replicate 502 0))) s_is
   where
     grouped : (a b c d f : List ℕ) → (((a ++ b) ++ c) ++ d) ++ f ≡ a ++ (b ++ (c ++ (d ++ f)))
     grouped a b c d f = simp append_assoc

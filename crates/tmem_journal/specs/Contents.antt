@@ -3,7 +3,7 @@ use Rattle.std.specs.Prelude.{◌≡◌, ◌⊎◌, ◌+◌, ◌≤◌, ◌^◌,
 use Rattle.tmem_gate.specs.Gate.{IsOpenOver}
 use Rattle.tmem_record.specs.Stale.{IsStale}
 use Rattle.tmem_effect.specs.State.{State}
-use Rattle.tmem_state.specs.Versions.{number_of}
+use Rattle.tmem_state.specs.Versions.{version_number}
 use Rattle.tmem_state.specs.declared.version.Version.{Version}
 use Rattle.tmem_state.specs.declared.version.Version.TheVariants.{One, Two}
 use Rattle.tmem_effect.specs.declared.effect.Effect.{Effect}
@@ -59,7 +59,7 @@ pub record IsSpentAt (p : Position) : Type 0 where
 -- batches, in the grammar of that version.
 pub record Holds (version : Version) (vars slots copy generation : ℕ) (image : State) (batches : List (List Effect)) (c : List ℕ) : Type 0 where
   pub block_version : Version
-  pub allowed : number_of block_version ≤ number_of version
+  pub allowed : version_number block_version ≤ version_number version
   pub block : IsOpenOver 0 (block_body block_version vars slots) c
   pub one : copy ≤ 1
   pub chosen : HoldsImage version vars copy generation image c

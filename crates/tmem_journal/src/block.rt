@@ -1,7 +1,7 @@
 // Block 0: the magic, the format version, and the numbers of variables and log slots.
 ghost use Rattle.std.specs.Prelude.{◌≡◌, ◌≤◌, ◌↔◌, ℕ, length, IfOk, IfErr, IfSome, IfNone, IsTrue};
 ghost use Rattle.tmem_record.specs.Layout.{IsLayout};
-ghost use Rattle.tmem_state.specs.Versions.{number_of};
+ghost use Rattle.tmem_state.specs.Versions.{version_number};
 ghost use Rattle.tmem_state.specs.declared.version.Version.{Version as VersionOf};
 ghost use Rattle.tmem_journal.specs.BlockSpelling.{block_body};
 ghost use Rattle.tmem_journal.specs.Parts.{IsBlockFault};
@@ -67,7 +67,7 @@ pub(crate) fn read_block(bytes: &[u8], layout: Layout) -> Result<Version, Fault>
 /// Whether an image of one version may stand behind a block 0 of another: no store is formatted by a later version than its
 /// images are of.
 pub(crate) fn may_follow(block: Version, image: Version) -> bool
-    ensures { IsTrue result ↔ (number_of block ≤ number_of image) }
+    ensures { IsTrue result ↔ (version_number block ≤ version_number image) }
 {
     block.number() <= image.number()
 }

@@ -41,7 +41,7 @@ cut_off true held first rest text new is unbroken stands m =
 cut_off false held first rest text new is unbroken stands m =
     (first, record { rest = rest; is = m ∙ is; unbroken = unbroken; stands = stands }, refl)
 
--- the same, of a text that stands for more
+-- the same, of a text that is read as more
 pub longer_text : (b : Bool) (held piece text : List ℕ)
     → MatchBool b ((before : List ℕ) × (text ≡ before ++ held) × IsForgotten before) (text ≡ held)
     → MatchBool b ((before : List ℕ) × (text ++ piece ≡ before ++ (held ++ piece)) × IsForgotten before) (text ++ piece ≡ held ++ piece)

@@ -3,7 +3,7 @@ use Rattle.std.specs.Prelude.{◌≡◌, ◌≢◌, ◌+◌, ◌-◌, ◌*◌, �
 use Rattle.tmem_gate.specs.Gate.{IsOpenAt, IsClosed}
 use Rattle.tmem_record.specs.Layout.{IsLayout}
 use Rattle.tmem_record.specs.StandsAt.{StandsAt, zero_bytes}
-use Rattle.tmem_state.specs.Versions.{number_of}
+use Rattle.tmem_state.specs.Versions.{version_number}
 use Rattle.tmem_state.specs.declared.version.Version.{Version}
 use Rattle.tmem_parts.specs.declared.wrong.Why.{Why}
 use Rattle.tmem_parts.specs.declared.wrong.Why.TheVariants as why
@@ -17,7 +17,7 @@ pub record IsHeadedBy (version : Version) (c : List ℕ) : Type 0 where
   pub long : 512 ≤ length c
   pub gate : IsOpenAt 0 c
   pub letters : take 4 (drop 1 c) ≡ codes "TMEM"
-  pub number : slice_index c 5 ≡ number_of version
+  pub number : slice_index c 5 ≡ version_number version
 
 -- block 0 is open, and each of its fields stands at its place: the letters, the version, the numbers of variables and log slots, and
 -- zeros
@@ -34,12 +34,12 @@ IsNoBlock c = (version : Version) (vars slots : ℕ) → IsBlock version vars sl
 
 -- This is wrong with block 0, at that place: the bytes end there; the gate is closed; a letter is another one; no version has that
 -- number; the number of variables, or that of log slots, is out of its limits; or a byte behind them is not 0.
-abbrev pub IsAmiss : Why → ℕ → List ℕ → Type 0
-IsAmiss why.Ends at c = (length c < 512) × (at ≡ length c)
-IsAmiss why.BlockClosed at c = (at ≡ 0) × IsClosed 0 c
-IsAmiss why.Letters at c = (1 ≤ at) × (at ≤ 4) × (slice_index c at ≢ slice_index (codes "TMEM") (at - 1))
-IsAmiss why.BlockVersion at c = (at ≡ 5) × ((version : Version) → slice_index c 5 ≢ number_of version)
-IsAmiss why.Vars at c = (at ≡ 6) × ((slots : ℕ) → ¬ IsLayout (short_in c 6) slots)
-IsAmiss why.Slots at c = (at ≡ 8) × ((vars : ℕ) → ¬ IsLayout vars (short_in c 8))
-IsAmiss why.NotZero at c = (10 ≤ at) × (at < 512) × (slice_index c at ≢ 0)
-IsAmiss _ at c = ⊥
+abbrev pub IsBlockWrong : Why → ℕ → List ℕ → Type 0
+IsBlockWrong why.Ends at c = (length c < 512) × (at ≡ length c)
+IsBlockWrong why.BlockClosed at c = (at ≡ 0) × IsClosed 0 c
+IsBlockWrong why.Letters at c = (1 ≤ at) × (at ≤ 4) × (slice_index c at ≢ slice_index (codes "TMEM") (at - 1))
+IsBlockWrong why.BlockVersion at c = (at ≡ 5) × ((version : Version) → slice_index c 5 ≢ version_number version)
+IsBlockWrong why.Vars at c = (at ≡ 6) × ((slots : ℕ) → ¬ IsLayout (short_in c 6) slots)
+IsBlockWrong why.Slots at c = (at ≡ 8) × ((vars : ℕ) → ¬ IsLayout vars (short_in c 8))
+IsBlockWrong why.NotZero at c = (10 ≤ at) × (at < 512) × (slice_index c at ≢ 0)
+IsBlockWrong _ at c = ⊥

@@ -2,7 +2,7 @@
 ghost use Rattle.std.specs.Prelude.{◌≡◌, ◌≢◌, ◌≤◌, ◌+◌, length, take, drop, codes, IfOk, IfErr, IfSome, IfNone, OnErr, OnSome};
 ghost use Rattle.tmem_record.specs.Layout.{IsLayout};
 ghost use Rattle.tmem_record.specs.StandsAt.{StandsAt, zero_bytes};
-ghost use Rattle.tmem_parts.specs.Block.{IsAmiss, IsBlock, IsHeadedBy, IsNoBlock, short_in};
+ghost use Rattle.tmem_parts.specs.Block.{IsBlockWrong, IsBlock, IsHeadedBy, IsNoBlock, short_in};
 
 use crate::wrong::{Why, Wrong};
 use tmem_gate::reads_open;
@@ -26,7 +26,7 @@ pub struct Block {
 pub fn block_of(bytes: &[u8]) -> Result<Block, Wrong>
     ensures block { IfOk result (λ block. IsBlock block.version block.layout.vars block.layout.slots bytes.now) }
     ensures none { OnErr result (IsNoBlock bytes.now) }
-    ensures wrong { IfErr result (λ wrong. IsAmiss wrong.why wrong.at bytes.now) }
+    ensures wrong { IfErr result (λ wrong. IsBlockWrong wrong.why wrong.at bytes.now) }
 {
     if bytes.len() < BLOCK_BYTES {
         return Err(Wrong {
@@ -58,7 +58,7 @@ pub fn block_of(bytes: &[u8]) -> Result<Block, Wrong>
 // The place of the first letter that is another one than that of `TMEM`.
 fn other_letter(bytes: &[u8]) -> Option<u64>
     requires { 512 ≤ length bytes.now }
-    ensures other { IfSome result (λ at. IsAmiss Why.Letters at bytes.now) }
+    ensures other { IfSome result (λ at. IsBlockWrong Why.Letters at bytes.now) }
     ensures some { OnSome result (take 4 (drop 1 bytes.now) ≢ codes "TMEM") }
     ensures none { IfNone result (take 4 (drop 1 bytes.now) ≡ codes "TMEM") }
 {
@@ -76,7 +76,7 @@ fn numbers_of(bytes: &[u8], version: Version) -> Result<Block, Wrong>
     requires { IsHeadedBy version bytes.now }
     ensures block { IfOk result (λ block. IsBlock block.version block.layout.vars block.layout.slots bytes.now) }
     ensures none { OnErr result (IsNoBlock bytes.now) }
-    ensures wrong { IfErr result (λ wrong. IsAmiss wrong.why wrong.at bytes.now) }
+    ensures wrong { IfErr result (λ wrong. IsBlockWrong wrong.why wrong.at bytes.now) }
 {
     let (vars, slots) = (short_at(bytes, 6), short_at(bytes, 8));
     let Ok(layout) = Layout::new(vars, slots) else {
@@ -103,7 +103,7 @@ fn short_at(bytes: &[u8], at: usize) -> u16
 fn wrong_number(bytes: &[u8]) -> Wrong
     requires long { 512 ≤ length bytes.now }
     requires unfit { ¬ IsLayout (short_in bytes.now 6) (short_in bytes.now 8) }
-    ensures { IsAmiss result.why result.at bytes.now }
+    ensures { IsBlockWrong result.why result.at bytes.now }
 {
     if Layout::new(short_at(bytes, 6), LEAST_SLOTS).is_ok() {
         Wrong {
@@ -121,7 +121,7 @@ fn wrong_number(bytes: &[u8]) -> Wrong
 // The place of the first byte behind the numbers that is not 0.
 fn other_than_zero(bytes: &[u8]) -> Option<u64>
     requires { 512 ≤ length bytes.now }
-    ensures other { IfSome result (λ at. IsAmiss Why.NotZero at bytes.now) }
+    ensures other { IfSome result (λ at. IsBlockWrong Why.NotZero at bytes.now) }
     ensures some { OnSome result (¬ StandsAt 10 (zero_bytes 502) bytes.now) }
     ensures none { IfNone result (StandsAt 10 (zero_bytes 502) bytes.now) }
 {

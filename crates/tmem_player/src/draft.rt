@@ -1,5 +1,5 @@
 //! A row as far as it was read.
-ghost use Rattle.tmem_event.specs.Events.{NamesSlot};
+ghost use Rattle.tmem_event.specs.Events.{NamesAttempt};
 
 use crate::row::{Act, Events, Handed, Job, Numbers, Part, Row, Task};
 use std::alloc::Global;
@@ -37,7 +37,7 @@ impl Draft {
     }
 
     pub(crate) fn add_event(&mut self, event: Event) -> Result<(), FormError>
-        requires { NamesSlot event }
+        requires { NamesAttempt event }
     {
         self.need_session()?;
         self.events.push(event)?;

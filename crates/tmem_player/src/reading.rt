@@ -1,6 +1,6 @@
 //! Reads a row from its text.
 ghost use Rattle.std.specs.Prelude.{◌<◌, IfOk};
-ghost use Rattle.tmem_event.specs.Events.{NamesSlot};
+ghost use Rattle.tmem_event.specs.Events.{NamesAttempt};
 
 use crate::draft::Draft;
 use crate::failure::Failure;
@@ -114,17 +114,17 @@ fn add_member(alloc: Global, key: &str, body: &Value, draft: &mut Draft) -> Resu
     }
 }
 
-// An event that names an attempt slot.
+// An event that names an attempt.
 fn event_of(alloc: Global, key: &str, body: &Value) -> Result<Event, FormError>
-    ensures { IfOk result NamesSlot }
+    ensures { IfOk result NamesAttempt }
 {
     if key == "begin" {
         let (first, second) = pair_of(body)?;
-        let slot = slot_of(first)?;
+        let slot = attempt_of(first)?;
         let tx = tx_of(alloc, second)?;
         return Ok(Event::Begin { slot, tx });
     }
-    let slot = slot_of(body)?;
+    let slot = attempt_of(body)?;
     Ok(if key == "turn" {
         Event::Turn { slot }
     } else {
@@ -132,7 +132,7 @@ fn event_of(alloc: Global, key: &str, body: &Value) -> Result<Event, FormError>
     })
 }
 
-fn slot_of(value: &Value) -> Result<u8, FormError>
+fn attempt_of(value: &Value) -> Result<u8, FormError>
     ensures { IfOk result (λ slot. slot < 16) }
 {
     let slot = byte_of(value)?;

@@ -1,6 +1,6 @@
 //! What a row asks for.
 ghost use Rattle.std.specs.Prelude.{All};
-ghost use Rattle.tmem_event.specs.Events.{NamesSlot};
+ghost use Rattle.tmem_event.specs.Events.{NamesAttempt};
 
 use std::alloc::{AllocError, Global};
 use tmem_disk::{DeviceFault, Fill};
@@ -93,11 +93,11 @@ pub(crate) enum Part {
     Calls,
 }
 
-/// Events whose attempt slots are some that a world has.
+/// Events that name attempts that a world has.
 #[derive(Drop)]
 pub(crate) struct Events {
     pub(crate) list: Vec<Event>,
-    ghost fit: { All NamesSlot list.items },
+    ghost fit: { All NamesAttempt list.items },
 }
 
 impl Events {
@@ -108,7 +108,7 @@ impl Events {
     }
 
     pub(crate) fn push(&mut self, event: Event) -> Result<(), AllocError>
-        requires { NamesSlot event }
+        requires { NamesAttempt event }
     {
         self.list.push(event)?;
         Ok(())

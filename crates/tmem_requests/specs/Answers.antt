@@ -3,7 +3,7 @@ use Rattle.std.specs.Prelude.{ℕ, ℤ, pos, Bool, true, false, List, [], ◌∷
 use Rattle.std.specs.Fmt.{decimal, signed_decimal}
 use Rattle.std.specs.List.{list_all}
 use Rattle.std.specs.Ordering.{int_eq}
-use Rattle.tmem_fault.specs.Fault.{number_of}
+use Rattle.tmem_fault.specs.Fault.{cause_number}
 use Rattle.tmem_fault.specs.declared.fault.Cause.{Cause}
 use Rattle.tmem_fault.specs.declared.fault.Cause.TheVariants.{TooDeep, TooManyNodes, TooManyWrites, TooManyChecks, BadRegister, BadVariable, BadStep, BadArguments, UnknownName, TooManyRetires}
 use Rattle.tmem_fault.specs.declared.fault.Fault.{Fault}
@@ -115,7 +115,7 @@ cause_text TooManyRetires = codes "it retires more than 8 names"
 abbrev pub fault_detail : Fault → List ℕ
 fault_detail (fault.Missing name) = codes ",\"name\":" ++ word_text name
 fault_detail (fault.Broken name) = codes ",\"name\":" ++ word_text name
-fault_detail (fault.BadPlan cause) = codes ",\"cause\":" ++ decimal (number_of cause) ++ codes ",\"why\":\"" ++ cause_text cause ++ codes "\""
+fault_detail (fault.BadPlan cause) = codes ",\"cause\":" ++ decimal (cause_number cause) ++ codes ",\"why\":\"" ++ cause_text cause ++ codes "\""
 fault_detail f = []
 
 abbrev pub fault_text : Fault → List ℕ

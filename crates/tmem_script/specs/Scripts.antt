@@ -2,7 +2,7 @@
 use Rattle.std.specs.Prelude.{◌≡◌, ℕ, List, [], ◌∷◌, map, codes, All, IsUtf8, Some}
 use Rattle.serde_json.specs.Data.{Data, string, object, member, no_members}
 use Rattle.serde_json.specs.Read.{read}
-use Rattle.tmem_event.specs.Events.{NamesSlot}
+use Rattle.tmem_event.specs.Events.{NamesAttempt}
 use Rattle.tmem_event.specs.declared.event.Event.{Event}
 use Rattle.tmem_event.specs.declared.event.Event.TheVariants as event
 use Rattle.tmem_forms.specs.TxForms.{natural, array_of, tagged, tx_form, TxInRange, IsShort}
@@ -29,10 +29,10 @@ EventInRange event.Checkpoint = Unit {0}
 EventInRange event.Look = Unit {0}
 EventInRange event.Reopen = Unit {0}
 
--- this value is the form of this event, whose attempt slot is one that a world has
+-- this value is the form of this event, which names an attempt that a world has
 pub record IsEvent (event : Event) (d : Data) : Type 0 where
   pub form : d ≡ event_form event
-  pub slot : NamesSlot event
+  pub attempt : NamesAttempt event
   pub in_range : EventInRange event
 
 -- the form of an entry
@@ -40,7 +40,7 @@ abbrev pub entry_form : Entry → Data
 entry_form (entry.Event playable) = event_form playable.event
 entry_form entry.Show = string (codes "show")
 
--- The transaction of an entry's event is in range. The slot is one that a world has in each entry, by its type.
+-- The transaction of an entry's event is in range. The attempt is one that a world has in each entry, by its type.
 abbrev pub EntryInRange : Entry → Type 0
 EntryInRange (entry.Event playable) = EventInRange playable.event
 EntryInRange entry.Show = Unit {0}

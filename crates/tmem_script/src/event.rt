@@ -12,8 +12,8 @@ use std::alloc::Global;
 use tmem_event::{ATTEMPTS, Event};
 use tmem_forms::{FormError, byte_of, pair_of, tx_of};
 
-/// Reads an event: a word such as `"flush"`, or an object with one member such as `{"turn":0}`. Its
-/// attempt slot is one that a world has.
+/// Reads an event: a word such as `"flush"`, or an object with one member such as `{"turn":0}`. It
+/// names an attempt that a world has.
 pub(crate) fn event_of(alloc: Global, value: &Value) -> Result<Event, FormError>
     ensures ok { IfOk result (λ event. IsEvent event (view value.now)) }
     ensures refused { IfErr result (λ e. Refuses e ((event : Event) → ¬ IsEvent event (view value.now))) }
@@ -51,11 +51,11 @@ fn event_of_member(alloc: Global, key: &str, body: &Value) -> Result<Event, Form
     match key {
         "begin" => begin_of(alloc, body),
         "turn" => {
-            let slot = slot_of(body)?;
+            let slot = attempt_of(body)?;
             Ok(Event::Turn { slot })
         }
         "settle" => {
-            let slot = slot_of(body)?;
+            let slot = attempt_of(body)?;
             Ok(Event::Settle { slot })
         }
         _ => Err(FormError::NoForm),
@@ -67,12 +67,12 @@ fn begin_of(alloc: Global, body: &Value) -> Result<Event, FormError>
     ensures refused { IfErr result (λ e. Refuses e ((event : Event) → ¬ IsEvent event (tagged (codes "begin") (view body.now)))) }
 {
     let (first, second) = pair_of(body)?;
-    let slot = slot_of(first)?;
+    let slot = attempt_of(first)?;
     let tx = tx_of(alloc, second)?;
     Ok(Event::Begin { slot, tx })
 }
 
-fn slot_of(value: &Value) -> Result<u8, FormError>
+fn attempt_of(value: &Value) -> Result<u8, FormError>
     ensures ok { IfOk result (λ slot. view value.now ≡ natural slot) }
     ensures below { IfOk result (λ slot. slot < 16) }
     ensures refused { IfErr result (λ e. Refuses e ((slot : ℕ) → slot < 16 → ¬ (view value.now ≡ natural slot))) }

@@ -2,7 +2,7 @@
 ghost use Rattle.std.specs.Prelude.{◌≡◌, IfOk, IfErr};
 ghost use Rattle.serde_json.specs.Data.{Data, Members, member};
 ghost use Rattle.serde_json.specs.View.{view, members_view};
-ghost use Rattle.tmem_event.specs.Events.{NamesSlot};
+ghost use Rattle.tmem_event.specs.Events.{NamesAttempt};
 ghost use Rattle.tmem_forms.specs.Errors.{Refuses};
 
 use crate::entry::entries_of;
@@ -30,11 +30,11 @@ pub enum Entry {
     Show,
 }
 
-/// An event whose attempt slot is one that a world has.
+/// An event that names an attempt that a world has, where it names one.
 #[derive(Drop)]
 pub struct Playable {
     pub event: Event,
-    ghost fits: { NamesSlot event },
+    ghost fits: { NamesAttempt event },
 }
 
 /// Why a script was not read.

@@ -1,4 +1,4 @@
--- What lies under the core's lock, and what it stands for.
+-- What lies under the core's lock, and what it represents.
 use Rattle.std.specs.Prelude.{◌≡◌, ◌⊎◌, ℕ, ◌-◌, ◌^◌, ◌<◌, ◌≤◌, Bool, true, false, List, drop}
 use Rattle.tmem_effect.specs.State.{State, StaysWithin}
 use Rattle.tmem_core.specs.declared.core_state.Core.{Core}

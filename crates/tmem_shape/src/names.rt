@@ -64,7 +64,7 @@ fn named_of(
     Ok(names)
 }
 
-// The variable that a name stands for.
+// The variable of this name.
 fn named_variable(alloc: Global, name: &str, value: &Value, vars: u16) -> Result<u16, ShapeError>
     ensures ok { IfOk result (λ var. view value.now ≡ natural var) }
     ensures fits { IfOk result (λ var. IsVariableName name.now × (var < vars)) }

@@ -4,9 +4,9 @@ pub use Rattle.tmem_state.specs.declared.version.Version.{Version}
 pub use Rattle.tmem_state.specs.declared.version.Version.TheVariants.{One, Two}
 
 -- the number that block 0 has for a version
-abbrev pub number_of : Version → ℕ
-number_of One = 1
-number_of Two = 2
+abbrev pub version_number : Version → ℕ
+version_number One = 1
+version_number Two = 2
 
 -- the number that the header of an image ends with
 abbrev pub mark_of : Version → ℕ

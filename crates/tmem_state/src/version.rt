@@ -1,7 +1,7 @@
 // The versions of the format.
 ghost use Rattle.std.specs.Prelude.{◌≡◌, IfSome, IfNone};
 ghost use Rattle.tmem_state.specs.declared.version.Version.{Version as VersionOf};
-ghost use Rattle.tmem_state.specs.Versions.{number_of, mark_of};
+ghost use Rattle.tmem_state.specs.Versions.{version_number, mark_of};
 
 /// A version of the format. Both are read, and the second is written. Only the second has retired names in its records.
 #[derive(Clone, Copy, Debug, PartialEq, Eq)]
@@ -13,8 +13,8 @@ pub enum Version {
 impl Version {
     /// The version that block 0 has this number for, or `None` where there is no such version.
     pub fn of_block(number: u8) -> Option<Version>
-        ensures found { IfSome result (λ v. number ≡ number_of v) }
-        ensures none { IfNone result ((v : VersionOf) → number ≡ number_of v → ⊥) }
+        ensures found { IfSome result (λ v. number ≡ version_number v) }
+        ensures none { IfNone result ((v : VersionOf) → number ≡ version_number v → ⊥) }
     {
         match number {
             1 => Some(Version::One),
@@ -37,7 +37,7 @@ impl Version {
 
     /// Its number in block 0.
     pub fn number(self) -> u8
-        ensures { result ≡ number_of self }
+        ensures { result ≡ version_number self }
     {
         match self {
             Version::One => 1,

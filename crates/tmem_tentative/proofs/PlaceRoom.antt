@@ -10,12 +10,12 @@ use Rattle.tmem_tree.specs.declared.tx.Tx.TheBlock.{items-the_row-Tx}
 use Rattle.tmem_tree.specs.declared.tx.Tx.TheViews.{the_lemmas}
 use Rattle.tmem_tree.specs.Limits.{depth, count, count_all}
 use Rattle.tmem_tree.specs.Visited.{Ask}
-use Rattle.tmem_tree.proofs.Laws.{count_in, count-Seq}
+use Rattle.tmem_tree.proofs.Laws.{count_items, count-Seq}
 use Rattle.tmem_tentative.specs.declared.save.Save.{Save}
 use Rattle.tmem_tentative.specs.Logs.{Out, Went, Stopped, Gave_way, Left}
 use Rattle.tmem_tentative.specs.Places.{HasRoom, AllHaveRoom, LeavesRoom, Enters, EntersChoice, IsLeaf, IsPathBehind, with_child}
 
-count_all-items : (test : Tx → Bool) {m : _} (txs : Row_of-Tx m) → count_all test txs ≡ count_in test (items-the_row-Tx m txs)
+count_all-items : (test : Tx → Bool) {m : _} (txs : Row_of-Tx m) → count_all test txs ≡ count_items test (items-the_row-Tx m txs)
 count_all-items test end_of-Tx = refl
 count_all-items test (more_of-Tx tx txs) = ap (λ n. count test tx + n) (count_all-items test txs)
 
@@ -30,11 +30,11 @@ module _ (test : Tx → Bool) (limit : ℕ) (size : Effect → ℕ) where
   -- the first from a place inside it, and the others from their starts
   abbrev pub RoomIn : ℕ → List Tx → List ℕ → List Save → ℕ → Type 0
   RoomIn rest [] path saves n = (path ≡ []) × (n + rest ≤ limit)
-  RoomIn rest (tx ∷ txs) path saves n = HasRoom test limit size (count_in test txs + rest) path tx saves n
+  RoomIn rest (tx ∷ txs) path saves n = HasRoom test limit size (count_items test txs + rest) path tx saves n
 
   abbrev pub RoomAt : ℕ → List Tx → List ℕ → List Save → ℕ → Type 0
   RoomAt rest [] path saves n = ⊥
-  RoomAt rest (tx ∷ txs) path saves n = HasRoom test limit size (count_in test txs + rest) path tx saves n
+  RoomAt rest (tx ∷ txs) path saves n = HasRoom test limit size (count_items test txs + rest) path tx saves n
 
   all_at : (rest i : ℕ) (path : List ℕ) {k : _} (txs : Row_of-Tx k) (saves : List Save) (n : ℕ) → AllHaveRoom test limit size rest i path txs saves n ≡ RoomAt rest (drop i (items-the_row-Tx k txs)) path saves n
   all_at rest zero path end_of-Tx saves n = refl
@@ -49,7 +49,7 @@ module _ (test : Tx → Bool) (limit : ℕ) (size : Effect → ℕ) where
   at_in rest [] path saves n h = absurd h
   at_in rest (tx ∷ txs) path saves n h = h
 
-  start_in : (rest : ℕ) (txs : List Tx) (saves : List Save) (n : ℕ) → n + count_in test txs + rest ≤ limit → RoomIn rest txs [] saves n
+  start_in : (rest : ℕ) (txs : List Tx) (saves : List Save) (n : ℕ) → n + count_items test txs + rest ≤ limit → RoomIn rest txs [] saves n
   start_in rest [] saves n h = (refl, omega arith)
   start_in rest (tx ∷ txs) saves n h = omega arith
 
@@ -74,7 +74,7 @@ module _ (test : Tx → Bool) (limit : ℕ) (size : Effect → ℕ) where
 
   -- behind a tree of a Seq that has not ended normally
   pub seq_leaves : (rest k : ℕ) (txs : Vec Tx Global) (tx : Tx) (others : List Tx) (out : Out) (path : List ℕ) (saves : List Save) (effect : Effect) → drop k txs.items ≡ tx ∷ others → (out ≡ Went → ⊥)
-      → LeavesRoom test limit size (count_in test others + rest) out path tx saves effect → LeavesRoom test limit size rest out (with_child out k path) (Seq txs) saves effect
+      → LeavesRoom test limit size (count_items test others + rest) out path tx saves effect → LeavesRoom test limit size rest out (with_child out k path) (Seq txs) saves effect
   seq_leaves rest k txs tx others Went path saves effect here some h = absurd (some refl)
   seq_leaves rest k txs tx others (Stopped ask) path saves effect here some h =
       subst (λ (T : Type 0). T) (sym (at-Seq rest k path txs saves (size effect))) (subst (λ ts. RoomAt rest ts path saves (size effect)) (sym here) h)
@@ -82,7 +82,7 @@ module _ (test : Tx → Bool) (limit : ℕ) (size : Effect → ℕ) where
   seq_leaves rest k txs tx others (Left how) path saves effect here some h = h
 
   -- behind one that has
-  pub seq_next : (rest : ℕ) (tx : Tx) (others : List Tx) (path : List ℕ) (saves : List Save) (effect : Effect) → path ≡ [] → LeavesRoom test limit size (count_in test others + rest) Went path tx saves effect → RoomIn rest others path saves (size effect)
+  pub seq_next : (rest : ℕ) (tx : Tx) (others : List Tx) (path : List ℕ) (saves : List Save) (effect : Effect) → path ≡ [] → LeavesRoom test limit size (count_items test others + rest) Went path tx saves effect → RoomIn rest others path saves (size effect)
   seq_next rest tx others path saves effect none h =
       subst (λ l. RoomIn rest others l saves (size effect)) (sym none) (start_in rest others saves (size effect) (omega (arith, h)))
 

@@ -8,7 +8,7 @@ use Rattle.tmem_tree.specs.declared.tx.Tx.{Tx, Row_of-Tx, end_of-Tx, more_of-Tx}
 use Rattle.tmem_tree.specs.declared.tx.Tx.TheVariants.{Seq}
 use Rattle.tmem_tree.specs.declared.tx.Tx.TheBlock.{items-the_row-Tx}
 use Rattle.tmem_tree.specs.declared.tx.Tx.TheViews.{the_lemmas}
-use Rattle.tmem_tree.proofs.Laws.{count_in, depth_in, choices_in, count-Seq, depth-Seq, choices-Seq}
+use Rattle.tmem_tree.proofs.Laws.{count_items, depth_items, choices_in, count-Seq, depth-Seq, choices-Seq}
 use Rattle.tmem_tree.specs.Limits.{depth, count, is_write, is_check, is_retire, has_bad_register, has_bad_step, has_bad_arguments, lacks_shape}
 use Rattle.tmem_tree.specs.StepAnswers.{StepMeanings}
 use Rattle.tmem_tentative.specs.declared.save.Save.{Save}
@@ -66,17 +66,17 @@ seq_leads m footprint seen kept txs k tx others before inside out after left her
 pub here_is : (txs : List Tx) (i : ℕ) (tx : Tx) → i < length txs → tx ≡ get_or txs i tx → drop i txs ≡ tx ∷ drop (i + 1) txs
 here_is txs i tx h is = drop-cons txs i tx h ∙ ap (λ t. t ∷ drop (suc i) txs) (sym is) ∙ ap (λ k. tx ∷ drop k txs) (sym (add-one i))
 
-pub count_in-drop : (test : Tx → Bool) (i : ℕ) (txs : List Tx) → count_in test (drop i txs) ≤ count_in test txs
-count_in-drop test zero [] = omega arith
-count_in-drop test (suc i) [] = omega arith
-count_in-drop test zero (tx ∷ txs) = omega arith
-count_in-drop test (suc i) (tx ∷ txs) = omega (arith, count_in-drop test i txs)
+pub count_items-drop : (test : Tx → Bool) (i : ℕ) (txs : List Tx) → count_items test (drop i txs) ≤ count_items test txs
+count_items-drop test zero [] = omega arith
+count_items-drop test (suc i) [] = omega arith
+count_items-drop test zero (tx ∷ txs) = omega arith
+count_items-drop test (suc i) (tx ∷ txs) = omega (arith, count_items-drop test i txs)
 
-pub depth_in-drop : (i : ℕ) (txs : List Tx) → depth_in (drop i txs) ≤ depth_in txs
-depth_in-drop zero [] = omega arith
-depth_in-drop (suc i) [] = omega arith
-depth_in-drop zero (tx ∷ txs) = omega arith
-depth_in-drop (suc i) (tx ∷ txs) = omega (arith, depth_in-drop i txs)
+pub depth_items-drop : (i : ℕ) (txs : List Tx) → depth_items (drop i txs) ≤ depth_items txs
+depth_items-drop zero [] = omega arith
+depth_items-drop (suc i) [] = omega arith
+depth_items-drop zero (tx ∷ txs) = omega arith
+depth_items-drop (suc i) (tx ∷ txs) = omega (arith, depth_items-drop i txs)
 
 pub choices_in-drop : (i : ℕ) (txs : List Tx) → choices_in (drop i txs) ≤ choices_in txs
 choices_in-drop zero [] = omega arith
@@ -95,8 +95,8 @@ seq_goes m footprint seen left reads more tx others before after l covers =
 module _ (IsStated : StepMeanings → Type 0) (shapes : List Shape) (seen : Taken) where
   -- what is left of a tree, the first from a place inside it, and of the answers: the tree goes on there
   pub record IsLeft (tree : Tx) (before : Place) (txs : List Tx) (here : Place) (kept : List Bool) : Type 0 where
-    pub counts : (test : Tx → Bool) → count_in test txs ≤ count test tree
-    pub deep : depth_in txs < depth tree
+    pub counts : (test : Tx → Bool) → count_items test txs ≤ count test tree
+    pub deep : depth_items txs < depth tree
     pub enough : choices_in txs ≤ length here.saves
     pub writes : (rest : ℕ) → WritesFit rest before.path tree before.saves before.effect → RoomIn is_write 64 (λ e. length e.writes) rest txs here.path here.saves (length here.effect.writes)
     pub names : (rest : ℕ) → NamesFit rest before.path tree before.saves before.effect → RoomIn is_check 8 (λ e. length e.names) rest txs here.path here.saves (length here.effect.names)
@@ -107,8 +107,8 @@ module _ (IsStated : StepMeanings → Type 0) (shapes : List Shape) (seen : Take
   -- a Seq that is entered
   pub enter_seq : {arities : List ℕ} {invariants : List (List ℕ)} {before : Place} {left : List ℕ} (txs : Vec Tx Global) (from : ℕ) → Enters before.path 0 from left → MayRunFrom arities invariants (Seq txs) before → IsLeft (Seq txs) before (drop from txs.items) (record before { path = left }) seen.left
   enter_seq {before = before} {left = left} txs from e may = record {
-    counts = λ test. omega (arith, count-Seq test txs, count_in-drop test from txs.items);
-    deep = omega (arith, depth-Seq txs, depth_in-drop from txs.items);
+    counts = λ test. omega (arith, count-Seq test txs, count_items-drop test from txs.items);
+    deep = omega (arith, depth-Seq txs, depth_items-drop from txs.items);
     enough = omega (arith, may.enough, choices-Seq txs, choices_in-drop from txs.items);
     writes = λ rest. seq_room is_write 64 (λ e. length e.writes) rest txs before.path from left before.saves (length before.effect.writes) e;
     names = λ rest. seq_room is_check 8 (λ e. length e.names) rest txs before.path from left before.saves (length before.effect.names) e;
@@ -125,9 +125,9 @@ module _ (IsStated : StepMeanings → Type 0) (shapes : List Shape) (seen : Take
       known = omega (arith, may.known, is.counts (lacks_shape invariants));
       deep = omega (arith, may.deep, is.deep);
       enough = omega (arith, is.enough);
-      writes = (count_in is_write txs + may.writes.0, is.writes may.writes.0 may.writes.1);
-      names = (count_in is_check txs + may.names.0, is.names may.names.0 may.names.1);
-      retires = (count_in is_retire txs + may.retires.0, is.retires may.retires.0 may.retires.1);
+      writes = (count_items is_write txs + may.writes.0, is.writes may.writes.0 may.writes.1);
+      names = (count_items is_check txs + may.names.0, is.names may.names.0 may.names.1);
+      retires = (count_items is_retire txs + may.retires.0, is.retires may.retires.0 may.retires.1);
     }
 
     -- none is left

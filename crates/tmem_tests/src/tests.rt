@@ -58,7 +58,7 @@ fn opened<T: Invariants + Drop, S: StoredSteps + Drop>(
     }
 }
 
-/// Begins a transaction on slot 0, evaluates it to its end, and settles it.
+/// Begins a transaction in attempt 0, evaluates it to its end, and settles it.
 fn commit<T: Invariants + Drop, S: StoredSteps + Drop>(
     world: &mut World<SimDisk, T, S>,
     tx: Tx,

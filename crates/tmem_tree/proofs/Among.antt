@@ -14,7 +14,7 @@ use Rattle.tmem_tree.specs.declared.tx.Tx.TheBlock.{items-the_row-Tx, shape-the_
 use Rattle.tmem_tree.specs.declared.tx.Tx.TheViews.{roll-Tx, roll-out-Tx, rolls-Seq, outs-Seq'}
 use Rattle.tmem_tree.specs.Limits.{count, is_put}
 use Rattle.tmem_tree.specs.Numbers.{with_number, with_number_in}
-use Rattle.tmem_tree.proofs.Laws.{count_in, count-Seq}
+use Rattle.tmem_tree.proofs.Laws.{count_items, count-Seq}
 
 -- with_number_in, over the list
 abbrev pub with_number_among : ℕ → ℤ → List Tx → List Tx
@@ -55,8 +55,8 @@ with_number-Seq place n tx v now us is listed long same =
     ∙ ap Seq (shown_trees v txs us (long ∙ ap length listed ∙ sym v.ok.0) items)
 
 -- the number of its Puts
-pub puts-Seq : (tx : Tx) (v : Vec Tx Global) (now : List Tx) → tx ≡ Seq v → now ≡ v.items → count is_put tx ≡ count_in is_put now
-puts-Seq tx v now is listed = ap (count is_put) is ∙ count-Seq is_put v ∙ zero-add _ ∙ ap (count_in is_put) (sym listed)
+pub puts-Seq : (tx : Tx) (v : Vec Tx Global) (now : List Tx) → tx ≡ Seq v → now ≡ v.items → count is_put tx ≡ count_items is_put now
+puts-Seq tx v now is listed = ap (count is_put) is ∙ count-Seq is_put v ∙ zero-add _ ∙ ap (count_items is_put) (sym listed)
 
 -- the place is in the tree at i, where those before it have left so many places
 pub last_turn : (left i : ℕ) (n : ℤ) (txs us : List Tx) (d : Tx) → i < length us → txs ≡ take i us ++ with_number_among left n (drop i us) → left < count is_put (get_or us i d) → txs ≡ set us i (with_number left n (get_or us i d))

@@ -7,9 +7,9 @@ use Rattle.tmem_tree.specs.declared.tx.Tx.TheVariants.{Check}
 use Rattle.tmem_tree.specs.Limits.{count, is_check, lacks_shape}
 use Rattle.tmem_tree.specs.Plans.{HasShapes}
 use Rattle.tmem_tree.proofs.Fewer.{none_left, both}
-use Rattle.tmem_tree.proofs.Laws.{count_in}
+use Rattle.tmem_tree.proofs.Laws.{count_items}
 
-none_left_in : (p q : Tx → Bool) → ((tx : Tx) → p tx ≡ false → q tx ≡ false) → (txs : List Tx) → count_in p txs ≡ 0 → count_in q txs ≡ 0
+none_left_in : (p q : Tx → Bool) → ((tx : Tx) → p tx ≡ false → q tx ≡ false) → (txs : List Tx) → count_items p txs ≡ 0 → count_items q txs ≡ 0
 none_left_in p q fewer [] none = refl
 none_left_in p q fewer (tx ∷ txs) none = both p q fewer _ _ _ _ (none_left p q fewer tx) (none_left_in p q fewer txs) none
 
@@ -24,7 +24,7 @@ fewer_lacking old new kept _ fine = refl
 pub shapes_kept : (old new : List (List ℕ)) → ((name : List ℕ) → has_name old name ≡ true → has_name new name ≡ true) → (tx : Tx) → HasShapes old tx → HasShapes new tx
 shapes_kept old new kept = none_left (lacks_shape old) (lacks_shape new) (fewer_lacking old new kept)
 
-pub shapes_kept_in : (old new : List (List ℕ)) → ((name : List ℕ) → has_name old name ≡ true → has_name new name ≡ true) → (txs : List Tx) → count_in (lacks_shape old) txs ≡ 0 → count_in (lacks_shape new) txs ≡ 0
+pub shapes_kept_in : (old new : List (List ℕ)) → ((name : List ℕ) → has_name old name ≡ true → has_name new name ≡ true) → (txs : List Tx) → count_items (lacks_shape old) txs ≡ 0 → count_items (lacks_shape new) txs ≡ 0
 shapes_kept_in old new kept =
     none_left_in (lacks_shape old) (lacks_shape new) (fewer_lacking old new kept)
 
@@ -37,15 +37,15 @@ pub shaped_without : (names : List (List ℕ)) (tx : Tx) → count is_check tx �
 shaped_without names = none_left is_check (lacks_shape names) (only_checks names)
 
 -- those of one tree more
-count_in-push : (test : Tx → Bool) (txs : List Tx) (tx : Tx) → count_in test (txs ++ tx ∷ []) ≡ count_in test txs + count test tx
-count_in-push test [] tx = omega arith
-count_in-push test (t ∷ ts) tx = omega (arith, count_in-push test ts tx)
+count_items-push : (test : Tx → Bool) (txs : List Tx) (tx : Tx) → count_items test (txs ++ tx ∷ []) ≡ count_items test txs + count test tx
+count_items-push test [] tx = omega arith
+count_items-push test (t ∷ ts) tx = omega (arith, count_items-push test ts tx)
 
-pub count_in-take_more : (test : Tx → Bool) (txs : List Tx) (i : ℕ) (tx : Tx) → i < length txs → tx ≡ get_or txs i tx → count_in test (take (i + 1) txs) ≡ count_in test (take i txs) + count test tx
-count_in-take_more test txs i tx within is =
-    ap (count_in test) (take_more txs i tx within ∙ ap (λ t. take i txs ++ t ∷ []) (sym is))
-    ∙ count_in-push test (take i txs) tx
+pub count_items-take_more : (test : Tx → Bool) (txs : List Tx) (i : ℕ) (tx : Tx) → i < length txs → tx ≡ get_or txs i tx → count_items test (take (i + 1) txs) ≡ count_items test (take i txs) + count test tx
+count_items-take_more test txs i tx within is =
+    ap (count_items test) (take_more txs i tx within ∙ ap (λ t. take i txs ++ t ∷ []) (sym is))
+    ∙ count_items-push test (take i txs) tx
 
-pub count_in-drop_more : (test : Tx → Bool) (txs : List Tx) (i : ℕ) (tx : Tx) → i < length txs → tx ≡ get_or txs i tx → count_in test (drop i txs) ≡ count test tx + count_in test (drop (i + 1) txs)
-count_in-drop_more test txs i tx within is =
-    ap (count_in test) (drop_more txs i tx within ∙ ap (λ t. t ∷ drop (i + 1) txs) (sym is))
+pub count_items-drop_more : (test : Tx → Bool) (txs : List Tx) (i : ℕ) (tx : Tx) → i < length txs → tx ≡ get_or txs i tx → count_items test (drop i txs) ≡ count test tx + count_items test (drop (i + 1) txs)
+count_items-drop_more test txs i tx within is =
+    ap (count_items test) (drop_more txs i tx within ∙ ap (λ t. t ∷ drop (i + 1) txs) (sym is))

@@ -12,19 +12,19 @@ pub use Rattle.tmem_tree.proofs.Found.{footprint_in-AreMeant, AreBelow-footprint
 
 -- how deep the deepest of these is, how many of its choices may stand in their first branch at once, and how many nodes of
 -- them pass a test
-abbrev pub depth_in : List Tx → ℕ
-depth_in [] = 0
-depth_in (tx ∷ txs) = max (depth tx) (depth_in txs)
+abbrev pub depth_items : List Tx → ℕ
+depth_items [] = 0
+depth_items (tx ∷ txs) = max (depth tx) (depth_items txs)
 
 abbrev pub choices_in : List Tx → ℕ
 choices_in [] = 0
 choices_in (tx ∷ txs) = max (choices tx) (choices_in txs)
 
-abbrev pub count_in : (Tx → Bool) → List Tx → ℕ
-count_in test [] = 0
-count_in test (tx ∷ txs) = count test tx + count_in test txs
+abbrev pub count_items : (Tx → Bool) → List Tx → ℕ
+count_items test [] = 0
+count_items test (tx ∷ txs) = count test tx + count_items test txs
 
-depth_of_all-items : {m : _} (txs : Row_of-Tx m) → depth_of_all txs ≡ depth_in (items-the_row-Tx m txs)
+depth_of_all-items : {m : _} (txs : Row_of-Tx m) → depth_of_all txs ≡ depth_items (items-the_row-Tx m txs)
 depth_of_all-items end_of-Tx = refl
 depth_of_all-items (more_of-Tx tx txs) = ap (max (depth tx)) (depth_of_all-items txs)
 
@@ -32,15 +32,15 @@ choices_of_all-items : {m : _} (txs : Row_of-Tx m) → choices_of_all txs ≡ ch
 choices_of_all-items end_of-Tx = refl
 choices_of_all-items (more_of-Tx tx txs) = ap (max (choices tx)) (choices_of_all-items txs)
 
-count_all-items : (test : Tx → Bool) {m : _} (txs : Row_of-Tx m) → count_all test txs ≡ count_in test (items-the_row-Tx m txs)
+count_all-items : (test : Tx → Bool) {m : _} (txs : Row_of-Tx m) → count_all test txs ≡ count_items test (items-the_row-Tx m txs)
 count_all-items test end_of-Tx = refl
 count_all-items test (more_of-Tx tx txs) = ap (λ n. count test tx + n) (count_all-items test txs)
 
-pub depth-Seq : (txs : Vec Tx Global) → depth (Seq txs) ≡ 1 + depth_in txs.items
+pub depth-Seq : (txs : Vec Tx Global) → depth (Seq txs) ≡ 1 + depth_items txs.items
 depth-Seq txs = search (rules, the_lemmas, depth_of_all-items)
 
 pub choices-Seq : (txs : Vec Tx Global) → choices (Seq txs) ≡ choices_in txs.items
 choices-Seq txs = search (rules, the_lemmas, choices_of_all-items)
 
-pub count-Seq : (test : Tx → Bool) (txs : Vec Tx Global) → count test (Seq txs) ≡ one_if (test (Seq txs)) + count_in test txs.items
+pub count-Seq : (test : Tx → Bool) (txs : Vec Tx Global) → count test (Seq txs) ≡ one_if (test (Seq txs)) + count_items test txs.items
 count-Seq test txs = search (rules, the_lemmas, count_all-items test)

@@ -2,7 +2,7 @@
 use Rattle.std.specs.Prelude.{◌≡◌, ◌↔◌, ℕ, ◌<◌, ◌≤◌, Bool, false, ◌||◌, List, IsTrue}
 use Rattle.tmem_fault.specs.declared.fault.Cause.{Cause}
 use Rattle.tmem_fault.specs.declared.fault.Cause.TheVariants.{TooDeep, TooManyNodes, TooManyWrites, TooManyChecks, BadRegister, BadVariable, BadStep, BadArguments, UnknownName, TooManyRetires}
-use Rattle.tmem_fault.specs.Fault.{number_of}
+use Rattle.tmem_fault.specs.Fault.{cause_number}
 use Rattle.tmem_tree.specs.declared.tx.Tx.{Tx}
 use Rattle.tmem_invariants.specs.Meanings.{Meanings}
 use Rattle.tmem_tree.specs.declared.shape.Shape.{Shape}
@@ -48,7 +48,7 @@ BreaksNone arities vars names tx = (cause : Cause) → Breaks arities vars names
 abbrev pub IsLeastBroken : List ℕ → ℕ → List (List ℕ) → Tx → Cause → Type 0
 IsLeastBroken arities vars names tx cause =
     Breaks arities vars names tx cause
-    × ((lesser : Cause) → number_of lesser < number_of cause → Breaks arities vars names tx lesser → ⊥)
+    × ((lesser : Cause) → cause_number lesser < cause_number cause → Breaks arities vars names tx lesser → ⊥)
 
 -- the limits that hold for any steps, any number of variables and any names
 pub record IsWithinLimits (tx : Tx) : Type 0 where

@@ -3,7 +3,7 @@ use Rattle.std.specs.Prelude.{◌≡◌, ℕ, ℤ, List, length}
 use Rattle.std.specs.Borrow.{Bor}
 use Rattle.tmem_tree.specs.declared.step.StepAnswer.{StepAnswer}
 
--- what each index stands for: the answer on each list of arguments
+-- what each index means: the answer on each list of arguments
 abbrev pub StepMeanings : Type 0
 StepMeanings = ℕ → List ℤ → StepAnswer
 

@@ -13,7 +13,7 @@ ghost use Rattle.tmem_opening.specs.Opening.{FindsState, Mending, OpeningRefused
 ghost use Rattle.tmem_world.specs.Parts.{what, layout_in, table_in};
 ghost use Rattle.tmem_world.specs.Attempts.{FitsAttempt};
 ghost use Rattle.tmem_world.specs.Facts.{FitsAttempt-prop};
-ghost use Rattle.tmem_event.specs.Events.{NamesSlot};
+ghost use Rattle.tmem_event.specs.Events.{NamesAttempt};
 ghost use Rattle.tmem_world.specs.WorldModel.{WorldModel, opening, present, stands, Run};
 
 use crate::attempt::WorldAttempt;
@@ -136,9 +136,9 @@ impl<D: Disk + Drop, T: Invariants + Drop, S: StoredSteps + Drop> World<D, T, S>
         })
     }
 
-    /// Plays one event. The event's slot, where it has one, is below 16.
+    /// Plays one event. The number of the event's attempt, where it names one, is below 16.
     pub fn step(&mut self, event: Event) -> Reply
-        requires { NamesSlot event }
+        requires { NamesAttempt event }
         ensures step { IsStep self.old event result self.new }
         ensures reopened { Reopens self.old event result self.new }
 
@@ -169,7 +169,7 @@ impl<D: Disk + Drop, T: Invariants + Drop, S: StoredSteps + Drop> World<D, T, S>
 
     /// Plays events, one after another. Refused by `Memory`, before any event, where the replies find no room.
     pub fn play(&mut self, events: Vec<Event>) -> Result<Vec<Reply>, Fault>
-        requires { All NamesSlot events.items }
+        requires { All NamesAttempt events.items }
 
         // Each event was played as `step` says, one after another.
         ensures each { IfOk result (λ replies. PlaysEach self.old events.items replies.items self.new) }
@@ -301,7 +301,7 @@ impl<D: Disk + Drop, T: Invariants + Drop, S: StoredSteps + Drop> World<D, T, S>
         }
     }
 
-    // Writes the durable state as the next image, and frees every log slot.
+    // Writes the durable state as the next image, and frees every slot.
     fn checkpoint(&mut self) -> Reply
         ensures { IsAnswered self.old Event.Checkpoint result self.new }
     {

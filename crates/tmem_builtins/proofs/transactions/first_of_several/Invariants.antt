@@ -8,7 +8,7 @@ use Rattle.tmem_builtins.specs.Transactions.{run_first, first_asks, is_put}
 use Rattle.tmem_builtins.proofs.Choices.{ending_then, asks_then}
 use Rattle.tmem_builtins.proofs.transactions.first_of_several.Given as goal
 
--- what is chosen stands for those that were taken
+-- what is chosen is one of those that were taken
 abbrev pub invariant-loop-tx : goal.invariant-loop-tx
 invariant-loop-tx l =
     record {

@@ -52,7 +52,7 @@ loop-page-preserved g c =
     elim c.if-has_page.branch [
       | then-has_page+in_ok-write w ↦
           let bytes = w.page_of-bytes.result in
-          let place = at + 512 * page in
+          let offset = at + 512 * page in
           let long : length bytes ≡ 512 = ap length w.page_of-bytes.ensures.bytes ∙ length-page_bytes values page in
           let new = (g.D.Disk.view w.write.new.disk).seen in
           rw w.disk-is (record {
@@ -62,17 +62,17 @@ loop-page-preserved g c =
             stand = λ k.
                 let then = w.write.ensures.uses.model k in
                 let whole = (g.met.D.Disk.is_device c.loop-page.disk).seen_is_whole then in
-                page_written at page place values now new bytes full (omega (arith, whole, so_far.capacity, c.requires.room, below)) refl w.page_of-bytes.ensures.bytes (w.in_ok-write.ensures.written k) (so_far.stand then);
+                page_written at page offset values now new bytes full (omega (arith, whole, so_far.capacity, c.requires.room, below)) refl w.page_of-bytes.ensures.bytes (w.in_ok-write.ensures.written k) (so_far.stand then);
             ahead = λ k.
                 SameOutside-trans at (512 * (page + 1)) before now new
                 (SameOutside-wider at (512 * page) at (512 * (page + 1)) before now (omega arith) (omega arith) (so_far.ahead (w.write.ensures.uses.model k)))
-                (SameOutside-wider place (length bytes) at (512 * (page + 1)) now new (omega arith) (omega (arith, long)) (w.write.ensures.elsewhere.seen k));
+                (SameOutside-wider offset (length bytes) at (512 * (page + 1)) now new (omega arith) (omega (arith, long)) (w.write.ensures.elsewhere.seen k));
             kept =
-                moments_write (HoldsOthers at vars c.args.changed values) _ _ (g.met.D.Disk.is_device c.loop-page.disk) so_far.kept so_far.elsewhere.time.later place (length bytes) _ w.write.ensures.uses.model
+                moments_write (HoldsOthers at vars c.args.changed values) _ _ (g.met.D.Disk.is_device c.loop-page.disk) so_far.kept so_far.elsewhere.time.later offset (length bytes) _ w.write.ensures.uses.model
                 (λ a b. HoldsOthers-marked at vars c.args.changed page (length bytes) values a b (sym c.has_page.ensures ∙ w.if-has_page.true) long) w.write.ensures.elsewhere;
             elsewhere =
                 WritesWithin-trans at (512 * pages_of vars) _ _ _ w.write.ensures.uses.model so_far.elsewhere
-                (WritesWithin-wider place (length bytes) at (512 * pages_of vars) (omega arith) (within at page vars (length bytes) below long) _ _ w.write.ensures.elsewhere);
+                (WritesWithin-wider offset (length bytes) at (512 * pages_of vars) (omega arith) (within at page vars (length bytes) below long) _ _ w.write.ensures.elsewhere);
           })
       | else-has_page w ↦
           let no : has_page c.args.changed page ≡ false = sym c.has_page.ensures ∙ w.if-has_page.false in

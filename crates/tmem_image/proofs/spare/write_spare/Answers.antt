@@ -67,15 +67,15 @@ returns-clause-gate_write_failed g c = λ unknown write.
     }
 
 -- once the gate is closed
-module _ (vars copy at pages : ℕ) (place : at ≡ image_at vars copy) (values : List ℤ) (old shut : DeviceView) (device : IsDevice old) (after : IsDevice shut) (model : shut.keeps_model → old.keeps_model) (others : LeavesOnly old (HoldsOthers (pages_at vars copy) vars pages values)) (writes : WritesWithin at 1 old shut) where
+module _ (vars copy at pages : ℕ) (offset : at ≡ image_at vars copy) (values : List ℤ) (old shut : DeviceView) (device : IsDevice old) (after : IsDevice shut) (model : shut.keeps_model → old.keeps_model) (others : LeavesOnly old (HoldsOthers (pages_at vars copy) vars pages values)) (writes : WritesWithin at 1 old shut) where
   abbrev Kept : List ℕ → Type 0
   Kept = HoldsOthers (pages_at vars copy) vars pages values
 
   kept_shut : AtEachMoment old shut Kept
-  kept_shut = moments_write Kept old old device (moments_none Kept old device others) (λ k. omega arith) at 1 shut model (λ b c same. HoldsOthers-after at 1 (pages_at vars copy) vars pages values b c same (omega (arith, place))) writes
+  kept_shut = moments_write Kept old old device (moments_none Kept old device others) (λ k. omega arith) at 1 shut model (λ b c same. HoldsOthers-after at 1 (pages_at vars copy) vars pages values b c same (omega (arith, offset))) writes
 
   behind : pages_at vars copy ≡ at + 2048
-  behind = omega (arith, place)
+  behind = omega (arith, offset)
 
   left_shut : (values' : List ℤ) → values ≡ values' → LeavesOnly shut (HoldsOthers (at + 2048) vars pages values')
   left_shut values' same = subst (λ (zs : List ℤ). LeavesOnly shut (HoldsOthers (at + 2048) vars pages zs)) same
@@ -91,7 +91,7 @@ module _ (vars copy at pages : ℕ) (place : at ≡ image_at vars copy) (values 
     kept_put : IsDevice paged → (header : ℕ) → header ≡ 2047 → (new : DeviceView) → (new.keeps_model → paged.keeps_model) → WritesWithin at (1 + header) paged new → AtEachMoment old new Kept
     kept_put device_now header long new model_then puts =
         moments_write Kept old paged device_now kept_paged (λ k. let a = writes.time.later (model_now k) in let b = paging.time.later k in omega arith) at (1 + header) new model_then
-        (λ b c outside. HoldsOthers-after at (1 + header) (pages_at vars copy) vars pages values b c outside (omega (arith, place, long))) puts
+        (λ b c outside. HoldsOthers-after at (1 + header) (pages_at vars copy) vars pages values b c outside (omega (arith, offset, long))) puts
 
 pub write_pages-requires-clause-others : goal.write_pages-requires-clause-others
 write_pages-requires-clause-others g c =

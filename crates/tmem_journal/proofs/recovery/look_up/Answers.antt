@@ -2,7 +2,7 @@ use Rattle.std.proofs.Common.{◌≤◌, sym, ◌∙◌}
 use Rattle.std.proofs.lemmas.Bool.{false≢true}
 use Rattle.std.proofs.lemmas.Result.{err_from_is_err_and}
 use Rattle.tmem_fault.specs.declared.fault.Fault.TheVariants.{Damaged}
-use Rattle.tmem_state.specs.Versions.{number_of}
+use Rattle.tmem_state.specs.Versions.{version_number}
 use Rattle.tmem_journal.proofs.Recovering.{no_choice, image_missing, block_later, log_missing, all_found, looking_four, looking}
 use Rattle.tmem_journal.proofs.Refused.{why_block, why_part, block_then}
 use Rattle.tmem_journal.proofs.recovery.look_up.Goals as goal
@@ -51,7 +51,7 @@ returns-then-not-may_follow-clause-refused g c =
     let s3 = (g.D.Disk.view c.choose.new.disk).seen in
     let block = c.in_ok-block.block in
     let image = c.in_ok-version.field-0 in
-    why_part c.args.layout.vars c.args.layout.slots c.args.layout.fits seen block _ (number_of block ≤ number_of image.version → ⊥) Damaged
+    why_part c.args.layout.vars c.args.layout.slots c.args.layout.fits seen block _ (version_number block ≤ version_number image.version → ⊥) Damaged
     (λ k.
     let m2 = c.choose.ensures.uses.model (c.load.ensures.uses.model k) in
     block_then block c.args.layout.vars c.args.layout.slots _ _ (c.sync.ensures.looks.seen (c.found_block.ensures.uses.model m2)) (c.in_ok-block.ensures.found m2))

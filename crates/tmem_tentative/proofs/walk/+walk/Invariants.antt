@@ -2,7 +2,7 @@ use Rattle.std.proofs.Common.{◌≡◌, ℕ, ◌+◌, ◌≤◌, List, drop, le
 use Rattle.tmem_tree.specs.StepAnswers.{StepMeanings}
 use Rattle.tmem_tree.specs.Limits.{count, is_write, is_check, is_retire, has_bad_register, has_bad_step, has_bad_arguments, lacks_shape}
 use Rattle.tmem_tree.specs.Shapes.{names_of}
-use Rattle.tmem_tree.proofs.Laws.{count_in}
+use Rattle.tmem_tree.proofs.Laws.{count_items}
 use Rattle.tmem_tentative.specs.Eval.{eval}
 use Rattle.tmem_tentative.specs.Logs.{AreOf, run_state_of}
 use Rattle.tmem_tentative.proofs.EvalSeq.{eval_in}
@@ -15,12 +15,12 @@ invariant-walk-loop-t g l =
     let reads = l.given.reads.now.entries in
     let answers = l.given.answers.now in
     let rest = drop l.t-index l.t-items in
-    (count_in has_bad_register rest ≡ 0)
-    × (count_in (has_bad_step arities) rest ≡ 0)
-    × (count_in (has_bad_arguments arities) rest ≡ 0)
-    × (count_in (lacks_shape (names_of shapes)) rest ≡ 0)
+    (count_items has_bad_register rest ≡ 0)
+    × (count_items (has_bad_step arities) rest ≡ 0)
+    × (count_items (has_bad_arguments arities) rest ≡ 0)
+    × (count_items (lacks_shape (names_of shapes)) rest ≡ 0)
     × ((m : StepMeanings) (footprint : List ℕ → List ℕ) → g.S.StoredSteps.is_stated l.steps m → AreOf shapes footprint
     → eval m footprint reads l.tx (run_state_of l.initial.log (drop l.initial.tests.used answers)) ≡ eval_in m footprint reads rest (run_state_of l.log (drop l.tests.used answers)))
-    × (length l.log.effect.writes + count_in is_write rest ≤ length l.initial.log.effect.writes + count is_write l.tx)
-    × (length l.log.effect.names + count_in is_check rest ≤ length l.initial.log.effect.names + count is_check l.tx)
-    × (length l.log.effect.retired + count_in is_retire rest ≤ length l.initial.log.effect.retired + count is_retire l.tx)
+    × (length l.log.effect.writes + count_items is_write rest ≤ length l.initial.log.effect.writes + count is_write l.tx)
+    × (length l.log.effect.names + count_items is_check rest ≤ length l.initial.log.effect.names + count is_check l.tx)
+    × (length l.log.effect.retired + count_items is_retire rest ≤ length l.initial.log.effect.retired + count is_retire l.tx)

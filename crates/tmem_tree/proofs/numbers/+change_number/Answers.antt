@@ -2,7 +2,7 @@ use Rattle.std.proofs.Common.{◌≡◌, ◌∙◌, sym, ap, set, refl, length-s
 use Rattle.std.proofs.lemmas.List.{drop_more, drop_all}
 use Rattle.tmem_tree.specs.declared.tx.Tx.TheViews.{the_lemmas}
 use Rattle.tmem_tree.specs.Limits.{is_put}
-use Rattle.tmem_tree.proofs.Laws.{count_in}
+use Rattle.tmem_tree.proofs.Laws.{count_items}
 use Rattle.tmem_tree.proofs.Among.{with_number-Seq, puts-Seq, last_turn, no_turn}
 use Rattle.tmem_tree.proofs.numbers.+change_number.Goals as goal
 
@@ -20,7 +20,7 @@ returns-in_err-left-in-Seq-clause-tree t c =
 pub returns-in_err-left-in-Seq-clause-found : goal.returns-in_err-left-in-Seq-clause-found
 returns-in_err-left-in-Seq-clause-found t c = λ none.
     let listed = c.deref_mut-t-items.ensures.value ∙ ap (λ v. v.items) c.in-Seq.txs-is in
-    let rest = ap (count_in is_put) (drop_more c.loop-t.t-items c.loop-t.t-index c.t-item.result (search rules)) in
+    let rest = ap (count_items is_put) (drop_more c.loop-t.t-items c.loop-t.t-index c.t-item.result (search rules)) in
     omega (arith, puts-Seq c.args.tx.now c.in-Seq.txs _ c.in-Seq.is listed, rest, c.loop-t.invariant.left, c.in_err-left-in-Seq.ensures.found refl)
 
 pub returns-after-loop-t-clause-tree : goal.returns-after-loop-t-clause-tree
@@ -34,5 +34,5 @@ returns-after-loop-t-clause-tree t c =
 pub returns-after-loop-t-clause-left : goal.returns-after-loop-t-clause-left
 returns-after-loop-t-clause-left t c =
     let listed = c.deref_mut-t-items.ensures.value ∙ ap (λ v. v.items) c.in-Seq.txs-is in
-    let rest = ap (count_in is_put) (drop_all c.loop-t.t-index c.loop-t.t-items (search rules)) in
+    let rest = ap (count_items is_put) (drop_all c.loop-t.t-index c.loop-t.t-items (search rules)) in
     omega (arith, puts-Seq c.args.tx.now c.in-Seq.txs _ c.in-Seq.is listed, rest, c.loop-t.invariant.left)

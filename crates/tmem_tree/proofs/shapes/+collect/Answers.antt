@@ -2,8 +2,8 @@ use Rattle.std.proofs.Common.{◌≡◌, take, refl, arith}
 use Rattle.std.proofs.lemmas.List.{take_all}
 use Rattle.tmem_tree.specs.Limits.{is_check, checks_name, lacks_shape}
 use Rattle.tmem_tree.specs.Shapes.{names_of}
-use Rattle.tmem_tree.proofs.Laws.{count_in, count-Seq}
-use Rattle.tmem_tree.proofs.Known.{shapes_kept, shapes_kept_in, count_in-take_more, count_in-drop_more}
+use Rattle.tmem_tree.proofs.Laws.{count_items, count-Seq}
+use Rattle.tmem_tree.proofs.Known.{shapes_kept, shapes_kept_in, count_items-take_more, count_items-drop_more}
 use Rattle.tmem_tree.proofs.shapes.+collect.Goals as goal
 
 pub loop-t-init : goal.loop-t-init
@@ -27,12 +27,12 @@ loop-t-preserved t c =
     let was = c.loop-t.invariant in
     let more = c.collect.ensures in
     record {
-      room = omega (arith, count_in-drop_more is_check items at tx c.loop-t-test.true c.t-item.is, was.room, more.room);
-      known = omega (arith, count_in-take_more (lacks_shape new) items at tx c.loop-t-test.true c.t-item.is, shapes_kept_in old new more.kept (take at items) was.known, more.known);
-      others = omega (arith, count_in-drop_more (lacks_shape (names_of c.args.shapes.now)) items at tx c.loop-t-test.true c.t-item.is, was.others);
+      room = omega (arith, count_items-drop_more is_check items at tx c.loop-t-test.true c.t-item.is, was.room, more.room);
+      known = omega (arith, count_items-take_more (lacks_shape new) items at tx c.loop-t-test.true c.t-item.is, shapes_kept_in old new more.kept (take at items) was.known, more.known);
+      others = omega (arith, count_items-drop_more (lacks_shape (names_of c.args.shapes.now)) items at tx c.loop-t-test.true c.t-item.is, was.others);
       kept = λ name there. more.kept name (was.kept name there);
       among = λ all. more.among (was.among all);
-      checked = λ name. omega (arith, count_in-drop_more (checks_name name) items at tx c.loop-t-test.true c.t-item.is, was.checked name, more.checked name);
+      checked = λ name. omega (arith, count_items-drop_more (checks_name name) items at tx c.loop-t-test.true c.t-item.is, was.checked name, more.checked name);
       once = λ distinct. more.once (was.once distinct);
     }
 
@@ -40,7 +40,7 @@ pub returns-after-loop-t-clause-known : goal.returns-after-loop-t-clause-known
 returns-after-loop-t-clause-known t c =
     let known = lacks_shape (names_of c.loop-t.into) in
     let whole : take c.loop-t.t-index c.deref-t-items.result.now ≡ c.deref-t-items.result.now = take_all c.loop-t.t-index c.deref-t-items.result.now (omega arith) in
-    let all : count_in known c.deref-t-items.result.now ≡ 0 = rw whole at c.loop-t.invariant.known in
+    let all : count_items known c.deref-t-items.result.now ≡ 0 = rw whole at c.loop-t.invariant.known in
     grind (arith, count-Seq known c.in-Seq.txs, all)
 
 pub returns-in-When-clause-known : goal.returns-in-When-clause-known

@@ -3,7 +3,7 @@ use Rattle.tmem_fault.specs.Distinct.{AreDistinct}
 use Rattle.tmem_fault.specs.Name.{has_name}
 use Rattle.tmem_tree.specs.Limits.{one_if, count, is_check, checks_name, lacks_shape}
 use Rattle.tmem_tree.specs.Shapes.{names_of}
-use Rattle.tmem_tree.proofs.Laws.{count_in}
+use Rattle.tmem_tree.proofs.Laws.{count_items}
 use Rattle.tmem_tree.proofs.shapes.+collect.Given as goal
 
 abbrev pub decreases-collect : goal.decreases-collect
@@ -13,11 +13,11 @@ abbrev pub invariant-loop-t : goal.invariant-loop-t
 invariant-loop-t l =
     let rest = drop l.t-index l.t-items in
     record {
-      room : length l.into + count_in is_check rest ≤ length l.initial.into + count is_check l.tx;
-      known : count_in (lacks_shape (names_of l.into)) (take l.t-index l.t-items) ≡ 0;
-      others : count_in (lacks_shape (names_of l.shapes)) rest ≡ 0;
+      room : length l.into + count_items is_check rest ≤ length l.initial.into + count is_check l.tx;
+      known : count_items (lacks_shape (names_of l.into)) (take l.t-index l.t-items) ≡ 0;
+      others : count_items (lacks_shape (names_of l.shapes)) rest ≡ 0;
       kept : (name : List ℕ) → has_name (names_of l.initial.into) name ≡ true → has_name (names_of l.into) name ≡ true;
       among : All (Contains l.shapes) l.initial.into → All (Contains l.shapes) l.into;
-      checked : (name : List ℕ) → one_if (has_name (names_of l.into) name) + count_in (checks_name name) rest ≤ one_if (has_name (names_of l.initial.into) name) + count (checks_name name) l.tx;
+      checked : (name : List ℕ) → one_if (has_name (names_of l.into) name) + count_items (checks_name name) rest ≤ one_if (has_name (names_of l.initial.into) name) + count (checks_name name) l.tx;
       once : AreDistinct (names_of l.initial.into) → AreDistinct (names_of l.into);
     }
