@@ -35,10 +35,13 @@ const NOT_REGISTERED: &str =
     "the store was made before the shape had it; serve it with a shape in which it lacks always, let a transaction check it, and try again";
 
 const NO_SHAPE: &str =
-    "a shape is read before a file of a store is touched; change it there, and try again";
+    "no store was touched; correct that place in the shape, and try again";
 
 const OTHER_TEXT: &str =
-    "a shape stands beside its store, as STORE.json, and what has that path is not this one; remove it, or name another path";
+    "a shape stands beside its store, as STORE.json, and what has that path is not this one; move it away, or name another path";
+
+const TEXT_UNREAD: &str =
+    "what has the path of its shape, STORE.json, cannot be read; look at its rights, or move it away";
 
 const NOT_BLANK: &str =
     "it has bytes other than 0, and a store is made in place of nothing else; name another, or fill it with zeros";
@@ -76,6 +79,18 @@ fn explain_failure<E: Write>(
     }
 }
 
+/// Tells more of why a script was not checked.
+pub(crate) fn explain_check<E: Write>(
+    rt: &(impl Files<File = File> + AllocGlobal),
+    asked: Asked,
+    failure: &Failure,
+    err: &mut E,
+) {
+    let notes = Notes::new(rt.alloc(), false);
+    // Where this fails, nobody is left to tell.
+    let _ = explain_failure(rt, asked, &notes, failure, err);
+}
+
 /// Tells more of why a store was not made, or not served to its end.
 pub(crate) fn explain_store<E: Write>(
     rt: &(impl Files<File = File> + AllocGlobal),
@@ -102,7 +117,8 @@ fn explain_store_failure<E: Write>(
         | StoreFailure::Refused(fault) => tell_refused(rt, asked, &notes, *fault, err),
         StoreFailure::NotMade(InitError::StoreIsThere) => tell_of(err, asked, DeviceCause::There),
         StoreFailure::NotMade(InitError::NotBlank) => tell_of(err, asked, NOT_BLANK),
-        StoreFailure::NotMade(_) => tell_of(err, asked, OTHER_TEXT),
+        StoreFailure::NotMade(InitError::TextUnread(_)) => tell_of(err, asked, TEXT_UNREAD),
+        StoreFailure::NotMade(InitError::TextIsThere) => tell_of(err, asked, OTHER_TEXT),
         StoreFailure::NotServed(ServeError::Unregistered(_)) => tell(err, NOT_REGISTERED),
         StoreFailure::Input => tell(err, NO_INPUT),
         StoreFailure::NotServed(ServeError::Ended(DeskFailure::Output)) => tell(err, NO_OUTPUT),
@@ -164,6 +180,12 @@ fn tell_refused<E: Write>(
             tell(err, format_args!("{path}: {cause}"))
         }
         (Fault::Geometry, _) => tell_geometry(rt, asked, notes, err),
+        (Fault::Broken(name), _) if matches!(asked, Asked::Init(_)) => tell(
+            err,
+            format_args!(
+                "the invariant {name} is always to hold, and false where every variable is 0; change its bounds, or leave out always"
+            ),
+        ),
         (_, _) => tell_of(err, asked, FaultHelp(fault)),
     }
 }

@@ -12,7 +12,7 @@ ghost use Rattle.tmem_cli.specs.Outcomes.{IsDone, IsFailed, HasNoScript, CountsU
 use crate::bench::run_bench;
 use crate::check::check;
 use crate::count::count_on;
-use crate::explain::{explain, explain_store};
+use crate::explain::{explain, explain_check, explain_store};
 use crate::failure::StoreFailure;
 use crate::init::init_store;
 use crate::notes::Notes;
@@ -89,10 +89,10 @@ pub fn run_words<R: Read, W: Write, E: Write>(
             let served = serve(rt, serving, input, out);
             (conclude_store(rt, told, served, err), None)
         }
-        Asked::Check(path) => (
-            conclude_check(check(rt, path.unwrap_or(""), out), err),
-            None,
-        ),
+        Asked::Check(path) => {
+            let checked = check(rt, path.unwrap_or(""), out);
+            (conclude_check(rt, told.asked, checked, err), None)
+        }
     }
 }
 
@@ -148,8 +148,13 @@ fn conclude_store<E: Write>(
     1
 }
 
-/// Answers the status of a check: 0 where a script is one, and 3 where it is none.
-fn conclude_check<E: Write>(outcome: Result<bool, Failure>, err: &mut E) -> u8
+/// Answers the status of a check: 0 where a script is one, and 3 where it is none. Prints why there was none, where that failed.
+fn conclude_check<E: Write>(
+    rt: &(impl Files<File = File> + AllocGlobal),
+    asked: Asked,
+    outcome: Result<bool, Failure>,
+    err: &mut E,
+) -> u8
     ensures status { MatchResult outcome (λ fine. result ≡ (if fine then 0 else 3)) (λ failure. result ≡ status_of failure) }
     ensures most { result ≤ 3 }
     ensures untold { OnOk outcome (err.new ≡ err.old) }
@@ -157,7 +162,11 @@ fn conclude_check<E: Write>(outcome: Result<bool, Failure>, err: &mut E) -> u8
     match outcome {
         Ok(true) => 0,
         Ok(false) => 3,
-        Err(failure) => report(&failure, err),
+        Err(failure) => {
+            let status = report(&failure, err);
+            explain_check(rt, asked, &failure, err);
+            status
+        }
     }
 }
 

@@ -23,9 +23,9 @@ fault_help fault.NotFormatted = codes "this does not begin as a store; check the
 fault_help fault.Damaged =
     codes "the content is none that a store may have, or a later version of the program wrote it; run that version, or restore a copy"
 fault_help (fault.Missing name) =
-    codes "the invariant " ++ name ++ codes " is registered in the store, and the program has none of this name; run the program that has it, and retire it there"
+    codes "the invariant " ++ name ++ codes " is registered in the store, and the program or shape has none of this name; open the store with one that has, and retire it there"
 fault_help (fault.Broken name) =
-    codes "the invariant " ++ name ++ codes " is registered in the store, and false of its values; compare what it means in the two programs, or restore a copy"
+    codes "the invariant " ++ name ++ codes " is registered in the store, and false of its values; compare what it means in the program or shape now and before, or restore a copy"
 fault_help (fault.BadPlan c) = cause_text c ++ codes "; change the transaction"
 fault_help fault.BadName = codes "a name is not 1 to 16 letters from a to z, or stands twice, or there are more than 64; change the program"
 fault_help fault.BadFootprint = codes "an invariant has no variable, more than 16, one twice, or one that the store lacks; change the program"

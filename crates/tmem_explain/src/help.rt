@@ -53,11 +53,11 @@ impl fmt::Display for FaultHelp {
             ),
             Fault::Missing(name) => write!(
                 f,
-                "the invariant {name} is registered in the store, and the program has none of this name; run the program that has it, and retire it there"
+                "the invariant {name} is registered in the store, and the program or shape has none of this name; open the store with one that has, and retire it there"
             ),
             Fault::Broken(name) => write!(
                 f,
-                "the invariant {name} is registered in the store, and false of its values; compare what it means in the two programs, or restore a copy"
+                "the invariant {name} is registered in the store, and false of its values; compare what it means in the program or shape now and before, or restore a copy"
             ),
             Fault::BadPlan(cause) => write!(f, "{}; change the transaction", words_of(*cause)),
             Fault::BadName => write!(

@@ -14,8 +14,6 @@ mod help;
 mod numbers;
 mod plan;
 mod script;
-#[cfg(test)]
-mod tests;
 
 pub use device::{DeviceCause, Wanted, cause_of};
 pub use expected::Expected;
