@@ -1,9 +1,2 @@
-mod Listing
-mod Opening
 mod Outcomes
-mod Playing
 mod Shaped
-mod Showing
-mod Stored
-mod Stores
-mod Writing

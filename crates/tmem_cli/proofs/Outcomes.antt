@@ -18,12 +18,12 @@ use Rattle.tmem_script.specs.declared.failure.Failure.TheVariants.{Output}
 use Rattle.tmem_script.specs.declared.script.Entry.{Entry}
 use Rattle.tmem_script.specs.declared.script.ScriptError.{ScriptError}
 use Rattle.tmem_script.specs.declared.script.ScriptError.TheVariants.{Memory, Unreadable, NoScript}
-use Rattle.tmem_cli.specs.declared.play.Played.{Played}
+use Rattle.tmem_run.specs.declared.play.Played.{Played}
 use Rattle.tmem_args.specs.CommandLine.{IsHelpOrVersion, HasRequest}
 use Rattle.tmem_cli.specs.Outcomes.{MayBeRead, IsNoScript, IsWhyNotRead, FailsWith}
-use Rattle.tmem_cli.specs.Printed.{PlaysFrom}
-use Rattle.tmem_cli.specs.Stored.{PlaysWhere, StopsWhere}
-use Rattle.tmem_cli.proofs.Writing.{Appends-keeps}
+use Rattle.tmem_run.specs.Printed.{PlaysFrom}
+use Rattle.tmem_run.specs.Stored.{PlaysWhere, StopsWhere}
+use Rattle.tmem_run.proofs.Laws.{Appends-keeps}
 
 -- the text was not read
 pub unread : (IsRead : List ℕ → Type 0) (e : ScriptError) → IsUnread e → IsWhyNotRead IsRead e
@@ -65,26 +65,6 @@ PlaysWhere-keeps (Some path) (Some device) vars slots entries before mid after s
 pub FailsWith-along : (status : ℕ) (left p q d e : Option (List ℕ)) (device : Option Played) → p ≡ q → d ≡ e → FailsWith status (MayBeRead p left) d device → FailsWith status (MayBeRead q left) e device
 FailsWith-along status left p q d e device path disk so =
     subst (λ (x : Option (List ℕ)). FailsWith status (MayBeRead q left) x device) disk (subst (λ (x : Option (List ℕ)). FailsWith status (MayBeRead x left) d device) path so)
-
--- what holds in any case does after Ok
-pub ok_of : {T E P : Type 0} (r : Result T E) → P → OnOk r P
-ok_of (Ok x) so = so
-ok_of (Err e) so = tt
-
--- what holds of two answers that a call gives with Ok holds of both
-pub ok_both : {T E P Q R : Type 0} (r : Result T E) → OnOk r P → OnOk r Q → (P → Q → R) → OnOk r R
-ok_both (Ok x) one two both = both one two
-ok_both (Err e) one two both = tt
-
--- and so with Err
-pub err_both : {T E Q : Type 0} {P R : E → Type 0} (r : Result T E) → IfErr r P → OnErr r Q → ((e : E) → P e → Q → R e) → IfErr r R
-err_both (Ok x) one two both = tt
-err_both (Err e) one two both = both e one two
-
--- what holds in any case does after Err
-pub err_of : {T E : Type 0} (P : Type 0) (r : Result T E) → P → OnErr r P
-err_of P (Ok x) so = tt
-err_of P (Err e) so = so
 
 -- a script that was played to its end, and then the output failed
 pub output_stops : (path : Option (List ℕ)) (device : Option Played) (vars slots : ℕ) (entries : List Entry) (before after : Option (List ℕ)) → PlaysWhere path device vars slots entries before after → StopsWhere path device vars slots entries Output

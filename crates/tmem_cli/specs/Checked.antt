@@ -14,7 +14,7 @@ use Rattle.tmem_script.specs.declared.failure.Failure.{Failure}
 use Rattle.tmem_script.specs.declared.failure.Failure.TheVariants as failure
 use Rattle.tmem_script.specs.declared.script.Entry.{Entry}
 use Rattle.tmem_script.specs.declared.script.ScriptError.{ScriptError}
-use Rattle.tmem_cli.specs.Printed.{line}
+use Rattle.tmem_run.specs.Printed.{line}
 
 -- what was read is a script
 abbrev pub IsScriptThere : Type 0

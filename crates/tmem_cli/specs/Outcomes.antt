@@ -20,12 +20,12 @@ use Rattle.tmem_file.specs.declared.disk.FileDisk.{FileDisk}
 use Rattle.tmem_threads.specs.declared.store.TheConstants.{VARS, SLOTS}
 use Rattle.tmem_threads.specs.declared.store.Totals.{Totals}
 use Rattle.tmem_threads.specs.declared.workers.Work.{Work}
-use Rattle.tmem_cli.specs.declared.play.Played.{Played}
+use Rattle.tmem_run.specs.declared.play.Played.{Played}
 use Rattle.tmem_args.specs.CommandLine.{AsksToPlay, AsksToCount, AsksToBench, AsksToShow, AsksToInit, AsksToServe, AsksToCheck, AsksForHelp, AreNumbersIn, path_in, disk_in}
 use Rattle.tmem_cli.specs.Checked.{HasFlaws, IsScriptThere}
-use Rattle.tmem_cli.specs.Printed.{line, totals_text}
+use Rattle.tmem_run.specs.Printed.{line}
 use Rattle.tmem_cli.specs.Shaped.{MakesStore, ServesAnyShape}
-use Rattle.tmem_cli.specs.Stored.{IsMade, PlaysWhere, StopsPlaying}
+use Rattle.tmem_run.specs.Stored.{IsMade, PlaysWhere, StopsPlaying}
 
 -- A text that may have been read: from the input what was left there, where that is known, and from a file any.
 abbrev pub MayBeRead : Option Text → Option (List ℕ) → List ℕ → Type 0
@@ -74,6 +74,10 @@ FailsWith status IsRead disk device = (f : Failure) × (status_of f ≡ status) 
 abbrev pub IsMadeAt : Option Text → Type 0
 IsMadeAt None = ⊤
 IsMadeAt (Some path) = (blank : FileDisk) × (made : FileDisk) × IsMade VARS SLOTS blank made
+
+-- what threads did: how many transactions they were answered to have committed, the value of variable 0, and how many are durable
+abbrev pub totals_text : Totals → List ℕ
+totals_text t = codes "committed " ++ decimal t.committed ++ codes "\nvalue " ++ signed_decimal t.value ++ codes "\ndurable " ++ decimal t.durable
 
 -- Workers counted up in a store that was opened in some state, and three totals were printed, of which the first is at
 -- most what the work allows.

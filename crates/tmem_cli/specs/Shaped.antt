@@ -15,7 +15,7 @@ use Rattle.tmem_file.specs.Opening.{IsFreshlyOpened}
 use Rattle.tmem_file.specs.declared.disk.FileDisk.{FileDisk}
 use Rattle.tmem_init.specs.Content.{IsNewStore}
 use Rattle.tmem_serve.specs.Stores.{OpensAndServes}
-use Rattle.tmem_cli.specs.Builtin.{builtin_arities}
+use Rattle.tmem_run.specs.Builtin.{builtin_arities}
 
 -- the names of invariants, and of those of them that always hold
 abbrev pub names_in : List Linear → List (List ℕ)

@@ -6,12 +6,12 @@ ghost use Rattle.tmem_script.specs.Statuses.{status_of};
 ghost use Rattle.tmem_script.specs.declared.failure.Failure.TheVariants.{Output};
 ghost use Rattle.tmem_cli.specs.Checked.{HasFlaws, IsWhyNotChecked, IsScriptThere, lines_of};
 
-use crate::print::print_line;
 use crate::words::flush;
 use std::fs::{self, File, Files};
 use std::io::Write;
 use tmem_explain::{Flaw, flaws_in};
 use tmem_fault::Fault;
+use tmem_run::print_line;
 use tmem_script::{Failure, ScriptError};
 
 /// Prints a line for each flaw of the script in a file. Whether it is a script, of which nothing is printed. `Unreadable` where it is not

@@ -4,12 +4,13 @@ ghost use Rattle.tmem_effect.specs.State.{State};
 ghost use Rattle.tmem_threads.specs.Counting.{AreTotals};
 ghost use Rattle.tmem_cli.specs.Outcomes.{IsMadeAt};
 
-use crate::device::{device_in_memory, made_file};
+use std::fmt;
 use std::fs::{File, Files};
 use std::rt::Clock;
 use std::sync::Wait;
 use std::thread::Threads;
 use tmem_fault::Fault;
+use tmem_run::{device_in_memory, made_file};
 use tmem_threads::{SLOTS, Totals, VARS, Work, count_up};
 use tmem_world::Layout;
 
@@ -26,5 +27,25 @@ pub(crate) fn count_on<R: Files<File = File> + AllocGlobal + Threads + Wait + Cl
     match path {
         None => count_up(rt, rt.alloc(), device_in_memory(rt.alloc(), layout)?, work),
         Some(path) => count_up(rt, rt.alloc(), made_file(rt, path, layout)?.0, work),
+    }
+}
+
+/// What threads did, as its lines but for the last line break.
+#[derive(Drop)]
+pub(crate) struct TotalsText(pub(crate) Totals);
+
+impl fmt::Display for TotalsText {
+    ghost use Rattle.std.specs.Prelude.{Some};
+    ghost use Rattle.tmem_cli.specs.Outcomes.{totals_text};
+
+    ghost output = { λ text. Some (totals_text text.0) };
+
+    fn fmt<W: fmt::Write>(&self, f: &mut fmt::Formatter<W>) -> fmt::Result {
+        let Totals {
+            committed,
+            value,
+            durable,
+        } = self.0;
+        write!(f, "committed {committed}\nvalue {value}\ndurable {durable}")
     }
 }

@@ -5,7 +5,6 @@
 use crate::bench::STORE;
 use crate::failure::StoreFailure;
 use crate::init::text_in;
-use crate::notes::{Notes, Refused};
 use std::alloc::Global;
 use std::fmt::Display;
 use std::fs::{File, Files};
@@ -19,6 +18,7 @@ use tmem_fault::Fault;
 use tmem_init::InitError;
 use tmem_parts::block_of;
 use tmem_record::Layout;
+use tmem_run::{Notes, Refused};
 use tmem_script::{Failure, Script, ScriptError};
 use tmem_serve::ServeError;
 use tmem_shape::Shape;
@@ -34,8 +34,7 @@ const NO_CLOCK: &str = "the system did not tell the time; try again";
 const NOT_REGISTERED: &str =
     "the store was made before the shape had it; serve it with a shape in which it lacks always, let a transaction check it, and try again";
 
-const NO_SHAPE: &str =
-    "no store was touched; correct that place in the shape, and try again";
+const NO_SHAPE: &str = "no store was touched; correct that place in the shape, and try again";
 
 const OTHER_TEXT: &str =
     "a shape stands beside its store, as STORE.json, and what has that path is not this one; move it away, or name another path";

@@ -3,7 +3,7 @@ ghost use Rattle.std.specs.Prelude.{OnOk};
 ghost use Rattle.std.specs.Io.KnownBytes.{IsAtEnd};
 ghost use Rattle.tmem_file.specs.FileView.{file_view};
 ghost use Rattle.tmem_serve.specs.Stores.{OpensAndServes};
-ghost use Rattle.tmem_cli.specs.Builtin.{builtin_arities};
+ghost use Rattle.tmem_run.specs.Builtin.{builtin_arities};
 ghost use Rattle.tmem_cli.specs.Shaped.{ServesShape, ServesAnyShape, always_in, program_of};
 
 use crate::failure::StoreFailure;

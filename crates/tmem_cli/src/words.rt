@@ -11,13 +11,10 @@ ghost use Rattle.tmem_cli.specs.Outcomes.{IsDone, IsFailed, HasNoScript, CountsU
 
 use crate::bench::run_bench;
 use crate::check::check;
-use crate::count::count_on;
+use crate::count::{TotalsText, count_on};
 use crate::explain::{explain, explain_check, explain_store};
 use crate::failure::StoreFailure;
 use crate::init::init_store;
-use crate::notes::Notes;
-use crate::play::{Played, play};
-use crate::print::{TotalsText, print_line};
 use crate::serve::serve;
 use crate::show::show_store;
 use clap::error::ErrorKind;
@@ -28,6 +25,7 @@ use std::rt::Clock;
 use std::sync::Wait;
 use std::thread::Threads;
 use tmem_args::{Asked, Counting, Making, Paths, Serving, Showing, Told, asked_of};
+use tmem_run::{Notes, Played, play, print_line};
 use tmem_script::{Failure, Script, ScriptError, WordsError, report};
 use tmem_threads::Work;
 

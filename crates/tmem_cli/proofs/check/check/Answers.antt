@@ -3,7 +3,7 @@ use Rattle.std.specs.Io.KnownBytes.{Appends}
 use Rattle.std.proofs.lemmas.Bool.{false≢true}
 use Rattle.tmem_explain.specs.declared.flaw.Flaw.{Flaw}
 use Rattle.tmem_cli.specs.Checked.{lines_of}
-use Rattle.tmem_cli.proofs.Writing.{Appends-keeps}
+use Rattle.tmem_run.proofs.Laws.{Appends-keeps}
 use Rattle.tmem_cli.proofs.check.check.Goals as goal
 
 pub returns-clause-flawed : goal.returns-clause-flawed

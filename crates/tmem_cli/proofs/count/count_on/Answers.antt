@@ -1,6 +1,6 @@
 use Rattle.std.proofs.Common.{◌≡◌, ℕ, Some, Result, Ok, Err, IfOk, option_map, subst, sym}
 use Rattle.tmem_cli.specs.Outcomes.{IsMadeAt}
-use Rattle.tmem_cli.specs.Stored.{IsMade}
+use Rattle.tmem_run.specs.Stored.{IsMade}
 use Rattle.tmem_cli.proofs.count.count_on.Goals as goal
 
 -- what holds in any case does of a value that is answered

@@ -1,4 +1,4 @@
-use Rattle.tmem_cli.proofs.Outcomes.{ok_both}
+use Rattle.tmem_run.proofs.Laws.{ok_both}
 use Rattle.tmem_cli.proofs.serve.serve_text.Goals as goal
 
 pub returns : goal.returns

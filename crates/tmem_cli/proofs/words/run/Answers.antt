@@ -1,7 +1,8 @@
 use Rattle.std.proofs.Common.{ℕ, List, option_map, Bor, sym, subst, inr}
 use Rattle.std.proofs.lemmas.Result.{IfErr-weaker}
-use Rattle.tmem_cli.specs.Stored.{StopsWhere}
-use Rattle.tmem_cli.proofs.Outcomes.{PlaysWhere-keeps, err_of, hands_back, ok_of, output_stops}
+use Rattle.tmem_run.specs.Stored.{StopsWhere}
+use Rattle.tmem_cli.proofs.Outcomes.{PlaysWhere-keeps, hands_back, output_stops}
+use Rattle.tmem_run.proofs.Laws.{err_of, ok_of}
 use Rattle.tmem_cli.proofs.words.run.Goals as goal
 
 pub returns-clause-played : goal.returns-clause-played

@@ -1,0 +1,15 @@
+-- What is kept of an entry that was refused.
+use Rattle.std.specs.Prelude.{◌≡◌, ◌⊎◌, ℕ, Bool, true, false, List, [], ◌∷◌, ◌++◌}
+use Rattle.tmem_event.specs.declared.event.Reply.{Reply}
+use Rattle.tmem_event.specs.declared.event.Reply.TheVariants as reply
+use Rattle.tmem_run.specs.declared.notes.Refused.{Refused}
+
+-- The entry of this number, where it was refused, with its fault; and nothing of one that was not.
+abbrev pub refused_in : ℕ → Reply → List Refused
+refused_in index (reply.Fault fault) = record { index = index; fault = fault } ∷ []
+refused_in index _ = []
+
+-- These notes are taken of an entry: none unless more is to be told, and that it was refused, or nothing for want of memory.
+abbrev pub IsNotedOf : Bool → ℕ → Reply → List Refused → List Refused → Type 0
+IsNotedOf false index r before after = after ≡ before
+IsNotedOf true index r before after = (after ≡ before) ⊎ (after ≡ before ++ refused_in index r)

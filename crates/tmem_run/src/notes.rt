@@ -1,0 +1,88 @@
+//! What is kept of a run, so that more can be told of what fails.
+ghost use Rattle.std.specs.Prelude.{◌≡◌, []};
+ghost use Rattle.tmem_run.specs.Noted.{IsNotedOf};
+
+use std::alloc::Global;
+use tmem_fault::Fault;
+use tmem_world::Reply;
+
+/// What is kept of a run of a script: nothing, unless more is to be told. Where memory does not suffice to keep something, less is told.
+#[derive(Drop)]
+pub struct Notes {
+    explains: bool,
+    // the text of the script
+    text: Vec<u8>,
+    // how many entries were played
+    played: usize,
+    refused: Vec<Refused>,
+}
+
+/// An entry that was refused.
+#[derive(Clone, Copy)]
+pub struct Refused {
+    pub index: usize,
+    pub fault: Fault,
+}
+
+impl Notes {
+    /// None yet.
+    pub fn new(alloc: Global, explains: bool) -> Notes
+        ensures { result.refused.items ≡ [] }
+    {
+        Notes {
+            explains,
+            text: Vec::new(alloc),
+            played: 0,
+            refused: Vec::new(alloc),
+        }
+    }
+
+    /// Keeps the text of the script.
+    pub fn keep(&mut self, text: Vec<u8>)
+        ensures { self.new.refused ≡ self.old.refused }
+    {
+        if self.explains {
+            self.text = text;
+        }
+    }
+
+    /// Takes what the next entry is answered.
+    pub(crate) fn note(&mut self, reply: &Reply)
+        ensures { IsNotedOf self.old.explains self.old.played reply.now self.old.refused.items self.new.refused.items }
+    {
+        if let Reply::Fault(fault) = reply {
+            self.note_fault(*fault);
+        }
+        self.played = self.played.saturating_add(1);
+    }
+
+    /// Takes that the state is to be shown next, which is refused where no session stands.
+    pub(crate) fn note_shown(&mut self, is_open: bool) {
+        if is_open {
+            self.played = self.played.saturating_add(1);
+        } else {
+            self.note(&Reply::Fault(Fault::Closed));
+        }
+    }
+
+    // Keeps that the next entry is refused by this fault.
+    fn note_fault(&mut self, fault: Fault)
+        ensures { IsNotedOf self.old.explains self.old.played (Reply.Fault fault) self.old.refused.items self.new.refused.items }
+    {
+        if self.explains {
+            let index = self.played;
+            // Where memory does not suffice, it is not told.
+            let _ = self.refused.push(Refused { index, fault });
+        }
+    }
+
+    /// The entries that were refused, in order.
+    pub fn refused(&self) -> &[Refused] {
+        self.refused.as_slice()
+    }
+
+    /// The text of the script, as far as it was kept.
+    pub fn text(&self) -> &[u8] {
+        self.text.as_slice()
+    }
+}
