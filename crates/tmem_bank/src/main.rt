@@ -23,7 +23,8 @@ use std::sync::Wait;
 use std::thread::Threads;
 use tmem_builtins::stored_steps;
 use tmem_fault::Name;
-use tmem_invariants::{Invariant, Invariants, Table};
+use tmem_invariants::Invariants;
+use tmem_tables::{Invariant, Table};
 use tmem_tree::StoredSteps;
 
 fn main(rt: HostRuntime) -> Result<()> {

@@ -19,7 +19,8 @@ use tmem_builtins::stored_steps;
 use tmem_disk::Disk;
 use tmem_fault::Name;
 use tmem_front::{Front, OpenedFront, StoreNaming};
-use tmem_invariants::{Invariant, Invariants, Table};
+use tmem_invariants::Invariants;
+use tmem_tables::{Invariant, Table};
 use tmem_tree::StoredSteps;
 
 /// What is done with a store once it is open.

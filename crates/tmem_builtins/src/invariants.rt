@@ -6,7 +6,8 @@ ghost use Rattle.tmem_builtins.specs.Invariants.{is_not_negative, add_to_hundred
 
 use std::alloc::Global;
 use tmem_fault::{Fault, Name};
-use tmem_invariants::{Invariant, Invariants, Table, Test};
+use tmem_invariants::Invariants;
+use tmem_tables::{Invariant, Table, Test};
 
 /// The names of the three, ascending.
 pub fn names() -> [Name; 3]

@@ -1,5 +1,6 @@
 //! What a served store prints for pieces of input.
 mod answers;
 mod limits;
+mod lines;
 mod pieces;
 mod store;

@@ -13,9 +13,9 @@ use Rattle.tmem_invariants.specs.Indices.{AreIndicesOf, has_index, stands_at}
 use Rattle.tmem_invariants.specs.TableNames.{first_missing, has_name, lacks}
 pub use Rattle.tmem_invariants.proofs.Among.{All-at_name, at_index, Contains-from_has_name, has_name-from_Contains}
 use Rattle.tmem_invariants.proofs.NameIndices.{stands_at-none}
-use Rattle.tmem_invariants.proofs.IndexSets.{has_index-or, has_index-without, has_index-zero}
-use Rattle.tmem_invariants.proofs.Scans.{find_none}
-use Rattle.tmem_invariants.proofs.TouchedInvariants.{first_false-touched}
+pub use Rattle.tmem_invariants.proofs.IndexSets.{clear_is_less, has_index-and, has_index-clear, has_index-or, has_index-without, has_index-zero, lowest_is_there, none_is_lower}
+pub use Rattle.tmem_invariants.proofs.Scans.{All-take_more, All_read, All_whole, AreDistinct-take_more, AreDistinct_whole, find_here, find_none, lacks_from_none, list_any-take_more, list_any_here, list_any_whole, not-AreDistinct, not-AreDistinct-take, scan_more, scan_none, slice_get-map_read, slice_get_read}
+pub use Rattle.tmem_invariants.proofs.TouchedInvariants.{first_false-touched, has_name-touched}
 
 -- none found is none that passes
 none_of : {X : Type 0} (first : Bool) (x : X) (rest : Option X) (any : Bool) → cond first (Some x) rest ≡ None → (rest ≡ None → any ≡ false) → (first || any) ≡ false

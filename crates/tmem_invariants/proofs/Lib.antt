@@ -3,6 +3,4 @@ pub mod Laws
 pub mod NameIndices
 pub mod IndexSets
 pub mod Scans
-pub mod Tested
 pub mod TouchedInvariants
-pub mod Touching

@@ -12,6 +12,9 @@ use tmem_fault::Name;
 /// The most invariants of a table.
 pub const MAX_INVARIANTS: usize = 64;
 
+/// The most variables of a footprint.
+pub const MAX_FOOTPRINT: usize = 16;
+
 /// Invariants in order, known by their names. A map of values is a slice with an entry for each variable. No call takes
 /// memory.
 pub trait Invariants {

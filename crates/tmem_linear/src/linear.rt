@@ -7,7 +7,7 @@ ghost use Rattle.tmem_linear.specs.Bounds.{is_from as from, is_to as to};
 use crate::sum::sum;
 use crate::weight::Weight;
 use tmem_fault::Name;
-use tmem_invariants::{Entry, TableOf};
+use tmem_tables::{Entry, TableOf};
 
 /// Invariants that are sums within bounds, in order, over some number of variables.
 pub type LinearTable = TableOf<Linear>;

@@ -15,7 +15,7 @@ use std::io::Write;
 use tmem_builtins::{nonneg, ordered, sum, table_of};
 use tmem_disk::SimDisk;
 use tmem_fault::{Fault, Name};
-use tmem_invariants::{Invariant, Table, Test};
+use tmem_tables::{Invariant, Table, Test};
 
 /// Does a task.
 pub(crate) fn do_task<W: Write>(

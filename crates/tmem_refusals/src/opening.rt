@@ -14,7 +14,8 @@ use tmem_builtins::{names, nonneg, stored_steps};
 use tmem_disk::{Disk, SimDisk};
 use tmem_fault::Fault;
 use tmem_front::{OpenedFront, StoreNaming};
-use tmem_invariants::{Invariant, Invariants, Table};
+use tmem_invariants::Invariants;
+use tmem_tables::{Invariant, Table};
 use tmem_tree::StoredSteps;
 
 /// Makes the invariant and its table, and opens the device with them. Where that is refused, it says so, and whether the device is as

@@ -6,7 +6,8 @@ use tmem_builtins::{put, stored_steps};
 use tmem_disk::{Disk, SimDisk};
 use tmem_event::Event;
 use tmem_fault::Fault;
-use tmem_invariants::{Invariants, Table};
+use tmem_invariants::Invariants;
+use tmem_tables::Table;
 use tmem_tree::StoredSteps;
 use tmem_world::{Layout, World, format};
 

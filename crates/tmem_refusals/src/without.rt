@@ -9,9 +9,10 @@ use tmem_disk::{Disk, SimDisk};
 use tmem_effect::Effect;
 use tmem_fault::{Fault, Name};
 use tmem_gate::{close_gate, is_open, reads_open};
-use tmem_invariants::{Invariant, Invariants, Table};
+use tmem_invariants::Invariants;
 use tmem_record::encode_batch;
 use tmem_state::Batch;
+use tmem_tables::{Invariant, Table};
 use tmem_world::format;
 
 /// Makes each of them, with a line before the first and one behind each. What they are given is made before.

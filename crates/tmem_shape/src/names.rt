@@ -13,7 +13,7 @@ use crate::place::Place;
 use crate::why::Why;
 use serde_json::{Map, Value};
 use std::alloc::{AllocError, Global};
-use tmem_invariants::first_repeated;
+use tmem_tables::first_repeated;
 
 const MAX_VARIABLE_NAME_BYTES: usize = 32;
 

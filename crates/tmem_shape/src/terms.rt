@@ -15,8 +15,9 @@ use crate::place::Place;
 use crate::why::Why;
 use serde_json::Value;
 use std::alloc::Global;
-use tmem_invariants::{MAX_FOOTPRINT, first_repeated};
+use tmem_invariants::MAX_FOOTPRINT;
 use tmem_linear::Weight;
+use tmem_tables::first_repeated;
 
 /// The variables of an invariant's sum, and how each counts.
 pub(crate) fn sum_of(

@@ -18,7 +18,8 @@ use tmem_builtins::stored_steps;
 use tmem_disk::Disk;
 use tmem_fault::Fault;
 use tmem_front::{Front, OpenedFront, Pass, StoreNaming};
-use tmem_invariants::{Invariants, Table};
+use tmem_invariants::Invariants;
+use tmem_tables::Table;
 use tmem_tree::StoredSteps;
 
 /// How many variables the store has.

@@ -8,7 +8,8 @@ ghost use Rattle.tmem_world.specs.Represents.{numbers_of, HoldsSession};
 use std::alloc::Global;
 use tmem_disk::{Disk, SimDisk};
 use tmem_fault::{Fault, Name};
-use tmem_invariants::{Invariant, Invariants, Table};
+use tmem_invariants::Invariants;
+use tmem_tables::{Invariant, Table};
 use tmem_tree::{MAX_TURNS, Steps, StoredSteps, Tx};
 use tmem_world::{Event, Layout, Reply, Settled, World, format};
 

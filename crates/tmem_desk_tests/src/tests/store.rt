@@ -15,9 +15,10 @@ use tmem_desk::{Desk, Failure, ServedNaming, Service};
 use tmem_disk::SimDisk;
 use tmem_fault::{Fault, Name};
 use tmem_front::{Front, OpenedFront};
-use tmem_invariants::{Invariant, Invariants, Table};
+use tmem_invariants::Invariants;
 use tmem_journal::{Layout, format};
 use tmem_lines::Lines;
+use tmem_tables::{Invariant, Table};
 use tmem_tree::StoredSteps;
 
 const VARS: u16 = 4;

@@ -22,8 +22,9 @@ use std::time::Duration;
 use tmem_disk::SimDisk;
 use tmem_fault::Fault;
 use tmem_front::{OpenedFront, StoreNaming};
-use tmem_invariants::{Invariant, Invariants, Table};
+use tmem_invariants::Invariants;
 use tmem_journal::{Layout, format};
+use tmem_tables::{Invariant, Table};
 
 const VARS: u16 = 1024;
 

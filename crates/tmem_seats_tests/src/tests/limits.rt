@@ -5,7 +5,7 @@ ghost use Rattle.tmem_tree.specs.declared.step.StepAnswer.TheVariants.{Retry};
 use std::alloc::Global;
 use std::test::Fail;
 use tmem_fault::{Cause, Fault, Name};
-use tmem_invariants::{Invariant, Table};
+use tmem_tables::{Invariant, Table};
 use tmem_tree::{StepAnswer, StepEntry};
 
 #[test]

@@ -6,7 +6,8 @@ use std::test::Fail;
 use tmem_builtins::{add_to, all_of, first_of, first_of_several, put, read, stored_steps, take};
 use tmem_disk::SimDisk;
 use tmem_fault::Fault;
-use tmem_invariants::{Invariants, Table};
+use tmem_invariants::Invariants;
+use tmem_tables::Table;
 use tmem_tree::{StoredSteps, Tx};
 use tmem_world::{Reply, Settled, World};
 

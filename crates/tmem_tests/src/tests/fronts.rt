@@ -17,7 +17,8 @@ use tmem_builtins::{names, nonneg, stored_steps};
 use tmem_disk::Disk;
 use tmem_fault::Fault;
 use tmem_front::{Front, OpenedFront, Pass, StoreNaming};
-use tmem_invariants::{Invariant, Invariants, Table};
+use tmem_invariants::Invariants;
+use tmem_tables::{Invariant, Table};
 use tmem_tree::{Plan, StoredSteps, Tx};
 use tmem_world::Settled;
 

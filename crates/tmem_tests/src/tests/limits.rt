@@ -12,9 +12,10 @@ use tmem_disk::SimDisk;
 use tmem_effect::Effect;
 use tmem_fault::Fault;
 use tmem_front::OpenedFront;
-use tmem_invariants::{Invariants, Table};
+use tmem_invariants::Invariants;
 use tmem_record::{Decoded, SLOT_BODY_BYTES, decode_batch, encode_batch};
 use tmem_state::{Batch, Version};
+use tmem_tables::Table;
 use tmem_tree::{Steps, StoredSteps};
 use tmem_world::{Event, Reply, Settled, World};
 

@@ -7,7 +7,8 @@ use std::alloc::Global;
 use std::process::Abort;
 use tmem_disk::SimDisk;
 use tmem_fault::{Fault, Name};
-use tmem_invariants::{Invariant, Invariants, Test};
+use tmem_invariants::Invariants;
+use tmem_tables::{Invariant, Test};
 use tmem_tree::{StoredSteps, Tx};
 use tmem_world::World;
 

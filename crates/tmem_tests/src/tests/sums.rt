@@ -3,8 +3,9 @@ use super::names::numbered;
 use std::alloc::Global;
 use std::test::Fail;
 use tmem_fault::Fault;
-use tmem_invariants::{Invariants, TableOf};
+use tmem_invariants::Invariants;
 use tmem_linear::{Linear, Weight};
+use tmem_tables::TableOf;
 
 const VARS: u16 = 1024;
 

@@ -7,7 +7,8 @@ use std::alloc::Global;
 use std::process::Abort;
 use std::test::Fail;
 use tmem_fault::Fault;
-use tmem_invariants::{Invariants, Table};
+use tmem_invariants::Invariants;
+use tmem_tables::Table;
 
 /// A variable, the set of the neighbours' invariants over it, and the first that is false where it is -1 and all others
 /// are 0.

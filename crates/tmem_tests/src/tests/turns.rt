@@ -8,7 +8,8 @@ use std::alloc::Global;
 use std::test::Fail;
 use tmem_disk::SimDisk;
 use tmem_fault::Fault;
-use tmem_invariants::{Invariants, Table};
+use tmem_invariants::Invariants;
+use tmem_tables::Table;
 use tmem_tree::{MAX_TURNS, Steps, StoredSteps, Tx, shapes_of};
 use tmem_world::{Event, Reply, World};
 

@@ -8,7 +8,8 @@ use std::test::Fail;
 use tmem_builtins::stored_steps;
 use tmem_disk::SimDisk;
 use tmem_fault::{Cause, Fault};
-use tmem_invariants::{Invariants, Table};
+use tmem_invariants::Invariants;
+use tmem_tables::Table;
 use tmem_tree::{Steps, StoredSteps, Tx};
 use tmem_world::{Event, Reply, World};
 

@@ -1,0 +1,2 @@
+mod Tested
+mod Touching

@@ -1,0 +1,12 @@
+use Rattle.std.proofs.Common.{◌≡◌, length, replicate, ap, ◌∙◌, rules}
+use Rattle.std.proofs.lemmas.List.{length-replicate}
+use Rattle.tmem_tables.proofs.Touching.{touching-none}
+use Rattle.tmem_tables.proofs.by_variable.indices_by_variable.Goals as goal
+
+pub loop-index-init : goal.loop-index-init
+loop-index-init g c =
+    let empty : c.in_ok-by_variable.by_variable.items ≡ replicate c.args.vars 0 = search rules in
+    record {
+      long = ap length empty ∙ length-replicate c.args.vars 0;
+      touching = λ var index. rw empty (touching-none c.args.vars var index);
+    }

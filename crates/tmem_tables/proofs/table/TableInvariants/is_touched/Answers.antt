@@ -1,0 +1,14 @@
+use Rattle.std.proofs.Common.{◌<◌, ◌^◌, bit_and, map, arith}
+use Rattle.std.proofs.lemmas.Nat.{and_le_l}
+use Rattle.tmem_invariants.specs.Meanings.{touched}
+use Rattle.tmem_tables.proofs.Touching.{is_empty_set, touched_indices}
+use Rattle.tmem_tables.proofs.table.TableInvariants.is_touched.Goals as goal
+
+pub returns : goal.returns
+returns g c = λ m held stated are_held.
+    let table = c.args.self.now in
+    let written = c.args.written.now in
+    let indices = c.indices_touched.result in
+    let fits : bit_and indices c.args.registered < 2 ^ 64 = omega (arith, and_le_l indices c.args.registered) in
+    is_empty_set (touched m written held) (map (λ entry. entry.name) table.entries.items) (bit_and indices c.args.registered) fits
+    (touched_indices m written (λ entry. entry.name) (λ entry. entry.footprint.items) table.entries.items table.by_variable.items table.touching (λ k d within. (stated k d within).over) held c.args.registered indices are_held (rw c.deref.ensures.value at c.indices_touched.ensures))

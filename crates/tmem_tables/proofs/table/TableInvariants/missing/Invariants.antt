@@ -1,0 +1,8 @@
+use Rattle.std.proofs.Common.{◌≡◌, false, map, take}
+use Rattle.std.specs.List.{list_any}
+use Rattle.tmem_invariants.specs.TableNames.{lacks}
+use Rattle.tmem_tables.proofs.table.TableInvariants.missing.Given as goal
+
+abbrev pub invariant-loop-name : goal.invariant-loop-name
+invariant-loop-name g l =
+    list_any (lacks (map (λ entry. entry.name) l.self.entries.items)) (take l.name-index l.registered) ≡ false
