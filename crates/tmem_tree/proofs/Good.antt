@@ -1,5 +1,5 @@
 -- What a count of bad nodes comes to, where the node itself is fine.
-use Rattle.std.proofs.Common.{◌≡◌, ℕ, ◌+◌, Bool, false, Option, Some, None, IfSome, Vec, Box, Global, refl, sym, subst, ap, ◌∙◌, rules, arith}
+use Rattle.std.proofs.Common.{◌≡◌, ℕ, ◌+◌, ◌-◌, ◌≤◌, max, Bool, false, Option, Some, None, IfSome, Vec, Box, Global, refl, sym, subst, ap, ◌∙◌, rules, arith}
 use Rattle.tmem_tree.specs.declared.tx.Tx.{Tx}
 use Rattle.tmem_tree.specs.declared.tx.Tx.TheVariants.{Seq, When, OrElse}
 use Rattle.tmem_tree.specs.declared.tx.Tx.TheViews.{the_lemmas, out-Tx, roll-Tx, roll-out-Tx, rolls-Skip, rolls-Seq, rolls-Put, rolls-Read, rolls-Write, rolls-Step, rolls-When, rolls-OrElse, rolls-Retry, rolls-Abort, rolls-Check, rolls-Retire}
@@ -53,3 +53,49 @@ module _ (bad : Tx → Bool) where
   or_else_good tx a b is fine first second =
       let here : one_if (bad (OrElse a b)) ≡ 0 = ap (λ t. one_if (bad t)) (sym is) ∙ ap one_if fine in
       ap (count bad) is ∙ count-OrElse a b ∙ omega (arith, here, first, second)
+
+pub each_some : {X : Type 0} (o : Option X) {P Q : X → Type 0} → ((x : X) → P x → Q x) → IfSome o P → IfSome o Q
+each_some (Some x) then p = then x p
+each_some None then p = tt
+
+-- what a choice, or an alternative, comes to: itself, and its two trees
+pub record HasTwo (tx a b : Tx) : Type 0 where
+  pub shallow : (most : ℕ) → 1 ≤ most → depth a ≤ most - 1 → depth b ≤ most - 1 → depth tx ≤ most
+  pub first_shallow : (most : ℕ) → depth tx ≤ most → depth a ≤ most - 1
+  pub second_shallow : (most : ℕ) → depth tx ≤ most → depth b ≤ most - 1
+  pub counts : (test : Tx → Bool) → count test tx ≡ one_if (test tx) + (count test a + count test b)
+
+depth-When : (reg : ℕ) (then other : Box Tx Global) → depth (When reg then other) ≡ 1 + max (depth then.value) (depth other.value)
+depth-When reg then other = search (rules, the_lemmas)
+
+depth-OrElse : (a b : Box Tx Global) → depth (OrElse a b) ≡ 1 + max (depth a.value) (depth b.value)
+depth-OrElse a b = search (rules, the_lemmas)
+
+deeper : (d a b : ℕ) → d ≡ 1 + max a b → (most : ℕ) → 1 ≤ most → a ≤ most - 1 → b ≤ most - 1 → d ≤ most
+deeper d a b is most some one other = omega (arith, is, some, one, other)
+
+first_less : (d a b : ℕ) → d ≡ 1 + max a b → (most : ℕ) → d ≤ most → a ≤ most - 1
+first_less d a b is most so = omega (arith, is, so)
+
+second_less : (d a b : ℕ) → d ≡ 1 + max a b → (most : ℕ) → d ≤ most → b ≤ most - 1
+second_less d a b is most so = omega (arith, is, so)
+
+pub when_two : (tx : Tx) (reg : ℕ) (then other : Box Tx Global) → tx ≡ When reg then other → HasTwo tx then.value other.value
+when_two tx reg then other is =
+    let levels : depth tx ≡ 1 + max (depth then.value) (depth other.value) = ap depth is ∙ depth-When reg then other in
+    record {
+      shallow = deeper (depth tx) (depth then.value) (depth other.value) levels;
+      first_shallow = first_less (depth tx) (depth then.value) (depth other.value) levels;
+      second_shallow = second_less (depth tx) (depth then.value) (depth other.value) levels;
+      counts = λ test. ap (count test) is ∙ count-When test reg then other ∙ ap (λ (t : Tx). one_if (test t) + (count test then.value + count test other.value)) (sym is);
+    }
+
+pub or_else_two : (tx : Tx) (a b : Box Tx Global) → tx ≡ OrElse a b → HasTwo tx a.value b.value
+or_else_two tx a b is =
+    let levels : depth tx ≡ 1 + max (depth a.value) (depth b.value) = ap depth is ∙ depth-OrElse a b in
+    record {
+      shallow = deeper (depth tx) (depth a.value) (depth b.value) levels;
+      first_shallow = first_less (depth tx) (depth a.value) (depth b.value) levels;
+      second_shallow = second_less (depth tx) (depth a.value) (depth b.value) levels;
+      counts = λ test. ap (count test) is ∙ count-OrElse test a b ∙ ap (λ (t : Tx). one_if (test t) + (count test a.value + count test b.value)) (sym is);
+    }

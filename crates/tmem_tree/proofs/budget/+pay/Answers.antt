@@ -1,9 +1,9 @@
-use Rattle.std.proofs.Common.{◌≡◌, false, sym, ap, ◌∙◌, arith}
+use Rattle.std.proofs.Common.{◌≡◌, false, refl, sym, ap, ◌∙◌, arith}
 use Rattle.tmem_tree.specs.Limits.{one_if, count, is_node, is_write, is_check, is_retire, is_step}
 use Rattle.tmem_tree.specs.Shapes.{names_of}
 use Rattle.tmem_tree.specs.Plans.{is_bad}
 use Rattle.tmem_tree.proofs.Laws.{depth-Seq, count-Seq}
-use Rattle.tmem_tree.proofs.Good.{if_both, one_node, when_good, or_else_good}
+use Rattle.tmem_tree.proofs.Good.{each_some, if_both, one_node, or_else_good, or_else_two, when_good, when_two}
 use Rattle.tmem_tree.proofs.budget.+pay.Goals as goal
 
 pub loop-t-init : goal.loop-t-init
@@ -48,3 +48,97 @@ returns-in_default g t c =
       good = one.counts bad ∙ ap one_if fine;
       lacking = λ no. absurd cc;
     }
+
+pub returns-in_ok-left-in-When-clause-shallow : goal.returns-in_ok-left-in-When-clause-shallow
+returns-in_ok-left-in-When-clause-shallow g t c =
+    let two = when_two c.args.tx.now c.in-When.reg c.in-When.then c.in-When.other c.in-When.is in
+    each_some c.pay-in-When-2.result (λ left so. two.shallow c.args.most (omega (arith, c.if-most-eq0.false)) (rw c.deref.ensures at c.in_ok-left-in-When.ensures.shallow) so) (rw c.deref-in-When.ensures at c.pay-in-When-2.ensures.shallow)
+
+pub returns-in_ok-left-in-When-clause-nodes : goal.returns-in_ok-left-in-When-clause-nodes
+returns-in_ok-left-in-When-clause-nodes g t c =
+    let two = when_two c.args.tx.now c.in-When.reg c.in-When.then c.in-When.other c.in-When.is in
+    let one = rw c.deref.ensures at c.in_ok-left-in-When.ensures.nodes in
+    each_some c.pay-in-When-2.result (λ left so. omega (arith, two.counts is_node, c.in_ok-left.ensures.nodes, one, so)) (rw c.deref-in-When.ensures at c.pay-in-When-2.ensures.nodes)
+
+pub returns-in_ok-left-in-When-clause-writes : goal.returns-in_ok-left-in-When-clause-writes
+returns-in_ok-left-in-When-clause-writes g t c =
+    let two = when_two c.args.tx.now c.in-When.reg c.in-When.then c.in-When.other c.in-When.is in
+    let one = rw c.deref.ensures at c.in_ok-left-in-When.ensures.writes in
+    each_some c.pay-in-When-2.result (λ left so. omega (arith, two.counts is_write, c.in_ok-left.ensures.writes, one, so)) (rw c.deref-in-When.ensures at c.pay-in-When-2.ensures.writes)
+
+pub returns-in_ok-left-in-When-clause-checks : goal.returns-in_ok-left-in-When-clause-checks
+returns-in_ok-left-in-When-clause-checks g t c =
+    let two = when_two c.args.tx.now c.in-When.reg c.in-When.then c.in-When.other c.in-When.is in
+    let one = rw c.deref.ensures at c.in_ok-left-in-When.ensures.checks in
+    each_some c.pay-in-When-2.result (λ left so. omega (arith, two.counts is_check, c.in_ok-left.ensures.checks, one, so)) (rw c.deref-in-When.ensures at c.pay-in-When-2.ensures.checks)
+
+pub returns-in_ok-left-in-When-clause-retires : goal.returns-in_ok-left-in-When-clause-retires
+returns-in_ok-left-in-When-clause-retires g t c =
+    let two = when_two c.args.tx.now c.in-When.reg c.in-When.then c.in-When.other c.in-When.is in
+    let one = rw c.deref.ensures at c.in_ok-left-in-When.ensures.retires in
+    each_some c.pay-in-When-2.result (λ left so. omega (arith, two.counts is_retire, c.in_ok-left.ensures.retires, one, so)) (rw c.deref-in-When.ensures at c.pay-in-When-2.ensures.retires)
+
+pub returns-in_ok-left-in-When-clause-steps : goal.returns-in_ok-left-in-When-clause-steps
+returns-in_ok-left-in-When-clause-steps g t c =
+    let two = when_two c.args.tx.now c.in-When.reg c.in-When.then c.in-When.other c.in-When.is in
+    let one = rw c.deref.ensures at c.in_ok-left-in-When.ensures.steps in
+    each_some c.pay-in-When-2.result (λ left so. omega (arith, two.counts is_step, c.in_ok-left.ensures.steps, one, so)) (rw c.deref-in-When.ensures at c.pay-in-When-2.ensures.steps)
+
+pub returns-in_ok-left-in-OrElse-clause-shallow : goal.returns-in_ok-left-in-OrElse-clause-shallow
+returns-in_ok-left-in-OrElse-clause-shallow g t c =
+    let two = or_else_two c.args.tx.now c.in-OrElse.first c.in-OrElse.second c.in-OrElse.is in
+    each_some c.pay-in-OrElse-2.result (λ left so. two.shallow c.args.most (omega (arith, c.if-most-eq0.false)) (rw c.deref-in-OrElse.ensures at c.in_ok-left-in-OrElse.ensures.shallow) so) (rw c.deref-in-OrElse-2.ensures at c.pay-in-OrElse-2.ensures.shallow)
+
+pub returns-in_ok-left-in-OrElse-clause-nodes : goal.returns-in_ok-left-in-OrElse-clause-nodes
+returns-in_ok-left-in-OrElse-clause-nodes g t c =
+    let two = or_else_two c.args.tx.now c.in-OrElse.first c.in-OrElse.second c.in-OrElse.is in
+    let one = rw c.deref-in-OrElse.ensures at c.in_ok-left-in-OrElse.ensures.nodes in
+    each_some c.pay-in-OrElse-2.result (λ left so. omega (arith, two.counts is_node, c.in_ok-left.ensures.nodes, one, so)) (rw c.deref-in-OrElse-2.ensures at c.pay-in-OrElse-2.ensures.nodes)
+
+pub returns-in_ok-left-in-OrElse-clause-writes : goal.returns-in_ok-left-in-OrElse-clause-writes
+returns-in_ok-left-in-OrElse-clause-writes g t c =
+    let two = or_else_two c.args.tx.now c.in-OrElse.first c.in-OrElse.second c.in-OrElse.is in
+    let one = rw c.deref-in-OrElse.ensures at c.in_ok-left-in-OrElse.ensures.writes in
+    each_some c.pay-in-OrElse-2.result (λ left so. omega (arith, two.counts is_write, c.in_ok-left.ensures.writes, one, so)) (rw c.deref-in-OrElse-2.ensures at c.pay-in-OrElse-2.ensures.writes)
+
+pub returns-in_ok-left-in-OrElse-clause-checks : goal.returns-in_ok-left-in-OrElse-clause-checks
+returns-in_ok-left-in-OrElse-clause-checks g t c =
+    let two = or_else_two c.args.tx.now c.in-OrElse.first c.in-OrElse.second c.in-OrElse.is in
+    let one = rw c.deref-in-OrElse.ensures at c.in_ok-left-in-OrElse.ensures.checks in
+    each_some c.pay-in-OrElse-2.result (λ left so. omega (arith, two.counts is_check, c.in_ok-left.ensures.checks, one, so)) (rw c.deref-in-OrElse-2.ensures at c.pay-in-OrElse-2.ensures.checks)
+
+pub returns-in_ok-left-in-OrElse-clause-retires : goal.returns-in_ok-left-in-OrElse-clause-retires
+returns-in_ok-left-in-OrElse-clause-retires g t c =
+    let two = or_else_two c.args.tx.now c.in-OrElse.first c.in-OrElse.second c.in-OrElse.is in
+    let one = rw c.deref-in-OrElse.ensures at c.in_ok-left-in-OrElse.ensures.retires in
+    each_some c.pay-in-OrElse-2.result (λ left so. omega (arith, two.counts is_retire, c.in_ok-left.ensures.retires, one, so)) (rw c.deref-in-OrElse-2.ensures at c.pay-in-OrElse-2.ensures.retires)
+
+pub returns-in_ok-left-in-OrElse-clause-steps : goal.returns-in_ok-left-in-OrElse-clause-steps
+returns-in_ok-left-in-OrElse-clause-steps g t c =
+    let two = or_else_two c.args.tx.now c.in-OrElse.first c.in-OrElse.second c.in-OrElse.is in
+    let one = rw c.deref-in-OrElse.ensures at c.in_ok-left-in-OrElse.ensures.steps in
+    each_some c.pay-in-OrElse-2.result (λ left so. omega (arith, two.counts is_step, c.in_ok-left.ensures.steps, one, so)) (rw c.deref-in-OrElse-2.ensures at c.pay-in-OrElse-2.ensures.steps)
+
+pub returns-in_err-left-in-When-clause-lacking : goal.returns-in_err-left-in-When-clause-lacking
+returns-in_err-left-in-When-clause-lacking g t c = λ none deep nodes writes checks retires steps good.
+    let two = when_two c.args.tx.now c.in-When.reg c.in-When.then c.in-When.other c.in-When.is in
+    let bad = is_bad (g.S.StoredSteps.arities c.args.steps.now) c.args.vars (names_of c.args.shapes.now) in
+    (rw c.deref.ensures at c.in_err-left-in-When.ensures.lacking) refl (two.first_shallow c.args.most deep) (omega (arith, two.counts is_node, c.in_ok-left.ensures.nodes, nodes)) (omega (arith, two.counts is_write, c.in_ok-left.ensures.writes, writes)) (omega (arith, two.counts is_check, c.in_ok-left.ensures.checks, checks)) (omega (arith, two.counts is_retire, c.in_ok-left.ensures.retires, retires)) (omega (arith, two.counts is_step, c.in_ok-left.ensures.steps, steps)) (omega (arith, two.counts bad, good))
+
+pub returns-in_ok-left-in-When-clause-lacking : goal.returns-in_ok-left-in-When-clause-lacking
+returns-in_ok-left-in-When-clause-lacking g t c = λ none deep nodes writes checks retires steps good.
+    let two = when_two c.args.tx.now c.in-When.reg c.in-When.then c.in-When.other c.in-When.is in
+    let bad = is_bad (g.S.StoredSteps.arities c.args.steps.now) c.args.vars (names_of c.args.shapes.now) in
+    (rw c.deref-in-When.ensures at c.pay-in-When-2.ensures.lacking) none (two.second_shallow c.args.most deep) (omega (arith, two.counts is_node, c.in_ok-left.ensures.nodes, rw c.deref.ensures at c.in_ok-left-in-When.ensures.nodes, nodes)) (omega (arith, two.counts is_write, c.in_ok-left.ensures.writes, rw c.deref.ensures at c.in_ok-left-in-When.ensures.writes, writes)) (omega (arith, two.counts is_check, c.in_ok-left.ensures.checks, rw c.deref.ensures at c.in_ok-left-in-When.ensures.checks, checks)) (omega (arith, two.counts is_retire, c.in_ok-left.ensures.retires, rw c.deref.ensures at c.in_ok-left-in-When.ensures.retires, retires)) (omega (arith, two.counts is_step, c.in_ok-left.ensures.steps, rw c.deref.ensures at c.in_ok-left-in-When.ensures.steps, steps)) (omega (arith, two.counts bad, good))
+
+pub returns-in_err-left-in-OrElse-clause-lacking : goal.returns-in_err-left-in-OrElse-clause-lacking
+returns-in_err-left-in-OrElse-clause-lacking g t c = λ none deep nodes writes checks retires steps good.
+    let two = or_else_two c.args.tx.now c.in-OrElse.first c.in-OrElse.second c.in-OrElse.is in
+    let bad = is_bad (g.S.StoredSteps.arities c.args.steps.now) c.args.vars (names_of c.args.shapes.now) in
+    (rw c.deref-in-OrElse.ensures at c.in_err-left-in-OrElse.ensures.lacking) refl (two.first_shallow c.args.most deep) (omega (arith, two.counts is_node, c.in_ok-left.ensures.nodes, nodes)) (omega (arith, two.counts is_write, c.in_ok-left.ensures.writes, writes)) (omega (arith, two.counts is_check, c.in_ok-left.ensures.checks, checks)) (omega (arith, two.counts is_retire, c.in_ok-left.ensures.retires, retires)) (omega (arith, two.counts is_step, c.in_ok-left.ensures.steps, steps)) (omega (arith, two.counts bad, good))
+
+pub returns-in_ok-left-in-OrElse-clause-lacking : goal.returns-in_ok-left-in-OrElse-clause-lacking
+returns-in_ok-left-in-OrElse-clause-lacking g t c = λ none deep nodes writes checks retires steps good.
+    let two = or_else_two c.args.tx.now c.in-OrElse.first c.in-OrElse.second c.in-OrElse.is in
+    let bad = is_bad (g.S.StoredSteps.arities c.args.steps.now) c.args.vars (names_of c.args.shapes.now) in
+    (rw c.deref-in-OrElse-2.ensures at c.pay-in-OrElse-2.ensures.lacking) none (two.second_shallow c.args.most deep) (omega (arith, two.counts is_node, c.in_ok-left.ensures.nodes, rw c.deref-in-OrElse.ensures at c.in_ok-left-in-OrElse.ensures.nodes, nodes)) (omega (arith, two.counts is_write, c.in_ok-left.ensures.writes, rw c.deref-in-OrElse.ensures at c.in_ok-left-in-OrElse.ensures.writes, writes)) (omega (arith, two.counts is_check, c.in_ok-left.ensures.checks, rw c.deref-in-OrElse.ensures at c.in_ok-left-in-OrElse.ensures.checks, checks)) (omega (arith, two.counts is_retire, c.in_ok-left.ensures.retires, rw c.deref-in-OrElse.ensures at c.in_ok-left-in-OrElse.ensures.retires, retires)) (omega (arith, two.counts is_step, c.in_ok-left.ensures.steps, rw c.deref-in-OrElse.ensures at c.in_ok-left-in-OrElse.ensures.steps, steps)) (omega (arith, two.counts bad, good))
