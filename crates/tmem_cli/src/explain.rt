@@ -34,13 +34,15 @@ const NO_CLOCK: &str = "the system did not tell the time; try again";
 const NOT_REGISTERED: &str =
     "the store was made before the shape had it; serve it with a shape in which it lacks always, let a transaction check it, and try again";
 
-const NO_SHAPE: &str = "no store was touched; correct that place in the shape, and try again";
+const NO_SHAPE: &str = "no store was touched; correct that place, and try again";
 
 const OTHER_TEXT: &str =
     "a shape stands beside its store, as STORE.json, and what has that path is not this one; move it away, or name another path";
 
 const TEXT_UNREAD: &str =
     "what has the path of its shape, STORE.json, cannot be read; look at its rights, or move it away";
+
+const A_STORE: &str = "it is a store already; serve it, or name another";
 
 const NOT_BLANK: &str =
     "it has bytes other than 0, and a store is made in place of nothing else; name another, or fill it with zeros";
@@ -110,11 +112,14 @@ fn explain_store_failure<E: Write>(
     let notes = Notes::new(rt.alloc(), false);
     match failure {
         StoreFailure::Unread => tell_unread(rt, asked, err),
-        StoreFailure::NoShape(_) => tell(err, NO_SHAPE),
+        StoreFailure::NoShape(_) => tell_no_shape(rt, asked, err),
         StoreFailure::NotMade(InitError::Refused(fault))
         | StoreFailure::NotServed(ServeError::Ended(DeskFailure::Fault(fault)))
         | StoreFailure::Refused(fault) => tell_refused(rt, asked, &notes, *fault, err),
         StoreFailure::NotMade(InitError::StoreIsThere) => tell_of(err, asked, DeviceCause::There),
+        StoreFailure::NotMade(InitError::NotBlank) if is_store(rt, asked) => {
+            tell_of(err, asked, A_STORE)
+        }
         StoreFailure::NotMade(InitError::NotBlank) => tell_of(err, asked, NOT_BLANK),
         StoreFailure::NotMade(InitError::TextUnread(_)) => tell_of(err, asked, TEXT_UNREAD),
         StoreFailure::NotMade(InitError::TextIsThere) => tell_of(err, asked, OTHER_TEXT),
@@ -131,8 +136,45 @@ fn tell_flaw<E: Write>(alloc: Global, text: &[u8], err: &mut E) -> io::Result<()
     };
     match flaws.split_first() {
         Some((flaw, [])) => tell(err, format_args!("{flaw}")),
-        Some((flaw, others)) => tell(err, format_args!("{flaw} (and {} more)", others.len())),
+        Some((flaw, others)) => tell(
+            err,
+            format_args!("{flaw} (and {} more, which tmem check tells)", others.len()),
+        ),
         None => Ok(()),
+    }
+}
+
+// Tells what to do where a text is no shape.
+fn tell_no_shape<E: Write>(
+    rt: &(impl Files<File = File> + AllocGlobal),
+    asked: Asked,
+    err: &mut E,
+) -> io::Result<()> {
+    match asked {
+        Asked::Init(making) => tell_of_shape(err, making.file.unwrap_or("")),
+        Asked::Serve(serving) => match serving.shape {
+            Some(path) => tell_of_shape(err, path),
+            None => match shape_beside(rt.alloc(), serving.store.unwrap_or("")) {
+                Ok(beside) => tell_of_shape(err, beside.as_str()),
+                Err(_) => tell(err, NO_SHAPE),
+            },
+        },
+        _ => tell(err, NO_SHAPE),
+    }
+}
+
+fn tell_of_shape<E: Write>(err: &mut E, path: &str) -> io::Result<()> {
+    tell(err, format_args!("{path}: {NO_SHAPE}"))
+}
+
+// Whether what is to become a store is one already.
+fn is_store(rt: &(impl Files<File = File> + AllocGlobal), asked: Asked) -> bool {
+    let Some((path, _)) = store_of(asked) else {
+        return false;
+    };
+    match Source::read(rt, path) {
+        Ok(source) => block_of(&source.bytes).is_ok(),
+        Err(_) => false,
     }
 }
 
@@ -152,7 +194,10 @@ fn tell_unread<E: Write>(
                 return tell(err, FaultHelp(Fault::Memory));
             };
             let cause = cause_of(rt, beside.as_str(), Wanted::Found);
-            return tell(err, format_args!("{beside}: {cause}"));
+            return tell(
+                err,
+                format_args!("{beside}: {cause}, or name a shape by --shape"),
+            );
         }
         _ => None,
     };
@@ -175,6 +220,11 @@ fn tell_refused<E: Write>(
 ) -> io::Result<()> {
     match (fault, store_of(asked)) {
         (Fault::Device, Some((path, wanted))) => {
+            let wanted = if notes.is_held() {
+                Wanted::Held
+            } else {
+                wanted
+            };
             let cause = cause_of(rt, path, wanted);
             tell(err, format_args!("{path}: {cause}"))
         }

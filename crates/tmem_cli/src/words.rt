@@ -68,6 +68,7 @@ pub fn run_words<R: Read, W: Write, E: Write>(
         Asked::Run(paths) => {
             let mut device = None;
             let outcome = run(rt, paths, input, out, &mut device, &mut notes);
+            notes.note_device(device.is_some());
             (conclude(rt, told, &notes, outcome, err), device)
         }
         Asked::Threads(counting) => {

@@ -14,7 +14,7 @@ committed-one (Committed number registers) e is = refl
 committed-one _ e is = absurd is
 
 module _ (p : Program) where
-  -- an committed plan adds its run's effect
+  -- a committed plan adds its run's effect
   pub committed_of-one : (s : State) (tx : Tx) → IsCommitted (verdict p tx s) → committed_of p tx s ≡ effect_of p tx s ∷ []
   committed_of-one s tx is = committed-one (verdict p tx s) (effect_of p tx s) is
 

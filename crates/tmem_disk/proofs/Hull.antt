@@ -33,8 +33,8 @@ module _ (low high : ℕ) (marks : List Bool) (ordered : low ≤ high) (inside :
           (λ under. get_or-below synced low range fits i d under ∙ kept i d here (before i under))
           (λ from. ⊎_elim
           (λ to.
-          let place : low + (i - low) ≡ i = omega arith in
-          get_or-within synced low range fits i d from (omega (arith, range_long)) ∙ get_or-take (high - low) (drop low present) (i - low) d (omega arith) ∙ get_or-drop low present (i - low) d ∙ ap (λ (k : ℕ). get_or present k d) place)
+          let offset : low + (i - low) ≡ i = omega arith in
+          get_or-within synced low range fits i d from (omega (arith, range_long)) ∙ get_or-take (high - low) (drop low present) (i - low) d (omega arith) ∙ get_or-drop low present (i - low) d ∙ ap (λ (k : ℕ). get_or present k d) offset)
           (λ over. get_or-above synced low range fits i d (omega (arith, range_long)) ∙ kept i d here (behind i over))
           (cases_lt i high))
           (cases_lt i low)

@@ -80,9 +80,9 @@ slice_get-before at n old new i below same = sym (slice_get-take new at i below)
 -- and so is a byte behind it
 pub slice_get-after : (at n : ℕ) (old new : List ℕ) (i : ℕ) → at + n ≤ i → SameOutside at n old new → slice_get new i ≡ slice_get old i
 slice_get-after at n old new i above same =
-    let place : at + n + (i - (at + n)) ≡ i = omega arith in
-    ap (λ (k : ℕ). slice_get new k) (sym place) ∙ sym (slice_get-drop new (at + n) (i - (at + n))) ∙ ap (λ (l : List ℕ). slice_get l (i - (at + n))) same.after ∙ slice_get-drop old (at + n) (i - (at + n))
-    ∙ ap (λ (k : ℕ). slice_get old k) place
+    let offset : at + n + (i - (at + n)) ≡ i = omega arith in
+    ap (λ (k : ℕ). slice_get new k) (sym offset) ∙ sym (slice_get-drop new (at + n) (i - (at + n))) ∙ ap (λ (l : List ℕ). slice_get l (i - (at + n))) same.after ∙ slice_get-drop old (at + n) (i - (at + n))
+    ∙ ap (λ (k : ℕ). slice_get old k) offset
 
 -- what may be left may be left with anything in a range
 pub Rewritten-left : (at n : ℕ) (d : DeviceView) (c : List ℕ) → d.may_leave c → Rewritten at n d c

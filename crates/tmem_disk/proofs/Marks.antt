@@ -38,8 +38,8 @@ left_after synced marks at n same fits c left = (before, earlier, step)
           (λ below. get_or-below c at put_back room i 0 below ∙ left.stays i (get_or-below marks at trues within i true below ∙ unmarked))
           (λ from. ⊎_elim
           (λ to.
-          let place : at + (i - at) ≡ i = omega arith in
-          get_or-within c at put_back room i 0 from (omega (arith, long)) ∙ get_or-take n (drop at synced) (i - at) 0 (omega arith) ∙ get_or-drop at synced (i - at) 0 ∙ ap (λ (k : ℕ). get_or synced k 0) place)
+          let offset : at + (i - at) ≡ i = omega arith in
+          get_or-within c at put_back room i 0 from (omega (arith, long)) ∙ get_or-take n (drop at synced) (i - at) 0 (omega arith) ∙ get_or-drop at synced (i - at) 0 ∙ ap (λ (k : ℕ). get_or synced k 0) offset)
           (λ above. get_or-above c at put_back room i 0 (omega (arith, long)) ∙ left.stays i (get_or-above marks at trues within i true (omega (arith, long_marks)) ∙ unmarked))
           (cases_lt i (at + n)))
           (cases_lt i at);
@@ -61,9 +61,9 @@ left_all synced marks at n same fits c from = record {
       (λ above_at. ⊎_elim
       (λ to. absurd (false≢true (sym unmarked ∙ get_or-within marks at trues within i true above_at (omega (arith, long)) ∙ get_or-replicate n (i - at) true true (omega arith))))
       (λ above.
-      let place : at + n + (i - (at + n)) ≡ i = omega arith in
-      ap (λ (k : ℕ). get_or c k 0) (sym place) ∙ sym (get_or-drop (at + n) c (i - (at + n)) 0) ∙ ap (λ (l : List ℕ). get_or l (i - (at + n)) 0) from.2.after
-      ∙ get_or-drop (at + n) from.0 (i - (at + n)) 0 ∙ ap (λ (k : ℕ). get_or from.0 k 0) place ∙ from.1.stays i (sym (get_or-above marks at trues within i true (omega (arith, long))) ∙ unmarked))
+      let offset : at + n + (i - (at + n)) ≡ i = omega arith in
+      ap (λ (k : ℕ). get_or c k 0) (sym offset) ∙ sym (get_or-drop (at + n) c (i - (at + n)) 0) ∙ ap (λ (l : List ℕ). get_or l (i - (at + n)) 0) from.2.after
+      ∙ get_or-drop (at + n) from.0 (i - (at + n)) 0 ∙ ap (λ (k : ℕ). get_or from.0 k 0) offset ∙ from.1.stays i (sym (get_or-above marks at trues within i true (omega (arith, long))) ∙ unmarked))
       (cases_lt i (at + n)))
       (cases_lt i at);
 }

@@ -36,7 +36,7 @@ crashed_with fill power = record { crashed = Some fill; armed = power.armed; fai
 abbrev pub restarted : Power → Power
 restarted power = record { crashed = None; armed = power.armed; failing = power.failing }
 
--- A call of a device: a read, a write from a place on, or a sync.
+-- A call of a device: a read, a write from an offset on, or a sync.
 pub data Call : Type 0 where
   reading : Call
   writing : ℕ → Call
@@ -48,7 +48,7 @@ kind_of reading = Read
 kind_of (writing at) = Write
 kind_of syncing = Sync
 
--- the fill of the crash that a write from this place on meets
+-- the fill of the crash that a write from this offset on meets
 abbrev pub met_by_write : ℕ → Option ArmedCrash → Option Fill
 met_by_write at None = None
 met_by_write at (Some (AtWrite zero fill)) = Some fill
@@ -56,7 +56,7 @@ met_by_write at (Some (AtWrite (suc more) fill)) = None
 met_by_write at (Some (AtPlace place fill)) = if at == place then Some fill else None
 met_by_write at (Some (AtSync more fill)) = None
 
--- the crash that is still to come after a write from this place on
+-- the crash that is still to come after a write from this offset on
 abbrev pub left_by_write : ℕ → Option ArmedCrash → Option ArmedCrash
 left_by_write at None = None
 left_by_write at (Some (AtWrite zero fill)) = None
@@ -95,7 +95,7 @@ unless_crashed None before power_after = power_after
 abbrev pub power_after : Call → Power → Power
 power_after call power = unless_crashed power.crashed power (after_running call power)
 
--- a write from this place on of a device that runs is armed to fail and meets no crash, which would win
+-- a write from this offset on of a device that runs is armed to fail and meets no crash, which would win
 abbrev pub only_fails : ℕ → Power → Bool
 only_fails at power = is_next power.failing.write && is_none (met_by_write at power.armed)
 

@@ -16,11 +16,11 @@ pub record Bytes : Type 0 where
 abbrev pub blank : ℕ → Bytes
 blank size = record { present = replicate size 0; synced = replicate size 0; marks = replicate size false }
 
--- with these bytes from a place on, and their places marked
+-- with these bytes from an offset on, and their offsets marked
 abbrev pub bytes_written : ℕ → List ℕ → Bytes → Bytes
 bytes_written at bytes b = record { present = overwritten b.present at bytes; synced = b.synced; marks = overwritten b.marks at (replicate (length bytes) true) }
 
--- with a range of n places marked, and its bytes as they were
+-- with a range of n offsets marked, and its bytes as they were
 abbrev pub range_marked : ℕ → ℕ → Bytes → Bytes
 range_marked at n b = record { present = b.present; synced = b.synced; marks = overwritten b.marks at (replicate n true) }
 
@@ -28,7 +28,7 @@ range_marked at n b = record { present = b.present; synced = b.synced; marks = o
 abbrev pub synced_with : List ℕ → Bytes
 synced_with bytes = record { present = bytes; synced = bytes; marks = replicate (length bytes) false }
 
--- these bytes, with one byte in each marked place
+-- these bytes, with one byte in each marked offset
 abbrev pub stamped : ℕ → List ℕ → List Bool → List ℕ
 stamped byte [] marks = []
 stamped byte (b ∷ bytes) [] = b ∷ bytes
@@ -40,7 +40,7 @@ filled Old b = b.synced
 filled New b = b.present
 filled (Byte byte) b = stamped byte b.present b.marks
 
--- a crash leaves the bytes as at the last sync, and anything in the marked places
+-- a crash leaves the bytes as at the last sync, and anything in the marked offsets
 pub record LeftBy (synced : List ℕ) (marks : List Bool) (c : List ℕ) : Type 0 where
   pub size : length c ≡ length synced
   pub stays : (i : ℕ) → slice_index_or marks i true ≡ false → slice_index c i ≡ slice_index synced i

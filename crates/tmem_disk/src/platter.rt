@@ -13,7 +13,7 @@ use std::snapshot::Snapshot;
 pub(crate) struct Platter {
     pub(crate) synced: Vec<u8>,
     pub(crate) marks: Vec<bool>,
-    // All marked places are in the range from `first` on and below `end`, so a sync need not look at others.
+    // All marked offsets are in the range from `first` on and below `end`, so a sync need not look at others.
     first: usize,
     end: usize,
     ghost ordered: { first ≤ end },
@@ -36,7 +36,7 @@ impl Platter {
         })
     }
 
-    /// Marks so many bytes from a place on as written.
+    /// Marks so many bytes from an offset on as written.
     pub(crate) fn mark(&mut self, from: usize, count: usize)
         requires { from + count ≤ length self.old.marks.items }
         ensures marks { self.new.marks.items ≡ overwritten self.old.marks.items from (replicate count true) }
@@ -53,7 +53,7 @@ impl Platter {
         }
     }
 
-    /// Makes these bytes the synced ones, with no mark. They differ from those at marked places alone.
+    /// Makes these bytes the synced ones, with no mark. They differ from those at marked offsets alone.
     pub(crate) fn sync(&mut self, present: &[u8])
         requires long { length self.old.marks.items ≡ length present.now }
         requires agrees { LeftBy self.old.synced.items self.old.marks.items present.now }

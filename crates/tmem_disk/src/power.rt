@@ -12,7 +12,7 @@ pub enum Fill {
     Old,
     /// As a read would have given them, with the bytes of the write at which the device crashed.
     New,
-    /// This byte in each place.
+    /// This byte at each offset.
     Byte(u8),
 }
 
@@ -21,7 +21,7 @@ pub enum Fill {
 pub(crate) enum ArmedCrash {
     /// At the write behind so many more.
     AtWrite(u64, Fill),
-    /// At the next write that starts at this place.
+    /// At the next write that starts at this offset.
     AtPlace(u64, Fill),
     /// At the sync behind so many more.
     AtSync(u64, Fill),
@@ -79,7 +79,7 @@ impl Power {
         armed || self.is_crashed()
     }
 
-    // Begins a write from this place on at a device that runs. Does it fail with no crash? A crash that it meets wins.
+    // Begins a write from this offset on at a device that runs. Does it fail with no crash? A crash that it meets wins.
     pub(crate) fn only_fails_at_write(&mut self, at: u64) -> bool
         requires { ¬ IsCrashed self.old }
         ensures power { self.new ≡ power_after (writing at) self.old }
@@ -90,7 +90,7 @@ impl Power {
         armed && !self.is_crashed()
     }
 
-    // Counts a write from this place on at a device that runs, and crashes it there where it is the one that a crash is
+    // Counts a write from this offset on at a device that runs, and crashes it there where it is the one that a crash is
     // armed for.
     fn meet_crash_at_write(&mut self, at: u64)
         requires { ¬ IsCrashed self.old }

@@ -15,7 +15,7 @@ use tmem_fault::Fault;
 
 /// Bytes in memory. It keeps the disk model, and no call but `new` takes memory.
 ///
-/// It crashes now, or at a call that is chosen: a write, by its number or by the place where it starts, or a sync, by
+/// It crashes now, or at a call that is chosen: a write, by its number or by the offset where it starts, or a sync, by
 /// its number. That call and all later ones fail until `restart`. A failure is armed for a chosen call, which fails once,
 /// and the device runs on. A call fails in no other case. While the device runs, each call counts, also one that fails;
 /// while it has crashed, none does, so what is armed stays armed over `restart`. Where a call meets both, the crash
@@ -79,9 +79,9 @@ impl SimDisk {
         self.power.armed = Some(ArmedCrash::AtWrite(k, fill));
     }
 
-    /// Crashes the device at the next write that starts at the place `at`: that call and all later ones fail until
+    /// Crashes the device at the next write that starts at the offset `at`: that call and all later ones fail until
     /// `restart`, at which the bytes written since the last successful sync take the fill, those of that write too. A
-    /// write that only covers the place doesn't crash it. It takes the place of a crash that was armed before. At a crashed
+    /// write that only covers the offset doesn't crash it. It takes the place of a crash that was armed before. At a crashed
     /// device it is the next such write from the restart on.
     pub fn stop_at_place(&mut self, at: u64, fill: Fill)
         ensures same { SameDevice (sim_view self.old) (sim_view self.new) }
@@ -224,7 +224,7 @@ fn fill_marked(present: &mut Vec<u8>, platter: &Platter, fill: Fill)
     }
 }
 
-// Writes a byte into each marked place.
+// Writes a byte into each marked offset.
 fn stamp(present: &mut Vec<u8>, marks: &[bool], byte: u8)
     requires { length marks.now ≡ length present.old.items }
     ensures { present.new.items ≡ stamped byte present.old.items marks.now }

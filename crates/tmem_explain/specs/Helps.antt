@@ -11,9 +11,9 @@ use Rattle.tmem_explain.specs.declared.numbers.NumbersHelp.TheVariants as number
 
 -- what went wrong, and what to do
 abbrev pub fault_help : Fault → List ℕ
-fault_help fault.Memory = codes "memory did not suffice; give the program more, or play a smaller script"
-fault_help fault.Device = codes "a call on the file failed; look for its rights, for room and for errors of the disk, and open it again"
-fault_help fault.Closed = codes "no session stands, since the device failed or an opening was refused; reopen the store, or run the program again"
+fault_help fault.Memory = codes "memory did not suffice, or no thread could be started; give the program more, or ask for less"
+fault_help fault.Device = codes "a call on the file failed; look for its rights, for room and for errors of the disk, and run the program again"
+fault_help fault.Closed = codes "no session stands, since the device failed or an opening was refused; end what runs, and run the program again"
 fault_help fault.Unknown =
     codes "the device failed while a batch was made durable, and all of the batch is durable or nothing; open the store again, and it says how many transactions there are"
 fault_help fault.Full = codes "256 transactions wait to be durable; flush, and settle again"
@@ -23,7 +23,7 @@ fault_help fault.NotFormatted = codes "this does not begin as a store; check the
 fault_help fault.Damaged =
     codes "the content is none that a store may have, or a later version of the program wrote it; run that version, or restore a copy"
 fault_help (fault.Missing name) =
-    codes "the invariant " ++ name ++ codes " is registered in the store, and the program or shape has none of this name; open the store with one that has, and retire it there"
+    codes "the invariant " ++ name ++ codes " is registered in the store, and the program or shape has none of this name; open the store with the one that it belongs to"
 fault_help (fault.Broken name) =
     codes "the invariant " ++ name ++ codes " is registered in the store, and false of its values; compare what it means in the program or shape now and before, or restore a copy"
 fault_help (fault.BadPlan c) = cause_text c ++ codes "; change the transaction"

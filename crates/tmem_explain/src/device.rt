@@ -51,6 +51,8 @@ impl fmt::Display for DeviceCause {
 pub enum Wanted {
     /// What is there.
     Found,
+    /// What is there, and this program has it open.
+    Held,
     /// What is there, or else a new file.
     FoundOrMade,
     /// A new file.
@@ -61,6 +63,7 @@ pub enum Wanted {
 pub fn cause_of<R: Files<File = File>>(rt: &R, path: &str, wanted: Wanted) -> DeviceCause {
     match fs::metadata(rt, path) {
         Ok(_) if wanted == Wanted::Made => DeviceCause::There,
+        Ok(_) if wanted == Wanted::Held => DeviceCause::Other,
         Ok(found) => cause_of_found(rt, path, found.file_type()),
         Err(error) => match error.kind() {
             ErrorKind::PermissionDenied => DeviceCause::NoPermission,

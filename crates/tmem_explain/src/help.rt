@@ -17,15 +17,15 @@ impl fmt::Display for FaultHelp {
         match &self.0 {
             Fault::Memory => write!(
                 f,
-                "memory did not suffice; give the program more, or play a smaller script"
+                "memory did not suffice, or no thread could be started; give the program more, or ask for less"
             ),
             Fault::Device => write!(
                 f,
-                "a call on the file failed; look for its rights, for room and for errors of the disk, and open it again"
+                "a call on the file failed; look for its rights, for room and for errors of the disk, and run the program again"
             ),
             Fault::Closed => write!(
                 f,
-                "no session stands, since the device failed or an opening was refused; reopen the store, or run the program again"
+                "no session stands, since the device failed or an opening was refused; end what runs, and run the program again"
             ),
             Fault::Unknown => write!(
                 f,
@@ -53,7 +53,7 @@ impl fmt::Display for FaultHelp {
             ),
             Fault::Missing(name) => write!(
                 f,
-                "the invariant {name} is registered in the store, and the program or shape has none of this name; open the store with one that has, and retire it there"
+                "the invariant {name} is registered in the store, and the program or shape has none of this name; open the store with the one that it belongs to"
             ),
             Fault::Broken(name) => write!(
                 f,

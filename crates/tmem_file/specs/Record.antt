@@ -5,11 +5,11 @@ use Rattle.tmem_disk.specs.Disk.{overwritten, SameOutside}
 
 -- What came of a call.
 pub data Event : Type 0 where
-  -- a read gave these bytes from a place on
+  -- a read gave these bytes from an offset on
   gave : ℕ → List ℕ → Event
-  -- these bytes stand from a place on, after a write
+  -- these bytes stand from an offset on, after a write
   holds : ℕ → List ℕ → Event
-  -- a write of so many bytes from a place on failed, and what stands there could not be read
+  -- a write of so many bytes from an offset on failed, and what stands there could not be read
   tore : ℕ → ℕ → Event
   -- a sync succeeded
   synced : Event

@@ -39,7 +39,7 @@ pub(crate) struct Range {
 }
 
 impl Range {
-    /// An empty one at a place.
+    /// An empty one at an offset.
     pub(crate) fn from(at: u64) -> Range
         ensures at { result.at ≡ at }
         ensures bytes { bytes_in result.bytes ≡ [] }

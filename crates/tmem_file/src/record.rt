@@ -13,7 +13,7 @@ pub(crate) enum Call {
     Gave(Range),
     /// These bytes stand there, after a write.
     Holds(Range),
-    /// A write of so many bytes from a place on failed, and what stands there could not be read.
+    /// A write of so many bytes from an offset on failed, and what stands there could not be read.
     Tore(u64, u64),
     /// A sync succeeded.
     Synced(Synced),

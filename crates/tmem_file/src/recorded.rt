@@ -82,7 +82,7 @@ impl RecordedFile {
         self.synced
     }
 
-    /// Fills a buffer with the bytes from a place on.
+    /// Fills a buffer with the bytes from an offset on.
     pub(crate) fn read(&mut self, at: u64, into: &mut [u8]) -> io::Result<()>
         requires { at + length into.old < 2 ^ 64 }
         ensures start { start_of self.new.calls ≡ start_of self.old.calls }
@@ -94,7 +94,7 @@ impl RecordedFile {
         Ok(())
     }
 
-    /// Writes over the bytes from a place on. Where that fails, what stands there now is read for the record.
+    /// Writes over the bytes from an offset on. Where that fails, what stands there now is read for the record.
     pub(crate) fn write(&mut self, at: u64, bytes: &[u8]) -> io::Result<()>
         requires { at + length bytes.now < 2 ^ 64 }
         ensures start { start_of self.new.calls ≡ start_of self.old.calls }

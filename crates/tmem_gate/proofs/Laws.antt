@@ -7,7 +7,7 @@ use Rattle.tmem_disk.specs.Disk.{DeviceView, IsDevice, overwritten, ReadsAs, Lea
 use Rattle.tmem_disk.proofs.Laws.{SameOutside-refl, SameOutside-trans, SameOutside-wider, slice_get-before, slice_get-after, slice_range-before, slice_range-after, slice_range-overwritten, Rewritten-left, Rewritten-wider, Rewritten-trans, Elapses-more, Elapses-trans, before_or_since-trans}
 use Rattle.tmem_gate.specs.Gate.{IsOpenAt, IsClosed, HasBody, IsOpenOver, IsWhole}
 use Rattle.tmem_gate.specs.Calls.{LooksOnly, WritesWithin}
-use Rattle.tmem_gate.specs.Changes.{Outcome, IsMade, NotMade, InDoubt, NotBegun, Becomes, Meanwhile, Puts}
+use Rattle.tmem_gate.specs.Changes.{Outcome, WasMade, NotMade, InDoubt, NotBegun, Becomes, Meanwhile, Puts}
 
 -- a gate is open or closed
 pub gate_cases : (at : ℕ) (c : List ℕ) → IsOpenAt at c ⊎ IsClosed at c
@@ -161,13 +161,13 @@ WritesWithin-trans at n old mid new model first second = record {
 
 -- what becomes of a change that says more becomes of one that says less
 Becomes-more : (W V W' V' : List ℕ → List ℕ → Type 0) → ((b c : List ℕ) → W b c → W' b c) → ((b c : List ℕ) → V b c → V' b c) → (old : DeviceView) (o : Outcome) (c : List ℕ) → Becomes W V old o c → Becomes W' V' old o c
-Becomes-more W V W' V' without with old IsMade c from = (from.0, from.1, with from.0 c from.2)
+Becomes-more W V W' V' without with old WasMade c from = (from.0, from.1, with from.0 c from.2)
 Becomes-more W V W' V' without with old NotMade c from = (from.0, from.1, without from.0 c from.2)
 Becomes-more W V W' V' without with old InDoubt c from = (from.0, from.1, ⊎_elim (λ no. inl (without from.0 c no)) (λ yes. inr (with from.0 c yes)) from.2)
 Becomes-more W V W' V' without with old NotBegun c left = left
 
 Meanwhile-more : (W V W' V' : List ℕ → List ℕ → Type 0) → ((b c : List ℕ) → W b c → W' b c) → ((b c : List ℕ) → V b c → V' b c) → (old : DeviceView) (o : Outcome) (c : List ℕ) → Meanwhile W V old o c → Meanwhile W' V' old o c
-Meanwhile-more W V W' V' without with old IsMade c from = Becomes-more W V W' V' without with old InDoubt c from
+Meanwhile-more W V W' V' without with old WasMade c from = Becomes-more W V W' V' without with old InDoubt c from
 Meanwhile-more W V W' V' without with old NotMade c from = Becomes-more W V W' V' without with old NotMade c from
 Meanwhile-more W V W' V' without with old InDoubt c from = Becomes-more W V W' V' without with old InDoubt c from
 Meanwhile-more W V W' V' without with old NotBegun c left = left

@@ -8,7 +8,7 @@ use Rattle.tmem_gate.specs.Gate.{IsClosed, HasBody, IsClosedOver, IsOpenOver}
 use Rattle.tmem_gate.proofs.Laws.{whole_after, WritesWithin-wider, WritesWithin-trans}
 use Rattle.tmem_gate.specs.Calls.{MadeBy, WritesWithin}
 use Rattle.tmem_gate.specs.Cells.{LeftClosed, LeftOpen}
-use Rattle.tmem_gate.specs.Changes.{IsMade, NotMade, InDoubt, Either, Puts}
+use Rattle.tmem_gate.specs.Changes.{WasMade, NotMade, InDoubt, Either, Puts}
 
 -- a call that writes behind a closed gate
 module _ (old mid : DeviceView) (at : ℕ) (bytes : List ℕ) (device : IsDevice mid) (within : WritesWithin (at + 1) (length bytes) old mid) (closed : AtEachMoment old mid (IsClosed at)) where
@@ -72,7 +72,7 @@ module _ (old mid : DeviceView) (at : ℕ) (bytes : List ℕ) (device : IsDevice
       };
     }
 
-    pub is_put : LeavesOnly new (IsOpenOver at bytes) → Puts at (1 + length bytes) No Yes old new IsMade
+    pub is_put : LeavesOnly new (IsOpenOver at bytes) → Puts at (1 + length bytes) No Yes old new WasMade
     is_put is_open = record {
       elsewhere = open_in_doubt.elsewhere;
       stands = record {
@@ -99,6 +99,6 @@ byte_in_front at x body old between new fits body_is byte_is =
     let front : take at between ≡ take at old =
     sym (take-take at (at + 1) between le) ∙ ap (take at) (ap (take (at + 1)) parted ∙ take_at (take (at + 1) old) (body ++ rest) (at + 1) long) ∙ take-take at (at + 1) old le in
     let behind : drop (at + 1) between ≡ body ++ rest = ap (drop (at + 1)) parted ∙ drop_at (take (at + 1) old) (body ++ rest) (at + 1) long in
-    let place : at + 1 + length body ≡ at + length (x ∷ body) = omega arith in
+    let offset : at + 1 + length body ≡ at + length (x ∷ body) = omega arith in
     byte_is ∙ ap (λ (l : List ℕ). (l ++ x ∷ []) ++ drop (at + 1) between) front ∙ ap (λ (l : List ℕ). (take at old ++ x ∷ []) ++ l) behind
-    ∙ sym (append_assoc (take at old ++ x ∷ []) body rest) ∙ ap (λ (l : List ℕ). l ++ rest) (append_assoc (take at old) (x ∷ []) body) ∙ ap (λ (k : ℕ). (take at old ++ x ∷ body) ++ drop k old) place
+    ∙ sym (append_assoc (take at old ++ x ∷ []) body rest) ∙ ap (λ (l : List ℕ). l ++ rest) (append_assoc (take at old) (x ∷ []) body) ∙ ap (λ (k : ℕ). (take at old ++ x ∷ body) ++ drop k old) offset

@@ -7,14 +7,14 @@ use Rattle.tmem_gate.specs.Calls.{MadeBy, WritesWithin}
 
 -- What became of it: it is made; it is not; one of the two; or nothing was written for it.
 pub data Outcome : Type 0 where
-  IsMade : Outcome
+  WasMade : Outcome
   NotMade : Outcome
   InDoubt : Outcome
   NotBegun : Outcome
 
 -- as a call answers it
 abbrev pub call_outcome : Result (Unit {0}) Fault → Outcome
-call_outcome (Ok x) = IsMade
+call_outcome (Ok x) = WasMade
 call_outcome (Err Device) = NotMade
 call_outcome (Err Unknown) = InDoubt
 call_outcome (Err f) = NotBegun
@@ -25,14 +25,14 @@ Either Without With b c = Without b c ⊎ With b c
 
 -- what a crash leaves once a call has answered
 abbrev pub Becomes : (List ℕ → List ℕ → Type 0) → (List ℕ → List ℕ → Type 0) → DeviceView → Outcome → List ℕ → Type 0
-Becomes Without With old IsMade = MadeBy With old
+Becomes Without With old WasMade = MadeBy With old
 Becomes Without With old NotMade = MadeBy Without old
 Becomes Without With old InDoubt = MadeBy (Either Without With) old
 Becomes Without With old NotBegun = old.may_leave
 
 -- and what a crash leaves at a moment of the call
 abbrev pub Meanwhile : (List ℕ → List ℕ → Type 0) → (List ℕ → List ℕ → Type 0) → DeviceView → Outcome → List ℕ → Type 0
-Meanwhile Without With old IsMade = MadeBy (Either Without With) old
+Meanwhile Without With old WasMade = MadeBy (Either Without With) old
 Meanwhile Without With old NotMade = MadeBy Without old
 Meanwhile Without With old InDoubt = MadeBy (Either Without With) old
 Meanwhile Without With old NotBegun = old.may_leave

@@ -6,7 +6,7 @@ ghost use Rattle.tmem_gate.specs.Calls.{Uses, LooksOnly, WritesWithin};
 use tmem_disk::{DeviceFault, Disk};
 use tmem_fault::Fault;
 
-/// Fills a buffer with the bytes from a place on. `Device` where the read failed.
+/// Fills a buffer with the bytes from an offset on. `Device` where the read failed.
 pub fn read<D: Disk>(disk: &mut D, at: u64, into: &mut [u8]) -> Result<(), Fault>
     requires { at + length into.old ≤ (D.view disk.old).capacity }
     ensures uses { Uses (D.view disk.old) (D.view disk.new) result }
@@ -21,7 +21,7 @@ pub fn read<D: Disk>(disk: &mut D, at: u64, into: &mut [u8]) -> Result<(), Fault
     }
 }
 
-/// Fills a list of bytes with those from a place on, by one read, and hands it back. `Device` where the read failed.
+/// Fills a list of bytes with those from an offset on, by one read, and hands it back. `Device` where the read failed.
 pub fn read_piece<D: Disk>(disk: &mut D, at: u64, mut piece: Vec<u8>) -> Result<Vec<u8>, Fault>
     requires { at + length piece.items ≤ (D.view disk.old).capacity }
     ensures uses { Uses (D.view disk.old) (D.view disk.new) result }
@@ -50,7 +50,7 @@ pub fn sync<D: Disk>(disk: &mut D) -> Result<(), Fault>
     }
 }
 
-/// Writes over the bytes from a place on. `Device` where the write failed.
+/// Writes over the bytes from an offset on. `Device` where the write failed.
 pub fn write<D: Disk>(disk: &mut D, at: u64, bytes: &[u8]) -> Result<(), Fault>
     requires { at + length bytes.now ≤ (D.view disk.old).capacity }
     ensures uses { Uses (D.view disk.old) (D.view disk.new) result }

@@ -8,7 +8,7 @@ use Rattle.tmem_disk.proofs.Laws.{SameOutside-refl, SameOutside-trans, SameOutsi
 use Rattle.tmem_gate.specs.Gate.{IsOpenAt, IsClosed, StandsClosed, HasBody}
 use Rattle.tmem_gate.specs.Calls.{LooksOnly, WritesWithin, MadeBy}
 use Rattle.tmem_gate.specs.Cells.{LeftClosed, LeftOpen}
-use Rattle.tmem_gate.specs.Changes.{Outcome, IsMade, NotMade, InDoubt, NotBegun, call_outcome, Becomes, Meanwhile, Puts}
+use Rattle.tmem_gate.specs.Changes.{Outcome, WasMade, NotMade, InDoubt, NotBegun, call_outcome, Becomes, Meanwhile, Puts}
 use Rattle.tmem_gate.proofs.Laws.{gate_cases, whole_after, closed_before, by_look, WritesWithin-wider, WritesWithin-trans}
 use Rattle.tmem_record.specs.Stale.{IsStale}
 use Rattle.tmem_effect.specs.State.{State}
@@ -155,7 +155,7 @@ image_stands p header d it k c has same =
 
 -- before the whole image was there
 by_then : (p : ImagePlaced) (old : DeviceView) (o : Outcome) → (o ≡ NotBegun → ⊥) → (c : List ℕ) → MadeBy (WithoutImage p) old c → Meanwhile (WithoutImage p) (WithImage p) old o c
-by_then p old IsMade some c from = (from.0, from.1, inl from.2)
+by_then p old WasMade some c from = (from.0, from.1, inl from.2)
 by_then p old NotMade some c from = from
 by_then p old InDoubt some c from = (from.0, from.1, inl from.2)
 by_then p old NotBegun some c from = absurd (some refl)
@@ -201,7 +201,7 @@ module _ (p : ImagePlaced) (header : List ℕ) (number : IsGeneration p.generati
   before = (spared_now at n old paged device spares).each
 
   chained : paged.keeps_model → (P : Outcome) → (P ≡ NotBegun → ⊥) → (c : List ℕ) → Becomes No Yes paged P c → Becomes (WithoutImage p) (WithImage p) old P c
-  chained k IsMade some c from = let was = before k from.0 from.1 in (was.0, was.1, yes k was.0 from.0 c was.2 from.2)
+  chained k WasMade some c from = let was = before k from.0 from.1 in (was.0, was.1, yes k was.0 from.0 c was.2 from.2)
   chained k NotMade some c from = let was = before k from.0 from.1 in (was.0, was.1, no was.0 from.0 c was.2 from.2)
   chained k InDoubt some c from =
       let was = before k from.0 from.1 in
@@ -210,7 +210,7 @@ module _ (p : ImagePlaced) (header : List ℕ) (number : IsGeneration p.generati
 
   -- at a moment of it
   since : paged.keeps_model → (P : Outcome) → (P ≡ NotBegun → ⊥) → (c : List ℕ) → Meanwhile No Yes paged P c → Meanwhile (WithoutImage p) (WithImage p) old P c
-  since k IsMade some c from = chained k InDoubt (λ is. cc) c from
+  since k WasMade some c from = chained k InDoubt (λ is. cc) c from
   since k NotMade some c from = chained k NotMade (λ is. cc) c from
   since k InDoubt some c from = chained k InDoubt (λ is. cc) c from
   since k NotBegun some c from = absurd (some refl)

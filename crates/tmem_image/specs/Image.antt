@@ -35,7 +35,7 @@ pub record IsChosen (vars copy generation : ℕ) (c : List ℕ) : Type 0 where
 abbrev pub ChoosesCopy : ℕ → ℕ → List ℕ → Type 0
 ChoosesCopy vars copy c = (generation : ℕ) × IsChosen vars copy generation c
 
--- the cell at a place is open over this generation; or it is closed
+-- the cell at an offset is open over this generation; or it is closed
 abbrev pub HasHead : ℕ → Option ℕ → List ℕ → Type 0
 HasHead at (Some generation) c = IsOpenOver at (number_bytes 8 generation) c
 HasHead at None c = IsClosed at c

@@ -23,6 +23,6 @@ is_page_changed es page = list_any (λ (e : Effect). is_page_written e.writes pa
 abbrev pub pages_at : ℕ → ℕ → ℕ
 pages_at vars copy = image_at vars copy + 2048
 
--- Each page that is not in a set holds these values, where the pages begin at a place.
+-- Each page that is not in a set holds these values, where the pages begin at an offset.
 pub record HoldsOthers (at vars pages : ℕ) (values : List ℤ) (c : List ℕ) : Type 0 where
   pub each : (page : ℕ) → page < pages_of vars → has_page pages page ≡ false → StandsAt (at + 512 * page) (page_bytes values page) c

@@ -21,13 +21,13 @@ pub record ImagePlaced : Type 0 where
 abbrev pub image_placed : Layout → ℕ → ℕ → State → ImagePlaced
 image_placed layout copy generation s = record { vars = layout.vars; copy = copy; generation = generation; state = s }
 
--- The second content is the first outside n bytes from a place on, and the cell there is stale for each generation that it
+-- The second content is the first outside n bytes from an offset on, and the cell there is stale for each generation that it
 -- was stale for.
 pub record Left (at n : ℕ) (b c : List ℕ) : Type 0 where
   pub elsewhere : SameOutside at n b c
   pub stale : (generation : ℕ) → IsStale generation at b → IsStale generation at c
 
--- every crash leaves the gate at a place as a read gives it
+-- every crash leaves the gate at an offset as a read gives it
 abbrev pub IsSettled : ℕ → DeviceView → Type 0
 IsSettled at d = LeavesOnly d (λ c. slice_get c at ≡ slice_get d.seen at)
 

@@ -69,7 +69,7 @@ pub fn load<D: Disk>(
     read_image(&bytes[1..], layout.vars, names, values).ok_or(Fault::Damaged)
 }
 
-// The generation of the cell at a place, where it is open.
+// The generation of the cell at an offset, where it is open.
 fn head_at<D: Disk>(disk: &mut D, at: u64) -> Result<Option<u64>, Fault>
     requires { at + 9 ≤ (D.view disk.old).capacity }
     ensures uses { Uses (D.view disk.old) (D.view disk.new) result }

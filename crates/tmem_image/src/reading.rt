@@ -58,7 +58,7 @@ fn read_names(bytes: &[u8], names: &mut NameSet) -> bool
     is_zero(rest)
 }
 
-// Reads the values that stand from a place on, into an empty list that has room for them.
+// Reads the values that stand from an offset on, into an empty list that has room for them.
 fn read_values(bytes: &[u8], from: usize, count: u16, values: &mut Vec<i64>)
     requires there { from + 8 * count ≤ length bytes.now }
     requires empty { values.old.items ≡ [] }

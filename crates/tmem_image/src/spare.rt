@@ -71,7 +71,7 @@ pub fn write_spare<D: Disk>(
     put_cell(disk, at, &header_of(generation, state))
 }
 
-// Closes the gate at a place where it reads open, and syncs then.
+// Closes the gate at an offset where it reads open, and syncs then.
 fn shut<D: Disk>(disk: &mut D, at: u64) -> Result<(), Fault>
     requires at { at < (D.view disk.old).capacity }
     requires settled { IsSettled at (D.view disk.old) }
@@ -102,7 +102,7 @@ fn recall_values(values: &[i64])
     }
 }
 
-// Writes those pages of these values that are in a set, each by one write. The pages begin at a place, and the others stand
+// Writes those pages of these values that are in a set, each by one write. The pages begin at an offset, and the others stand
 // there already.
 fn write_pages<D: Disk>(
     disk: &mut D,

@@ -37,7 +37,7 @@ pub(crate) fn page_of(values: &[i64], page: u16) -> [u8; PAGE_BYTES]
     bytes
 }
 
-// Spells values from the front of a buffer on, and returns the place behind them.
+// Spells values from the front of a buffer on, and returns the offset behind them.
 fn put_values(into: &mut [u8], values: &[i64]) -> usize
     requires { 8 * length values.now ≤ length into.old }
     ensures next { result ≡ 8 * length values.now }

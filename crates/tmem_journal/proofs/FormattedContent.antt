@@ -62,7 +62,7 @@ first_image vars =
     ap (λ (l : List ℕ). little_bytes 8 1 ++ l) (ap (λ (l : List ℕ). replicate 8 0 ++ (names_body [] ++ mark_of Two ∷ l)) pages ∙ header)
     ∙ sym (append_assoc (little_bytes 8 1) (replicate 2038 0 ++ mark_of Two ∷ []) (replicate (512 * pages_of vars) 0))
 
--- a place that holds 0 is a closed gate
+-- an offset that holds 0 is a closed gate
 pub closed_at_zero : (at : ℕ) (c : List ℕ) → slice_get c at ≡ Some 0 → IsClosed at c
 closed_at_zero at c is = record { not_open = λ open_now. apart (sym is ∙ open_now) }
   where
@@ -178,10 +178,10 @@ length-header_bytes = joined (little_bytes 8 1) (replicate 2038 0 ++ mark_of Two
 -- zeros, over which an image's header was put and then block 0
 pub all_written : (vars slots e at : ℕ) (header numbers old zeroed with_image whole : List ℕ) → 1 ≤ slots → e ≡ end_at vars slots → at ≡ 512 → header ≡ header_bytes → numbers ≡ block_body Two vars slots
     → zeroed ≡ replicate e 0 ++ drop e old → with_image ≡ overwritten zeroed at (open_cell header) → whole ≡ overwritten with_image 0 (open_cell numbers) → whole ≡ formatted vars slots ++ drop (end_at vars slots) old
-all_written vars slots e at header numbers old zeroed with_image whole some end place spelled block zeros image_is block_is =
+all_written vars slots e at header numbers old zeroed with_image whole some end offset spelled block zeros image_is block_is =
     let first : length (open_cell numbers) ≡ 512 = omega (arith, ap length block, length-block_body Two vars slots) in
     let second : length (open_cell header) ≡ 2048 = omega (arith, ap length spelled, length-header_bytes) in
-    two_parts e 512 2048 (open_cell numbers) (open_cell header) (drop e old) zeroed with_image whole first second (omega (arith, end)) zeros (image_is ∙ ap (λ (k : ℕ). overwritten zeroed k (open_cell header)) place) block_is
+    two_parts e 512 2048 (open_cell numbers) (open_cell header) (drop e old) zeroed with_image whole first second (omega (arith, end)) zeros (image_is ∙ ap (λ (k : ℕ). overwritten zeroed k (open_cell header)) offset) block_is
     ∙ ap (λ (l : List ℕ). open_cell l ++ (open_cell header ++ (replicate (e - (512 + 2048)) 0 ++ drop e old))) block
     ∙ ap (λ (l : List ℕ). open_cell (block_body Two vars slots) ++ (open_cell l ++ (replicate (e - (512 + 2048)) 0 ++ drop e old))) spelled
     ∙ ap (λ (k : ℕ). open_cell (block_body Two vars slots) ++ (open_cell header_bytes ++ (replicate (k - (512 + 2048)) 0 ++ drop k old))) end

@@ -41,7 +41,7 @@ copy_below vars copy one = ⊎_elim
 pub other_one : (copy : ℕ) → other_copy copy ≤ 1
 other_one copy = omega arith
 
--- a cell in a part of a content that ends in front of a place
+-- a cell in a part of a content that ends in front of an offset
 fits_below : (p size n low at : ℕ) → p + size ≤ low → low ≤ at → 1 + n ≤ size → p + 1 + n ≤ at
 fits_below p size n low at part front long = omega (arith, part, front, long)
 

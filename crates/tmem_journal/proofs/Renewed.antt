@@ -8,7 +8,7 @@ use Rattle.tmem_fault.specs.declared.fault.Fault.{Fault}
 use Rattle.tmem_fault.specs.declared.fault.Fault.TheVariants.{Device}
 use Rattle.tmem_disk.proofs.Laws.{AtEachMoment-trans, LeavesOnly-more, Rewritten-keeps, slice_get-before, slice_get-after}
 use Rattle.tmem_gate.specs.Calls.{MadeBy, WritesWithin}
-use Rattle.tmem_gate.specs.Changes.{Outcome, IsMade, NotMade, InDoubt, NotBegun, Either, Becomes, Meanwhile, call_outcome}
+use Rattle.tmem_gate.specs.Changes.{Outcome, WasMade, NotMade, InDoubt, NotBegun, Either, Becomes, Meanwhile, call_outcome}
 use Rattle.tmem_gate.specs.Gate.{IsOpenOver}
 use Rattle.tmem_gate.proofs.Laws.{open_before, open_after, WritesWithin-wider, WritesWithin-trans}
 use Rattle.tmem_record.specs.Layout.{pages_of, image_at, image_size, slot_at}
@@ -147,7 +147,7 @@ module _ (vars slots : ℕ) (p : Position) (s : State) (fits : p.generation + 1 
   before k c may = ∥∥₁_map (sure.each k c may) (λ held. (p, held))
 
   pub after_writing : (o : Outcome) → LeavesOnly mid (Becomes (WithoutImage next) (WithImage next) old o) → LeavesOnly mid (ContentRepresentsState vars slots s)
-  after_writing IsMade puts = record { each = λ k c may. ∥∥₁_map (with (model k) c (puts.each k c may)) (λ held. (next_image p, held)) }
+  after_writing WasMade puts = record { each = λ k c may. ∥∥₁_map (with (model k) c (puts.each k c may)) (λ held. (next_image p, held)) }
   after_writing NotMade puts = record { each = λ k c may. without (model k) c (puts.each k c may) }
   after_writing InDoubt puts = record { each = λ k c may. either (model k) c (puts.each k c may) }
   after_writing NotBegun puts = record { each = λ k c may. before (model k) c (puts.each k c may) }
@@ -160,7 +160,7 @@ module _ (vars slots : ℕ) (p : Position) (s : State) (fits : p.generation + 1 
   with_current k c from = current_at (with k c from) refl
 
   pub current_writing : p.version ≡ Two → (o : Outcome) → LeavesOnly mid (Becomes (WithoutImage next) (WithImage next) old o) → LeavesOnly mid (IsCurrent vars slots)
-  current_writing two IsMade puts = record { each = λ k c may. with_current (model k) c (puts.each k c may) }
+  current_writing two WasMade puts = record { each = λ k c may. with_current (model k) c (puts.each k c may) }
   current_writing two NotMade puts = record { each = λ k c may. without_current two (model k) c (puts.each k c may) }
   current_writing two InDoubt puts = record {
     each = λ k c may.
@@ -177,7 +177,7 @@ module _ (vars slots : ℕ) (p : Position) (s : State) (fits : p.generation + 1 
 
   -- while it is written
   pub while_writing : (o : Outcome) → AtEachMoment old mid (Meanwhile (WithoutImage next) (WithImage next) old o) → AtEachMoment old mid (ContentRepresentsState vars slots s)
-  while_writing IsMade during = record { each = λ k c left. either (model k) c (during.each k c left) }
+  while_writing WasMade during = record { each = λ k c left. either (model k) c (during.each k c left) }
   while_writing NotMade during = record { each = λ k c left. without (model k) c (during.each k c left) }
   while_writing InDoubt during = record { each = λ k c left. either (model k) c (during.each k c left) }
   while_writing NotBegun during = record { each = λ k c left. before (model k) c (during.each k c left) }
@@ -204,8 +204,8 @@ pub copy_within : (vars slots copy : ℕ) → copy ≤ 1 → (old new : DeviceVi
 copy_within vars slots copy one old new within =
     WritesWithin-wider (image_at vars copy) (image_size vars) (image_at vars 0) (2 * image_size vars + 4096 * slots) (omega (arith, behind_block vars copy)) (ends (image_at vars copy) (image_size vars) slots (copy_below vars copy one)) old new within
   where
-    ends : (place size slots : ℕ) → place + size ≤ 512 + 2 * size + 4096 * 0 → place + size ≤ 512 + 0 * size + (2 * size + 4096 * slots)
-    ends place size slots below = omega (arith, below)
+    ends : (offset size slots : ℕ) → offset + size ≤ 512 + 2 * size + 4096 * 0 → offset + size ≤ 512 + 0 * size + (2 * size + 4096 * slots)
+    ends offset size slots below = omega (arith, below)
 
 -- and so do the slots
 pub renewed_within : (vars slots copy : ℕ) → copy ≤ 1 → (old mid new : DeviceView) → (new.keeps_model → mid.keeps_model) → WritesWithin (image_at vars copy) (image_size vars) old mid → WritesWithin (slot_at vars 0) (bytes_from 0 slots) mid new
@@ -227,8 +227,8 @@ beside_emptied vars slots copy generation one a b c same keeps = λ i beside non
     keeps.others i (λ k above below gate. none k below (sym (slice_get-after (image_at vars copy) (image_size vars) a b (slot_at vars k) (ends (image_at vars copy) (image_size vars) k (copy_below vars copy one)) same) ∙ gate))
     ∙ beside_copy vars slots copy a b same i beside none
   where
-    ends : (place size slot : ℕ) → place + size ≤ 512 + 2 * size + 4096 * 0 → place + size ≤ 512 + 2 * size + 4096 * slot
-    ends place size slot below = omega (arith, below)
+    ends : (offset size slot : ℕ) → offset + size ≤ 512 + 2 * size + 4096 * 0 → offset + size ≤ 512 + 2 * size + 4096 * slot
+    ends offset size slot below = omega (arith, below)
 
 -- what the pages of a copy hold, they hold where the other copy is written
 pub pages_aside : (vars copy set : ℕ) (values : List ℤ) → copy ≤ 1 → (old new : DeviceView) → (new.keeps_model → old.keeps_model) → WritesWithin (image_at vars (other_copy copy)) (image_size vars) old new
@@ -251,8 +251,8 @@ pages_in_front vars copy set slot n values one old new model writes holds = reco
       (λ a b same. HoldsOthers-before (slot_at vars slot) n (pages_at vars copy) vars set values a b same (ends (image_at vars copy) (pages_of vars) (copy_below vars copy one))) (writes.crash.each k c left);
 }
   where
-    ends : (place pages : ℕ) → place + (2048 + 512 * pages) ≤ 512 + 2 * (2048 + 512 * pages) + 4096 * 0 → place + 2048 + 512 * pages ≤ 512 + 2 * (2048 + 512 * pages) + 4096 * slot
-    ends place pages below = omega (arith, below)
+    ends : (offset pages : ℕ) → offset + (2048 + 512 * pages) ≤ 512 + 2 * (2048 + 512 * pages) + 4096 * 0 → offset + 2048 + 512 * pages ≤ 512 + 2 * (2048 + 512 * pages) + 4096 * slot
+    ends offset pages below = omega (arith, below)
 
 -- once the image is written, each page of its copy holds its state
 pub pages_written : (vars : ℕ) (p : Position) (s : State) (old new : DeviceView) → LeavesOnly new (MadeBy (WithImage (next_placed vars p s)) old) → LeavesOnly new (HoldsOthers (pages_at vars (other_copy p.copy)) vars 0 s.values)

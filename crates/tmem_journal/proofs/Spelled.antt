@@ -20,7 +20,7 @@ block_is version vars slots whole at number b0 b1 b2 v s e0 is e1 e2 e3 rest v_i
     grouped : (a b c d f : List ℕ) → (((a ++ b) ++ c) ++ d) ++ f ≡ a ++ (b ++ (c ++ (d ++ f)))
     grouped a b c d f = simp append_assoc
 
--- what stays behind one place stays behind a later one
+-- what stays behind one offset stays behind a later one
 pub drop_further : (m n : ℕ) (a b : List ℕ) → m ≤ n → drop m a ≡ drop m b → drop n a ≡ drop n b
 drop_further m n a b le same =
     let e : m + (n - m) ≡ n = omega arith in

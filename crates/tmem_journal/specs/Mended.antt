@@ -7,7 +7,7 @@ use Rattle.tmem_record.specs.Layout.{image_at, image_size, slot_at}
 use Rattle.tmem_effect.specs.State.{State}
 use Rattle.tmem_journal.specs.Contents.{Position, ContentRepresents, ContentRepresentsState, migrated}
 
--- at this place there is no open gate of a log slot
+-- at this offset there is no open gate of a log slot
 abbrev pub IsNoSlotGate : ℕ → ℕ → List ℕ → ℕ → Type 0
 IsNoSlotGate vars slots c i = (k : ℕ) → k < slots → IsOpenAt (slot_at vars k) c → i ≢ slot_at vars k
 
@@ -53,7 +53,7 @@ pub record RecoversDevice (vars slots : ℕ) (old new : DeviceView) : Type 0 whe
   pub seen : new.keeps_model → Recovers vars slots old.seen new.seen
   pub elsewhere : WritesWithin (image_at vars 0) (2 * image_size vars + 4096 * slots) old new
 
--- at this place there is no byte of that image copy
+-- at this offset there is no byte of that image copy
 abbrev pub IsBesideCopy : ℕ → ℕ → ℕ → Type 0
 IsBesideCopy vars copy i = (i < image_at vars copy) ⊎ (image_at vars copy + image_size vars ≤ i)
 

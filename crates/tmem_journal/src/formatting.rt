@@ -78,7 +78,7 @@ fn first_header() -> [u8; HEADER_BODY_BYTES]
     bytes
 }
 
-// Writes zeros up to a place, in large pieces, and syncs.
+// Writes zeros up to an offset, in large pieces, and syncs.
 fn erase<D: Disk>(disk: &mut D, end: u64) -> Result<(), Fault>
     requires { end ≤ (D.view disk.old).capacity }
     ensures uses { Uses (D.view disk.old) (D.view disk.new) result }

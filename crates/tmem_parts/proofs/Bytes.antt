@@ -35,5 +35,5 @@ zeros_stand c long each = record {
 pub other_than_zero : (c : List ℕ) (k : ℕ) → 10 ≤ k → k < 512 → slice_index c k ≢ 0 → ¬ StandsAt 10 (zero_bytes 502) c
 other_than_zero c k from below other stands =
     let there : k - 10 < length (zero_bytes 502) = omega (arith, from, below, length-zeros) in
-    let place : 10 + (k - 10) ≡ k = omega (arith, from) in
-    other (ap (slice_index c) (sym place) ∙ one_stands 10 (zero_bytes 502) c stands.is (k - 10) there ∙ zero_at (k - 10) (omega (arith, from, below)))
+    let offset : 10 + (k - 10) ≡ k = omega (arith, from) in
+    other (ap (slice_index c) (sym offset) ∙ one_stands 10 (zero_bytes 502) c stands.is (k - 10) there ∙ zero_at (k - 10) (omega (arith, from, below)))

@@ -8,7 +8,7 @@ use Rattle.tmem_state.specs.declared.version.Version.{Version}
 use Rattle.tmem_parts.specs.declared.wrong.Why.{Why}
 use Rattle.tmem_parts.specs.declared.wrong.Why.TheVariants as why
 
--- the number of two bytes from a place on, the lesser one first
+-- the number of two bytes from an offset on, the lesser one first
 abbrev pub short_in : List ℕ → ℕ → ℕ
 short_in c at = slice_index c at + 2 ^ 8 * slice_index c (at + 1)
 
@@ -19,7 +19,7 @@ pub record IsHeadedBy (version : Version) (c : List ℕ) : Type 0 where
   pub letters : take 4 (drop 1 c) ≡ codes "TMEM"
   pub number : slice_index c 5 ≡ version_number version
 
--- block 0 is open, and each of its fields stands at its place: the letters, the version, the numbers of variables and log slots, and
+-- block 0 is open, and each of its fields stands at its offset: the letters, the version, the numbers of variables and log slots, and
 -- zeros
 pub record IsBlock (version : Version) (vars slots : ℕ) (c : List ℕ) : Type 0 where
   pub headed : IsHeadedBy version c
@@ -32,7 +32,7 @@ pub record IsBlock (version : Version) (vars slots : ℕ) (c : List ℕ) : Type 
 abbrev pub IsNoBlock : List ℕ → Type 0
 IsNoBlock c = (version : Version) (vars slots : ℕ) → IsBlock version vars slots c → ⊥
 
--- This is wrong with block 0, at that place: the bytes end there; the gate is closed; a letter is another one; no version has that
+-- This is wrong with block 0, at that offset: the bytes end there; the gate is closed; a letter is another one; no version has that
 -- number; the number of variables, or that of log slots, is out of its limits; or a byte behind them is not 0.
 abbrev pub IsBlockWrong : Why → ℕ → List ℕ → Type 0
 IsBlockWrong why.Ends at c = (length c < 512) × (at ≡ length c)

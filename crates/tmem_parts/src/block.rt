@@ -55,7 +55,7 @@ pub fn block_of(bytes: &[u8]) -> Result<Block, Wrong>
     }
 }
 
-// The place of the first letter that is another one than that of `TMEM`.
+// The offset of the first letter that is another one than that of `TMEM`.
 fn other_letter(bytes: &[u8]) -> Option<u64>
     requires { 512 ≤ length bytes.now }
     ensures other { IfSome result (λ at. IsBlockWrong Why.Letters at bytes.now) }
@@ -118,7 +118,7 @@ fn wrong_number(bytes: &[u8]) -> Wrong
     }
 }
 
-// The place of the first byte behind the numbers that is not 0.
+// The offset of the first byte behind the numbers that is not 0.
 fn other_than_zero(bytes: &[u8]) -> Option<u64>
     requires { 512 ≤ length bytes.now }
     ensures other { IfSome result (λ at. IsBlockWrong Why.NotZero at bytes.now) }

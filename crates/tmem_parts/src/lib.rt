@@ -1,8 +1,8 @@
 //! What the bytes of a store hold, part by part, and what an opening of them finds. Nothing is written to a store, and the bytes may
 //! come from one that is in use.
 //!
-//! `block_of`, `image_of` and `slot_of` say what each part holds, and `recovery_of` opens a copy of the bytes in memory. A `Wrong` is a
-//! place where bytes are not as the format says, and why.
+//! `block_of`, `image_of` and `slot_of` say what each part holds, and `recovery_of` opens a copy of the bytes in memory. A `Wrong` is an
+//! offset where bytes are not as the format says, and why.
 #![tactic(auto)]
 
 mod block;

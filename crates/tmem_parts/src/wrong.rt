@@ -1,7 +1,7 @@
 //! Where bytes are not as the format says.
 use std::fmt;
 
-/// A place where bytes are not as the format says, and why.
+/// An offset where bytes are not as the format says, and why.
 #[derive(Clone, Copy)]
 pub struct Wrong {
     /// The byte, counted from the first one of the store.
@@ -15,7 +15,7 @@ impl fmt::Display for Wrong {
     }
 }
 
-/// What is wrong with the bytes at a place.
+/// What is wrong with the bytes at an offset.
 #[derive(Clone, Copy)]
 pub enum Why {
     /// There are no more bytes.

@@ -45,7 +45,7 @@ name_put ns i d below front b0 b1 b2 letters n before first second n_is is =
 pub name_alone : (b1 b2 letters name : List ℕ) (n : ℕ) → b1 ≡ n ∷ [] → b2 ≡ b1 ++ letters → n ≡ length letters → letters ≡ name → b2 ≡ name_bytes name
 name_alone b1 b2 letters name n first second n_is is = second ∙ ap (λ (l : List ℕ). l ++ letters) first ∙ name_is letters name n n_is is
 
--- what stays behind one place stays behind a later one
+-- what stays behind one offset stays behind a later one
 pub drop_further : (m n : ℕ) (a b : List ℕ) → m ≤ n → drop m a ≡ drop m b → drop n a ≡ drop n b
 drop_further m n a b le same =
     let e : m + (n - m) ≡ n = omega arith in

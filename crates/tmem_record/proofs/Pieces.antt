@@ -11,20 +11,20 @@ module _ (c piece : List ℕ) (at n : ℕ) (read : piece ≡ slice_range c at (a
   piece_is = read ∙ between_is at n c
 
   get_piece : (i j : ℕ) → at + i ≡ j → i < n → slice_get piece i ≡ slice_get c j
-  get_piece i j place below = ap (λ (l : List ℕ). slice_get l i) piece_is ∙ slice_get-take (drop at c) n i below ∙ slice_get-drop c at i ∙ ap (slice_get c) place
+  get_piece i j offset below = ap (λ (l : List ℕ). slice_get l i) piece_is ∙ slice_get-take (drop at c) n i below ∙ slice_get-drop c at i ∙ ap (slice_get c) offset
 
   -- a gate in it
   pub gate_open : (i j : ℕ) → at + i ≡ j → i < n → IsOpenAt i piece → IsOpenAt j c
-  gate_open i j place below is = sym (get_piece i j place below) ∙ is
+  gate_open i j offset below is = sym (get_piece i j offset below) ∙ is
 
   pub gate_opened : (i j : ℕ) → at + i ≡ j → i < n → IsOpenAt j c → IsOpenAt i piece
-  gate_opened i j place below is = get_piece i j place below ∙ is
+  gate_opened i j offset below is = get_piece i j offset below ∙ is
 
   pub gate_closed : (i j : ℕ) → at + i ≡ j → i < n → IsClosed i piece → IsClosed j c
-  gate_closed i j place below closed = record { not_open = λ is. closed.not_open (gate_opened i j place below is) }
+  gate_closed i j offset below closed = record { not_open = λ is. closed.not_open (gate_opened i j offset below is) }
 
   pub gate_stays_closed : (i j : ℕ) → at + i ≡ j → i < n → IsClosed j c → IsClosed i piece
-  gate_stays_closed i j place below closed = record { not_open = λ is. closed.not_open (gate_open i j place below is) }
+  gate_stays_closed i j offset below closed = record { not_open = λ is. closed.not_open (gate_open i j offset below is) }
 
   -- a part of it
   pub part_read : (i m : ℕ) → i + m ≤ n → take m (drop i piece) ≡ slice_range c (at + i) (at + i + m)

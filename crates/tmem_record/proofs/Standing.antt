@@ -1,4 +1,4 @@
--- Bytes that stand from a place on: in parts, and read as numbers.
+-- Bytes that stand from an offset on: in parts, and read as numbers.
 use Rattle.std.proofs.Common.{◌≡◌, ◌<◌, ◌≤◌, ◌+◌, ◌*◌, ◌-◌, ◌^◌, ℕ, ℤ, List, [], ◌∷◌, ◌++◌, length, take, drop, replicate, refl, sym, ◌∙◌, ap, subst, eqb, arith, length-append, flat_map}
 use Rattle.std.specs.Prelude.{slice_range}
 use Rattle.std.proofs.lemmas.List.{take-append-drop, take-take, drop-take, drop-drop, take_all, take_at, drop_at, length-take-le, length-drop, append-nil, length-replicate, get_or-drop, take_rest}
@@ -50,7 +50,7 @@ module _ (at : ℕ) (a b bytes : List ℕ) where
         ∙ ap (λ (l : List ℕ). a ++ l) (drop-take (length a) (length b) (drop at bytes) ∙ ap (take (length b)) (drop-drop (length a) at bytes) ∙ second.is);
   }
 
--- a place that is given as another sum
+-- an offset that is given as another sum
 pub moved : (i j : ℕ) (part bytes : List ℕ) → i ≡ j → StandsAt i part bytes → StandsAt j part bytes
 moved i j part bytes same stands = subst (λ (k : ℕ). StandsAt k part bytes) same stands
 
@@ -61,7 +61,7 @@ from_whole body bytes same = record { is = ap (take (length body)) same ∙ take
 pub whole_from : (body bytes : List ℕ) → length bytes ≡ length body → StandsAt 0 body bytes → bytes ≡ body
 whole_from body bytes long stands = sym (take_all (length body) bytes (omega (arith, long))) ∙ stands.is
 
--- two parts of one length that stand at one place are one
+-- two parts of one length that stand at one offset are one
 pub one_part : (at : ℕ) (a b bytes : List ℕ) → length a ≡ length b → StandsAt at a bytes → StandsAt at b bytes → a ≡ b
 one_part at a b bytes long first second = sym first.is ∙ ap (λ (n : ℕ). take n (drop at bytes)) long ∙ second.is
 
@@ -74,11 +74,11 @@ one_number n x y fits fits' same =
 pub one_number_at : (n at x y : ℕ) (bytes : List ℕ) → x < 256 ^ n → y < 256 ^ n → StandsAt at (number_bytes n x) bytes → StandsAt at (number_bytes n y) bytes → x ≡ y
 one_number_at n at x y bytes fits fits' first second = one_number n x y fits fits' (one_part at (number_bytes n x) (number_bytes n y) bytes (length-number_bytes n x ∙ sym (length-number_bytes n y)) first second)
 
--- what follows a place are bytes
+-- what follows an offset are bytes
 pub bytes_behind : (at : ℕ) (bytes : List ℕ) → IsBytes bytes → IsBytes (drop at bytes)
 bytes_behind at bytes each i = rw get_or-drop (each (at + i))
 
--- the bytes from a place on
+-- the bytes from an offset on
 abbrev pub behind : ℕ → List ℕ → List ℕ
 behind at bytes = take (length bytes - at) (drop at bytes)
 
@@ -100,7 +100,7 @@ value_read at z bytes each room is = record {
       ∙ ap (little_bytes 8) (sym (ap (cast_unsigned w64) from ∙ of_z-to_z w64 (little_number 8 (drop at bytes)) fits));
 }
 
--- so many bytes from a place on, as a slice has them
+-- so many bytes from an offset on, as a slice has them
 abbrev pub between_is : (from n : ℕ) (bytes : List ℕ) → slice_range bytes from (from + n) ≡ take n (drop from bytes)
 between_is from n bytes = let k : from + n - from ≡ n = omega arith in ap (λ (m : ℕ). take m (drop from bytes)) k
 
@@ -137,7 +137,7 @@ pub is_number_there : (n at x y : ℕ) (bytes : List ℕ) → x < 256 ^ n → y 
 is_number_there n at x y bytes fits fits' stands =
     (λ same. subst (λ (m : ℕ). StandsAt at (number_bytes n m) bytes) (eqb-true x y same) stands, λ other. eq-eqb x y (one_number_at n at x y bytes fits fits' stands other))
 
--- the first part, and the rest from place j on
+-- the first part, and the rest from offset j on
 pub cut : (i j : ℕ) (a rest bytes : List ℕ) → i + length a ≡ j → StandsAt i (a ++ rest) bytes → StandsAt i a bytes × StandsAt j rest bytes
 cut i j a rest bytes next stands = (first_part i a rest bytes stands, moved (i + length a) j rest bytes next (second_part i a rest bytes stands))
 

@@ -1,4 +1,4 @@
--- The parts of a device, and their places.
+-- The parts of a device, and their offsets.
 use Rattle.std.specs.Prelude.{ℕ, ◌+◌, ◌*◌, ◌/◌, ◌≤◌}
 
 -- how many pages of 64 values hold so many variables
@@ -17,7 +17,7 @@ image_at vars copy = 512 + copy * image_size vars
 abbrev pub slot_at : ℕ → ℕ → ℕ
 slot_at vars slot = 512 + 2 * image_size vars + 4096 * slot
 
--- the first place behind the last slot
+-- the first offset behind the last slot
 abbrev pub end_at : ℕ → ℕ → ℕ
 end_at vars slots = slot_at vars slots
 

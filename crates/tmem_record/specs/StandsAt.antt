@@ -1,8 +1,8 @@
--- What bytes spell from a place on.
+-- What bytes spell from an offset on.
 use Rattle.std.specs.Prelude.{◌≡◌, ℕ, ℤ, List, length, take, drop, flat_map, replicate}
 use Rattle.tmem_record.specs.Spelling.{value_bytes}
 
--- these stand in the bytes from that place on
+-- these stand in the bytes from that offset on
 pub record StandsAt (at : ℕ) (part bytes : List ℕ) : Type 0 where
   pub is : take (length part) (drop at bytes) ≡ part
 

@@ -6,7 +6,7 @@ ghost use Rattle.tmem_record.specs.StandsAt.{StandsAt, zero_bytes};
 
 use byteorder::{ByteOrder, LittleEndian};
 
-/// Writes over the bytes from a place on, and answers the place behind them.
+/// Writes over the bytes from an offset on, and answers the offset behind them.
 pub fn put(into: &mut [u8], at: usize, bytes: &[u8]) -> usize
     requires { at + length bytes.now ≤ length into.old }
     ensures next { result ≡ at + length bytes.now }
@@ -25,7 +25,7 @@ pub fn is_zero(bytes: &[u8]) -> bool
     bytes.iter().all(|byte| *byte == 0)
 }
 
-/// Whether so many bytes from a place on are 0.
+/// Whether so many bytes from an offset on are 0.
 pub fn is_blank(bytes: &[u8], from: usize, count: usize) -> bool
     requires { from + count ≤ length bytes.now }
     ensures { IsTrue result ↔ StandsAt from (zero_bytes count) bytes.now }
@@ -33,7 +33,7 @@ pub fn is_blank(bytes: &[u8], from: usize, count: usize) -> bool
     is_zero(&bytes[from..from + count])
 }
 
-/// The number of 2 bytes from a place on.
+/// The number of 2 bytes from an offset on.
 pub fn short_at(bytes: &[u8], at: usize) -> u16
     requires { at + 2 ≤ length bytes.now }
     ensures { StandsAt at (number_bytes 2 result) bytes.now }
@@ -41,7 +41,7 @@ pub fn short_at(bytes: &[u8], at: usize) -> u16
     LittleEndian::read_u16(&bytes[at..])
 }
 
-/// The number of 8 bytes from a place on.
+/// The number of 8 bytes from an offset on.
 pub fn number_at(bytes: &[u8], at: usize) -> u64
     requires { at + 8 ≤ length bytes.now }
     ensures { StandsAt at (number_bytes 8 result) bytes.now }
@@ -49,7 +49,7 @@ pub fn number_at(bytes: &[u8], at: usize) -> u64
     LittleEndian::read_u64(&bytes[at..])
 }
 
-/// Whether this number of 8 bytes stands from a place on.
+/// Whether this number of 8 bytes stands from an offset on.
 pub fn is_number(bytes: &[u8], at: usize, number: u64) -> bool
     requires { at + 8 ≤ length bytes.now }
     ensures { IsTrue result ↔ StandsAt at (number_bytes 8 number) bytes.now }
@@ -57,7 +57,7 @@ pub fn is_number(bytes: &[u8], at: usize, number: u64) -> bool
     number_at(bytes, at) == number
 }
 
-/// The value from a place on.
+/// The value from an offset on.
 pub fn value_at(bytes: &[u8], at: usize) -> i64
     requires { at + 8 ≤ length bytes.now }
     ensures bytes { StandsAt at (value_bytes result) bytes.now }

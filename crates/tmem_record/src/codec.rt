@@ -54,7 +54,7 @@ pub struct Head {
     pub length: usize,
 }
 
-// Spells writes from a place on, and returns the place behind them.
+// Spells writes from an offset on, and returns the offset behind them.
 fn put_writes(into: &mut [u8], start: usize, writes: &[(u16, i64)]) -> usize
     requires { start + 10 * length writes.now ≤ length into.old }
     ensures next { result ≡ start + 10 * length writes.now }
@@ -68,7 +68,7 @@ fn put_writes(into: &mut [u8], start: usize, writes: &[(u16, i64)]) -> usize
     at
 }
 
-// Spells names from a place on, each behind its length, and returns the place behind them.
+// Spells names from an offset on, each behind its length, and returns the offset behind them.
 fn put_names(into: &mut [u8], start: usize, names: &[Name]) -> usize
     requires { start + sum_by (λ n. 1 + length n) names.now ≤ length into.old }
     ensures next { result ≡ start + sum_by (λ n. 1 + length n) names.now }
@@ -84,7 +84,7 @@ fn put_names(into: &mut [u8], start: usize, names: &[Name]) -> usize
     at
 }
 
-/// Writes names into a buffer from a place on, behind how many there are, and returns the place behind them. The rest of
+/// Writes names into a buffer from an offset on, behind how many there are, and returns the offset behind them. The rest of
 /// the buffer stays.
 pub fn write_names(into: &mut [u8], start: usize, names: &[Name]) -> usize
     requires room { start + length (names_bytes names.now) ≤ length into.old }
@@ -109,7 +109,7 @@ pub fn write_name(name: &Name, into: &mut [u8]) -> usize
     put(into, at, letters)
 }
 
-// Spells a record from a place on, and returns the place behind it.
+// Spells a record from an offset on, and returns the offset behind it.
 fn put_record(into: &mut [u8], start: usize, effect: &Effect) -> usize
     requires { start + record_length effect.now ≤ length into.old }
     ensures next { result ≡ start + record_length effect.now }
@@ -122,7 +122,7 @@ fn put_record(into: &mut [u8], start: usize, effect: &Effect) -> usize
     write_names(into, at, effect.retired.as_slice())
 }
 
-// Spells records from a place on, one after another, and returns the place behind them.
+// Spells records from an offset on, one after another, and returns the offset behind them.
 fn put_records(into: &mut [u8], start: usize, effects: &[Effect]) -> usize
     requires { start + records_length effects.now ≤ length into.old }
     ensures next { result ≡ start + records_length effects.now }

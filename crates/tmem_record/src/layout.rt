@@ -1,4 +1,4 @@
-// The parts of a device, and their places.
+// The parts of a device, and their offsets.
 ghost use Rattle.std.specs.Prelude.{◌≡◌, ◌↔◌, ◌≤◌, IsOk, IfOk, IfErr};
 ghost use Rattle.tmem_record.specs.Layout.{IsLayout, pages_of, image_size, image_at, slot_at, end_at};
 
@@ -83,7 +83,7 @@ impl Layout {
         BLOCK_BYTES as u64 + 2 * self.image_size() + SLOT_BYTES as u64 * k as u64
     }
 
-    /// The first place behind the last slot.
+    /// The first offset behind the last slot.
     pub fn end(self) -> u64
         ensures { result ≡ end_at self.vars self.slots }
     {

@@ -1,6 +1,6 @@
 //! Batches and names as bytes: a batch has one spelling, which is written and read here. Batches of both versions of the
 //! format are read, and those of the second are written. Words that take no version speak of the second. `Layout` has the
-//! places of the parts of a device.
+//! offsets of the parts of a device.
 #![tactic(auto)]
 
 pub mod bytes;

@@ -24,16 +24,16 @@ module _ (p : BatchPlaced) (room : p.slot < p.slots) (is : IsBatchIn Two p.vars 
   short : length (bytes_of p) ≤ 4095
   short = length-batch_bytes-le Two p.vars p.generation p.first p.batch is
 
-  -- as the bytes were spelled, at the place that was found
-  module _ (place : ℕ) (spelled : List ℕ) (old new : DeviceView) (o : Outcome) (here : place ≡ at_of p) (same : spelled ≡ bytes_of p) where
-    no : (b c : List ℕ) → LeftClosed place (length spelled) b c → WithoutBatch p b c
+  -- as the bytes were spelled, at the offset that was found
+  module _ (offset : ℕ) (spelled : List ℕ) (old new : DeviceView) (o : Outcome) (here : offset ≡ at_of p) (same : spelled ≡ bytes_of p) where
+    no : (b c : List ℕ) → LeftClosed offset (length spelled) b c → WithoutBatch p b c
     no b c left = without p (length (bytes_of p)) short b c (subst (λ (l : List ℕ). LeftClosed (at_of p) (length l) b c) same (subst (λ (n : ℕ). LeftClosed n (length spelled) b c) here left))
 
-    yes : (b c : List ℕ) → LeftOpen place spelled old.seen b c → WithBatch p b c
+    yes : (b c : List ℕ) → LeftOpen offset spelled old.seen b c → WithBatch p b c
     yes b c left = with_batch p room is old.seen b c (subst (λ (l : List ℕ). LeftOpen (at_of p) l old.seen b c) same (subst (λ (n : ℕ). LeftOpen n spelled old.seen b c) here left))
 
-    pub append_put : Puts place (1 + length spelled) (LeftClosed place (length spelled)) (LeftOpen place spelled old.seen) old new o → Puts (at_of p) 4096 (WithoutBatch p) (WithBatch p) old new o
-    append_put = Puts-more place (1 + length spelled) (at_of p) 4096 _ _ (WithoutBatch p) (WithBatch p) old new o (omega (arith, here)) (omega (arith, here, short, ap length same)) no yes
+    pub append_put : Puts offset (1 + length spelled) (LeftClosed offset (length spelled)) (LeftOpen offset spelled old.seen) old new o → Puts (at_of p) 4096 (WithoutBatch p) (WithBatch p) old new o
+    append_put = Puts-more offset (1 + length spelled) (at_of p) 4096 _ _ (WithoutBatch p) (WithBatch p) old new o (omega (arith, here)) (omega (arith, here, short, ap length same)) no yes
 
 -- each closed slot behind stays closed
 pub still_closed : (vars used : ℕ) (old new : DeviceView) → (new.keeps_model → old.keeps_model) → WritesWithin (slot_at vars used) 4096 old new → (k : ℕ) → used < k → StandsClosed (slot_at vars k) old → StandsClosed (slot_at vars k) new

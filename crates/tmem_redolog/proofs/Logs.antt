@@ -79,8 +79,8 @@ pub held_before : (vars used n : ℕ) (b c : List ℕ) → SameOutside (slot_at 
 held_before vars used n b c same v generation slot first [] fits held = tt
 held_before vars used n b c same v generation slot first (es ∷ batches) fits held =
     let short = length-batch_bytes-le v vars generation first es held.0.batch in
-    let place : slot_at vars slot + 1 + length (batch_bytes v generation first es) ≤ slot_at vars used = omega (arith, short, fits) in (
-      record { batch = held.0.batch; cell = open_before (slot_at vars used) n (slot_at vars slot) (batch_bytes v generation first es) b c same place held.0.cell },
+    let offset : slot_at vars slot + 1 + length (batch_bytes v generation first es) ≤ slot_at vars used = omega (arith, short, fits) in (
+      record { batch = held.0.batch; cell = open_before (slot_at vars used) n (slot_at vars slot) (batch_bytes v generation first es) b c same offset held.0.cell },
       held_before vars used n b c same v generation (slot + 1) (first + length es) batches (omega arith) held.1,
     )
 
@@ -88,16 +88,16 @@ held_before vars used n b c same v generation slot first (es ∷ batches) fits h
 module _ (vars used : ℕ) (b c : List ℕ) (same : SameOutside (slot_at vars used) 4096 b c) where
   pub stale_behind : (generation k : ℕ) → used < k → IsStale generation (slot_at vars k) b → IsStale generation (slot_at vars k) c
   stale_behind generation k above stale =
-      let place : slot_at vars used + 4096 ≤ slot_at vars k = omega arith in
+      let offset : slot_at vars used + 4096 ≤ slot_at vars k = omega arith in
       ⊎_elim
-      (λ closed. inl (closed_after (slot_at vars used) 4096 (slot_at vars k) b c same place closed))
-      (λ it. inr (it.0, it.1, open_after (slot_at vars used) 4096 (slot_at vars k) (number_bytes 8 it.0) b c same place it.2))
+      (λ closed. inl (closed_after (slot_at vars used) 4096 (slot_at vars k) b c same offset closed))
+      (λ it. inr (it.0, it.1, open_after (slot_at vars used) 4096 (slot_at vars k) (number_bytes 8 it.0) b c same offset it.2))
       stale
 
   pub closed_behind : (k : ℕ) → used < k → IsClosed (slot_at vars k) b → IsClosed (slot_at vars k) c
   closed_behind k above closed =
-      let place : slot_at vars used + 4096 ≤ slot_at vars k = omega arith in
-      closed_after (slot_at vars used) 4096 (slot_at vars k) b c same place closed
+      let offset : slot_at vars used + 4096 ≤ slot_at vars k = omega arith in
+      closed_after (slot_at vars used) 4096 (slot_at vars k) b c same offset closed
 
 here_or_behind : (used k : ℕ) → used ≤ k → (used ≡ k) ⊎ (used < k)
 here_or_behind used k le = ⊎_elim (λ below. inr below) (λ not_below. inl (omega (arith, not_below))) (cases_lt used k)

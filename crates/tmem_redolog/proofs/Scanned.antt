@@ -43,8 +43,8 @@ get_behind (suc a) (x ∷ xs) = get_behind a xs
 module _ (vars slots : ℕ) (log c : List ℕ) (is : IsLogOf vars slots log c) (k : ℕ) (below : k < slots) where
   slot_is : slot_bytes log k ≡ slice_range c (slot_at vars k) (slot_at vars k + 4096)
   slot_is =
-      let place : slot_at vars 0 + 4096 * k ≡ slot_at vars k = omega arith in
-      ap (λ (l : List ℕ). slice_range l (4096 * k) (4096 * k + 4096)) is.read ∙ part_of c (slot_at vars 0) (4096 * slots) (4096 * k) 4096 (omega (arith, below)) ∙ ap (λ (n : ℕ). slice_range c n (n + 4096)) place
+      let offset : slot_at vars 0 + 4096 * k ≡ slot_at vars k = omega arith in
+      ap (λ (l : List ℕ). slice_range l (4096 * k) (4096 * k + 4096)) is.read ∙ part_of c (slot_at vars 0) (4096 * slots) (4096 * k) 4096 (omega (arith, below)) ∙ ap (λ (n : ℕ). slice_range c n (n + 4096)) offset
 
   gate_is : slice_get (slot_bytes log k) 0 ≡ slice_get c (slot_at vars k)
   gate_is =
@@ -169,4 +169,4 @@ as_damaged {P} f is none = subst (IsWhyNone P) (sym is) none
 
 -- what was read of all slots
 pub is_log : (vars slots at n : ℕ) (c items log : List ℕ) → at ≡ slot_at vars 0 → n ≡ 4096 * slots → items ≡ slice_range c at (at + n) → log ≡ items → IsLogOf vars slots log c
-is_log vars slots at n c items log place long read same = record { read = same ∙ read ∙ ap (λ (m : ℕ). slice_range c at (at + m)) long ∙ ap (λ (p : ℕ). slice_range c p (p + 4096 * slots)) place }
+is_log vars slots at n c items log offset long read same = record { read = same ∙ read ∙ ap (λ (m : ℕ). slice_range c at (at + m)) long ∙ ap (λ (p : ℕ). slice_range c p (p + 4096 * slots)) offset }

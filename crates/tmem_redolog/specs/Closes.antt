@@ -14,7 +14,7 @@ use Rattle.tmem_redolog.specs.declared.log.Log.{Log}
 abbrev pub bytes_from : ℕ → ℕ → ℕ
 bytes_from slot slots = 4096 * (slots - slot)
 
--- at this place there is no gate that is open in a slot from one on
+-- at this offset there is no gate that is open in a slot from one on
 abbrev pub IsNoOpenGate : ℕ → ℕ → ℕ → List ℕ → ℕ → Type 0
 IsNoOpenGate vars slots used c i = (k : ℕ) → used ≤ k → k < slots → IsOpenAt (slot_at vars k) c → i ≢ slot_at vars k
 

@@ -12,6 +12,8 @@ pub struct Notes {
     explains: bool,
     // the text of the script
     text: Vec<u8>,
+    // whether the device is held at the end
+    is_held: bool,
     // how many entries were played
     played: usize,
     refused: Vec<Refused>,
@@ -32,6 +34,7 @@ impl Notes {
         Notes {
             explains,
             text: Vec::new(alloc),
+            is_held: false,
             played: 0,
             refused: Vec::new(alloc),
         }
@@ -74,6 +77,18 @@ impl Notes {
             // Where memory does not suffice, it is not told.
             let _ = self.refused.push(Refused { index, fault });
         }
+    }
+
+    /// Takes whether the device is held as the run ends.
+    pub fn note_device(&mut self, is_held: bool)
+        ensures { self.new.refused ≡ self.old.refused }
+    {
+        self.is_held = is_held;
+    }
+
+    /// Whether the device is held as the run ends.
+    pub fn is_held(&self) -> bool {
+        self.is_held
     }
 
     /// The entries that were refused, in order.

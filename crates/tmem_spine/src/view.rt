@@ -3,7 +3,7 @@ use atomic_table::TableRule;
 use std::collections::LinkedList;
 use tmem_effect::Effect;
 
-/// An committed effect, under the mark of the pass for which it was committed.
+/// A committed effect, under the mark of the pass for which it was committed.
 #[derive(Drop)]
 pub struct Entry {
     pub mark: u64,

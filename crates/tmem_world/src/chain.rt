@@ -10,7 +10,7 @@ pub fn formatted_is_store<D: Disk>()
 {}
 
 /// A store is one for the next version of a program too: where its steps mean the same, and what is registered comes again with
-/// the footprint and the answers that it had. So has what an committed transaction tested, also in a branch that then retried. What was
+/// the footprint and the answers that it had. So has what a committed transaction tested, also in a branch that then retried. What was
 /// retired need not come again; where it does, the table had it before too, with the same meaning. The table may have another order,
 /// and more invariants. It does nothing either.
 pub fn following_keeps_store<D: Disk>()
