@@ -254,7 +254,7 @@ fn is_so_of_session(
         Act::HoldsRun(batches) => Ok(holds_run(journal, *batches)),
         Act::IsClosed(is_closed) => Ok(journal.is_closed() == *is_closed),
         Act::FlushesRun(batches) => is_run_flushed(alloc, journal, *batches),
-        _ => is_flushed(alloc, journal, act),
+        _ => Ok(is_flushed(alloc, journal, act)),
     }
 }
 
@@ -267,22 +267,21 @@ fn holds(journal: &Journal<Device>, count: u64, number: i64) -> bool {
 }
 
 /// Whether a batch is flushed so.
-fn is_flushed(alloc: Global, journal: &mut Journal<Device>, act: &Act) -> Result<bool, Fault> {
-    let (had, answer) = match act {
-        Act::Flushes(number, answer) => (flush_to(alloc, journal, 0, *number), *answer),
-        Act::FlushesTo(var, number, answer) => (flush_to(alloc, journal, *var, *number), *answer),
+fn is_flushed(alloc: Global, journal: &mut Journal<Device>, act: &Act) -> bool {
+    match act {
+        Act::Flushes(number, answer) => is_same(flush_to(alloc, journal, 0, *number), *answer),
+        Act::FlushesTo(var, number, answer) => {
+            is_same(flush_to(alloc, journal, *var, *number), *answer)
+        }
         Act::FlushesBoth(one, other, number, answer) => {
-            (flush_both(alloc, journal, *one, *other, *number), *answer)
+            is_same(flush_both(alloc, journal, *one, *other, *number), *answer)
         }
         Act::FlushesTwo(one, other, number, answer) => {
-            (flush_two(alloc, journal, *one, *other, *number), *answer)
+            is_same(flush_two(alloc, journal, *one, *other, *number), *answer)
         }
-        Act::FlushesName(name, answer) => {
-            (flush_name(alloc, journal, &Name::new(name)?), *answer)
-        }
-        _ => return Ok(false),
-    };
-    Ok(is_same(had, answer))
+        Act::FlushesName(name, answer) => is_same(flush_name(alloc, journal, name), *answer),
+        _ => false,
+    }
 }
 
 fn holds_all(journal: &Journal<Device>, numbers: &[(u16, i64)]) -> bool {

@@ -1,8 +1,8 @@
 //! Batches that tests flush.
 ghost use Rattle.std.specs.Bool.{OnTrue};
-ghost use Rattle.std.specs.Prelude.{◌≡◌, ◌<◌, [], ◌∷◌, All};
+ghost use Rattle.std.specs.Prelude.{◌≡◌, ◌<◌, [], ◌∷◌, false, All, IfOk};
 ghost use Rattle.tmem_journal.specs.Held.{journal_layout, journal_state};
-ghost use Rattle.tmem_effect.specs.State.{AreApart, StaysWithin};
+ghost use Rattle.tmem_effect.specs.State.{AreApart, StaysWithin, is_empty};
 
 use std::alloc::Global;
 use tmem_disk::Disk;
@@ -43,23 +43,21 @@ pub(super) fn flush_two<D: Disk>(
     number: i64,
 ) -> Result<u64, Fault> {
     let (first, second) = (effect_to(one, number), effect_to(other, number));
-    let mut batch = Batch::new(alloc)?;
-    let are_pushed = batch.push(&first) && batch.push(&second);
-    let are_within = is_within(journal, &first) && is_within(journal, &second);
-    if !are_pushed || !are_within || !has_room_for_two(journal, &first, &second) {
+    if !may_flush_two(journal, &first, &second) {
         return Err(Fault::Full);
     }
+    let batch = batch_of_two(alloc, &first, &second)?;
     journal.flush(&batch)
 }
 
-/// Flushes one record that checks a name.
+/// Flushes one record that checks a name of these letters.
 pub(super) fn flush_name<D: Disk>(
     alloc: Global,
     journal: &mut Journal<D>,
-    name: &Name,
+    letters: &str,
 ) -> Result<u64, Fault> {
     let mut effect = Effect::new();
-    effect.check(name);
+    effect.check(&Name::new(letters)?);
     flush(alloc, journal, &effect)
 }
 
@@ -67,36 +65,64 @@ pub(super) fn flush_name<D: Disk>(
 fn flush<D: Disk>(alloc: Global, journal: &mut Journal<D>, effect: &Effect) -> Result<u64, Fault>
     requires { AreApart effect.now.names effect.now.retired }
 {
-    let mut batch = Batch::new(alloc)?;
-    if effect.is_empty() || !batch.push(effect) {
+    if effect.is_empty() || !may_flush(journal, effect) {
         return Err(Fault::Full);
     }
-    if !has_room(journal, effect) || !is_within(journal, effect) {
-        return Err(Fault::Full);
-    }
+    let batch = batch_of(alloc, effect)?;
     journal.flush(&batch)
 }
 
-/// Whether a journal stays within the limits with this effect.
-fn has_room<D: Disk>(journal: &Journal<D>, effect: &Effect) -> bool
-    ensures { OnTrue result (StaysWithin (journal_state journal.now) (effect.now ∷ [])) }
+/// The batch of one record.
+fn batch_of(alloc: Global, effect: &Effect) -> Result<Batch, Fault>
+    requires not_empty { is_empty effect.now ≡ false }
+    requires apart { AreApart effect.now.names effect.now.retired }
+    ensures { IfOk result (λ batch. batch ≡ effect.now ∷ []) }
+{
+    let mut batch = Batch::new(alloc)?;
+    if batch.push(effect) {
+        Ok(batch)
+    } else {
+        Err(Fault::Full)
+    }
+}
+
+/// The batch of two records that only write.
+fn batch_of_two(alloc: Global, first: &Effect, second: &Effect) -> Result<Batch, Fault>
+    requires not_empty { (is_empty first.now ≡ false) × (is_empty second.now ≡ false) }
+    requires first { (first.now.names ≡ []) × (first.now.retired ≡ []) }
+    requires second { (second.now.names ≡ []) × (second.now.retired ≡ []) }
+    ensures { IfOk result (λ batch. batch ≡ first.now ∷ second.now ∷ []) }
+{
+    let mut batch = batch_of(alloc, first)?;
+    if batch.push(second) {
+        Ok(batch)
+    } else {
+        Err(Fault::Full)
+    }
+}
+
+/// Whether a journal stays within the limits with this effect, which is over its variables.
+fn may_flush<D: Disk>(journal: &Journal<D>, effect: &Effect) -> bool
+    ensures within { OnTrue result (StaysWithin (journal_state journal.now) (effect.now ∷ [])) }
+    ensures variables { OnTrue result (All (λ w. w.0 < (journal_layout journal.now).vars) effect.now.writes) }
 {
     let state = journal.state();
     // brings in that there are not too many names
     let _ = state.names();
-    state.count() < u64::MAX && state.has_room_for(effect)
+    state.count() < u64::MAX && state.has_room_for(effect) && is_within(journal, effect)
 }
 
 /// The same with two effects that have no names.
-fn has_room_for_two<D: Disk>(journal: &Journal<D>, first: &Effect, second: &Effect) -> bool
+fn may_flush_two<D: Disk>(journal: &Journal<D>, first: &Effect, second: &Effect) -> bool
     requires first { (first.now.names ≡ []) × (first.now.retired ≡ []) }
     requires second { (second.now.names ≡ []) × (second.now.retired ≡ []) }
-    ensures { OnTrue result (StaysWithin (journal_state journal.now) (first.now ∷ second.now ∷ [])) }
+    ensures within { OnTrue result (StaysWithin (journal_state journal.now) (first.now ∷ second.now ∷ [])) }
+    ensures variables { OnTrue result (All (λ e. All (λ w. w.0 < (journal_layout journal.now).vars) e.writes) (first.now ∷ second.now ∷ [])) }
 {
     let state = journal.state();
     // brings in that there are not too many names
     let _ = state.names();
-    state.count() < u64::MAX - 1
+    state.count() < u64::MAX - 1 && is_within(journal, first) && is_within(journal, second)
 }
 
 /// Whether an effect is over the variables of a journal.
