@@ -1,5 +1,5 @@
 -- A line has one reading: each request that it is has the same id, and can be made of the same stores.
-use Rattle.std.proofs.Common.{◌≡◌, ℕ, ℤ, List, map, Some, codes, bytes_eq, sym, ap, ◌∙◌, subst, arith}
+use Rattle.std.proofs.Common.{◌≡◌, ℕ, ℤ, List, map, codes, bytes_eq, sym, ap, ◌∙◌, subst, arith}
 use Rattle.std.specs.Prelude.{MatchBool}
 use Rattle.std.specs.Map.{keys_of}
 use Rattle.serde_json.specs.Data.{Data}

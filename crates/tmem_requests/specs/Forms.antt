@@ -1,9 +1,9 @@
 -- The JSON forms of what requests are made of.
-use Rattle.std.specs.Prelude.{◌≡◌, ℕ, ℤ, true, List, [], ◌∷◌, map, All, FitsSigned, Some, unwrap_or}
+use Rattle.std.specs.Prelude.{◌≡◌, ℕ, ℤ, List, [], ◌∷◌, map, All, FitsSigned, Some, unwrap_or}
 use Rattle.std.specs.Int.{w64}
-use Rattle.serde_json.specs.Data.{Data, string, object}
+use Rattle.serde_json.specs.Data.{Data, string}
 use Rattle.serde_json.specs.Find.{get}
-use Rattle.tmem_fault.specs.Name.{IsName, has_name}
+use Rattle.tmem_fault.specs.Name.{IsName}
 use Rattle.tmem_forms.specs.TxForms.{natural, integer, array_of, tx_form, IsShort, TxInRange}
 use Rattle.tmem_tree.specs.declared.tx.Tx.{Tx}
 

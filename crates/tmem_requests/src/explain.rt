@@ -47,6 +47,14 @@ fn find_wrong(alloc: Global, value: &Value) -> Result<(), Wrong>
         return Err(Wrong::here(alloc, Why::NotObject));
     }
     find_in_id(alloc, value)?;
+    find_in_asked(alloc, value)?;
+    find_in_numbers(alloc, value)
+}
+
+// Finds what is wrong with what is asked for.
+fn find_in_asked(alloc: Global, value: &Value) -> Result<(), Wrong>
+    ensures { IfErr result (λ w. IsTrueOf whole (view value.now) w) }
+{
     let Some((asked, body)) = asked_in(value) else {
         return Err(Wrong::here(alloc, Why::NoAsk));
     };
@@ -56,8 +64,7 @@ fn find_wrong(alloc: Global, value: &Value) -> Result<(), Wrong>
     if !has_keys_by(value, key) {
         return Err(Wrong::here(alloc, why_other_keys(value, key)));
     }
-    inside(Step::Key(key), find_in_body(alloc, key, body))?;
-    find_in_numbers(alloc, value)
+    inside(Step::Key(key), find_in_body(alloc, key, body))
 }
 
 fn find_in_id(alloc: Global, value: &Value) -> Result<(), Wrong>
@@ -112,7 +119,7 @@ const KEYS: [&str; 9] = [
 fn asks_beside(value: &Value, key: &str) -> bool
     ensures { IsTrue result → AsksBeside key.now (view value.now) }
 {
-    for known in KEYS {
+    for known in &KEYS {
         if let Some(other) = known_key(known) {
             if other != key && value.get(other).is_some() {
                 return true;

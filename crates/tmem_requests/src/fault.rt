@@ -12,11 +12,11 @@ pub(crate) fn write_fault<W: fmt::Write>(f: &mut fmt::Formatter<W>, fault: &Faul
 {
     write!(
         f,
-        "\"fault\":{},\"word\":\"{}\"",
+        "\"fault\":{},\"word\":\"{}\"{}",
         number_of(fault),
-        word_of(fault)
-    )?;
-    write_detail(f, fault)
+        word_of(fault),
+        Detail(fault)
+    )
 }
 
 fn number_of(fault: &Fault) -> u8
@@ -68,16 +68,20 @@ fn word_of(fault: &Fault) -> &'static str
 }
 
 // What a fault names.
-fn write_detail<W: fmt::Write>(f: &mut fmt::Formatter<W>, fault: &Fault) -> fmt::Result
-    ensures { DisplaysOnOk W.write_str_gives f.old result (Some (fault_detail fault.now)) f.new }
-{
-    match fault {
-        Fault::Missing(name) => write!(f, ",\"name\":\"{name}\""),
-        Fault::Broken(name) => write!(f, ",\"name\":\"{name}\""),
-        Fault::BadPlan(cause) => {
-            write!(f, ",\"cause\":{cause},\"why\":\"{}\"", words_of(*cause))
+#[derive(Drop)]
+struct Detail<'a>(&'a Fault);
+
+impl<'a> fmt::Display for Detail<'a> {
+    ghost output = { λ it. Some (fault_detail it.0.now) };
+
+    fn fmt<W: fmt::Write>(&self, f: &mut fmt::Formatter<W>) -> fmt::Result {
+        match self.0 {
+            Fault::Missing(name) | Fault::Broken(name) => write!(f, ",\"name\":\"{name}\""),
+            Fault::BadPlan(cause) => {
+                write!(f, ",\"cause\":{cause},\"why\":\"{}\"", words_of(*cause))
+            }
+            _ => Ok(()),
         }
-        _ => Ok(()),
     }
 }
 

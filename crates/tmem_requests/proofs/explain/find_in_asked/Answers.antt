@@ -3,7 +3,7 @@ use Rattle.serde_json.specs.Find.{get}
 use Rattle.serde_json.specs.View.{view}
 use Rattle.tmem_requests.specs.Wrong.{whole}
 use Rattle.tmem_requests.proofs.Wrongs.{strange_key}
-use Rattle.tmem_requests.proofs.explain.find_wrong.Goals as goal
+use Rattle.tmem_requests.proofs.explain.find_in_asked.Goals as goal
 
 pub returns-in_default-known_key : goal.returns-in_default-known_key
 returns-in_default-known_key c =
