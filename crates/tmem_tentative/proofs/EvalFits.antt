@@ -23,7 +23,7 @@ use Rattle.tmem_effect.proofs.Laws.{AreApart-check, AreApart-retire, All-with_na
 use Rattle.tmem_tree.specs.Limits.{one_if, count, count_all, is_write, is_check, is_retire, has_bad_variable, has_unknown_name, lacks_shape}
 use Rattle.tmem_tree.specs.Run.{register, is_zero}
 use Rattle.tmem_tentative.proofs.ReadEntries.{write_is_insert}
-use Rattle.tmem_tentative.specs.Eval.{RunState, Taken, Leaving, Gives_up, Breaks, Flow, Goes, Stops, Retries, Leaves, Looked, Lacks, Found, eval, eval_all, then_eval, else_eval, read, eval_answered, saw, eval_check, eval_retire, before, look_first, looked, tested, eval_checked}
+use Rattle.tmem_tentative.specs.Eval.{RunState, Taken, Leaving, Gives_up, Breaks, Flow, Goes, Stops, Retries, Leaves, Looked, Lacks, Found, eval, eval_all, then_eval, else_eval, read, eval_answered, saw, eval_check, before, look_first, looked, tested, eval_checked}
 
 -- each of these variables is one of so many
 abbrev pub Below : ℕ → List (ℕ × ℤ) → Type 0

@@ -6,6 +6,7 @@ mod EvalLooks
 mod EvalRuns
 mod EvalSeen
 mod EvalSeq
+mod HandedOutcomes
 mod MadeOutcomes
 mod OrElseLaws
 mod PlaceChildren

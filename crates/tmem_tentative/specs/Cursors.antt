@@ -118,6 +118,12 @@ outcome_of cursor (progress.Need var) = outcome.Need var
 outcome_of cursor progress.Probe = outcome.Probe (probe_of cursor)
 outcome_of cursor progress.Ended = outcome.Ended (attempt_of cursor)
 
+-- the same, with another attempt
+abbrev pub outcome_with : Attempt → Cursor → Progress → Outcome
+outcome_with a cursor (progress.Need var) = outcome.Need var
+outcome_with a cursor progress.Probe = outcome.Probe (probe_of cursor)
+outcome_with a cursor progress.Ended = outcome.Ended a
+
 -- what `resume` answered last
 abbrev pub IsAnswer : Cursor → Outcome → Type 0
 IsAnswer cursor (outcome.Need var) = NeedsValue cursor var

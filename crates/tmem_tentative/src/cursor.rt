@@ -68,7 +68,7 @@ impl Cursor {
     ghost use Rattle.tmem_tentative.specs.Right.{IsOutcome};
     ghost use Rattle.tmem_tentative.specs.Ends.{IsEndOf};
     ghost use Rattle.tmem_tentative.specs.Fits.{IsFit, IsWithinVariables, IsNamed, IsFilled};
-    ghost use Rattle.tmem_tentative.specs.Cursors.{IsAt, StandsIn, IsAtStage, NeedsValue, NeedsAnswer, HasEnded, Answered, IsAnswer, IsAsBefore, given, answers, probe_of, attempt_of, outcome_of};
+    ghost use Rattle.tmem_tentative.specs.Cursors.{IsAt, StandsIn, IsAtStage, NeedsValue, NeedsAnswer, HasEnded, Answered, IsAnswer, IsAsBefore, given, answers, probe_of, attempt_of, outcome_of, outcome_with};
     ghost use Rattle.tmem_tentative.specs.Logs.{AreOf};
 
     /// A cursor in no evaluation, which has no memory: `restart` begins one.
@@ -186,15 +186,23 @@ impl Cursor {
         ensures fault { IfErr result (λ fault. fault ≡ Fault.Memory) }
     {
         let reads = copy_of(&self.course.attempt.reads)?;
-        match self.advance(plan, steps)? {
-            Progress::Need(var) => Ok(Outcome::Need(var)),
-            Progress::Probe => Ok(Outcome::Probe(self.course.probe.copy())),
-            Progress::Ended => Ok(Outcome::Ended(Attempt {
+        let progress = self.advance(plan, steps)?;
+        Ok(self.outcome(progress, reads))
+    }
+
+    // What it hands out, with these values in an attempt.
+    fn outcome(&self, progress: Progress, reads: Reads) -> Outcome
+        ensures { result ≡ outcome_with (record self.now.course.attempt { reads = reads }) self.now progress }
+    {
+        match progress {
+            Progress::Need(var) => Outcome::Need(var),
+            Progress::Probe => Outcome::Probe(self.course.probe.copy()),
+            Progress::Ended => Outcome::Ended(Attempt {
                 reads,
                 ending: self.course.attempt.ending,
                 registers: self.course.attempt.registers,
                 effect: self.course.attempt.effect.copy(),
-            })),
+            }),
         }
     }
 

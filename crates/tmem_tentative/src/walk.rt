@@ -11,6 +11,7 @@ ghost use Rattle.tmem_tree.specs.Run.{register};
 ghost use Rattle.tmem_tree.specs.Shapes.{names_of, footprint_in};
 ghost use Rattle.tmem_tentative.specs.Eval.{eval, read, eval_answered, seen_of, noted_of, looked, eval_checked, tested};
 ghost use Rattle.tmem_tentative.specs.declared.attempt.Probe.{Probe as Asked};
+ghost use Rattle.tmem_tentative.specs.Places.{IsLeaf};
 ghost use Rattle.tmem_tentative.specs.Logs.{AreOf, MayWalk, IsLeaving, run_state_of, flow_at, out_of, looked_at};
 
 use crate::attempt::{Attempt, Ending, Probe, Reads, Values};
@@ -60,7 +61,6 @@ pub(crate) fn walk<S: StoredSteps>(
     ensures fault { IfErr result (λ fault. fault ≡ Fault.Memory) }
 {
     match tx {
-        Tx::Skip => Ok(Flow::Normal),
         Tx::Seq(txs) => {
             for t in txs {
                 let flow = walk(alloc, t, steps, given, log, tests)?;
@@ -70,16 +70,6 @@ pub(crate) fn walk<S: StoredSteps>(
             }
             Ok(Flow::Normal)
         }
-        Tx::Put { reg, number } => {
-            log.registers[*reg as usize] = *number;
-            Ok(Flow::Normal)
-        }
-        Tx::Read { var, reg } => read(given.reads, log, *var, *reg),
-        Tx::Write { var, reg } => {
-            log.effect.writes.put(*var, log.registers[*reg as usize]);
-            Ok(Flow::Normal)
-        }
-        Tx::Step { index, args, out } => Ok(call(steps, log, *index, args, *out)),
         Tx::When { reg, then, other } => {
             if log.registers[*reg as usize] == 0 {
                 walk(alloc, other, steps, given, log, tests)
@@ -91,6 +81,41 @@ pub(crate) fn walk<S: StoredSteps>(
             Flow::Retry => walk(alloc, second, steps, given, log, tests),
             flow => Ok(flow),
         },
+        _ => act(tx, steps, given, log, tests),
+    }
+}
+
+// Runs a leaf of the tree.
+#[inline(always)]
+fn act<S: StoredSteps>(
+    tx: &Tx,
+    steps: &S,
+    given: &Given,
+    log: &mut Attempt,
+    tests: &mut Tests,
+) -> Result<Flow, Fault>
+    requires leaf { IsLeaf tx.now }
+    requires may { MayWalk (S.arities steps.now) (names_of given.now.shapes.now) tx.now log.old.effect }
+    ensures room { length log.new.effect.writes ≤ length log.old.effect.writes + count is_write tx.now }
+    ensures names { length log.new.effect.names ≤ length log.old.effect.names + count is_check tx.now }
+    ensures retired { length log.new.effect.retired ≤ length log.old.effect.retired + count is_retire tx.now }
+    ensures flow { (m : StepMeanings) (footprint : List ℕ → List ℕ) → S.is_stated steps.now m → AreOf given.now.shapes.now footprint → IfOk result (λ flow. flow_at (out_of flow log.new tests.new.probe) (run_state_of log.new (drop tests.new.used given.now.answers.now))
+        ≡ eval m footprint given.now.reads.now.entries tx.now (run_state_of log.old (drop tests.old.used given.now.answers.now))) }
+    ensures leaves { result ≡ Ok Flow.Leave → IsLeaving log.new.ending }
+    ensures fault { IfErr result (λ fault. fault ≡ Fault.Memory) }
+{
+    match tx {
+        Tx::Skip | Tx::Seq(_) | Tx::When { .. } | Tx::OrElse(..) => Ok(Flow::Normal),
+        Tx::Put { reg, number } => {
+            log.registers[*reg as usize] = *number;
+            Ok(Flow::Normal)
+        }
+        Tx::Read { var, reg } => read(given.reads, log, *var, *reg),
+        Tx::Write { var, reg } => {
+            log.effect.writes.put(*var, log.registers[*reg as usize]);
+            Ok(Flow::Normal)
+        }
+        Tx::Step { index, args, out } => Ok(call(steps, log, *index, args, *out)),
         Tx::Retry => Ok(Flow::Retry),
         Tx::Abort { code } => {
             log.ending = Ending::Abort(*code);

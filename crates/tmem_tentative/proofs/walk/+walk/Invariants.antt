@@ -14,13 +14,14 @@ invariant-walk-loop-t g l =
     let shapes = l.given.shapes.now in
     let reads = l.given.reads.now.entries in
     let answers = l.given.answers.now in
-    let rest = drop l.t-index l.t-items in
-    (count_items has_bad_register rest ≡ 0)
-    × (count_items (has_bad_step arities) rest ≡ 0)
-    × (count_items (has_bad_arguments arities) rest ≡ 0)
-    × (count_items (lacks_shape (names_of shapes)) rest ≡ 0)
-    × ((m : StepMeanings) (footprint : List ℕ → List ℕ) → g.S.StoredSteps.is_stated l.steps m → AreOf shapes footprint
-    → eval m footprint reads l.tx (run_state_of l.initial.log (drop l.initial.tests.used answers)) ≡ eval_in m footprint reads rest (run_state_of l.log (drop l.tests.used answers)))
-    × (length l.log.effect.writes + count_items is_write rest ≤ length l.initial.log.effect.writes + count is_write l.tx)
-    × (length l.log.effect.names + count_items is_check rest ≤ length l.initial.log.effect.names + count is_check l.tx)
-    × (length l.log.effect.retired + count_items is_retire rest ≤ length l.initial.log.effect.retired + count is_retire l.tx)
+    let rest = drop l.t-index l.t-items in record {
+      registers : count_items has_bad_register rest ≡ 0;
+      steps : count_items (has_bad_step arities) rest ≡ 0;
+      arguments : count_items (has_bad_arguments arities) rest ≡ 0;
+      known : count_items (lacks_shape (names_of shapes)) rest ≡ 0;
+      flow : (m : StepMeanings) (footprint : List ℕ → List ℕ) → g.S.StoredSteps.is_stated l.steps m → AreOf shapes footprint
+          → eval m footprint reads l.tx (run_state_of l.initial.log (drop l.initial.tests.used answers)) ≡ eval_in m footprint reads rest (run_state_of l.log (drop l.tests.used answers));
+      writes : length l.log.effect.writes + count_items is_write rest ≤ length l.initial.log.effect.writes + count is_write l.tx;
+      checks : length l.log.effect.names + count_items is_check rest ≤ length l.initial.log.effect.names + count is_check l.tx;
+      retires : length l.log.effect.retired + count_items is_retire rest ≤ length l.initial.log.effect.retired + count is_retire l.tx;
+    }
