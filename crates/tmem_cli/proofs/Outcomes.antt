@@ -18,7 +18,7 @@ use Rattle.tmem_script.specs.declared.failure.Failure.TheVariants.{Output}
 use Rattle.tmem_script.specs.declared.script.Entry.{Entry}
 use Rattle.tmem_script.specs.declared.script.ScriptError.{ScriptError}
 use Rattle.tmem_script.specs.declared.script.ScriptError.TheVariants.{Memory, Unreadable, NoScript}
-use Rattle.tmem_run.specs.declared.play.Played.{Played}
+use Rattle.tmem_run.specs.declared.playing.Played.{Played}
 use Rattle.tmem_args.specs.CommandLine.{IsHelpOrVersion, HasRequest}
 use Rattle.tmem_cli.specs.Outcomes.{MayBeRead, IsNoScript, IsWhyNotRead, FailsWith}
 use Rattle.tmem_run.specs.Printed.{PlaysFrom}

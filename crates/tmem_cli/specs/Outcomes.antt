@@ -20,7 +20,7 @@ use Rattle.tmem_file.specs.declared.disk.FileDisk.{FileDisk}
 use Rattle.tmem_threads.specs.declared.store.TheConstants.{VARS, SLOTS}
 use Rattle.tmem_threads.specs.declared.store.Totals.{Totals}
 use Rattle.tmem_threads.specs.declared.workers.Work.{Work}
-use Rattle.tmem_run.specs.declared.play.Played.{Played}
+use Rattle.tmem_run.specs.declared.playing.Played.{Played}
 use Rattle.tmem_args.specs.CommandLine.{AsksToPlay, AsksToCount, AsksToBench, AsksToShow, AsksToInit, AsksToServe, AsksToCheck, AsksForHelp, AreNumbersIn, path_in, disk_in}
 use Rattle.tmem_cli.specs.Checked.{HasFlaws, IsScriptThere}
 use Rattle.tmem_run.specs.Printed.{line}

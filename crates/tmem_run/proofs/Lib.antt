@@ -1,7 +1,7 @@
 pub mod Laws
 mod Listing
 mod Opening
-mod Playing
+mod Entries
 mod Showing
 mod Stored
 mod Stores

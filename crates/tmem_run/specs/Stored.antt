@@ -23,7 +23,7 @@ use Rattle.tmem_world.specs.Chain.{ChainHistory, IsStore, no_history}
 use Rattle.tmem_run.specs.Builtin.{builtin_program}
 use Rattle.tmem_run.specs.Chains.{PlaysStore, StaysStore, LeavesStore}
 use Rattle.tmem_run.specs.Printed.{PlaysFrom, PlaysScript, IsStop}
-use Rattle.tmem_run.specs.declared.play.Played.{Played}
+use Rattle.tmem_run.specs.declared.playing.Played.{Played}
 
 -- The content of the device represented a state before, and the script was played from there: from the position where it stood, or from
 -- behind the next image, if it was of version 1. A crash now leaves its serial order, cut at the durable number or at the doubtful one.

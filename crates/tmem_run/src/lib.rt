@@ -1,17 +1,17 @@
 //! Plays scripts of durable transactions, and prints a line for each event.
 //!
-//! `play` plays a script on a device, which `device` makes or opens, and `print` prints the lines. `notes` keeps what of a run is told
+//! `playing` plays a script on a device, which `device` makes or opens, and `print` prints the lines. `notes` keeps what of a run is told
 //! again where it fails. `chain` has a law of what a crash of a run leaves.
 #![tactic(auto)]
 
 mod chain;
 mod device;
 mod notes;
-mod play;
+mod playing;
 mod print;
 
 pub use chain::crash_leaves_run;
 pub use device::{device_in_memory, made_file};
 pub use notes::{Notes, Refused};
-pub use play::{Played, play, play_on};
+pub use playing::{Played, play, play_on};
 pub use print::print_line;

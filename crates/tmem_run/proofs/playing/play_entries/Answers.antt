@@ -7,10 +7,10 @@ use Rattle.tmem_run.specs.Chains.{PlaysEntriesOn, PlaysFirstOn}
 use Rattle.tmem_run.proofs.Laws.{err_of}
 use Rattle.tmem_run.specs.Printed.{PlaysEntries}
 use Rattle.tmem_script.specs.declared.script.Entry.{Entry}
-use Rattle.tmem_run.proofs.Playing.{PlaysEntries-nil, PlaysEntries-more}
+use Rattle.tmem_run.proofs.Entries.{PlaysEntries-nil, PlaysEntries-more}
 use Rattle.tmem_run.proofs.Stores.{go_on-nil, plays-then, then_within}
 use Rattle.tmem_run.proofs.Laws.{Appends-then, Appends-nil}
-use Rattle.tmem_run.proofs.play.play_entries.Goals as goal
+use Rattle.tmem_run.proofs.playing.play_entries.Goals as goal
 
 pub loop-entry-preserved : goal.loop-entry-preserved
 loop-entry-preserved g c =

@@ -3,7 +3,7 @@ use Rattle.std.specs.Io.KnownBytes.{Appends}
 use Rattle.tmem_world.specs.Represents.{KeepsSetting, WritesInStore, numbers_of, world_view}
 use Rattle.tmem_run.specs.Chains.{PlaysEntriesOn}
 use Rattle.tmem_run.specs.Printed.{PlaysEntries}
-use Rattle.tmem_run.proofs.play.play_entries.Given as goal
+use Rattle.tmem_run.proofs.playing.play_entries.Given as goal
 
 abbrev pub invariant-loop-entry : goal.invariant-loop-entry
 invariant-loop-entry g l = record {

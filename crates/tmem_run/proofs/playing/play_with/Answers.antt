@@ -7,7 +7,7 @@ use Rattle.tmem_file.specs.FileView.{file_view}
 use Rattle.tmem_file.specs.declared.disk.FileDisk.{FileDisk}
 use Rattle.tmem_run.specs.Stored.{IsFoundOrMade, PlaysOver, StopsOver, RefusesOver, PlaysWhere, StopsWhere}
 use Rattle.tmem_run.proofs.Stored.{PlaysScript-of, first_stops}
-use Rattle.tmem_run.proofs.play.play_with.Goals as goal
+use Rattle.tmem_run.proofs.playing.play_with.Goals as goal
 
 pub returns-in_ok-disk-in-None-clause-played : goal.returns-in_ok-disk-in-None-clause-played
 returns-in_ok-disk-in-None-clause-played g c =

@@ -10,9 +10,9 @@ use Rattle.tmem_world.specs.Represents.{setting_of, world_disk}
 use Rattle.tmem_run.specs.Chains.{PlaysEntriesOn}
 use Rattle.tmem_run.specs.Printed.{line, shown, PlaysEntries}
 use Rattle.tmem_world.proofs.Laws.{rests_on}
-use Rattle.tmem_run.proofs.Playing.{Prints-one}
+use Rattle.tmem_run.proofs.Entries.{Prints-one}
 use Rattle.tmem_run.proofs.Stores.{go_on-event, go_on-show}
-use Rattle.tmem_run.proofs.play.play_entry.Goals as goal
+use Rattle.tmem_run.proofs.playing.play_entry.Goals as goal
 
 pub returns-in-Event-clause-played : goal.returns-in-Event-clause-played
 returns-in-Event-clause-played g c =

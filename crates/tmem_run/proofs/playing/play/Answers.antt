@@ -1,7 +1,7 @@
 use Rattle.std.proofs.Common.{refl}
 use borrow.Pointer.Called.{made_asks, made_tells}
-use Rattle.tmem_run.proofs.play.play.OwnLists.{own-1, at-1-1, at-1-2, at-1-3}
-use Rattle.tmem_run.proofs.play.play.Goals as goal
+use Rattle.tmem_run.proofs.playing.play.OwnLists.{own-1, at-1-1, at-1-2, at-1-3}
+use Rattle.tmem_run.proofs.playing.play.Goals as goal
 
 pub table_of-requires-clause-nonneg_callable : goal.table_of-requires-clause-nonneg_callable
 table_of-requires-clause-nonneg_callable g c = λ values n. made_asks own-1 (own-1.entry at-1-1) at-1-1 refl c.into_dyn_box.ensures.1 (values, tt) n

@@ -15,10 +15,10 @@ use Rattle.tmem_run.specs.Printed.{line}
 use Rattle.tmem_run.specs.Stored.{PlaysOver, StopsOver, RefusesOver}
 use Rattle.tmem_opening.proofs.Laws.{refused_for_fewer}
 use Rattle.tmem_run.proofs.Laws.{ok_both, err_both}
-use Rattle.tmem_run.proofs.Playing.{PlaysOn-of, means_builtin, setting_builtin}
+use Rattle.tmem_run.proofs.Entries.{PlaysOn-of, means_builtin, setting_builtin}
 use Rattle.tmem_run.proofs.Stores.{go_on-nil, plays_store}
 use Rattle.tmem_run.proofs.Laws.{Appends-then}
-use Rattle.tmem_run.proofs.play.play_on.Goals as goal
+use Rattle.tmem_run.proofs.playing.play_on.Goals as goal
 
 pub returns-clause-played : goal.returns-clause-played
 returns-clause-played g c =
