@@ -1,4 +1,5 @@
 pub mod AnyDevicePoints
+pub mod CalledWorlds
 pub mod Chains
 pub mod DroppedPoints
 pub mod CheckpointedPoints

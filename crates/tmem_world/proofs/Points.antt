@@ -244,11 +244,23 @@ pub attempts_answered : {D T S : Type 0} {d t s : _} (w w' : World D T S d t s) 
 attempts_answered {D} {T} {d = d} {t = t} w w' e r layout steps same device step again failures which =
     still_answered w w' e r layout steps (ap (λ (h : Held D T d t). table_in h) (held_stays w w' same)) (device_stays w w' same) device step again failures which
 
--- Settle is refused without a session
+-- Without a session an event is refused that needs one, and changes nothing.
 pub settles_without : {D T S : Type 0} {d t s : _} (w w' : World D T S d t s) (slot : ℕ) → (IsWith (held_of w) → ⊥) → w'.layout ≡ w.layout → w'.steps ≡ w.steps → w'.held ≡ w.held → w'.attempts.items ≡ w.attempts.items → IsDevice (world_view w)
     → IsAnswered w (event.Settle slot) (reply.Fault fault.Closed) w'
 settles_without w w' slot none layout steps same attempts device =
     attempts_answered w w' (event.Settle slot) (reply.Fault fault.Closed) layout steps same device
+    (λ program means m r keeps. (m, closed_session program (held_of w) m _ none r.session, same_point w w' same program m r attempts layout)) tt (λ n. refl) tt
+
+pub flushes_without : {D T S : Type 0} {d t s : _} (w w' : World D T S d t s) → (IsWith (held_of w) → ⊥) → w'.layout ≡ w.layout → w'.steps ≡ w.steps → w'.held ≡ w.held → w'.attempts.items ≡ w.attempts.items → IsDevice (world_view w)
+    → IsAnswered w event.Flush (reply.Fault fault.Closed) w'
+flushes_without w w' none layout steps same attempts device =
+    attempts_answered w w' event.Flush (reply.Fault fault.Closed) layout steps same device
+    (λ program means m r keeps. (m, closed_session program (held_of w) m _ none r.session, same_point w w' same program m r attempts layout)) tt (λ n. refl) tt
+
+pub checkpoints_without : {D T S : Type 0} {d t s : _} (w w' : World D T S d t s) → (IsWith (held_of w) → ⊥) → w'.layout ≡ w.layout → w'.steps ≡ w.steps → w'.held ≡ w.held → w'.attempts.items ≡ w.attempts.items → IsDevice (world_view w)
+    → IsAnswered w event.Checkpoint (reply.Fault fault.Closed) w'
+checkpoints_without w w' none layout steps same attempts device =
+    attempts_answered w w' event.Checkpoint (reply.Fault fault.Closed) layout steps same device
     (λ program means m r keeps. (m, closed_session program (held_of w) m _ none r.session, same_point w w' same program m r attempts layout)) tt (λ n. refl) tt
 
 pub AllZip-at : {A B : Type 0} (R : A → B → Type 0) (xs : List A) (ys : List B) (k : ℕ) (d : A) (e : B) → AllZip R xs ys → k < length xs → R (get_or xs k d) (get_or ys k e)
