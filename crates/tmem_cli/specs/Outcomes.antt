@@ -1,5 +1,6 @@
 -- What became of a command line, as its status says.
-use Rattle.std.specs.Prelude.{◌≡◌, ◌⊎◌, ◌∷◌, ⊤, ℕ, List, length, Option, Some, None}
+use Rattle.std.specs.Prelude.{◌≡◌, ◌⊎◌, ◌∷◌, ⊤, ℕ, List, length, Option, Some, None, codes, ◌++◌}
+use Rattle.std.specs.Fmt.{decimal, signed_decimal}
 use Rattle.clap.specs.Walk.{Text}
 use Rattle.std.specs.Io.KnownBytes.{Appends}
 use Rattle.tmem_fault.specs.declared.fault.Fault.{Fault}
