@@ -77,8 +77,9 @@ def ask_tmem(it, where):
     words = (text[:8].strip(), text[8:33].strip(), text[33:40].strip(), text[42:51].strip())
     if words != words_of(it):
         raise WrongWork(f"tmem bench: {len(lines)} lines, and the last one is {text!r}, not of {words_of(it)}")
-    ratio = text[87:].strip()
-    figures = {"rate": float(text[51:66]), "flushers": words[3], "flushes": int(text[66:75]), "own_ratio": None if ratio == "-" else float(ratio)}
+    figures = {"rate": float(text[51:66]), "flushers": words[3], "flushes": int(text[66:75])}
+    if text[75:87].strip() != "-":
+        figures["baseline"] = float(text[75:87])
     if words[0] == "file":
         check_store(it, figures, *values_of(where.program, f"{store}.kept"))
     return figures

@@ -12,7 +12,7 @@ from jobs import FORMS, LABELS, NAMES, ORDER, SYNCS, name_of
 PARTS = {
     "durable": "Durable jobs: operations a second, and the ratio to two syncs (write 32 bytes, sync, write 1 byte, sync)",
     "memory": "In memory: operations a second",
-    "opening": "Openings: a second",
+    "opening": "Openings: a second, and the ratio to two reads of the same file, in turn with the openings",
     "variables": "As variables grow, in memory, 64 adds at once: transactions a second, by variables",
     "invariants": "As invariants over what changes grow, in memory, one transfer: transactions a second, by invariants",
     "slots": "As slots grow, in memory, 1024 variables, 64 adds at once: transactions a second, by slots",
@@ -25,7 +25,8 @@ def spread(values):
 
 
 def summarize(samples):
-    """A row for each job of each peer. The ratio of a sample is to the median of the two syncs of its own round."""
+    """A row for each job of each peer. The ratio of a sample is to the median of the two syncs of its own round; that of openings is to
+    the two reads that `tmem bench` times beside them, and the peers have none."""
     syncs, groups = defaultdict(list), defaultdict(list)
     for it in samples:
         if it["job"] == SYNCS:
@@ -38,6 +39,8 @@ def summarize(samples):
         row["rate"] = spread([it["rate"] for it in those])
         if part == "durable":
             row["ratio"] = spread([it["rate"] / statistics.median(syncs[it["round"]]) for it in those])
+        if part == "opening" and all("baseline" in it for it in those):
+            row["ratio"] = spread([it["rate"] / it["baseline"] for it in those])
         rows.append(row)
     order = {name: place for place, name in enumerate([SYNCS, *NAMES])}
     parts = list(PARTS)
@@ -74,7 +77,7 @@ def markdown(rows, part, key):
     """A table of medians, a column for each peer, whose least and most stand in brackets."""
     those = [row for row in rows if row["part"] == part and row["job"] != SYNCS]
     peers = [peer for peer in ORDER if any(row["peer"] == peer for row in those)]
-    cells = {(row["job"], row["callers"], row["peer"]): row[key] for row in those}
+    cells = {(row["job"], row["callers"], row["peer"]): row.get(key) for row in those}
     lines = [f"| Job | {' | '.join(LABELS[peer] for peer in peers)} |", f"|---|{'---|' * len(peers)}"]
     for job, callers in dict.fromkeys((row["job"], row["callers"]) for row in those):
         had = [cells.get((job, callers, peer)) for peer in peers]
