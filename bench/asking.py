@@ -6,7 +6,7 @@ import os
 import re
 import subprocess
 
-from jobs import ADD, COUNTS, MANY_VARS, OPEN, TRANSFER, command_of, name_of
+from jobs import ADD, LINES, MANY_VARS, OPEN, TRANSFER, command_of, name_of
 from servers import bound
 
 DEPOSIT = 10**12
@@ -31,17 +31,6 @@ def ask_driver(it, seconds, where):
     """Runs a driver, which prints how many operations it did in how many seconds."""
     operations, time = run(command_of(it, seconds, where)).split()
     return {"operations": int(operations), "seconds": float(time), "rate": int(operations) / float(time)}
-
-
-def words_of(it):
-    """What the line of a job begins with: the device, the job, the callers and the flushers."""
-    if it.line < 3:
-        return ("core", it.job, "1", "none")
-    if it.line == 43:
-        return ("file", "open 1024 variables", "1", "none")
-    job = ["add, each awaited", "add, each 64th awaited", "transfer, each awaited", "two reads"][(it.line - 3) // 5 % 4]
-    count = COUNTS[(it.line - 3) % 5]
-    return ("memory" if it.line < 23 else "file", job, *(("1", "none") if count == "alone" else (str(count), "one")))
 
 
 def values_of(program, store):
@@ -75,8 +64,9 @@ def ask_tmem(it, where):
     lines = run([where.program, "bench", "--disk", store], env).splitlines()
     text = lines[-1] if len(lines) == it.line + 1 else ""
     words = (text[:8].strip(), text[8:33].strip(), text[33:40].strip(), text[42:51].strip())
-    if words != words_of(it):
-        raise WrongWork(f"tmem bench: {len(lines)} lines, and the last one is {text!r}, not of {words_of(it)}")
+    wanted = LINES[it.line - 1]
+    if words != wanted:
+        raise WrongWork(f"tmem bench: {len(lines)} lines, and the last one is {text!r}, not of {wanted}")
     figures = {"rate": float(text[51:66]), "flushers": words[3], "flushes": int(text[66:75])}
     if text[75:87].strip() != "-":
         figures["baseline"] = float(text[75:87])

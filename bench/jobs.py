@@ -24,8 +24,8 @@ OTHER_NAMES = {
 }
 # what is measured under a name, where a peer has no such job
 FORMS = {
-    "tmem": "tmem bench: threads over the library, beside a flusher; one caller flushes itself. Its invariant is over both accounts. "
-    "In memory too an add waits at each 64th, and each transfer, until it is on a device in memory",
+    "tmem": "tmem bench: threads over the library, beside a flusher; one caller flushes itself. Its invariant is over both accounts, or "
+    "over all 16 variables. In memory each 64th waits until it is on a device in memory",
     "tmem core": "tmem bench: one thread on the core alone, which a program without threads uses",
     "tmem serve": "one client over pipes: a caller is a request on its way. Two invariants",
     "redis": "connections over a Unix socket. Each 64th: 64 commands sent at once. Transfer: a Lua script that tests first; no invariants",
@@ -72,26 +72,35 @@ class Slice:
     invariants: int = 0
 
 
-# the lines of `tmem bench`, from 1: two of the core, 20 jobs in memory, 20 in a file, and that of the openings
-ACTS, COUNTS = [ADD, MANY, TRANSFER, READS], ["alone", 1, 2, 4, 16]
+# the lines of `tmem bench` below its head: what each begins with, which is the device, the job, the callers and the flushers
+TMEM_NAMES = {ADD: "add, each awaited", MANY: "add, each 64th awaited", TRANSFER: "transfer, each awaited", READS: "two reads"}
+LOOSE_NAMES = {TRANSFER: "transfer, each 64th", WIDE: "wide transfer, each 64th"}
+ALONE = ("1", "none")
+CALLERS = [ALONE, *((str(count), "one") for count in [1, 2, 4, 16])]
+LINES = [
+    *(("core", name, *ALONE) for name in ["add", "transfer", "wide transfer"]),
+    *(("memory", name, *callers) for name in TMEM_NAMES.values() for callers in CALLERS),
+    *(("memory", name, *callers) for name in LOOSE_NAMES.values() for callers in [ALONE, ("4", "one")]),
+    *(("file", name, *callers) for name in TMEM_NAMES.values() for callers in CALLERS),
+    ("file", "open 1024 variables", *ALONE),
+]
 
 
-def line_of(device, job, count):
-    """Which line a job has; one caller that flushes itself is 'alone'."""
-    return {"memory": 3, "file": 23}[device] + 5 * ACTS.index(job) + COUNTS.index(count)
+def line_of(device, name, count):
+    """Which line it is, from 1; one caller flushes itself."""
+    return 1 + LINES.index((device, name, *(ALONE if count == 1 else (str(count), "one"))))
 
 
 def of_tmem():
-    """What is asked of `tmem bench`."""
-    durable = [(ADD, "alone"), (ADD, 4), (ADD, 16), (MANY, 4), (TRANSFER, "alone"), (TRANSFER, 4)]
-    memory = [(MANY, "alone"), (MANY, 4), (TRANSFER, "alone"), (TRANSFER, 4), (READS, "alone"), (READS, 16)]
-    for part, device, jobs in [("durable", "file", durable), ("memory", "memory", memory)]:
-        for job, count in jobs:
-            # nothing is awaited in memory: the adds of the peers there are compared with those of which each 64th is
-            yield Slice(part, ADD if part == "memory" and job == MANY else job, "tmem", 1 if count == "alone" else count, line=line_of(device, job, count))
-    yield Slice("memory", ADD, "tmem core", 1, line=1)
-    yield Slice("memory", TRANSFER, "tmem core", 1, line=2)
-    yield Slice("opening", OPEN, "tmem", 1, line=43)
+    """What is asked of `tmem bench`. What is awaited in memory is compared with what awaits nothing, so each 64th alone is."""
+    for job, callers in [(ADD, 1), (ADD, 4), (ADD, 16), (MANY, 4), (TRANSFER, 1), (TRANSFER, 4)]:
+        yield Slice("durable", job, "tmem", callers, line=line_of("file", TMEM_NAMES[job], callers))
+    for job, name in [(ADD, TMEM_NAMES[MANY]), *LOOSE_NAMES.items(), (READS, TMEM_NAMES[READS])]:
+        for callers in [1, 16 if job == READS else 4]:
+            yield Slice("memory", job, "tmem", callers, line=line_of("memory", name, callers))
+    for job, name in [(ADD, "add"), (TRANSFER, "transfer"), (WIDE, "wide transfer")]:
+        yield Slice("memory", job, "tmem core", 1, line=line_of("core", name, 1))
+    yield Slice("opening", OPEN, "tmem", 1, line=line_of("file", "open 1024 variables", 1))
 
 
 def of_peers():

@@ -1,4 +1,7 @@
 // What the callers of a store do.
+ghost use Rattle.tmem_bench.specs.Accounts.{variables_of};
+ghost use Rattle.std.specs.Prelude.{◌≡◌};
+
 use std::alloc::{AllocError, Global};
 use tmem_builtins::{add_to, all_of, put, read};
 use tmem_fault::{Fault, Name};
@@ -16,9 +19,14 @@ pub const SLOTS: u16 = 64;
 const COUNTER: u16 = 0;
 
 /// The account that pays, and the one that is paid. Neither may go below 0.
-pub const PAYER: u16 = 1;
+const PAYER: u16 = 1;
 
-pub const PAYEE: u16 = 2;
+const PAYEE: u16 = 2;
+
+// What that invariant is over: the accounts alone, or every variable of the store.
+const ACCOUNTS: [u16; 2] = [PAYER, PAYEE];
+
+const EACH: [u16; 16] = [0, 1, 2, 3, 4, 5, 6, 7, 8, 9, 10, 11, 12, 13, 14, 15];
 
 /// The name of that invariant.
 pub const SOLVENT: &str = "solvent";
@@ -35,6 +43,10 @@ pub enum Act {
     AddMany,
     /// Moves 1 between the accounts, and waits until that is durable.
     Transfer,
+    /// Moves 1 between the accounts, and waits at each 64th time.
+    TransferMany,
+    /// The same under an invariant over all variables.
+    WideMany,
     /// Reads the accounts.
     Look,
 }
@@ -46,6 +58,8 @@ impl Act {
             Act::Add => "add, each awaited",
             Act::AddMany => "add, each 64th awaited",
             Act::Transfer => "transfer, each awaited",
+            Act::TransferMany => "transfer, each 64th",
+            Act::WideMany => "wide transfer, each 64th",
             Act::Look => "two reads",
         }
     }
@@ -54,7 +68,17 @@ impl Act {
     pub fn stride(self) -> u64 {
         match self {
             Act::Add | Act::Transfer => 1,
-            Act::AddMany | Act::Look => 64,
+            Act::AddMany | Act::TransferMany | Act::WideMany | Act::Look => 64,
+        }
+    }
+
+    /// What the invariant is over.
+    pub fn footprint(self) -> &'static [u16]
+        ensures { result.now ≡ variables_of self }
+    {
+        match self {
+            Act::WideMany => &EACH,
+            Act::Add | Act::AddMany | Act::Transfer | Act::TransferMany | Act::Look => &ACCOUNTS,
         }
     }
 
@@ -62,7 +86,7 @@ impl Act {
     pub fn transaction(self, alloc: Global) -> Result<Tx, AllocError> {
         match self {
             Act::Add | Act::AddMany => add_to(alloc, COUNTER, 1),
-            Act::Transfer => transfer(alloc),
+            Act::Transfer | Act::TransferMany | Act::WideMany => transfer(alloc),
             Act::Look => two_reads(alloc),
         }
     }
@@ -115,12 +139,28 @@ const CALLERS: [Callers; 5] = [
 /// How many jobs there are.
 pub const JOBS: usize = 20;
 
+// Those in memory alone, to be compared with what awaits nothing.
+const LOOSE_ACTS: [Act; 2] = [Act::TransferMany, Act::WideMany];
+
+const LOOSE_CALLERS: [Callers; 2] = [Callers::Alone, Callers::Beside(4)];
+
+/// How many of those there are.
+pub const LOOSE_JOBS: usize = 4;
+
 impl Job {
     /// The jobs, in the order of the table.
     pub fn at(place: usize) -> Job {
         Job {
             act: ACTS[place / 5 % 4],
             callers: CALLERS[place % 5],
+        }
+    }
+
+    /// The jobs in memory alone.
+    pub fn loose_at(place: usize) -> Job {
+        Job {
+            act: LOOSE_ACTS[place / 2 % 2],
+            callers: LOOSE_CALLERS[place % 2],
         }
     }
 }

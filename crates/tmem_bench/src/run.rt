@@ -6,7 +6,7 @@ ghost use Rattle.tmem_bench.specs.Printed.{head, line, printed, PrintsTable};
 use crate::device::{Place, new_file, removed, two_syncs};
 use crate::error::BenchError;
 use crate::figures::{Figures, Line};
-use crate::jobs::{Act, Callers, JOBS, Job, SLOTS, VARS};
+use crate::jobs::{Act, Callers, JOBS, Job, LOOSE_JOBS, SLOTS, VARS};
 use crate::opening::open_again;
 use crate::store::{On, Task, with_bank};
 use std::alloc::AllocGlobal;
@@ -22,19 +22,20 @@ use tmem_journal::{Layout, format};
 const HEAD: &str =
     "device  job                      callers  flusher         a second  flushes    baseline   ratio";
 
-// How many lines there are below it: two of the core, each job in memory and in a file, and that of the openings.
-const LINES: usize = 2 * JOBS + 3;
+// How many lines there are below it: three of the core, each job in memory and in a file, those in memory alone, and that of the
+// openings.
+const LINES: usize = 2 * JOBS + LOOSE_JOBS + 4;
 
-/// Runs the jobs of a service: an add and a transfer on the core alone, all jobs on a device in memory, all of them in a file, which
-/// is made for each job and removed after it, also where the job fails, and openings of a file. Prints the head of a table, and a
-/// line as each job ends. Refused by `Device`, before anything is printed or touched, where something has the path or no
-/// file can be made there.
+/// Runs the jobs of a service: an add and transfers on the core alone, all jobs on a device in memory, and some there alone; all of
+/// them in a file, which is made for each job and removed after it, also where the job fails, and openings of a file. Prints the head
+/// of a table, and a line as each job ends. Refused by `Device`, before anything is printed or touched, where something has the path
+/// or no file can be made there.
 pub fn run_jobs<R: Clock + Files<File = File> + AllocGlobal + Threads + Wait + Sync, W: Write>(
     rt: &R,
     path: &str,
     out: &mut W,
 ) -> Result<(), BenchError>
-    ensures printed { OnOk result ((lines : List (List ℕ)) × (length lines ≡ 43)
+    ensures printed { OnOk result ((lines : List (List ℕ)) × (length lines ≡ 48)
         × Appends (W.contents out.old) (W.contents out.new) (printed (head ∷ lines))) }
 {
     two_syncs(rt, Place::File(path))?;
@@ -62,8 +63,10 @@ fn line_at<R: Clock + Files<File = File> + AllocGlobal + Threads + Wait + Sync>(
     match place {
         0 => line_of_core(rt, "add", Act::Add),
         1 => line_of_core(rt, "transfer", Act::Transfer),
-        2..22 => line_of_job(rt, Place::Memory, Job::at(place - 2)),
-        22..42 => line_of_job(rt, Place::File(path), Job::at(place - 22)),
+        2 => line_of_core(rt, "wide transfer", Act::WideMany),
+        3..23 => line_of_job(rt, Place::Memory, Job::at(place - 3)),
+        23..27 => line_of_job(rt, Place::Memory, Job::loose_at(place - 23)),
+        27..47 => line_of_job(rt, Place::File(path), Job::at(place - 27)),
         _ => line_of_openings(rt, path),
     }
 }

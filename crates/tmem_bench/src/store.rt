@@ -7,7 +7,7 @@ ghost use Rattle.tmem_bench.specs.Accounts.{bench_bank};
 
 use crate::error::BenchError;
 use crate::figures::Figures;
-use crate::jobs::{Act, Job, PAYEE, PAYER, SLOTS, SOLVENT};
+use crate::jobs::{Act, Job, SLOTS, SOLVENT};
 use crate::on_core::run_on_core;
 use crate::service::{Service, serve};
 use std::alloc::{AllocGlobal, Global};
@@ -43,6 +43,17 @@ pub enum On<D: Disk> {
     Store(D, Task),
 }
 
+impl<D: Disk> On<D> {
+    // What the invariant is over.
+    fn footprint(&self) -> &'static [u16] {
+        match self {
+            On::Core(act) => act.footprint(),
+            On::Store(_, Task::Serve(job)) => job.act.footprint(),
+            On::Store(_, Task::Fill | Task::Open) => Act::Add.footprint(),
+        }
+    }
+}
+
 /// Makes the invariants and the steps for so many variables, and does it.
 pub fn with_bank<D: Disk + Drop + Send, R: Clock + AllocGlobal + Threads + Wait + Sync>(
     rt: &R,
@@ -56,12 +67,14 @@ pub fn with_bank<D: Disk + Drop + Send, R: Clock + AllocGlobal + Threads + Wait 
             ensures { result ≡ has_no_negative accounts.now }
         { !has_negative(accounts) },
     )?;
-    let solvent = Invariant::new(Name::new(SOLVENT)?, vec![in alloc; PAYER, PAYEE]?, solvent)?;
+    let footprint = on.footprint();
+    let variables = Vec::from_slice(alloc, footprint)?;
+    let solvent = Invariant::new(Name::new(SOLVENT)?, variables, solvent)?;
     let table = Table::of(alloc, vec![in alloc; solvent]?, vars)?;
     let steps = stored_steps();
     match on {
         On::Core(act) => run_on_core(rt, alloc, vars, act, table, &steps),
-        On::Store(disk, task) => open(rt, alloc, vars, disk, task, table, steps),
+        On::Store(disk, task) => open(rt, vars, disk, task, footprint, table, steps),
     }
 }
 
@@ -76,23 +89,24 @@ fn open<
     D: Disk + Drop + Send,
     T: Invariants + Drop + Send,
     S: StoredSteps + Drop + Send + Sync,
-    R: Clock + Threads + Wait + Sync,
+    R: Clock + AllocGlobal + Threads + Wait + Sync,
 >(
     rt: &R,
-    alloc: Global,
     vars: u16,
     disk: D,
     task: Task,
+    footprint: &[u16],
     table: T,
     steps: S,
 ) -> Result<Figures, BenchError>
     requires vars { T.vars table ≡ vars }
-    requires names { T.names table ≡ bench_bank.names }
-    requires stated { T.is_stated table bench_bank.tests }
-    requires steps { S.is_stated steps bench_bank.steps }
+    requires names { T.names table ≡ (bench_bank footprint.now).names }
+    requires stated { T.is_stated table (bench_bank footprint.now).tests }
+    requires steps { S.is_stated steps (bench_bank footprint.now).steps }
 {
+    let alloc = rt.alloc();
     match OpenedFront::open(alloc, disk, vars, SLOTS, table, steps) {
-        Ok(opened) => with_front::<Brand, D, T, S, R>(rt, alloc, opened, task),
+        Ok(opened) => with_front::<Brand, D, T, S, R>(rt, alloc, opened, footprint, task),
         Err((fault, _disk)) => Err(BenchError::Refused(fault)),
     }
 }
@@ -103,13 +117,19 @@ fn with_front<
     T: Invariants + Drop + Send,
     S: StoredSteps + Drop + Send + Sync,
     R: Clock + Threads + Wait + Sync,
->(rt: &R, alloc: Global, opened: OpenedFront<D, T, S>, task: Task) -> Result<Figures, BenchError>
+>(
+    rt: &R,
+    alloc: Global,
+    opened: OpenedFront<D, T, S>,
+    footprint: &[u16],
+    task: Task,
+) -> Result<Figures, BenchError>
     requires spine { spine_of opened ≡ N.name }
     requires opening { front_found opened ≡ N.opening }
-    requires program { N.program ≡ bench_bank }
-    requires names { T.names (front_table opened) ≡ bench_bank.names }
-    requires stated { T.is_stated (front_table opened) bench_bank.tests }
-    requires steps { S.is_stated (front_steps opened) bench_bank.steps }
+    requires program { N.program ≡ bench_bank footprint.now }
+    requires names { T.names (front_table opened) ≡ N.program.names }
+    requires stated { T.is_stated (front_table opened) N.program.tests }
+    requires steps { S.is_stated (front_steps opened) N.program.steps }
 {
     let front = opened.named::<N>();
     use_front(rt, alloc, &front, task)

@@ -7,7 +7,7 @@ abbrev pub ghosts-with_front-N-Naming : goal.ghosts-with_front-N-Naming
 ghosts-with_front-N-Naming g a = record { name = spine_of a.opened }
 
 abbrev pub ghosts-with_front-N-ProgramNaming : goal.ghosts-with_front-N-ProgramNaming
-ghosts-with_front-N-ProgramNaming g a = record { program = bench_bank }
+ghosts-with_front-N-ProgramNaming g a = record { program = bench_bank a.footprint.now }
 
 abbrev pub ghosts-with_front-N-StoreNaming : goal.ghosts-with_front-N-StoreNaming
 ghosts-with_front-N-StoreNaming g a = record { opening = front_found a.opened }
