@@ -287,8 +287,24 @@ pub fn read_name_set<'a>(bytes: &'a [u8], names: &mut NameSet) -> Option<&'a [u8
     Some(rest)
 }
 
-// The names of a record, behind how many there are, and what follows them.
+// The names of a record, behind how many there are, and what follows them. Most records have none.
+#[inline(always)]
 fn names_of<'a>(bytes: &'a [u8], names: &mut Names) -> Option<&'a [u8]>
+    requires { names.old ≡ [] }
+    ensures are_checks { IfSome result (λ rest. AreChecks names.new) }
+    ensures found { IfSome result (λ rest. bytes.now ≡ names_bytes names.new ++ rest.now) }
+    ensures none { IfNone result ((ns : List (List ℕ)) (rest : List ℕ) → AreChecks ns → bytes.now ≡ names_bytes ns ++ rest → ⊥) }
+{
+    let (count, behind) = byte_of(bytes)?;
+    if count == 0 {
+        return Some(behind);
+    }
+    some_names_of(bytes, names)
+}
+
+// The same, where there are some. (In a frame of its own.)
+#[inline(never)]
+fn some_names_of<'a>(bytes: &'a [u8], names: &mut Names) -> Option<&'a [u8]>
     requires { names.old ≡ [] }
     ensures are_checks { IfSome result (λ rest. AreChecks names.new) }
     ensures found { IfSome result (λ rest. bytes.now ≡ names_bytes names.new ++ rest.now) }
