@@ -392,7 +392,7 @@ module _ (v : Version) (vars g f n : ℕ) (bytes b8 b16 behind : List ℕ) (fits
       ∙ ap (λ (k : ℕ). number_bytes 8 g ++ (number_bytes 8 f ++ (number_bytes 2 k ++ (flat_map (record_bytes v) es ++ rest)))) (sym counted)
       ∙ sym (batch_parts v g f es rest)
 
-  split_batch : (g' f' : ℕ) (es : List Effect) (s : List ℕ) → g' < 2 ^ 64 → f' < 2 ^ 64 → IsBatchIn v vars es → bytes ≡ batch_bytes v g' f' es ++ s → (n ≡ length es) × (behind ≡ flat_map (record_bytes v) es ++ s)
+  pub split_batch : (g' f' : ℕ) (es : List Effect) (s : List ℕ) → g' < 2 ^ 64 → f' < 2 ^ 64 → IsBatchIn v vars es → bytes ≡ batch_bytes v g' f' es ++ s → (n ≡ length es) × (behind ≡ flat_map (record_bytes v) es ++ s)
   split_batch g' f' es s fits_g' fits_f' is same =
       let parts = head_of g f n g' f' (length es) behind (flat_map (record_bytes v) es ++ s) fits_g fits_f fits_n fits_g' fits_f' (omega (arith, is.few)) (sym head_there ∙ same ∙ batch_parts v g' f' es s) in
       (parts.2, parts.3)

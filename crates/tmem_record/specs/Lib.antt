@@ -1,4 +1,5 @@
 pub mod Layout
+pub mod Onto
 pub mod Spelling
 pub mod Stale
 pub mod StandsAt

@@ -162,7 +162,7 @@ fn byte_of(bytes: &[u8]) -> Option<(u8, &[u8])>
 }
 
 // The number of 2 bytes at the front, and what follows it.
-fn short_of(bytes: &[u8]) -> (u16, &[u8])
+pub(crate) fn short_of(bytes: &[u8]) -> (u16, &[u8])
     requires { 2 ≤ length bytes.now }
     ensures parts { bytes.now ≡ number_bytes 2 result.0 ++ result.1.now }
     ensures rest { length result.1.now + 2 ≡ length bytes.now }
@@ -171,7 +171,7 @@ fn short_of(bytes: &[u8]) -> (u16, &[u8])
 }
 
 // The number of 8 bytes at the front, and what follows it.
-fn number_of(bytes: &[u8]) -> (u64, &[u8])
+pub(crate) fn number_of(bytes: &[u8]) -> (u64, &[u8])
     requires { 8 ≤ length bytes.now }
     ensures parts { bytes.now ≡ number_bytes 8 result.0 ++ result.1.now }
     ensures rest { length result.1.now + 8 ≡ length bytes.now }
@@ -208,6 +208,7 @@ fn write_of(bytes: &[u8], vars: u16) -> Option<((u16, i64), &[u8])>
 }
 
 // The writes of a record, behind how many there are, and what follows them.
+#[inline(always)]
 fn writes_of<'a>(bytes: &'a [u8], vars: u16, writes: &mut Writes) -> Option<&'a [u8]>
     requires { writes.old ≡ [] }
     ensures are_writes { IfSome result (λ rest. AreWrites writes.new) }
@@ -329,6 +330,7 @@ fn some_names_of<'a>(bytes: &'a [u8], names: &mut Names) -> Option<&'a [u8]>
 }
 
 // The retired names of a record of a version, and what follows them.
+#[inline(always)]
 fn retired_of<'a>(bytes: &'a [u8], version: Version, names: &mut Names) -> Option<&'a [u8]>
     requires { names.old ≡ [] }
     ensures are_checks { IfSome result (λ rest. AreChecks names.new) }
@@ -349,8 +351,10 @@ fn are_apart(names: &[Name], others: &[Name]) -> bool
     names.iter().all(|name| !holds(others, name))
 }
 
-// The record of a version at the front, and what follows it.
-fn record_of<'a>(
+// The record of a version at the front, and what follows it. (As a part of its two callers: an answer that came by way of memory
+// would be waited for at each record.)
+#[inline(always)]
+pub(crate) fn record_of<'a>(
     bytes: &'a [u8],
     vars: u16,
     version: Version,

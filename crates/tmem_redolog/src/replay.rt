@@ -1,18 +1,16 @@
 // The batch of one slot, and what it makes of a state.
-ghost use Rattle.std.specs.Prelude.{◌≡◌, ◌↔◌, ◌<◌, ◌^◌, ℕ, List, length, All, IsTrue, OnOk, OnErr, IfErr};
-ghost use Rattle.std.specs.Bool.{OnTrue};
+ghost use Rattle.std.specs.Prelude.{◌≡◌, ◌↔◌, ◌<◌, ◌^◌, ℕ, List, length, IsTrue, OnOk, OnErr, IfErr};
 ghost use Rattle.tmem_gate.specs.Gate.{IsOpenAt, HasBody, IsOpenOver};
 ghost use Rattle.tmem_record.specs.Spelling.{number_bytes};
-ghost use Rattle.tmem_effect.specs.State.{apply, fold};
 ghost use Rattle.tmem_effect.specs.declared.effect.Effect.{Effect as EffectOf};
-ghost use Rattle.tmem_redolog.specs.Log.{IsStale, IsWithin, StaysWithin};
+ghost use Rattle.tmem_redolog.specs.Log.{IsStale, IsWithin};
 ghost use Rattle.tmem_redolog.specs.Scans.{Replays, MayReplay};
 
 use tmem_effect::Effect;
 use tmem_fault::Fault;
 use tmem_gate::GATE_OPEN;
-use tmem_record::{HEAD_BYTES, read_batch, read_head};
-use tmem_state::{Records, State, Version};
+use tmem_record::{HEAD_BYTES, commit_batch, read_head};
+use tmem_state::{State, Version};
 
 // Whether the gate of a slot is open.
 fn is_open(slot: &[u8]) -> bool
@@ -50,15 +48,15 @@ pub(crate) fn is_stale(slot: &[u8], generation: u64) -> bool
 }
 
 /// Replays the batch that an open slot begins with, in the grammar of this version: it has this generation, and its first
-/// number is the count of the state. Its records are read into those that are lent, which may hold anything before and after.
-/// `Damaged` where there is no batch, or where one of its effects takes the state past the limits, whatever a later one
+/// number is the count of the state. Each record is read in turn into the effect that is lent, which may be anything before and
+/// after. `Damaged` where there is no batch, or where one of its effects takes the state past the limits, whatever a later one
 /// does: the one refusal. After it the state is of no use.
 pub(crate) fn replay_slot(
     slot: &[u8],
     vars: u16,
     generation: u64,
     version: Version,
-    records: &mut Records,
+    effect: &mut Effect,
     state: &mut State,
 ) -> Result<(), Fault>
     requires long { length slot.now ≡ 4096 }
@@ -69,43 +67,12 @@ pub(crate) fn replay_slot(
     ensures replayed { OnOk result (Replays version vars generation state.old slot.now state.new) }
     ensures refused { OnErr result ((es : List EffectOf) → MayReplay version vars generation state.old slot.now es → ⊥) }
 {
-    let Some(head) = read_batch(&slot[1..], vars, version, records) else {
+    let count = state.count();
+    let Some(head) = commit_batch(&slot[1..], vars, version, effect, state) else {
         return Err(Fault::Damaged);
     };
-    if head.generation != generation || head.first != state.count() {
-        return Err(Fault::Damaged);
-    }
-    if !commit_all(state, records.effects()) {
+    if head.generation != generation || head.first != count {
         return Err(Fault::Damaged);
     }
     Ok(())
-}
-
-// Commits effects one after another, as long as the state stays within the limits, and answers whether it took all. The
-// limits hold after each effect: a name too many is not mended by a later effect that retires one.
-fn commit_all(state: &mut State, effects: &[Effect]) -> bool
-    requires variables { All (λ e. All (λ w. w.0 < length state.old.values) e.writes) effects.now }
-    requires within { IsWithin state.old }
-    ensures committed { IsTrue result ↔ StaysWithin state.old effects.now }
-    ensures state { OnTrue result (state.new ≡ fold state.old effects.now) }
-{
-    for effect in effects {
-        if !commit_one(state, effect) {
-            return false;
-        }
-    }
-    true
-}
-
-// Commits an effect where the state stays within the limits then, and answers whether it did.
-fn commit_one(state: &mut State, effect: &Effect) -> bool
-    requires { All (λ w. w.0 < length state.old.values) effect.now.writes }
-    ensures committed { IsTrue result ↔ IsWithin (apply state.old effect.now) }
-    ensures state { OnTrue result (state.new ≡ apply state.old effect.now) }
-{
-    if state.count() == u64::MAX || !state.has_room_for(effect) {
-        return false;
-    }
-    state.commit(effect);
-    true
 }

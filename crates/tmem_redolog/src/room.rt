@@ -4,23 +4,19 @@ ghost use Rattle.tmem_redolog.specs.Room.{IsLogRoom};
 
 use std::alloc::{AllocError, Global};
 use tmem_record::{Layout, SLOT_BYTES};
-use tmem_state::Records;
 
 /// Memory for a log that is read, all of it: so reading takes none.
 #[derive(Drop)]
 pub struct LogRoom {
     pub(crate) bytes: Vec<u8>,
-    pub(crate) records: Records,
 }
 
 impl LogRoom {
-    /// Room for the log of this layout: for the bytes of all its slots, and for the records of one batch, into which each slot
-    /// is read in turn.
+    /// Room for the log of this layout: for the bytes of all its slots. Its records are not kept.
     pub fn new(alloc: Global, layout: Layout) -> Result<LogRoom, AllocError>
         ensures { IfOk result (IsLogRoom layout.slots) }
     {
         let bytes = vec![in alloc; 0; SLOT_BYTES * layout.slots as usize]?;
-        let records = Records::new(alloc)?;
-        Ok(LogRoom { bytes, records })
+        Ok(LogRoom { bytes })
     }
 }

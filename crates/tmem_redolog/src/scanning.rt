@@ -13,10 +13,11 @@ use crate::log::Log;
 use crate::replay::{carries, is_stale, replay_slot};
 use crate::room::LogRoom;
 use tmem_disk::Disk;
+use tmem_effect::Effect;
 use tmem_fault::Fault;
 use tmem_gate::device::read_piece;
 use tmem_record::{Layout, SLOT_BYTES};
-use tmem_state::{Records, State, Version};
+use tmem_state::{State, Version};
 
 /// Reads the log over an image of this generation and version, and brings the image's state to the state after it. The log is
 /// read in one piece, into the room that is given, and in the grammar of the image's version. `Damaged` where the device
@@ -43,10 +44,10 @@ pub fn scan<D: Disk>(
     ensures refused { IfErr result (IsWhyNone ((D.view disk.new).keeps_model → (batches : List (List EffectOf)) →
         HoldsLog version layout.vars layout.slots generation state.old batches (D.view disk.old).seen → ⊥)) }
 {
-    let LogRoom { bytes, mut records } = room;
+    let LogRoom { bytes } = room;
     let log = read_piece(disk, layout.slot(0), bytes)?;
     let bytes: &[u8] = &log;
-    let used = replay(bytes, layout, generation, version, &mut records, state)?;
+    let used = replay(bytes, layout, generation, version, state)?;
     if !are_stale(bytes, used, layout.slots, generation) {
         return Err(Fault::Damaged);
     }
@@ -64,14 +65,12 @@ fn slot_of(log: &[u8], k: u16) -> &[u8]
 }
 
 // Replays the slots from the first one on, as long as they are open and of this generation, and answers how many there
-// are. `Damaged` where one of them cannot be replayed: the one refusal. Each is read in turn into the records that are lent,
-// which may hold anything before and after.
+// are. `Damaged` where one of them cannot be replayed: the one refusal.
 fn replay(
     log: &[u8],
     layout: Layout,
     generation: u64,
     version: Version,
-    records: &mut Records,
     state: &mut State,
 ) -> Result<u16, Fault>
     requires long { length log.now ≡ 4096 * layout.slots }
@@ -87,12 +86,13 @@ fn replay(
         HoldsFrom version layout.vars layout.slots generation 0 state.old batches c → ⊥) }
 {
     recall_limits(state);
+    let mut effect = Effect::new();
     for k in 0..layout.slots {
         let slot = slot_of(log, k);
         if !carries(slot, generation) {
             return Ok(k);
         }
-        replay_slot(slot, layout.vars, generation, version, records, state)?;
+        replay_slot(slot, layout.vars, generation, version, &mut effect, state)?;
     }
     Ok(layout.slots)
 }
