@@ -1,9 +1,11 @@
 // The calls that wait for other threads.
-ghost use Rattle.std.specs.Prelude.{◌≡◌, ◌≢◌, ◌⊎◌, ◌<◌, ◌≤◌, true, false, [], Ok, Err, IfOk, IfErr, OnOk, length, IsTrue};
+ghost use Rattle.std.specs.Prelude.{ℕ, ℤ, List, ◌≡◌, ◌≢◌, ◌⊎◌, ◌<◌, ◌≤◌, true, false, [], Ok, Err, IfOk, IfErr, OnOk, length, IsTrue};
 ghost use Rattle.tmem_effect.specs.declared.effect.Effect.{Effect as EffectOf};
+ghost use Rattle.tmem_core.specs.Decisions.{answer_of};
 ghost use Rattle.tmem_core.specs.SettleAnswer.{committed_by, is_stale};
 ghost use Rattle.tmem_effect.specs.Prefix.{IsPrefix};
 ghost use Rattle.tmem_tree.specs.Plans.{IsShortTx, FitsSteps, FitsVariables, FitsNames, FitsShapes};
+ghost use Rattle.tmem_tentative.specs.Cursors.{HasEnded, attempt_of};
 ghost use Rattle.tmem_tentative.specs.Fits.{IsForVariables, IsForNames};
 ghost use Rattle.tmem_spine.specs.History.{count};
 ghost use Rattle.std.specs.Sync.Mutex.{mutex_guard_value};
@@ -22,7 +24,7 @@ use tmem_core::{Decision, Settled};
 use tmem_disk::Disk;
 use tmem_fault::Fault;
 use tmem_invariants::Invariants;
-use tmem_seats::{CoreSeat, StoreNaming, with_registers};
+use tmem_seats::{CoreSeat, StoreNaming};
 use tmem_spine::Pass as SpinePass;
 use tmem_tentative::{Attempt, Cursor};
 use tmem_tree::{Plan, StoredSteps};
@@ -118,7 +120,7 @@ impl<D: Disk + Drop, N: StoreNaming, T: Invariants + Drop, S: StoredSteps + Drop
             };
             let answer = self.take_turn(rt, patience, &mut pass.seat, &mut pass.cursor, plan, how);
             if is_last(&answer, waits_for_room) || is_waited_for(&answer) && is_late {
-                return answer;
+                return whole(answer, &pass.cursor);
             }
             left = conflicts_left(left, &answer);
         }
@@ -135,12 +137,13 @@ impl<D: Disk + Drop, N: StoreNaming, T: Invariants + Drop, S: StoredSteps + Drop
         cursor: &mut Cursor,
         plan: &Plan,
         how: Turn,
-    ) -> Result<Settled, Fault>
+    ) -> Result<Decision, Fault>
         requires steps { FitsSteps (S.arities self.now.steps) plan.now.tree }
         requires variables { FitsVariables self.now.vars plan.now }
         requires names { FitsNames N.program.names plan.now.tree }
         requires shapes { FitsShapes N.program.tests plan.now }
-        ensures settled { SettlesPlan N.name.start N.opening N.program plan.now.tree seat.old result seat.new }
+        ensures settled { SettlesPlan N.name.start N.opening N.program plan.now.tree seat.old (answer_of result (attempt_of cursor.new).registers) seat.new }
+        ensures ended { IfOk result (λ _. HasEnded cursor.new) }
         ensures short { IsShortTx plan.now.tree → result ≢ Err Fault.Conflict }
     {
         if how.is_alone || plan.is_short() {
@@ -162,10 +165,10 @@ impl<D: Disk + Drop, N: StoreNaming, T: Invariants + Drop, S: StoredSteps + Drop
         seat: &mut SpinePass<N>,
         attempt: &Attempt,
         how: Turn,
-    ) -> Result<Settled, Fault>
+    ) -> Result<Decision, Fault>
         requires variables { IsForVariables (length N.opening.values) attempt.now }
         requires names { IsForNames N.program.names attempt.now }
-        ensures settled { SettlesPass N.name.start N.opening N.program attempt.now seat.old result seat.new }
+        ensures settled { SettlesPass N.name.start N.opening N.program attempt.now seat.old (answer_of result attempt.now.registers) seat.new }
         ensures present { is_stale (state_after_history N.opening (mutex_guard_value core.entry).committed) attempt.now.reads.entries ≡ false → result ≢ Err Fault.Conflict }
     {
         let decision = core.decide(&self.spine, seat, attempt);
@@ -178,7 +181,7 @@ impl<D: Disk + Drop, N: StoreNaming, T: Invariants + Drop, S: StoredSteps + Drop
             }
             _ => self.unlock_and_wake(core, &decision, attempt),
         }
-        with_registers(decision, attempt)
+        decision
     }
 
     // Evaluates a plan and settles the attempt under one hold of the core's lock, so that no other thread comes in between.
@@ -190,12 +193,13 @@ impl<D: Disk + Drop, N: StoreNaming, T: Invariants + Drop, S: StoredSteps + Drop
         cursor: &mut Cursor,
         plan: &Plan,
         how: Turn,
-    ) -> Result<Settled, Fault>
+    ) -> Result<Decision, Fault>
         requires steps { FitsSteps (S.arities self.now.steps) plan.now.tree }
         requires variables { FitsVariables self.now.vars plan.now }
         requires names { FitsNames N.program.names plan.now.tree }
         requires shapes { FitsShapes N.program.tests plan.now }
-        ensures settled { SettlesPlan N.name.start N.opening N.program plan.now.tree seat.old result seat.new }
+        ensures settled { SettlesPlan N.name.start N.opening N.program plan.now.tree seat.old (answer_of result (attempt_of cursor.new).registers) seat.new }
+        ensures ended { IfOk result (λ _. HasEnded cursor.new) }
         ensures no_conflict { result ≢ Err Fault.Conflict }
     {
         let core = self.core.lock(rt);
@@ -350,8 +354,17 @@ fn is_to_flush<N: StoreNaming, T: Invariants + Drop>(core: MutexGuard<CoreSeat<N
     core.has_waiting()
 }
 
+// The whole answer to the attempt that a cursor has ended with. Only here the registers are copied.
+fn whole(decision: Result<Decision, Fault>, cursor: &Cursor) -> Result<Settled, Fault>
+    requires { IfOk decision (λ _. HasEnded cursor.now) }
+    ensures { result ≡ answer_of decision (attempt_of cursor.now).registers }
+{
+    let decision = decision?;
+    Ok(decision.settled(&cursor.attempt().registers))
+}
+
 // How many conflicts are left to meet after this answer. After a wait they are counted anew.
-fn conflicts_left(left: u32, answer: &Result<Settled, Fault>) -> u32 {
+fn conflicts_left(left: u32, answer: &Result<Decision, Fault>) -> u32 {
     match answer {
         Err(Fault::Conflict) => left.saturating_sub(1),
         _ => MOST_CONFLICTS,
@@ -359,22 +372,22 @@ fn conflicts_left(left: u32, answer: &Result<Settled, Fault>) -> u32 {
 }
 
 // Whether a plan waits after this answer until it is attempted again.
-fn is_waited_for(answer: &Result<Settled, Fault>) -> bool
-    ensures { IsTrue result → answer.now ≢ Err Fault.Conflict }
+fn is_waited_for(answer: &Result<Decision, Fault>) -> bool
+    ensures { (registers : List ℤ) → IsTrue result → answer_of answer.now registers ≢ Err Fault.Conflict }
 {
-    matches!(answer, Ok(Settled::Retry) | Err(Fault::Full))
+    matches!(answer, Ok(Decision::Retry(_)) | Err(Fault::Full))
 }
 
 // Whether a plan is not attempted again after this answer. It is after a retry and a conflict, and where it waits for room; nothing was
 // committed then.
-fn is_last(answer: &Result<Settled, Fault>, waits_for_room: bool) -> bool
-    ensures last { IsTrue result → (answer.now ≢ Err Fault.Conflict) × (answer.now ≢ Ok Settled.Retry) }
-    ensures no_full { IsTrue result → waits_for_room ≡ true → answer.now ≢ Err Fault.Full }
-    ensures only { result ≡ false → (answer.now ≡ Ok Settled.Retry) ⊎ (answer.now ≡ Err Fault.Conflict) ⊎ ((answer.now ≡ Err Fault.Full) × (waits_for_room ≡ true)) }
-    ensures again { (effect : EffectOf) → result ≡ false → committed_by answer.now effect ≡ [] }
+fn is_last(answer: &Result<Decision, Fault>, waits_for_room: bool) -> bool
+    ensures last { (registers : List ℤ) → IsTrue result → (answer_of answer.now registers ≢ Err Fault.Conflict) × (answer_of answer.now registers ≢ Ok Settled.Retry) }
+    ensures no_full { (registers : List ℤ) → IsTrue result → waits_for_room ≡ true → answer_of answer.now registers ≢ Err Fault.Full }
+    ensures only { result ≡ false → ((at : ℕ) × (answer.now ≡ Ok (Decision.Retry at))) ⊎ (answer.now ≡ Err Fault.Conflict) ⊎ ((answer.now ≡ Err Fault.Full) × (waits_for_room ≡ true)) }
+    ensures again { (registers : List ℤ) (effect : EffectOf) → result ≡ false → committed_by (answer_of answer.now registers) effect ≡ [] }
 {
     match answer {
-        Ok(Settled::Retry) => false,
+        Ok(Decision::Retry(_)) => false,
         Ok(_) => true,
         Err(Fault::Conflict) => false,
         Err(Fault::Full) => !waits_for_room,

@@ -1,6 +1,8 @@
-use Rattle.std.proofs.Common.{sym, subst}
+use Rattle.std.proofs.Common.{Result, sym, subst}
+use Rattle.tmem_fault.specs.declared.fault.Fault.{Fault}
+use Rattle.tmem_tree.specs.declared.settled.Settled.{Settled}
 use Rattle.tmem_spine.specs.Views.{PassRoleView}
-use Rattle.tmem_front.specs.Settling.{KnowsMore}
+use Rattle.tmem_front.specs.Settling.{KnowsMore, SettlesAtLast}
 use Rattle.tmem_front.proofs.Again.{knows_still, knows_more_at_last, settles_at_last}
 use Rattle.tmem_front.proofs.front.Front.run.Goals as goal
 
@@ -10,8 +12,9 @@ loop-init g c = subst (λ (v : PassRoleView). KnowsMore c.args.pass.now v) (sym 
 pub loop-preserved : goal.loop-preserved
 loop-preserved g c =
     let turn = settles_at_last g.N.Naming.name.start g.N.StoreNaming.opening g.N.ProgramNaming.program c.args.plan.now.tree c.args.pass.now _ _ _ c.loop.invariant c.take_turn-answer.ensures.settled in
-    knows_more_at_last g.N.Naming.name.start g.N.StoreNaming.opening g.N.ProgramNaming.program c.args.plan.now.tree c.args.pass.now _ _ (λ effect. c.is_last.ensures.again effect c.if-is_last.false) turn
+    knows_more_at_last g.N.Naming.name.start g.N.StoreNaming.opening g.N.ProgramNaming.program c.args.plan.now.tree c.args.pass.now _ _ (λ effect. c.is_last.ensures.again _ effect c.if-is_last.false) turn
 
 pub returns-then-is_last-clause-settled : goal.returns-then-is_last-clause-settled
 returns-then-is_last-clause-settled g c =
-    settles_at_last g.N.Naming.name.start g.N.StoreNaming.opening g.N.ProgramNaming.program c.args.plan.now.tree c.args.pass.now _ _ _ c.loop.invariant c.take_turn-answer.ensures.settled
+    let turn = settles_at_last g.N.Naming.name.start g.N.StoreNaming.opening g.N.ProgramNaming.program c.args.plan.now.tree c.args.pass.now _ _ _ c.loop.invariant c.take_turn-answer.ensures.settled in
+    subst (λ (answer : Result Settled Fault). SettlesAtLast g.N.Naming.name.start g.N.StoreNaming.opening g.N.ProgramNaming.program c.args.plan.now.tree c.args.pass.now answer c.take_turn-answer.new.seat) (sym c.whole.ensures) turn

@@ -1,7 +1,10 @@
 use Rattle.std.proofs.Common.{inr, sym, subst}
 use Rattle.std.proofs.Math.Logic.{∥∥₁_map}
+use Rattle.tmem_tentative.specs.declared.attempt.Attempt.{Attempt}
 use Rattle.tmem_tentative.specs.Right.{IsRight}
+use Rattle.tmem_core.specs.Decisions.{answer_of}
 use Rattle.tmem_tree.specs.Plans.{FitsVariables}
+use Rattle.tmem_front.specs.Settling.{SettlesPass}
 use Rattle.tmem_front.proofs.front.Front.run_or_wait.Goals as goal
 
 pub evaluate-requires-clause-variables : goal.evaluate-requires-clause-variables
@@ -13,5 +16,5 @@ returns-clause-settled g c =
     inr (∥∥₁_map c.args.self.now.stated (λ s. (
       c.attempt.result.now,
       subst (λ a. IsRight p.steps p.tests c.args.plan.now.tree a) (sym c.attempt.ensures.attempt) (c.in_ok-evaluate.ensures.right p.steps s),
-      c.settle_or_wait.ensures.settled,
+      subst (λ (a : Attempt). SettlesPass g.N.Naming.name.start g.N.StoreNaming.opening p c.attempt.result.now c.args.seat.now (answer_of c.settle_or_wait.result a.registers) c.settle_or_wait.new.seat) c.attempt.ensures.attempt c.settle_or_wait.ensures.settled,
     )))
