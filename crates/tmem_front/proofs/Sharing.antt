@@ -23,6 +23,7 @@ use Rattle.tmem_seats.specs.contracts.core_seat.CoreSeat.{the_row as core_row}
 use Rattle.tmem_seats.specs.contracts.journal_seat.JournalSeat.{the_row as journal_row}
 use Rattle.tmem_spine.specs.contracts.seats.Pass.{the_row as seat_row}
 use Rattle.tmem_tentative.specs.contracts.cursor.Cursor.{the_row as cursor_row}
+use Rattle.tmem_front.specs.contracts.brief_lock.BriefLock.{the_field as lock_field, the_type as lock_type}
 use Rattle.tmem_front.specs.contracts.pass.Pass.{the_row as pass_row}
 use Rattle.tmem_front.specs.contracts.pool.Pool.{the_row as pool_row}
 use Rattle.std.specs.contracts.sync.Condvar.{the_row as condvar_row}
@@ -59,6 +60,9 @@ module _ (N : RattleType) (n : NameGhosts N.Denot) where
   spine_sync : IsSync (spine_field N n).row
   spine_sync = struct_sync (shape (spine_type N n)) (search (sendable, crosses, table.the_field_sync, heap.the_send, heap.the_sync) depth 20, (search sendable, (search sendable, tt)))
 
+brief_lock_sync : (R : RattleType) → IsSend R → IsSync (lock_field R).row
+brief_lock_sync R a = struct_sync (shape (lock_type R)) (search (crosses, a), tt)
+
 module _ (D N T S : RattleType) (d : DiskGhosts D.Denot) (s : StoreGhosts N.Denot) (n : NameGhosts N.Denot) (p : ProgramGhosts N.Denot) (i : TestGhosts T.Denot) (st : StepGhosts S.Denot) where
   core_send : IsSend N → IsSend T → IsSend (core_row N T i s n p)
   core_send a b = search (sendable, crosses, core_side_send, waiting_send, state_send) depth 40 fits 4000
@@ -78,4 +82,4 @@ module _ (D N T S : RattleType) (d : DiskGhosts D.Denot) (s : StoreGhosts N.Deno
       let journal = journal_send a b in
       let pool = pool_send b in
       let whole = the_type D N T S d s n p i st in
-      recorded_sync _ whole.D whole.to whole.to_one (struct_sync (shape whole) (search (sendable, crosses) depth 20, (search (sendable, crosses), (f', (search (sendable, crosses, shape_sync) depth 20, (spine_sync N n, (search (crosses, core), (search (sendable, crosses, condvar_sync) depth 20, (search (crosses, journal), (search (crosses, pool), (search (sendable, crosses) depth 20, tt)))))))))))
+      recorded_sync _ whole.D whole.to whole.to_one (struct_sync (shape whole) (search (sendable, crosses) depth 20, (search (sendable, crosses), (f', (search (sendable, crosses, shape_sync) depth 20, (spine_sync N n, (brief_lock_sync (core_row N T i s n p) core, (search (sendable, crosses, condvar_sync) depth 20, (search (crosses, journal), (search (crosses, pool), (search (sendable, crosses) depth 20, tt)))))))))))

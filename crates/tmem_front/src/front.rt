@@ -18,6 +18,7 @@ ghost use Rattle.tmem_core.specs.SettleAnswer.{is_stale};
 ghost use Rattle.tmem_seats.specs.Histories.{state_after_history, IsLeftOpen, IsPossibleValue};
 ghost use Rattle.tmem_front.specs.Settling.{SettlesPass, SettlesPlan};
 
+use crate::brief_lock::BriefLock;
 use crate::conditions::Conditions;
 use crate::pass::Pass;
 use crate::pool::Pool;
@@ -41,7 +42,7 @@ pub struct Front<D: Disk, N: StoreNaming, T: Invariants, S: StoredSteps> {
     // what a plan has to know of the invariants, in the table's order
     pub(crate) shapes: Vec<Shape>,
     pub(crate) spine: Spine<N>,
-    pub(crate) core: Mutex<CoreSeat<N, T>>,
+    pub(crate) core: BriefLock<CoreSeat<N, T>>,
     // what is waited for under the core's lock; all are told where the front is shut
     pub(crate) conditions: Conditions,
     pub(crate) journal: Mutex<JournalSeat<D, N>>,

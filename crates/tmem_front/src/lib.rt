@@ -8,6 +8,7 @@
 //! call that may wait they speak of where it returns.
 #![tactic(auto)]
 
+mod brief_lock;
 mod closing;
 mod conditions;
 mod durably;

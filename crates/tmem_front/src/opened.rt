@@ -6,6 +6,7 @@ ghost use Rattle.tmem_journal.specs.Calls.{FitsOn};
 ghost use Rattle.tmem_opening.specs.Held.{found_of as opened_at};
 ghost use Rattle.tmem_opening.specs.Opening.{IsOpened, OpeningRefused, RecoversEither, without_device};
 
+use crate::brief_lock::BriefLock;
 use crate::conditions::Conditions;
 use crate::front::Front;
 use crate::pool::Pool;
@@ -125,7 +126,7 @@ impl<D: Disk + Drop, T: Invariants + Drop, S: StoredSteps + Drop> OpenedFront<D,
             steps,
             shapes,
             spine,
-            core: Mutex::new(CoreSeat::new(core, core_side)),
+            core: BriefLock::new(CoreSeat::new(core, core_side)),
             conditions,
             journal: Mutex::new(JournalSeat::new(journal, journal_side, batch)),
             pool: Mutex::new(Pool {
