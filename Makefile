@@ -47,12 +47,13 @@ ROUNDS = 5
 bench-peers: build
 	@bench/compare crates/tmem/out/tmem --rounds $(ROUNDS)
 
-# Breaks a store on three replicas in ten rounds, made of SEED, with a program that is not proved, and looks that nothing is lost: some five
-# minutes, as root. replicas/rounds names what it needs. No part of make test.
+# Breaks a store on three replicas in a round of each kind, made of SEED, with a program that is not proved, and looks that nothing is lost:
+# some six minutes, as root. replicas/rounds names what it needs. No part of make test, as little as replicas/variants, which shows that
+# each precaution of tmem-attach is found missing, and replicas/messages, which has it say all that it can.
 replicas:
 	@replicas/rounds --look
 	@$(MAKE) --no-print-directory $(UNPROVED)
-	@replicas/rounds --program $(UNPROVED) --rounds 10 --seed $(SEED)
+	@replicas/rounds --program $(UNPROVED) --rounds 13 --seed $(SEED)
 
 # Installs what `make build` left, or PROGRAM, below PREFIX, and all in DESTDIR where a package is made: the program, its man page,
 # completion for bash and zsh, these documents with their plots, the notices of the libraries that it is linked with, and the client in
