@@ -56,8 +56,8 @@ replicas:
 	@replicas/rounds --program $(UNPROVED) --rounds 13 --seed $(SEED)
 
 # Installs what `make build` left, or PROGRAM, below PREFIX, and all in DESTDIR where a package is made: the program, its man page,
-# completion for bash and zsh, these documents with their plots, the notices of the libraries that it is linked with, and the client in
-# Python, which nothing compiles. `make uninstall` removes them.
+# completion for bash and zsh, these documents with their plots, the notices of the libraries that it is linked with, the client in
+# Python, which nothing compiles, tmem-attach, and beside the documents a unit of systemd for it. `make uninstall` removes them.
 PREFIX = /usr/local
 PROGRAM = crates/tmem/out/tmem
 BIN = $(DESTDIR)$(PREFIX)/bin
@@ -76,18 +76,19 @@ install:
 	@test -f "$(PROGRAM)" || { echo "There is no $(PROGRAM). 'make build' proves the program and leaves it there; PROGRAM=PATH installs another" >&2; exit 1; }
 	install -d "$(BIN)" "$(MAN)" "$(BASH_COMPLETION)" "$(ZSH_COMPLETION)" "$(DOC)/docs/plots" "$(CLIENT)"
 	install -m 755 "$(PROGRAM)" "$(BIN)/tmem"
+	install -m 755 replicas/tmem-attach "$(BIN)"
 	install -m 644 install/tmem.1 "$(MAN)"
 	install -m 644 install/tmem.bash "$(BASH_COMPLETION)/tmem"
 	install -m 644 install/_tmem "$(ZSH_COMPLETION)"
-	install -m 644 $(DOCUMENTS) install/NOTICES "$(DOC)"
+	install -m 644 $(DOCUMENTS) install/NOTICES replicas/tmem-hub.service "$(DOC)"
 	install -m 644 $(PAGES) "$(DOC)/docs"
 	install -m 644 $(PLOTS) "$(DOC)/docs/plots"
 	install -m 644 $(MODULES) "$(CLIENT)"
 
 # (a folder in which something else stands stays)
 uninstall:
-	rm -f "$(BIN)/tmem" "$(MAN)/tmem.1" "$(BASH_COMPLETION)/tmem" "$(ZSH_COMPLETION)/_tmem"
-	for name in NOTICES $(DOCUMENTS) $(PAGES) $(PLOTS); do rm -f "$(DOC)/$$name"; done
+	rm -f "$(BIN)/tmem" "$(BIN)/tmem-attach" "$(MAN)/tmem.1" "$(BASH_COMPLETION)/tmem" "$(ZSH_COMPLETION)/_tmem"
+	for name in NOTICES tmem-hub.service $(DOCUMENTS) $(PAGES) $(PLOTS); do rm -f "$(DOC)/$$name"; done
 	for name in $(notdir $(MODULES)); do rm -f "$(CLIENT)/$$name"; done
 	rm -rf "$(CLIENT)/__pycache__"
 	for folder in "$(DOC)/docs/plots" "$(DOC)/docs" "$(DOC)" "$(CLIENT)" "$(SHARE)/tmem/python" "$(SHARE)/tmem"; do if test -d "$$folder"; then rmdir --ignore-fail-on-non-empty "$$folder"; fi; done
