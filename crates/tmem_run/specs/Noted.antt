@@ -2,6 +2,7 @@
 use Rattle.std.specs.Prelude.{◌≡◌, ◌⊎◌, ℕ, Bool, true, false, List, [], ◌∷◌, ◌++◌}
 use Rattle.tmem_event.specs.declared.event.Reply.{Reply}
 use Rattle.tmem_event.specs.declared.event.Reply.TheVariants as reply
+use Rattle.tmem_run.specs.declared.notes.Notes.{Notes}
 use Rattle.tmem_run.specs.declared.notes.Refused.{Refused}
 
 -- The entry of this number, where it was refused, with its fault; and nothing of one that was not.
@@ -13,3 +14,15 @@ refused_in index _ = []
 abbrev pub IsNotedOf : Bool → ℕ → Reply → List Refused → List Refused → Type 0
 IsNotedOf false index r before after = after ≡ before
 IsNotedOf true index r before after = (after ≡ before) ⊎ (after ≡ before ++ refused_in index r)
+
+-- what is kept of the entries stays, and whether anything is kept
+pub record KeepsEntries (old new : Notes) : Type 0 where
+  pub explains : new.explains ≡ old.explains
+  pub played : new.played ≡ old.played
+  pub refused : new.refused ≡ old.refused
+
+-- all but what is kept of the entries stays
+pub record KeepsOthers (old new : Notes) : Type 0 where
+  pub explains : new.explains ≡ old.explains
+  pub text : new.text ≡ old.text
+  pub is_held : new.is_held ≡ old.is_held

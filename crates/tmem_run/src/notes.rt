@@ -1,6 +1,6 @@
 //! What is kept of a run, so that more can be told of what fails.
-ghost use Rattle.std.specs.Prelude.{◌≡◌, []};
-ghost use Rattle.tmem_run.specs.Noted.{IsNotedOf};
+ghost use Rattle.std.specs.Prelude.{◌≡◌, ◌+◌, ◌<◌, ◌^◌, [], true, false, if◌then◌else◌};
+ghost use Rattle.tmem_run.specs.Noted.{IsNotedOf, KeepsEntries, KeepsOthers};
 
 use std::alloc::Global;
 use tmem_fault::Fault;
@@ -29,7 +29,11 @@ pub struct Refused {
 impl Notes {
     /// None yet.
     pub fn new(alloc: Global, explains: bool) -> Notes
-        ensures { result.refused.items ≡ [] }
+        ensures explains { result.explains ≡ explains }
+        ensures text { result.text.items ≡ [] }
+        ensures device { result.is_held ≡ false }
+        ensures played { result.played ≡ 0 }
+        ensures refused { result.refused.items ≡ [] }
     {
         Notes {
             explains,
@@ -40,9 +44,11 @@ impl Notes {
         }
     }
 
-    /// Keeps the text of the script.
+    /// Keeps the text of the script, if more is to be told.
     pub fn keep(&mut self, text: Vec<u8>)
-        ensures { self.new.refused ≡ self.old.refused }
+        ensures text { self.new.text ≡ (if self.old.explains then text else self.old.text) }
+        ensures device { self.new.is_held ≡ self.old.is_held }
+        ensures entries { KeepsEntries self.old self.new }
     {
         if self.explains {
             self.text = text;
@@ -51,7 +57,9 @@ impl Notes {
 
     /// Takes what the next entry is answered.
     pub(crate) fn note(&mut self, reply: &Reply)
-        ensures { IsNotedOf self.old.explains self.old.played reply.now self.old.refused.items self.new.refused.items }
+        ensures refused { IsNotedOf self.old.explains self.old.played reply.now self.old.refused.items self.new.refused.items }
+        ensures played { self.old.played + 1 < 2 ^ 64 → self.new.played ≡ self.old.played + 1 }
+        ensures others { KeepsOthers self.old self.new }
     {
         if let Reply::Fault(fault) = reply {
             self.note_fault(*fault);
@@ -60,7 +68,12 @@ impl Notes {
     }
 
     /// Takes that the state is to be shown next, which is refused where no session stands.
-    pub(crate) fn note_shown(&mut self, is_open: bool) {
+    pub(crate) fn note_shown(&mut self, is_open: bool)
+        ensures shown { is_open ≡ true → self.new.refused ≡ self.old.refused }
+        ensures refused { is_open ≡ false → IsNotedOf self.old.explains self.old.played (Reply.Fault Fault.Closed) self.old.refused.items self.new.refused.items }
+        ensures played { self.old.played + 1 < 2 ^ 64 → self.new.played ≡ self.old.played + 1 }
+        ensures others { KeepsOthers self.old self.new }
+    {
         if is_open {
             self.played = self.played.saturating_add(1);
         } else {
@@ -70,7 +83,9 @@ impl Notes {
 
     // Keeps that the next entry is refused by this fault.
     fn note_fault(&mut self, fault: Fault)
-        ensures { IsNotedOf self.old.explains self.old.played (Reply.Fault fault) self.old.refused.items self.new.refused.items }
+        ensures refused { IsNotedOf self.old.explains self.old.played (Reply.Fault fault) self.old.refused.items self.new.refused.items }
+        ensures played { self.new.played ≡ self.old.played }
+        ensures others { KeepsOthers self.old self.new }
     {
         if self.explains {
             let index = self.played;
@@ -81,23 +96,31 @@ impl Notes {
 
     /// Takes whether the device is held as the run ends.
     pub fn note_device(&mut self, is_held: bool)
-        ensures { self.new.refused ≡ self.old.refused }
+        ensures device { self.new.is_held ≡ is_held }
+        ensures text { self.new.text ≡ self.old.text }
+        ensures entries { KeepsEntries self.old self.new }
     {
         self.is_held = is_held;
     }
 
     /// Whether the device is held as the run ends.
-    pub fn is_held(&self) -> bool {
+    pub fn is_held(&self) -> bool
+        ensures { result ≡ self.now.is_held }
+    {
         self.is_held
     }
 
     /// The entries that were refused, in order.
-    pub fn refused(&self) -> &[Refused] {
+    pub fn refused(&self) -> &[Refused]
+        ensures { result.now ≡ self.now.refused.items }
+    {
         self.refused.as_slice()
     }
 
     /// The text of the script, as far as it was kept.
-    pub fn text(&self) -> &[u8] {
+    pub fn text(&self) -> &[u8]
+        ensures { result.now ≡ self.now.text.items }
+    {
         self.text.as_slice()
     }
 }
