@@ -7,24 +7,24 @@ use Rattle.std.proofs.lemmas.Option.{get_or_from_slice_get, slice_get_within}
 use Rattle.std.proofs.lemmas.Bool.{cases_lt}
 use Rattle.tmem_state.specs.Batch.{record_length, records_length}
 use Rattle.tmem_effect.specs.declared.effect.Effect.{Effect}
-use Rattle.tmem_core.specs.Taking.{HasRoom, IsTaken}
+use Rattle.tmem_core.specs.Taking.{BatchHasRoom, IsTaken}
 
 -- the first effects that wait, each of which had room
 pub record IsTakenSoFar (waits taken : List Effect) : Type 0 where
   pub first : take (length taken) waits ≡ taken
   pub within : length taken ≤ length waits
-  pub room : (i : ℕ) → i < length taken → HasRoom (take i waits)
+  pub room : (i : ℕ) → i < length taken → BatchHasRoom (take i waits)
 
 module _ (waits : List Effect) where
   -- where there is room for more, there was for fewer
-  earlier : (i n : ℕ) → i ≤ n → n ≤ length waits → HasRoom (take n waits) → HasRoom (take i waits)
+  earlier : (i n : ℕ) → i ≤ n → n ≤ length waits → BatchHasRoom (take n waits) → BatchHasRoom (take i waits)
   earlier i n order within room =
       let fewer : records_length (take i waits) ≤ records_length (take n waits) = subst (λ (es : List Effect). records_length es ≤ records_length (take n waits)) (take-take i n waits order) (sum_by-take-le record_length (take n waits) i) in
       (omega (arith, order, within, room.0, length-take-le i waits, length-take-le n waits), omega (arith, fewer, room.1))
 
   module _ (taken : List Effect) (so_far : IsTakenSoFar waits taken) where
     -- one more
-    pub taken_more : (e : Effect) → slice_get waits (length taken) ≡ Some e → HasRoom taken → IsTakenSoFar waits (taken ++ e ∷ [])
+    pub taken_more : (e : Effect) → slice_get waits (length taken) ≡ Some e → BatchHasRoom taken → IsTakenSoFar waits (taken ++ e ∷ [])
     taken_more e there room =
         let below : length taken < length waits = slice_get_within waits (length taken) e there in
         let more : take (length taken + 1) waits ≡ taken ++ e ∷ [] =
@@ -35,17 +35,17 @@ module _ (waits : List Effect) where
         record {
           first = ap (λ (n : ℕ). take n waits) long ∙ more;
           within = omega (arith, long, below);
-          room = λ i under. earlier i (length taken) (omega (arith, long, under)) so_far.within (subst HasRoom (sym so_far.first) room);
+          room = λ i under. earlier i (length taken) (omega (arith, long, under)) so_far.within (subst BatchHasRoom (sym so_far.first) room);
         }
 
     -- there is no room for more
-    pub taken_full : (HasRoom taken → ⊥) → IsTaken waits taken
+    pub taken_full : (BatchHasRoom taken → ⊥) → IsTaken waits taken
     taken_full full = record { first = so_far.first; each = λ i below. (so_far.room i, λ room. beneath i below room) } where
-      beneath : (i : ℕ) → i < length waits → HasRoom (take i waits) → i < length taken
+      beneath : (i : ℕ) → i < length waits → BatchHasRoom (take i waits) → i < length taken
       beneath i below room =
           elim (cases_lt i (length taken)) [
             | inl low ↦ low
-            | inr high ↦ absurd (full (subst HasRoom so_far.first (earlier (length taken) i high (omega (arith, below)) room)))
+            | inr high ↦ absurd (full (subst BatchHasRoom so_far.first (earlier (length taken) i high (omega (arith, below)) room)))
           ]
 
 -- what is left of a list behind those that were taken from an index on

@@ -12,7 +12,7 @@ ghost use Rattle.tmem_core.specs.Opening.{fault_against, IsOpeningRefusal};
 ghost use Rattle.tmem_core.specs.SettleAnswer.{is_stale};
 ghost use Rattle.tmem_effect.specs.Loggable.{IsLoggable, IsLoggable-prop};
 ghost use Rattle.tmem_core.specs.History.{IsFolded, effects_of};
-ghost use Rattle.tmem_core.specs.Taking.{IsTaken, HasRoom};
+ghost use Rattle.tmem_core.specs.Taking.{IsTaken, BatchHasRoom};
 
 use crate::decision::Decision;
 use crate::history::History;
@@ -384,7 +384,7 @@ fn fault_against<T: Invariants>(table: &T, state: &State, indices: u64) -> Optio
 
 // Whether a batch has room for any record.
 fn has_room(batch: &Batch) -> bool
-    ensures { IsTrue result ↔ HasRoom batch.now }
+    ensures { IsTrue result ↔ BatchHasRoom batch.now }
 {
     batch.len() < MAX_RECORDS && batch.used() + MAX_RECORD_BYTES <= BATCH_BYTES
 }

@@ -3,7 +3,7 @@ use Rattle.std.specs.Prelude.{slice_get}
 use Rattle.std.proofs.lemmas.Bool.{false≢true}
 use Rattle.std.proofs.lemmas.List.{length_push}
 use Rattle.tmem_effect.specs.Loggable.{IsLoggable}
-use Rattle.tmem_core.specs.Taking.{HasRoom}
+use Rattle.tmem_core.specs.Taking.{BatchHasRoom}
 use Rattle.tmem_disk.proofs.Laws.{slice_get-drop}
 use Rattle.tmem_core.proofs.Indices.{All-there}
 use Rattle.tmem_core.proofs.Taken.{taken_more, taken_full, rest_of}
@@ -35,7 +35,7 @@ loop-index-preserved g c =
     let core = c.args.self.now in
     let batch = c.loop-index.batch in
     let e = c.get.result.now in
-    let room : HasRoom batch = c.has_room.ensures.0 c.if-not-has_room.false in
+    let room : BatchHasRoom batch = c.has_room.ensures.0 c.if-not-has_room.false in
     let pushed : c.push.result ≡ true = c.push.ensures.room room.0 room.1 in
     let new : c.push.new.self ≡ batch ++ e ∷ [] = rw pushed at c.push.ensures.pushed in
     let there : slice_get (drop (c.args.from - core.durable) core.waiting) (length batch) ≡ Some e =
