@@ -177,7 +177,7 @@ ending_among n s settled given is within = subst (λ (g : Answer). IsAmong n g) 
 
 result_among : (n : ℕ) (s : Store) (result : Result Settled Fault) (given : Answer) → TellsResult s result given → IfOk result (λ settled. IsNumberedWithin (Ok settled) n) → IsAmong n given
 result_among n s (Ok settled) given tells within = ending_among n s settled given tells within
-result_among n s (Err f) given is within = subst (λ (g : Answer). IsAmong n g) (sym is) tt
+result_among n s (Err f) given is within = subst (λ (g : Answer). IsAmong n g) (sym is.1) tt
 
 -- a pass goes on, and what is answered is among what it reached
 abbrev Goes : Store → PassRoleView → PassRoleView → Type 0

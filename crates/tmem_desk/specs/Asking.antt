@@ -80,10 +80,11 @@ pub record SeesState (s : Store) (old : PassRoleView) (number : ℕ) (names : Li
   pub registered : names ≡ filter (λ (name : List ℕ). has_name (state_known s new).names name) s.program.names
   pub seen : values ≡ (state_known s new).values
 
--- how an attempt is told that was settled
+-- How an attempt is told that was settled. Of what it can be refused for, a conflict alone is told: where there is no room, a flush makes
+-- some, and otherwise the store cannot go on.
 abbrev pub TellsResult : Store → Result Settled Fault → Answer → Type 0
 TellsResult s (Ok settled) given = TellsEnding s settled given
-TellsResult s (Err fault) given = given ≡ answer.Fault fault
+TellsResult s (Err refusal) given = (refusal ≡ fault.Conflict) × (given ≡ answer.Fault fault.Conflict)
 
 -- Of an attempt that was made elsewhere and that an invariant refused, the values that are told are those at its end, after all that
 -- the pass then knows.
@@ -91,7 +92,7 @@ abbrev pub TellsEnd : Store → Attempt → Answer → PassRoleView → Type 0
 TellsEnd s attempt (answer.Refused name because) new = AreEndValues (state_known s new).values attempt.effect.writes because.items
 TellsEnd s attempt given new = Unit {0}
 
--- A proposal is settled so: where it is told of a conflict, some value that it read was not the present one.
+-- A proposal is settled so: it ends as its attempt does, or is told of a conflict, and then some value that it read was not the present one.
 pub record SettlesProposal (s : Store) (proposal : Proposal) (old : PassRoleView) (given : Answer) (new : PassRoleView) : Type 0 where
   pub attempt : Attempt
   pub made : IsAttemptOf proposal attempt

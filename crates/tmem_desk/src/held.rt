@@ -65,7 +65,7 @@ impl<R: Wait, D: Disk + Drop, N: ServedNaming, T: Invariants + Drop, S: StoredSt
         if is_retry(&settled) {
             return Ok(None);
         }
-        let answer = self.told_ending(pass, ready, settled)?;
+        let answer = self.told_ending(pass, ready, settled);
         Ok(Some(answer))
     }
 

@@ -33,7 +33,7 @@ impl<R: Wait, D: Disk + Drop, N: ServedNaming, T: Invariants + Drop, S: StoredSt
         let attempt = attempt_of(self.alloc, proposal)?;
         for _ in self.rt.forever() {
             match self.front.settle(self.rt, pass, &attempt) {
-                Ok(settled) => return self.told_ending_of(pass, &attempt, settled),
+                Ok(settled) => return Ok(self.told_ending_of(pass, &attempt, settled)),
                 Err(Fault::Conflict) => return Ok(Answer::Fault(Fault::Conflict)),
                 Err(Fault::Full) => {
                     self.front.flush_with_room(self.rt)?;
@@ -45,25 +45,21 @@ impl<R: Wait, D: Disk + Drop, N: ServedNaming, T: Invariants + Drop, S: StoredSt
     }
 
     // How it is told how an attempt ended that was made elsewhere: where an invariant refused it, with the values that it has at the end.
-    fn told_ending_of(
-        &self,
-        pass: &mut Pass<N>,
-        attempt: &Attempt,
-        settled: Settled,
-    ) -> Result<Answer, Fault>
-        ensures tells { IfOk result (TellsEnding (store N.name.start N.opening N.program N.arities N.always) settled) }
-        ensures end { IfOk result (λ given. TellsEnd (store N.name.start N.opening N.program N.arities N.always) attempt.now given pass.new) }
+    // Where there is no memory for these, it is told without them.
+    fn told_ending_of(&self, pass: &mut Pass<N>, attempt: &Attempt, settled: Settled) -> Answer
+        ensures tells { TellsEnding (store N.name.start N.opening N.program N.arities N.always) settled result }
+        ensures end { TellsEnd (store N.name.start N.opening N.program N.arities N.always) attempt.now result pass.new }
         ensures knows { KnowsMore pass.old pass.new }
     {
         let Settled::Refused(name) = settled else {
-            return Ok(Answer::Settled(settled));
+            return Answer::Settled(settled);
         };
         match self
             .front
-            .why_attempt_refused(self.rt, pass, attempt, &name)?
+            .why_attempt_refused(self.rt, pass, attempt, &name)
         {
-            Some(because) => Ok(Answer::Refused { name, because }),
-            None => Ok(Answer::Settled(settled)),
+            Ok(Some(because)) => Answer::Refused { name, because },
+            Ok(None) | Err(_) => Answer::Settled(settled),
         }
     }
 }

@@ -43,22 +43,23 @@ impl<R: Wait, D: Disk + Drop, N: ServedNaming, T: Invariants + Drop, S: StoredSt
         unreachable!()
     }
 
-    /// How it is told how a plan ended: where an invariant refused it, with the values that the failing test saw.
+    /// How it is told how a plan ended: where an invariant refused it, with the values that the failing test saw. Where there is no memory
+    /// for these, it is told without them.
     pub(crate) fn told_ending(
         &self,
         pass: &mut Pass<N>,
         ready: &Ready<N>,
         settled: Settled,
-    ) -> Result<Answer, Fault>
-        ensures tells { IfOk result (TellsEnding (store N.name.start N.opening N.program N.arities N.always) settled) }
+    ) -> Answer
+        ensures tells { TellsEnding (store N.name.start N.opening N.program N.arities N.always) settled result }
         ensures knows { KnowsMore pass.old pass.new }
     {
         let Settled::Refused(name) = settled else {
-            return Ok(Answer::Settled(settled));
+            return Answer::Settled(settled);
         };
-        match self.front.why_refused(self.rt, pass, &ready.plan, &name)? {
-            Some(because) => Ok(Answer::Refused { name, because }),
-            None => Ok(Answer::Settled(settled)),
+        match self.front.why_refused(self.rt, pass, &ready.plan, &name) {
+            Ok(Some(because)) => Answer::Refused { name, because },
+            Ok(None) | Err(_) => Answer::Settled(settled),
         }
     }
 
@@ -69,7 +70,7 @@ impl<R: Wait, D: Disk + Drop, N: ServedNaming, T: Invariants + Drop, S: StoredSt
         match self.plan(tx) {
             Ok(ready) => {
                 let settled = self.settle(pass, &ready)?;
-                self.told_ending(pass, &ready, settled)
+                Ok(self.told_ending(pass, &ready, settled))
             }
             Err(cause) => Ok(Answer::Fault(Fault::BadPlan(cause))),
         }
