@@ -1,5 +1,5 @@
 -- What is told tells of nothing but what the pass knows by then.
-use Rattle.std.proofs.Common.{◌≡◌, ◌⊎◌, ⊎_elim, ℕ, zero, suc, ℤ, ◌≤◌, max, Bool, true, false, cond, ◌||◌, nat_le, nat_lt, ◌-◌, ◌==◌, List, [], ◌∷◌, ◌++◌, length, Option, Some, None, Result, Ok, Err, IfOk, refl, ap, sym, subst, arith, length-append}
+use Rattle.std.proofs.Common.{◌≡◌, ◌≢◌, ◌⊎◌, ⊎_elim, ℕ, zero, suc, ℤ, ◌≤◌, max, Bool, true, false, cond, ◌||◌, nat_le, nat_lt, ◌-◌, ◌==◌, List, [], ◌∷◌, ◌++◌, length, Option, Some, None, Result, Ok, Err, IfOk, refl, ap, sym, subst, arith, length-append}
 use Rattle.std.specs.Prelude.{All, IfSome, MatchBool, is_some, if◌then◌else◌}
 use Rattle.std.proofs.Props.{props}
 use Rattle.std.proofs.Math.Logic.{∥∥₁_elim}
@@ -362,7 +362,7 @@ pub nothing_told : (s : Store) (v : DeskView) → v.told ≡ [] → IsTold s v
 nothing_told s v none = subst (All (TellsAmong (reached s v.pass))) (sym none) (All-nil (TellsAmong (reached s v.pass)))
 
 pub last_taken_told : (s : Store) (text : List ℕ) (v w : DeskView) → IsTold s v → TakesLast s text v w → IsTold s w
-last_taken_told s text v w is = ⊎_elim (λ (none : (text ≡ []) × (w ≡ v)). subst (IsTold s) (sym none.1) is) (λ (t : TakesText s text v w). text_told s text v w is t)
+last_taken_told s text v w is = ⊎_elim (λ (none : (text ≡ []) × (w ≡ v)). subst (IsTold s) (sym none.1) is) (λ (t : (text ≢ []) × TakesText s text v w). text_told s text v w is t.1)
 
 closed_among : (n : ℕ) (all : List (ℤ × Ask)) → All (TellsAmong n) (closed all)
 closed_among n [] = All-nil (TellsAmong n)

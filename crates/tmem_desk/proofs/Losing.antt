@@ -1,5 +1,5 @@
 -- No request is lost: lines that are taken, one after another, and what is told of them where the store cannot go on.
-use Rattle.std.proofs.Common.{◌≡◌, inl, inr, ⊎_elim, ℕ, ℤ, ◌+◌, Bool, true, false, nat_lt, List, [], ◌∷◌, ◌++◌, length, map, append_assoc, length-append, Result, Ok, Err, IfErr, refl, ap, sym, ◌∙◌, subst, arith}
+use Rattle.std.proofs.Common.{◌≡◌, ◌≢◌, inl, inr, ⊎_elim, ℕ, ℤ, ◌+◌, Bool, true, false, nat_lt, List, [], ◌∷◌, ◌++◌, length, map, append_assoc, length-append, Result, Ok, Err, IfErr, refl, ap, sym, ◌∙◌, subst, arith}
 use Rattle.std.specs.Prelude.{All, MatchBool, count_by, flat_map}
 use Rattle.std.specs.Result.{IsErrAnd}
 use Rattle.std.proofs.lemmas.Bool.{false≢true}
@@ -204,11 +204,11 @@ pub rest_taken : (s : Store) (text : List ℕ) (v mid w : DeskView) → TakesLas
 rest_taken s text v mid w (inl none) keeps =
     record { texts = []; last = inl (none.0, refl); loses = loses_and_keeps s [] v mid w (loses_nothing s v mid none.1) keeps }
 rest_taken s text v mid w (inr t) keeps =
-    record { texts = text ∷ []; last = inr refl; loses = loses_and_keeps s (text ∷ []) v mid w (text_loses s text v mid t) keeps }
+    record { texts = text ∷ []; last = inr (t.0, refl); loses = loses_and_keeps s (text ∷ []) v mid w (text_loses s text v mid t.1) keeps }
 
-pub rest_answered : (s : Store) (text bytes : List ℕ) (v w : DeskView) → text ≡ bytes → IsLine text → AnswersLine s bytes v w → TakesRest s text v w
-rest_answered s text bytes v w same short a =
-    record { texts = text ∷ []; last = inr refl; loses = answer_loses s text v w short (subst (λ (t : List ℕ). AnswersLine s t v w) (sym same) a) }
+pub rest_answered : (s : Store) (text bytes : List ℕ) (v w : DeskView) → text ≡ bytes → IsLine text → text ≢ [] → AnswersLine s bytes v w → TakesRest s text v w
+rest_answered s text bytes v w same short some a =
+    record { texts = text ∷ []; last = inr (some, refl); loses = answer_loses s text v w short (subst (λ (t : List ℕ). AnswersLine s t v w) (sym same) a) }
 
 -- ---- what is told in the end
 

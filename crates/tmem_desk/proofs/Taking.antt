@@ -1,5 +1,5 @@
 -- Lines that are taken, one after another.
-use Rattle.std.proofs.Common.{◌≡◌, ℕ, Bool, true, false, nat_lt, List, [], ◌∷◌, ◌++◌, length, append_assoc, refl, ap, sym, ◌∙◌, subst, arith}
+use Rattle.std.proofs.Common.{◌≡◌, ◌≢◌, ℕ, Bool, true, false, nat_lt, List, [], ◌∷◌, ◌++◌, length, append_assoc, refl, ap, sym, ◌∙◌, subst, arith}
 use Rattle.std.specs.Prelude.{All, MatchBool, flat_map}
 use Rattle.std.proofs.lemmas.Bool.Decides.{nat_tests}
 use Rattle.std.proofs.lemmas.List.{flat_map_more}
@@ -47,6 +47,10 @@ pub short_text : (s : Store) (bytes : List ℕ) (v w : DeskView) → IsLine byte
 short_text s bytes v w short taken =
     let is : nat_lt 65536 (length bytes) ≡ false = grind (arith, nat_tests) in
     subst (λ (b : Bool). MatchBool b (RefusesLong v w) (TakesShort s bytes v w)) (sym is) taken
+
+-- a line that is too long has a byte
+pub long_some : (bytes : List ℕ) → IsLongLine bytes → bytes ≢ []
+long_some bytes long none = omega (arith, long, ap length none)
 
 pub long_text : (s : Store) (bytes : List ℕ) (v w : DeskView) → IsLongLine bytes → RefusesLong v w → TakesText s bytes v w
 long_text s bytes v w long refuses =

@@ -1,5 +1,5 @@
 -- What is printed where serving ends early.
-use Rattle.std.specs.Prelude.{◌≡◌, ◌⊎◌, ◌+◌, ℕ, ℤ, Bool, List, [], ◌∷◌, ◌++◌, All, count_by, flat_map}
+use Rattle.std.specs.Prelude.{◌≡◌, ◌≢◌, ◌⊎◌, ◌+◌, ℕ, ℤ, Bool, List, [], ◌∷◌, ◌++◌, All, count_by, flat_map}
 use Rattle.tmem_fault.specs.declared.fault.Fault.{Fault}
 use Rattle.tmem_fault.specs.declared.fault.Fault.TheVariants.{Memory}
 use Rattle.tmem_lines.specs.Lines.{line, IsUnbroken, HoldsRestOf}
@@ -41,7 +41,7 @@ TellsAll s AreLines v prints Output = Unit {0}
 
 -- what is left at the end of the input: nothing, or a line that lacks its line break
 abbrev pub IsLast : List ℕ → List (List ℕ) → Type 0
-IsLast text texts = ((text ≡ []) × (texts ≡ [])) ⊎ (texts ≡ text ∷ [])
+IsLast text texts = ((text ≡ []) × (texts ≡ [])) ⊎ ((text ≢ []) × (texts ≡ text ∷ []))
 
 -- ---- on the way there
 

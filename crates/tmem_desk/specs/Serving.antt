@@ -1,5 +1,5 @@
 -- How a served store answers what it reads, line by line, and when an answer is printed.
-use Rattle.std.specs.Prelude.{◌≡◌, ◌⊎◌, ◌+◌, ◌%◌, ◌^◌, ◌||◌, ℕ, ℤ, Bool, true, false, nat_le, nat_lt, is_some, List, [], ◌∷◌, ◌++◌, length, map, flat_map, All, Option, Some, None, if◌then◌else◌, MatchBool}
+use Rattle.std.specs.Prelude.{◌≡◌, ◌≢◌, ◌⊎◌, ◌+◌, ◌%◌, ◌^◌, ◌||◌, ℕ, ℤ, Bool, true, false, nat_le, nat_lt, is_some, List, [], ◌∷◌, ◌++◌, length, map, flat_map, All, Option, Some, None, if◌then◌else◌, MatchBool}
 use Rattle.std.specs.List.{list_any}
 use Rattle.std.specs.Ordering.{int_eq}
 use Rattle.tmem_fault.specs.declared.fault.Cause.{Cause}
@@ -234,7 +234,7 @@ with_closed v = tells (record v { waiting = [] }) (closed v.waiting)
 
 -- What is left at the end of the input is taken: nothing, or a line that lacks its line break.
 abbrev pub TakesLast : Store → List ℕ → DeskView → DeskView → Type 0
-TakesLast s text v w = ((text ≡ []) × (w ≡ v)) ⊎ TakesText s text v w
+TakesLast s text v w = ((text ≡ []) × (w ≡ v)) ⊎ ((text ≢ []) × TakesText s text v w)
 
 pub record RunsLast (s : Store) (text : List ℕ) (v w : DeskView) : Type 0 where
   pub taken : DeskView

@@ -1,5 +1,5 @@
 // Lines of what was read.
-ghost use Rattle.std.specs.Prelude.{◌≡◌, ◌≤◌, ◌<◌, ◌++◌, ℕ, List, length, [], false, OnOk, OnErr, IsTrue};
+ghost use Rattle.std.specs.Prelude.{◌≡◌, ◌≢◌, ◌≤◌, ◌<◌, ◌++◌, ℕ, List, length, [], false, OnOk, OnErr, IsTrue};
 ghost use Rattle.tmem_lines.specs.Lines.{HoldsRestOf, IsCutOff, IsUnbroken, IsLine, IsLongLine};
 
 use memchr::memchr;
@@ -109,8 +109,8 @@ impl Lines {
 
     /// Cuts off what is left at the end of the input: a line that lacks its line break.
     pub fn cut_last(&mut self) -> Cut
-        ensures line { result ≡ Cut.Line → (text : List ℕ) → HoldsRestOf self.old text → (text ≡ self.new.line) × (length text ≤ MAX_LINE_BYTES) }
-        ensures long { result ≡ Cut.TooLong → (text : List ℕ) → HoldsRestOf self.old text → MAX_LINE_BYTES < length text }
+        ensures line { result ≡ Cut.Line → (text : List ℕ) → HoldsRestOf self.old text → (text ≡ self.new.line) × IsLine text × (text ≢ []) }
+        ensures long { result ≡ Cut.TooLong → (text : List ℕ) → HoldsRestOf self.old text → IsLongLine text }
         ensures nothing { result ≡ Cut.Nothing → (text : List ℕ) → HoldsRestOf self.old text → text ≡ [] }
         ensures rest { HoldsRestOf self.new [] }
     {
