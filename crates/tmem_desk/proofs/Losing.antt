@@ -18,7 +18,7 @@ use Rattle.tmem_requests.specs.declared.request.Ask.{Ask}
 use Rattle.tmem_desk.specs.Asking.{Store}
 use Rattle.tmem_desk.specs.Desks.{DeskView}
 use Rattle.tmem_desk.specs.Due.{LineCounts, LinesCount, LosesNone, KeepsDue, answers_any_of, due_of, waits_of}
-use Rattle.tmem_desk.specs.Failing.{AnswersLine, AnswersOnly, IsLast, IsUnprinted, OrMemory, PassesAll, PassesLine, TakesPart, TakesRest, TellsAll, TellsEach}
+use Rattle.tmem_desk.specs.Failing.{AnswersLine, AnswersOnly, IsLast, IsUnprinted, IsWanting, OrMemory, PassesAll, PassesLine, RanNone, TakesPart, TakesRest, TellsAll, TellsEach}
 use Rattle.tmem_desk.specs.Serving.{IsAskedOf, RefusesLine, RefusesLong, Splits, TakesAll, TakesLast, TakesLine, TakesText, TakesShort, Wakes, by, one_line_more, tells, with_closed}
 use Rattle.tmem_desk.specs.Steps.{Steps}
 use Rattle.tmem_desk.specs.Told.{TellsOnly, answer_told, failed, told_lines}
@@ -245,11 +245,12 @@ split_then s text held held' v mid so ys sp = record {
 }
 
 -- where a part of a text came before
-pub part_then : (s : Store) (text : List ℕ) (held held' : LinesView) (v mid : DeskView) (prints : List ℕ → Type 0) (e : Failure) (so : TakesPart s text held v mid)
-    → TellsAll s (λ (ys : List (List ℕ)). Splits so.rest ys held') mid prints e → TellsAll s (λ (xs : List (List ℕ)). Splits text xs held') v prints e
-part_then s text held held' v mid prints Output so t = tt
-part_then s text held held' v mid prints (failure.Fault f) so (inl is) = inl is
-part_then s text held held' v mid prints (failure.Fault f) so (inr t) =
+pub part_then : (s : Store) (text : List ℕ) (held held' : LinesView) (Ran : DeskView → Type 0) (v mid : DeskView) (prints : List ℕ → Type 0) (e : Failure) (so : TakesPart s text held v mid)
+    → TellsAll s (λ (ys : List (List ℕ)). Splits so.rest ys held') RanNone mid prints e → TellsAll s (λ (xs : List (List ℕ)). Splits text xs held') Ran v prints e
+part_then s text held held' Ran v mid prints Output so (inl none) = absurd none.1
+part_then s text held held' Ran v mid prints Output so (inr why) = inr why
+part_then s text held held' Ran v mid prints (failure.Fault f) so (inl is) = inl is
+part_then s text held held' Ran v mid prints (failure.Fault f) so (inr t) =
     inr (so.texts ++ t.0, split_then s text held held' v mid so t.0 t.1, each_then s so.texts t.0 v mid f prints so.loses t.2)
 
 -- nothing is left that has no line
@@ -263,11 +264,12 @@ none_split (y ∷ ys) rest is =
     absurd (omega (arith, long, head, last, none))
 
 -- where the rest came before
-pub rest_then : (s : Store) (text : List ℕ) (held : LinesView) (v mid : DeskView) (prints : List ℕ → Type 0) (e : Failure) → TakesRest s text v mid
-    → TellsAll s (λ (ys : List (List ℕ)). Splits [] ys held) mid prints e → TellsAll s (IsLast text) v prints e
-rest_then s text held v mid prints Output so t = tt
-rest_then s text held v mid prints (failure.Fault f) so (inl is) = inl is
-rest_then s text held v mid prints (failure.Fault f) so (inr t) =
+pub rest_then : (s : Store) (text : List ℕ) (held : LinesView) (Ran : DeskView → Type 0) (v mid : DeskView) (prints : List ℕ → Type 0) (e : Failure) → TakesRest s text v mid
+    → TellsAll s (λ (ys : List (List ℕ)). Splits [] ys held) RanNone mid prints e → TellsAll s (IsLast text) Ran v prints e
+rest_then s text held Ran v mid prints Output so (inl none) = absurd none.1
+rest_then s text held Ran v mid prints Output so (inr why) = inr why
+rest_then s text held Ran v mid prints (failure.Fault f) so (inl is) = inl is
+rest_then s text held Ran v mid prints (failure.Fault f) so (inr t) =
     let none : t.0 ≡ [] = none_split t.0 t.1.rest t.1.is in
     let each : TellsEach s [] mid f prints = subst (λ (ys : List (List ℕ)). TellsEach s ys mid f prints) none t.2 in
     inr (
@@ -281,11 +283,19 @@ rest_then s text held v mid prints (failure.Fault f) so (inr t) =
       },
     )
 
--- what could not be printed says no more
-pub unprinted_all : (s : Store) (Are : List (List ℕ) → Type 0) (v : DeskView) (prints : List ℕ → Type 0) (e : Failure) → IsUnprinted e → TellsAll s Are v prints e
-unprinted_all s Are v prints Output is = tt
-unprinted_all s Are v prints (failure.Fault f) (inl is) = inl (cc)
-unprinted_all s Are v prints (failure.Fault f) (inr is) = absurd (cc)
+-- all ran, and what is told could not be printed
+unprinted_all : (s : Store) (Are : List (List ℕ) → Type 0) (Ran : DeskView → Type 0) (v ran : DeskView) (prints : List ℕ → Type 0) (e : Failure) → Ran ran → IsUnprinted prints ran.told e → TellsAll s Are Ran v prints e
+unprinted_all s Are Ran v ran prints Output runs is = inl (ran, runs, is)
+unprinted_all s Are Ran v ran prints (failure.Fault f) runs is = inl is
+
+-- why the store cannot go on could not be printed
+pub unprinted_why : (fault : Fault) (all : List Told) (prints : List ℕ → Type 0) (e : Failure) → All (TellsOnly fault) all → IsUnprinted prints all e → IsWanting prints e
+unprinted_why fault all prints Output only is = (fault, all, only, is)
+unprinted_why fault all prints (failure.Fault f) only is = is
+
+pub wanting_all : (s : Store) (Are : List (List ℕ) → Type 0) (Ran : DeskView → Type 0) (v : DeskView) (prints : List ℕ → Type 0) (e : Failure) → IsWanting prints e → TellsAll s Are Ran v prints e
+wanting_all s Are Ran v prints Output is = inr is
+wanting_all s Are Ran v prints (failure.Fault f) is = inl is
 
 -- a line that came behind the fault
 pub passed_over : (s : Store) (text : List ℕ) (id id' : ℤ) (asks : Ask) (given : Answer) (v w : DeskView) → id' ≡ id → IsAskedOf s id asks text → w ≡ tells (one_line_more v) (answer_told id' given ∷ []) → AnswersLine s text v w
@@ -294,33 +304,34 @@ passed_over s text id id' asks given v w same asked is =
     let pass : v.pass ≡ w.pass = sym (ap (λ (d : DeskView). d.pass) is) in
     answers_line s text id id' asks v w same asked (record { given = given; is = subst (λ (p : PassRoleView). w ≡ tells (by (one_line_more v) p) (answer_told id' given ∷ [])) pass told })
 
-pub unprinted_texts : {X : Type 0} (Is : List ℕ → Type 0) (s : Store) (Are : List ℕ → List (List ℕ) → Type 0) (v : DeskView) (prints : List ℕ → Type 0) (r : Result X Failure) → IfErr r IsUnprinted
-    → IfErr r (λ e. (text : List ℕ) → Is text → TellsAll s (Are text) v prints e)
-unprinted_texts Is s Are v prints (Ok x) is = tt
-unprinted_texts Is s Are v prints (Err e) is = λ text so. unprinted_all s (Are text) v prints e is
+pub unprinted_texts : {X : Type 0} (Is : List ℕ → Type 0) (s : Store) (Are : List ℕ → List (List ℕ) → Type 0) (Ran : List ℕ → DeskView → Type 0) (v ran : DeskView) (prints : List ℕ → Type 0) (r : Result X Failure)
+    → ((text : List ℕ) → Is text → Ran text ran) → IfErr r (IsUnprinted prints ran.told)
+    → IfErr r (λ e. (text : List ℕ) → Is text → TellsAll s (Are text) (Ran text) v prints e)
+unprinted_texts Is s Are Ran v ran prints (Ok x) runs is = tt
+unprinted_texts Is s Are Ran v ran prints (Err e) runs is = λ text so. unprinted_all s (Are text) (Ran text) v ran prints e (runs text so) is
 
 -- a piece whose lines met a fault
-pub piece_fails : {X : Type 0} {Is : List ℕ → Type 0} (r : Result X Failure) (s : Store) (piece : List ℕ) (held held' : LinesView) (v mid : DeskView) (prints : List ℕ → Type 0) (f : Fault)
-    → ((text : List ℕ) → Is text → OrMemory f (TakesPart s (text ++ piece) held v mid)) → (f ≡ Memory → IfErr r IsUnprinted)
-    → IfErr r (λ e. (text : List ℕ) → HoldsRestOf held text → TellsAll s (λ (ys : List (List ℕ)). Splits text ys held') mid prints e)
-    → IfErr r (λ e. (text : List ℕ) → Is text → TellsAll s (λ (xs : List (List ℕ)). Splits (text ++ piece) xs held') v prints e)
-piece_fails (Ok x) s piece held held' v mid prints f before wanting told = tt
-piece_fails (Err e) s piece held held' v mid prints f before wanting told =
+pub piece_fails : {X : Type 0} {Is : List ℕ → Type 0} (r : Result X Failure) (s : Store) (piece : List ℕ) (held held' : LinesView) (Ran : List ℕ → DeskView → Type 0) (v mid : DeskView) (prints : List ℕ → Type 0) (f : Fault)
+    → ((text : List ℕ) → Is text → OrMemory f (TakesPart s (text ++ piece) held v mid)) → (f ≡ Memory → IfErr r (IsWanting prints))
+    → IfErr r (λ e. (text : List ℕ) → HoldsRestOf held text → TellsAll s (λ (ys : List (List ℕ)). Splits text ys held') RanNone mid prints e)
+    → IfErr r (λ e. (text : List ℕ) → Is text → TellsAll s (λ (xs : List (List ℕ)). Splits (text ++ piece) xs held') (Ran text) v prints e)
+piece_fails (Ok x) s piece held held' Ran v mid prints f before wanting told = tt
+piece_fails (Err e) s piece held held' Ran v mid prints f before wanting told =
     λ text is.
     ⊎_elim
-    (λ (m : f ≡ Memory). unprinted_all s (λ (xs : List (List ℕ)). Splits (text ++ piece) xs held') v prints e (wanting m))
-    (λ (so : TakesPart s (text ++ piece) held v mid). part_then s (text ++ piece) held held' v mid prints e so (told so.rest so.stands))
+    (λ (m : f ≡ Memory). wanting_all s (λ (xs : List (List ℕ)). Splits (text ++ piece) xs held') (Ran text) v prints e (wanting m))
+    (λ (so : TakesPart s (text ++ piece) held v mid). part_then s (text ++ piece) held held' (Ran text) v mid prints e so (told so.rest so.stands))
     (before text is)
 
 -- the end, where that met one
-pub end_fails : {X : Type 0} {Is : List ℕ → Type 0} (r : Result X Failure) (s : Store) (held held' : LinesView) (v mid : DeskView) (prints : List ℕ → Type 0) (f : Fault)
-    → ((text : List ℕ) → Is text → OrMemory f (TakesRest s text v mid)) → HoldsRestOf held [] → (f ≡ Memory → IfErr r IsUnprinted)
-    → IfErr r (λ e. (text : List ℕ) → HoldsRestOf held text → TellsAll s (λ (ys : List (List ℕ)). Splits text ys held') mid prints e)
-    → IfErr r (λ e. (text : List ℕ) → Is text → TellsAll s (IsLast text) v prints e)
-end_fails (Ok x) s held held' v mid prints f before none wanting told = tt
-end_fails (Err e) s held held' v mid prints f before none wanting told =
+pub end_fails : {X : Type 0} {Is : List ℕ → Type 0} (r : Result X Failure) (s : Store) (held held' : LinesView) (Ran : List ℕ → DeskView → Type 0) (v mid : DeskView) (prints : List ℕ → Type 0) (f : Fault)
+    → ((text : List ℕ) → Is text → OrMemory f (TakesRest s text v mid)) → HoldsRestOf held [] → (f ≡ Memory → IfErr r (IsWanting prints))
+    → IfErr r (λ e. (text : List ℕ) → HoldsRestOf held text → TellsAll s (λ (ys : List (List ℕ)). Splits text ys held') RanNone mid prints e)
+    → IfErr r (λ e. (text : List ℕ) → Is text → TellsAll s (IsLast text) (Ran text) v prints e)
+end_fails (Ok x) s held held' Ran v mid prints f before none wanting told = tt
+end_fails (Err e) s held held' Ran v mid prints f before none wanting told =
     λ text is.
     ⊎_elim
-    (λ (m : f ≡ Memory). unprinted_all s (IsLast text) v prints e (wanting m))
-    (λ (so : TakesRest s text v mid). rest_then s text held' v mid prints e so (told [] none))
+    (λ (m : f ≡ Memory). wanting_all s (IsLast text) (Ran text) v prints e (wanting m))
+    (λ (so : TakesRest s text v mid). rest_then s text held' (Ran text) v mid prints e so (told [] none))
     (before text is)

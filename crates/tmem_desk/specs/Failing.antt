@@ -34,10 +34,22 @@ pub record TellsEach (s : Store) (texts : List (List ℕ)) (v : DeskView) (fault
   pub each : (among : ℤ → Bool) (others : Bool) (n : ℕ) → LinesCount s among others texts n → count_by (answers_any_of among others) all ≡ due_of among others v + n
   pub printed : prints (told_lines all)
 
+-- of the lines of these, no more than the beginning is printed
+abbrev pub PrintsPart : (List ℕ → Type 0) → List Told → Type 0
+PrintsPart prints all = (part : List ℕ) × (rest : List ℕ) × (told_lines all ≡ part ++ rest) × prints part
+
+-- so much of why the store cannot go on, and of nothing else
+abbrev pub PrintsWhy : (List ℕ → Type 0) → Type 0
+PrintsWhy prints = (fault : Fault) × (all : List Told) × All (TellsOnly fault) all × PrintsPart prints all
+
+-- The output failed: of what is told once all ran and is durable, no more than the beginning was printed, or of why the store cannot go on.
+abbrev pub IsCutOff : (DeskView → Type 0) → (List ℕ → Type 0) → Type 0
+IsCutOff Ran prints = ((ran : DeskView) × Ran ran × PrintsPart prints ran.told) ⊎ PrintsWhy prints
+
 -- Where the store cannot go on, each is told, of these lines: unless memory did not suffice, or the output failed.
-abbrev pub TellsAll : Store → (List (List ℕ) → Type 0) → DeskView → (List ℕ → Type 0) → Failure → Type 0
-TellsAll s AreLines v prints (failure.Fault fault) = (fault ≡ Memory) ⊎ ((texts : List (List ℕ)) × AreLines texts × TellsEach s texts v fault prints)
-TellsAll s AreLines v prints Output = Unit {0}
+abbrev pub TellsAll : Store → (List (List ℕ) → Type 0) → (DeskView → Type 0) → DeskView → (List ℕ → Type 0) → Failure → Type 0
+TellsAll s AreLines Ran v prints (failure.Fault fault) = (fault ≡ Memory) ⊎ ((texts : List (List ℕ)) × AreLines texts × TellsEach s texts v fault prints)
+TellsAll s AreLines Ran v prints Output = IsCutOff Ran prints
 
 -- what is left at the end of the input: nothing, or a line that lacks its line break
 abbrev pub IsLast : List ℕ → List (List ℕ) → Type 0
@@ -49,9 +61,19 @@ IsLast text texts = ((text ≡ []) × (texts ≡ [])) ⊎ ((text ≢ []) × (tex
 abbrev pub OrMemory : Fault → Type 0 → Type 0
 OrMemory fault P = (fault ≡ Memory) ⊎ P
 
--- what is told could not be printed
-abbrev pub IsUnprinted : Failure → Type 0
-IsUnprinted f = (f ≡ failure.Fault Memory) ⊎ (f ≡ Output)
+-- what is told could not be printed: for want of memory, or the output failed
+abbrev pub IsUnprinted : (List ℕ → Type 0) → List Told → Failure → Type 0
+IsUnprinted prints all (failure.Fault fault) = fault ≡ Memory
+IsUnprinted prints all Output = PrintsPart prints all
+
+-- memory did not suffice to tell each why the store cannot go on, or the output failed
+abbrev pub IsWanting : (List ℕ → Type 0) → Failure → Type 0
+IsWanting prints (failure.Fault fault) = fault ≡ Memory
+IsWanting prints Output = PrintsWhy prints
+
+-- nothing ran to its end
+abbrev pub RanNone : DeskView → Type 0
+RanNone v = ⊥
 
 -- a request of this id is answered, and else nothing is changed but what the pass knows
 pub record AnswersOnly (id : ℤ) (v w : DeskView) : Type 0 where

@@ -241,6 +241,12 @@ pub record RunsLast (s : Store) (text : List ℕ) (v w : DeskView) : Type 0 wher
   pub takes : TakesLast s text v taken
   pub finishes : Finishes s taken w
 
+-- The same, and what still waits is told that the store is closed.
+pub record RunsEnd (s : Store) (text : List ℕ) (v w : DeskView) : Type 0 where
+  pub ran : DeskView
+  pub runs : RunsLast s text v ran
+  pub is : w ≡ with_closed ran
+
 -- The end of the input: what still waits is told that the store is closed.
 pub record ServesEnd (s : Store) (text : List ℕ) (v w : DeskView) (prints : List ℕ → Type 0) : Type 0 where
   pub ran : DeskView

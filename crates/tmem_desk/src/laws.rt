@@ -10,7 +10,7 @@ ghost use Rattle.tmem_desk.specs.Desks.{DeskView};
 ghost use Rattle.tmem_desk.specs.Due.{LosesNone, answers_to, due, one_for};
 ghost use Rattle.tmem_desk.specs.Durable.{TellsAmong};
 ghost use Rattle.tmem_desk.specs.Steps.{Steps};
-ghost use Rattle.tmem_desk.specs.Serving.{Takes, TakesText, RefusesLine, RefusesLong, Round, TriesNext, Finishes, ServesPiece, ServesEnd, with_closed};
+ghost use Rattle.tmem_desk.specs.Serving.{Takes, TakesText, RefusesLine, RefusesLong, Round, RunsEnd, RunsPiece, TriesNext, Finishes, ServesPiece, ServesEnd, with_closed};
 
 /// No answer is lost, and none is given twice: a request that is taken waits or is answered once, and so does one that is tried again.
 /// No other request is touched, but that one that waits may be answered that it was cancelled. A line that is no request answers none.
@@ -27,13 +27,15 @@ pub fn each_is_answered_once()
 {}
 
 /// Nothing that a client was told is lost: each transaction that an answer names, and each that it was made on, is among those that the
-/// pass saw durable before it was printed. For an answer that names none, as that a transaction retries, aborts or is refused, it is told
+/// pass saw durable before it was printed, also where the output takes the beginning alone (`ran`). For an answer that names none, as that a transaction retries, aborts or is refused, it is told
 /// of what the pass knew when it was made: that stays known from line to line and from turn to turn, and is durable once all is finished.
 pub fn nothing_told_is_lost()
     ensures pieces { (s : Store) (text : List ℕ) (held : LinesView) (v w : DeskView) (before after : Option (List ℕ)) (served : ServesPiece s text held v w (Appends before after))
         → v.told ≡ [] → All (TellsAmong (count s.start w.pass.seen)) served.ran.told }
     ensures end { (s : Store) (text : List ℕ) (v w : DeskView) (before after : Option (List ℕ)) (served : ServesEnd s text v w (Appends before after))
         → v.told ≡ [] → All (TellsAmong (count s.start w.pass.seen)) (with_closed served.ran).told }
+    ensures ran { (s : Store) (text : List ℕ) (held : LinesView) (v ran : DeskView) → RunsPiece s text held v ran → v.told ≡ [] → All (TellsAmong (count s.start ran.pass.seen)) ran.told }
+    ensures ran_end { (s : Store) (text : List ℕ) (v ran : DeskView) → RunsEnd s text v ran → v.told ≡ [] → All (TellsAmong (count s.start ran.pass.seen)) ran.told }
     ensures lines { (s : Store) (text : List ℕ) (v w : DeskView) → TakesText s text v w → IsPrefix v.pass.known w.pass.known }
     ensures turns { (s : Store) (v w : DeskView) → TriesNext s v w → IsPrefix v.pass.known w.pass.known }
     ensures finished { (s : Store) (v w : DeskView) → Finishes s v w → IsPrefix v.pass.known w.pass.seen }

@@ -5,9 +5,9 @@ ghost use Rattle.tmem_front.specs.Settling.{SeesMore};
 ghost use Rattle.tmem_lines.specs.Lines.{HoldsRestOf};
 ghost use Rattle.tmem_desk.specs.Asking.{store};
 ghost use Rattle.tmem_desk.specs.Due.{KeepsDue};
-ghost use Rattle.tmem_desk.specs.Failing.{EndsBy, IsLast, IsUnprinted, OrMemory, PassesAll, TakesPart, TakesRest, TellsAll};
+ghost use Rattle.tmem_desk.specs.Failing.{EndsBy, IsLast, IsUnprinted, IsWanting, OrMemory, PassesAll, RanNone, TakesPart, TakesRest, TellsAll};
 ghost use Rattle.tmem_desk.specs.Held.{desk_view};
-ghost use Rattle.tmem_desk.specs.Serving.{by, Finishes, Splits, TakesAll, RunsPiece, ServesPiece, TakesLast, RunsLast, ServesEnd, with_closed};
+ghost use Rattle.tmem_desk.specs.Serving.{by, Finishes, Splits, TakesAll, RunsPiece, ServesPiece, TakesLast, RunsLast, RunsEnd, ServesEnd, with_closed};
 ghost use Rattle.tmem_desk.specs.Told.{told_lines, failed};
 
 use crate::desk::Desk;
@@ -39,7 +39,7 @@ impl<N: ServedNaming> Desk<N> {
         out: &mut W,
     ) -> Result<(), Failure>
         ensures ends { IfErr result (EndsBy (Appends (W.contents out.old) (W.contents out.new))) }
-        ensures told { IfErr result (λ e. (text : List ℕ) → HoldsRestOf lines.old text → TellsAll (store N.name.start N.opening N.program N.arities N.always) (λ texts. Splits (text ++ piece.now) texts lines.new) (desk_view self.old) (Appends (W.contents out.old) (W.contents out.new)) e) }
+        ensures told { IfErr result (λ e. (text : List ℕ) → HoldsRestOf lines.old text → TellsAll (store N.name.start N.opening N.program N.arities N.always) (λ texts. Splits (text ++ piece.now) texts lines.new) (RunsPiece (store N.name.start N.opening N.program N.arities N.always) (text ++ piece.now) lines.new (desk_view self.old)) (desk_view self.old) (Appends (W.contents out.old) (W.contents out.new)) e) }
         ensures serves { OnOk result ((text : List ℕ) → HoldsRestOf lines.old text → ServesPiece (store N.name.start N.opening N.program N.arities N.always) (text ++ piece.now) lines.new (desk_view self.old) (desk_view self.new) (Appends (W.contents out.old) (W.contents out.new))) }
     {
         if lines.add(piece).is_err() {
@@ -115,7 +115,7 @@ impl<N: ServedNaming> Desk<N> {
         ensures printed { OnOk result (Appends (W.contents out.old) (W.contents out.new) (told_lines self.old.told.items)) }
         ensures desk { OnOk result (desk_view self.new ≡ record (desk_view self.old) { told = [] }) }
         ensures ends { IfErr result (EndsBy (Appends (W.contents out.old) (W.contents out.new))) }
-        ensures err { IfErr result IsUnprinted }
+        ensures err { IfErr result (IsUnprinted (Appends (W.contents out.old) (W.contents out.new)) self.old.told.items) }
     {
         self.print(&self.told, out)?;
         self.told.clear();
@@ -131,7 +131,7 @@ impl<N: ServedNaming> Desk<N> {
         out: &mut W,
     ) -> Result<(), Failure>
         ensures ends { IfErr result (EndsBy (Appends (W.contents out.old) (W.contents out.new))) }
-        ensures told { IfErr result (λ e. (text : List ℕ) → HoldsRestOf lines.old text → TellsAll (store N.name.start N.opening N.program N.arities N.always) (IsLast text) (desk_view self.old) (Appends (W.contents out.old) (W.contents out.new)) e) }
+        ensures told { IfErr result (λ e. (text : List ℕ) → HoldsRestOf lines.old text → TellsAll (store N.name.start N.opening N.program N.arities N.always) (IsLast text) (RunsEnd (store N.name.start N.opening N.program N.arities N.always) text (desk_view self.old)) (desk_view self.old) (Appends (W.contents out.old) (W.contents out.new)) e) }
         ensures serves { OnOk result ((text : List ℕ) → HoldsRestOf lines.old text → ServesEnd (store N.name.start N.opening N.program N.arities N.always) text (desk_view self.old) (desk_view self.new) (Appends (W.contents out.old) (W.contents out.new))) }
     {
         match self.run_last(service, lines) {
@@ -198,8 +198,8 @@ impl<N: ServedNaming> Desk<N> {
     ) -> Result<(), Failure>
         ensures never { IsErr result }
         ensures ends { IfErr result (EndsBy (Appends (W.contents out.old) (W.contents out.new))) }
-        ensures memory { fault ≡ Fault.Memory → IfErr result IsUnprinted }
-        ensures told { IfErr result (λ e. (text : List ℕ) → HoldsRestOf lines.old text → TellsAll (store N.name.start N.opening N.program N.arities N.always) (λ texts. Splits text texts lines.new) (desk_view self.old) (Appends (W.contents out.old) (W.contents out.new)) e) }
+        ensures memory { fault ≡ Fault.Memory → IfErr result (IsWanting (Appends (W.contents out.old) (W.contents out.new))) }
+        ensures told { IfErr result (λ e. (text : List ℕ) → HoldsRestOf lines.old text → TellsAll (store N.name.start N.opening N.program N.arities N.always) (λ texts. Splits text texts lines.new) RanNone (desk_view self.old) (Appends (W.contents out.old) (W.contents out.new)) e) }
     {
         let fault = why_ended(fault, service.front.fault(service.rt));
         self.pass_over(service, lines)?;

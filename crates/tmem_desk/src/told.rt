@@ -1,13 +1,14 @@
 // What is told, and printed once it is durable.
-ghost use Rattle.std.specs.Prelude.{◌≡◌, ◌++◌, OnOk, IfErr};
+ghost use Rattle.std.specs.Prelude.{◌≡◌, ◌≤◌, ◌++◌, ℕ, List, [], length, OnOk, OnErr, IfOk, IfErr};
 ghost use Rattle.std.specs.Io.KnownBytes.{Appends};
 ghost use Rattle.tmem_desk.specs.Failing.{EndsBy, IsUnprinted, MayPrint};
+ghost use Rattle.tmem_desk.specs.declared.failure.Failure.TheVariants.{Output};
 ghost use Rattle.tmem_desk.specs.Told.{told_line, told_lines};
 
 use crate::desk::Desk;
 use crate::failure::Failure;
 use crate::naming::ServedNaming;
-use std::io::{self, Write};
+use std::io::{self, ErrorKind, Write};
 use tmem_fault::Fault;
 use tmem_requests::{AnswerLine, NoRequestLine};
 
@@ -26,15 +27,45 @@ impl<N: ServedNaming> Desk<N> {
         requires { MayPrint self.now.pass told.now }
         ensures printed { OnOk result (Appends (W.contents out.old) (W.contents out.new) (told_lines told.now)) }
         ensures ends { IfErr result (EndsBy (Appends (W.contents out.old) (W.contents out.new))) }
-        ensures err { IfErr result IsUnprinted }
+        ensures err { IfErr result (IsUnprinted (Appends (W.contents out.old) (W.contents out.new)) told.now) }
     {
         let mut text = Vec::new(self.alloc);
         if spell_all(told, &mut text).is_err() {
             return Err(Failure::Fault(Fault::Memory));
         }
-        out.write_all(&text)?;
-        out.flush()?;
-        Ok(())
+        write_flushed(&text, out)
+    }
+}
+
+// Writes these bytes, and flushes them. Where that fails, the beginning of them was written at most.
+fn write_flushed<W: Write>(bytes: &[u8], out: &mut W) -> Result<(), Failure>
+    ensures written { OnOk result (Appends (W.contents out.old) (W.contents out.new) bytes.now) }
+    ensures part { OnErr result ((part : List ℕ) × (rest : List ℕ) × (bytes.now ≡ part ++ rest) × Appends (W.contents out.old) (W.contents out.new) part) }
+    ensures failed { IfErr result (λ e. e ≡ Output) }
+{
+    let mut rest = bytes;
+    for _ in 0..u64::MAX {
+        if rest.is_empty() {
+            out.flush()?;
+            return Ok(());
+        }
+        rest = write_some(rest, out)?;
+    }
+    Err(Failure::Output)
+}
+
+// Writes some of these bytes, and answers the others: all of them where a signal came between.
+fn write_some<'a, W: Write>(bytes: &'a [u8], out: &mut W) -> Result<&'a [u8], Failure>
+    requires { 1 ≤ length bytes.now }
+    ensures written { IfOk result (λ rest. (part : List ℕ) × (bytes.now ≡ part ++ rest.now) × Appends (W.contents out.old) (W.contents out.new) part) }
+    ensures none { OnErr result (Appends (W.contents out.old) (W.contents out.new) []) }
+    ensures failed { IfErr result (λ e. e ≡ Output) }
+{
+    match out.write(bytes) {
+        Ok(0) => Err(Failure::Output),
+        Ok(count) => Ok(&bytes[count..]),
+        Err(error) if error.kind() == ErrorKind::Interrupted => Ok(bytes),
+        Err(_) => Err(Failure::Output),
     }
 }
 

@@ -7,9 +7,10 @@ use Rattle.tmem_lines.specs.Lines.{HoldsRestOf}
 use Rattle.tmem_lines.specs.Views.{LinesView}
 use Rattle.tmem_desk.specs.Asking.{Store}
 use Rattle.tmem_desk.specs.Desks.{DeskView}
-use Rattle.tmem_desk.specs.Failing.{EndsBy, IsLast, TellsAll}
-use Rattle.tmem_desk.specs.Serving.{ServesPiece, ServesEnd}
+use Rattle.tmem_desk.specs.Failing.{EndsBy, PrintsPart}
+use Rattle.tmem_desk.specs.Serving.{RunsEnd, ServesPiece, ServesEnd}
 use Rattle.tmem_desk.specs.Told.{told_lines}
+use Rattle.tmem_desk.specs.declared.told.Told.{Told}
 use Rattle.tmem_desk.specs.declared.failure.Failure.{Failure}
 use Rattle.tmem_desk.specs.declared.failure.Failure.TheVariants as failure
 use Rattle.tmem_desk.specs.Serving.{with_closed}
@@ -59,6 +60,10 @@ Appends-kept None b c bytes one kept = tt
 Appends-kept (Some x) None c bytes one kept = absurd one
 Appends-kept (Some x) (Some y) None bytes one kept = absurd kept
 Appends-kept (Some x) (Some y) (Some z) bytes one kept = kept ∙ one
+
+-- all of it was printed
+whole_part : (a b c : Option (List ℕ)) (all : List Told) → Appends a b (told_lines all) → Keeps b c → PrintsPart (Appends a c) all
+whole_part a b c all one kept = (told_lines all, [], sym (append-nil (told_lines all)), Appends-kept a b c (told_lines all) one kept)
 
 -- none, and none again
 pub Keeps-refl : (a : Option (List ℕ)) → Keeps a a
@@ -141,10 +146,28 @@ module _ (s : Store) (v : DeskView) (unread before : Option (List ℕ)) where
   }
 
   -- where what was printed could not be flushed
-  pub unflushed : (w : DeskView) (held : LinesView) (rest rest' after flushed : Option (List ℕ)) (piece : List ℕ) (f : Failure) → HasServed s v w held unread rest before after
-      → Consumes rest rest' piece → f ≡ failure.Output → StopsInput s v unread rest' before flushed f
-  unflushed w held rest rest' after flushed piece f so read is =
-      stopped w held rest rest' after flushed piece f so read (subst (EndsBy (Appends after flushed)) (sym is) tt) (inr (subst (TellsAll s (IsLast so.left) w (Appends after flushed)) (sym is) tt))
+  unflushed : (w : DeskView) (held : LinesView) (rest rest' after flushed : Option (List ℕ)) (piece : List ℕ) (f : Failure) (so : HasServed s v w held unread rest before after)
+      → Consumes rest rest' piece → f ≡ failure.Output → TellsStop s so.left piece w (Appends after flushed) failure.Output → StopsInput s v unread rest' before flushed f
+  unflushed w held rest rest' after flushed piece f so read is told =
+      stopped w held rest rest' after flushed piece f so read (subst (EndsBy (Appends after flushed)) (sym is) tt) (subst (TellsStop s so.left piece w (Appends after flushed)) (sym is) told)
+
+  -- of a piece
+  pub piece_unflushed : (w w' : DeskView) (held held' : LinesView) (rest rest' after printed flushed : Option (List ℕ)) (piece : List ℕ) (f : Failure) → HasServed s v w held unread rest before after
+      → Consumes rest rest' piece
+      → ((text : List ℕ) → HoldsRestOf held text → ServesPiece s (text ++ piece) held' w w' (Appends after printed))
+      → Keeps printed flushed → f ≡ failure.Output → StopsInput s v unread rest' before flushed f
+  piece_unflushed w w' held held' rest rest' after printed flushed piece f so read serves kept is =
+      let of = serves so.left so.stands in
+      unflushed w held rest rest' after flushed piece f so read is (inl (held', inl (of.ran, of.runs, whole_part after printed flushed of.ran.told of.printed kept)))
+
+  -- and of the end
+  pub end_unflushed : (w w' : DeskView) (held : LinesView) (rest rest' after printed flushed : Option (List ℕ)) (f : Failure) → HasServed s v w held unread rest before after
+      → Consumes rest rest' [] → ((text : List ℕ) → HoldsRestOf held text → ServesEnd s text w w' (Appends after printed))
+      → Keeps printed flushed → f ≡ failure.Output → StopsInput s v unread rest' before flushed f
+  end_unflushed w w' held rest rest' after printed flushed f so read serves kept is =
+      let of = serves so.left so.stands in
+      let ran : RunsEnd s so.left w (with_closed of.ran) = record { ran = of.ran; runs = of.runs; is = refl } in
+      unflushed w held rest rest' after flushed [] f so read is (inr (inl (with_closed of.ran, ran, whole_part after printed flushed (with_closed of.ran).told of.printed kept)))
 
   -- where there was no memory to begin with
   pub not_begun : (held : LinesView) → HoldsRestOf held [] → StopsInput s v unread unread before before (failure.Fault Memory)

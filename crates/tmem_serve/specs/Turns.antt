@@ -5,7 +5,7 @@ use Rattle.tmem_lines.specs.Views.{LinesView}
 use Rattle.tmem_desk.specs.Asking.{Store}
 use Rattle.tmem_desk.specs.Desks.{DeskView}
 use Rattle.tmem_desk.specs.Failing.{EndsBy, IsLast, TellsAll}
-use Rattle.tmem_desk.specs.Serving.{ServesPiece, ServesEnd, Splits}
+use Rattle.tmem_desk.specs.Serving.{RunsEnd, RunsPiece, ServesPiece, ServesEnd, Splits}
 use Rattle.tmem_desk.specs.declared.failure.Failure.{Failure}
 
 -- One read of the input: the bytes that it gave, and what was printed for them.
@@ -52,9 +52,11 @@ pub record ServesInput (s : Store) (v : DeskView) (unread rest before after : Op
   pub printed : Appends before after (printed_in turns ++ last)
 
 -- Each that was due is told, and each line that has ended of what was left and of this piece; or at the end of the input what was left.
+-- Where the output failed, no more was printed than the beginning of that.
 abbrev pub TellsStop : Store → List ℕ → List ℕ → DeskView → (List ℕ → Type 0) → Failure → Type 0
 TellsStop s left piece v prints f =
-    ((held : LinesView) × TellsAll s (λ (texts : List (List ℕ)). Splits (left ++ piece) texts held) v prints f) ⊎ TellsAll s (IsLast left) v prints f
+    ((held : LinesView) × TellsAll s (λ (texts : List (List ℕ)). Splits (left ++ piece) texts held) (RunsPiece s (left ++ piece) held v) v prints f)
+    ⊎ TellsAll s (IsLast left) (RunsEnd s left v) v prints f
 
 -- From v these turns were served, and then serving ended early, at a piece that was read, or at the end: as the desk says.
 pub record StopsInput (s : Store) (v : DeskView) (unread rest before after : Option (List ℕ)) (f : Failure) : Type 0 where

@@ -193,7 +193,7 @@ fn print_first<W: Write>(
 
 // Flushes what was printed.
 fn flush<W: Write>(out: &mut W) -> Result<(), Failure>
-    ensures kept { OnOk result (Keeps (W.contents out.old) (W.contents out.new)) }
+    ensures kept { Keeps (W.contents out.old) (W.contents out.new) }
     ensures failed { IfErr result (λ f. f ≡ failure.Output) }
 {
     Ok(out.flush()?)

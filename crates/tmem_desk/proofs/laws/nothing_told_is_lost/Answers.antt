@@ -22,6 +22,15 @@ returns-clause-end c s text v w before after served none =
     subst (λ (p : PassRoleView). All (TellsAmong (count s.start p.seen)) (with_closed served.ran).told) (sym pass)
     (closed_told (count s.start served.ran.pass.seen) served.ran (finished_told s served.runs.taken served.ran taken served.runs.finishes))
 
+pub returns-clause-ran : goal.returns-clause-ran
+returns-clause-ran c s text held v ran runs none = finished_told s runs.taken ran (texts_told s runs.takes.texts v runs.taken (nothing_told s v none) runs.takes.takes) runs.finishes
+
+pub returns-clause-ran_end : goal.returns-clause-ran_end
+returns-clause-ran_end c s text v w so none =
+    let taken = last_taken_told s text v so.runs.taken (nothing_told s v none) so.runs.takes in
+    subst (λ (d : DeskView). All (TellsAmong (count s.start d.pass.seen)) d.told) (sym so.is)
+    (closed_told (count s.start so.ran.pass.seen) so.ran (finished_told s so.runs.taken so.ran taken so.runs.finishes))
+
 pub returns-clause-lines : goal.returns-clause-lines
 returns-clause-lines c s text v w t = text_keeps s text v w t
 

@@ -4,7 +4,7 @@ use Rattle.std.proofs.lemmas.List.{take_at}
 use Rattle.tmem_desk.specs.Asking.{store}
 use Rattle.tmem_desk.specs.Held.{desk_view}
 use Rattle.tmem_serve.specs.Turns.{StopsInput}
-use Rattle.tmem_serve.proofs.Turning.{err_is, none_served, one_served, all_served, stopped, unflushed, not_begun}
+use Rattle.tmem_serve.proofs.Turning.{err_is, none_served, one_served, all_served, stopped, piece_unflushed, end_unflushed, not_begun}
 use Rattle.tmem_serve.proofs.serving.serve_lines.Goals as goal
 
 pub returns-in_err-piece-clause-stopped : goal.returns-in_err-piece-clause-stopped
@@ -53,7 +53,7 @@ returns-in-Err-clause-served g c =
     let after = g.W.Write.contents c.loop.out in
     let given = g.W.Write.contents c.end.new.out in
     let flushed = g.W.Write.contents c.flush-in-Err.new.out in
-    all_served s v unread before met (desk_view c.end.new.self) c.loop.lines rest left after given flushed so c.in-Err.ensures.none c.in_ok-end-in-Err.ensures.serves c.in_ok-flush-in-Err.ensures.kept
+    all_served s v unread before met (desk_view c.end.new.self) c.loop.lines rest left after given flushed so c.in-Err.ensures.none c.in_ok-end-in-Err.ensures.serves c.flush-in-Err.ensures.kept
 
 pub returns-in_err-flush-in-Err-clause-stopped : goal.returns-in_err-flush-in-Err-clause-stopped
 returns-in_err-flush-in-Err-clause-stopped g c =
@@ -66,9 +66,10 @@ returns-in_err-flush-in-Err-clause-stopped g c =
     let left = g.I.Read.remaining c.read_some.new.input in
     let so = c.loop.invariant.served in
     let after = g.W.Write.contents c.loop.out in
+    let given = g.W.Write.contents c.end.new.out in
     let flushed = g.W.Write.contents c.flush-in-Err.new.out in
     err_is (StopsInput s v unread left before flushed) c.from_residual-in_err-flush-in-Err.result c.in_err-flush-in-Err.field-0.0 c.from_residual-in_err-flush-in-Err.ensures.1
-    (unflushed s v unread before met c.loop.lines rest left after flushed _ c.in_err-flush-in-Err.field-0.0 so c.in-Err.ensures.none c.in_err-flush-in-Err.ensures.failed)
+    (end_unflushed s v unread before met (desk_view c.end.new.self) c.loop.lines rest left after given flushed c.in_err-flush-in-Err.field-0.0 so c.in-Err.ensures.none c.in_ok-end-in-Err.ensures.serves c.flush-in-Err.ensures.kept c.in_err-flush-in-Err.ensures.failed)
 
 pub returns-in_err-serve-in-Ok-clause-stopped : goal.returns-in_err-serve-in-Ok-clause-stopped
 returns-in_err-serve-in-Ok-clause-stopped g c =
@@ -109,7 +110,7 @@ loop-preserved g c =
     let piece : c.first_of.result.now ≡ take c.in-Ok.count c.read_some.new.piece = subst (λ (xs : List ℕ). c.first_of.result.now ≡ take c.in-Ok.count xs) same c.first_of.ensures in
     let came = subst (Consumes rest left) (sym piece) read in
     record {
-      served = one_served s v unread before met (desk_view c.serve.new.self) c.loop.lines c.serve.new.lines rest left after given flushed c.first_of.result.now so came c.in_ok-serve-in-Ok.ensures.serves c.in_ok-flush-in-Ok.ensures.kept;
+      served = one_served s v unread before met (desk_view c.serve.new.self) c.loop.lines c.serve.new.lines rest left after given flushed c.first_of.result.now so came c.in_ok-serve-in-Ok.ensures.serves c.flush.ensures.kept;
       room = subst (λ (xs : List ℕ). 1 ≤ length xs) (sym (take_at c.read_some.new.piece _ c.loop.piece.len long)) (omega (arith, long, c.loop.invariant.room));
     }
 
@@ -125,6 +126,11 @@ returns-in_err-flush-in-Ok-clause-stopped g c =
     let so = c.loop.invariant.served in
     let after = g.W.Write.contents c.loop.out in
     let read = c.in-Ok.ensures.bytes in
+    let given = g.W.Write.contents c.serve.new.out in
     let flushed = g.W.Write.contents c.flush.new.out in
+    let long : length c.read_some.new.piece ≡ c.loop.piece.len = omega arith in
+    let same : c.deref.result.now ≡ c.read_some.new.piece = c.deref.ensures.value ∙ take_at c.read_some.new.piece _ c.loop.piece.len long in
+    let piece : c.first_of.result.now ≡ take c.in-Ok.count c.read_some.new.piece = subst (λ (xs : List ℕ). c.first_of.result.now ≡ take c.in-Ok.count xs) same c.first_of.ensures in
+    let came = subst (Consumes rest left) (sym piece) read in
     err_is (StopsInput s v unread left before flushed) c.from_residual-in_err-flush-in-Ok.result c.in_err-flush-in-Ok.field-0.0 c.from_residual-in_err-flush-in-Ok.ensures.1
-    (unflushed s v unread before met c.loop.lines rest left after flushed _ c.in_err-flush-in-Ok.field-0.0 so read c.in_err-flush-in-Ok.ensures.failed)
+    (piece_unflushed s v unread before met (desk_view c.serve.new.self) c.loop.lines c.serve.new.lines rest left after given flushed _ c.in_err-flush-in-Ok.field-0.0 so came c.in_ok-serve-in-Ok.ensures.serves c.flush.ensures.kept c.in_err-flush-in-Ok.ensures.failed)

@@ -3,7 +3,7 @@ use Rattle.tmem_desk.specs.Held.{desk_view}
 use Rattle.tmem_desk.proofs.Giving.{on_ok_both, at_success}
 use Rattle.std.specs.Io.KnownBytes.{Appends}
 use Rattle.tmem_desk.specs.Asking.{store}
-use Rattle.tmem_desk.specs.Serving.{Splits}
+use Rattle.tmem_desk.specs.Serving.{RunsPiece, Splits}
 use Rattle.tmem_desk.proofs.Losing.{piece_fails, unprinted_texts}
 use Rattle.tmem_desk.proofs.desk.Desk.serve.Goals as goal
 
@@ -20,10 +20,12 @@ returns-in-Ok-clause-serves g c =
 
 pub returns-in-Ok-clause-told : goal.returns-in-Ok-clause-told
 returns-in-Ok-clause-told g c =
-    unprinted_texts _ (store g.N.Naming.name.start g.N.StoreNaming.opening g.N.ProgramNaming.program g.N.ServedNaming.arities g.N.ServedNaming.always) (λ (text : List ℕ) (texts : List (List ℕ)). Splits (text ++ c.args.piece.now) texts c.run.new.lines) (desk_view c.args.self.now) (Appends (g.W.Write.contents c.args.out.now) (g.W.Write.contents c.give.new.out)) c.give.result c.give.ensures.err
+    unprinted_texts _ (store g.N.Naming.name.start g.N.StoreNaming.opening g.N.ProgramNaming.program g.N.ServedNaming.arities g.N.ServedNaming.always) (λ (text : List ℕ) (texts : List (List ℕ)). Splits (text ++ c.args.piece.now) texts c.run.new.lines)
+    (λ (text : List ℕ). RunsPiece (store g.N.Naming.name.start g.N.StoreNaming.opening g.N.ProgramNaming.program g.N.ServedNaming.arities g.N.ServedNaming.always) (text ++ c.args.piece.now) c.run.new.lines (desk_view c.args.self.now)) (desk_view c.args.self.now) (desk_view c.run.new.self) (Appends (g.W.Write.contents c.args.out.now) (g.W.Write.contents c.give.new.out)) c.give.result
+    (λ text stands. c.in-Ok.ensures.runs (text ++ c.args.piece.now) (at_success c.add.result (sym c.is_err.ensures.value ∙ c.if-is_err.false) c.add.ensures.ok text stands)) c.give.ensures.err
 
 pub returns-in-Err-clause-told : goal.returns-in-Err-clause-told
 returns-in-Err-clause-told g c =
-    piece_fails c.fail.result (store g.N.Naming.name.start g.N.StoreNaming.opening g.N.ProgramNaming.program g.N.ServedNaming.arities g.N.ServedNaming.always) c.args.piece.now c.run.new.lines c.fail.new.lines (desk_view c.args.self.now) (desk_view c.run.new.self) (Appends (g.W.Write.contents c.args.out.now) (g.W.Write.contents c.fail.new.out)) c.in-Err.fault
+    piece_fails c.fail.result (store g.N.Naming.name.start g.N.StoreNaming.opening g.N.ProgramNaming.program g.N.ServedNaming.arities g.N.ServedNaming.always) c.args.piece.now c.run.new.lines c.fail.new.lines (λ (text : List ℕ). RunsPiece (store g.N.Naming.name.start g.N.StoreNaming.opening g.N.ProgramNaming.program g.N.ServedNaming.arities g.N.ServedNaming.always) (text ++ c.args.piece.now) c.fail.new.lines (desk_view c.args.self.now)) (desk_view c.args.self.now) (desk_view c.run.new.self) (Appends (g.W.Write.contents c.args.out.now) (g.W.Write.contents c.fail.new.out)) c.in-Err.fault
     (λ text stands. c.in-Err.ensures.err (text ++ c.args.piece.now) (at_success c.add.result (sym c.is_err.ensures.value ∙ c.if-is_err.false) c.add.ensures.ok text stands))
     c.fail.ensures.memory c.fail.ensures.told
