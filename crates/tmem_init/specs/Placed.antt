@@ -1,7 +1,11 @@
 -- How the content of a new store gets onto a device that is there.
-use Rattle.std.specs.Prelude.{◌≡◌, ◌⊎◌, ⊤, ◌<◌, ℕ, List, length, drop, slice_index}
-use Rattle.tmem_disk.specs.Disk.{DeviceView}
+use Rattle.std.specs.Prelude.{◌≡◌, ◌⊎◌, ⊤, ◌<◌, ℕ, List, length, drop, take, slice_index}
+use Rattle.tmem_disk.specs.Disk.{AtEachMoment, DeviceView}
 use Rattle.tmem_fault.specs.declared.fault.Fault.TheVariants.{Device, Unknown}
+use Rattle.tmem_file.specs.FileView.{file_view}
+use Rattle.tmem_file.specs.Opening.{IsFreshlyOpened}
+use Rattle.tmem_file.specs.declared.disk.FileDisk.{FileDisk}
+use Rattle.tmem_gate.specs.Calls.{LooksOnly}
 use Rattle.tmem_gate.specs.Gate.{IsClosed, IsOpenOver}
 use Rattle.tmem_init.specs.declared.error.InitError.{InitError}
 use Rattle.tmem_init.specs.declared.error.InitError.TheVariants.{Refused}
@@ -30,3 +34,19 @@ abbrev pub IsEarly : InitError → Type 0
 IsEarly (Refused Device) = ⊥
 IsEarly (Refused Unknown) = ⊥
 IsEarly _ = ⊤
+
+-- A file was opened that was blank for this content, and is the device now. A crash at any moment since then leaves what one might have
+-- left before, or a content that is not half made.
+pub record IsPutOnBlank (content : List ℕ) (d : DeviceView) : Type 0 where
+  pub found : FileDisk
+  pub opened : IsFreshlyOpened (file_view found)
+  pub blank : d.keeps_model → IsBlankFor content (take (length content) (file_view found).seen)
+  pub moments : AtEachMoment (file_view found) d (LeftByMaking content (file_view found))
+
+-- A file was opened that was not blank for this content, and was read alone.
+pub record FindsOther (content : List ℕ) : Type 0 where
+  pub found : FileDisk
+  pub opened : IsFreshlyOpened (file_view found)
+  pub handed : FileDisk
+  pub looks : LooksOnly (file_view found) (file_view handed)
+  pub other : (file_view handed).keeps_model → ¬ IsBlankFor content (take (length content) (file_view found).seen)

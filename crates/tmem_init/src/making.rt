@@ -1,7 +1,8 @@
 //! A new store, from its invariants to its place.
-ghost use Rattle.std.specs.Prelude.{◌≡◌, IfOk};
+ghost use Rattle.std.specs.Prelude.{◌≡◌, ℕ, List, IfOk};
 ghost use Rattle.tmem_file.specs.FileView.{file_view};
-ghost use Rattle.tmem_init.specs.Content.{IsNewStore};
+ghost use Rattle.tmem_init.specs.Content.{IsContent, IsNewStore};
+ghost use Rattle.tmem_init.specs.Placed.{FindsOther, IsPutOnBlank};
 
 use crate::content::content_of;
 use crate::error::InitError;
@@ -51,7 +52,9 @@ pub fn make_in_place<
     always: &[Name],
 ) -> Result<FileDisk, InitError>
     requires { T.vars table ≡ layout.vars }
-    ensures { IfOk result (λ disk. IsNewStore layout.vars layout.slots always.now (file_view disk)) }
+    ensures new { IfOk result (λ disk. IsNewStore layout.vars layout.slots always.now (file_view disk)) }
+    ensures put { IfOk result (λ disk. (content : List ℕ) × IsContent layout.vars layout.slots always.now content × IsPutOnBlank content (file_view disk)) }
+    ensures not_blank { result ≡ Err InitError.NotBlank → (content : List ℕ) × IsContent layout.vars layout.slots always.now content × FindsOther content }
 {
     let content = content_of(rt.alloc(), layout, table, steps, always)?;
     place_in(rt, path, &content)

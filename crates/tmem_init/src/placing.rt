@@ -6,7 +6,7 @@ ghost use Rattle.tmem_gate.specs.Calls.{LooksOnly};
 ghost use Rattle.tmem_gate.specs.Gate.{IsOpenAt};
 ghost use Rattle.tmem_gate.specs.declared.gate.TheConstants.{GATE_OPEN};
 ghost use Rattle.tmem_file.specs.FileView.{file_view};
-ghost use Rattle.tmem_init.specs.Placed.{IsBetween, IsBlankFor, IsEarly, LeftByMaking};
+ghost use Rattle.tmem_init.specs.Placed.{FindsOther, IsBetween, IsBlankFor, IsEarly, IsPutOnBlank, LeftByMaking};
 
 use crate::error::InitError;
 use std::alloc::Global;
@@ -100,6 +100,8 @@ pub(crate) fn place_in<R: Files<File = File> + AllocGlobal>(
     requires { IsOpenAt 0 content.now }
     ensures holds { IfOk result (λ disk. ReadsAs (file_view disk) content.now) }
     ensures synced { IfOk result (λ disk. IsSynced (file_view disk)) }
+    ensures put { IfOk result (λ disk. IsPutOnBlank content.now (file_view disk)) }
+    ensures not_blank { result ≡ Err InitError.NotBlank → FindsOther content.now }
 {
     let mut disk = FileDisk::open(rt, path, content.len() as u64)?;
     put_on(rt.alloc(), &mut disk, content)?;

@@ -20,6 +20,6 @@ returns g c =
     let layout = c.in_ok-layout.layout in
     let of : (names : List (List ℕ)) (d : DeviceView) → names ≡ c.in_ok-always.always.items → IsNewStore layout.vars layout.slots names d → IsStoreOf c.args.text.now d = λ names d same made. is_store_of c.args.text.now shape layout.vars layout.slots names d c.in_ok-shape.ensures.ok c.in_ok-layout.ensures.vars c.in_ok-layout.ensures.slots (same ∙ c.in_ok-always.ensures) made in
     elim c.if-is_in_place.branch [
-      | then-is_in_place+in_ok-made w ↦ rw w.made-is (of _ _ w.deref.ensures.value w.in_ok-made.ensures)
+      | then-is_in_place+in_ok-made w ↦ rw w.made-is (of _ _ w.deref.ensures.value w.in_ok-made.ensures.new)
       | else-is_in_place+in_ok-made-2 w ↦ rw w.made-is (of _ _ w.deref-else-is_in_place.ensures.value w.in_ok-made-2.ensures)
     ]
