@@ -78,7 +78,9 @@ def markdown(rows, part, key):
     those = [row for row in rows if row["part"] == part and row["job"] != SYNCS]
     peers = [peer for peer in ORDER if any(row["peer"] == peer for row in those)]
     cells = {(row["job"], row["callers"], row["peer"]): row.get(key) for row in those}
-    lines = [f"| Job | {' | '.join(LABELS[peer] for peer in peers)} |", f"|---|{'---|' * len(peers)}"]
+    peers = [peer for peer in peers if any(cells.get((row["job"], row["callers"], peer)) for row in those)]
+    unit = "a second" if key == "rate" else "as a ratio"
+    lines = [f"| Job, {unit} | {' | '.join(LABELS[peer] for peer in peers)} |", f"|---|{'---|' * len(peers)}"]
     for job, callers in dict.fromkeys((row["job"], row["callers"]) for row in those):
         had = [cells.get((job, callers, peer)) for peer in peers]
         texts = [f"{figure(it['median'])} ({figure(it['least'])} to {figure(it['most'])})" if it else "" for it in had]
