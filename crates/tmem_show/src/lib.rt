@@ -3,7 +3,8 @@
 //!
 //! `Source` reads the bytes of a file or a block device. `show` prints what `tmem_parts` says of them as text, and `show_json` as one
 //! JSON object. `fields` walks over the bytes of a part, for those who want to see each of them and where a part goes wrong; `log`
-//! says which image is chosen and which slots are of its log, and `reason` why an opening is refused, and at which byte.
+//! says which image is chosen and which slots are of its log, `reason` why an opening is refused, and at which byte, and `refusal_of` in
+//! which part that is.
 #![tactic(auto)]
 
 mod error;
@@ -12,11 +13,13 @@ mod json;
 mod log;
 mod look;
 mod reason;
+mod refusal;
 mod source;
 mod text;
 mod walk;
 
 pub use error::ShowError;
 pub use json::show_json;
+pub use refusal::{Refusal, refusal_of};
 pub use source::Source;
 pub use text::show;

@@ -1,0 +1,80 @@
+//! What of a store an opening refuses.
+use crate::look::{Look, Opening, opening_without_block, too_short};
+use crate::source::Source;
+use std::alloc::Global;
+use std::fmt;
+use tmem_fault::Fault;
+use tmem_parts::{Wrong, block_of};
+use tmem_record::{BLOCK_BYTES, Layout, SLOT_BYTES};
+
+/// Why an opening of a store is refused, and where. It prints as the part, the byte, and what is wrong there.
+#[derive(Drop)]
+pub struct Refusal {
+    pub fault: Fault,
+    part: Part,
+    wrong: Wrong,
+}
+
+// A part of a store.
+#[derive(Clone, Copy)]
+enum Part {
+    Block,
+    Image(u8),
+    Slot(u64),
+}
+
+impl fmt::Display for Refusal {
+    fn fmt<W: fmt::Write>(&self, f: &mut fmt::Formatter<W>) -> fmt::Result {
+        match self.part {
+            Part::Block => write!(f, "block 0, {}", self.wrong),
+            Part::Image(copy) => write!(f, "image {copy}, {}", self.wrong),
+            Part::Slot(k) => write!(f, "slot {k}, {}", self.wrong),
+        }
+    }
+}
+
+/// Why an opening of these bytes is refused, if it is. The only error is want of memory.
+pub fn refusal_of(alloc: Global, source: &Source) -> Result<Option<Refusal>, Fault> {
+    let block = match block_of(&source.bytes) {
+        Ok(block) => block,
+        Err(wrong) => {
+            let opening = opening_without_block(alloc, source, wrong)?;
+            return Ok(refusal_in(None, opening));
+        }
+    };
+    let layout = block.layout;
+    let opening = if (source.bytes.len() as u64) < layout.end() {
+        too_short(source)
+    } else {
+        Look::new(alloc, &source.bytes, layout)?.opening(block.version)?
+    };
+    Ok(refusal_in(Some(layout), opening))
+}
+
+// What is refused by what an opening finds in a store of this layout.
+fn refusal_in(layout: Option<Layout>, opening: Opening) -> Option<Refusal> {
+    match opening {
+        Opening::Found(_) => None,
+        Opening::Refused(fault, wrong) => {
+            let part = match layout {
+                Some(layout) => part_at(layout, wrong.at),
+                None => Part::Block,
+            };
+            Some(Refusal { fault, part, wrong })
+        }
+    }
+}
+
+// The part that a byte belongs to.
+fn part_at(layout: Layout, at: u64) -> Part {
+    let log = layout.slot(0);
+    if at < BLOCK_BYTES as u64 {
+        Part::Block
+    } else if at < layout.image(1) {
+        Part::Image(0)
+    } else if at < log {
+        Part::Image(1)
+    } else {
+        Part::Slot((at - log) / SLOT_BYTES as u64)
+    }
+}
