@@ -4,30 +4,29 @@ use Rattle.std.specs.Io.KnownBytes.{Appends}
 use Rattle.serde_json.specs.Data.{Data}
 use Rattle.serde_json.specs.Read.{read}
 use Rattle.tmem_explain.specs.Flaws.{IsFlawOf, IsTextFlaw}
+use Rattle.tmem_explain.specs.Limits.{IsFineText, IsFlawedText}
 use Rattle.tmem_explain.specs.Told.{flaw_text}
 use Rattle.tmem_explain.specs.declared.flaw.Flaw.{Flaw}
 use Rattle.tmem_fault.specs.declared.fault.Fault.TheVariants as fault
 use Rattle.tmem_requests.specs.Reasons.{IsNoJson}
 use Rattle.tmem_script.specs.Errors.{IsUnread}
-use Rattle.tmem_script.specs.Scripts.{IsScriptText}
 use Rattle.tmem_script.specs.declared.failure.Failure.{Failure}
 use Rattle.tmem_script.specs.declared.failure.Failure.TheVariants as failure
-use Rattle.tmem_script.specs.declared.script.Entry.{Entry}
 use Rattle.tmem_script.specs.declared.script.ScriptError.{ScriptError}
 use Rattle.tmem_run.specs.Printed.{line}
 
--- what was read is a script
+-- what was read is a script, and a run refuses none of its numbers and transactions
 abbrev pub IsScriptThere : Type 0
-IsScriptThere = (text : List ℕ) × (vars : ℕ) × (slots : ℕ) × (entries : List Entry) × IsScriptText vars slots entries text
+IsScriptThere = (text : List ℕ) × IsFineText text
 
 -- a line for each flaw
 abbrev pub lines_of : List Flaw → List ℕ
 lines_of flaws = flat_map (λ flaw. line (flaw_text flaw)) flaws
 
--- what was read is no script, these are true of it, and a line was printed for each
+-- what was read is no script, or one with numbers or a transaction that a run refuses; these are true of it, and a line was printed for each
 pub record HasFlaws (before after : Option (List ℕ)) : Type 0 where
   pub text : List ℕ
-  pub none : (vars slots : ℕ) (entries : List Entry) → ¬ IsScriptText vars slots entries text
+  pub flawed : IsFlawedText text
   pub flaws : List Flaw
   pub told : (value : Data) → IsUtf8 text → read text ≡ Some value → All (IsFlawOf value) flaws
   pub no_json : IsNoJson text → All IsTextFlaw flaws

@@ -14,8 +14,8 @@ use tmem_fault::Fault;
 use tmem_run::print_line;
 use tmem_script::{Failure, ScriptError};
 
-/// Prints a line for each flaw of the script in a file. Whether it is a script, of which nothing is printed. `Unreadable` where it is not
-/// read, and `Memory` where that does not suffice.
+/// Prints a line for each flaw of the script in a file. Whether it is a script of which a run refuses no number and no transaction: then
+/// nothing is printed. `Unreadable` where it is not read, and `Memory` where that does not suffice.
 pub(crate) fn check<W: Write>(
     rt: &(impl Files<File = File> + AllocGlobal),
     path: &str,

@@ -10,15 +10,17 @@ use std::rt::Clock;
 use std::sync::Wait;
 use std::thread::Threads;
 use tmem_fault::Fault;
-use tmem_run::{device_in_memory, made_file};
+use tmem_run::{Notes, device_in_memory, made_file};
 use tmem_threads::{SLOTS, Totals, VARS, Work, count_up};
 use tmem_world::Layout;
 
-/// Lets workers count up in a store that is made for them: in memory, or in a file that is not there yet.
+/// Lets workers count up in a store that is made for them: in memory, or in a file that is not there yet. Once that is made, it is noted
+/// that this program had it open.
 pub(crate) fn count_on<R: Files<File = File> + AllocGlobal + Threads + Wait + Clock + Sync>(
     rt: &R,
     work: Work,
     path: Option<&str>,
+    notes: &mut Notes,
 ) -> Result<Totals, Fault>
     ensures made { IfOk result (λ _. IsMadeAt (option_map (λ text. text.now) path.entry)) }
     ensures totals { IfOk result (λ totals. (opening : State) × AreTotals opening work totals) }
@@ -26,7 +28,11 @@ pub(crate) fn count_on<R: Files<File = File> + AllocGlobal + Threads + Wait + Cl
     let layout = Layout::new(VARS, SLOTS)?;
     match path {
         None => count_up(rt, rt.alloc(), device_in_memory(rt.alloc(), layout)?, work),
-        Some(path) => count_up(rt, rt.alloc(), made_file(rt, path, layout)?.0, work),
+        Some(path) => {
+            let (disk, _zeros) = made_file(rt, path, layout)?;
+            notes.note_device(true);
+            count_up(rt, rt.alloc(), disk, work)
+        }
     }
 }
 

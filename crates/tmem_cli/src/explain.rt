@@ -12,17 +12,18 @@ use std::io::{self, Write};
 use tmem_args::Asked;
 use tmem_desk::Failure as DeskFailure;
 use tmem_explain::{
-    DeviceCause, Expected, FaultHelp, NumbersHelp, Wanted, cause_of, flaws_in, plan_flaw,
+    CUT_OFF, CallCause, DeviceCause, Expected, FaultHelp, NumbersHelp, TOO_SHORT, Wanted, cause_of,
+    flaws_in, is_cut_off, plan_flaw,
 };
-use tmem_fault::Fault;
+use tmem_fault::{Cause, Fault};
 use tmem_init::InitError;
 use tmem_parts::block_of;
-use tmem_record::Layout;
+use tmem_record::{Layout, MOST_SLOTS, MOST_VARS};
 use tmem_run::{Notes, Refused};
 use tmem_script::{Failure, Script, ScriptError};
 use tmem_serve::ServeError;
 use tmem_shape::Shape;
-use tmem_show::Source;
+use tmem_show::{Source, refusal_of};
 
 const NO_OUTPUT: &str =
     "standard output took no more; look whether its reader has ended, and for room";
@@ -56,10 +57,49 @@ pub(crate) fn explain<E: Write>(
     err: &mut E,
 ) {
     // Where this fails, nobody is left to tell.
-    if let Err(failure) = outcome {
-        let _ = explain_failure(rt, asked, notes, failure, err);
+    let _ = match outcome {
+        Ok(()) => explain_shown(rt, asked, err),
+        Err(failure) => explain_failure(rt, asked, notes, failure, err),
+    };
+    let _ = explain_entries(rt, asked, notes, err);
+}
+
+// Tells what to do with a store that was shown, and of which an opening is refused.
+fn explain_shown<E: Write>(
+    rt: &(impl Files<File = File> + AllocGlobal),
+    asked: Asked,
+    err: &mut E,
+) -> io::Result<()> {
+    let Asked::Show(_) = asked else {
+        return Ok(());
+    };
+    let Some((path, _)) = store_of(asked) else {
+        return Ok(());
+    };
+    tell_bytes(rt, path, err)?;
+    Ok(())
+}
+
+// Tells which byte of a store an opening refuses, and what to do. Answers whether there is one.
+fn tell_bytes<E: Write>(
+    rt: &(impl Files<File = File> + AllocGlobal),
+    path: &str,
+    err: &mut E,
+) -> io::Result<bool> {
+    let Ok(source) = Source::read(rt, path) else {
+        return Ok(false);
+    };
+    let Ok(Some(refusal)) = refusal_of(rt.alloc(), &source) else {
+        return Ok(false);
+    };
+    match refusal.fault {
+        Fault::Geometry => tell(err, format_args!("{path}: {refusal}: {TOO_SHORT}"))?,
+        fault => {
+            let help = FaultHelp(fault);
+            tell(err, format_args!("{path}: {refusal}: {help}"))?;
+        }
     }
-    let _ = explain_entries(rt.alloc(), notes, err);
+    Ok(true)
 }
 
 fn explain_failure<E: Write>(
@@ -151,11 +191,11 @@ fn tell_no_shape<E: Write>(
     err: &mut E,
 ) -> io::Result<()> {
     match asked {
-        Asked::Init(making) => tell_of_shape(err, making.file.unwrap_or("")),
+        Asked::Init(making) => tell_of_shape(rt, err, making.file.unwrap_or("")),
         Asked::Serve(serving) => match serving.shape {
-            Some(path) => tell_of_shape(err, path),
+            Some(path) => tell_of_shape(rt, err, path),
             None => match shape_beside(rt.alloc(), serving.store.unwrap_or("")) {
-                Ok(beside) => tell_of_shape(err, beside.as_str()),
+                Ok(beside) => tell_of_shape(rt, err, beside.as_str()),
                 Err(_) => tell(err, NO_SHAPE),
             },
         },
@@ -163,8 +203,17 @@ fn tell_no_shape<E: Write>(
     }
 }
 
-fn tell_of_shape<E: Write>(err: &mut E, path: &str) -> io::Result<()> {
-    tell(err, format_args!("{path}: {NO_SHAPE}"))
+fn tell_of_shape<E: Write>(
+    rt: &(impl Files<File = File> + AllocGlobal),
+    err: &mut E,
+    path: &str,
+) -> io::Result<()> {
+    match text_in(rt, path) {
+        Ok(text) if is_cut_off(rt.alloc(), &text) => {
+            tell(err, format_args!("{path}: {CUT_OFF}; {NO_SHAPE}"))
+        }
+        _ => tell(err, format_args!("{path}: {NO_SHAPE}")),
+    }
 }
 
 // Whether what is to become a store is one already.
@@ -193,7 +242,7 @@ fn tell_unread<E: Write>(
             let Ok(beside) = shape_beside(rt.alloc(), serving.store.unwrap_or("")) else {
                 return tell(err, FaultHelp(Fault::Memory));
             };
-            let cause = cause_of(rt, beside.as_str(), Wanted::Found);
+            let cause = cause_of(rt, beside.as_str(), Wanted::Read, 0);
             return tell(
                 err,
                 format_args!("{beside}: {cause}, or name a shape by --shape"),
@@ -202,10 +251,7 @@ fn tell_unread<E: Write>(
         _ => None,
     };
     match path {
-        Some(path) => {
-            let cause = cause_of(rt, path, Wanted::Found);
-            tell(err, format_args!("{path}: {cause}"))
-        }
+        Some(path) => { tell_cause(err, path, cause_of(rt, path, Wanted::Read, 0)) }
         None => tell(err, NO_INPUT),
     }
 }
@@ -225,8 +271,14 @@ fn tell_refused<E: Write>(
             } else {
                 wanted
             };
-            let cause = cause_of(rt, path, wanted);
-            tell(err, format_args!("{path}: {cause}"))
+            let cause = cause_of(rt, path, wanted, size_asked(rt, asked, notes));
+            tell_cause(err, path, cause)
+        }
+        (Fault::Damaged | Fault::NotFormatted, Some((path, _))) => {
+            if tell_bytes(rt, path, err)? {
+                return Ok(());
+            }
+            tell_of(err, asked, FaultHelp(fault))
         }
         (Fault::Geometry, _) => tell_geometry(rt, asked, notes, err),
         (Fault::Broken(name), _) if matches!(asked, Asked::Init(_)) => tell(
@@ -236,6 +288,15 @@ fn tell_refused<E: Write>(
             ),
         ),
         (_, _) => tell_of(err, asked, FaultHelp(fault)),
+    }
+}
+
+// How many bytes a store of the numbers has that were asked for; where they are not known, the longest.
+fn size_asked(rt: &(impl Files<File = File> + AllocGlobal), asked: Asked, notes: &Notes) -> u64 {
+    let (vars, slots) = numbers_in(rt, asked, notes).unwrap_or((MOST_VARS, MOST_SLOTS));
+    match Layout::new(vars, slots) {
+        Ok(layout) => layout.end(),
+        Err(_) => 0,
     }
 }
 
@@ -317,15 +378,18 @@ fn found_in(
         }
     }
     let (has, wants) = (source.size, layout.end());
-    if has < wants {
-        return Some(NumbersHelp::Short {
+    if has >= wants {
+        return None;
+    }
+    match asked {
+        Asked::Init(_) => Some(NumbersHelp::NoRoom { has, wants }),
+        _ => Some(NumbersHelp::Short {
             vars,
             slots,
             has,
             wants,
-        });
+        }),
     }
-    None
 }
 
 // The path of the store, and what was to have it.
@@ -336,7 +400,7 @@ fn store_of<'a>(asked: Asked<'a>) -> Option<(&'a str, Wanted)> {
         Asked::Bench(path) => Some((path.unwrap_or(STORE), Wanted::Made)),
         Asked::Show(showing) => Some((showing.store?, Wanted::Found)),
         Asked::Init(making) if making.is_in_place => Some((making.store?, Wanted::Found)),
-        Asked::Init(making) => Some((making.store?, Wanted::Made)),
+        Asked::Init(making) => Some((making.store?, Wanted::FoundOrMade)),
         Asked::Serve(serving) => Some((serving.store?, Wanted::Found)),
         Asked::Check(_) => None,
     }
@@ -347,31 +411,77 @@ fn shape_beside(alloc: Global, store: &str) -> Result<String, StoreFailure> {
     Ok(format!(in alloc; "{store}.json")?)
 }
 
-// Tells of each entry that was refused what its fault means, and of a transaction which node breaks a limit.
-fn explain_entries<E: Write>(alloc: Global, notes: &Notes, err: &mut E) -> io::Result<()> {
+// Tells of each entry that was refused what its fault means, of a transaction which node breaks a limit, and of a call which cause.
+fn explain_entries<E: Write>(
+    rt: &(impl Files<File = File> + AllocGlobal),
+    asked: Asked,
+    notes: &Notes,
+    err: &mut E,
+) -> io::Result<()> {
     for refused in notes.refused() {
-        explain_entry(alloc, notes.text(), refused, err)?;
+        let Refused { index, fault } = *refused;
+        match fault {
+            Fault::BadPlan(cause) => tell_plan(rt.alloc(), notes.text(), index, cause, err)?,
+            Fault::Device => tell_call(rt, asked, index, err)?,
+            _ => tell_entry(err, index, fault, FaultHelp(fault))?,
+        }
     }
     Ok(())
 }
 
-fn explain_entry<E: Write>(
+fn tell_entry<E: Write, T: Display + Drop>(
+    err: &mut E,
+    index: usize,
+    fault: Fault,
+    text: T,
+) -> io::Result<()> {
+    tell(err, format_args!("/events/{index}: {fault}: {text}"))
+}
+
+// Tells which node of the transaction of an entry breaks a limit.
+fn tell_plan<E: Write>(
     alloc: Global,
     text: &[u8],
-    refused: &Refused,
+    index: usize,
+    cause: Cause,
     err: &mut E,
 ) -> io::Result<()> {
-    let (index, fault) = (refused.index, &refused.fault);
-    let help = FaultHelp(refused.fault);
-    if let Fault::BadPlan(cause) = fault {
-        if let Ok(script) = Script::from_slice(alloc, text) {
-            let flaw = plan_flaw(alloc, &script, index, *cause);
-            if matches!(flaw.expected, Expected::Plan { .. }) {
-                return tell(err, format_args!("{}: {fault}: {help}", flaw.at));
-            }
+    let fault = Fault::BadPlan(cause);
+    if let Ok(script) = Script::from_slice(alloc, text) {
+        let flaw = plan_flaw(alloc, &script, index, cause);
+        if let Expected::Plan { excess, .. } = flaw.expected {
+            return tell(
+                err,
+                format_args!("{}: {fault}: {excess}; change the transaction", flaw.at),
+            );
         }
     }
-    tell(err, format_args!("/events/{index}: {fault}: {help}"))
+    tell_entry(err, index, fault, FaultHelp(fault))
+}
+
+// Tells why a call for an entry failed, as far as the file still shows it.
+fn tell_call<E: Write>(
+    rt: &(impl Files<File = File> + AllocGlobal),
+    asked: Asked,
+    index: usize,
+    err: &mut E,
+) -> io::Result<()> {
+    let fault = Fault::Device;
+    let Some((path, _)) = store_of(asked) else {
+        return tell_entry(err, index, fault, FaultHelp(fault));
+    };
+    match cause_of(rt, path, Wanted::Held, 0) {
+        DeviceCause::Call(CallCause::Other) => tell_entry(err, index, fault, FaultHelp(fault)),
+        cause => tell_entry(err, index, fault, format_args!("{path}: {cause}")),
+    }
+}
+
+// Tells why a path could not be used.
+fn tell_cause<E: Write>(err: &mut E, path: &str, cause: DeviceCause) -> io::Result<()> {
+    match cause {
+        DeviceCause::Empty => tell(err, cause),
+        _ => tell(err, format_args!("{path}: {cause}")),
+    }
 }
 
 // Tells something of the store's file, or of none.

@@ -7,13 +7,15 @@ use crate::failure::StoreFailure;
 use std::fs::{self, File, Files};
 use tmem_args::Making;
 use tmem_builtins::stored_steps;
+use tmem_fault::Fault;
 use tmem_file::FileDisk;
 use tmem_init::{make_in_place, make_store};
 use tmem_linear::LinearTable;
 use tmem_record::Layout;
 use tmem_shape::Shape;
 
-/// Makes a store of the shape that a file has: a new one, with the shape beside it, or one on what is there.
+/// Makes a store of the shape that a file has: a new one, with the shape beside it, or one on what is there. Refused by `Device` where
+/// the store's path is empty: the shape would get the path `.json`.
 pub(crate) fn init_store(
     rt: &(impl Files<File = File> + AllocGlobal),
     making: Making,
@@ -21,7 +23,11 @@ pub(crate) fn init_store(
     ensures { OnOk result MakesStore }
 {
     let text = text_in(rt, making.file.unwrap_or(""))?;
-    let _made = make_of(rt, making.store.unwrap_or(""), &text, making.is_in_place)?;
+    let store = making.store.unwrap_or("");
+    if store.is_empty() {
+        return Err(StoreFailure::Refused(Fault::Device));
+    }
+    let _made = make_of(rt, store, &text, making.is_in_place)?;
     Ok(())
 }
 

@@ -72,7 +72,7 @@ pub fn run_words<R: Read, W: Write, E: Write>(
             (conclude(rt, told, &notes, outcome, err), device)
         }
         Asked::Threads(counting) => {
-            let outcome = count(rt, counting, out);
+            let outcome = count(rt, counting, out, &mut notes);
             (conclude(rt, told, &notes, outcome, err), None)
         }
         Asked::Bench(path) => {
@@ -232,6 +232,7 @@ fn count<W: Write>(
     rt: &(impl Files<File = File> + AllocGlobal + Threads + Wait + Clock + Sync),
     counting: Counting,
     out: &mut W,
+    notes: &mut Notes,
 ) -> Result<(), Failure>
     ensures counted { OnOk result (CountsUp (record { workers = counting.entry.workers; turns = counting.entry.turns }) (option_map (λ text. text.now) counting.entry.disk) (W.contents out.old) (W.contents out.new)) }
     ensures failed { IfErr result IsWhyNotCounted }
@@ -240,7 +241,7 @@ fn count<W: Write>(
         workers: counting.workers,
         turns: counting.turns,
     };
-    let totals = count_on(rt, work, counting.disk)?;
+    let totals = count_on(rt, work, counting.disk, notes)?;
     print_line(out, TotalsText(totals))?;
     flush(out)
 }

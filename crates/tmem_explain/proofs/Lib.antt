@@ -1,1 +1,2 @@
 mod Amisses
+mod Limited

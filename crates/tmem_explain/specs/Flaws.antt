@@ -1,5 +1,5 @@
 -- What is wrong with a script, and where it is told to be.
-use Rattle.std.specs.Prelude.{◌≡◌, ◌<◌, ◌⊎◌, ℕ, true, false, Bool, List, [], ◌∷◌, codes, Some, IsNone}
+use Rattle.std.specs.Prelude.{◌≡◌, ◌<◌, ◌≤◌, ◌⊎◌, ℕ, true, false, Bool, List, [], ◌∷◌, codes, string_bytes, Some, IsSome, IsNone}
 use Rattle.serde_json.specs.Data.{Data, string, object, member, no_members}
 use Rattle.serde_json.specs.Find.{get, as_array, as_object}
 use Rattle.tmem_builtins.specs.Builtins.{builtin_names}
@@ -12,12 +12,14 @@ use Rattle.tmem_requests.specs.Wrong.{IsWrong, led, part}
 use Rattle.tmem_requests.specs.declared.place.Step.{Step}
 use Rattle.tmem_tree.specs.Plans.{is_counted}
 use Rattle.tmem_tree.specs.declared.tx.Tx.{Tx}
+use Rattle.tmem_explain.specs.Excesses.{IsNamedBy, cause_of}
 use Rattle.tmem_explain.specs.declared.amiss.Amiss.{Amiss}
+use Rattle.tmem_explain.specs.declared.excess.Excess.{Excess}
 use Rattle.tmem_explain.specs.declared.expected.Expected.{Expected}
 use Rattle.tmem_explain.specs.declared.expected.Expected.TheVariants as expected
 use Rattle.tmem_explain.specs.declared.flaw.Flaw.{Flaw}
 use Rattle.tmem_explain.specs.declared.flaw.Spot.{Spot}
-use Rattle.tmem_explain.specs.declared.flaw.Spot.TheVariants.{Pointer, Text}
+use Rattle.tmem_explain.specs.declared.flaw.Spot.TheVariants.{Pointer, Unknown, Text}
 
 -- the keys of a script, the words that are entries, and the keys of the others
 abbrev pub script_keys : List (List ℕ)
@@ -43,11 +45,21 @@ step_arities = 2 ∷ 2 ∷ 2 ∷ []
 abbrev pub CountsNode : Cause → ℕ → Tx → Type 0
 CountsNode cause vars tx = (cause ≡ TooDeep) ⊎ (is_counted cause step_arities vars (builtin_names vars) tx ≡ true)
 
--- a transaction whose first node is counted so
-pub record IsNodeOver (cause : Cause) (vars : ℕ) (d : Data) : Type 0 where
+-- what is past a limit is counted by it, and names what this node has
+abbrev pub IsOver : ℕ → Tx → Excess → Type 0
+IsOver vars tx excess = CountsNode (cause_of excess) vars tx × IsNamedBy vars tx excess
+
+-- a transaction of whose first node that is so
+pub record IsNodeOver (excess : Excess) (vars : ℕ) (d : Data) : Type 0 where
   pub node : Tx
   pub form : d ≡ tx_form node
-  pub counted : CountsNode cause vars node
+  pub over : IsOver vars node excess
+
+-- what is told of a plan is told by the limit of this cause, for so many variables; or nothing is known
+abbrev pub TellsCause : Cause → ℕ → Expected → Type 0
+TellsCause cause all (expected.Plan excess vars) = (cause_of excess ≡ cause) × (vars ≡ all)
+TellsCause cause all expected.Script = Unit {0}
+TellsCause cause all _ = ⊥
 
 -- That this was expected of a value, and is not so. Where no reason was found, nothing is said.
 abbrev pub IsAmiss : Expected → Data → Type 0
@@ -56,13 +68,16 @@ IsAmiss expected.MoreJson d = ⊥
 IsAmiss expected.Object d = IsNone (as_object d)
 IsAmiss (expected.Member key) d = IsNone (get key.now d)
 IsAmiss expected.ScriptKeys d = ¬ HasOnly script_keys d
+IsAmiss expected.ScriptKey d = ⊥
+IsAmiss expected.Vars d = (n : ℕ) × (d ≡ natural n) × (1 ≤ n → n ≤ 1024 → ⊥)
+IsAmiss expected.Slots d = (n : ℕ) × (d ≡ natural n) × (2 ≤ n → n ≤ 64 → ⊥)
 IsAmiss expected.Number d = (n : ℕ) → IsShort n → ¬ (d ≡ natural n)
 IsAmiss expected.Entries d = IsNone (as_array d)
 IsAmiss expected.Entry d = is_entry_headed d ≡ false
 IsAmiss expected.Begin d = (x y : Data) → ¬ (d ≡ array_of (x ∷ y ∷ []))
 IsAmiss expected.Attempt d = (n : ℕ) → n < 16 → ¬ (d ≡ natural n)
 IsAmiss (expected.Transaction why) d = IsWrong part why d
-IsAmiss (expected.Plan cause vars) d = IsNodeOver cause vars d
+IsAmiss (expected.Plan excess vars) d = IsNodeOver excess vars d
 IsAmiss expected.Script d = Unit {0}
 
 -- these steps lead from a value to one with which this is amiss
@@ -75,9 +90,14 @@ pub record LeadsToAmiss (expected : Expected) (steps : List Step) (d : Data) : T
 abbrev pub IsAmissIn : Data → Amiss → Type 0
 IsAmissIn d amiss = LeadsToAmiss amiss.expected amiss.steps.items d
 
+-- an object has this key, which is none of a script
+abbrev pub HasStrangeKey : List ℕ → Data → Type 0
+HasStrangeKey key d = IsSome (get key d) × (has_name script_keys key ≡ false)
+
 abbrev TellsFlawAt : Expected → Spot → Data → Type 0
-TellsFlawAt expected (Pointer steps) d = LeadsToAmiss expected steps.items d
-TellsFlawAt expected (Text line column) d = ⊥
+TellsFlawAt what (Pointer steps) d = LeadsToAmiss what steps.items d
+TellsFlawAt what (Unknown key) d = (what ≡ expected.ScriptKey) × HasStrangeKey (string_bytes key) d
+TellsFlawAt what (Text line column) d = ⊥
 
 -- What is told of a value is true: the pointer leads to a value inside of it, or to itself, and what was expected there is not so.
 abbrev pub IsFlawOf : Data → Flaw → Type 0
@@ -85,6 +105,7 @@ IsFlawOf d flaw = TellsFlawAt flaw.expected flaw.at d
 
 abbrev IsTextSpot : Spot → Type 0
 IsTextSpot (Pointer steps) = ⊥
+IsTextSpot (Unknown key) = ⊥
 IsTextSpot (Text line column) = Unit {0}
 
 -- that a text is not JSON from some line and column on, or ends there too soon

@@ -1,11 +1,9 @@
--- What is told of a fault, of a file that could not be used, and of numbers that do not fit.
+-- What is told of a fault, and of numbers that do not fit.
 use Rattle.std.specs.Prelude.{ℕ, List, ◌++◌, codes}
 use Rattle.std.specs.Fmt.{decimal}
 use Rattle.tmem_fault.specs.declared.fault.Fault.{Fault}
 use Rattle.tmem_fault.specs.declared.fault.Fault.TheVariants as fault
 use Rattle.tmem_requests.specs.Answers.{cause_text}
-use Rattle.tmem_explain.specs.declared.device.DeviceCause.{DeviceCause}
-use Rattle.tmem_explain.specs.declared.device.DeviceCause.TheVariants as cause
 use Rattle.tmem_explain.specs.declared.numbers.NumbersHelp.{NumbersHelp}
 use Rattle.tmem_explain.specs.declared.numbers.NumbersHelp.TheVariants as numbers
 
@@ -13,7 +11,7 @@ use Rattle.tmem_explain.specs.declared.numbers.NumbersHelp.TheVariants as number
 abbrev pub fault_help : Fault → List ℕ
 fault_help fault.Memory = codes "memory did not suffice, or no thread could be started; give the program more, or ask for less"
 fault_help fault.Device = codes "a call on the file failed; look for its rights, for room and for errors of the disk, and run the program again"
-fault_help fault.Closed = codes "no session stands, since the device failed or an opening was refused; end what runs, and run the program again"
+fault_help fault.Closed = codes "an earlier failure has closed the store: a call on its file failed, or it could not be opened again; mend that, and run the program again"
 fault_help fault.Unknown =
     codes "the device failed while a batch was made durable, and all of the batch is durable or nothing; open the store again, and it says how many transactions there are"
 fault_help fault.Full = codes "256 transactions wait to be durable; flush, and settle again"
@@ -34,18 +32,6 @@ fault_help fault.NoSeat = codes "all 32 passes were given out; keep passes, or b
 fault_help fault.Geometry =
     codes "the numbers of variables and log slots are none of a store, or not this one's, or its file is too short; state those that tmem show prints, or restore a copy"
 
--- why a file could not be used, and what to do
-abbrev pub device_help : DeviceCause → List ℕ
-device_help cause.Locked = codes "another program has it open; wait until that ends, or end it"
-device_help cause.Folder = codes "it is a folder; name a file"
-device_help cause.NoFile = codes "it is no file and no block device; name one"
-device_help cause.NoPermission = codes "this user may not use it; change its rights, or run as its owner"
-device_help cause.Missing = codes "nothing has this path; check it"
-device_help cause.There = codes "something has this path, and a new file was to be made; name another path"
-device_help cause.MissingFolder = codes "its folder is not there; make it, or check the path"
-device_help cause.Other =
-    codes "a call on it failed; look for rights in its folder, for room, for a name of more than 250 bytes and for errors of the disk"
-
 -- the numbers that were asked for, beside what there is
 abbrev pub numbers_help : NumbersHelp → List ℕ
 numbers_help (numbers.Limits vars slots) =
@@ -56,3 +42,5 @@ numbers_help (numbers.Other vars slots had_vars had_slots) =
 numbers_help (numbers.Short vars slots has wants) =
     codes "it has " ++ (decimal has ++ (codes " bytes, and a store of " ++ (decimal vars ++ (codes " variables and " ++ (decimal slots ++ (codes " log slots has "
     ++ (decimal wants ++ codes "; check the path, or restore a copy")))))))
+numbers_help (numbers.NoRoom has wants) =
+    codes "it has " ++ (decimal has ++ (codes " bytes, and the store takes " ++ (decimal wants ++ codes "; make it at least so long, or name another")))

@@ -1,3 +1,6 @@
+pub mod Causes
+pub mod Excesses
 pub mod Flaws
 pub mod Helps
+pub mod Limits
 pub mod Told

@@ -1,9 +1,10 @@
 //! What was found wrong with a value, and the way there.
-ghost use Rattle.std.specs.Prelude.{◌≡◌, Some, IfErr};
+ghost use Rattle.std.specs.Prelude.{◌≡◌, ℕ, Some, IfErr};
 ghost use Rattle.serde_json.specs.Data.{Data};
+ghost use Rattle.tmem_fault.specs.declared.fault.Cause.{Cause};
 ghost use Rattle.tmem_forms.specs.Errors.{Refuses};
 ghost use Rattle.tmem_requests.specs.Wrong.{IsTrueOf as IsWrongOf, part, step_value};
-ghost use Rattle.tmem_explain.specs.Flaws.{IsAmiss, IsAmissIn, IsFlawOf};
+ghost use Rattle.tmem_explain.specs.Flaws.{IsAmiss, IsAmissIn, IsFlawOf, TellsCause};
 
 use crate::expected::Expected;
 use crate::flaw::{Flaw, Spot};
@@ -22,7 +23,8 @@ pub(crate) struct Amiss {
 impl Amiss {
     /// That the value itself is wrong.
     pub(crate) fn here(alloc: Global, expected: Expected) -> Amiss
-        ensures { (d : Data) → IsAmiss expected d → IsAmissIn d result }
+        ensures amiss { (d : Data) → IsAmiss expected d → IsAmissIn d result }
+        ensures expected { result.expected ≡ expected }
     {
         Amiss {
             expected,
@@ -54,9 +56,10 @@ impl Amiss {
         }
     }
 
-    // The same of the value that this step begins at.
-    fn behind(self, step: Step) -> Amiss
-        ensures { (d e : Data) → step_value step d ≡ Some e → IsAmissIn e self → IsAmissIn d result }
+    /// The same of the value that this step begins at.
+    pub(crate) fn behind(self, step: Step) -> Amiss
+        ensures amiss { (d e : Data) → step_value step d ≡ Some e → IsAmissIn e self → IsAmissIn d result }
+        ensures cause { (cause : Cause) (vars : ℕ) → TellsCause cause vars self.expected → TellsCause cause vars result.expected }
     {
         let Amiss {
             expected,
@@ -73,7 +76,8 @@ impl Amiss {
 
     // That it is not known what is wrong.
     fn unknown(mut steps: Vec<Step>) -> Amiss
-        ensures { (d : Data) → IsAmissIn d result }
+        ensures amiss { (d : Data) → IsAmissIn d result }
+        ensures expected { result.expected ≡ Expected.Script }
     {
         steps.clear();
         Amiss {
@@ -84,7 +88,8 @@ impl Amiss {
 
     /// What is told of it.
     pub(crate) fn into_flaw(self) -> Flaw
-        ensures { (d : Data) → IsAmissIn d self → IsFlawOf d result }
+        ensures flaw { (d : Data) → IsAmissIn d self → IsFlawOf d result }
+        ensures expected { result.expected ≡ self.expected }
     {
         Flaw {
             expected: self.expected,
@@ -95,7 +100,8 @@ impl Amiss {
 
 /// Hands on what was found in the value that a step leads to.
 pub(crate) fn inside<T: Drop>(step: Step, found: Result<T, Amiss>) -> Result<T, Amiss>
-    ensures { (d e : Data) → step_value step d ≡ Some e → IfErr found (IsAmissIn e) → IfErr result (IsAmissIn d) }
+    ensures amiss { (d e : Data) → step_value step d ≡ Some e → IfErr found (IsAmissIn e) → IfErr result (IsAmissIn d) }
+    ensures cause { (cause : Cause) (vars : ℕ) → IfErr found (λ amiss. TellsCause cause vars amiss.expected) → IfErr result (λ amiss. TellsCause cause vars amiss.expected) }
 {
     match found {
         Ok(value) => Ok(value),

@@ -1,57 +1,144 @@
 //! Why a file could not be used.
+ghost use Rattle.std.specs.Prelude.{◌≡◌, [], true};
+ghost use Rattle.std.specs.IoError.{error_kind, raw_os_error};
+ghost use Rattle.tmem_explain.specs.Causes.{call_cause, may_be_told};
+
 use std::fmt;
 use std::fs::{self, File, FileType, Files, OpenOptions, TryLockError};
-use std::io::ErrorKind;
-use std::os::unix::fs::FileTypeExt;
+use std::io::{self, ErrorKind};
+use std::os::unix::fs::{FileExt, FileTypeExt};
 use std::path::Path;
+
+// So many bytes are read or written at once, and so often a file is read: the longest store has 283,136 bytes.
+const PIECE_BYTES: usize = 4096;
+
+const MOST_PIECES: u64 = 70;
+
+// The number by which the system tells an error of a disk (EIO).
+const DISK_ERROR: i32 = 5;
 
 /// Why a file could not be used, and what to do. Its text stands behind the path.
 #[derive(Clone, Copy, Debug, PartialEq, Eq)]
 pub enum DeviceCause {
+    /// The path is empty.
+    Empty,
     /// Another program has it open.
     Locked,
     Folder,
     /// It is no file and no block device.
     NoFile,
-    NoPermission,
     /// Nothing has the path.
     Missing,
+    /// A link to nothing has the path.
+    DeadLink,
     /// Something has the path.
     There,
     MissingFolder,
-    /// Something else.
+    /// No file may be made in its folder.
+    ClosedFolder,
+    /// Its file system makes no hard links.
+    NoLinks,
+    /// A call of the system is refused.
+    Call(CallCause),
+}
+
+/// Why a call of the system was refused.
+#[derive(Clone, Copy, Debug, PartialEq, Eq)]
+pub enum CallCause {
+    NoPermission,
+    ReadOnly,
+    NoRoom,
+    LongName,
+    /// The process may not write a file so long.
+    Limit,
+    /// Links lead in a circle.
+    Circle,
+    /// The disk failed.
+    DiskError,
+    /// Something else, or nothing is refused when it is tried again.
     Other,
+}
+
+impl CallCause {
+    /// What an error of the system tells.
+    pub fn of(error: io::Error) -> CallCause
+        ensures { result ≡ call_cause (error_kind error) (raw_os_error error) }
+    {
+        match error.kind() {
+            ErrorKind::PermissionDenied => CallCause::NoPermission,
+            ErrorKind::ReadOnlyFilesystem => CallCause::ReadOnly,
+            ErrorKind::StorageFull | ErrorKind::QuotaExceeded => CallCause::NoRoom,
+            ErrorKind::InvalidFilename => CallCause::LongName,
+            ErrorKind::FileTooLarge => CallCause::Limit,
+            ErrorKind::FilesystemLoop => CallCause::Circle,
+            _ if error.raw_os_error() == Some(DISK_ERROR) => CallCause::DiskError,
+            _ => CallCause::Other,
+        }
+    }
+}
+
+impl fmt::Display for CallCause {
+    ghost use Rattle.std.specs.Prelude.{Some};
+    ghost use Rattle.tmem_explain.specs.Causes.{call_help};
+
+    ghost output = { λ cause. Some (call_help cause) };
+
+    fn fmt<W: fmt::Write>(&self, f: &mut fmt::Formatter<W>) -> fmt::Result {
+        f.write_str(match self {
+            CallCause::NoPermission =>
+                "this user may not use it; change its rights, or run as its owner",
+            CallCause::ReadOnly =>
+                "its file system is mounted read-only; mount it for writing, or name a path on another",
+            CallCause::NoRoom =>
+                "there is no room on its file system, or no quota is left; free some (df, df -i, quota), or name a path on another",
+            CallCause::LongName =>
+                "its name is too long; name a path whose last part has at most 250 bytes",
+            CallCause::Limit =>
+                "this process may not write a file so long (ulimit -f); raise that limit, and run the program again",
+            CallCause::Circle => "links on this path lead in a circle; mend them, or name the file",
+            CallCause::DiskError =>
+                "the disk reports an error (EIO); look into the system's log (dmesg), and restore a copy on another disk",
+            CallCause::Other =>
+                "a call on it failed, and nothing is wrong with it now; look into the system's log (dmesg), and run the program again",
+        })
+    }
 }
 
 impl fmt::Display for DeviceCause {
     ghost use Rattle.std.specs.Prelude.{Some};
-    ghost use Rattle.tmem_explain.specs.Helps.{device_help};
+    ghost use Rattle.tmem_explain.specs.Causes.{device_help};
 
     ghost output = { λ cause. Some (device_help cause) };
 
     fn fmt<W: fmt::Write>(&self, f: &mut fmt::Formatter<W>) -> fmt::Result {
-        f.write_str(match self {
+        let text = match self {
+            DeviceCause::Empty => "the path is empty; name a file",
             DeviceCause::Locked => "another program has it open; wait until that ends, or end it",
             DeviceCause::Folder => "it is a folder; name a file",
             DeviceCause::NoFile => "it is no file and no block device; name one",
-            DeviceCause::NoPermission =>
-                "this user may not use it; change its rights, or run as its owner",
             DeviceCause::Missing => "nothing has this path; check it",
+            DeviceCause::DeadLink => "it is a link to nothing; mend the link, or name a file",
             DeviceCause::There =>
                 "something has this path, and a new file was to be made; name another path",
             DeviceCause::MissingFolder => "its folder is not there; make it, or check the path",
-            DeviceCause::Other =>
-                "a call on it failed; look for rights in its folder, for room, for a name of more than 250 bytes and for errors of the disk",
-        })
+            DeviceCause::ClosedFolder =>
+                "this user may not make a file in its folder; change the folder's rights, or name a path in another",
+            DeviceCause::NoLinks =>
+                "its file system makes no hard links, by which a new file gets its name; name a path on another",
+            DeviceCause::Call(cause) => return write!(f, "{cause}"),
+        };
+        f.write_str(text)
     }
 }
 
 /// What was to have a path.
 #[derive(Clone, Copy, Debug, PartialEq, Eq)]
 pub enum Wanted {
+    /// What is there, for reading alone.
+    Read,
     /// What is there.
     Found,
-    /// What is there, and this program has it open.
+    /// What is there, and this program has it open, or had it.
     Held,
     /// What is there, or else a new file.
     FoundOrMade,
@@ -59,46 +146,154 @@ pub enum Wanted {
     Made,
 }
 
-/// Why a path could not be used so: what has it is looked at, and asked for its lock, which is given back. Nothing is written.
-pub fn cause_of<R: Files<File = File>>(rt: &R, path: &str, wanted: Wanted) -> DeviceCause {
+/// Why a path could not be used so: what has it is looked at and read, and asked for its lock, which is given back. Where a new file of
+/// so many bytes was to be made, one is made beside the path, and removed.
+pub fn cause_of<R: Files<File = File> + AllocGlobal>(
+    rt: &R,
+    path: &str,
+    wanted: Wanted,
+    size: u64,
+) -> DeviceCause
+    ensures empty { path.now ≡ [] → result ≡ DeviceCause.Empty }
+    ensures told { may_be_told wanted result ≡ true }
+{
+    if path.is_empty() {
+        return DeviceCause::Empty;
+    }
     match fs::metadata(rt, path) {
         Ok(_) if wanted == Wanted::Made => DeviceCause::There,
-        Ok(_) if wanted == Wanted::Held => DeviceCause::Other,
-        Ok(found) => cause_of_found(rt, path, found.file_type()),
+        Ok(found) => cause_of_found(rt, path, wanted, found.file_type()),
         Err(error) => match error.kind() {
-            ErrorKind::PermissionDenied => DeviceCause::NoPermission,
-            ErrorKind::NotFound => cause_of_missing(rt, path, wanted),
+            ErrorKind::NotFound => cause_of_missing(rt, path, wanted, size),
             ErrorKind::NotADirectory => DeviceCause::MissingFolder,
-            _ => DeviceCause::Other,
+            _ => DeviceCause::Call(CallCause::of(error)),
         },
     }
 }
 
-fn cause_of_missing<R: Files<File = File>>(rt: &R, path: &str, wanted: Wanted) -> DeviceCause {
-    let found = match Path::new(path).parent() {
+// The same where nothing is found at a path.
+fn cause_of_missing<R: Files<File = File> + AllocGlobal>(
+    rt: &R,
+    path: &str,
+    wanted: Wanted,
+    size: u64,
+) -> DeviceCause
+    ensures { may_be_told wanted result ≡ true }
+{
+    if fs::symlink_metadata(rt, path).is_ok() {
+        return DeviceCause::DeadLink;
+    }
+    let folder = match Path::new(path).parent() {
         Some(folder) if !folder.as_os_str().is_empty() => fs::metadata(rt, folder),
         _ => fs::metadata(rt, "."),
     };
-    match found {
-        Ok(_) if wanted == Wanted::Found => DeviceCause::Missing,
-        Ok(_) => DeviceCause::Other,
-        Err(_) => DeviceCause::MissingFolder,
+    match (folder, wanted) {
+        (Err(_), _) => DeviceCause::MissingFolder,
+        (Ok(_), Wanted::Made | Wanted::FoundOrMade) => cause_of_making(rt, path, size),
+        (Ok(_), _) => DeviceCause::Missing,
     }
 }
 
-fn cause_of_found<R: Files<File = File>>(rt: &R, path: &str, kind: FileType) -> DeviceCause {
+// Why no file of so many bytes can be made beside a path.
+fn cause_of_making<R: Files<File = File> + AllocGlobal>(
+    rt: &R,
+    path: &str,
+    size: u64,
+) -> DeviceCause
+    ensures told { may_be_told Wanted.Made result ≡ true }
+    ensures or_found { may_be_told Wanted.FoundOrMade result ≡ true }
+{
+    let (Ok(name), Ok(link)) = (
+        format!(in rt.alloc(); "{path}.try0"),
+        format!(in rt.alloc(); "{path}.try1"),
+    ) else {
+        return DeviceCause::Call(CallCause::Other);
+    };
+    match File::create_new(rt, name.as_str()) {
+        Ok(file) => {
+            let filled = fill(&file, size);
+            let linked = fs::hard_link(rt, name.as_str(), link.as_str());
+            // What cannot be removed is left: nothing reads it.
+            let _ = fs::remove_file(rt, name.as_str());
+            let _ = fs::remove_file(rt, link.as_str());
+            match (filled, linked) {
+                (Err(error), _) => DeviceCause::Call(CallCause::of(error)),
+                (Ok(()), Err(_)) => DeviceCause::NoLinks,
+                (Ok(()), Ok(())) => DeviceCause::Call(CallCause::Other),
+            }
+        }
+        Err(error) if error.kind() == ErrorKind::PermissionDenied => DeviceCause::ClosedFolder,
+        Err(error) => DeviceCause::Call(CallCause::of(error)),
+    }
+}
+
+// Writes so many zeros.
+fn fill(file: &File, size: u64) -> io::Result<()> {
+    let zeros = [0u8; PIECE_BYTES];
+    let mut done = 0;
+    while done < size {
+        let n = (size - done).min(PIECE_BYTES as u64) as usize;
+        file.write_all_at(&zeros[..n], done)?;
+        done += n as u64;
+    }
+    file.sync_all()
+}
+
+// Why what is there could not be used.
+fn cause_of_found<R: Files<File = File>>(
+    rt: &R,
+    path: &str,
+    wanted: Wanted,
+    kind: FileType,
+) -> DeviceCause
+    ensures { may_be_told wanted result ≡ true }
+{
     if kind.is_dir() {
         return DeviceCause::Folder;
     }
     if !kind.is_file() && !kind.is_block_device() {
         return DeviceCause::NoFile;
     }
-    match OpenOptions::new().read(true).write(true).open(rt, path) {
-        Ok(file) => match file.try_lock() {
-            Err(TryLockError::WouldBlock) => DeviceCause::Locked,
-            _ => DeviceCause::Other,
-        },
-        Err(error) if error.kind() == ErrorKind::PermissionDenied => DeviceCause::NoPermission,
-        Err(_) => DeviceCause::Other,
+    let writes = wanted != Wanted::Read;
+    match OpenOptions::new().read(true).write(writes).open(rt, path) {
+        Ok(file) if may_be_locked(wanted) && is_locked(&file) => DeviceCause::Locked,
+        Ok(file) => cause_of_open(&file, writes),
+        Err(error) => DeviceCause::Call(CallCause::of(error)),
     }
+}
+
+// Whether another program may have it open where it was wanted so: not where it is read alone, or this program has it open.
+fn may_be_locked(wanted: Wanted) -> bool
+    ensures { result ≡ may_be_told wanted DeviceCause.Locked }
+{
+    matches!(wanted, Wanted::Found | Wanted::FoundOrMade)
+}
+
+fn is_locked(file: &File) -> bool {
+    matches!(file.try_lock(), Err(TryLockError::WouldBlock))
+}
+
+// Why what was opened could not be used. It is read, and synced where it was opened for writing.
+fn cause_of_open(file: &File, writes: bool) -> DeviceCause
+    ensures { (wanted : Wanted) → may_be_told wanted result ≡ true }
+{
+    match (read_through(file), writes) {
+        (Err(error), _) => DeviceCause::Call(CallCause::of(error)),
+        (Ok(()), false) => DeviceCause::Call(CallCause::Other),
+        (Ok(()), true) => match file.sync_all() {
+            Ok(()) => DeviceCause::Call(CallCause::Other),
+            Err(error) => DeviceCause::Call(CallCause::of(error)),
+        },
+    }
+}
+
+// Reads as much as the longest store has.
+fn read_through(file: &File) -> io::Result<()> {
+    let mut piece = [0u8; PIECE_BYTES];
+    for k in 0..MOST_PIECES {
+        if file.read_at(&mut piece, k * PIECE_BYTES as u64)? < PIECE_BYTES {
+            return Ok(());
+        }
+    }
+    Ok(())
 }

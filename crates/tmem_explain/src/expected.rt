@@ -1,7 +1,7 @@
 //! What was expected where something is wrong.
+use crate::excess::Excess;
 use std::fmt;
-use tmem_fault::Cause;
-use tmem_requests::{Why, words_of};
+use tmem_requests::Why;
 
 /// What was expected at a place. Its text is what the user is told.
 #[derive(Clone, Copy)]
@@ -15,6 +15,11 @@ pub enum Expected {
     Member(&'static str),
     /// No other key than these three.
     ScriptKeys,
+    /// One of these three keys.
+    ScriptKey,
+    /// A number of variables or of log slots that a store may have.
+    Vars,
+    Slots,
     /// A number of variables or of log slots.
     Number,
     Entries,
@@ -24,8 +29,8 @@ pub enum Expected {
     Attempt,
     /// What a transaction has there.
     Transaction(Why),
-    /// A transaction within the limit of this cause, for so many variables.
-    Plan { cause: Cause, vars: u16 },
+    /// A transaction within the limit that this is past, for so many variables.
+    Plan { excess: Excess, vars: u16 },
     /// A script: no reason was found why it is none.
     Script,
 }
@@ -52,6 +57,9 @@ impl fmt::Display for Expected {
                 f,
                 "this has a key that is none of vars, slots and events"
             ),
+            Expected::ScriptKey => { write!(f, "this key is none of vars, slots and events") }
+            Expected::Vars => write!(f, "a store has 1 to 1024 variables"),
+            Expected::Slots => write!(f, "a store has 2 to 64 log slots"),
             Expected::Number => write!(f, "this is not a whole number from 0 to 65535"),
             Expected::Entries => write!(f, "this is not an array of entries"),
             Expected::Entry => write!(
@@ -72,7 +80,7 @@ impl fmt::Display for Expected {
                 "this is none of the steps \"add\", \"sub\" and \"need\""
             ),
             Expected::Transaction(why) => write!(f, "{why}"),
-            Expected::Plan { cause, .. } => write!(f, "{}", words_of(*cause)),
+            Expected::Plan { excess, .. } => write!(f, "{excess}"),
             Expected::Script => write!(f, "this is not a script"),
         }
     }

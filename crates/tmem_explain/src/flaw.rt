@@ -15,6 +15,8 @@ pub struct Flaw {
 pub enum Spot {
     /// The value that these steps lead to, from the whole: a JSON pointer (RFC 6901).
     Pointer(Vec<Step>),
+    /// A key of the whole that it may not have. It is one that stands in a pointer as it is.
+    Unknown(String),
     /// A line and a column of the text, from 1, where it is not JSON.
     Text { line: u64, column: u64 },
 }
@@ -33,6 +35,7 @@ impl fmt::Display for Spot {
                 }
                 Ok(())
             }
+            Spot::Unknown(key) => write!(f, "/{key}"),
             Spot::Text { line, column } => write!(f, "line {line} column {column}"),
         }
     }
@@ -48,7 +51,7 @@ impl Flaw {
     {
         match &self.at {
             Spot::Pointer(steps) => steps.is_empty(),
-            Spot::Text { .. } => false,
+            Spot::Unknown(_) | Spot::Text { .. } => false,
         }
     }
 }

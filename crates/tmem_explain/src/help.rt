@@ -25,7 +25,7 @@ impl fmt::Display for FaultHelp {
             ),
             Fault::Closed => write!(
                 f,
-                "no session stands, since the device failed or an opening was refused; end what runs, and run the program again"
+                "an earlier failure has closed the store: a call on its file failed, or it could not be opened again; mend that, and run the program again"
             ),
             Fault::Unknown => write!(
                 f,

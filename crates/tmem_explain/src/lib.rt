@@ -5,17 +5,23 @@
 //! could not be used, and `NumbersHelp` which numbers a store has. Nothing here decides what is refused.
 #![tactic(auto)]
 
+mod advice;
 mod amiss;
 mod device;
 mod entry;
+mod excess;
 mod expected;
 mod flaw;
 mod help;
+mod limits;
 mod numbers;
 mod plan;
 mod script;
+mod total;
 
-pub use device::{DeviceCause, Wanted, cause_of};
+pub use advice::{CUT_OFF, TOO_SHORT, is_cut_off};
+pub use device::{CallCause, DeviceCause, Wanted, cause_of};
+pub use excess::Excess;
 pub use expected::Expected;
 pub use flaw::{Flaw, Spot};
 pub use help::FaultHelp;

@@ -23,6 +23,11 @@ pub enum NumbersHelp {
         has: u64,
         wants: u64,
     },
+    /// A store was to be made in a file that has so many bytes, and takes so many.
+    NoRoom {
+        has: u64,
+        wants: u64,
+    },
 }
 
 impl fmt::Display for NumbersHelp {
@@ -54,6 +59,10 @@ impl fmt::Display for NumbersHelp {
             } => write!(
                 f,
                 "it has {has} bytes, and a store of {vars} variables and {slots} log slots has {wants}; check the path, or restore a copy"
+            ),
+            NumbersHelp::NoRoom { has, wants } => write!(
+                f,
+                "it has {has} bytes, and the store takes {wants}; make it at least so long, or name another"
             ),
         }
     }

@@ -1,5 +1,5 @@
 //! Which node of a transaction breaks a limit.
-ghost use Rattle.std.specs.Prelude.{◌≡◌, IsTrue, IfErr, map};
+ghost use Rattle.std.specs.Prelude.{◌≡◌, IfErr, IfSome, map};
 ghost use Rattle.std.specs.List.{list_any};
 ghost use Rattle.serde_json.specs.Data.{Data};
 ghost use Rattle.tmem_builtins.specs.Builtins.{builtin_names};
@@ -7,11 +7,15 @@ ghost use Rattle.tmem_fault.specs.Name.{has_name};
 ghost use Rattle.tmem_forms.specs.TxForms.{array_of, tx_form};
 ghost use Rattle.tmem_script.specs.Scripts.{IsScript, entry_form};
 ghost use Rattle.tmem_tree.specs.Limits.{has_bad_register, has_bad_variable, has_bad_step, has_bad_arguments, has_unknown_name, is_no_register};
-ghost use Rattle.tmem_explain.specs.Flaws.{CountsNode, IsAmissIn, IsFlawOf, step_arities};
+ghost use Rattle.tmem_tree.specs.Plans.{is_counted};
+ghost use Rattle.tmem_explain.specs.Excesses.{cause_of};
+ghost use Rattle.tmem_explain.specs.Flaws.{IsAmissIn, IsFlawOf, IsOver, TellsCause, step_arities};
 
 use crate::amiss::{Amiss, inside};
+use crate::excess::{Excess, arguments_in, bad_register_in, step_in, variable_in};
 use crate::expected::Expected;
 use crate::flaw::Flaw;
+use crate::total::{count_of, depth_of};
 use std::alloc::Global;
 use tmem_builtins::names;
 use tmem_event::Event;
@@ -20,10 +24,19 @@ use tmem_requests::Step;
 use tmem_script::{Entry, Script};
 use tmem_tree::{MAX_CHECKS, MAX_DEPTH, MAX_NODES, MAX_RETIRES, MAX_WRITES, REGISTERS, Tx};
 
+/// The limit of a cause, in a store of so many variables, and how much a transaction has of what it counts.
+#[derive(Clone, Copy)]
+pub(crate) struct Limit {
+    cause: Cause,
+    vars: u16,
+    total: u64,
+}
+
 /// The first node that breaks the limit of a cause, in the transaction that an entry of a script begins: for one that counts nodes, the
-/// first that is too many.
+/// first that is too many. Where none is found, or memory does not suffice, that is told as of no script.
 pub fn plan_flaw(alloc: Global, script: &Script, index: usize, cause: Cause) -> Flaw
-    ensures { (d : Data) → IsScript script.now.vars script.now.slots script.now.entries.items d → IsFlawOf d result }
+    ensures there { (d : Data) → IsScript script.now.vars script.now.slots script.now.entries.items d → IsFlawOf d result }
+    ensures cause { TellsCause cause script.now.vars result.expected }
 {
     let entries = script.entries.as_slice();
     let found = find_in_entries(alloc, entries, script.vars, index, cause);
@@ -40,7 +53,8 @@ fn find_in_entries(
     index: usize,
     cause: Cause,
 ) -> Result<u32, Amiss>
-    ensures { IfErr result (IsAmissIn (array_of (map entry_form entries.now))) }
+    ensures amiss { IfErr result (IsAmissIn (array_of (map entry_form entries.now))) }
+    ensures cause { IfErr result (λ amiss. TellsCause cause vars amiss.expected) }
 {
     if index >= entries.len() {
         return Ok(0);
@@ -50,7 +64,8 @@ fn find_in_entries(
 }
 
 fn find_in_begun(alloc: Global, entry: &Entry, cause: Cause, vars: u16) -> Result<u32, Amiss>
-    ensures { IfErr result (IsAmissIn (entry_form entry.now)) }
+    ensures amiss { IfErr result (IsAmissIn (entry_form entry.now)) }
+    ensures cause { IfErr result (λ amiss. TellsCause cause vars amiss.expected) }
 {
     let Entry::Event(playable) = entry else {
         return Ok(0);
@@ -58,12 +73,25 @@ fn find_in_begun(alloc: Global, entry: &Entry, cause: Cause, vars: u16) -> Resul
     let Event::Begin { tx, .. } = &playable.event else {
         return Ok(0);
     };
-    let found = find_in_plan(alloc, tx, cause, vars, MAX_DEPTH, limit_of(cause));
+    let limit = limit_of(tx, cause, vars);
+    let found = find_in_plan(alloc, tx, limit, MAX_DEPTH, may_have(cause));
     inside(Step::Key("begin"), inside(Step::Item(1), found))
 }
 
+// The limit, and how much of what it counts the transaction has.
+fn limit_of(tx: &Tx, cause: Cause, vars: u16) -> Limit
+    ensures cause { result.cause ≡ cause }
+    ensures vars { result.vars ≡ vars }
+{
+    let total = match cause {
+        Cause::TooDeep => depth_of(tx),
+        _ => count_of(tx, cause, vars),
+    };
+    Limit { cause, vars, total }
+}
+
 // How many nodes may be counted.
-fn limit_of(cause: Cause) -> u32 {
+fn may_have(cause: Cause) -> u32 {
     match cause {
         Cause::TooManyNodes => MAX_NODES,
         Cause::TooManyWrites => MAX_WRITES,
@@ -75,61 +103,47 @@ fn limit_of(cause: Cause) -> u32 {
 
 // The first node that is too deep, or one too many. Answers how many more there may be.
 #[cycle(plan)]
-fn find_in_plan(
-    alloc: Global,
-    tx: &Tx,
-    cause: Cause,
-    vars: u16,
-    depth: u32,
-    left: u32,
-) -> Result<u32, Amiss>
-    ensures { IfErr result (IsAmissIn (tx_form tx.now)) }
+fn find_in_plan(alloc: Global, tx: &Tx, limit: Limit, depth: u32, left: u32) -> Result<u32, Amiss>
+    ensures amiss { IfErr result (IsAmissIn (tx_form tx.now)) }
+    ensures cause { IfErr result (λ amiss. TellsCause limit.cause limit.vars amiss.expected) }
 {
-    let expected = Expected::Plan { cause, vars };
     if depth == 0 {
-        return match cause {
-            Cause::TooDeep => Err(Amiss::here(alloc, expected)),
+        return match limit.cause {
+            Cause::TooDeep => Err(too_deep(alloc, limit)),
             _ => Ok(left),
         };
     }
-    let left = if is_counted(tx, cause, vars) {
-        match left.checked_sub(1) {
+    let left = match excess_in(tx, limit) {
+        Some(excess) => match left.checked_sub(1) {
             Some(left) => left,
-            None => return Err(Amiss::here(alloc, expected)),
-        }
-    } else {
-        left
+            None => return Err(past(alloc, excess, limit.vars)),
+        },
+        None => left,
     };
-    find_below(alloc, tx, cause, vars, depth - 1, left)
+    find_below(alloc, tx, limit, depth - 1, left)
 }
 
 // The same in the nodes that stand below one.
 #[cycle(plan)]
-fn find_below(
-    alloc: Global,
-    tx: &Tx,
-    cause: Cause,
-    vars: u16,
-    depth: u32,
-    left: u32,
-) -> Result<u32, Amiss>
-    ensures { IfErr result (IsAmissIn (tx_form tx.now)) }
+fn find_below(alloc: Global, tx: &Tx, limit: Limit, depth: u32, left: u32) -> Result<u32, Amiss>
+    ensures amiss { IfErr result (IsAmissIn (tx_form tx.now)) }
+    ensures cause { IfErr result (λ amiss. TellsCause limit.cause limit.vars amiss.expected) }
 {
     match tx {
         Tx::Seq(txs) => {
-            let found = find_in_row(alloc, txs, cause, vars, depth, left);
+            let found = find_in_row(alloc, txs, limit, depth, left);
             inside(Step::Key("seq"), found)
         }
         Tx::When { then, other, .. } => {
-            let first = find_in_plan(alloc, then, cause, vars, depth, left);
+            let first = find_in_plan(alloc, then, limit, depth, left);
             let left = inside(Step::Key("when"), inside(Step::Item(1), first))?;
-            let second = find_in_plan(alloc, other, cause, vars, depth, left);
+            let second = find_in_plan(alloc, other, limit, depth, left);
             inside(Step::Key("when"), inside(Step::Item(2), second))
         }
         Tx::OrElse(first, second) => {
-            let first = find_in_plan(alloc, first, cause, vars, depth, left);
+            let first = find_in_plan(alloc, first, limit, depth, left);
             let left = inside(Step::Key("orelse"), inside(Step::Item(0), first))?;
-            let second = find_in_plan(alloc, second, cause, vars, depth, left);
+            let second = find_in_plan(alloc, second, limit, depth, left);
             inside(Step::Key("orelse"), inside(Step::Item(1), second))
         }
         _ => Ok(left),
@@ -137,27 +151,63 @@ fn find_below(
 }
 
 #[cycle(plan)]
-fn find_in_row(
-    alloc: Global,
-    txs: &[Tx],
-    cause: Cause,
-    vars: u16,
-    depth: u32,
-    left: u32,
-) -> Result<u32, Amiss>
-    ensures { IfErr result (IsAmissIn (array_of (map tx_form txs.now))) }
+fn find_in_row(alloc: Global, txs: &[Tx], limit: Limit, depth: u32, left: u32) -> Result<u32, Amiss>
+    ensures amiss { IfErr result (IsAmissIn (array_of (map tx_form txs.now))) }
+    ensures cause { IfErr result (λ amiss. TellsCause limit.cause limit.vars amiss.expected) }
 {
     let mut left = left;
     for (i, tx) in txs.iter().enumerate() {
-        let found = find_in_plan(alloc, tx, cause, vars, depth, left);
+        let found = find_in_plan(alloc, tx, limit, depth, left);
         left = inside(Step::Item(i as u64), found)?;
     }
     Ok(left)
 }
 
+// That a node is deeper than may be.
+fn too_deep(alloc: Global, limit: Limit) -> Amiss
+    ensures amiss { (tx : Tx) → IsAmissIn (tx_form tx) result }
+    ensures cause { TellsCause Cause.TooDeep limit.vars result.expected }
+{
+    past(alloc, Excess::Depth(limit.total), limit.vars)
+}
+
+// That this of a node is past a limit.
+fn past(alloc: Global, excess: Excess, vars: u16) -> Amiss
+    ensures amiss { (tx : Tx) → IsOver vars tx excess → IsAmissIn (tx_form tx) result }
+    ensures cause { TellsCause (cause_of excess) vars result.expected }
+{
+    Amiss::here(alloc, Expected::Plan { excess, vars })
+}
+
+// What is told of a node that a limit counts.
+fn excess_in(tx: &Tx, limit: Limit) -> Option<Excess>
+    ensures over { IfSome result (IsOver limit.vars tx.now) }
+    ensures cause { IfSome result (λ excess. cause_of excess ≡ limit.cause) }
+{
+    let Limit { cause, vars, total } = limit;
+    if !is_counted(tx, cause, vars) {
+        return None;
+    }
+    match cause {
+        Cause::TooDeep => None,
+        Cause::TooManyNodes => Some(Excess::Nodes(total)),
+        Cause::TooManyWrites => Some(Excess::Writes(total)),
+        Cause::TooManyChecks => Some(Excess::Checks(total)),
+        Cause::TooManyRetires => Some(Excess::Retires(total)),
+        Cause::BadRegister => Some(Excess::Register(bad_register_in(tx)?)),
+        Cause::BadVariable => Some(Excess::Variable {
+            var: variable_in(tx)?,
+            vars,
+        }),
+        Cause::BadStep => Some(Excess::Step(step_in(tx)?)),
+        Cause::BadArguments => Some(Excess::Arguments(arguments_in(tx)?)),
+        Cause::UnknownName => Some(Excess::Name { vars }),
+    }
+}
+
 // Whether a limit counts this node.
-fn is_counted(tx: &Tx, cause: Cause, vars: u16) -> bool
-    ensures { IsTrue result → CountsNode cause vars tx.now }
+pub(crate) fn is_counted(tx: &Tx, cause: Cause, vars: u16) -> bool
+    ensures { result ≡ is_counted cause step_arities vars (builtin_names vars) tx.now }
 {
     match cause {
         Cause::TooDeep => false,

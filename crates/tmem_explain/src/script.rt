@@ -1,34 +1,38 @@
 //! All that is wrong with a script.
-ghost use Rattle.std.specs.Prelude.{◌≡◌, ◌≢◌, [], ℕ, List, All, IsUtf8, Some, IfErr, IfOk, OnOk, codes};
+ghost use Rattle.std.specs.Prelude.{◌≡◌, ◌≢◌, [], ℕ, List, All, IsUtf8, Some, IfErr, IfOk, OnOk, codes, map, string_bytes};
 ghost use Rattle.serde_json.specs.Data.{Data};
 ghost use Rattle.serde_json.specs.Find.{get};
 ghost use Rattle.serde_json.specs.Read.{read};
 ghost use Rattle.serde_json.specs.View.{view};
 ghost use Rattle.tmem_script.specs.Scripts.{IsScriptText};
 ghost use Rattle.tmem_script.specs.declared.script.Entry.{Entry};
+ghost use Rattle.tmem_fault.specs.Name.{has_name};
 ghost use Rattle.tmem_requests.specs.Reasons.{IsNoJson};
-ghost use Rattle.tmem_explain.specs.Flaws.{IsAmissIn, IsFlawOf, IsTextFlaw};
+ghost use Rattle.tmem_explain.specs.Flaws.{HasStrangeKey, IsAmissIn, IsFlawOf, IsTextFlaw};
+ghost use Rattle.tmem_explain.specs.Limits.{IsFineText, IsFlawedText};
 
 use crate::amiss::{Amiss, inside};
 use crate::entry::find_in_entry;
 use crate::expected::Expected;
 use crate::flaw::{Flaw, Spot};
+use crate::limits::flaws_of_script;
 use serde_json::Value;
 use std::alloc::{AllocError, Global};
 use tmem_forms::short_of;
 use tmem_requests::{Step, has_only};
 use tmem_script::{Script, ScriptError};
 
-/// All that is wrong with the text of a script: of each of its numbers, and of each entry, the first thing. There is nothing where the
-/// text is one. Refused where memory does not suffice.
+/// All that is wrong with the text of a script: of each of its numbers, and of each entry, the first thing. Of a script these are numbers
+/// that no store has, and transactions that break a limit. There is nothing where the text is a script that keeps them. Refused where
+/// memory does not suffice.
 pub fn flaws_in(alloc: Global, text: &[u8]) -> Result<Vec<Flaw>, AllocError>
     ensures told { IfOk result (λ flaws. (value : Data) → IsUtf8 text.now → read text.now ≡ Some value → All (IsFlawOf value) flaws.items) }
     ensures no_json { IfOk result (λ flaws. IsNoJson text.now → All IsTextFlaw flaws.items) }
-    ensures read { IfOk result (λ flaws. (vars slots : ℕ) (entries : List Entry) → IsScriptText vars slots entries text.now → flaws.items ≡ []) }
-    ensures fine { IfOk result (λ flaws. flaws.items ≡ [] → (vars : ℕ) × (slots : ℕ) × (entries : List Entry) × IsScriptText vars slots entries text.now) }
+    ensures some { IfOk result (λ flaws. flaws.items ≢ [] → IsFlawedText text.now) }
+    ensures fine { IfOk result (λ flaws. flaws.items ≡ [] → IsFineText text.now) }
 {
     let error = match Script::from_slice(alloc, text) {
-        Ok(_) => return Ok(Vec::new(alloc)),
+        Ok(script) => return flaws_of_script(alloc, &script),
         Err(error) => error,
     };
     let ScriptError::NoScript = error else {
@@ -91,7 +95,7 @@ fn note_all(alloc: Global, value: &Value, flaws: &mut Vec<Flaw>) -> Result<(), A
     if !value.is_object() {
         return note(flaws, Err(Amiss::here(alloc, Expected::Object)));
     }
-    note(flaws, find_in_keys(alloc, value))?;
+    note_keys(alloc, value, flaws)?;
     note(flaws, find_in_number(alloc, value, "vars"))?;
     note(flaws, find_in_number(alloc, value, "slots"))?;
     match value.get("events") {
@@ -143,6 +147,75 @@ fn find_no_array(alloc: Global, value: &Value) -> Result<(), Amiss>
     Ok(())
 }
 
+// Notes a key of an object that a script does not have.
+fn note_keys(alloc: Global, value: &Value, flaws: &mut Vec<Flaw>) -> Result<(), AllocError>
+    ensures { All (IsFlawOf (view value.now)) flaws.old.items → OnOk result (All (IsFlawOf (view value.now)) flaws.new.items) }
+{
+    match strange_key(value) {
+        Some(key) => note_key(alloc, value, key, flaws),
+        None => note(flaws, find_in_keys(alloc, value)),
+    }
+}
+
+// A key that a script does not have, and that can be printed.
+fn strange_key(value: &Value) -> Option<&str> {
+    let Value::Object(members) = value else {
+        return None;
+    };
+    for (key, _) in members.iter() {
+        if !is_among(&["vars", "slots", "events"], key.as_str()) && is_plain(key.as_str()) {
+            return Some(key.as_str());
+        }
+    }
+    None
+}
+
+// Notes that an object has this key, if it has, and a script does not.
+fn note_key(
+    alloc: Global,
+    value: &Value,
+    key: &str,
+    flaws: &mut Vec<Flaw>,
+) -> Result<(), AllocError>
+    ensures { All (IsFlawOf (view value.now)) flaws.old.items → OnOk result (All (IsFlawOf (view value.now)) flaws.new.items) }
+{
+    if is_among(&["vars", "slots", "events"], key) {
+        return note(flaws, find_in_keys(alloc, value));
+    }
+    match value.get(key) {
+        Some(_) => {
+            let name = String::from_str(alloc, key)?;
+            note_flaw(flaws, strange_flaw(name))
+        }
+        None => note(flaws, find_in_keys(alloc, value)),
+    }
+}
+
+// Whether a key is one of these.
+fn is_among(keys: &[&str], key: &str) -> bool
+    ensures { result ≡ has_name (map (λ key. key.now) keys.now) key.now }
+{
+    keys.iter().any(|k| *k == key)
+}
+
+// That an object has this key, and a script has not.
+fn strange_flaw(key: String) -> Flaw
+    ensures { (d : Data) → HasStrangeKey (string_bytes key) d → IsFlawOf d result }
+{
+    Flaw {
+        expected: Expected::ScriptKey,
+        at: Spot::Unknown(key),
+    }
+}
+
+// Notes this flaw.
+fn note_flaw(flaws: &mut Vec<Flaw>, flaw: Flaw) -> Result<(), AllocError>
+    ensures { (d : Data) → IsFlawOf d flaw → All (IsFlawOf d) flaws.old.items → OnOk result (All (IsFlawOf d) flaws.new.items) }
+{
+    flaws.push(flaw)?;
+    Ok(())
+}
+
 // Whether an object has no key that a script does not have.
 fn find_in_keys(alloc: Global, value: &Value) -> Result<(), Amiss>
     ensures { IfErr result (IsAmissIn (view value.now)) }
@@ -151,6 +224,11 @@ fn find_in_keys(alloc: Global, value: &Value) -> Result<(), Amiss>
         return Err(Amiss::here(alloc, Expected::ScriptKeys));
     }
     Ok(())
+}
+
+// Whether a key can stand in a pointer as it is, and is printed as one word.
+fn is_plain(key: &str) -> bool {
+    key.bytes().all(|byte| byte > b' ' && byte < 127 && byte != b'~' && byte != b'/')
 }
 
 // Whether a number stands at a key.

@@ -9,10 +9,10 @@ use Rattle.tmem_cli.proofs.check.check.Goals as goal
 pub returns-clause-flawed : goal.returns-clause-flawed
 returns-clause-flawed g c same = record {
   text = c.deref.result.now;
-  none = λ vars slots entries is.
+  flawed = c.in-Ok.ensures.some (λ none.
       let long : vec_len c.in-Ok.flaws ≡ length c.in-Ok.flaws.items = search rules in
-      let empty : c.is_empty.result ≡ true = c.is_empty.ensures ∙ ap (λ (n : ℕ). n == 0) (long ∙ ap length (c.in-Ok.ensures.read vars slots entries is)) in
-      false≢true (sym c.if-is_empty.false ∙ empty);
+      let empty : c.is_empty.result ≡ true = c.is_empty.ensures ∙ ap (λ (n : ℕ). n == 0) (long ∙ ap length none) in
+      false≢true (sym c.if-is_empty.false ∙ empty));
   flaws = c.in-Ok.flaws.items;
   told = c.in-Ok.ensures.told;
   no_json = c.in-Ok.ensures.no_json;

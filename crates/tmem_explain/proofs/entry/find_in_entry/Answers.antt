@@ -7,7 +7,7 @@ use Rattle.tmem_explain.proofs.entry.find_in_entry.Goals as goal
 
 pub returns-then-len-ne1 : goal.returns-then-len-ne1
 returns-then-len-ne1 c =
-    c.here.ensures (view c.args.value.now)
+    c.here.ensures.amiss (view c.args.value.now)
     (subst (λ v. is_entry_headed (view v) ≡ false) (sym c.in-Object.is) (not_headed c.in-Object.members (λ one. c.if-len-ne1.true (c.len.ensures.len ∙ one))))
 
 pub returns-in-Some : goal.returns-in-Some

@@ -6,4 +6,4 @@ use Rattle.tmem_explain.proofs.entry.find_in_event.Goals as goal
 pub returns-in_default : goal.returns-in_default
 returns-in_default c =
     let d = c.in_default in
-    c.here.ensures (tagged c.args.key.now (view c.args.body.now)) (no_event_key c.args.key.now d.not-begin d.not-turn d.not-settle)
+    c.here.ensures.amiss (tagged c.args.key.now (view c.args.body.now)) (no_event_key c.args.key.now d.not-begin d.not-turn d.not-settle)

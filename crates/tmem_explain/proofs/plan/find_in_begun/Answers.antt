@@ -1,13 +1,20 @@
-use Rattle.std.proofs.Common.{◌≡◌, ◌∷◌, [], IfErr, codes, refl, sym, ap, ◌∙◌, subst}
+use Rattle.std.proofs.Common.{◌≡◌, ◌∷◌, ℕ, [], IfErr, codes, refl, sym, ap, ◌∙◌, subst}
 use Rattle.serde_json.specs.Data.{Data}
 use Rattle.tmem_forms.specs.TxForms.{array_of, natural, tagged, tx_form}
 use Rattle.tmem_script.specs.Scripts.{entry_form, event_form}
-use Rattle.tmem_explain.specs.Flaws.{IsAmissIn}
+use Rattle.tmem_fault.specs.declared.fault.Cause.{Cause}
+use Rattle.tmem_explain.specs.Flaws.{IsAmissIn, TellsCause}
 use Rattle.tmem_explain.proofs.plan.find_in_begun.Goals as goal
 
-pub returns : goal.returns
-returns c =
+pub returns-clause-amiss : goal.returns-clause-amiss
+returns-clause-amiss c =
     let held : Data = array_of (natural c.in-Begin.slot ∷ tx_form c.in-Begin.tx ∷ []) in
     let form : entry_form c.args.entry.now ≡ tagged (codes "begin") held = ap entry_form c.in-Event.is ∙ ap event_form c.in-Begin.is in
-    let item : IfErr c.inside.result (λ a. IsAmissIn held a) = c.inside.ensures held (tx_form c.in-Begin.tx) refl c.find_in_plan-found.ensures in
-    subst (λ d. IfErr c.inside-2.result (λ a. IsAmissIn d a)) (sym form) (c.inside-2.ensures (tagged (codes "begin") held) held refl item)
+    let item : IfErr c.inside.result (λ a. IsAmissIn held a) = c.inside.ensures.amiss held (tx_form c.in-Begin.tx) refl c.find_in_plan-found.ensures.amiss in
+    subst (λ d. IfErr c.inside-2.result (λ a. IsAmissIn d a)) (sym form) (c.inside-2.ensures.amiss (tagged (codes "begin") held) held refl item)
+
+pub returns-clause-cause : goal.returns-clause-cause
+returns-clause-cause c =
+    let told = subst (λ (n : ℕ). IfErr c.find_in_plan-found.result (λ a. TellsCause c.limit_of-limit.result.cause n a.expected)) c.limit_of-limit.ensures.vars c.find_in_plan-found.ensures.cause in
+    let told_of = subst (λ (k : Cause). IfErr c.find_in_plan-found.result (λ a. TellsCause k c.args.vars a.expected)) c.limit_of-limit.ensures.cause told in
+    c.inside-2.ensures.cause c.args.cause c.args.vars (c.inside.ensures.cause c.args.cause c.args.vars told_of)

@@ -14,3 +14,7 @@ returns-in-Other-clause-writes g c = λ plain ok.
 pub returns-in-Short-clause-writes : goal.returns-in-Short-clause-writes
 returns-in-Short-clause-writes g c = λ plain ok.
     subst (λ it. HasWritten g.W.Write.write_str_gives c.args.f.now (numbers_help it) c.write-in-Short.new.self) (sym c.in-Short.is) (c.write-in-Short.ensures.writes plain ok)
+
+pub returns-in-NoRoom-clause-writes : goal.returns-in-NoRoom-clause-writes
+returns-in-NoRoom-clause-writes g c = λ plain ok.
+    subst (λ it. HasWritten g.W.Write.write_str_gives c.args.f.now (numbers_help it) c.write-in-NoRoom.new.self) (sym c.in-NoRoom.is) (c.write-in-NoRoom.ensures.writes plain ok)

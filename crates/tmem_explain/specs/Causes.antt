@@ -1,0 +1,72 @@
+-- Why a file could not be used: what an error of the system tells, which causes there are for what was wanted, and what to do.
+use Rattle.std.specs.Prelude.{ℤ, pos, Bool, true, false, if◌then◌else◌, ℕ, List, codes, Option, Some, None}
+use Rattle.std.specs.Ordering.{int_eq}
+use Rattle.std.specs.declared.io.ErrorKind.{ErrorKind}
+use Rattle.std.specs.declared.io.ErrorKind.TheVariants as kind
+use Rattle.tmem_explain.specs.declared.device.CallCause.{CallCause}
+use Rattle.tmem_explain.specs.declared.device.CallCause.TheVariants as call
+use Rattle.tmem_explain.specs.declared.device.DeviceCause.{DeviceCause}
+use Rattle.tmem_explain.specs.declared.device.DeviceCause.TheVariants as cause
+use Rattle.tmem_explain.specs.declared.device.Wanted.{Wanted}
+use Rattle.tmem_explain.specs.declared.device.Wanted.TheVariants as wanted
+
+-- the system's number for an error of a disk is 5 (EIO)
+abbrev other_cause : Option ℤ → CallCause
+other_cause None = call.Other
+other_cause (Some number) = if int_eq number (pos 5) then call.DiskError else call.Other
+
+-- what an error of this kind and this number tells
+abbrev pub call_cause : ErrorKind → Option ℤ → CallCause
+call_cause kind.PermissionDenied number = call.NoPermission
+call_cause kind.ReadOnlyFilesystem number = call.ReadOnly
+call_cause kind.StorageFull number = call.NoRoom
+call_cause kind.QuotaExceeded number = call.NoRoom
+call_cause kind.InvalidFilename number = call.LongName
+call_cause kind.FileTooLarge number = call.Limit
+call_cause kind.FilesystemLoop number = call.Circle
+call_cause _ number = other_cause number
+
+-- A lock is told only of what this program does not have open itself, that something is there only of a new file, and that nothing is
+-- only of what was to be there.
+abbrev pub may_be_told : Wanted → DeviceCause → Bool
+may_be_told wanted.Read cause.Locked = false
+may_be_told wanted.Held cause.Locked = false
+may_be_told wanted.Made cause.Locked = false
+may_be_told wanted.Made cause.Missing = false
+may_be_told wanted.FoundOrMade cause.Missing = false
+may_be_told wanted.Read cause.There = false
+may_be_told wanted.Found cause.There = false
+may_be_told wanted.Held cause.There = false
+may_be_told wanted.FoundOrMade cause.There = false
+may_be_told wanted.Read cause.ClosedFolder = false
+may_be_told wanted.Found cause.ClosedFolder = false
+may_be_told wanted.Held cause.ClosedFolder = false
+may_be_told wanted.Read cause.NoLinks = false
+may_be_told wanted.Found cause.NoLinks = false
+may_be_told wanted.Held cause.NoLinks = false
+may_be_told wanted c = true
+
+-- why a call was refused, and what to do
+abbrev pub call_help : CallCause → List ℕ
+call_help call.NoPermission = codes "this user may not use it; change its rights, or run as its owner"
+call_help call.ReadOnly = codes "its file system is mounted read-only; mount it for writing, or name a path on another"
+call_help call.NoRoom = codes "there is no room on its file system, or no quota is left; free some (df, df -i, quota), or name a path on another"
+call_help call.LongName = codes "its name is too long; name a path whose last part has at most 250 bytes"
+call_help call.Limit = codes "this process may not write a file so long (ulimit -f); raise that limit, and run the program again"
+call_help call.Circle = codes "links on this path lead in a circle; mend them, or name the file"
+call_help call.DiskError = codes "the disk reports an error (EIO); look into the system's log (dmesg), and restore a copy on another disk"
+call_help call.Other = codes "a call on it failed, and nothing is wrong with it now; look into the system's log (dmesg), and run the program again"
+
+-- why a file could not be used, and what to do
+abbrev pub device_help : DeviceCause → List ℕ
+device_help cause.Empty = codes "the path is empty; name a file"
+device_help cause.Locked = codes "another program has it open; wait until that ends, or end it"
+device_help cause.Folder = codes "it is a folder; name a file"
+device_help cause.NoFile = codes "it is no file and no block device; name one"
+device_help cause.Missing = codes "nothing has this path; check it"
+device_help cause.DeadLink = codes "it is a link to nothing; mend the link, or name a file"
+device_help cause.There = codes "something has this path, and a new file was to be made; name another path"
+device_help cause.MissingFolder = codes "its folder is not there; make it, or check the path"
+device_help cause.ClosedFolder = codes "this user may not make a file in its folder; change the folder's rights, or name a path in another"
+device_help cause.NoLinks = codes "its file system makes no hard links, by which a new file gets its name; name a path on another"
+device_help (cause.Call c) = call_help c

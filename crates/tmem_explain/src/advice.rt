@@ -1,0 +1,18 @@
+//! What is told of texts and files that end too soon.
+use serde_json::Value;
+use std::alloc::Global;
+
+/// What is wrong with a text that ends too soon.
+pub const CUT_OFF: &str =
+    "the text ends before its JSON does: a bracket or a quotation mark is left open";
+
+/// What to do with a store whose file is shorter than its first bytes say.
+pub const TOO_SHORT: &str = "the file was cut off; restore a copy";
+
+/// Whether a text ends before its JSON does.
+pub fn is_cut_off(alloc: Global, text: &[u8]) -> bool {
+    match Value::from_slice(alloc, text) {
+        Ok(_) => false,
+        Err(error) => error.is_eof(),
+    }
+}

@@ -1,0 +1,128 @@
+//! How much a transaction has of what a limit counts.
+ghost use Rattle.std.specs.Prelude.{◌≡◌, ◌+◌, ◌<◌, ◌≤◌, ◌↔◌, IfSome, IsNone, IsTrue};
+ghost use Rattle.tmem_builtins.specs.Builtins.{builtin_names};
+ghost use Rattle.tmem_tree.specs.Limits.{count, depth};
+ghost use Rattle.tmem_tree.specs.Plans.{BreaksNone, IsLeastBroken, is_counted};
+ghost use Rattle.tmem_explain.specs.Flaws.{step_arities};
+
+use crate::plan::is_counted;
+use tmem_fault::Cause;
+use tmem_tree::{MAX_CHECKS, MAX_DEPTH, MAX_NODES, MAX_RETIRES, MAX_WRITES, Tx};
+
+// No text nests a transaction deeper.
+const MOST_LEVELS: u32 = 128;
+
+/// The first limit by number that a transaction breaks.
+pub(crate) fn least_broken(tx: &Tx, vars: u16) -> Option<Cause>
+    ensures broken { IfSome result (IsLeastBroken step_arities vars (builtin_names vars) tx.now) }
+    ensures none { IsNone result → BreaksNone step_arities vars (builtin_names vars) tx.now }
+{
+    if !is_within_depth(tx, MAX_DEPTH) {
+        return Some(Cause::TooDeep);
+    }
+    if spend(tx, Cause::TooManyNodes, vars, MAX_NODES as u64).is_none() {
+        return Some(Cause::TooManyNodes);
+    }
+    if spend(tx, Cause::TooManyWrites, vars, MAX_WRITES as u64).is_none() {
+        return Some(Cause::TooManyWrites);
+    }
+    if spend(tx, Cause::TooManyChecks, vars, MAX_CHECKS as u64).is_none() {
+        return Some(Cause::TooManyChecks);
+    }
+    if spend(tx, Cause::BadRegister, vars, 0).is_none() {
+        return Some(Cause::BadRegister);
+    }
+    if spend(tx, Cause::BadVariable, vars, 0).is_none() {
+        return Some(Cause::BadVariable);
+    }
+    if spend(tx, Cause::BadStep, vars, 0).is_none() {
+        return Some(Cause::BadStep);
+    }
+    if spend(tx, Cause::BadArguments, vars, 0).is_none() {
+        return Some(Cause::BadArguments);
+    }
+    if spend(tx, Cause::UnknownName, vars, 0).is_none() {
+        return Some(Cause::UnknownName);
+    }
+    if spend(tx, Cause::TooManyRetires, vars, MAX_RETIRES as u64).is_none() {
+        return Some(Cause::TooManyRetires);
+    }
+    None
+}
+
+/// How many nodes a limit counts, and no more than 2^64 - 1.
+pub(crate) fn count_of(tx: &Tx, cause: Cause, vars: u16) -> u64
+    ensures most { result ≤ count (is_counted cause step_arities vars (builtin_names vars)) tx.now }
+    ensures exact { result < 18446744073709551615 → result ≡ count (is_counted cause step_arities vars (builtin_names vars)) tx.now }
+{
+    match spend(tx, cause, vars, u64::MAX) {
+        Some(left) => u64::MAX - left,
+        None => u64::MAX,
+    }
+}
+
+/// How deep a transaction is that is deeper than 32, and no deeper than a text can nest one.
+pub(crate) fn depth_of(tx: &Tx) -> u64
+    ensures { 32 < depth tx.now → depth tx.now ≤ 128 → result ≡ depth tx.now }
+{
+    for most in MAX_DEPTH..MOST_LEVELS {
+        if is_within_depth(tx, most) {
+            return most as u64;
+        }
+    }
+    MOST_LEVELS as u64
+}
+
+// Whether a tree is no deeper than `most`. Looks no deeper than that.
+fn is_within_depth(tx: &Tx, most: u32) -> bool
+    ensures { IsTrue result ↔ (depth tx.now ≤ most) }
+{
+    if most == 0 {
+        return false;
+    }
+    match tx {
+        Tx::Seq(txs) => {
+            for t in txs {
+                if !is_within_depth(t, most - 1) {
+                    return false;
+                }
+            }
+            true
+        }
+        Tx::When { then, other, .. } => {
+            is_within_depth(then, most - 1) && is_within_depth(other, most - 1)
+        }
+        Tx::OrElse(first, second) => {
+            is_within_depth(first, most - 1) && is_within_depth(second, most - 1)
+        }
+        _ => true,
+    }
+}
+
+// What is left of a budget that pays for each node that a limit counts, or none where it does not suffice.
+fn spend(tx: &Tx, cause: Cause, vars: u16, budget: u64) -> Option<u64>
+    ensures enough { IfSome result (λ left. left + count (is_counted cause step_arities vars (builtin_names vars)) tx.now ≡ budget) }
+    ensures lacking { IsNone result → budget < count (is_counted cause step_arities vars (builtin_names vars)) tx.now }
+{
+    let mut left = budget;
+    if is_counted(tx, cause, vars) {
+        left = left.checked_sub(1)?;
+    }
+    match tx {
+        Tx::Seq(txs) => {
+            for t in txs {
+                left = spend(t, cause, vars, left)?;
+            }
+            Some(left)
+        }
+        Tx::When { then, other, .. } => {
+            let left = spend(then, cause, vars, left)?;
+            spend(other, cause, vars, left)
+        }
+        Tx::OrElse(first, second) => {
+            let left = spend(first, cause, vars, left)?;
+            spend(second, cause, vars, left)
+        }
+        _ => Some(left),
+    }
+}
