@@ -86,9 +86,9 @@ FitsNames names tx = count (has_unknown_name names) tx ≡ 0
 abbrev pub HasShapes : List (List ℕ) → Tx → Type 0
 HasShapes names tx = count (lacks_shape names) tx ≡ 0
 
--- it calls no stored step and has at most 64 nodes
+-- it has at most 64 nodes, of which at most 8 call a stored step
 abbrev pub IsShortTx : Tx → Type 0
-IsShortTx tx = (count is_step tx ≡ 0) × (count is_node tx ≤ 64)
+IsShortTx tx = (count is_step tx ≤ 8) × (count is_node tx ≤ 64)
 
 -- what a plan keeps beside its tree is so: the shapes of the invariants that it checks, how many of its choices may stand in their
 -- first branch at once, and whether it is short

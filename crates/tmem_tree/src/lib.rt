@@ -19,7 +19,7 @@ mod steps;
 mod tx;
 
 pub use limits::{MAX_DEPTH, MAX_NODES, MAX_TURNS, MAX_WRITES, REGISTERS};
-pub use plan::{MAX_SHORT, Plan};
+pub use plan::{MAX_SHORT, MAX_SHORT_STEPS, Plan};
 pub use settled::Settled;
 pub use shape::{Footprint, Shape, footprint_of, shapes_of};
 pub use step::{MAX_ARGUMENTS, Step, StepAnswer, StepEntry};

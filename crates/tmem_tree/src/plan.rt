@@ -24,13 +24,16 @@ use tmem_fault::{Cause, Fault};
 /// The most nodes of a short plan.
 pub const MAX_SHORT: u32 = 64;
 
+/// The most stored steps that a short plan calls.
+pub const MAX_SHORT_STEPS: u32 = 8;
+
 /// A transaction that breaks no limit. Contracts see it as its tree, and the footprints of the invariants that it checks.
 pub struct Plan {
     tx: Tx,
     shapes: Shapes,
     // how many of its choices may stand in their first branch at once
     open_choices: usize,
-    // whether it calls no stored step and has few nodes
+    // whether it has few nodes and calls few stored steps
     is_short: bool,
 }
 
@@ -101,7 +104,8 @@ impl Plan {
         ensures once { AreDistinct (names_of result.shapes) }
     {
         let open_choices = count_choices(&tx);
-        let is_short = left.nodes >= MAX_NODES - MAX_SHORT && left.steps == WHOLE.steps;
+        let is_short = left.nodes >= MAX_NODES - MAX_SHORT
+            && left.steps >= MAX_NODES - MAX_SHORT_STEPS;
         let mut checked = Shapes::new();
         fill(&tx, shapes, WHOLE.checks - left.checks, &mut checked);
         Plan {
@@ -137,7 +141,7 @@ impl Plan {
         self.open_choices
     }
 
-    /// Whether it calls no stored step and has at most `MAX_SHORT` nodes.
+    /// Whether it has at most `MAX_SHORT` nodes, of which at most `MAX_SHORT_STEPS` call a stored step.
     pub fn is_short(&self) -> bool
         ensures { IsTrue result ↔ IsShortTx self.now.tree }
     {

@@ -6,14 +6,14 @@ use std::alloc::{AllocError, Global};
 use tmem_core::Settled;
 use tmem_fault::Fault;
 use tmem_front::Awaited;
-use tmem_tree::Tx;
+use tmem_tree::{MAX_SHORT, Tx};
 
 /// A transaction.
 #[derive(Clone, Copy)]
 pub(super) enum Task {
     /// Puts a number in register 0, and writes it to a variable.
     Write(u16, i64),
-    /// Adds 1 to variable 0.
+    /// Adds 1 to variable 0. It is a long plan, as each task here that calls a step is: another thread can come in between.
     AddOne,
     /// Writes to variable 1 what variable 0 has. It calls no step.
     Copy,
@@ -212,31 +212,45 @@ impl Task {
     pub(super) fn tx(&self, alloc: Global) -> Result<Tx, AllocError> {
         match *self {
             Task::Write(var, number) => write(alloc, var, number),
-            Task::AddOne => add_one(alloc),
+            Task::AddOne => long(alloc, add_one(alloc)?),
             Task::Copy => copy(alloc),
-            Task::NeedOne => need_one(alloc, 2),
+            Task::NeedOne => long(alloc, need_one(alloc, 2)?),
             Task::WriteBoth(var, other, number) => write_both(alloc, var, other, number),
-            Task::NeedEither(var, other) => need_either(alloc, var, other),
+            Task::NeedEither(var, other) => long(alloc, need_either(alloc, var, other)?),
             Task::WaitForEither(var, other) => wait_for_either(alloc, var, other),
             Task::Never => Ok(Tx::Retry),
             Task::Choose => choose(alloc),
             Task::Abort(code) => Ok(Tx::Abort { code }),
-            Task::NeedLast(var) => need_last(alloc, var),
-            Task::AddBehind(var, least, other) => add_behind(alloc, var, least, other),
+            Task::NeedLast(var) => long(alloc, need_last(alloc, var)?),
+            Task::AddBehind(var, least, other) => long(
+                alloc,
+                add_behind(alloc, var, least, other)?,
+            ),
             Task::WriteEach(number) => write_each(alloc, number),
-            Task::AddOnceThereIsOne => Ok(Tx::Seq(vec![in alloc;
-                add_one(alloc)?,
-                need_one(alloc, 2)?,
-            ]?)),
+            Task::AddOnceThereIsOne => {
+                let (first, second) = (add_one(alloc)?, need_one(alloc, 2)?);
+                long(alloc, Tx::Seq(vec![in alloc; first, second]?))
+            }
             Task::Register => Ok(check()),
             Task::ReadAndRegister => read_and_register(alloc),
-            Task::AddAndRegister => Ok(Tx::Seq(vec![in alloc; add_one(alloc)?, check()]?)),
+            Task::AddAndRegister => {
+                long(alloc, Tx::Seq(vec![in alloc; add_one(alloc)?, check()]?))
+            }
             Task::Retire => Ok(retire()),
             Task::WriteAndRetire(var, number) => {
                 Ok(Tx::Seq(vec![in alloc; write(alloc, var, number)?, retire()]?))
             }
         }
     }
+}
+
+// With 64 nodes behind it that do nothing: no short plan.
+fn long(alloc: Global, tx: Tx) -> Result<Tx, AllocError> {
+    let mut txs = vec![in alloc; tx]?;
+    for _ in 0..MAX_SHORT {
+        txs.push(Tx::Skip)?;
+    }
+    Ok(Tx::Seq(txs))
 }
 
 fn check() -> Tx {
