@@ -162,7 +162,8 @@ static SCENES: &[Line<'static>] = &[
     Last(TryCommit(Task::Write(2, 1)), Committed(20)),
     Scene("who awaits its own commit looks and sleeps"),
     First(CommitDurable(Task::Write(0, 1)), Committed(0)),
-    Last(Sleep(100), Done),
+    // before it looks it lets other threads run a hundred times, which takes a while on a busy machine
+    Last(Sleep(1000), Done),
     Last(LooksAtLeast(1), Holds(true)),
     Last(LooksAtMost(3), Holds(true)),
     Last(Flush, Number(1)),
@@ -176,7 +177,7 @@ static SCENES: &[Line<'static>] = &[
         CommitWithin(Task::WaitForEither(2, 70), LONG),
         Saw(51, [1, 0, 0, 0, 0, 0, 0, 0, 0, 0, 0, 0, 0, 0, 0, 0]),
     ),
-    Last(Sleep(100), Done),
+    Last(Sleep(500), Done),
     Last(Fill(50), Number(50)),
     Last(Sleep(50), Done),
     Last(LooksAtLeast(2), Holds(true)),
@@ -186,7 +187,7 @@ static SCENES: &[Line<'static>] = &[
     First(Await(0), CLOSED),
     Second(Commit(Task::NeedOne), CLOSED),
     Third(RunFlusher(1), Done),
-    Last(Sleep(300), Done),
+    Last(Sleep(1000), Done),
     // once each, and a few times more where a thread is woken for nothing
     Last(LooksAtMost(12), Holds(true)),
     Last(LooksAtLeast(3), Holds(true)),
