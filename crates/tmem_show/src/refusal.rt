@@ -4,7 +4,7 @@ use crate::source::Source;
 use std::alloc::Global;
 use std::fmt;
 use tmem_fault::Fault;
-use tmem_parts::{Wrong, block_of};
+use tmem_parts::{Block, Wrong, block_of};
 use tmem_record::{BLOCK_BYTES, Layout, SLOT_BYTES};
 
 /// Why an opening of a store is refused, and where. It prints as the part, the byte, and what is wrong there.
@@ -35,34 +35,44 @@ impl fmt::Display for Refusal {
 
 /// Why an opening of these bytes is refused, if it is. The only error is want of memory.
 pub fn refusal_of(alloc: Global, source: &Source) -> Result<Option<Refusal>, Fault> {
-    let block = match block_of(&source.bytes) {
-        Ok(block) => block,
+    match block_of(&source.bytes) {
+        Ok(block) => refusal_behind(alloc, source, block),
         Err(wrong) => {
             let opening = opening_without_block(alloc, source, wrong)?;
-            return Ok(refusal_in(None, opening));
+            Ok(refusal_in(None, &opening))
         }
-    };
-    let layout = block.layout;
-    let opening = if (source.bytes.len() as u64) < layout.end() {
-        too_short(source)
-    } else {
-        Look::new(alloc, &source.bytes, layout)?.opening(block.version)?
-    };
-    Ok(refusal_in(Some(layout), opening))
+    }
+}
+
+// The same of a store with this block 0.
+fn refusal_behind(alloc: Global, source: &Source, block: Block) -> Result<Option<Refusal>, Fault> {
+    let Block { version, layout } = block;
+    if (source.bytes.len() as u64) < layout.end() {
+        return Ok(refusal_in(Some(layout), &too_short(source)));
+    }
+    match &Look::new(alloc, &source.bytes, layout) {
+        Ok(look) => {
+            let opening = look.opening(version)?;
+            Ok(refusal_in(Some(layout), &opening))
+        }
+        Err(fault) => Err(*fault),
+    }
 }
 
 // What is refused by what an opening finds in a store of this layout.
-fn refusal_in(layout: Option<Layout>, opening: Opening) -> Option<Refusal> {
-    match opening {
-        Opening::Found(_) => None,
-        Opening::Refused(fault, wrong) => {
-            let part = match layout {
-                Some(layout) => part_at(layout, wrong.at),
-                None => Part::Block,
-            };
-            Some(Refusal { fault, part, wrong })
-        }
-    }
+fn refusal_in(layout: Option<Layout>, opening: &Opening) -> Option<Refusal> {
+    let Opening::Refused(fault, wrong) = opening else {
+        return None;
+    };
+    let part = match layout {
+        Some(layout) => part_at(layout, wrong.at),
+        None => Part::Block,
+    };
+    Some(Refusal {
+        fault: *fault,
+        part,
+        wrong: *wrong,
+    })
 }
 
 // The part that a byte belongs to.
