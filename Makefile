@@ -48,7 +48,7 @@ bench-peers: build
 	@bench/compare crates/tmem/out/tmem --rounds $(ROUNDS)
 
 # Breaks a store on three replicas in a round of each kind, made of SEED, with a program that is not proved, and looks that nothing is lost:
-# some six minutes, as root. replicas/rounds names what it needs. No part of make test, as little as replicas/variants, which shows that
+# some six minutes, as root. replicas/rounds names what it needs. Not part of make test, nor are replicas/variants, which shows that
 # each precaution of tmem-attach is found missing, and replicas/messages, which has it say all that it can.
 replicas:
 	@replicas/rounds --look

@@ -122,7 +122,7 @@ DoesWithStore words left rest before after = AsksToShow words ⊎ ((AsksToInit w
 
 -- Status 0: help or the version was asked for; or a script was, and it was played to its end, where a path is given on the device
 -- that is handed back; or threads were, and they counted up; or the jobs of a service were, and they were timed; or a store was to be
--- shown, made or served, and it was; or a script was to be checked, and it is one.
+-- shown, made or served, and it was; or a script was to be checked, and it keeps the limits.
 abbrev pub IsDone : List Text → Option (List ℕ) → Option (List ℕ) → Option Played → Option (List ℕ) → Option (List ℕ) → Type 0
 IsDone words left rest device before after =
     AsksForHelp words
@@ -141,7 +141,7 @@ IsFailed words left device =
 abbrev pub IsNotChecked : Option (List ℕ) → Option (List ℕ) → Type 0
 IsNotChecked before after = (after ≡ before) ⊎ HasFlaws before after
 
--- Status 3: a script was asked for, and there was none.
+-- Status 3: a script was asked for, and there was none, or one that was to be checked is past a limit.
 abbrev pub HasNoScript : List Text → Option (List ℕ) → Option Played → Option (List ℕ) → Option (List ℕ) → Type 0
 HasNoScript words left device before after =
     (AsksToPlay words × FailsWith 3 (MayBeRead (path_in words) left) (disk_in words) device) ⊎ (AsksToCheck words × IsNotChecked before after)

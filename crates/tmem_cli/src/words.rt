@@ -31,7 +31,7 @@ use tmem_threads::Work;
 
 /// Does what the words of a command line say, the program's name first, and answers the status: 0 where help or the
 /// version was printed, a script was played to its end, threads counted up, jobs were timed, or a store was shown, made, or served to the
-/// end of the input, or a script was checked and is one; 1 where that failed on the way; 2 where the words were refused, or memory did not
+/// end of the input, or a script was checked, and a run refuses none of its numbers and transactions; 1 where that failed on the way; 2 where the words were refused, or memory did not
 /// suffice to read them; 3 where there was no script to play, or to check. Beside it stands the device of the file that a script was
 /// played on, and how it was found. Behind `--explain` more is told on the error stream of what failed.
 pub fn run_words<R: Read, W: Write, E: Write>(
@@ -48,8 +48,8 @@ pub fn run_words<R: Read, W: Write, E: Write>(
     ensures most { result.0 ≤ 3 }
 
     // Nothing is told where all was done, unless more is to be told. Nothing is printed where the words were refused or there was no
-    // script to play, where a script that was checked is one, and where a script was to be played on a file, that failed, and no device
-    // is handed back. The input is left alone where no script was
+    // script to play, where nothing is wrong with a script that was checked, and where a script was to be played on a file, that failed, and
+    // no device is handed back. The input is left alone where no script was
     // asked for and no store is to be served, where the words were not read, and where they give the path of a script.
     ensures untold { ExplainsNothing (map string_bytes words.items) → result.0 ≡ 0 → err.new ≡ err.old }
     ensures unprinted { ¬ AsksToCheck (map string_bytes words.items) → 2 ≤ result.0 → out.new ≡ out.old }

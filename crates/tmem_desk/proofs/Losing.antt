@@ -18,7 +18,7 @@ use Rattle.tmem_requests.specs.declared.request.Ask.{Ask}
 use Rattle.tmem_desk.specs.Asking.{Store}
 use Rattle.tmem_desk.specs.Desks.{DeskView}
 use Rattle.tmem_desk.specs.Due.{LineCounts, LinesCount, LosesNone, KeepsDue, answers_any_of, due_of, waits_of}
-use Rattle.tmem_desk.specs.Failing.{AnswersLine, AnswersOnly, IsLast, IsUnprinted, IsWanting, OrMemory, PassesAll, PassesLine, RanNone, TakesPart, TakesRest, TellsAll, TellsEach}
+use Rattle.tmem_desk.specs.Failing.{AnswersLine, AnswersOnly, IsLast, IsUnprinted, IsMemoryOrOutput, OrMemory, PassesAll, PassesLine, RanNone, TakesPart, TakesRest, TellsAll, TellsEach}
 use Rattle.tmem_desk.specs.Serving.{IsAskedOf, RefusesLine, RefusesLong, Splits, TakesAll, TakesLast, TakesLine, TakesText, TakesShort, Wakes, by, one_line_more, tells, with_closed}
 use Rattle.tmem_desk.specs.Steps.{Steps}
 use Rattle.tmem_desk.specs.Told.{TellsOnly, answer_told, failed, told_lines}
@@ -289,11 +289,11 @@ unprinted_all s Are Ran v ran prints Output runs is = inl (ran, runs, is)
 unprinted_all s Are Ran v ran prints (failure.Fault f) runs is = inl is
 
 -- why the store cannot go on could not be printed
-pub unprinted_why : (fault : Fault) (all : List Told) (prints : List ℕ → Type 0) (e : Failure) → All (TellsOnly fault) all → IsUnprinted prints all e → IsWanting prints e
+pub unprinted_why : (fault : Fault) (all : List Told) (prints : List ℕ → Type 0) (e : Failure) → All (TellsOnly fault) all → IsUnprinted prints all e → IsMemoryOrOutput prints e
 unprinted_why fault all prints Output only is = (fault, all, only, is)
 unprinted_why fault all prints (failure.Fault f) only is = is
 
-pub wanting_all : (s : Store) (Are : List (List ℕ) → Type 0) (Ran : DeskView → Type 0) (v : DeskView) (prints : List ℕ → Type 0) (e : Failure) → IsWanting prints e → TellsAll s Are Ran v prints e
+pub wanting_all : (s : Store) (Are : List (List ℕ) → Type 0) (Ran : DeskView → Type 0) (v : DeskView) (prints : List ℕ → Type 0) (e : Failure) → IsMemoryOrOutput prints e → TellsAll s Are Ran v prints e
 wanting_all s Are Ran v prints Output is = inr is
 wanting_all s Are Ran v prints (failure.Fault f) is = inl is
 
@@ -312,7 +312,7 @@ unprinted_texts Is s Are Ran v ran prints (Err e) runs is = λ text so. unprinte
 
 -- a piece whose lines met a fault
 pub piece_fails : {X : Type 0} {Is : List ℕ → Type 0} (r : Result X Failure) (s : Store) (piece : List ℕ) (held held' : LinesView) (Ran : List ℕ → DeskView → Type 0) (v mid : DeskView) (prints : List ℕ → Type 0) (f : Fault)
-    → ((text : List ℕ) → Is text → OrMemory f (TakesPart s (text ++ piece) held v mid)) → (f ≡ Memory → IfErr r (IsWanting prints))
+    → ((text : List ℕ) → Is text → OrMemory f (TakesPart s (text ++ piece) held v mid)) → (f ≡ Memory → IfErr r (IsMemoryOrOutput prints))
     → IfErr r (λ e. (text : List ℕ) → HoldsRestOf held text → TellsAll s (λ (ys : List (List ℕ)). Splits text ys held') RanNone mid prints e)
     → IfErr r (λ e. (text : List ℕ) → Is text → TellsAll s (λ (xs : List (List ℕ)). Splits (text ++ piece) xs held') (Ran text) v prints e)
 piece_fails (Ok x) s piece held held' Ran v mid prints f before wanting told = tt
@@ -325,7 +325,7 @@ piece_fails (Err e) s piece held held' Ran v mid prints f before wanting told =
 
 -- the end, where that met one
 pub end_fails : {X : Type 0} {Is : List ℕ → Type 0} (r : Result X Failure) (s : Store) (held held' : LinesView) (Ran : List ℕ → DeskView → Type 0) (v mid : DeskView) (prints : List ℕ → Type 0) (f : Fault)
-    → ((text : List ℕ) → Is text → OrMemory f (TakesRest s text v mid)) → HoldsRestOf held [] → (f ≡ Memory → IfErr r (IsWanting prints))
+    → ((text : List ℕ) → Is text → OrMemory f (TakesRest s text v mid)) → HoldsRestOf held [] → (f ≡ Memory → IfErr r (IsMemoryOrOutput prints))
     → IfErr r (λ e. (text : List ℕ) → HoldsRestOf held text → TellsAll s (λ (ys : List (List ℕ)). Splits text ys held') RanNone mid prints e)
     → IfErr r (λ e. (text : List ℕ) → Is text → TellsAll s (IsLast text) (Ran text) v prints e)
 end_fails (Ok x) s held held' Ran v mid prints f before none wanting told = tt

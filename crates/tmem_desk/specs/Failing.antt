@@ -43,13 +43,13 @@ abbrev pub PrintsWhy : (List ℕ → Type 0) → Type 0
 PrintsWhy prints = (fault : Fault) × (all : List Told) × All (TellsOnly fault) all × PrintsPart prints all
 
 -- The output failed: of what is told once all ran and is durable, no more than the beginning was printed, or of why the store cannot go on.
-abbrev pub IsCutOff : (DeskView → Type 0) → (List ℕ → Type 0) → Type 0
-IsCutOff Ran prints = ((ran : DeskView) × Ran ran × PrintsPart prints ran.told) ⊎ PrintsWhy prints
+abbrev pub OutputFailed : (DeskView → Type 0) → (List ℕ → Type 0) → Type 0
+OutputFailed Ran prints = ((ran : DeskView) × Ran ran × PrintsPart prints ran.told) ⊎ PrintsWhy prints
 
 -- Where the store cannot go on, each is told, of these lines: unless memory did not suffice, or the output failed.
 abbrev pub TellsAll : Store → (List (List ℕ) → Type 0) → (DeskView → Type 0) → DeskView → (List ℕ → Type 0) → Failure → Type 0
 TellsAll s AreLines Ran v prints (failure.Fault fault) = (fault ≡ Memory) ⊎ ((texts : List (List ℕ)) × AreLines texts × TellsEach s texts v fault prints)
-TellsAll s AreLines Ran v prints Output = IsCutOff Ran prints
+TellsAll s AreLines Ran v prints Output = OutputFailed Ran prints
 
 -- what is left at the end of the input: nothing, or a line that lacks its line break
 abbrev pub IsLast : List ℕ → List (List ℕ) → Type 0
@@ -67,9 +67,9 @@ IsUnprinted prints all (failure.Fault fault) = fault ≡ Memory
 IsUnprinted prints all Output = PrintsPart prints all
 
 -- memory did not suffice to tell each why the store cannot go on, or the output failed
-abbrev pub IsWanting : (List ℕ → Type 0) → Failure → Type 0
-IsWanting prints (failure.Fault fault) = fault ≡ Memory
-IsWanting prints Output = PrintsWhy prints
+abbrev pub IsMemoryOrOutput : (List ℕ → Type 0) → Failure → Type 0
+IsMemoryOrOutput prints (failure.Fault fault) = fault ≡ Memory
+IsMemoryOrOutput prints Output = PrintsWhy prints
 
 -- nothing ran to its end
 abbrev pub RanNone : DeskView → Type 0

@@ -5,7 +5,7 @@ ghost use Rattle.tmem_front.specs.Settling.{SeesMore};
 ghost use Rattle.tmem_lines.specs.Lines.{HoldsRestOf};
 ghost use Rattle.tmem_desk.specs.Asking.{store};
 ghost use Rattle.tmem_desk.specs.Due.{KeepsDue};
-ghost use Rattle.tmem_desk.specs.Failing.{EndsBy, IsLast, IsUnprinted, IsWanting, OrMemory, PassesAll, RanNone, TakesPart, TakesRest, TellsAll};
+ghost use Rattle.tmem_desk.specs.Failing.{EndsBy, IsLast, IsUnprinted, IsMemoryOrOutput, OrMemory, PassesAll, RanNone, TakesPart, TakesRest, TellsAll};
 ghost use Rattle.tmem_desk.specs.Held.{desk_view};
 ghost use Rattle.tmem_desk.specs.Serving.{by, Finishes, Splits, TakesAll, RunsPiece, ServesPiece, TakesLast, RunsLast, RunsEnd, ServesEnd, with_closed};
 ghost use Rattle.tmem_desk.specs.Told.{told_lines, failed};
@@ -198,7 +198,7 @@ impl<N: ServedNaming> Desk<N> {
     ) -> Result<(), Failure>
         ensures never { IsErr result }
         ensures ends { IfErr result (EndsBy (Appends (W.contents out.old) (W.contents out.new))) }
-        ensures memory { fault ≡ Fault.Memory → IfErr result (IsWanting (Appends (W.contents out.old) (W.contents out.new))) }
+        ensures memory { fault ≡ Fault.Memory → IfErr result (IsMemoryOrOutput (Appends (W.contents out.old) (W.contents out.new))) }
         ensures told { IfErr result (λ e. (text : List ℕ) → HoldsRestOf lines.old text → TellsAll (store N.name.start N.opening N.program N.arities N.always) (λ texts. Splits text texts lines.new) RanNone (desk_view self.old) (Appends (W.contents out.old) (W.contents out.new)) e) }
     {
         let fault = why_ended(fault, service.front.fault(service.rt));

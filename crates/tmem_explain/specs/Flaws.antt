@@ -46,14 +46,14 @@ abbrev pub CountsNode : Cause → ℕ → Tx → Type 0
 CountsNode cause vars tx = (cause ≡ TooDeep) ⊎ (is_counted cause step_arities vars (builtin_names vars) tx ≡ true)
 
 -- what is past a limit is counted by it, and names what this node has
-abbrev pub IsOver : ℕ → Tx → Excess → Type 0
-IsOver vars tx excess = CountsNode (cause_of excess) vars tx × IsNamedBy vars tx excess
+abbrev pub IsPastLimit : ℕ → Tx → Excess → Type 0
+IsPastLimit vars tx excess = CountsNode (cause_of excess) vars tx × IsNamedBy vars tx excess
 
 -- a transaction of whose first node that is so
 pub record IsNodeOver (excess : Excess) (vars : ℕ) (d : Data) : Type 0 where
   pub node : Tx
   pub form : d ≡ tx_form node
-  pub over : IsOver vars node excess
+  pub over : IsPastLimit vars node excess
 
 -- what is told of a plan is told by the limit of this cause, for so many variables; or nothing is known
 abbrev pub TellsCause : Cause → ℕ → Expected → Type 0
@@ -91,12 +91,12 @@ abbrev pub IsAmissIn : Data → Amiss → Type 0
 IsAmissIn d amiss = LeadsToAmiss amiss.expected amiss.steps.items d
 
 -- an object has this key, which is none of a script
-abbrev pub HasStrangeKey : List ℕ → Data → Type 0
-HasStrangeKey key d = IsSome (get key d) × (has_name script_keys key ≡ false)
+abbrev pub HasUnknownScriptKey : List ℕ → Data → Type 0
+HasUnknownScriptKey key d = IsSome (get key d) × (has_name script_keys key ≡ false)
 
 abbrev TellsFlawAt : Expected → Spot → Data → Type 0
 TellsFlawAt what (Pointer steps) d = LeadsToAmiss what steps.items d
-TellsFlawAt what (Unknown key) d = (what ≡ expected.ScriptKey) × HasStrangeKey (string_bytes key) d
+TellsFlawAt what (Unknown key) d = (what ≡ expected.ScriptKey) × HasUnknownScriptKey (string_bytes key) d
 TellsFlawAt what (Text line column) d = ⊥
 
 -- What is told of a value is true: the pointer leads to a value inside of it, or to itself, and what was expected there is not so.

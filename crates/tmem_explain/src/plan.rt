@@ -9,7 +9,7 @@ ghost use Rattle.tmem_script.specs.Scripts.{IsScript, entry_form};
 ghost use Rattle.tmem_tree.specs.Limits.{has_bad_register, has_bad_variable, has_bad_step, has_bad_arguments, has_unknown_name, is_no_register};
 ghost use Rattle.tmem_tree.specs.Plans.{is_counted};
 ghost use Rattle.tmem_explain.specs.Excesses.{cause_of};
-ghost use Rattle.tmem_explain.specs.Flaws.{IsAmissIn, IsFlawOf, IsOver, TellsCause, step_arities};
+ghost use Rattle.tmem_explain.specs.Flaws.{IsAmissIn, IsFlawOf, IsPastLimit, TellsCause, step_arities};
 
 use crate::amiss::{Amiss, inside};
 use crate::excess::{Excess, arguments_in, bad_register_in, step_in, variable_in};
@@ -173,7 +173,7 @@ fn too_deep(alloc: Global, limit: Limit) -> Amiss
 
 // That this of a node is past a limit.
 fn past(alloc: Global, excess: Excess, vars: u16) -> Amiss
-    ensures amiss { (tx : Tx) → IsOver vars tx excess → IsAmissIn (tx_form tx) result }
+    ensures amiss { (tx : Tx) → IsPastLimit vars tx excess → IsAmissIn (tx_form tx) result }
     ensures cause { TellsCause (cause_of excess) vars result.expected }
 {
     Amiss::here(alloc, Expected::Plan { excess, vars })
@@ -181,7 +181,7 @@ fn past(alloc: Global, excess: Excess, vars: u16) -> Amiss
 
 // What is told of a node that a limit counts.
 fn excess_in(tx: &Tx, limit: Limit) -> Option<Excess>
-    ensures over { IfSome result (IsOver limit.vars tx.now) }
+    ensures over { IfSome result (IsPastLimit limit.vars tx.now) }
     ensures cause { IfSome result (λ excess. cause_of excess ≡ limit.cause) }
 {
     let Limit { cause, vars, total } = limit;

@@ -8,7 +8,7 @@ ghost use Rattle.tmem_script.specs.Scripts.{IsScriptText};
 ghost use Rattle.tmem_script.specs.declared.script.Entry.{Entry};
 ghost use Rattle.tmem_fault.specs.Name.{has_name};
 ghost use Rattle.tmem_requests.specs.Reasons.{IsNoJson};
-ghost use Rattle.tmem_explain.specs.Flaws.{HasStrangeKey, IsAmissIn, IsFlawOf, IsTextFlaw};
+ghost use Rattle.tmem_explain.specs.Flaws.{HasUnknownScriptKey, IsAmissIn, IsFlawOf, IsTextFlaw};
 ghost use Rattle.tmem_explain.specs.Limits.{IsFineText, IsFlawedText};
 
 use crate::amiss::{Amiss, inside};
@@ -200,7 +200,7 @@ fn is_among(keys: &[&str], key: &str) -> bool
 
 // That an object has this key, and a script has not.
 fn strange_flaw(key: String) -> Flaw
-    ensures { (d : Data) → HasStrangeKey (string_bytes key) d → IsFlawOf d result }
+    ensures { (d : Data) → HasUnknownScriptKey (string_bytes key) d → IsFlawOf d result }
 {
     Flaw {
         expected: Expected::ScriptKey,

@@ -24,7 +24,7 @@ static SCENES: &[Line<'static>] = &[
     Last(Commit(Task::AddOne), Committed(2)),
     Last(Attempt(Task::AddOne), Done),
     Last(Settle, Committed(3)),
-    // a transaction without a step is settled another way
+    // a short transaction is settled another way
     Last(TryCommit(Task::Copy), Committed(4)),
     Last(Commit(Task::Copy), Committed(5)),
     Last(Peek(0), Value(4)),

@@ -168,7 +168,7 @@ static SCENES: &[Line<'static>] = &[
     Last(LooksAtMost(3), Holds(true)),
     Last(Flush, Number(1)),
     Scene("a short transaction that retries looks and sleeps"),
-    // neither calls a step
+    // both are short
     First(
         Commit(Task::WaitForEither(1, 70)),
         Saw(51, [1, 0, 0, 0, 0, 0, 0, 0, 0, 0, 0, 0, 0, 0, 0, 0]),
@@ -211,7 +211,7 @@ static SCENES: &[Line<'static>] = &[
     First(Commit(Task::NeedEither(0, 5)), Saw(1, ONE)),
     Second(Commit(Task::NeedEither(6, 0)), Saw(1, ONE)),
     Last(Sleep(100), Done),
-    // it calls a step, so it is not evaluated under the lock
+    // it is long, so it is not evaluated under the lock
     Last(TryCommit(Task::AddOne), Committed(0)),
     Scene("what read nothing waits for a shut"),
     First(Commit(Task::Never), CLOSED),
