@@ -100,7 +100,7 @@ IsWhyNotTimed f = (f ≡ failure.Clock) ⊎ IsWhyNotCounted f
 
 -- The head of a table was printed, and below it a line for each job.
 abbrev pub TimesJobs : Option (List ℕ) → Option (List ℕ) → Type 0
-TimesJobs before after = (lines : List (List ℕ)) × (length lines ≡ 43) × Appends before after (printed (head ∷ lines))
+TimesJobs before after = (lines : List (List ℕ)) × (length lines ≡ 48) × Appends before after (printed (head ∷ lines))
 
 -- what the user is told where the jobs ended early
 abbrev pub failure_of : BenchError → Failure

@@ -29,8 +29,9 @@ pub(crate) fn count_on<R: Files<File = File> + AllocGlobal + Threads + Wait + Cl
     match path {
         None => count_up(rt, rt.alloc(), device_in_memory(rt.alloc(), layout)?, work),
         Some(path) => {
-            let (disk, _zeros) = made_file(rt, path, layout)?;
+            let made = made_file(rt, path, layout)?;
             notes.note_device(true);
+            let (disk, _zeros) = made;
             count_up(rt, rt.alloc(), disk, work)
         }
     }

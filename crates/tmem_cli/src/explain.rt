@@ -208,11 +208,17 @@ fn tell_of_shape<E: Write>(
     err: &mut E,
     path: &str,
 ) -> io::Result<()> {
+    if is_file_cut_off(rt, path) {
+        return tell(err, format_args!("{path}: {CUT_OFF}; {NO_SHAPE}"));
+    }
+    tell(err, format_args!("{path}: {NO_SHAPE}"))
+}
+
+// Whether the text in a file ends too early.
+fn is_file_cut_off(rt: &(impl Files<File = File> + AllocGlobal), path: &str) -> bool {
     match text_in(rt, path) {
-        Ok(text) if is_cut_off(rt.alloc(), &text) => {
-            tell(err, format_args!("{path}: {CUT_OFF}; {NO_SHAPE}"))
-        }
-        _ => tell(err, format_args!("{path}: {NO_SHAPE}")),
+        Ok(text) => is_cut_off(rt.alloc(), &text),
+        Err(_) => false,
     }
 }
 
@@ -418,15 +424,28 @@ fn explain_entries<E: Write>(
     notes: &Notes,
     err: &mut E,
 ) -> io::Result<()> {
+    let path = store_of(asked).map(|found| found.0);
     for refused in notes.refused() {
-        let Refused { index, fault } = *refused;
-        match fault {
-            Fault::BadPlan(cause) => tell_plan(rt.alloc(), notes.text(), index, cause, err)?,
-            Fault::Device => tell_call(rt, asked, index, err)?,
-            _ => tell_entry(err, index, fault, FaultHelp(fault))?,
-        }
+        explain_entry(rt, path, notes.text(), refused, err)?;
     }
     Ok(())
+}
+
+fn explain_entry<E: Write>(
+    rt: &(impl Files<File = File> + AllocGlobal),
+    path: Option<&str>,
+    text: &[u8],
+    refused: &Refused,
+    err: &mut E,
+) -> io::Result<()> {
+    let index = refused.index;
+    if let Fault::BadPlan(cause) = &refused.fault {
+        return tell_plan(rt.alloc(), text, index, *cause, err);
+    }
+    if let (Fault::Device, Some(path)) = (&refused.fault, path) {
+        return tell_call(rt, path, index, err);
+    }
+    tell_entry(err, index, refused.fault, FaultHelp(refused.fault))
 }
 
 fn tell_entry<E: Write, T: Display + Drop>(
@@ -462,18 +481,15 @@ fn tell_plan<E: Write>(
 // Tells why a call for an entry failed, as far as the file still shows it.
 fn tell_call<E: Write>(
     rt: &(impl Files<File = File> + AllocGlobal),
-    asked: Asked,
+    path: &str,
     index: usize,
     err: &mut E,
 ) -> io::Result<()> {
-    let fault = Fault::Device;
-    let Some((path, _)) = store_of(asked) else {
-        return tell_entry(err, index, fault, FaultHelp(fault));
-    };
-    match cause_of(rt, path, Wanted::Held, 0) {
-        DeviceCause::Call(CallCause::Other) => tell_entry(err, index, fault, FaultHelp(fault)),
-        cause => tell_entry(err, index, fault, format_args!("{path}: {cause}")),
+    let cause = cause_of(rt, path, Wanted::Held, 0);
+    if cause == DeviceCause::Call(CallCause::Other) {
+        return tell_entry(err, index, Fault::Device, FaultHelp(Fault::Device));
     }
+    tell_entry(err, index, Fault::Device, format_args!("{path}: {cause}"))
 }
 
 // Tells why a path could not be used.

@@ -55,7 +55,7 @@ call_help call.LongName = codes "its name is too long; name a path whose last pa
 call_help call.Limit = codes "this process may not write a file so long (ulimit -f); raise that limit, and run the program again"
 call_help call.Circle = codes "links on this path lead in a circle; mend them, or name the file"
 call_help call.DiskError = codes "the disk reports an error (EIO); look into the system's log (dmesg), and restore a copy on another disk"
-call_help call.Other = codes "a call on it failed, and nothing is wrong with it now; look into the system's log (dmesg), and run the program again"
+call_help call.Other = codes "a call on it failed, and what was tried again did not; look at the room (df), at open files (ulimit -n) and into the system's log (dmesg)"
 
 -- why a file could not be used, and what to do
 abbrev pub device_help : DeviceCause → List ℕ

@@ -27,7 +27,7 @@ fault_help (fault.Broken name) =
 fault_help (fault.BadPlan c) = cause_text c ++ codes "; change the transaction"
 fault_help fault.BadName = codes "a name is not 1 to 16 letters from a to z, or stands twice, or there are more than 64; change the program"
 fault_help fault.BadFootprint = codes "an invariant has no variable, more than 16, one twice, or one that the store lacks; change the program"
-fault_help fault.Spent = codes "the numbers of transactions or images are used up; make a new store"
+fault_help fault.Spent = codes "no use comes to this number, so something changed the file; restore a copy"
 fault_help fault.NoSeat = codes "all 32 passes were given out; keep passes, or borrow them of the pool"
 fault_help fault.Geometry =
     codes "the numbers of variables and log slots are none of a store, or not this one's, or its file is too short; state those that tmem show prints, or restore a copy"

@@ -99,7 +99,7 @@ impl fmt::Display for CallCause {
             CallCause::DiskError =>
                 "the disk reports an error (EIO); look into the system's log (dmesg), and restore a copy on another disk",
             CallCause::Other =>
-                "a call on it failed, and nothing is wrong with it now; look into the system's log (dmesg), and run the program again",
+                "a call on it failed, and what was tried again did not; look at the room (df), at open files (ulimit -n) and into the system's log (dmesg)",
         })
     }
 }

@@ -70,7 +70,7 @@ impl fmt::Display for FaultHelp {
             ),
             Fault::Spent => write!(
                 f,
-                "the numbers of transactions or images are used up; make a new store"
+                "no use comes to this number, so something changed the file; restore a copy"
             ),
             Fault::NoSeat => write!(
                 f,
