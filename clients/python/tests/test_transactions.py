@@ -7,8 +7,10 @@ import sys
 import threading
 import time
 import unittest
+from unittest import mock
 
 from support import StoreCase, tmem
+from tmem import store as store_module
 
 
 class Plain(StoreCase):
@@ -280,6 +282,33 @@ class Conflicts(StoreCase):
             self.store.run(body, timeout=0)
         self.assertEqual(self.store.get("a"), 6)
 
+    def test_there_is_a_pause_behind_each_conflict(self):
+        runs, pauses = [], []
+
+        def body(t):
+            runs.append(t["a"])
+            if len(runs) < 20:
+                self.set(a=len(runs))
+            t["a"] += 1
+
+        with mock.patch("tmem.store.time.sleep", pauses.append):
+            self.store.run(body)
+        self.assertEqual((runs, len(pauses)), ([*range(20)], 19))
+
+    def test_a_pause_is_random_and_ends_in_time(self):
+        def pauses(lost, took, left=None):
+            with mock.patch("tmem.store.time.monotonic", lambda: 100.0):
+                return [store_module._pause(lost, 100.0 - took, None if left is None else 100.0 + left) for _ in range(300)]
+
+        # It is up to the time of the lost request for each of the first eight conflicts, up to a second, and never past the end.
+        for lost, took, left, most in ((1, 0.25, None, 0.25), (3, 0.25, None, 0.75), (30, 0.0625, None, 0.5), (8, 50, None, 1), (8, 50, 0.5, 0.5)):
+            with self.subTest(lost=lost, took=took, left=left):
+                drawn = pauses(lost, took, left)
+                self.assertTrue(0 <= min(drawn) < most / 8 and most * 7 / 8 < max(drawn) <= most, (min(drawn), max(drawn)))
+                self.assertGreater(len({*drawn}), 100)
+        with self.assertRaises(tmem.Timeout):
+            pauses(1, 0.1, 0)
+
 
 class Exceptions(StoreCase):
     def test_an_exception_leaves_without_effects(self):
@@ -532,6 +561,20 @@ class Async(StoreCase):
 
         asyncio.run(main())
         self.assertEqual(self.store.get("a"), 50)
+
+    def test_of_tasks_that_conflict_each_has_its_turn(self):
+        turns = [0] * 8
+
+        async def adds(task):
+            while min(turns) < 3:
+                await self.store.run_async(lambda t: t.__setitem__("a", t["a"] + 1), timeout=10)
+                turns[task] += 1
+
+        async def main():
+            await asyncio.gather(*map(adds, range(len(turns))))
+
+        asyncio.run(main())
+        self.assertEqual(self.store.get("a"), sum(turns))
 
     def test_it_runs_anew_for_what_it_needs_and_sees_one_moment(self):
         seen = []

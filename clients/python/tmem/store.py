@@ -5,6 +5,7 @@ from __future__ import annotations
 import asyncio
 import inspect
 import os
+import random
 import time
 from concurrent.futures import Future
 from concurrent.futures import TimeoutError as NotYet
@@ -16,6 +17,8 @@ from .link import Link, Process, Program, Socket, command
 from .transaction import CONFLICT, Answer, Ask, Body, Moment, Names, Outcome, Transaction, Variable, expect, integer, key_of, moment_of, steps
 
 MOST_HINTS = 256
+# How many conflicts make the pause before the next run longer, and for how many seconds it is at most.
+MOST_LOST, MOST_PAUSE = 8, 1.0
 
 
 @dataclass(frozen=True)
@@ -65,9 +68,9 @@ class Store:
     def run(self, body: Body, *args: Any, timeout: float | None = None, **kwargs: Any) -> Any:
         """Runs `body(t, *args, **kwargs)` as a transaction, and returns what it returns once that is durable.
 
-        Where it retries, waits until a variable that it read has changed, and runs it again; after a conflict runs it again at
-        once. `timeout` says for how many seconds: then it gets `Timeout`. (An attempt that has begun is always brought to its
-        end, so after `Timeout` it is certain that nothing was changed.) An exception of the function leaves without effects.
+        Where it retries, waits until a variable that it read has changed, and runs it again; after a conflict runs it again behind
+        a short random pause. `timeout` says for how many seconds: then it gets `Timeout`. (An attempt that has begun is always brought
+        to its end, so after `Timeout` it is certain that nothing was changed.) An exception of the function leaves without effects.
         """
         return self._played(self._steps(body, args, kwargs, self._fetch), timeout).result
 
@@ -146,24 +149,28 @@ class Store:
     def _played(self, running: Generator[Ask, Answer, Outcome], timeout: float | None) -> Outcome:
         until = None if timeout is None else time.monotonic() + timeout
         answer: Any = None
+        lost = 0
         try:
             while True:
-                ask = running.send(answer)
+                ask, begun = running.send(answer), time.monotonic()
                 answer = self._wait_for(ask, until) if "changed" in ask else self._ask(ask)
                 if answer.get("fault") == CONFLICT:
-                    _check_time(until)
+                    lost += 1
+                    time.sleep(_pause(lost, begun, until))
         except StopIteration as end:
             return end.value
 
     async def _played_async(self, running: Generator[Ask, Answer, Outcome], timeout: float | None) -> Outcome:
         until = None if timeout is None else time.monotonic() + timeout
         answer: Any = None
+        lost = 0
         try:
             while True:
-                ask = running.send(answer)
+                ask, begun = running.send(answer), time.monotonic()
                 answer = await (self._wait_for_async(ask, until) if "changed" in ask else self._ask_async(ask))
                 if answer.get("fault") == CONFLICT:
-                    _check_time(until)
+                    lost += 1
+                    await asyncio.sleep(_pause(lost, begun, until))
         except StopIteration as end:
             return end.value
 
@@ -248,9 +255,14 @@ def _left(until: float | None) -> float | None:
     return None if until is None else max(0.0, until - time.monotonic())
 
 
-def _check_time(until: float | None) -> None:
-    if until is not None and time.monotonic() >= until:
+def _pause(lost: int, begun: float, until: float | None) -> float:
+    """How long a transaction waits that has met so many conflicts, the last by a request that began then. It is random, and longer
+    after more of them: those that began again at once would do so in one order, of which the first would win each time."""
+    now = time.monotonic()
+    if until is not None and now >= until:
         raise Timeout("the transaction met conflicts until its time was over")
+    pause = random.random() * min(MOST_PAUSE, min(lost, MOST_LOST) * (now - begun))
+    return pause if until is None else min(pause, until - now)
 
 
 def calling(word: str, *numbers: int) -> Ask:
