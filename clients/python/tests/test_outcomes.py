@@ -1,7 +1,10 @@
 """What calls return: the number of a transaction beside its result, and answers that are no success."""
 
 import asyncio
+import copy
+import pickle
 import unittest
+from concurrent.futures import ProcessPoolExecutor
 
 from support import HubCase, StoreCase, tmem
 
@@ -9,6 +12,43 @@ from support import HubCase, StoreCase, tmem
 def add(t, by=1):
     t["a"] += by
     return t["a"]
+
+
+class Errors(unittest.TestCase):
+    ERRORS = [
+        tmem.TmemError("why"),
+        tmem.Refused("solvent", {"a": -1, 7: 2}),
+        tmem.Aborted(9),
+        tmem.Fault(12, "badplan", 5, "a register that there is not"),
+        tmem.NoRequest("there is no id", "/do"),
+        tmem.Closed("the store is closed"),
+        tmem.NotOpened("a.store", "tmem: fault 2 device", 1, ", which is not there"),
+        tmem.NoProgram("/nothing/here", "No such file or directory"),
+        tmem.Timeout("the time was over"),
+        tmem.Stuck("it had read nothing"),
+    ]
+
+    def test_they_are_all(self):
+        kinds = {it for it in vars(tmem).values() if isinstance(it, type) and issubclass(it, BaseException)}
+        self.assertEqual({type(it) for it in self.ERRORS}, kinds)
+
+    def test_they_go_to_other_processes(self):
+        for it in self.ERRORS:
+            again = [pickle.loads(pickle.dumps(it, protocol)) for protocol in range(pickle.HIGHEST_PROTOCOL + 1)]
+            for other in (*again, copy.copy(it), copy.deepcopy(it)):
+                with self.subTest(it=it):
+                    self.assertEqual((type(other), str(other), other.args, vars(other)), (type(it), str(it), it.args, vars(it)))
+
+    def test_a_pool_of_processes_raises_them(self):
+        with ProcessPoolExecutor(1) as pool:
+            for it in self.ERRORS:
+                with self.assertRaises(type(it)) as caught:
+                    pool.submit(raises, it).result(60)
+                self.assertEqual(vars(caught.exception), vars(it))
+
+
+def raises(error):
+    raise error
 
 
 class Numbered(StoreCase):

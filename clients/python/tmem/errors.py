@@ -2,11 +2,16 @@
 
 from __future__ import annotations
 
-from typing import Mapping, NoReturn
+import copyreg
+from typing import Any, Mapping, NoReturn
 
 
 class TmemError(Exception):
-    """The base of all errors of this package."""
+    """The base of all errors of this package. They can be copied and pickled, so that another process can raise them."""
+
+    def __reduce__(self) -> tuple[Any, ...]:
+        # (not by its constructor, which takes other arguments than those that it hands up)
+        return copyreg.__newobj__, (type(self), *self.args), self.__dict__  # type: ignore[attr-defined]
 
 
 class Refused(TmemError):
