@@ -148,8 +148,9 @@ class Shell(StoreCase):
 
     def test_it_says_where_there_is_no_store(self):
         path = f"{self.path}.none"
-        wanted = 1, "", f"cannot open {path}, which is not there: tmem: cannot read shape\n"
-        self.assertEqual(run([sys.executable, "-m", "tmem", path], input=""), wanted)
+        status, printed, told = run([sys.executable, "-m", "tmem", path], input="")
+        self.assertEqual((status, printed), (1, ""))
+        self.assertRegex(told, f"^cannot open {path}, which is not there: tmem: cannot read shape\ntmem: {path}[^\n]*: nothing has this path[^\n]*\n$")
 
     def test_it_says_where_there_is_no_program(self):
         wanted = 1, "", f"cannot start {self.folder}: it is a folder\n"

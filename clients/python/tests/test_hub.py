@@ -298,10 +298,14 @@ class HubTests(HubCase):
         none = f"{self.folder}/none"
         for program, why in ((none, "No such file or directory"), (f"{self.path}.json", "Permission denied"), (self.folder, "it is a folder")):
             self.assertEqual(self.start(self.path, TMEM=program), f"tmem.hub: cannot start {program}: {why}\n")
-        yes, true = shutil.which("yes"), shutil.which("true")
-        self.assertEqual(self.start(none, TMEM=yes), f"tmem.hub: cannot start {yes}: it is no tmem: it printed 'serve {none}'\n")
+        yes, true = f"{self.folder}/yes", shutil.which("true")
+        with open(yes, "w", encoding="utf-8") as file:
+            file.write('#!/bin/sh\nexec yes -- "$@"\n')
+        os.chmod(yes, 0o755)
+        self.assertEqual(self.start(none, TMEM=yes), f"tmem.hub: cannot start {yes}: it is no tmem: it printed 'serve {none} --explain'\n")
         self.assertEqual(self.start(none, TMEM=true), f"tmem.hub: {true} ended with status 0, and opened no store\n")
-        self.assertEqual(self.start(none), f"tmem: cannot read shape\ntmem.hub: {PROGRAM} ended with status 1, and opened no store\n")
+        told = f"tmem: cannot read shape\ntmem: {none}[^\n]*: nothing has this path[^\n]*\ntmem.hub: {PROGRAM} ended with status 1, and opened no store\n"
+        self.assertRegex(self.start(none), f"^{told}$")
         self.assertEqual(self.start(none, TMEM="", PATH=self.folder), "tmem.hub: cannot start tmem: give program=.., set TMEM, or put it on the path\n")
 
 

@@ -80,9 +80,11 @@ class Making(StoreCase):
     def test_without_the_keyword_nothing_may_be_there(self):
         self.set(a=5)
         for shape in (SHAPE, {**SHAPE, "vars": 9}):
-            with self.assertRaises(tmem.TmemError) as caught:
-                tmem.create(self.path, shape)
-            self.assertEqual(str(caught.exception), f"cannot create {self.path}: tmem: the store is there already")
+            for kind in (tmem.Exists, FileExistsError):
+                with self.assertRaises(kind) as caught:
+                    tmem.create(self.path, shape)
+                self.assertEqual(str(caught.exception), f"cannot create {self.path}: tmem: the store is there already")
+                self.assertEqual(caught.exception.path, self.path)
         self.assertEqual(self.store.get("a"), 5)
 
     def cut_off(self, text):
@@ -135,7 +137,11 @@ class Making(StoreCase):
             for exist_ok in (False, True):
                 with self.subTest(path=path), self.assertRaises(tmem.TmemError) as caught:
                     tmem.create(path, shape, exist_ok=exist_ok)
-                self.assertIn(f"cannot create {path}: {why}", str(caught.exception))
+                told = str(caught.exception)
+                self.assertIn(f"cannot create {path}: {why}", told)
+                self.assertNotIsInstance(caught.exception, tmem.Exists)
+                # (what the program has read is gone again)
+                self.assertRegex(told.split("\n")[1], f"^tmem: ({path}|the shape): ")
 
 
 class NotOpened(StoreCase):
@@ -146,18 +152,24 @@ class NotOpened(StoreCase):
         self.assertEqual(caught.exception.path, path)
         return caught.exception
 
+    def explained(self, it, line, why):
+        """The program has said this, and more in a second line, which names a path and why."""
+        said, more = it.line.split("\n")
+        self.assertEqual((said, it.status), (line, 1))
+        self.assertRegex(more, f"^tmem: {self.folder}/[^:]*: .*{why}")
+
     def test_it_is_missing(self):
         path = f"{self.path}.none"
         it = self.refused(path)
-        self.assertEqual((it.line, it.status), ("tmem: cannot read shape", 1))
-        self.assertEqual(str(it), f"cannot open {path}, which is not there: tmem: cannot read shape")
+        self.explained(it, "tmem: cannot read shape", "nothing has this path")
+        self.assertEqual(str(it), f"cannot open {path}, which is not there: {it.line}")
         shutil.copy(f"{self.path}.json", f"{path}.json")
-        it = self.refused(path)
-        self.assertEqual((it.line, it.status), ("tmem: fault 2 device", 1))
+        self.explained(self.refused(path), "tmem: fault 2 device", "")
 
     def test_it_is_in_use(self):
         it = self.refused(self.path)
-        self.assertEqual((str(it), it.line, it.status), (f"cannot open {self.path}: tmem: fault 2 device", "tmem: fault 2 device", 1))
+        self.explained(it, "tmem: fault 2 device", "another program has it open")
+        self.assertEqual(str(it), f"cannot open {self.path}: {it.line}")
         self.assertEqual(self.store.get("a"), 0)
 
     def test_it_has_another_shape(self):
@@ -166,7 +178,7 @@ class NotOpened(StoreCase):
         with open(other, "w", encoding="utf-8") as file:
             json.dump({**SHAPE, "vars": 9}, file)
         it = self.refused(self.path, shape=other)
-        self.assertEqual((it.line, it.status), ("tmem: fault 17 geometry", 1))
+        self.explained(it, "tmem: fault 17 geometry", "")
         with open(other, "w", encoding="utf-8") as file:
             file.write("{}")
         it = self.refused(self.path, shape=other)
@@ -177,8 +189,7 @@ class NotOpened(StoreCase):
         with open(self.path, "r+b") as file:
             file.write(b"\xff" * 512)
         it = self.refused(self.path)
-        self.assertRegex(it.line, r"^tmem: fault \d+ \w+$")
-        self.assertEqual(it.status, 1)
+        self.explained(it, "tmem: fault 8 notformatted", "")
 
     def test_a_signal_ends_the_opening(self):
         it = self.refused(self.path, program=["sh", "-c", "kill -9 $$"])
@@ -256,10 +267,9 @@ class NoProgram(StoreCase):
         self.told(["sh", "-c", "exit 7"], "^it is no tmem: it ended with status 7$", "sh")
 
     def test_it_prints_without_an_end(self):
-        yes = shutil.which("yes")
         with self.assertRaises(tmem.NoProgram) as caught:
-            tmem.open(self.path, program=yes)
-        self.assertRegex(str(caught.exception), f"^cannot start {yes}: it is no tmem: it printed 'serve .*'$")
+            tmem.open(self.path, program=[shutil.which("yes"), "--"])
+        self.assertRegex(str(caught.exception), "^cannot start .*yes: it is no tmem: it printed 'serve .*'$")
 
     def test_none_is_known(self):
         path, folders = os.environ.pop("TMEM"), os.environ["PATH"]

@@ -17,7 +17,7 @@
     lease = store.run(take, 7, timeout=5)   # waits for a lease; durable when it returns
 """
 
-from .errors import Aborted, Closed, Fault, NoProgram, NoRequest, NotOpened, Refused, Stuck, Timeout, TmemError
+from .errors import Aborted, Closed, Exists, Fault, NoProgram, NoRequest, NotOpened, Refused, Stuck, Timeout, TmemError
 from .making import create
 from .store import State, Store, calling, open
 from .transaction import Outcome, Transaction, or_else, transaction
@@ -25,6 +25,7 @@ from .transaction import Outcome, Transaction, or_else, transaction
 __all__ = [
     "Aborted",
     "Closed",
+    "Exists",
     "Fault",
     "NoProgram",
     "NoRequest",

@@ -2,7 +2,6 @@
 
 from __future__ import annotations
 
-import copyreg
 from typing import Any, Mapping, NoReturn
 
 
@@ -11,7 +10,15 @@ class TmemError(Exception):
 
     def __reduce__(self) -> tuple[Any, ...]:
         # (not by its constructor, which takes other arguments than those that it hands up)
-        return copyreg.__newobj__, (type(self), *self.args), self.__dict__  # type: ignore[attr-defined]
+        return again, (type(self), self.args, self.__dict__)
+
+
+def again(kind: type[TmemError], args: tuple[Any, ...], members: dict[str, Any]) -> TmemError:
+    """An error of this kind, as another one was."""
+    it = kind.__new__(kind)
+    it.args = args
+    it.__dict__.update(members)
+    return it
 
 
 class Refused(TmemError):
@@ -68,12 +75,21 @@ class NotOpened(Closed):
     """The store was not opened: it is missing, in use or damaged, or it was made of another shape.
 
     `path` is what was to be opened, and `line` says why: it is what `tmem serve` said on its error
-    stream. `status` is the one that it ended with, or None where a hub was to be reached.
+    stream, in one line or more. `status` is the one that it ended with, or None where a hub was to be
+    reached.
     """
 
     def __init__(self, path: str, line: str, status: int | None = None, note: str = "") -> None:
         self.path, self.line, self.status = path, line, status
         super().__init__(f"cannot open {path}{note}: {line}")
+
+
+class Exists(TmemError, FileExistsError):
+    """A store was to be made at a `path` that something has already. Nothing was changed."""
+
+    def __init__(self, path: str, line: str) -> None:
+        self.path = path
+        super().__init__(line)
 
 
 class NoProgram(TmemError):

@@ -436,7 +436,7 @@ def main() -> int:
     given = parser.parse_args()
     shaped = [] if given.shape is None else ["--shape", given.shape]
     try:
-        words = [*command(given.program), "serve", given.store, *shaped]
+        words = [*command(given.program), "serve", given.store, "--explain", *shaped]
         return asyncio.run(serve(words, given.socket or f"{given.store}.sock", given.held, given.patience))
     except NoProgram as error:
         print(f"tmem.hub: {error}", file=sys.stderr)

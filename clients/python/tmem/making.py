@@ -8,9 +8,11 @@ import subprocess
 import tempfile
 from typing import Any, Iterator, Mapping, Sequence, Tuple
 
-from .errors import TmemError
+from .errors import Exists, TmemError
 from .link import Program, command, failure_of, not_started
 
+# What the program says where something has the path of a new store.
+THERE = "tmem: the store is there already"
 # Whether something has the store's path, and that of its shape.
 There = Tuple[bool, bool]
 
@@ -18,7 +20,7 @@ There = Tuple[bool, bool]
 def create(path: str | os.PathLike[str], shape: Mapping[str, Any], *, exist_ok: bool = False, program: Program | None = None) -> None:
     """Makes a store of a shape. What was cut off is brought to its end by the same call.
 
-    Where something has the path, nothing is changed and `TmemError` says so. But with `exist_ok` a store may be there, which is left as
+    Where something has the path, nothing is changed and `Exists` says so. But with `exist_ok` a store may be there, which is left as
     it is if the shape that it was made of, PATH.json, equals this one as JSON. If it does not, `TmemError` says where they differ."""
     path, text = os.fspath(path), json.dumps(shape).encode()
     while True:
@@ -87,9 +89,17 @@ def _init(path: str, text: bytes, words: Sequence[str]) -> TmemError | None:
         file.flush()
         how: Mapping[str, Any] = {"stdin": subprocess.DEVNULL, "stdout": subprocess.DEVNULL, "stderr": subprocess.PIPE}
         try:
-            ended = subprocess.run([*words, "init", path, file.name], check=False, **how)
+            ended = subprocess.run([*words, "init", path, file.name, "--explain"], check=False, **how)
         except OSError as error:
             return not_started(words, error)
     if ended.returncode == 0 and os.path.exists(path):
         return None
-    return failure_of(words, ended.returncode, ended.stderr, lambda line: TmemError(f"cannot create {path}: {line}"))
+    return failure_of(words, ended.returncode, ended.stderr, lambda told: _refusal(path, told, file.name))
+
+
+def _refusal(path: str, told: str, given: str) -> TmemError:
+    """What the program said, which is to name no file that is gone again."""
+    line = told.split("\n")[0]
+    if line == THERE:
+        return Exists(path, f"cannot create {path}: {line}")
+    return TmemError(f"cannot create {path}: {told.replace(given, 'the shape')}")

@@ -279,4 +279,4 @@ def open(path: str | os.PathLike[str], *, program: Program | None = None, shape:
     if path.startswith("unix:"):
         return Store(Link(Socket(path[len("unix:") :])))
     shaped = [] if shape is None else ["--shape", os.fspath(shape)]
-    return Store(Link(Process([*command(program), "serve", path, *shaped], path)))
+    return Store(Link(Process([*command(program), "serve", path, "--explain", *shaped], path)))
