@@ -47,11 +47,13 @@ class StoreCase(unittest.TestCase):
         return store
 
     def set(self, **values):
+        """Sets variables, as another thread does: a function that runs as a transaction may call this."""
+
         def body(t):
             for name, value in values.items():
                 t[name] = value
 
-        self.store.run(body)
+        self.in_thread(self.store.run, body).result()
 
     def in_thread(self, call, *args, **kwargs):
         """Starts a call in a thread. `result()` of what it returns waits for its end."""

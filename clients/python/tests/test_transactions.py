@@ -61,6 +61,29 @@ class Plain(StoreCase):
         self.store.run(move, 30)
         self.assertEqual(self.store.get("a", "b"), (-30, 30))
 
+    def test_a_transaction_makes_no_call_of_its_store(self):
+        def sets(t):
+            t["b"] = 1
+
+        def plain(call):
+            return lambda: self.store.run(lambda t: (t["a"], call()))
+
+        def by_task(call):
+            return lambda: asyncio.run(self.store.run_async(lambda t: (t["a"], call())))
+
+        calls = [lambda: self.store.run(sets), lambda: self.store.run_numbered(sets), lambda: self.store.get("b"), lambda: self.store.state()]
+        calls += [lambda: self.store.do({"write": [1, 0]}), lambda: self.store.try_once({"write": [1, 0]}), lambda: self.store.call("sets")]
+        awaited = [lambda: asyncio.run(self.store.run_async(sets)), lambda: asyncio.run(self.store.run_numbered_async(sets))]
+        self.store.keep("sets", {"seq": [{"put": [0, 1]}, {"write": [1, 0]}]})
+        for number, call in enumerate([*map(plain, calls + awaited), *map(by_task, calls)]):
+            with self.subTest(call=number), self.assertRaisesRegex(RuntimeError, "a transaction is running here: call the function with t"):
+                call()
+        # They had no effect, and behind them each can be made, also by another thread while one runs.
+        self.assertEqual((self.store.state().count, self.store.get("b")), (0, 0))
+        for call in calls + awaited:
+            call()
+        self.assertEqual(self.store.run(lambda t: self.in_thread(self.store.get, "b").result()), 1)
+
     def test_wrong_names_and_values(self):
         def sets(name, value):
             return lambda t: t.__setitem__(name, value)
@@ -421,6 +444,8 @@ class Exceptions(StoreCase):
 
     def test_a_retry_within_another_transaction_is_the_outer_one_s(self):
         runs = []
+        tmem.create(f"{self.path}.other", self.shape)
+        other = self.open(f"{self.path}.other")
 
         def inner(t, outer):
             runs.append(t["b"])
@@ -429,7 +454,7 @@ class Exceptions(StoreCase):
 
         def outer(t):
             if t["a"] == 0:
-                self.store.run(tmem.or_else(inner, inner), t, timeout=0)
+                other.run(tmem.or_else(inner, inner), t, timeout=0)
             return "went on"
 
         sent = self.watch()
@@ -437,7 +462,7 @@ class Exceptions(StoreCase):
         self.until_waiting(1)
         self.set(a=1)
         self.assertEqual(waiter.result(), "went on")
-        self.assertEqual((runs, self.store.get("b")), ([0], 0))
+        self.assertEqual((runs, other.get("b"), self.store.get("b")), ([0], 0, 0))
         self.assertEqual([ask["changed"] for ask, _ in sent if "changed" in ask], [[(0, 0)]])
 
 

@@ -6,6 +6,7 @@ import asyncio
 import inspect
 import os
 import random
+import threading
 import time
 from concurrent.futures import Future
 from concurrent.futures import TimeoutError as NotYet
@@ -43,6 +44,8 @@ class Store:
         self.opened: int = first["opened"]
         self._names = Names(first["vars"], first["names"])
         self._hints: dict[Any, list[int]] = {}
+        # Of each thread: whether a function runs in it as a transaction of this store.
+        self._thread = threading.local()
 
     def __enter__(self) -> Store:
         return self
@@ -93,6 +96,7 @@ class Store:
 
     def get(self, *variables: Variable) -> Any:
         """The value of a variable, or the values of several at one moment, all of it durable."""
+        self._is_free()
         numbers = [self._names.number(it) for it in variables]
         values = self._fetch(numbers).values
         return values[numbers[0]] if len(numbers) == 1 else tuple(values[number] for number in numbers)
@@ -105,6 +109,7 @@ class Store:
 
     def try_once(self, tx: Any) -> Outcome | None:
         """Has the store run a transaction once: None where it retries."""
+        self._is_free()
         answer = self._ask({"try": tx})
         return None if "retry" in answer else self._outcome(answer)
 
@@ -126,6 +131,7 @@ class Store:
 
     def state(self) -> State:
         """The whole state, at one moment."""
+        self._is_free()
         answer = expect("values", self._ask({"ask": "state"}), self._names)
         return State(answer["count"], answer["names"], answer["values"])
 
@@ -147,6 +153,7 @@ class Store:
         return steps(self._applied(body, args, kwargs), self._names, self._hints_of(body), fetch, is_numbered)
 
     def _played(self, running: Generator[Ask, Answer, Outcome], timeout: float | None) -> Outcome:
+        self._is_free()
         until = None if timeout is None else time.monotonic() + timeout
         answer: Any = None
         lost = 0
@@ -161,6 +168,7 @@ class Store:
             return end.value
 
     async def _played_async(self, running: Generator[Ask, Answer, Outcome], timeout: float | None) -> Outcome:
+        self._is_free()
         until = None if timeout is None else time.monotonic() + timeout
         answer: Any = None
         lost = 0
@@ -176,7 +184,11 @@ class Store:
 
     def _applied(self, body: Body, args: Sequence[Any], kwargs: Mapping[str, Any]) -> Callable[[Transaction], Any]:
         def applied(t: Transaction) -> Any:
-            result = body(t, *args, **kwargs)
+            self._thread.runs = True
+            try:
+                result = body(t, *args, **kwargs)
+            finally:
+                self._thread.runs = False
             if inspect.iscoroutine(result) or inspect.isgenerator(result) or inspect.isasyncgen(result):
                 # (nothing of it has run)
                 if not inspect.isasyncgen(result):
@@ -185,6 +197,11 @@ class Store:
             return result
 
         return applied
+
+    def _is_free(self) -> None:
+        """A call within a function that runs as a transaction would be no part of it."""
+        if getattr(self._thread, "runs", False):
+            raise RuntimeError("a transaction is running here: call the function with t")
 
     def _hints_of(self, body: Body) -> list[int]:
         """The variables that a function read the last time."""
@@ -212,6 +229,7 @@ class Store:
 
     def _await(self, ask: Ask, timeout: float | None) -> Answer:
         """The answer to a transaction that the store may have to hold back; after the time it is taken back, unless it is done."""
+        self._is_free()
         number, answer = self._link.send(ask)
         try:
             return answer.result(timeout)
