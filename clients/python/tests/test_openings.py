@@ -4,9 +4,11 @@ import json
 import os
 import shutil
 import signal
+import socket
+import tempfile
 import unittest
 
-from support import PROGRAM, SHAPE, HubCase, StoreCase, tmem
+from support import PROGRAM, SHAPE, HubCase, InThread, StoreCase, tmem
 
 
 class Making(StoreCase):
@@ -214,6 +216,39 @@ class NoHub(HubCase):
             it = caught.exception
             self.assertEqual((it.path, it.line, it.status), (f"unix:{path}", f"no hub is there: {why}", None))
             self.assertEqual(str(it), f"cannot open unix:{path}: no hub is there: {why}")
+
+
+class LostHub(unittest.TestCase):
+    """A hub that ends before it has read all: what is left unread resets the connection."""
+
+    FIRST = b'{"opened":0,"vars":1,"names":{}}\n'
+
+    def served(self):
+        """The path of a socket that serves until something is asked."""
+        folder = tempfile.TemporaryDirectory()
+        self.addCleanup(folder.cleanup)
+        path, server = f"{folder.name}/sock", socket.socket(socket.AF_UNIX)
+        self.addCleanup(server.close)
+        server.bind(path)
+        server.listen(1)
+
+        def serve():
+            client, _ = server.accept()
+            client.sendall(self.FIRST)
+            # (a look at what is there takes nothing of it)
+            client.recv(1, socket.MSG_PEEK)
+            client.close()
+
+        self.serving = InThread(serve)
+        return path
+
+    def test_what_was_asked_is_told_that_it_is_closed(self):
+        store = tmem.open(f"unix:{self.served()}")
+        for _ in range(2):
+            with self.assertRaises(tmem.Closed) as caught:
+                store.get(0)
+            self.assertEqual(str(caught.exception), "the hub has closed the connection")
+        self.serving.result()
 
 
 class NoProgram(StoreCase):

@@ -227,6 +227,9 @@ class Link:
                 self._opened.set_result(first_line(first))
                 for line in self.stream.output:
                     self._hand_on(json.loads(line))
+        except ConnectionError:
+            # (a hub that was killed left something unread: this is an end like others)
+            self.stream.break_off()
         except Exception as error:
             end = f"what serves the store cannot be understood: {error}"
             self.stream.break_off()
