@@ -1,6 +1,7 @@
 """Functions as transactions: what they see, when they run again, and what an exception leaves."""
 
 import asyncio
+import functools
 import os
 import signal
 import sys
@@ -73,7 +74,9 @@ class Plain(StoreCase):
 
         calls = [lambda: self.store.run(sets), lambda: self.store.run_numbered(sets), lambda: self.store.get("b"), lambda: self.store.state()]
         calls += [lambda: self.store.do({"write": [1, 0]}), lambda: self.store.try_once({"write": [1, 0]}), lambda: self.store.call("sets")]
-        awaited = [lambda: asyncio.run(self.store.run_async(sets)), lambda: asyncio.run(self.store.run_numbered_async(sets))]
+        began = (lambda: self.store.run_async(sets), lambda: self.store.run_numbered_async(sets), lambda: self.store.get_async("b"))
+        began += (lambda: self.store.do_async({"write": [1, 0]}), lambda: self.store.call_async("sets"))
+        awaited = [functools.partial(lambda it: asyncio.run(it()), it) for it in began]
         self.store.keep("sets", {"seq": [{"put": [0, 1]}, {"write": [1, 0]}]})
         for number, call in enumerate([*map(plain, calls + awaited), *map(by_task, calls)]):
             with self.subTest(call=number), self.assertRaisesRegex(RuntimeError, "a transaction is running here: call the function with t"):
@@ -673,6 +676,40 @@ class Data(StoreCase):
         self.assertEqual((caught.exception.number, caught.exception.word, caught.exception.cause), (12, "badplan", 5))
         with self.assertRaises(tmem.NoRequest) as caught:
             self.store.do({"put": [1]})
+
+    def test_in_an_event_loop(self):
+        take = {"seq": [{"read": [1, 0]}, {"when": [0, "skip", "retry"]}, {"write": [1, 1]}]}
+
+        async def main():
+            self.store.keep("bump", self.BUMP)
+            self.assertEqual(await self.store.do_async(self.BUMP), tmem.Outcome(True, 0, [1, 1]))
+            self.assertEqual(await self.store.call_async("bump", 41), tmem.Outcome(True, 1, [42, 41]))
+            self.assertEqual((await self.store.get_async("a"), await self.store.get_async("a", 0, "b")), (42, (42, 42, 0)))
+            self.assertEqual(await self.store.do_async({"read": [0, 3]}, timeout=60), tmem.Outcome(False, 2, [0, 0, 0, 42]))
+            with self.assertRaises(tmem.NoRequest):
+                await self.store.call_async("bump", 1, 2, 3)
+            with self.assertRaises(tmem.Aborted):
+                await self.store.do_async({"abort": 9})
+            with self.assertRaises(KeyError):
+                await self.store.get_async("nope")
+            for call in (self.store.do_async, self.store.call_async):
+                self.store.keep("take", take)
+                what = take if call == self.store.do_async else "take"
+                # What waits lets others run, and is taken back behind its time, or with its task.
+                with self.assertRaises(tmem.Timeout):
+                    await call(what, timeout=0.02)
+                cancelled, waiter = asyncio.create_task(call(what)), asyncio.create_task(call(what))
+                await asyncio.sleep(0.05)
+                cancelled.cancel()
+                with self.assertRaises(asyncio.CancelledError):
+                    await cancelled
+                self.until_waiting(1)
+                await self.store.do_async({"seq": [{"put": [0, 1]}, {"write": [1, 0]}]})
+                self.assertTrue((await waiter).committed)
+                self.assertEqual(await self.store.get_async("b"), 0)
+
+        asyncio.run(main())
+        self.until_waiting(0)
 
     def test_many_are_on_their_way_at_once(self):
         answers = [self.store.submit({"do": self.BUMP}) for _ in range(500)]

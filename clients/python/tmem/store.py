@@ -98,14 +98,23 @@ class Store:
         """The value of a variable, or the values of several at one moment, all of it durable."""
         self._is_free()
         numbers = [self._names.number(it) for it in variables]
-        values = self._fetch(numbers).values
-        return values[numbers[0]] if len(numbers) == 1 else tuple(values[number] for number in numbers)
+        return _values_of(self._fetch(numbers), numbers)
+
+    async def get_async(self, *variables: Variable) -> Any:
+        """As `get`, in an event loop."""
+        self._is_free()
+        numbers = [self._names.number(it) for it in variables]
+        return _values_of(moment_of(await self._ask_async({"get": numbers}), self._names), numbers)
 
     # Transactions that the store runs by itself, as data (docs/USE.md has their forms).
 
     def do(self, tx: Any, *, timeout: float | None = None) -> Outcome:
         """Has the store run a transaction. Where it retries, waits until it does not, or until the time is over (`Timeout`)."""
         return self._outcome(self._await({"do": tx}, timeout))
+
+    async def do_async(self, tx: Any, *, timeout: float | None = None) -> Outcome:
+        """As `do`, in an event loop. A task that is cancelled takes the transaction back, unless it is done."""
+        return self._outcome(await self._await_async({"do": tx}, timeout))
 
     def try_once(self, tx: Any) -> Outcome | None:
         """Has the store run a transaction once: None where it retries."""
@@ -121,6 +130,10 @@ class Store:
         """Has the store run a kept transaction, as `do`. The numbers stand for those of the Puts that it begins with. `NoRequest` says
         that nothing is kept under the word that begins with so many."""
         return self._outcome(self._await(calling(word, *numbers), timeout))
+
+    async def call_async(self, word: str, *numbers: int, timeout: float | None = None) -> Outcome:
+        """As `call`, in an event loop."""
+        return self._outcome(await self._await_async(calling(word, *numbers), timeout))
 
     def submit(self, ask: Ask) -> Future[Answer]:
         """Sends a request as it is, without its id, and returns its answer to come, a dictionary as docs/SERVE.md has it. (One that is
@@ -238,9 +251,19 @@ class Store:
         finally:
             # (also where this thread is interrupted)
             self._forget(number, answer)
-        if "cancelled" in answer.result():
-            raise Timeout("the transaction retried until its time was over")
-        return answer.result()
+        return _in_time(answer.result())
+
+    async def _await_async(self, ask: Ask, timeout: float | None) -> Answer:
+        self._is_free()
+        number, answer = self._link.send(ask)
+        try:
+            return await asyncio.wait_for(asyncio.wrap_future(answer), timeout)
+        except asyncio.TimeoutError:
+            pass
+        finally:
+            # (also where this task is cancelled)
+            self._forget(number, answer)
+        return _in_time(await asyncio.wrap_future(answer))
 
     def _wait_for(self, ask: Ask, until: float | None) -> Answer:
         number, answer = self._link.send(ask)
@@ -267,6 +290,17 @@ class Store:
                 self._link.send({"cancel": number})
             except Closed:
                 pass
+
+
+def _values_of(moment: Moment, numbers: Sequence[int]) -> Any:
+    """The value of one variable, or those of several."""
+    return moment.values[numbers[0]] if len(numbers) == 1 else tuple(moment.values[number] for number in numbers)
+
+
+def _in_time(answer: Answer) -> Answer:
+    if "cancelled" in answer:
+        raise Timeout("the transaction retried until its time was over")
+    return answer
 
 
 def _left(until: float | None) -> float | None:
