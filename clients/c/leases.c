@@ -15,7 +15,8 @@ int main(int count, char **words) {
     int link = socket(AF_UNIX, SOCK_STREAM, 0), me = count == 3 ? atoi(words[2]) : 0, lease;
     char line[65536];
     if (me) strncpy(at.sun_path, words[1], sizeof at.sun_path - 1);
-    if (!me || connect(link, (struct sockaddr *)&at, sizeof at)) return fputs("leases STORE.sock CLIENT\n", stderr), 2;
+    if (!me) return fputs("leases STORE.sock CLIENT\n", stderr), 2;
+    if (connect(link, (struct sockaddr *)&at, sizeof at)) return perror(words[1]), 1;
     FILE *in = fdopen(link, "r"), *out = fdopen(dup(link), "w");
     if (!fgets(line, sizeof line, in)) return 1; /* {"opened":..} */
 

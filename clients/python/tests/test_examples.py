@@ -131,8 +131,9 @@ class Shell(StoreCase):
         given = "".join(line[2:] + "\n" for line in SHELL.splitlines() if line.startswith("> "))
         wanted = "".join(line + "\n" for line in SHELL.splitlines() if not line.startswith("> "))
         self.assertEqual(run([sys.executable, "-m", "tmem", self.path], input=given), (1, wanted, ""))
-        good = "set a 5\n\nadd a 1\n.quit\nset a 9\n"
-        self.assertEqual(run([sys.executable, "-m", "tmem", self.path], input=good), (0, "a = 5\na = 6\n", ""))
+        for end in (".quit", "quit", " exit "):
+            good = f"set a 5\n\nadd a 1\n{end}\nset a 9\n"
+            self.assertEqual(run([sys.executable, "-m", "tmem", self.path], input=good), (0, "a = 5\na = 6\n", ""))
 
     def test_it_ends_with_the_store(self):
         self.store.close()
@@ -217,6 +218,7 @@ class InC(HubCase):
         self.assertEqual(waiter.result(), (0, "client 7 has lease 0\nand has given it back\n", ""))
         self.assertEqual(self.store.get(0, 1), (0, 6))
         self.assertEqual(run([program, socket])[0], 2)
+        self.assertEqual(run([program, f"{socket}.none", "7"]), (1, "", f"{socket}.none: No such file or directory\n"))
 
 
 class Installed(unittest.TestCase):

@@ -25,8 +25,10 @@ wait VARIABLE                waits until the variable has another value
 .stats                       what was counted since the store is served
 .checkpoint                  writes the state as a new image, and frees the log
 .help                        this
-.quit                        ends (as the end of the input does)
+.quit, quit, exit            ends (as the end of the input does)
 A VARIABLE is a name or a number, from 0. Each line is answered once it is durable."""
+
+ENDS = [".quit"], ["quit"], ["exit"]
 
 # What a shell says of a program that SIGPIPE has ended, since nobody reads its output any more.
 UNREAD = 128 + signal.SIGPIPE
@@ -216,7 +218,7 @@ def main() -> int:
             if is_terminal:
                 prepare(shell)
             for line in filter(str.split, lines(is_terminal)):
-                if line.split() == [".quit"]:
+                if line.split() in ENDS:
                     break
                 try:
                     print(shell.line(line), flush=True)
