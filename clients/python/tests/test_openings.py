@@ -131,6 +131,26 @@ class Making(StoreCase):
                 with self.assertRaisesRegex(tmem.TmemError, why):
                     tmem.create(path, SHAPE, exist_ok=exist_ok, program=program)
 
+    def test_a_shape_is_changed(self):
+        # (as docs/CLIENTS.md says it)
+        few = {"name": "few", "sum": [[1, 5, "nonzero"], [1, 6, "nonzero"]], "most": 1}
+        shape = {**SHAPE, "invariants": [*SHAPE["invariants"], few], "names": {**SHAPE["names"], "first": 5, "second": 6}}
+        self.set(a=7)
+        self.store.close()
+        self.written(f"{self.path}.json", json.dumps(shape))
+        with tmem.open(self.path) as store:
+            self.assertEqual((store.get("a", "first"), store.state().names), ((7, 0), []))
+            store.run(lambda t: t.check("few"))
+        few["always"] = True
+        self.written(f"{self.path}.json", json.dumps(shape))
+        self.create(self.path, shape)
+        store = self.open()
+        self.assertEqual((store.state().names, store.get("a")), (["few"], 7))
+        with self.assertRaises(tmem.Refused):
+            store.run(lambda t: (t.__setitem__("first", 1), t.__setitem__("second", 1)))
+        with self.assertRaises(tmem.NoRequest):
+            store.run(lambda t: t.retire("few"))
+
     def test_what_the_program_refuses_is_told_with_the_path(self):
         for path, shape, why in (
             (f"{self.folder}/none/x.store", SHAPE, "tmem: fault 2 device"),
