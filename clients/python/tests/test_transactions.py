@@ -459,11 +459,12 @@ class Exceptions(StoreCase):
                 other.run(tmem.or_else(inner, inner), t, timeout=0)
             return "went on"
 
-        sent = self.watch()
+        sent, asked = self.watch(), self.watch(other)
         waiter = self.in_thread(self.store.run, outer)
         self.until_waiting(1)
         self.set(a=1)
         self.assertEqual(waiter.result(), "went on")
+        self.assertEqual([ask for ask, _ in asked if "get" not in ask], [])
         self.assertEqual((runs, other.get("b"), self.store.get("b")), ([0], 0, 0))
         self.assertEqual([ask["changed"] for ask, _ in sent if "changed" in ask], [[(0, 0)]])
 
