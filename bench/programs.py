@@ -18,7 +18,7 @@ PEERS = {
     "stm": (["ghc"], "stm.hs", []),
 }
 OWN = {"syncs": "syncs.c", "serve": "serve.c"}
-# the packages whose versions are told, of those that these stand for
+# the packages whose versions are told; a star matches any end of a name
 PARTS = ["redis-server", "libhiredis0.14", "liblmdb0", "libsqlite3-0", "postgresql-*", "libpq5", "ghc", "gcc", "libc6"]
 
 

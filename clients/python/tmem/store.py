@@ -127,7 +127,7 @@ class Store:
         expect("kept", self._ask({"keep": [word, tx]}), self._names)
 
     def call(self, word: str, *numbers: int, timeout: float | None = None) -> Outcome:
-        """Has the store run a kept transaction, as `do`. The numbers stand for those of the Puts that it begins with. `NoRequest` says
+        """Has the store run a kept transaction, as `do`. The numbers replace those of the Puts that it begins with. `NoRequest` says
         that nothing is kept under the word that begins with so many."""
         return self._outcome(self._await(calling(word, *numbers), timeout))
 

@@ -10,7 +10,7 @@ use command_line::words_of;
 use std::io::LineWriter;
 use std::process::ExitCode;
 use tmem_cli::run_words;
-use tmem_script::{Failure, report};
+use tmem_script::{ProgramFailure, report};
 
 fn main(rt: HostRuntime) -> ExitCode {
     let (mut input, mut err) = (rt.stdin(), rt.stderr());
@@ -21,7 +21,7 @@ fn main(rt: HostRuntime) -> ExitCode {
     };
     let status = match words_of(&rt) {
         Ok(words) => run_words(&rt, words, &mut input, &mut out, &mut err).0,
-        Err(refusal) => report(&Failure::Words(refusal), &mut err),
+        Err(refusal) => report(&ProgramFailure::Words(refusal), &mut err),
     };
     ExitCode::from(status)
 }

@@ -15,7 +15,7 @@ use Rattle.tmem_args.specs.declared.args.Asked.TheVariants.{Run, Threads, Bench,
 use Rattle.tmem_args.specs.declared.args.Showing.{Showing}
 use Rattle.tmem_args.specs.declared.args.Making.{Making}
 use Rattle.tmem_args.specs.declared.args.Serving.{Serving}
-use Rattle.tmem_args.specs.declared.args.Told.{Told}
+use Rattle.tmem_args.specs.declared.args.Invocation.{Invocation}
 
 -- the path of a script
 abbrev pub script_word : Rule
@@ -236,7 +236,7 @@ abbrev pub ExplainsNothing : List Text → Type 0
 ExplainsNothing words = (text_in (codes "explain") words ≡ None) ⊎ (text_in (codes "explain") words ≡ Some (codes "false"))
 
 -- the same, and whether more is to be told of what fails
-pub record IsTold (words : List Text) (told : Told) : Type 0 where
+pub record IsTold (words : List Text) (told : Invocation) : Type 0 where
   pub asked : IsAsked words told.asked
   pub explains : IsFlagOf (text_in (codes "explain") words) told.explains
 

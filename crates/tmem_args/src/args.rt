@@ -44,7 +44,7 @@ pub enum Asked<'a> {
 
 /// What the words ask for, and whether more is to be told of what fails.
 #[derive(Clone, Copy)]
-pub struct Told<'a> {
+pub struct Invocation<'a> {
     pub asked: Asked<'a>,
     pub explains: bool,
 }
@@ -93,7 +93,7 @@ pub struct Counting<'a> {
 
 /// What is asked for. Refused with what is to be told of the words: help or the version where it was asked for, else what is
 /// wrong with them.
-pub fn asked_of<'a>(alloc: Global, words: &'a [String]) -> Result<Told<'a>, clap::Error>
+pub fn asked_of<'a>(alloc: Global, words: &'a [String]) -> Result<Invocation<'a>, clap::Error>
     ensures told { IfOk result (IsTold (map string_bytes words.now)) }
     ensures refused { FailsBy (why_not_done (map string_bytes words.now)) result }
 {
@@ -110,10 +110,10 @@ fn matches_of<'a>(alloc: Global, words: &'a [String]) -> Result<ArgMatches<'a>, 
 }
 
 // What words that were read so ask for, and whether more is to be told.
-fn told_in<'a>(matches: &ArgMatches<'a>) -> Told<'a>
+fn told_in<'a>(matches: &ArgMatches<'a>) -> Invocation<'a>
     ensures { (words : List Text) → subcommand_rows_of matches.now ≡ subcommand_of command_line words → IsTold words result }
 {
-    Told {
+    Invocation {
         asked: asked_in(matches),
         explains: explains_in(matches),
     }

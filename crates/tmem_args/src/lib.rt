@@ -4,4 +4,6 @@
 
 mod args;
 
-pub use args::{Asked, Counting, Making, Paths, Serving, Showing, Told, asked_of, reads_plainly};
+pub use args::{
+    Asked, Counting, Invocation, Making, Paths, Serving, Showing, asked_of, reads_plainly,
+};

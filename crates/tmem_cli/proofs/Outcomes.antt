@@ -13,9 +13,9 @@ use Rattle.tmem_world.specs.WorldModel.{WorldModel}
 use Rattle.tmem_journal.specs.Contents.{Position, first_position}
 use Rattle.tmem_script.specs.Errors.{IsUnread}
 use Rattle.tmem_script.specs.Statuses.{status_of}
-use Rattle.tmem_script.specs.declared.failure.Failure.{Failure}
-use Rattle.tmem_script.specs.declared.failure.Failure.TheVariants.{Output}
-use Rattle.tmem_script.specs.declared.script.Entry.{Entry}
+use Rattle.tmem_script.specs.declared.failure.ProgramFailure.{ProgramFailure}
+use Rattle.tmem_script.specs.declared.failure.ProgramFailure.TheVariants.{Output}
+use Rattle.tmem_script.specs.declared.script.ScriptEntry.{ScriptEntry}
 use Rattle.tmem_script.specs.declared.script.ScriptError.{ScriptError}
 use Rattle.tmem_script.specs.declared.script.ScriptError.TheVariants.{Memory, Unreadable, NoScript}
 use Rattle.tmem_run.specs.declared.playing.Played.{Played}
@@ -38,10 +38,10 @@ refused_text IsRead Unreadable text is none = tt
 refused_text IsRead NoScript text is none = (text, is, none refl)
 
 -- what is flushed stays
-pub PlaysFrom-keeps : (vars slots : ℕ) (found : State) (position : Position) (entries : List Entry) (end : WorldModel) (before mid after : Option (List ℕ)) → PlaysFrom vars slots found position entries end before mid → Keeps mid after → PlaysFrom vars slots found position entries end before after
+pub PlaysFrom-keeps : (vars slots : ℕ) (found : State) (position : Position) (entries : List ScriptEntry) (end : WorldModel) (before mid after : Option (List ℕ)) → PlaysFrom vars slots found position entries end before mid → Keeps mid after → PlaysFrom vars slots found position entries end before after
 PlaysFrom-keeps vars slots found position entries end before mid after so kept = record { text = so.text; prints = so.prints; appends = Appends-keeps before mid after _ so.appends kept }
 
-pub PlaysWhere-keeps : (path : Option (List ℕ)) (device : Option Played) (vars slots : ℕ) (entries : List Entry) (before mid after : Option (List ℕ)) → PlaysWhere path device vars slots entries before mid → Keeps mid after → PlaysWhere path device vars slots entries before after
+pub PlaysWhere-keeps : (path : Option (List ℕ)) (device : Option Played) (vars slots : ℕ) (entries : List ScriptEntry) (before mid after : Option (List ℕ)) → PlaysWhere path device vars slots entries before mid → Keeps mid after → PlaysWhere path device vars slots entries before after
 PlaysWhere-keeps None device vars slots entries before mid after so kept = (so.0, PlaysFrom-keeps vars slots (first_state vars) first_position entries so.0 before mid after so.1 kept)
 PlaysWhere-keeps (Some path) None vars slots entries before mid after so kept = absurd so
 PlaysWhere-keeps (Some path) (Some device) vars slots entries before mid after so kept = (
@@ -67,7 +67,7 @@ FailsWith-along status left p q d e device path disk so =
     subst (λ (x : Option (List ℕ)). FailsWith status (MayBeRead q left) x device) disk (subst (λ (x : Option (List ℕ)). FailsWith status (MayBeRead x left) d device) path so)
 
 -- a script that was played to its end, and then the output failed
-pub output_stops : (path : Option (List ℕ)) (device : Option Played) (vars slots : ℕ) (entries : List Entry) (before after : Option (List ℕ)) → PlaysWhere path device vars slots entries before after → StopsWhere path device vars slots entries Output
+pub output_stops : (path : Option (List ℕ)) (device : Option Played) (vars slots : ℕ) (entries : List ScriptEntry) (before after : Option (List ℕ)) → PlaysWhere path device vars slots entries before after → StopsWhere path device vars slots entries Output
 output_stops None device vars slots entries before after so = inl refl
 output_stops (Some path) None vars slots entries before after so = absurd so
 output_stops (Some path) (Some device) vars slots entries before after so = (
@@ -76,13 +76,13 @@ output_stops (Some path) (Some device) vars slots entries before after so = (
 )
 
 -- with a path, a script that was played to its end hands a device back
-pub hands_back : (path : Option (Bor (List ℕ))) (device : Option Played) (vars slots : ℕ) (entries : List Entry) (before after : Option (List ℕ)) → IsSome path → PlaysWhere (option_map (λ (t : Bor (List ℕ)). t.now) path) device vars slots entries before after → device ≡ None → ⊥
+pub hands_back : (path : Option (Bor (List ℕ))) (device : Option Played) (vars slots : ℕ) (entries : List ScriptEntry) (before after : Option (List ℕ)) → IsSome path → PlaysWhere (option_map (λ (t : Bor (List ℕ)). t.now) path) device vars slots entries before after → device ≡ None → ⊥
 hands_back None device vars slots entries before after some so none = absurd (false≢true some)
 hands_back (Some path) None vars slots entries before after some so none = so
 hands_back (Some path) (Some device) vars slots entries before after some so none = absurd (none-some device (sym none))
 
 -- what holds after Err holds where the status is another than 0
-pub of_status : {T P : Type 0} (n : ℕ) (r : Result T Failure) → 1 ≤ n → MatchResult r (λ _. n ≡ 0) (λ f. n ≡ status_of f) → OnErr r P → P
+pub of_status : {T P : Type 0} (n : ℕ) (r : Result T ProgramFailure) → 1 ≤ n → MatchResult r (λ _. n ≡ 0) (λ f. n ≡ status_of f) → OnErr r P → P
 of_status n (Ok x) some is so = absurd (omega (arith, some, is))
 of_status n (Err f) some is so = so
 
@@ -92,7 +92,7 @@ is_there None bytes is some = subst IsSome (sym is) some
 is_there (Some path) bytes is some = refl
 
 -- a status other than 0 is that of a failure
-pub of_failure : {T : Type 0} (Q : Failure → Type 0) (n : ℕ) (r : Result T Failure) (k : ℕ) → (0 ≡ k → ⊥) → MatchResult r (λ _. n ≡ 0) (λ f. n ≡ status_of f) → IfErr r Q → n ≡ k → (f : Failure) × (status_of f ≡ k) × Q f
+pub of_failure : {T : Type 0} (Q : ProgramFailure → Type 0) (n : ℕ) (r : Result T ProgramFailure) (k : ℕ) → (0 ≡ k → ⊥) → MatchResult r (λ _. n ≡ 0) (λ f. n ≡ status_of f) → IfErr r Q → n ≡ k → (f : ProgramFailure) × (status_of f ≡ k) × Q f
 of_failure Q n (Ok x) k some is err so = absurd (some (sym is ∙ so))
 of_failure Q n (Err f) k some is err so = (f, sym is ∙ so, err)
 

@@ -10,8 +10,8 @@ use Rattle.tmem_explain.specs.declared.flaw.Flaw.{Flaw}
 use Rattle.tmem_fault.specs.declared.fault.Fault.TheVariants as fault
 use Rattle.tmem_requests.specs.Reasons.{IsNoJson}
 use Rattle.tmem_script.specs.Errors.{IsUnread}
-use Rattle.tmem_script.specs.declared.failure.Failure.{Failure}
-use Rattle.tmem_script.specs.declared.failure.Failure.TheVariants as failure
+use Rattle.tmem_script.specs.declared.failure.ProgramFailure.{ProgramFailure}
+use Rattle.tmem_script.specs.declared.failure.ProgramFailure.TheVariants as failure
 use Rattle.tmem_script.specs.declared.script.ScriptError.{ScriptError}
 use Rattle.tmem_run.specs.Printed.{line}
 
@@ -33,5 +33,5 @@ pub record HasFlaws (before after : Option (List ℕ)) : Type 0 where
   pub printed : Appends before after (lines_of flaws)
 
 -- why a script was not checked: it was not read, memory was refused, or the output failed
-abbrev pub IsWhyNotChecked : Failure → Type 0
+abbrev pub IsWhyNotChecked : ProgramFailure → Type 0
 IsWhyNotChecked f = ((e : ScriptError) × (f ≡ failure.Script e) × IsUnread e) ⊎ ((f ≡ failure.Refused fault.Memory) ⊎ (f ≡ failure.Output))

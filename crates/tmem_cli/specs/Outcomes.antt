@@ -8,9 +8,9 @@ use Rattle.tmem_record.specs.Layout.{IsLayout}
 use Rattle.tmem_effect.specs.State.{State}
 use Rattle.tmem_script.specs.Scripts.{IsScriptText}
 use Rattle.tmem_script.specs.Statuses.{status_of}
-use Rattle.tmem_script.specs.declared.failure.Failure.{Failure}
-use Rattle.tmem_script.specs.declared.failure.Failure.TheVariants as failure
-use Rattle.tmem_script.specs.declared.script.Entry.{Entry}
+use Rattle.tmem_script.specs.declared.failure.ProgramFailure.{ProgramFailure}
+use Rattle.tmem_script.specs.declared.failure.ProgramFailure.TheVariants as failure
+use Rattle.tmem_script.specs.declared.script.ScriptEntry.{ScriptEntry}
 use Rattle.tmem_script.specs.declared.script.ScriptError.{ScriptError}
 use Rattle.tmem_script.specs.declared.script.ScriptError.TheVariants as error
 use Rattle.tmem_bench.specs.declared.error.BenchError.{BenchError}
@@ -38,7 +38,7 @@ MayBeRead (Some path) left text = ⊤
 pub record PlaysText (disk : Option Text) (device : Option Played) (text : List ℕ) (before after : Option (List ℕ)) : Type 0 where
   pub vars : ℕ
   pub slots : ℕ
-  pub entries : List Entry
+  pub entries : List ScriptEntry
   pub script : IsScriptText vars slots entries text
   pub layout : IsLayout vars slots
   pub played : PlaysWhere disk device vars slots entries before after
@@ -49,12 +49,12 @@ PlaysRead IsRead disk device before after = (text : List ℕ) × IsRead text × 
 
 -- the text is that of no script
 abbrev pub IsNoScript : List ℕ → Type 0
-IsNoScript text = (vars slots : ℕ) (entries : List Entry) → ¬ IsScriptText vars slots entries text
+IsNoScript text = (vars slots : ℕ) (entries : List ScriptEntry) → ¬ IsScriptText vars slots entries text
 
 -- the text is that of a script, which was not played to its end for this reason
-abbrev pub StopsText : Option Text → Option Played → List ℕ → Failure → Type 0
+abbrev pub StopsText : Option Text → Option Played → List ℕ → ProgramFailure → Type 0
 StopsText disk device text f =
-    (vars : ℕ) × (slots : ℕ) × (entries : List Entry) × IsScriptText vars slots entries text × StopsPlaying disk device vars slots entries f
+    (vars : ℕ) × (slots : ℕ) × (entries : List ScriptEntry) × IsScriptText vars slots entries text × StopsPlaying disk device vars slots entries f
 
 -- Why no script was read: memory was refused, reading failed, or what was read is none.
 abbrev pub IsWhyNotRead : (List ℕ → Type 0) → ScriptError → Type 0
@@ -63,13 +63,13 @@ IsWhyNotRead IsRead error.Unreadable = ⊤
 IsWhyNotRead IsRead error.NoScript = (text : List ℕ) × IsRead text × IsNoScript text
 
 -- Why a script was not played to its end: it was not read, and there is no device; or it was stopped once it was read.
-abbrev pub IsWhyNotPlayed : (List ℕ → Type 0) → Option Text → Option Played → Failure → Type 0
+abbrev pub IsWhyNotPlayed : (List ℕ → Type 0) → Option Text → Option Played → ProgramFailure → Type 0
 IsWhyNotPlayed IsRead disk device f =
     ((e : ScriptError) × (f ≡ failure.Script e) × IsWhyNotRead IsRead e × (device ≡ None)) ⊎ ((text : List ℕ) × IsRead text × StopsText disk device text f)
 
 -- a failure of this status is why
 abbrev pub FailsWith : ℕ → (List ℕ → Type 0) → Option Text → Option Played → Type 0
-FailsWith status IsRead disk device = (f : Failure) × (status_of f ≡ status) × IsWhyNotPlayed IsRead disk device f
+FailsWith status IsRead disk device = (f : ProgramFailure) × (status_of f ≡ status) × IsWhyNotPlayed IsRead disk device f
 
 -- With a path a file was made. (That the workers counted there is tested.)
 abbrev pub IsMadeAt : Option Text → Type 0
@@ -91,11 +91,11 @@ abbrev pub CountsAs : List Text → Option (List ℕ) → Option (List ℕ) → 
 CountsAs words before after = (work : Work) × AreNumbersIn words work.workers work.turns × CountsUp work (disk_in words) before after
 
 -- why they did not: the output failed, or a fault was met
-abbrev pub IsWhyNotCounted : Failure → Type 0
+abbrev pub IsWhyNotCounted : ProgramFailure → Type 0
 IsWhyNotCounted f = (f ≡ failure.Output) ⊎ ((fault : Fault) × (f ≡ failure.Refused fault))
 
 -- why the jobs of a service were not timed: the same, or the clock was not read
-abbrev pub IsWhyNotTimed : Failure → Type 0
+abbrev pub IsWhyNotTimed : ProgramFailure → Type 0
 IsWhyNotTimed f = (f ≡ failure.Clock) ⊎ IsWhyNotCounted f
 
 -- The head of a table was printed, and below it a line for each job.
@@ -103,13 +103,13 @@ abbrev pub TimesJobs : Option (List ℕ) → Option (List ℕ) → Type 0
 TimesJobs before after = (lines : List (List ℕ)) × (length lines ≡ 48) × Appends before after (printed (head ∷ lines))
 
 -- what the user is told where the jobs ended early
-abbrev pub failure_of : BenchError → Failure
+abbrev pub failure_of : BenchError → ProgramFailure
 failure_of (bench.Refused fault) = failure.Refused fault
 failure_of bench.Output = failure.Output
 failure_of bench.Clock = failure.Clock
 
 -- why a store was not shown: the output failed, or it was not read, or memory was refused
-abbrev pub IsWhyNotShown : Failure → Type 0
+abbrev pub IsWhyNotShown : ProgramFailure → Type 0
 IsWhyNotShown f = IsWhyNotCounted f
 
 -- a store was to be shown, made or served
@@ -134,8 +134,8 @@ abbrev pub IsFailed : List Text → Option (List ℕ) → Option Played → Type
 IsFailed words left device =
     AsksForHelp words
     ⊎ ((AsksToPlay words × FailsWith 1 (MayBeRead (path_in words) left) (disk_in words) device)
-    ⊎ ((AsksToCount words × ((f : Failure) × (status_of f ≡ 1) × IsWhyNotCounted f))
-    ⊎ ((AsksToBench words × ((f : Failure) × (status_of f ≡ 1) × IsWhyNotTimed f)) ⊎ (AsksOfStore words ⊎ AsksToCheck words))))
+    ⊎ ((AsksToCount words × ((f : ProgramFailure) × (status_of f ≡ 1) × IsWhyNotCounted f))
+    ⊎ ((AsksToBench words × ((f : ProgramFailure) × (status_of f ≡ 1) × IsWhyNotTimed f)) ⊎ (AsksOfStore words ⊎ AsksToCheck words))))
 
 -- a script that was to be checked was not read, and nothing was printed; or it is none, and its flaws were
 abbrev pub IsNotChecked : Option (List ℕ) → Option (List ℕ) → Type 0

@@ -9,7 +9,7 @@ use Rattle.tmem_linear.specs.Sums.{is_sum_within}
 use Rattle.tmem_linear.specs.declared.linear.Linear.{Linear}
 use Rattle.tmem_builtins.specs.Builtins.{builtin_steps}
 use Rattle.tmem_shape.specs.Shapes.{IsShapeText}
-use Rattle.tmem_shape.specs.declared.shape.Shape.{Shape}
+use Rattle.tmem_shape.specs.declared.shape.StoreShape.{StoreShape}
 use Rattle.tmem_file.specs.FileView.{file_view}
 use Rattle.tmem_file.specs.Opening.{IsFreshlyOpened}
 use Rattle.tmem_file.specs.declared.disk.FileDisk.{FileDisk}
@@ -36,7 +36,7 @@ program_of all = record { steps = builtin_steps; names = names_in all; tests = m
 -- The text is that of a shape, and a store of it is on this device: an opening finds that every variable is 0, and that the invariants
 -- are registered that always hold, and no others.
 pub record IsStoreOf (text : List ℕ) (d : DeviceView) : Type 0 where
-  pub shape : Shape
+  pub shape : StoreShape
   pub is : IsShapeText shape text
   pub made : IsNewStore shape.vars shape.slots (always_in shape.invariants.items) d
 
@@ -46,7 +46,7 @@ MakesStore = (text : List ℕ) × (made : FileDisk) × IsStoreOf text (file_view
 
 -- The text is that of a shape, and what the opening of a file found under it was served to the end of the input, of which no byte is left.
 pub record ServesShape (text : List ℕ) (unread rest before after : Option (List ℕ)) : Type 0 where
-  pub shape : Shape
+  pub shape : StoreShape
   pub is : IsShapeText shape text
   pub found : FileDisk
   pub opened : IsFreshlyOpened (file_view found)

@@ -8,7 +8,7 @@ use std::rt::Clock;
 use std::sync::Wait;
 use std::thread::Threads;
 use tmem_bench::{BenchError, run_jobs};
-use tmem_script::Failure;
+use tmem_script::ProgramFailure;
 
 // The file of the timed stores, where the words name none.
 pub(crate) const STORE: &str = "tmem-bench.store";
@@ -17,7 +17,7 @@ pub(crate) const STORE: &str = "tmem-bench.store";
 pub(crate) fn run_bench<
     R: Files<File = File> + AllocGlobal + Threads + Wait + Clock + Sync,
     W: Write,
->(rt: &R, path: Option<&str>, out: &mut W) -> Result<(), Failure>
+>(rt: &R, path: Option<&str>, out: &mut W) -> Result<(), ProgramFailure>
     ensures timed { OnOk result (TimesJobs (W.contents out.old) (W.contents out.new)) }
     ensures failed { IfErr result IsWhyNotTimed }
 {
@@ -28,12 +28,12 @@ pub(crate) fn run_bench<
 }
 
 // What the user is told where the jobs ended early.
-fn failure(error: BenchError) -> Failure
+fn failure(error: BenchError) -> ProgramFailure
     ensures { result ≡ failure_of error }
 {
     match error {
-        BenchError::Refused(fault) => Failure::Refused(fault),
-        BenchError::Output => Failure::Output,
-        BenchError::Clock => Failure::Clock,
+        BenchError::Refused(fault) => ProgramFailure::Refused(fault),
+        BenchError::Output => ProgramFailure::Output,
+        BenchError::Clock => ProgramFailure::Clock,
     }
 }

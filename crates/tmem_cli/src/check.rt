@@ -3,7 +3,7 @@ ghost use Rattle.std.specs.Prelude.{◌≡◌, true, false, IfErr, IfOk, OnOk};
 ghost use Rattle.std.specs.Io.KnownBytes.{Appends};
 ghost use Rattle.tmem_script.specs.Errors.{IsUnread};
 ghost use Rattle.tmem_script.specs.Statuses.{status_of};
-ghost use Rattle.tmem_script.specs.declared.failure.Failure.TheVariants.{Output};
+ghost use Rattle.tmem_script.specs.declared.failure.ProgramFailure.TheVariants.{Output};
 ghost use Rattle.tmem_cli.specs.Checked.{HasFlaws, IsWhyNotChecked, IsScriptThere, lines_of};
 
 use crate::words::flush;
@@ -12,7 +12,7 @@ use std::io::Write;
 use tmem_explain::{Flaw, flaws_in};
 use tmem_fault::Fault;
 use tmem_run::print_line;
-use tmem_script::{Failure, ScriptError};
+use tmem_script::{ProgramFailure, ScriptError};
 
 /// Prints a line for each flaw of the script in a file. Whether it is a script of which a run refuses no number and no transaction: then
 /// nothing is printed. `Unreadable` where it is not read, and `Memory` where that does not suffice.
@@ -20,7 +20,7 @@ pub(crate) fn check<W: Write>(
     rt: &(impl Files<File = File> + AllocGlobal),
     path: &str,
     out: &mut W,
-) -> Result<bool, Failure>
+) -> Result<bool, ProgramFailure>
     ensures fine { IfOk result (λ fine. fine ≡ true → IsScriptThere × (out.new ≡ out.old)) }
     ensures flawed { IfOk result (λ fine. fine ≡ false → HasFlaws (W.contents out.old) (W.contents out.new)) }
     ensures failed { IfErr result IsWhyNotChecked }
@@ -28,7 +28,7 @@ pub(crate) fn check<W: Write>(
 {
     let text = text_of(rt, path)?;
     let Ok(flaws) = flaws_in(rt.alloc(), &text) else {
-        return Err(Failure::Refused(Fault::Memory));
+        return Err(ProgramFailure::Refused(Fault::Memory));
     };
     if flaws.is_empty() {
         return Ok(true);
@@ -45,7 +45,7 @@ fn text_of(rt: &(impl Files<File = File> + AllocGlobal), path: &str) -> Result<V
 }
 
 // Prints a line for each flaw.
-fn print_flaws<W: Write>(out: &mut W, flaws: &[Flaw]) -> Result<(), Failure>
+fn print_flaws<W: Write>(out: &mut W, flaws: &[Flaw]) -> Result<(), ProgramFailure>
     ensures lines { OnOk result (Appends (W.contents out.old) (W.contents out.new) (lines_of flaws.now)) }
     ensures failed { IfErr result (λ failure. failure ≡ Output) }
 {

@@ -10,7 +10,7 @@ use std::fmt::Display;
 use std::fs::{File, Files};
 use std::io::{self, Write};
 use tmem_args::Asked;
-use tmem_desk::Failure as DeskFailure;
+use tmem_desk::DeskFailure;
 use tmem_explain::{
     CUT_OFF, CallCause, DeviceCause, Expected, FaultHelp, NumbersHelp, TOO_SHORT, Wanted, cause_of,
     flaws_in, is_cut_off, plan_flaw,
@@ -20,9 +20,9 @@ use tmem_init::InitError;
 use tmem_parts::block_of;
 use tmem_record::{Layout, MOST_SLOTS, MOST_VARS};
 use tmem_run::{Notes, Refused};
-use tmem_script::{Failure, Script, ScriptError};
+use tmem_script::{ProgramFailure, Script, ScriptError};
 use tmem_serve::ServeError;
-use tmem_shape::Shape;
+use tmem_shape::StoreShape;
 use tmem_show::{Source, refusal_of};
 
 const NO_OUTPUT: &str =
@@ -53,7 +53,7 @@ pub(crate) fn explain<E: Write>(
     rt: &(impl Files<File = File> + AllocGlobal),
     asked: Asked,
     notes: &Notes,
-    outcome: &Result<(), Failure>,
+    outcome: &Result<(), ProgramFailure>,
     err: &mut E,
 ) {
     // Where this fails, nobody is left to tell.
@@ -106,17 +106,17 @@ fn explain_failure<E: Write>(
     rt: &(impl Files<File = File> + AllocGlobal),
     asked: Asked,
     notes: &Notes,
-    failure: &Failure,
+    failure: &ProgramFailure,
     err: &mut E,
 ) -> io::Result<()> {
     match failure {
-        Failure::Script(ScriptError::NoScript) => tell_flaw(rt.alloc(), notes.text(), err),
-        Failure::Script(ScriptError::Unreadable) => tell_unread(rt, asked, err),
-        Failure::Script(ScriptError::Memory(_)) => tell(err, FaultHelp(Fault::Memory)),
-        Failure::Refused(fault) => tell_refused(rt, asked, notes, *fault, err),
-        Failure::Output => tell(err, NO_OUTPUT),
-        Failure::Clock => tell(err, NO_CLOCK),
-        Failure::Words(_) => Ok(()),
+        ProgramFailure::Script(ScriptError::NoScript) => tell_flaw(rt.alloc(), notes.text(), err),
+        ProgramFailure::Script(ScriptError::Unreadable) => tell_unread(rt, asked, err),
+        ProgramFailure::Script(ScriptError::Memory(_)) => tell(err, FaultHelp(Fault::Memory)),
+        ProgramFailure::Refused(fault) => tell_refused(rt, asked, notes, *fault, err),
+        ProgramFailure::Output => tell(err, NO_OUTPUT),
+        ProgramFailure::Clock => tell(err, NO_CLOCK),
+        ProgramFailure::Words(_) => Ok(()),
     }
 }
 
@@ -124,7 +124,7 @@ fn explain_failure<E: Write>(
 pub(crate) fn explain_check<E: Write>(
     rt: &(impl Files<File = File> + AllocGlobal),
     asked: Asked,
-    failure: &Failure,
+    failure: &ProgramFailure,
     err: &mut E,
 ) {
     let notes = Notes::new(rt.alloc(), false);
@@ -355,7 +355,7 @@ fn numbers_of_shape(
     let Ok(text) = text_in(rt, path) else {
         return None;
     };
-    match Shape::from_slice(rt.alloc(), &text) {
+    match StoreShape::from_slice(rt.alloc(), &text) {
         Ok(shape) => Some((shape.vars, shape.slots)),
         Err(_) => None,
     }

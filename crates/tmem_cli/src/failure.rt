@@ -3,7 +3,7 @@ use std::alloc::{AllocError, AllocFailed};
 use std::fmt;
 use std::io::{self, ErrorKind};
 use thiserror::Error;
-use tmem_desk::Failure as DeskFailure;
+use tmem_desk::DeskFailure;
 use tmem_fault::Fault;
 use tmem_init::InitError;
 use tmem_serve::ServeError;

@@ -12,7 +12,7 @@ use tmem_file::FileDisk;
 use tmem_init::{make_in_place, make_store};
 use tmem_linear::LinearTable;
 use tmem_record::Layout;
-use tmem_shape::Shape;
+use tmem_shape::StoreShape;
 
 /// Makes a store of the shape that a file has: a new one, with the shape beside it, or one on what is there. Refused by `Device` where
 /// the store's path is empty: the shape would get the path `.json`.
@@ -40,9 +40,9 @@ fn make_of(
 ) -> Result<FileDisk, StoreFailure>
     ensures { IfOk result (λ disk. IsStoreOf text.now (file_view disk)) }
 {
-    let shape = Shape::from_slice(rt.alloc(), text)?;
+    let shape = StoreShape::from_slice(rt.alloc(), text)?;
     let always = shape.always_names(rt.alloc())?;
-    let Shape {
+    let StoreShape {
         vars,
         slots,
         invariants,

@@ -17,7 +17,7 @@ use tmem_file::FileDisk;
 use tmem_linear::LinearTable;
 use tmem_record::Layout;
 use tmem_serve::{InputEnd, Served, serve_store};
-use tmem_shape::Shape;
+use tmem_shape::StoreShape;
 
 /// Opens a store with its shape, and answers the requests of the input until it ends. `Input` where a read of it failed.
 pub(crate) fn serve<I: Read, W: Write>(
@@ -56,7 +56,7 @@ fn serve_text<I: Read, W: Write>(
 ) -> Result<(), StoreFailure>
     ensures { OnOk result (ServesShape text.now (I.remaining input.old) (I.remaining input.new) (W.contents out.old) (W.contents out.new)) }
 {
-    let shape = Shape::from_slice(rt.alloc(), text)?;
+    let shape = StoreShape::from_slice(rt.alloc(), text)?;
     let layout = Layout::new(shape.vars, shape.slots)?;
     let disk = FileDisk::open(rt, store, layout.end())?;
     serve_on(rt, shape, disk, input, out)
@@ -65,7 +65,7 @@ fn serve_text<I: Read, W: Write>(
 // The same on the device of its file.
 fn serve_on<I: Read, W: Write>(
     rt: &(impl AllocGlobal + Wait),
-    shape: Shape,
+    shape: StoreShape,
     disk: FileDisk,
     input: &mut I,
     out: &mut W,
@@ -76,7 +76,7 @@ fn serve_on<I: Read, W: Write>(
     let alloc = rt.alloc();
     let names = shape.invariant_names(alloc)?;
     let always = shape.always_names(alloc)?;
-    let Shape {
+    let StoreShape {
         vars,
         slots,
         invariants,

@@ -5,7 +5,7 @@ ghost use Rattle.tmem_cli.specs.Outcomes.{IsWhyNotShown};
 use std::fs::{File, Files};
 use std::io::Write;
 use tmem_args::Showing;
-use tmem_script::Failure;
+use tmem_script::ProgramFailure;
 use tmem_show::{ShowError, Source};
 
 /// Prints what is in a store. Its file is opened for reading alone, and is not locked. `Device` where it is not read, and `Memory` where
@@ -14,7 +14,7 @@ pub(crate) fn show_store<W: Write>(
     rt: &(impl Files<File = File> + AllocGlobal),
     showing: Showing,
     out: &mut W,
-) -> Result<(), Failure>
+) -> Result<(), ProgramFailure>
     ensures failed { IfErr result IsWhyNotShown }
 {
     let source = Source::read(rt, showing.store.unwrap_or(""))?;
@@ -25,7 +25,7 @@ pub(crate) fn show_store<W: Write>(
     };
     match shown {
         Ok(()) => Ok(()),
-        Err(ShowError::Output) => Err(Failure::Output),
-        Err(ShowError::Refused(fault)) => Err(Failure::Refused(fault)),
+        Err(ShowError::Output) => Err(ProgramFailure::Output),
+        Err(ShowError::Refused(fault)) => Err(ProgramFailure::Refused(fault)),
     }
 }

@@ -5,7 +5,7 @@ ghost use Rattle.clap.specs.Values.{kind_of};
 ghost use Rattle.tmem_script.specs.Errors.{IsUnread};
 ghost use Rattle.tmem_script.specs.Scripts.{IsScriptText};
 ghost use Rattle.tmem_script.specs.Statuses.{status_of};
-ghost use Rattle.tmem_script.specs.declared.failure.Failure.TheVariants.{Output};
+ghost use Rattle.tmem_script.specs.declared.failure.ProgramFailure.TheVariants.{Output};
 ghost use Rattle.tmem_args.specs.CommandLine.{AreRefused, AsksToCheck, AsksToPlay, AsksToServe, ExplainsNothing, IsHelpOrVersion, disk_in, path_in};
 ghost use Rattle.tmem_cli.specs.Outcomes.{IsDone, IsFailed, HasNoScript, CountsUp, IsWhyNotCounted, IsWhyNotPlayed, IsWhyNotRead, IsWhyNotShown, IsWhyNotTimed, MayBeRead, PlaysRead, TimesJobs};
 
@@ -24,9 +24,9 @@ use std::io::{Read, Write};
 use std::rt::Clock;
 use std::sync::Wait;
 use std::thread::Threads;
-use tmem_args::{Asked, Counting, Making, Paths, Serving, Showing, Told, asked_of};
+use tmem_args::{Asked, Counting, Invocation, Making, Paths, Serving, Showing, asked_of};
 use tmem_run::{Notes, Played, play, print_line};
-use tmem_script::{Failure, Script, ScriptError, WordsError, report};
+use tmem_script::{ProgramFailure, Script, ScriptError, WordsError, report};
 use tmem_threads::Work;
 
 /// Does what the words of a command line say, the program's name first, and answers the status: 0 where help or the
@@ -96,7 +96,7 @@ pub fn run_words<R: Read, W: Write, E: Write>(
 }
 
 /// Prints the failure of a run, if it failed, and answers the run's status.
-fn tell<E: Write>(outcome: &Result<(), Failure>, err: &mut E) -> u8
+fn tell<E: Write>(outcome: &Result<(), ProgramFailure>, err: &mut E) -> u8
     ensures status { MatchResult outcome.now (λ _. result ≡ 0) (λ failure. result ≡ status_of failure) }
     ensures most { result ≤ 3 }
     ensures untold { OnOk outcome.now (err.new ≡ err.old) }
@@ -110,9 +110,9 @@ fn tell<E: Write>(outcome: &Result<(), Failure>, err: &mut E) -> u8
 /// The same, and tells more, if that is asked for.
 fn conclude<E: Write>(
     rt: &(impl Files<File = File> + AllocGlobal),
-    told: Told,
+    told: Invocation,
     notes: &Notes,
-    outcome: Result<(), Failure>,
+    outcome: Result<(), ProgramFailure>,
     err: &mut E,
 ) -> u8
     ensures status { MatchResult outcome (λ _. result ≡ 0) (λ failure. result ≡ status_of failure) }
@@ -129,7 +129,7 @@ fn conclude<E: Write>(
 /// Prints why a store was not made or served to its end, if it was not, and answers the status.
 fn conclude_store<E: Write>(
     rt: &(impl Files<File = File> + AllocGlobal),
-    told: Told,
+    told: Invocation,
     outcome: Result<(), StoreFailure>,
     err: &mut E,
 ) -> u8
@@ -151,7 +151,7 @@ fn conclude_store<E: Write>(
 fn conclude_check<E: Write>(
     rt: &(impl Files<File = File> + AllocGlobal),
     asked: Asked,
-    outcome: Result<bool, Failure>,
+    outcome: Result<bool, ProgramFailure>,
     err: &mut E,
 ) -> u8
     ensures status { MatchResult outcome (λ fine. result ≡ (if fine then 0 else 3)) (λ failure. result ≡ status_of failure) }
@@ -181,7 +181,7 @@ fn answer<W: Write, E: Write>(refusal: &clap::Error, out: &mut W, err: &mut E) -
 {
     match refusal.kind() {
         ErrorKind::DisplayHelp | ErrorKind::DisplayVersion => tell(&print(refusal, out), err),
-        ErrorKind::OutOfMemory => report(&Failure::Words(WordsError::Memory), err),
+        ErrorKind::OutOfMemory => report(&ProgramFailure::Words(WordsError::Memory), err),
         _ => {
             // Where this fails too, nobody is left to tell.
             let _ = write!(err, "{refusal}");
@@ -191,19 +191,19 @@ fn answer<W: Write, E: Write>(refusal: &clap::Error, out: &mut W, err: &mut E) -
 }
 
 /// Prints help or the version.
-fn print<W: Write>(request: &clap::Error, out: &mut W) -> Result<(), Failure>
+fn print<W: Write>(request: &clap::Error, out: &mut W) -> Result<(), ProgramFailure>
     ensures { IfErr result (λ failure. failure ≡ Output) }
 {
-    write!(out, "{request}").map_err(|_| Failure::Output)?;
+    write!(out, "{request}").map_err(|_| ProgramFailure::Output)?;
     flush(out)
 }
 
 /// Flushes what was printed.
-pub(crate) fn flush<W: Write>(out: &mut W) -> Result<(), Failure>
+pub(crate) fn flush<W: Write>(out: &mut W) -> Result<(), ProgramFailure>
     ensures kept { Keeps (W.contents out.old) (W.contents out.new) }
     ensures failed { IfErr result (λ failure. failure ≡ Output) }
 {
-    out.flush().map_err(|_| Failure::Output)
+    out.flush().map_err(|_| ProgramFailure::Output)
 }
 
 /// Plays the script to its end, and flushes what was printed.
@@ -214,7 +214,7 @@ fn run<R: Read, W: Write>(
     out: &mut W,
     device: &mut Option<Played>,
     notes: &mut Notes,
-) -> Result<(), Failure>
+) -> Result<(), ProgramFailure>
     requires { device.old ≡ None }
     ensures played { OnOk result (PlaysRead (MayBeRead (option_map (λ text. text.now) paths.entry.script) (R.remaining input.old)) (option_map (λ text. text.now) paths.entry.disk) device.new (W.contents out.old) (W.contents out.new)) }
     ensures failed { IfErr result (IsWhyNotPlayed (MayBeRead (option_map (λ text. text.now) paths.entry.script) (R.remaining input.old)) (option_map (λ text. text.now) paths.entry.disk) device.new) }
@@ -233,7 +233,7 @@ fn count<W: Write>(
     counting: Counting,
     out: &mut W,
     notes: &mut Notes,
-) -> Result<(), Failure>
+) -> Result<(), ProgramFailure>
     ensures counted { OnOk result (CountsUp (record { workers = counting.entry.workers; turns = counting.entry.turns }) (option_map (λ text. text.now) counting.entry.disk) (W.contents out.old) (W.contents out.new)) }
     ensures failed { IfErr result IsWhyNotCounted }
 {
@@ -251,7 +251,7 @@ fn bench<W: Write>(
     rt: &(impl Files<File = File> + AllocGlobal + Threads + Wait + Clock + Sync),
     path: Option<&str>,
     out: &mut W,
-) -> Result<(), Failure>
+) -> Result<(), ProgramFailure>
     ensures timed { OnOk result (TimesJobs (W.contents out.old) (W.contents out.new)) }
     ensures failed { IfErr result IsWhyNotTimed }
 {
@@ -264,7 +264,7 @@ fn show<W: Write>(
     rt: &(impl Files<File = File> + AllocGlobal),
     showing: Showing,
     out: &mut W,
-) -> Result<(), Failure>
+) -> Result<(), ProgramFailure>
     ensures failed { IfErr result IsWhyNotShown }
 {
     show_store(rt, showing, out)?;

@@ -8,15 +8,15 @@ use Rattle.tmem_spine.specs.History.{count, longer}
 use Rattle.tmem_spine.specs.Views.{PassRoleView}
 use Rattle.tmem_requests.specs.declared.answer.Answer.{Answer}
 use Rattle.tmem_requests.specs.declared.answer.Answer.TheVariants as answer
-use Rattle.tmem_requests.specs.declared.request.Ask.{Ask}
-use Rattle.tmem_requests.specs.declared.request.Ask.TheVariants as ask
+use Rattle.tmem_requests.specs.declared.request.RequestBody.{RequestBody}
+use Rattle.tmem_requests.specs.declared.request.RequestBody.TheVariants as ask
 use Rattle.tmem_desk.specs.Asking.{Store, Tries, AnswersAsk}
 use Rattle.tmem_desk.specs.Desks.{DeskView}
 use Rattle.tmem_desk.specs.Serving.{IsAnsweredAtOnce, MayWait, Takes, TriesNext, tells, tried, tried_again, by}
 use Rattle.tmem_desk.specs.Told.{answer_told}
 
 -- a request that is answered at once
-pub is_answered : (s : Store) (id : ℤ) (asks : Ask) (v w : DeskView) (pass : PassRoleView) (given : Answer) → AnswersAsk s asks v.pass given pass → w ≡ tells (by v pass) (answer_told id given ∷ []) → IsAnsweredAtOnce s id asks v w
+pub is_answered : (s : Store) (id : ℤ) (asks : RequestBody) (v w : DeskView) (pass : PassRoleView) (given : Answer) → AnswersAsk s asks v.pass given pass → w ≡ tells (by v pass) (answer_told id given ∷ []) → IsAnsweredAtOnce s id asks v w
 is_answered s id asks v w pass given answers is =
     let at : pass ≡ w.pass = sym (ap (λ (x : DeskView). x.pass) is) in
     record {
@@ -25,7 +25,7 @@ is_answered s id asks v w pass given answers is =
       is = subst (λ (p : PassRoleView). w ≡ tells (by v p) (answer_told id given ∷ [])) at is;
     }
 
-tried_pass : (id : ℤ) (asks : Ask) (outcome : Option Answer) (v : DeskView) → (tried id asks outcome v).pass ≡ v.pass
+tried_pass : (id : ℤ) (asks : RequestBody) (outcome : Option Answer) (v : DeskView) → (tried id asks outcome v).pass ≡ v.pass
 tried_pass id asks (Some given) v = refl
 tried_pass id asks None v = either (nat_lt (length v.waiting) 1024)
   where
@@ -34,11 +34,11 @@ tried_pass id asks None v = either (nat_lt (length v.waiting) 1024)
     either false = refl
 
 -- a request that is taken, where its id is read back from what is passed and what is asked was matched
-pub takes_as : (s : Store) (id id' : ℤ) (asks matched : Ask) (v w : DeskView) → id' ≡ id → matched ≡ asks → Takes s id' asks v w → Takes s id matched v w
-takes_as s id id' asks matched v w same is taken = subst (λ (a : Ask). Takes s id a v w) (sym is) (subst (λ (i : ℤ). Takes s i asks v w) same taken)
+pub takes_as : (s : Store) (id id' : ℤ) (asks matched : RequestBody) (v w : DeskView) → id' ≡ id → matched ≡ asks → Takes s id' asks v w → Takes s id matched v w
+takes_as s id id' asks matched v w same is taken = subst (λ (a : RequestBody). Takes s id a v w) (sym is) (subst (λ (i : ℤ). Takes s i asks v w) same taken)
 
 -- one that may wait
-pub may_wait : (s : Store) (id : ℤ) (asks : Ask) (v w : DeskView) (pass : PassRoleView) (outcome : Option Answer) → Tries s asks v.pass outcome pass → w ≡ tried id asks outcome (by v pass) → MayWait s id asks v w
+pub may_wait : (s : Store) (id : ℤ) (asks : RequestBody) (v w : DeskView) (pass : PassRoleView) (outcome : Option Answer) → Tries s asks v.pass outcome pass → w ≡ tried id asks outcome (by v pass) → MayWait s id asks v w
 may_wait s id asks v w pass outcome tries is =
     let at : pass ≡ w.pass = sym (ap (λ (x : DeskView). x.pass) is ∙ tried_pass id asks outcome (by v pass)) in
     record {
@@ -47,12 +47,12 @@ may_wait s id asks v w pass outcome tries is =
       is = subst (λ (p : PassRoleView). w ≡ tried id asks outcome (by v p)) at is;
     }
 
-again_pass : (id : ℤ) (asks : Ask) (outcome : Option Answer) (rest : List (ℤ × Ask)) (v : DeskView) → (tried_again id asks outcome rest v).pass ≡ v.pass
+again_pass : (id : ℤ) (asks : RequestBody) (outcome : Option Answer) (rest : List (ℤ × RequestBody)) (v : DeskView) → (tried_again id asks outcome rest v).pass ≡ v.pass
 again_pass id asks (Some given) rest v = refl
 again_pass id asks None rest v = refl
 
 -- the first that waits
-pub tries_first : (s : Store) (id : ℤ) (asks : Ask) (rest : List (ℤ × Ask)) (v w : DeskView) (pass : PassRoleView) (outcome : Option Answer) → v.waiting ≡ (id, asks) ∷ rest
+pub tries_first : (s : Store) (id : ℤ) (asks : RequestBody) (rest : List (ℤ × RequestBody)) (v w : DeskView) (pass : PassRoleView) (outcome : Option Answer) → v.waiting ≡ (id, asks) ∷ rest
     → Tries s asks v.pass outcome pass → w ≡ tried_again id asks outcome rest (by v pass) → TriesNext s v w
 tries_first s id asks rest v w pass outcome first tries is =
     let at : pass ≡ w.pass = sym (ap (λ (x : DeskView). x.pass) is ∙ again_pass id asks outcome rest (by v pass)) in

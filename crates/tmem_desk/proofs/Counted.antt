@@ -10,8 +10,8 @@ use Rattle.tmem_tree.specs.declared.tx.Tx.{Tx}
 use Rattle.tmem_requests.specs.declared.answer.Answer.{Answer}
 use Rattle.tmem_requests.specs.declared.answer.Answer.TheVariants as answer
 use Rattle.tmem_requests.specs.declared.refusal.NoRequest.{NoRequest}
-use Rattle.tmem_requests.specs.declared.request.Ask.{Ask}
-use Rattle.tmem_requests.specs.declared.request.Ask.TheVariants as ask
+use Rattle.tmem_requests.specs.declared.request.RequestBody.{RequestBody}
+use Rattle.tmem_requests.specs.declared.request.RequestBody.TheVariants as ask
 use Rattle.tmem_desk.specs.Asking.{Store, IsPlanOf}
 use Rattle.tmem_desk.specs.Desks.{DeskView}
 use Rattle.tmem_desk.specs.Due.{answers_any_of, due_of, waits_of}
@@ -42,12 +42,12 @@ module _ (among : ℤ → Bool) (others : Bool) where
       omega (arith, tells_more v (answer_told id given ∷ []))
 
   -- one more that waits
-  waits_more : (id : ℤ) (asks : Ask) (v : DeskView) → due_of among others (record v { waiting = v.waiting ++ (id, asks) ∷ [] }) ≡ due_of among others v + one id
+  waits_more : (id : ℤ) (asks : RequestBody) (v : DeskView) → due_of among others (record v { waiting = v.waiting ++ (id, asks) ∷ [] }) ≡ due_of among others v + one id
   waits_more id asks v =
       let it : count_by (waits_of among) ((id, asks) ∷ []) ≡ 0 + cond (among id) 1 0 = refl in
       omega (arith, count_append (waits_of among) v.waiting ((id, asks) ∷ []))
 
-  tried_due : (id : ℤ) (asks : Ask) (outcome : Option Answer) (v : DeskView) → due_of among others (tried id asks outcome v) ≡ due_of among others v + one id
+  tried_due : (id : ℤ) (asks : RequestBody) (outcome : Option Answer) (v : DeskView) → due_of among others (tried id asks outcome v) ≡ due_of among others v + one id
   tried_due id asks (Some given) v = tells_one id given v
   tried_due id asks None v = either (nat_lt (length v.waiting) 1024)
     where
@@ -55,11 +55,11 @@ module _ (among : ℤ → Bool) (others : Bool) where
       either true = waits_more id asks v
       either false = tells_one id (answer.Fault fault.Full) v
 
-  may_wait_due : (s : Store) (id : ℤ) (asks : Ask) (v w : DeskView) → MayWait s id asks v w → due_of among others w ≡ due_of among others v + one id
+  may_wait_due : (s : Store) (id : ℤ) (asks : RequestBody) (v w : DeskView) → MayWait s id asks v w → due_of among others w ≡ due_of among others v + one id
   may_wait_due s id asks v w m = ap (due_of among others) m.is ∙ tried_due id asks m.outcome (by v w.pass)
 
   -- one that waits is taken out
-  without_one : (id : ℤ) (ws : List (ℤ × Ask)) → waits id ws ≡ true → count_by (waits_of among) (without id ws) + one id ≡ count_by (waits_of among) ws
+  without_one : (id : ℤ) (ws : List (ℤ × RequestBody)) → waits id ws ≡ true → count_by (waits_of among) (without id ws) + one id ≡ count_by (waits_of among) ws
   without_one id [] none = absurd (cc none)
   without_one id (w ∷ ws) some = either (int_eq w.0 id) refl some (without_one id ws)
     where
@@ -116,7 +116,7 @@ module _ (among : ℤ → Bool) (others : Bool) where
       either false is = ap (due_of among others) is ∙ tells_one id (answer.Found false) v
 
   -- a request that is taken is due once more
-  pub taken_due : (s : Store) (id : ℤ) (asks : Ask) (v w : DeskView) → Takes s id asks v w → due_of among others w ≡ due_of among others v + cond (among id) 1 0
+  pub taken_due : (s : Store) (id : ℤ) (asks : RequestBody) (v w : DeskView) → Takes s id asks v w → due_of among others w ≡ due_of among others v + cond (among id) 1 0
   taken_due s id (ask.Do tx) v w t = planned_due s id tx tx v w t
   taken_due s id (ask.Changed reads) v w t = may_wait_due s id (ask.Changed reads) v w t
   taken_due s id (ask.Cancel who) v w t = ap (due_of among others) t ∙ cancelled_due id who v
@@ -135,7 +135,7 @@ module _ (among : ℤ → Bool) (others : Bool) where
   taken_due s id ask.Checkpoint v w t = ap (due_of among others) t.is ∙ tells_one id t.given (by v w.pass)
 
   -- one that is tried again is due as before
-  answered_again : (id : ℤ) (asks : Ask) (given : Answer) (rest : List (ℤ × Ask)) (all : List Told)
+  answered_again : (id : ℤ) (asks : RequestBody) (given : Answer) (rest : List (ℤ × RequestBody)) (all : List Told)
       → count_by (waits_of among) rest + count_by (answers_any_of among others) (all ++ answer_told id given ∷ []) ≡ count_by (waits_of among) ((id, asks) ∷ rest) + count_by (answers_any_of among others) all
   answered_again id asks given rest all =
       let it : count_by (answers_any_of among others) (answer_told id given ∷ []) ≡ 0 + cond (among id) 1 0 = refl in
@@ -143,12 +143,12 @@ module _ (among : ℤ → Bool) (others : Bool) where
       let first : count_by (waits_of among) ((id, asks) ∷ rest) ≡ count_by (waits_of among) ((id, asks) ∷ []) + count_by (waits_of among) rest = count_append (waits_of among) ((id, asks) ∷ []) rest in
       omega (arith, count_append (answers_any_of among others) all (answer_told id given ∷ []))
 
-  pub waits_again : (id : ℤ) (asks : Ask) (rest : List (ℤ × Ask)) (more : ℕ) → count_by (waits_of among) (rest ++ (id, asks) ∷ []) + more ≡ count_by (waits_of among) ((id, asks) ∷ rest) + more
+  pub waits_again : (id : ℤ) (asks : RequestBody) (rest : List (ℤ × RequestBody)) (more : ℕ) → count_by (waits_of among) (rest ++ (id, asks) ∷ []) + more ≡ count_by (waits_of among) ((id, asks) ∷ rest) + more
   waits_again id asks rest more =
       let first : count_by (waits_of among) ((id, asks) ∷ rest) ≡ count_by (waits_of among) ((id, asks) ∷ []) + count_by (waits_of among) rest = count_append (waits_of among) ((id, asks) ∷ []) rest in
       omega (arith, count_append (waits_of among) rest ((id, asks) ∷ []))
 
-  moved_due : (id : ℤ) (asks : Ask) (outcome : Option Answer) (rest : List (ℤ × Ask)) (v : DeskView)
+  moved_due : (id : ℤ) (asks : RequestBody) (outcome : Option Answer) (rest : List (ℤ × RequestBody)) (v : DeskView)
       → due_of among others (tried_again id asks outcome rest v) ≡ count_by (waits_of among) ((id, asks) ∷ rest) + count_by (answers_any_of among others) v.told
   moved_due id asks (Some given) rest v = answered_again id asks given rest v.told
   moved_due id asks None rest v = waits_again id asks rest (count_by (answers_any_of among others) v.told)
@@ -156,7 +156,7 @@ module _ (among : ℤ → Bool) (others : Bool) where
   first_due : (s : Store) (v w : DeskView) → TriesFirst s v w → due_of among others w ≡ due_of among others v
   first_due s v w t =
       ap (due_of among others) t.is
-      ∙ (moved_due t.id t.ask t.outcome t.rest (by v w.pass) ∙ ap (λ (ws : List (ℤ × Ask)). count_by (waits_of among) ws + count_by (answers_any_of among others) v.told) (sym t.first))
+      ∙ (moved_due t.id t.ask t.outcome t.rest (by v w.pass) ∙ ap (λ (ws : List (ℤ × RequestBody)). count_by (waits_of among) ws + count_by (answers_any_of among others) v.told) (sym t.first))
 
   next_due : (s : Store) (v w : DeskView) → TriesNext s v w → due_of among others w ≡ due_of among others v
   next_due s v w t = ⊎_elim (λ (none : (v.waiting ≡ []) × (w ≡ v)). ap (due_of among others) none.1) (first_due s v w) t
@@ -193,7 +193,7 @@ module _ (among : ℤ → Bool) (others : Bool) where
   finished_due s v w f = ap (due_of among others) f.is ∙ woken_due s v f.woken f.wakes
 
   -- each that waits is answered
-  closed_count : (ws : List (ℤ × Ask)) → count_by (answers_any_of among others) (closed ws) ≡ count_by (waits_of among) ws
+  closed_count : (ws : List (ℤ × RequestBody)) → count_by (answers_any_of among others) (closed ws) ≡ count_by (waits_of among) ws
   closed_count [] = refl
   closed_count (w ∷ ws) =
       let it : count_by (answers_any_of among others) (answer_told w.0 (answer.Fault fault.Closed) ∷ []) ≡ 0 + cond (among w.0) 1 0 = refl in

@@ -7,9 +7,9 @@ use Rattle.std.proofs.lemmas.List.Elements.{All-nil, All-cons}
 use Rattle.tmem_fault.specs.declared.fault.Fault.{Fault}
 use Rattle.tmem_desk.specs.Failing.{EndsBy}
 use Rattle.tmem_desk.specs.Told.{TellsOnly, failed}
-use Rattle.tmem_desk.specs.declared.failure.Failure.{Failure}
-use Rattle.tmem_desk.specs.declared.failure.Failure.TheVariants.{Output}
-use Rattle.tmem_desk.specs.declared.failure.Failure.TheVariants as failure
+use Rattle.tmem_desk.specs.declared.failure.DeskFailure.{DeskFailure}
+use Rattle.tmem_desk.specs.declared.failure.DeskFailure.TheVariants.{Output}
+use Rattle.tmem_desk.specs.declared.failure.DeskFailure.TheVariants as failure
 use Rattle.tmem_desk.specs.declared.told.Told.{Told}
 use Rattle.tmem_desk.specs.declared.told.Told.TheVariants as told
 
@@ -18,7 +18,7 @@ pub appends_none : (contents : Option (List ℕ)) → Appends contents contents 
 appends_none None = tt
 appends_none (Some xs) = sym (append-nil xs)
 
-pub ends_by_none : (contents : Option (List ℕ)) (f : Failure) → EndsBy (Appends contents contents) f
+pub ends_by_none : (contents : Option (List ℕ)) (f : DeskFailure) → EndsBy (Appends contents contents) f
 ends_by_none contents (failure.Fault fault) = ([], All-nil (TellsOnly fault), appends_none contents)
 ends_by_none contents Output = tt
 

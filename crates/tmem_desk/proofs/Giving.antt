@@ -8,8 +8,8 @@ use Rattle.tmem_desk.specs.Desks.{DeskView}
 use Rattle.tmem_desk.specs.Failing.{EndsBy}
 use Rattle.tmem_desk.specs.Serving.{RunsLast, ServesEnd, with_closed}
 use Rattle.tmem_desk.specs.Told.{told_lines, TellsOnly, failed}
-use Rattle.tmem_desk.specs.declared.failure.Failure.{Failure}
-use Rattle.tmem_desk.specs.declared.failure.Failure.TheVariants as failure
+use Rattle.tmem_desk.specs.declared.failure.DeskFailure.{DeskFailure}
+use Rattle.tmem_desk.specs.declared.failure.DeskFailure.TheVariants as failure
 use Rattle.tmem_desk.specs.declared.told.Told.{Told}
 use Rattle.tmem_desk.proofs.Ends.{ends_by_none, tells_only}
 
@@ -24,7 +24,7 @@ at_success (Ok x) fine is = is
 at_success (Err e) fine is = cc
 
 -- nothing was printed
-pub ends_unprinted : {T : Type 0} (r : Result T Failure) (contents : Option (List ℕ)) → IfErr r (EndsBy (Appends contents contents))
+pub ends_unprinted : {T : Type 0} (r : Result T DeskFailure) (contents : Option (List ℕ)) → IfErr r (EndsBy (Appends contents contents))
 ends_unprinted (Ok x) contents = tt
 ends_unprinted (Err f) contents = ends_by_none contents f
 

@@ -20,8 +20,8 @@ use Rattle.tmem_tentative.specs.declared.attempt.Attempt.{Attempt}
 use Rattle.tmem_front.specs.Settling.{SettlesPass, KnowsMore}
 use Rattle.tmem_requests.specs.declared.answer.Answer.{Answer}
 use Rattle.tmem_requests.specs.declared.answer.Answer.TheVariants as answer
-use Rattle.tmem_requests.specs.declared.request.Ask.{Ask}
-use Rattle.tmem_requests.specs.declared.request.Ask.TheVariants as ask
+use Rattle.tmem_requests.specs.declared.request.RequestBody.{RequestBody}
+use Rattle.tmem_requests.specs.declared.request.RequestBody.TheVariants as ask
 use Rattle.tmem_copies.specs.Leading.{first_puts}
 use Rattle.tmem_copies.specs.Numbering.{with_numbers}
 use Rattle.tmem_desk.specs.Asking.{Store, SettlesTx, IsNoPlan, IsPlanOf, EndsTold, Tries, AnswersAsk}
@@ -60,14 +60,14 @@ ends_keeps s tx settled given old new so = IsPrefix-trans old.known so.then.know
 
 -- ---- what is asked
 
-tries_keeps : (s : Store) (asks : Ask) (old : PassRoleView) (outcome : Option Answer) (new : PassRoleView) → Tries s asks old outcome new → Keeps old new
+tries_keeps : (s : Store) (asks : RequestBody) (old : PassRoleView) (outcome : Option Answer) (new : PassRoleView) → Tries s asks old outcome new → Keeps old new
 tries_keeps s (ask.Do tx) old None new so = tx_keeps s tx Retry old new so
 tries_keeps s (ask.Do tx) old (Some given) new so = ends_keeps s tx so.0 given old new so.2
 tries_keeps s (ask.Changed reads) old None new so = so.1.knows.begins
 tries_keeps s (ask.Changed reads) old (Some (answer.Values number values)) new so = so.0.knows.begins
 tries_keeps s asks old outcome new none = absurd none
 
-answers_keeps : (s : Store) (asks : Ask) (old : PassRoleView) (given : Answer) (new : PassRoleView) → AnswersAsk s asks old given new → Keeps old new
+answers_keeps : (s : Store) (asks : RequestBody) (old : PassRoleView) (given : Answer) (new : PassRoleView) → AnswersAsk s asks old given new → Keeps old new
 answers_keeps s (ask.Try tx) old given new so = ⊎_elim
     (λ (no : (cause : Cause) × (given ≡ answer.Fault (fault.BadPlan cause)) × IsNoPlan s tx cause × (new ≡ old)). same_keeps old new no.3)
     (λ (yes : (settled : Settled) × EndsTold s tx old settled given new). ends_keeps s tx yes.0 given old new yes.1)
@@ -84,7 +84,7 @@ answers_keeps s asks old given new none = absurd none
 still_keeps : (v w x : DeskView) → w ≡ x → x.pass ≡ v.pass → KeepsOn v w
 still_keeps v w x is same = same_keeps v.pass w.pass (ap (λ (d : DeskView). d.pass) is ∙ same)
 
-may_wait_keeps : (s : Store) (id : ℤ) (asks : Ask) (v w : DeskView) → MayWait s id asks v w → KeepsOn v w
+may_wait_keeps : (s : Store) (id : ℤ) (asks : RequestBody) (v w : DeskView) → MayWait s id asks v w → KeepsOn v w
 may_wait_keeps s id asks v w m = tries_keeps s asks v.pass m.outcome w.pass m.tries
 
 planned_keeps : (s : Store) (id : ℤ) (tx ran : Tx) (v w : DeskView) → (HasNoPlan s id tx v w ⊎ MayWait s id (ask.Do ran) v w) → KeepsOn v w
@@ -114,10 +114,10 @@ runs_keeps s id numbers (Some tx) v w runs = either (nat_le (length numbers) (fi
     either true r = planned_keeps s id r.copy (with_numbers numbers r.copy) v w r.takes
     either false is = still_keeps v w (tells v (answer_told id (answer.Found false) ∷ [])) is refl
 
-answered_keeps : (s : Store) (id : ℤ) (asks : Ask) (v w : DeskView) → IsAnsweredAtOnce s id asks v w → KeepsOn v w
+answered_keeps : (s : Store) (id : ℤ) (asks : RequestBody) (v w : DeskView) → IsAnsweredAtOnce s id asks v w → KeepsOn v w
 answered_keeps s id asks v w m = answers_keeps s asks v.pass m.given w.pass m.answers
 
-takes_keeps : (s : Store) (id : ℤ) (asks : Ask) (v w : DeskView) → Takes s id asks v w → KeepsOn v w
+takes_keeps : (s : Store) (id : ℤ) (asks : RequestBody) (v w : DeskView) → Takes s id asks v w → KeepsOn v w
 takes_keeps s id (ask.Do tx) v w t = planned_keeps s id tx tx v w t
 takes_keeps s id (ask.Changed reads) v w t = may_wait_keeps s id (ask.Changed reads) v w t
 takes_keeps s id (ask.Cancel other) v w t = still_keeps v w (cancelled id other v) t (cancelled_pass id other v)

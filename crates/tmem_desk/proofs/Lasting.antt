@@ -27,8 +27,8 @@ use Rattle.tmem_seats.specs.Histories.{state_after_history, marked}
 use Rattle.tmem_front.specs.Settling.{SettlesPass, KnowsMore, SeesMore, IsNumberedWithin}
 use Rattle.tmem_requests.specs.declared.answer.Answer.{Answer}
 use Rattle.tmem_requests.specs.declared.answer.Answer.TheVariants as answer
-use Rattle.tmem_requests.specs.declared.request.Ask.{Ask}
-use Rattle.tmem_requests.specs.declared.request.Ask.TheVariants as ask
+use Rattle.tmem_requests.specs.declared.request.RequestBody.{RequestBody}
+use Rattle.tmem_requests.specs.declared.request.RequestBody.TheVariants as ask
 use Rattle.tmem_desk.specs.Asking.{Store, SettlesTx, IsNoPlan, IsPlanOf, TellsEnding, TellsResult, EndsTold, SeesValues, Tries, AnswersAsk}
 use Rattle.tmem_desk.specs.Desks.{DeskView}
 use Rattle.tmem_desk.specs.Durable.{IsAmong, TellsAmong}
@@ -36,7 +36,7 @@ use Rattle.tmem_copies.specs.Leading.{first_puts}
 use Rattle.tmem_copies.specs.Numbering.{with_numbers}
 use Rattle.tmem_desk.specs.Keeping.{kept_under, with_kept}
 use Rattle.tmem_desk.specs.Serving.{Takes, TakesLine, TakesText, TakesShort, TakesLast, MayWait, HasNoPlan, IsAnsweredAtOnce, Runs, RunsCopy, kept_as, RefusesLine, RefusesLong, Round, TriesNext, TriesFirst, Wakes, Finishes, tells, tried, tried_again, by, one_line_more, waits, without, cancelled, closed, with_closed}
-use Rattle.tmem_desk.specs.Steps.{Steps, Repeats}
+use Rattle.tmem_desk.specs.Steps.{LabelledSteps, Repeats}
 use Rattle.tmem_desk.specs.Told.{answer_told, refused}
 use Rattle.tmem_desk.specs.declared.told.Told.{Told}
 use Rattle.tmem_desk.specs.declared.told.Told.TheVariants as told
@@ -194,7 +194,7 @@ ends_told s tx settled given old new so =
 sees_values : (s : Store) (vars : List ℕ) (number : ℕ) (values : List (ℕ × ℤ)) (old new : PassRoleView) → SeesValues s vars old number values new → Goes s old new × (number ≤ reached s new)
 sees_values s vars number values old new so = (knows_reach s old new so.knows, omega (arith, so.counts))
 
-tries_told : (s : Store) (asks : Ask) (old : PassRoleView) (outcome : Option Answer) (new : PassRoleView) → Tries s asks old outcome new → Goes s old new × IfSome outcome (IsAmong (reached s new))
+tries_told : (s : Store) (asks : RequestBody) (old : PassRoleView) (outcome : Option Answer) (new : PassRoleView) → Tries s asks old outcome new → Goes s old new × IfSome outcome (IsAmong (reached s new))
 tries_told s (ask.Do tx) old None new so = (at_last_reach s tx Retry old new so, tt)
 tries_told s (ask.Do tx) old (Some given) new so = ends_told s tx so.0 given old new so.2
 tries_told s (ask.Changed reads) old None new so = ((sees_values s _ so.0 _ old new so.1).0, tt)
@@ -207,7 +207,7 @@ result_reached : (s : Store) (attempt : Attempt) (result : Result Settled Fault)
 result_reached s attempt (Ok settled) old mid new so le = within_more settled (reached s mid) (reached s new) le (settled_reached s attempt settled old mid so)
 result_reached s attempt (Err f) old mid new so le = tt
 
-answers_told : (s : Store) (asks : Ask) (old : PassRoleView) (given : Answer) (new : PassRoleView) → AnswersAsk s asks old given new → Goes s old new × IsAmong (reached s new) given
+answers_told : (s : Store) (asks : RequestBody) (old : PassRoleView) (given : Answer) (new : PassRoleView) → AnswersAsk s asks old given new → Goes s old new × IsAmong (reached s new) given
 answers_told s (ask.Try tx) old given new so = ⊎_elim
     (λ (no : (cause : Cause) × (given ≡ answer.Fault (fault.BadPlan cause)) × IsNoPlan s tx cause × (new ≡ old)).
     (omega (arith, ap (λ (p : PassRoleView). reached s p) no.3), subst (λ (g : Answer). IsAmong (reached s new) g) (sym no.1) tt))
@@ -233,7 +233,7 @@ answers_told s asks old given new none = absurd none
 
 -- ---- step by step
 
-tried_told : (s : Store) (id : ℤ) (asks : Ask) (outcome : Option Answer) (v : DeskView) (pass : PassRoleView) → IsTold s v → Goes s v.pass pass → IfSome outcome (IsAmong (reached s pass)) → IsTold s (tried id asks outcome (by v pass))
+tried_told : (s : Store) (id : ℤ) (asks : RequestBody) (outcome : Option Answer) (v : DeskView) (pass : PassRoleView) → IsTold s v → Goes s v.pass pass → IfSome outcome (IsAmong (reached s pass)) → IsTold s (tried id asks outcome (by v pass))
 tried_told s id asks (Some given) v pass is le among = told_and (reached s v.pass) (reached s pass) v.told _ le is (one_told (reached s pass) id given among)
 tried_told s id asks None v pass is le among = either (nat_lt (length v.waiting) 1024)
   where
@@ -245,12 +245,12 @@ tried_told s id asks None v pass is le among = either (nat_lt (length v.waiting)
 plainly : (s : Store) (v : DeskView) (more : List Told) → IsTold s v → All (TellsAmong (reached s v.pass)) more → IsTold s (tells v more)
 plainly s v more is one = told_and (reached s v.pass) (reached s v.pass) v.told more (omega arith) is one
 
-may_wait_told : (s : Store) (id : ℤ) (asks : Ask) (v w : DeskView) → IsTold s v → MayWait s id asks v w → IsTold s w
+may_wait_told : (s : Store) (id : ℤ) (asks : RequestBody) (v w : DeskView) → IsTold s v → MayWait s id asks v w → IsTold s w
 may_wait_told s id asks v w is m =
     let so = tries_told s asks v.pass m.outcome w.pass m.tries in
     subst (IsTold s) (sym m.is) (tried_told s id asks m.outcome v w.pass is so.0 so.1)
 
-answered_told : (s : Store) (id : ℤ) (asks : Ask) (v w : DeskView) → IsTold s v → IsAnsweredAtOnce s id asks v w → IsTold s w
+answered_told : (s : Store) (id : ℤ) (asks : RequestBody) (v w : DeskView) → IsTold s v → IsAnsweredAtOnce s id asks v w → IsTold s w
 answered_told s id asks v w is m =
     let so = answers_told s asks v.pass m.given w.pass m.answers in
     subst (IsTold s) (sym m.is) (told_and (reached s v.pass) (reached s w.pass) v.told _ so.0 is (one_told (reached s w.pass) id m.given so.1))
@@ -289,7 +289,7 @@ cancelled_told s id other v is = either (waits other v.waiting)
     either true = plainly s v _ is both
     either false = plainly s v _ is (one_told (reached s v.pass) id (answer.Found false) tt)
 
-takes_told : (s : Store) (id : ℤ) (asks : Ask) (v w : DeskView) → IsTold s v → Takes s id asks v w → IsTold s w
+takes_told : (s : Store) (id : ℤ) (asks : RequestBody) (v w : DeskView) → IsTold s v → Takes s id asks v w → IsTold s w
 takes_told s id (ask.Do tx) v w is t = planned_told s id tx tx v w is t
 takes_told s id (ask.Changed reads) v w is t = may_wait_told s id (ask.Changed reads) v w is t
 takes_told s id (ask.Cancel other) v w is t = subst (IsTold s) (sym t) (cancelled_told s id other v is)
@@ -321,7 +321,7 @@ text_told s text v w is t = either (nat_lt 65536 (length text)) t
     either true r = subst (IsTold s) (sym r.is) (refused_told s v (refused (one_line_more v).lines r.refusal) tt is)
     either false t = short_told s text v w is t
 
-pub texts_told : (s : Store) (texts : List (List ℕ)) (v w : DeskView) → IsTold s v → Steps (TakesText s) texts v w → IsTold s w
+pub texts_told : (s : Store) (texts : List (List ℕ)) (v w : DeskView) → IsTold s v → LabelledSteps (TakesText s) texts v w → IsTold s w
 texts_told s [] v w is same = subst (IsTold s) (sym same) is
 texts_told s (text ∷ texts) v w is steps = texts_told s texts steps.0 w (text_told s text v steps.0 is steps.1) steps.2
 
@@ -364,7 +364,7 @@ nothing_told s v none = subst (All (TellsAmong (reached s v.pass))) (sym none) (
 pub last_taken_told : (s : Store) (text : List ℕ) (v w : DeskView) → IsTold s v → TakesLast s text v w → IsTold s w
 last_taken_told s text v w is = ⊎_elim (λ (none : (text ≡ []) × (w ≡ v)). subst (IsTold s) (sym none.1) is) (λ (t : (text ≢ []) × TakesText s text v w). text_told s text v w is t.1)
 
-closed_among : (n : ℕ) (all : List (ℤ × Ask)) → All (TellsAmong n) (closed all)
+closed_among : (n : ℕ) (all : List (ℤ × RequestBody)) → All (TellsAmong n) (closed all)
 closed_among n [] = All-nil (TellsAmong n)
 closed_among n (one ∷ all) = All-cons (TellsAmong n) (answer_told one.0 (answer.Fault fault.Closed)) (closed all) tt (closed_among n all)
 

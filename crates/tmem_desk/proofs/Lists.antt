@@ -9,8 +9,8 @@ use Rattle.std.proofs.lemmas.List.{map_push, length-map}
 use Rattle.tmem_fault.specs.declared.fault.Fault.TheVariants as fault
 use Rattle.tmem_tree.specs.declared.tx.Tx.{Tx}
 use Rattle.tmem_requests.specs.declared.answer.Answer.TheVariants as answer
-use Rattle.tmem_requests.specs.declared.request.Ask.{Ask}
-use Rattle.tmem_requests.specs.declared.request.Ask.TheVariants as ask
+use Rattle.tmem_requests.specs.declared.request.RequestBody.{RequestBody}
+use Rattle.tmem_requests.specs.declared.request.RequestBody.TheVariants as ask
 use Rattle.tmem_forms.specs.TxForms.{tx_form}
 use Rattle.tmem_copies.specs.Leading.{first_puts}
 use Rattle.tmem_copies.specs.Numbering.{with_numbers}
@@ -25,12 +25,12 @@ use Rattle.tmem_desk.proofs.Telling.{tells_tells}
 -- ---- those that wait
 
 -- one more waits
-pub waits_behind : {X : Type 0} (g : X → ℤ × Ask) (xs items : List X) (x : X) (v w : DeskView) → v.waiting ≡ map g xs → length xs < 1024 → items ≡ xs ++ x ∷ [] → w ≡ record v { waiting = map g items }
+pub waits_behind : {X : Type 0} (g : X → ℤ × RequestBody) (xs items : List X) (x : X) (v w : DeskView) → v.waiting ≡ map g xs → length xs < 1024 → items ≡ xs ++ x ∷ [] → w ≡ record v { waiting = map g items }
     → w ≡ tried (g x).0 (g x).1 None v
 waits_behind g xs items x v w all few pushed is = either (nat_lt (length v.waiting) 1024) refl
   where
     more : w ≡ record v { waiting = v.waiting ++ g x ∷ [] }
-    more = is ∙ ap (λ (ws : List (ℤ × Ask)). record v { waiting = ws }) (ap (map g) pushed ∙ (map_push g xs x ∙ ap (λ (ws : List (ℤ × Ask)). ws ++ g x ∷ []) (sym all)))
+    more = is ∙ ap (λ (ws : List (ℤ × RequestBody)). record v { waiting = ws }) (ap (map g) pushed ∙ (map_push g xs x ∙ ap (λ (ws : List (ℤ × RequestBody)). ws ++ g x ∷ []) (sym all)))
 
     long : length v.waiting ≡ length xs
     long = ap length all ∙ length-map xs g
@@ -41,7 +41,7 @@ waits_behind g xs items x v w all few pushed is = either (nat_lt (length v.waiti
     either false below = let same : length v.waiting ≡ length xs = long in absurd (grind (arith, nat_tests))
 
 -- as many wait as may
-pub waits_full : {X : Type 0} (g : X → ℤ × Ask) (xs : List X) (id : ℤ) (asks : Ask) (v w : DeskView) → v.waiting ≡ map g xs → 1024 ≤ length xs → w ≡ tells v (answer_told id (answer.Fault fault.Full) ∷ [])
+pub waits_full : {X : Type 0} (g : X → ℤ × RequestBody) (xs : List X) (id : ℤ) (asks : RequestBody) (v w : DeskView) → v.waiting ≡ map g xs → 1024 ≤ length xs → w ≡ tells v (answer_told id (answer.Fault fault.Full) ∷ [])
     → w ≡ tried id asks None v
 waits_full g xs id asks v w all many is = either (nat_lt (length v.waiting) 1024) refl
   where
@@ -54,7 +54,7 @@ waits_full g xs id asks v w all many is = either (nat_lt (length v.waiting) 1024
     either false below = is
 
 -- one is cancelled
-pub cancels_first : {X : Type 0} (g : X → ℤ × Ask) (id other : ℤ) (xs items : List X) (at : ℕ) (v mid w : DeskView) → v.waiting ≡ map g xs → position (λ (x : X). int_eq (g x).0 other) xs ≡ Some at
+pub cancels_first : {X : Type 0} (g : X → ℤ × RequestBody) (id other : ℤ) (xs items : List X) (at : ℕ) (v mid w : DeskView) → v.waiting ≡ map g xs → position (λ (x : X). int_eq (g x).0 other) xs ≡ Some at
     → items ≡ remove xs at → mid ≡ tells (record v { waiting = map g items }) (answer_told other answer.Cancelled ∷ []) → w ≡ tells mid (answer_told id (answer.Found true) ∷ []) → w ≡ cancelled id other v
 cancels_first {X} g id other xs items at v mid w all found removed is more =
     let place = found_at (λ (x : X). int_eq (g x).0 other) xs at found in
@@ -64,13 +64,13 @@ cancels_first {X} g id other xs items at v mid w all found removed is more =
     let both : w ≡ tells (record v { waiting = without other v.waiting }) (answer_told other answer.Cancelled ∷ answer_told id (answer.Found true) ∷ []) =
     more ∙ (ap (λ (d : DeskView). tells d (answer_told id (answer.Found true) ∷ [])) is
     ∙ (tells_tells (record v { waiting = map g items }) (answer_told other answer.Cancelled ∷ []) (answer_told id (answer.Found true) ∷ [])
-    ∙ ap (λ (ws : List (ℤ × Ask)). tells (record v { waiting = ws }) (answer_told other answer.Cancelled ∷ answer_told id (answer.Found true) ∷ [])) rest)) in
+    ∙ ap (λ (ws : List (ℤ × RequestBody)). tells (record v { waiting = ws }) (answer_told other answer.Cancelled ∷ answer_told id (answer.Found true) ∷ [])) rest)) in
     subst
     (λ (b : Bool). w ≡ (if b then tells (record v { waiting = without other v.waiting }) (answer_told other answer.Cancelled ∷ answer_told id (answer.Found true) ∷ []) else tells v (answer_told id (answer.Found false) ∷ [])))
     (sym some) both
 
 -- none of that id waits
-pub cancels_none : {X : Type 0} (g : X → ℤ × Ask) (id other : ℤ) (xs : List X) (v w : DeskView) → v.waiting ≡ map g xs → position (λ (x : X). int_eq (g x).0 other) xs ≡ None
+pub cancels_none : {X : Type 0} (g : X → ℤ × RequestBody) (id other : ℤ) (xs : List X) (v w : DeskView) → v.waiting ≡ map g xs → position (λ (x : X). int_eq (g x).0 other) xs ≡ None
     → w ≡ tells v (answer_told id (answer.Found false) ∷ []) → w ≡ cancelled id other v
 cancels_none {X} g id other xs v w all none is =
     let no : waits other v.waiting ≡ false = ap (waits other) all ∙ none_waits g other xs (found_none (λ (x : X). int_eq (g x).0 other) xs none) in
@@ -79,21 +79,21 @@ cancels_none {X} g id other xs v w all none is =
     (sym no) is
 
 -- the same where ids are read back from what is passed
-pub cancels_none_at : {X : Type 0} (g : X → ℤ × Ask) (id other id' other' : ℤ) (xs : List X) (v w : DeskView) → id' ≡ id → other' ≡ other → v.waiting ≡ map g xs
+pub cancels_none_at : {X : Type 0} (g : X → ℤ × RequestBody) (id other id' other' : ℤ) (xs : List X) (v w : DeskView) → id' ≡ id → other' ≡ other → v.waiting ≡ map g xs
     → position (λ (x : X). int_eq (g x).0 other') xs ≡ None → w ≡ tells v (answer_told id' (answer.Found false) ∷ []) → w ≡ cancelled id other v
 cancels_none_at {X} g id other id' other' xs v w id_is other_is all none is =
     subst (λ (o : ℤ). w ≡ cancelled id o v) other_is (subst (λ (i : ℤ). w ≡ cancelled i other' v) id_is (cancels_none g id' other' xs v w all none is))
 
-pub waits_full_at : {X : Type 0} (g : X → ℤ × Ask) (xs : List X) (id id' : ℤ) (asks : Ask) (v w : DeskView) → id' ≡ id → v.waiting ≡ map g xs → 1024 ≤ length xs
+pub waits_full_at : {X : Type 0} (g : X → ℤ × RequestBody) (xs : List X) (id id' : ℤ) (asks : RequestBody) (v w : DeskView) → id' ≡ id → v.waiting ≡ map g xs → 1024 ≤ length xs
     → w ≡ tells v (answer_told id' (answer.Fault fault.Full) ∷ []) → w ≡ tried id asks None v
 waits_full_at g xs id id' asks v w id_is all many is = subst (λ (i : ℤ). w ≡ tried i asks None v) id_is (waits_full g xs id' asks v w all many is)
 
-pub waits_behind_at : {X : Type 0} (g : X → ℤ × Ask) (xs items : List X) (x : X) (id : ℤ) (asks : Ask) (v w : DeskView) → (g x).0 ≡ id → (g x).1 ≡ asks → v.waiting ≡ map g xs → length xs < 1024
+pub waits_behind_at : {X : Type 0} (g : X → ℤ × RequestBody) (xs items : List X) (x : X) (id : ℤ) (asks : RequestBody) (v w : DeskView) → (g x).0 ≡ id → (g x).1 ≡ asks → v.waiting ≡ map g xs → length xs < 1024
     → items ≡ xs ++ x ∷ [] → w ≡ record v { waiting = map g items } → w ≡ tried id asks None v
 waits_behind_at g xs items x id asks v w id_is asks_is all few pushed is =
-    subst (λ (a : Ask). w ≡ tried id a None v) asks_is (subst (λ (i : ℤ). w ≡ tried i (g x).1 None v) id_is (waits_behind g xs items x v w all few pushed is))
+    subst (λ (a : RequestBody). w ≡ tried id a None v) asks_is (subst (λ (i : ℤ). w ≡ tried i (g x).1 None v) id_is (waits_behind g xs items x v w all few pushed is))
 
-pub cancels_first_at : {X : Type 0} (g : X → ℤ × Ask) (id other id' other' : ℤ) (xs items : List X) (at : ℕ) (v mid w : DeskView) → id' ≡ id → other' ≡ other → v.waiting ≡ map g xs
+pub cancels_first_at : {X : Type 0} (g : X → ℤ × RequestBody) (id other id' other' : ℤ) (xs items : List X) (at : ℕ) (v mid w : DeskView) → id' ≡ id → other' ≡ other → v.waiting ≡ map g xs
     → position (λ (x : X). int_eq (g x).0 other) xs ≡ Some at → items ≡ remove xs at → mid ≡ tells (record v { waiting = map g items }) (answer_told other' answer.Cancelled ∷ [])
     → w ≡ tells mid (answer_told id' (answer.Found true) ∷ []) → w ≡ cancelled id other v
 cancels_first_at g id other id' other' xs items at v mid w id_is other_is all found removed is more =

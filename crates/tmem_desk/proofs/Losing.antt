@@ -14,17 +14,17 @@ use Rattle.tmem_lines.specs.Views.{LinesView}
 use Rattle.tmem_spine.specs.Views.{PassRoleView}
 use Rattle.tmem_requests.specs.declared.answer.Answer.{Answer}
 use Rattle.tmem_requests.specs.declared.answer.Answer.TheVariants as answer
-use Rattle.tmem_requests.specs.declared.request.Ask.{Ask}
+use Rattle.tmem_requests.specs.declared.request.RequestBody.{RequestBody}
 use Rattle.tmem_desk.specs.Asking.{Store}
 use Rattle.tmem_desk.specs.Desks.{DeskView}
 use Rattle.tmem_desk.specs.Due.{LineCounts, LinesCount, LosesNone, KeepsDue, answers_any_of, due_of, waits_of}
 use Rattle.tmem_desk.specs.Failing.{AnswersLine, AnswersOnly, IsLast, IsUnprinted, IsMemoryOrOutput, OrMemory, PassesAll, PassesLine, RanNone, TakesPart, TakesRest, TellsAll, TellsEach}
 use Rattle.tmem_desk.specs.Serving.{IsAskedOf, RefusesLine, RefusesLong, Splits, TakesAll, TakesLast, TakesLine, TakesText, TakesShort, Wakes, by, one_line_more, tells, with_closed}
-use Rattle.tmem_desk.specs.Steps.{Steps}
+use Rattle.tmem_desk.specs.Steps.{LabelledSteps}
 use Rattle.tmem_desk.specs.Told.{TellsOnly, answer_told, failed, told_lines}
-use Rattle.tmem_desk.specs.declared.failure.Failure.{Failure}
-use Rattle.tmem_desk.specs.declared.failure.Failure.TheVariants.{Output}
-use Rattle.tmem_desk.specs.declared.failure.Failure.TheVariants as failure
+use Rattle.tmem_desk.specs.declared.failure.DeskFailure.{DeskFailure}
+use Rattle.tmem_desk.specs.declared.failure.DeskFailure.TheVariants.{Output}
+use Rattle.tmem_desk.specs.declared.failure.DeskFailure.TheVariants as failure
 use Rattle.tmem_desk.specs.declared.told.Told.{Told}
 use Rattle.tmem_desk.proofs.Counted.{closed_due, failed_count, long_due, refused_due, taken_due, tells_one, waits_again, woken_due}
 use Rattle.tmem_desk.proofs.Ends.{tells_only}
@@ -109,7 +109,7 @@ text_due among others s text v w n t counts = either (nat_lt 65536 (length text)
 pub text_loses : (s : Store) (text : List ℕ) (v w : DeskView) → TakesText s text v w → LosesNone s (text ∷ []) v w
 text_loses s text v w t among others n c = omega (arith, text_due among others s text v w c.0 t c.2, c.3, c.4)
 
-pub steps_lose : (s : Store) (texts : List (List ℕ)) (v w : DeskView) → Steps (TakesText s) texts v w → LosesNone s texts v w
+pub steps_lose : (s : Store) (texts : List (List ℕ)) (v w : DeskView) → LabelledSteps (TakesText s) texts v w → LosesNone s texts v w
 steps_lose s [] v w same among others n c = omega (arith, ap (due_of among others) same, c)
 steps_lose s (text ∷ texts) v w steps among others n c =
     omega (arith, text_due among others s text v steps.0 c.0 steps.1 c.2, steps_lose s texts steps.0 w steps.2 among others c.1 c.3, c.4)
@@ -142,19 +142,19 @@ answers_only id id' f v mid w (Err g) same (inr kept) (inr told) =
     })
 
 -- the line is answered that it is
-pub answers_line : (s : Store) (text : List ℕ) (id id' : ℤ) (asks : Ask) (v w : DeskView) → id' ≡ id → IsAskedOf s id asks text → AnswersOnly id' (one_line_more v) w → AnswersLine s text v w
+pub answers_line : (s : Store) (text : List ℕ) (id id' : ℤ) (asks : RequestBody) (v w : DeskView) → id' ≡ id → IsAskedOf s id asks text → AnswersOnly id' (one_line_more v) w → AnswersLine s text v w
 answers_line s text id id' asks v w same is only =
     record { id = id; ask = asks; asked = is; only = subst (λ (i : ℤ). AnswersOnly i (one_line_more v) w) same only }
 
 -- the first that waits waits on, behind the others
-pub waits_behind : {X : Type 0} (g : X → ℤ × Ask) (x : X) (xs items behind : List X) (v w : DeskView) (pass : PassRoleView) → v.waiting ≡ map g xs → xs ≡ x ∷ items
+pub waits_behind : {X : Type 0} (g : X → ℤ × RequestBody) (x : X) (xs items behind : List X) (v w : DeskView) (pass : PassRoleView) → v.waiting ≡ map g xs → xs ≡ x ∷ items
     → behind ≡ items ++ x ∷ [] → w ≡ record v { pass = pass; waiting = map g behind } → KeepsDue v w
 waits_behind g x xs items behind v w pass all popped pushed is among others =
     let first : v.waiting ≡ g x ∷ map g items = all ∙ ap (map g) popped in
-    let last : w ≡ record v { pass = pass; waiting = map g items ++ g x ∷ [] } = is ∙ ap (λ (ws : List (ℤ × Ask)). record v { pass = pass; waiting = ws }) (ap (map g) pushed ∙ map_push g items x) in
+    let last : w ≡ record v { pass = pass; waiting = map g items ++ g x ∷ [] } = is ∙ ap (λ (ws : List (ℤ × RequestBody)). record v { pass = pass; waiting = ws }) (ap (map g) pushed ∙ map_push g items x) in
     ap (due_of among others) last
     ∙ (waits_again among others (g x).0 (g x).1 (map g items) (count_by (answers_any_of among others) v.told)
-    ∙ ap (λ (ws : List (ℤ × Ask)). count_by (waits_of among) ws + count_by (answers_any_of among others) v.told) (sym first))
+    ∙ ap (λ (ws : List (ℤ × RequestBody)). count_by (waits_of among) ws + count_by (answers_any_of among others) v.told) (sym first))
 
 pub finished_keeps_due : (s : Store) (v mid w : DeskView) → Wakes s v mid → w ≡ by mid w.pass → KeepsDue v w
 finished_keeps_due s v mid w wakes is among others = ap (due_of among others) is ∙ woken_due among others s v mid wakes
@@ -245,7 +245,7 @@ split_then s text held held' v mid so ys sp = record {
 }
 
 -- where a part of a text came before
-pub part_then : (s : Store) (text : List ℕ) (held held' : LinesView) (Ran : DeskView → Type 0) (v mid : DeskView) (prints : List ℕ → Type 0) (e : Failure) (so : TakesPart s text held v mid)
+pub part_then : (s : Store) (text : List ℕ) (held held' : LinesView) (Ran : DeskView → Type 0) (v mid : DeskView) (prints : List ℕ → Type 0) (e : DeskFailure) (so : TakesPart s text held v mid)
     → TellsAll s (λ (ys : List (List ℕ)). Splits so.rest ys held') RanNone mid prints e → TellsAll s (λ (xs : List (List ℕ)). Splits text xs held') Ran v prints e
 part_then s text held held' Ran v mid prints Output so (inl none) = absurd none.1
 part_then s text held held' Ran v mid prints Output so (inr why) = inr why
@@ -264,7 +264,7 @@ none_split (y ∷ ys) rest is =
     absurd (omega (arith, long, head, last, none))
 
 -- where the rest came before
-pub rest_then : (s : Store) (text : List ℕ) (held : LinesView) (Ran : DeskView → Type 0) (v mid : DeskView) (prints : List ℕ → Type 0) (e : Failure) → TakesRest s text v mid
+pub rest_then : (s : Store) (text : List ℕ) (held : LinesView) (Ran : DeskView → Type 0) (v mid : DeskView) (prints : List ℕ → Type 0) (e : DeskFailure) → TakesRest s text v mid
     → TellsAll s (λ (ys : List (List ℕ)). Splits [] ys held) RanNone mid prints e → TellsAll s (IsLast text) Ran v prints e
 rest_then s text held Ran v mid prints Output so (inl none) = absurd none.1
 rest_then s text held Ran v mid prints Output so (inr why) = inr why
@@ -284,34 +284,34 @@ rest_then s text held Ran v mid prints (failure.Fault f) so (inr t) =
     )
 
 -- all ran, and what is told could not be printed
-unprinted_all : (s : Store) (Are : List (List ℕ) → Type 0) (Ran : DeskView → Type 0) (v ran : DeskView) (prints : List ℕ → Type 0) (e : Failure) → Ran ran → IsUnprinted prints ran.told e → TellsAll s Are Ran v prints e
+unprinted_all : (s : Store) (Are : List (List ℕ) → Type 0) (Ran : DeskView → Type 0) (v ran : DeskView) (prints : List ℕ → Type 0) (e : DeskFailure) → Ran ran → IsUnprinted prints ran.told e → TellsAll s Are Ran v prints e
 unprinted_all s Are Ran v ran prints Output runs is = inl (ran, runs, is)
 unprinted_all s Are Ran v ran prints (failure.Fault f) runs is = inl is
 
 -- why the store cannot go on could not be printed
-pub unprinted_why : (fault : Fault) (all : List Told) (prints : List ℕ → Type 0) (e : Failure) → All (TellsOnly fault) all → IsUnprinted prints all e → IsMemoryOrOutput prints e
+pub unprinted_why : (fault : Fault) (all : List Told) (prints : List ℕ → Type 0) (e : DeskFailure) → All (TellsOnly fault) all → IsUnprinted prints all e → IsMemoryOrOutput prints e
 unprinted_why fault all prints Output only is = (fault, all, only, is)
 unprinted_why fault all prints (failure.Fault f) only is = is
 
-pub wanting_all : (s : Store) (Are : List (List ℕ) → Type 0) (Ran : DeskView → Type 0) (v : DeskView) (prints : List ℕ → Type 0) (e : Failure) → IsMemoryOrOutput prints e → TellsAll s Are Ran v prints e
+pub wanting_all : (s : Store) (Are : List (List ℕ) → Type 0) (Ran : DeskView → Type 0) (v : DeskView) (prints : List ℕ → Type 0) (e : DeskFailure) → IsMemoryOrOutput prints e → TellsAll s Are Ran v prints e
 wanting_all s Are Ran v prints Output is = inr is
 wanting_all s Are Ran v prints (failure.Fault f) is = inl is
 
 -- a line that came behind the fault
-pub passed_over : (s : Store) (text : List ℕ) (id id' : ℤ) (asks : Ask) (given : Answer) (v w : DeskView) → id' ≡ id → IsAskedOf s id asks text → w ≡ tells (one_line_more v) (answer_told id' given ∷ []) → AnswersLine s text v w
+pub passed_over : (s : Store) (text : List ℕ) (id id' : ℤ) (asks : RequestBody) (given : Answer) (v w : DeskView) → id' ≡ id → IsAskedOf s id asks text → w ≡ tells (one_line_more v) (answer_told id' given ∷ []) → AnswersLine s text v w
 passed_over s text id id' asks given v w same asked is =
     let told : w ≡ tells (by (one_line_more v) v.pass) (answer_told id' given ∷ []) = is in
     let pass : v.pass ≡ w.pass = sym (ap (λ (d : DeskView). d.pass) is) in
     answers_line s text id id' asks v w same asked (record { given = given; is = subst (λ (p : PassRoleView). w ≡ tells (by (one_line_more v) p) (answer_told id' given ∷ [])) pass told })
 
-pub unprinted_texts : {X : Type 0} (Is : List ℕ → Type 0) (s : Store) (Are : List ℕ → List (List ℕ) → Type 0) (Ran : List ℕ → DeskView → Type 0) (v ran : DeskView) (prints : List ℕ → Type 0) (r : Result X Failure)
+pub unprinted_texts : {X : Type 0} (Is : List ℕ → Type 0) (s : Store) (Are : List ℕ → List (List ℕ) → Type 0) (Ran : List ℕ → DeskView → Type 0) (v ran : DeskView) (prints : List ℕ → Type 0) (r : Result X DeskFailure)
     → ((text : List ℕ) → Is text → Ran text ran) → IfErr r (IsUnprinted prints ran.told)
     → IfErr r (λ e. (text : List ℕ) → Is text → TellsAll s (Are text) (Ran text) v prints e)
 unprinted_texts Is s Are Ran v ran prints (Ok x) runs is = tt
 unprinted_texts Is s Are Ran v ran prints (Err e) runs is = λ text so. unprinted_all s (Are text) (Ran text) v ran prints e (runs text so) is
 
 -- a piece whose lines met a fault
-pub piece_fails : {X : Type 0} {Is : List ℕ → Type 0} (r : Result X Failure) (s : Store) (piece : List ℕ) (held held' : LinesView) (Ran : List ℕ → DeskView → Type 0) (v mid : DeskView) (prints : List ℕ → Type 0) (f : Fault)
+pub piece_fails : {X : Type 0} {Is : List ℕ → Type 0} (r : Result X DeskFailure) (s : Store) (piece : List ℕ) (held held' : LinesView) (Ran : List ℕ → DeskView → Type 0) (v mid : DeskView) (prints : List ℕ → Type 0) (f : Fault)
     → ((text : List ℕ) → Is text → OrMemory f (TakesPart s (text ++ piece) held v mid)) → (f ≡ Memory → IfErr r (IsMemoryOrOutput prints))
     → IfErr r (λ e. (text : List ℕ) → HoldsRestOf held text → TellsAll s (λ (ys : List (List ℕ)). Splits text ys held') RanNone mid prints e)
     → IfErr r (λ e. (text : List ℕ) → Is text → TellsAll s (λ (xs : List (List ℕ)). Splits (text ++ piece) xs held') (Ran text) v prints e)
@@ -324,7 +324,7 @@ piece_fails (Err e) s piece held held' Ran v mid prints f before wanting told =
     (before text is)
 
 -- the end, where that met one
-pub end_fails : {X : Type 0} {Is : List ℕ → Type 0} (r : Result X Failure) (s : Store) (held held' : LinesView) (Ran : List ℕ → DeskView → Type 0) (v mid : DeskView) (prints : List ℕ → Type 0) (f : Fault)
+pub end_fails : {X : Type 0} {Is : List ℕ → Type 0} (r : Result X DeskFailure) (s : Store) (held held' : LinesView) (Ran : List ℕ → DeskView → Type 0) (v mid : DeskView) (prints : List ℕ → Type 0) (f : Fault)
     → ((text : List ℕ) → Is text → OrMemory f (TakesRest s text v mid)) → HoldsRestOf held [] → (f ≡ Memory → IfErr r (IsMemoryOrOutput prints))
     → IfErr r (λ e. (text : List ℕ) → HoldsRestOf held text → TellsAll s (λ (ys : List (List ℕ)). Splits text ys held') RanNone mid prints e)
     → IfErr r (λ e. (text : List ℕ) → Is text → TellsAll s (IsLast text) (Ran text) v prints e)

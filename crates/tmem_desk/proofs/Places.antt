@@ -6,14 +6,14 @@ use Rattle.std.specs.List.{position_or_len, remove}
 use Rattle.std.specs.Option.{option_map}
 use Rattle.std.specs.Ordering.{int_eq}
 use Rattle.tmem_tree.specs.declared.tx.Tx.{Tx}
-use Rattle.tmem_requests.specs.declared.request.Ask.{Ask}
+use Rattle.tmem_requests.specs.declared.request.RequestBody.{RequestBody}
 use Rattle.tmem_desk.specs.Keeping.{is_under, kept_under, with_kept}
 use Rattle.tmem_desk.specs.Serving.{waits, without}
 
 -- ---- those that wait
 
 -- where none of this id waits
-pub none_waits : {X : Type 0} (g : X → ℤ × Ask) (id : ℤ) (xs : List X) → ¬ (position_or_len (λ (x : X). int_eq (g x).0 id) xs < length xs) → waits id (map g xs) ≡ false
+pub none_waits : {X : Type 0} (g : X → ℤ × RequestBody) (id : ℤ) (xs : List X) → ¬ (position_or_len (λ (x : X). int_eq (g x).0 id) xs < length xs) → waits id (map g xs) ≡ false
 none_waits g id [] none = refl
 none_waits {X} g id (x ∷ xs) none = either (int_eq (g x).0 id) none (none_waits g id xs)
   where
@@ -25,7 +25,7 @@ none_waits {X} g id (x ∷ xs) none = either (int_eq (g x).0 id) none (none_wait
     either false short later = later (λ below. short (omega arith))
 
 -- the first of this id that waits
-pub first_waits : {X : Type 0} (g : X → ℤ × Ask) (id : ℤ) (xs : List X) → position_or_len (λ (x : X). int_eq (g x).0 id) xs < length xs → waits id (map g xs) ≡ true
+pub first_waits : {X : Type 0} (g : X → ℤ × RequestBody) (id : ℤ) (xs : List X) → position_or_len (λ (x : X). int_eq (g x).0 id) xs < length xs → waits id (map g xs) ≡ true
 first_waits g id [] below = absurd (omega arith)
 first_waits {X} g id (x ∷ xs) below = either (int_eq (g x).0 id) below (first_waits g id xs)
   where
@@ -37,7 +37,7 @@ first_waits {X} g id (x ∷ xs) below = either (int_eq (g x).0 id) below (first_
     either false at later = later (omega arith)
 
 -- the others, without it
-pub without_first : {X : Type 0} (g : X → ℤ × Ask) (id : ℤ) (xs : List X) → position_or_len (λ (x : X). int_eq (g x).0 id) xs < length xs
+pub without_first : {X : Type 0} (g : X → ℤ × RequestBody) (id : ℤ) (xs : List X) → position_or_len (λ (x : X). int_eq (g x).0 id) xs < length xs
     → map g (remove xs (position_or_len (λ (x : X). int_eq (g x).0 id) xs)) ≡ without id (map g xs)
 without_first g id [] below = absurd (omega arith)
 without_first {X} g id (x ∷ xs) below = either (int_eq (g x).0 id) below (without_first g id xs)
@@ -50,7 +50,7 @@ without_first {X} g id (x ∷ xs) below = either (int_eq (g x).0 id) below (with
     either true at later = refl
     either false at later =
         let next : 1 + rest ≡ suc rest = omega arith in
-        rw next (ap (λ (ws : List (ℤ × Ask)). g x ∷ ws) (later (omega arith)))
+        rw next (ap (λ (ws : List (ℤ × RequestBody)). g x ∷ ws) (later (omega arith)))
 
 -- ---- those that are kept
 

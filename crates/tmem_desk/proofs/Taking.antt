@@ -9,8 +9,8 @@ use Rattle.tmem_lines.specs.Views.{LinesView}
 use Rattle.tmem_desk.specs.Asking.{Store}
 use Rattle.tmem_desk.specs.Desks.{DeskView}
 use Rattle.tmem_desk.specs.Serving.{TakesAll, TakesText, TakesShort, RefusesLong}
-use Rattle.tmem_desk.specs.Steps.{Steps}
-use Rattle.tmem_desk.proofs.StepLaws.{Steps-push}
+use Rattle.tmem_desk.specs.Steps.{LabelledSteps}
+use Rattle.tmem_desk.proofs.StepLaws.{LabelledSteps-push}
 
 -- some lines of a text were taken, and what is held is the rest
 pub record TakesSome (s : Store) (text : List ℕ) (held : LinesView) (v w : DeskView) : Type 0 where
@@ -19,7 +19,7 @@ pub record TakesSome (s : Store) (text : List ℕ) (held : LinesView) (v w : Des
   pub is : text ≡ flat_map line texts ++ rest
   pub unbroken : All IsUnbroken texts
   pub stands : HoldsRestOf held rest
-  pub takes : Steps (TakesText s) texts v w
+  pub takes : LabelledSteps (TakesText s) texts v w
 
 pub takes_none : (s : Store) (text : List ℕ) (held : LinesView) (v : DeskView) → HoldsRestOf held text → TakesSome s text held v v
 takes_none s text held v stands = record { texts = []; rest = text; is = refl; unbroken = All-nil IsUnbroken; stands = stands; takes = refl }
@@ -32,7 +32,7 @@ takes_more s text bytes held held' v mid w so cut taken = record {
   is = so.is ∙ (ap (λ (r : List ℕ). flat_map line so.texts ++ r) cut.is ∙ (sym (append_assoc (flat_map line so.texts) (line bytes) cut.rest) ∙ ap (λ (r : List ℕ). r ++ cut.rest) (flat_map_more line [] so.texts bytes)));
   unbroken = All-push IsUnbroken so.texts bytes so.unbroken cut.unbroken;
   stands = cut.stands;
-  takes = Steps-push (TakesText s) so.texts bytes v mid w so.takes taken;
+  takes = LabelledSteps-push (TakesText s) so.texts bytes v mid w so.takes taken;
 }
 
 -- all that have ended

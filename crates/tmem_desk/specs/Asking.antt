@@ -21,8 +21,8 @@ use Rattle.tmem_requests.specs.Attempts.{IsAttemptOf}
 use Rattle.tmem_requests.specs.declared.answer.Answer.{Answer}
 use Rattle.tmem_requests.specs.declared.answer.Answer.TheVariants as answer
 use Rattle.tmem_requests.specs.declared.proposal.Proposal.{Proposal}
-use Rattle.tmem_requests.specs.declared.request.Ask.{Ask}
-use Rattle.tmem_requests.specs.declared.request.Ask.TheVariants as ask
+use Rattle.tmem_requests.specs.declared.request.RequestBody.{RequestBody}
+use Rattle.tmem_requests.specs.declared.request.RequestBody.TheVariants as ask
 
 -- the store that is served: the count and the state that it was opened with, what its program brings, how many arguments its stored
 -- steps take, and the names of the invariants that always hold
@@ -104,7 +104,7 @@ pub record SettlesProposal (s : Store) (proposal : Proposal) (old : PassRoleView
   pub end : TellsEnd s attempt given new
 
 -- One attempt at what may wait: it is answered so, or has to wait (None).
-abbrev pub Tries : Store → Ask → PassRoleView → Option Answer → PassRoleView → Type 0
+abbrev pub Tries : Store → RequestBody → PassRoleView → Option Answer → PassRoleView → Type 0
 Tries s (ask.Do tx) old None new = SettlesTx s tx old Retry new
 Tries s (ask.Do tx) old (Some given) new = (settled : Settled) × (settled ≢ Retry) × EndsTold s tx old settled given new
 Tries s (ask.Changed reads) old None new = (number : ℕ) × SeesValues s (keys_of reads.items) old number reads.items new
@@ -112,7 +112,7 @@ Tries s (ask.Changed reads) old (Some (answer.Values number values)) new = SeesV
 Tries s _ old outcome new = ⊥
 
 -- What is answered at once.
-abbrev pub AnswersAsk : Store → Ask → PassRoleView → Answer → PassRoleView → Type 0
+abbrev pub AnswersAsk : Store → RequestBody → PassRoleView → Answer → PassRoleView → Type 0
 AnswersAsk s (ask.Try tx) old given new =
     ((cause : Cause) × (given ≡ answer.Fault (fault.BadPlan cause)) × IsNoPlan s tx cause × (new ≡ old))
     ⊎ ((settled : Settled) × EndsTold s tx old settled given new)

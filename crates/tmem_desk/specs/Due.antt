@@ -2,7 +2,7 @@
 use Rattle.std.specs.Prelude.{◌≡◌, ◌+◌, ℕ, ℤ, Bool, false, List, [], ◌∷◌, count_by, if◌then◌else◌}
 use Rattle.std.specs.Ordering.{int_eq}
 use Rattle.tmem_lines.specs.Lines.{IsLine}
-use Rattle.tmem_requests.specs.declared.request.Ask.{Ask}
+use Rattle.tmem_requests.specs.declared.request.RequestBody.{RequestBody}
 use Rattle.tmem_desk.specs.Asking.{Store}
 use Rattle.tmem_desk.specs.Desks.{DeskView}
 use Rattle.tmem_desk.specs.Serving.{IsAskedOf}
@@ -10,7 +10,7 @@ use Rattle.tmem_desk.specs.declared.told.Told.{Told}
 use Rattle.tmem_desk.specs.declared.told.Told.TheVariants as told
 
 -- whether it waits under one of these ids
-abbrev pub waits_of : (ℤ → Bool) → ℤ × Ask → Bool
+abbrev pub waits_of : (ℤ → Bool) → ℤ × RequestBody → Bool
 waits_of among w = among w.0
 
 -- whether it is the answer to a request of one of these ids; or tells that a line is no request, where such lines count too
@@ -40,8 +40,8 @@ one_for id other = if int_eq other id then 1 else 0
 
 -- A line counts once where it is a request of one of these ids; and where it is none, if such lines count too.
 pub record LineCounts (s : Store) (among : ℤ → Bool) (others : Bool) (text : List ℕ) (n : ℕ) : Type 0 where
-  pub request : (id : ℤ) (ask : Ask) → IsLine text → IsAskedOf s id ask text → n ≡ (if among id then 1 else 0)
-  pub none : ((id : ℤ) (ask : Ask) → IsLine text → ¬ IsAskedOf s id ask text) → n ≡ (if others then 1 else 0)
+  pub request : (id : ℤ) (ask : RequestBody) → IsLine text → IsAskedOf s id ask text → n ≡ (if among id then 1 else 0)
+  pub none : ((id : ℤ) (ask : RequestBody) → IsLine text → ¬ IsAskedOf s id ask text) → n ≡ (if others then 1 else 0)
 
 -- so many of these lines count
 abbrev pub LinesCount : Store → (ℤ → Bool) → Bool → List (List ℕ) → ℕ → Type 0

@@ -6,19 +6,19 @@ use Rattle.tmem_lines.specs.Lines.{line, IsUnbroken, HoldsRestOf}
 use Rattle.tmem_lines.specs.Views.{LinesView}
 use Rattle.tmem_spine.specs.Views.{PassRoleView}
 use Rattle.tmem_requests.specs.declared.answer.Answer.{Answer}
-use Rattle.tmem_requests.specs.declared.request.Ask.{Ask}
+use Rattle.tmem_requests.specs.declared.request.RequestBody.{RequestBody}
 use Rattle.tmem_desk.specs.Asking.{Store}
 use Rattle.tmem_desk.specs.Desks.{DeskView}
 use Rattle.tmem_desk.specs.Due.{LinesCount, LosesNone, answers_any_of, due_of}
 use Rattle.tmem_desk.specs.Serving.{IsAskedOf, RefusesLine, Splits, by, one_line_more, tells}
 use Rattle.tmem_desk.specs.Told.{answer_told, told_lines, TellsOnly}
-use Rattle.tmem_desk.specs.declared.failure.Failure.{Failure}
-use Rattle.tmem_desk.specs.declared.failure.Failure.TheVariants.{Output}
-use Rattle.tmem_desk.specs.declared.failure.Failure.TheVariants as failure
+use Rattle.tmem_desk.specs.declared.failure.DeskFailure.{DeskFailure}
+use Rattle.tmem_desk.specs.declared.failure.DeskFailure.TheVariants.{Output}
+use Rattle.tmem_desk.specs.declared.failure.DeskFailure.TheVariants as failure
 use Rattle.tmem_desk.specs.declared.told.Told.{Told}
 
 -- Where the store cannot go on, no request is told of anything but why: so nothing is told that may be lost.
-abbrev pub EndsBy : (List ℕ → Type 0) → Failure → Type 0
+abbrev pub EndsBy : (List ℕ → Type 0) → DeskFailure → Type 0
 EndsBy prints (failure.Fault fault) = (all : List Told) × All (TellsOnly fault) all × prints (told_lines all)
 EndsBy prints Output = Unit {0}
 
@@ -47,7 +47,7 @@ abbrev pub OutputFailed : (DeskView → Type 0) → (List ℕ → Type 0) → Ty
 OutputFailed Ran prints = ((ran : DeskView) × Ran ran × PrintsPart prints ran.told) ⊎ PrintsWhy prints
 
 -- Where the store cannot go on, each is told, of these lines: unless memory did not suffice, or the output failed.
-abbrev pub TellsAll : Store → (List (List ℕ) → Type 0) → (DeskView → Type 0) → DeskView → (List ℕ → Type 0) → Failure → Type 0
+abbrev pub TellsAll : Store → (List (List ℕ) → Type 0) → (DeskView → Type 0) → DeskView → (List ℕ → Type 0) → DeskFailure → Type 0
 TellsAll s AreLines Ran v prints (failure.Fault fault) = (fault ≡ Memory) ⊎ ((texts : List (List ℕ)) × AreLines texts × TellsEach s texts v fault prints)
 TellsAll s AreLines Ran v prints Output = OutputFailed Ran prints
 
@@ -62,12 +62,12 @@ abbrev pub OrMemory : Fault → Type 0 → Type 0
 OrMemory fault P = (fault ≡ Memory) ⊎ P
 
 -- what is told could not be printed: for want of memory, or the output failed
-abbrev pub IsUnprinted : (List ℕ → Type 0) → List Told → Failure → Type 0
+abbrev pub IsUnprinted : (List ℕ → Type 0) → List Told → DeskFailure → Type 0
 IsUnprinted prints all (failure.Fault fault) = fault ≡ Memory
 IsUnprinted prints all Output = PrintsPart prints all
 
 -- memory did not suffice to tell each why the store cannot go on, or the output failed
-abbrev pub IsMemoryOrOutput : (List ℕ → Type 0) → Failure → Type 0
+abbrev pub IsMemoryOrOutput : (List ℕ → Type 0) → DeskFailure → Type 0
 IsMemoryOrOutput prints (failure.Fault fault) = fault ≡ Memory
 IsMemoryOrOutput prints Output = PrintsWhy prints
 
@@ -83,7 +83,7 @@ pub record AnswersOnly (id : ℤ) (v w : DeskView) : Type 0 where
 -- the request is answered that a line is
 pub record AnswersLine (s : Store) (text : List ℕ) (v w : DeskView) : Type 0 where
   pub id : ℤ
-  pub ask : Ask
+  pub ask : RequestBody
   pub asked : IsAskedOf s id ask text
   pub only : AnswersOnly id (one_line_more v) w
 

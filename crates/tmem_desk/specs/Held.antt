@@ -2,23 +2,23 @@
 use Rattle.std.specs.Prelude.{ℕ, zero, suc, ℤ, List, [], ◌∷◌, ◌++◌, map}
 use Rattle.tmem_spine.specs.Views.{PassRoleView}
 use Rattle.tmem_tree.specs.declared.tx.Tx.{Tx}
-use Rattle.tmem_requests.specs.declared.request.Ask.{Ask}
-use Rattle.tmem_requests.specs.declared.request.Ask.TheVariants.{Do, Changed}
+use Rattle.tmem_requests.specs.declared.request.RequestBody.{RequestBody}
+use Rattle.tmem_requests.specs.declared.request.RequestBody.TheVariants.{Do, Changed}
 use Rattle.tmem_desk.specs.Counts.{no_counts}
 use Rattle.tmem_desk.specs.Desks.{DeskView}
 use Rattle.tmem_desk.specs.declared.desk.Desk.{Desk}
-use Rattle.tmem_desk.specs.declared.held.Held.{Held}
-use Rattle.tmem_desk.specs.declared.held.Held.TheVariants.{Plan, Change}
-use Rattle.tmem_desk.specs.declared.held.Waiting.{Waiting}
+use Rattle.tmem_desk.specs.declared.held.WaitCondition.{WaitCondition}
+use Rattle.tmem_desk.specs.declared.held.WaitCondition.TheVariants.{Plan, Change}
+use Rattle.tmem_desk.specs.declared.held.WaitingRequest.{WaitingRequest}
 use Rattle.tmem_desk.specs.declared.keeping.Kept.{Kept}
 
 -- what is asked by what is held
-abbrev pub asked : {N : Type 0} {a b c d : _} → Held N a b c d → Ask
+abbrev pub asked : {N : Type 0} {a b c d : _} → WaitCondition N a b c d → RequestBody
 asked (Plan ready) = Do ready.plan.tree
 asked (Change reads) = Changed reads
 
 -- the requests that wait, each with its id
-abbrev pub asking : {N : Type 0} {a b c d : _} → List (Waiting N a b c d) → List (ℤ × Ask)
+abbrev pub asking : {N : Type 0} {a b c d : _} → List (WaitingRequest N a b c d) → List (ℤ × RequestBody)
 asking all = map (λ w. (w.id, asked w.held)) all
 
 -- the transactions that are kept, each with its word

@@ -14,9 +14,9 @@ use Rattle.tmem_requests.specs.declared.answer.Answer.{Answer}
 use Rattle.tmem_requests.specs.declared.answer.Answer.TheVariants as answer
 use Rattle.tmem_requests.specs.declared.answer.Stats.{Stats}
 use Rattle.tmem_requests.specs.declared.refusal.NoRequest.{NoRequest}
-use Rattle.tmem_requests.specs.declared.request.Ask.{Ask}
-use Rattle.tmem_requests.specs.declared.request.Ask.TheVariants as ask
-use Rattle.tmem_requests.specs.declared.why.Why.TheVariants.{TooLong}
+use Rattle.tmem_requests.specs.declared.request.RequestBody.{RequestBody}
+use Rattle.tmem_requests.specs.declared.request.RequestBody.TheVariants as ask
+use Rattle.tmem_requests.specs.declared.why.RequestFlaw.TheVariants.{TooLong}
 use Rattle.tmem_lines.specs.Lines.{line, IsUnbroken, HoldsRestOf}
 use Rattle.tmem_lines.specs.Views.{LinesView}
 use Rattle.tmem_forms.specs.TxForms.{tx_form}
@@ -26,7 +26,7 @@ use Rattle.tmem_desk.specs.Desks.{DeskView}
 use Rattle.tmem_copies.specs.Leading.{first_puts}
 use Rattle.tmem_copies.specs.Numbering.{with_numbers}
 use Rattle.tmem_desk.specs.Keeping.{kept_under, with_kept}
-use Rattle.tmem_desk.specs.Steps.{Steps, Repeats}
+use Rattle.tmem_desk.specs.Steps.{LabelledSteps, Repeats}
 use Rattle.tmem_desk.specs.Told.{answer_told, refused, told_lines}
 use Rattle.tmem_desk.specs.declared.told.Told.{Told}
 
@@ -39,7 +39,7 @@ abbrev pub by : DeskView → PassRoleView → DeskView
 by v pass = record v { pass = pass }
 
 -- A request that may wait was tried: it is answered, or waits behind the others, of which there may be 1024.
-abbrev pub tried : ℤ → Ask → Option Answer → DeskView → DeskView
+abbrev pub tried : ℤ → RequestBody → Option Answer → DeskView → DeskView
 tried id ask (Some given) v = tells v (answer_told id given ∷ [])
 tried id ask None v =
     if nat_lt (length v.waiting) 1024
@@ -47,11 +47,11 @@ tried id ask None v =
     else tells v (answer_told id (answer.Fault fault.Full) ∷ [])
 
 -- whether a request of this id waits
-abbrev pub waits : ℤ → List (ℤ × Ask) → Bool
-waits id all = list_any (λ (w : ℤ × Ask). int_eq w.0 id) all
+abbrev pub waits : ℤ → List (ℤ × RequestBody) → Bool
+waits id all = list_any (λ (w : ℤ × RequestBody). int_eq w.0 id) all
 
 -- without the first request of this id
-abbrev pub without : ℤ → List (ℤ × Ask) → List (ℤ × Ask)
+abbrev pub without : ℤ → List (ℤ × RequestBody) → List (ℤ × RequestBody)
 without id [] = []
 without id (w ∷ ws) = if int_eq w.0 id then ws else w ∷ without id ws
 
@@ -63,13 +63,13 @@ cancelled id other v =
     else tells v (answer_told id (answer.Found false) ∷ [])
 
 -- a request that may wait
-pub record MayWait (s : Store) (id : ℤ) (ask : Ask) (v w : DeskView) : Type 0 where
+pub record MayWait (s : Store) (id : ℤ) (ask : RequestBody) (v w : DeskView) : Type 0 where
   pub outcome : Option Answer
   pub tries : Tries s ask v.pass outcome w.pass
   pub is : w ≡ tried id ask outcome (by v w.pass)
 
 -- a request that is answered at once
-pub record IsAnsweredAtOnce (s : Store) (id : ℤ) (ask : Ask) (v w : DeskView) : Type 0 where
+pub record IsAnsweredAtOnce (s : Store) (id : ℤ) (ask : RequestBody) (v w : DeskView) : Type 0 where
   pub given : Answer
   pub answers : AnswersAsk s ask v.pass given w.pass
   pub is : w ≡ tells (by v w.pass) (answer_told id given ∷ [])
@@ -114,7 +114,7 @@ pub record TellsStats (id : ℤ) (v w : DeskView) : Type 0 where
   pub is : w ≡ tells v (answer_told id (answer.Stats stats) ∷ [])
 
 -- From v, this request leads to w.
-abbrev pub Takes : Store → ℤ → Ask → DeskView → DeskView → Type 0
+abbrev pub Takes : Store → ℤ → RequestBody → DeskView → DeskView → Type 0
 Takes s id (ask.Do tx) v w = HasNoPlan s id tx v w ⊎ MayWait s id (ask.Do tx) v w
 Takes s id (ask.Changed reads) v w = MayWait s id (ask.Changed reads) v w
 Takes s id (ask.Cancel other) v w = w ≡ cancelled id other v
@@ -128,19 +128,19 @@ abbrev pub one_line_more : DeskView → DeskView
 one_line_more v = record v { lines = (v.lines + 1) % 2 ^ 64 }
 
 -- The line is a request that can be made of the store.
-abbrev pub IsAskedOf : Store → ℤ → Ask → List ℕ → Type 0
+abbrev pub IsAskedOf : Store → ℤ → RequestBody → List ℕ → Type 0
 IsAskedOf s id ask text = IsRequestText id ask text × FitsStore (length s.opening.values) s.program.names s.always ask
 
 -- it is one, and is taken
 pub record TakesLine (s : Store) (text : List ℕ) (v w : DeskView) : Type 0 where
   pub id : ℤ
-  pub ask : Ask
+  pub ask : RequestBody
   pub is : IsAskedOf s id ask text
   pub takes : Takes s id ask (one_line_more v) w
 
 -- it is none, and that is told, with its number and a reason that is true
 pub record RefusesLine (s : Store) (text : List ℕ) (v w : DeskView) : Type 0 where
-  pub none : (id : ℤ) (ask : Ask) → ¬ IsAskedOf s id ask text
+  pub none : (id : ℤ) (ask : RequestBody) → ¬ IsAskedOf s id ask text
   pub refusal : NoRequest
   pub reason : IsReason (length s.opening.values) s.program.names s.always text refusal
   pub is : w ≡ tells (one_line_more v) (refused (one_line_more v).lines refusal ∷ [])
@@ -160,14 +160,14 @@ abbrev pub TakesText : Store → List ℕ → DeskView → DeskView → Type 0
 TakesText s text v w = MatchBool (nat_lt 65536 (length text)) (RefusesLong v w) (TakesShort s text v w)
 
 -- The first request that waits was tried again: it is answered, or waits behind the others.
-abbrev pub tried_again : ℤ → Ask → Option Answer → List (ℤ × Ask) → DeskView → DeskView
+abbrev pub tried_again : ℤ → RequestBody → Option Answer → List (ℤ × RequestBody) → DeskView → DeskView
 tried_again id ask (Some given) rest v = tells (record v { waiting = rest }) (answer_told id given ∷ [])
 tried_again id ask None rest v = record v { waiting = rest ++ (id, ask) ∷ [] }
 
 pub record TriesFirst (s : Store) (v w : DeskView) : Type 0 where
   pub id : ℤ
-  pub ask : Ask
-  pub rest : List (ℤ × Ask)
+  pub ask : RequestBody
+  pub rest : List (ℤ × RequestBody)
   pub first : v.waiting ≡ (id, ask) ∷ rest
   pub outcome : Option Answer
   pub tries : Tries s ask v.pass outcome w.pass
@@ -200,7 +200,7 @@ pub record Splits (text : List ℕ) (texts : List (List ℕ)) (held : LinesView)
 pub record TakesAll (s : Store) (text : List ℕ) (held : LinesView) (v w : DeskView) : Type 0 where
   pub texts : List (List ℕ)
   pub splits : Splits text texts held
-  pub takes : Steps (TakesText s) texts v w
+  pub takes : LabelledSteps (TakesText s) texts v w
 
 -- Those that wait are tried again, and then all that the pass knows is durable, as it saw: what was committed, and each state that an
 -- answer was made in.
@@ -225,8 +225,8 @@ pub record ServesPiece (s : Store) (text : List ℕ) (held : LinesView) (v w : D
   pub is : w ≡ record ran { told = [] }
 
 -- those that wait are told that the store is closed
-abbrev pub closed : List (ℤ × Ask) → List Told
-closed all = map (λ (w : ℤ × Ask). answer_told w.0 (answer.Fault fault.Closed)) all
+abbrev pub closed : List (ℤ × RequestBody) → List Told
+closed all = map (λ (w : ℤ × RequestBody). answer_told w.0 (answer.Fault fault.Closed)) all
 
 -- the same for each that waits, and none waits any more
 abbrev pub with_closed : DeskView → DeskView

@@ -8,18 +8,18 @@ use tmem_requests::Answer;
 
 /// How many answers told of a commit, of a refusal by an invariant, and of a conflict. Each is a number of 64 bits, which begins anew.
 #[derive(Clone, Copy)]
-pub(crate) struct Counts {
+pub(crate) struct AnswerCounts {
     pub(crate) committed: u64,
     pub(crate) refused: u64,
     pub(crate) conflicts: u64,
 }
 
-impl Counts {
+impl AnswerCounts {
     /// Nothing was told yet.
-    pub(crate) fn new() -> Counts
+    pub(crate) fn new() -> AnswerCounts
         ensures { result ≡ no_counts }
     {
-        Counts {
+        AnswerCounts {
             committed: 0,
             refused: 0,
             conflicts: 0,

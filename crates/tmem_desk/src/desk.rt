@@ -2,15 +2,15 @@
 ghost use Rattle.std.specs.Prelude.{◌≡◌, [], ◌∷◌, length, None, Some, position, OnOk, IsErr, IfErr};
 ghost use Rattle.std.specs.Ordering.{int_eq};
 ghost use Rattle.tmem_requests.specs.Fits.{FitsStore};
-ghost use Rattle.tmem_requests.specs.declared.request.Ask.TheVariants.{Do};
+ghost use Rattle.tmem_requests.specs.declared.request.RequestBody.TheVariants.{Do};
 ghost use Rattle.tmem_desk.specs.Asking.{store};
 ghost use Rattle.tmem_desk.specs.Failing.{AnswersLine, AnswersOnly, OrMemory, PassesLine};
 ghost use Rattle.tmem_desk.specs.Held.{asked, desk_view, empty_desk};
 ghost use Rattle.tmem_desk.specs.Serving.{Takes, MayWait, TakesShort, RefusesLong, by, tells, tried, cancelled};
 ghost use Rattle.tmem_desk.specs.Told.{answer_told, refused};
 
-use crate::counts::Counts;
-use crate::held::{Held, Waiting};
+use crate::counts::AnswerCounts;
+use crate::held::{WaitCondition, WaitingRequest};
 use crate::keeping::Kept;
 use crate::naming::ServedNaming;
 use crate::service::Service;
@@ -23,7 +23,10 @@ use tmem_fault::Fault;
 use tmem_front::Pass;
 use tmem_invariants::Invariants;
 use tmem_lines::MAX_LINE_BYTES;
-use tmem_requests::{Answer, AnswerLine, Ask, NoRequest, NoRequestLine, Place, RequestError, Why};
+use tmem_requests::{
+    Answer, AnswerLine, NoRequest, NoRequestLine, RequestBody, RequestError, RequestFlaw,
+    RequestPlace,
+};
 use tmem_tree::{StoredSteps, Tx};
 
 /// The most requests that may wait.
@@ -35,7 +38,7 @@ pub struct Desk<N: ServedNaming> {
     pub(crate) alloc: Global,
     pub(crate) pass: Pass<N>,
     // the requests that wait, in the order in which they came
-    pub(crate) waiting: VecDeque<Waiting<N>>,
+    pub(crate) waiting: VecDeque<WaitingRequest<N>>,
     // the transactions that are kept
     pub(crate) kept: Vec<Kept<N>>,
     // what is told once it is durable
@@ -43,7 +46,7 @@ pub struct Desk<N: ServedNaming> {
     // how many lines have come
     pub(crate) lines: u64,
     // what was counted of the answers
-    pub(crate) counts: Counts,
+    pub(crate) counts: AnswerCounts,
 }
 
 impl<N: ServedNaming> Desk<N> {
@@ -58,7 +61,7 @@ impl<N: ServedNaming> Desk<N> {
             kept: Vec::new(alloc),
             told: Vec::new(alloc),
             lines: 0,
-            counts: Counts::new(),
+            counts: AnswerCounts::new(),
         }
     }
 
@@ -93,14 +96,14 @@ impl<N: ServedNaming> Desk<N> {
     }
 
     // Lets a request wait, unless as many wait as may.
-    fn wait(&mut self, id: i64, held: Held<N>) -> Result<(), Fault>
+    fn wait(&mut self, id: i64, held: WaitCondition<N>) -> Result<(), Fault>
         ensures ok { OnOk result (desk_view self.new ≡ tried id (asked held) None (desk_view self.old)) }
         ensures err { IfErr result (λ f. f ≡ Fault.Memory) }
     {
         if self.waiting.len() >= MOST_WAITING {
             return self.tell(id, Answer::Fault(Fault::Full));
         }
-        self.waiting.push_back(Waiting { id, held })?;
+        self.waiting.push_back(WaitingRequest { id, held })?;
         Ok(())
     }
 }
@@ -147,8 +150,8 @@ impl<N: ServedNaming> Desk<N> {
     {
         self.lines = self.lines.wrapping_add(1);
         self.refuse(NoRequest {
-            why: Why::TooLong,
-            at: Place::Column(MAX_LINE_BYTES as u64 + 1),
+            why: RequestFlaw::TooLong,
+            at: RequestPlace::Column(MAX_LINE_BYTES as u64 + 1),
         })
     }
 
@@ -157,7 +160,7 @@ impl<N: ServedNaming> Desk<N> {
         &mut self,
         service: &Service<R, D, N, T, S>,
         id: i64,
-        ask: Ask,
+        ask: RequestBody,
     ) -> Result<(), Fault>
         requires { FitsStore (length N.opening.values) N.program.names N.always ask }
         ensures ok { OnOk result (Takes (store N.name.start N.opening N.program N.arities N.always) id ask (desk_view self.old) (desk_view self.new)) }
@@ -174,43 +177,47 @@ impl<N: ServedNaming> Desk<N> {
         &mut self,
         service: &Service<R, D, N, T, S>,
         id: i64,
-        ask: Ask,
+        ask: RequestBody,
     ) -> Result<(), Fault>
         requires { FitsStore (length N.opening.values) N.program.names N.always ask }
         ensures ok { OnOk result (Takes (store N.name.start N.opening N.program N.arities N.always) id ask (desk_view self.old) (desk_view self.new)) }
         ensures err { IfErr result (λ f. OrMemory f (desk_view self.new ≡ by (desk_view self.old) self.new.pass)) }
     {
         match ask {
-            Ask::Do(tx) => self.take_do(service, id, tx),
-            Ask::Changed(reads) => self.take_held(service, id, Held::Change(reads)),
-            Ask::Cancel(other) => self.cancel(id, other),
-            Ask::Try(tx) => {
+            RequestBody::Do(tx) => self.take_do(service, id, tx),
+            RequestBody::Changed(reads) => self.take_held(
+                service,
+                id,
+                WaitCondition::Change(reads),
+            ),
+            RequestBody::Cancel(other) => self.cancel(id, other),
+            RequestBody::Try(tx) => {
                 let answer = service.try_once(&mut self.pass, tx)?;
                 self.tell(id, answer)
             }
-            Ask::Get(vars) => {
+            RequestBody::Get(vars) => {
                 let (count, values) = service.see(&mut self.pass, &vars)?;
                 self.tell(id, Answer::Values { count, values })
             }
-            Ask::Settle(proposal) => {
+            RequestBody::Settle(proposal) => {
                 let answer = service.propose(&mut self.pass, &proposal)?;
                 self.tell(id, answer)
             }
-            Ask::Look => {
+            RequestBody::Look => {
                 let number = service.front.look(&mut self.pass);
                 self.tell(id, Answer::Durable(number))
             }
-            Ask::State => {
+            RequestBody::State => {
                 let answer = service.see_all(&mut self.pass)?;
                 self.tell(id, answer)
             }
-            Ask::Checkpoint => {
+            RequestBody::Checkpoint => {
                 let answer = service.write_image()?;
                 self.tell(id, answer)
             }
-            Ask::Keep(word, tx) => self.keep(service, id, word, tx),
-            Ask::Run(word, numbers) => self.run_kept(service, id, &word, &numbers),
-            Ask::Stats => self.tell_stats(service, id),
+            RequestBody::Keep(word, tx) => self.keep(service, id, word, tx),
+            RequestBody::Run(word, numbers) => self.run_kept(service, id, &word, &numbers),
+            RequestBody::Stats => self.tell_stats(service, id),
         }
     }
 
@@ -225,7 +232,7 @@ impl<N: ServedNaming> Desk<N> {
         ensures err { IfErr result (λ f. OrMemory f (desk_view self.new ≡ by (desk_view self.old) self.new.pass)) }
     {
         match service.plan(tx) {
-            Ok(ready) => self.take_held(service, id, Held::Plan(ready)),
+            Ok(ready) => self.take_held(service, id, WaitCondition::Plan(ready)),
             Err(cause) => self.tell(id, Answer::Fault(Fault::BadPlan(cause))),
         }
     }
@@ -235,7 +242,7 @@ impl<N: ServedNaming> Desk<N> {
         &mut self,
         service: &Service<R, D, N, T, S>,
         id: i64,
-        held: Held<N>,
+        held: WaitCondition<N>,
     ) -> Result<(), Fault>
         ensures ok { OnOk result (MayWait (store N.name.start N.opening N.program N.arities N.always) id (asked held) (desk_view self.old) (desk_view self.new)) }
         ensures err { IfErr result (λ f. OrMemory f (desk_view self.new ≡ by (desk_view self.old) self.new.pass)) }

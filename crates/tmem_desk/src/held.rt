@@ -2,7 +2,7 @@
 ghost use Rattle.std.specs.Prelude.{◌≡◌, ◌≢◌, false, IsTrue, IfOk};
 ghost use Rattle.std.specs.Map.{keys_of};
 ghost use Rattle.tmem_tree.specs.declared.settled.Settled.TheVariants.{Retry};
-ghost use Rattle.tmem_requests.specs.declared.request.Ask.TheVariants.{Do, Changed};
+ghost use Rattle.tmem_requests.specs.declared.request.RequestBody.TheVariants.{Do, Changed};
 ghost use Rattle.tmem_desk.specs.Asking.{Tries, store};
 ghost use Rattle.tmem_desk.specs.Held.{asked};
 
@@ -21,7 +21,7 @@ use tmem_tree::StoredSteps;
 
 /// What a request may wait for.
 #[derive(Drop)]
-pub(crate) enum Held<N: ServedNaming> {
+pub(crate) enum WaitCondition<N: ServedNaming> {
     /// That its transaction does not retry.
     Plan(Ready<N>),
     /// That one of these variables has another value.
@@ -30,9 +30,9 @@ pub(crate) enum Held<N: ServedNaming> {
 
 /// A request that waits, with its id.
 #[derive(Drop)]
-pub(crate) struct Waiting<N: ServedNaming> {
+pub(crate) struct WaitingRequest<N: ServedNaming> {
     pub(crate) id: i64,
-    pub(crate) held: Held<N>,
+    pub(crate) held: WaitCondition<N>,
 }
 
 impl<R: Wait, D: Disk + Drop, N: ServedNaming, T: Invariants + Drop, S: StoredSteps + Drop> Service<
@@ -47,13 +47,13 @@ impl<R: Wait, D: Disk + Drop, N: ServedNaming, T: Invariants + Drop, S: StoredSt
     pub(crate) fn attempt(
         &self,
         pass: &mut Pass<N>,
-        held: &Held<N>,
+        held: &WaitCondition<N>,
     ) -> Result<Option<Answer>, Fault>
         ensures { IfOk result (λ outcome. Tries (store N.name.start N.opening N.program N.arities N.always) (asked held.now) pass.old outcome pass.new) }
     {
         match held {
-            Held::Plan(ready) => self.attempt_plan(pass, ready),
-            Held::Change(reads) => self.attempt_change(pass, reads),
+            WaitCondition::Plan(ready) => self.attempt_plan(pass, ready),
+            WaitCondition::Change(reads) => self.attempt_change(pass, reads),
         }
     }
 

@@ -1,7 +1,7 @@
 // Transactions that are kept, and run by a word.
 ghost use Rattle.std.specs.Prelude.{◌≡◌, ◌⊎◌, None, position, bytes_eq, OnOk, IfErr};
 ghost use Rattle.tmem_copies.specs.Numbering.{with_numbers};
-ghost use Rattle.tmem_requests.specs.declared.request.Ask.TheVariants.{Do, Keep, Stats as StatsOf};
+ghost use Rattle.tmem_requests.specs.declared.request.RequestBody.TheVariants.{Do, Keep, Stats as StatsOf};
 ghost use Rattle.tmem_desk.specs.Asking.{store};
 ghost use Rattle.tmem_desk.specs.Failing.{OrMemory};
 ghost use Rattle.tmem_desk.specs.Held.{desk_view};
@@ -9,7 +9,7 @@ ghost use Rattle.tmem_desk.specs.Keeping.{kept_under};
 ghost use Rattle.tmem_desk.specs.Serving.{Takes, Runs, HasNoPlan, MayWait, by, kept_as};
 
 use crate::desk::Desk;
-use crate::held::Held;
+use crate::held::WaitCondition;
 use crate::naming::ServedNaming;
 use crate::ready::Ready;
 use crate::service::Service;
@@ -119,7 +119,7 @@ impl<N: ServedNaming> Desk<N> {
         match service.plan(copy) {
             Ok(mut ready) => {
                 ready.set_numbers(numbers);
-                self.take_held(service, id, Held::Plan(ready))
+                self.take_held(service, id, WaitCondition::Plan(ready))
             }
             Err(cause) => self.tell(id, Answer::Fault(Fault::BadPlan(cause))),
         }

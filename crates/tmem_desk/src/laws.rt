@@ -4,23 +4,23 @@ ghost use Rattle.std.specs.Io.KnownBytes.{Appends};
 ghost use Rattle.tmem_effect.specs.Prefix.{IsPrefix};
 ghost use Rattle.tmem_lines.specs.Views.{LinesView};
 ghost use Rattle.tmem_spine.specs.History.{count};
-ghost use Rattle.tmem_requests.specs.declared.request.Ask.{Ask};
+ghost use Rattle.tmem_requests.specs.declared.request.RequestBody.{RequestBody};
 ghost use Rattle.tmem_desk.specs.Asking.{Store};
 ghost use Rattle.tmem_desk.specs.Desks.{DeskView};
 ghost use Rattle.tmem_desk.specs.Due.{LosesNone, answers_to, due, one_for};
 ghost use Rattle.tmem_desk.specs.Durable.{TellsAmong};
-ghost use Rattle.tmem_desk.specs.Steps.{Steps};
+ghost use Rattle.tmem_desk.specs.Steps.{LabelledSteps};
 ghost use Rattle.tmem_desk.specs.Serving.{Takes, TakesText, RefusesLine, RefusesLong, Round, RunsEnd, RunsPiece, TriesNext, Finishes, ServesPiece, ServesEnd, with_closed};
 
 /// No answer is lost, and none is given twice: a request that is taken waits or is answered once, and so does one that is tried again.
 /// No other request is touched, but that one that waits may be answered that it was cancelled. A line that is no request answers none.
 /// At the end of the input each that is due is answered once, and none waits any more.
 pub fn each_is_answered_once()
-    ensures taken { (s : Store) (id : ℤ) (ask : Ask) (v w : DeskView) (other : ℤ) → Takes s id ask v w → due other w ≡ due other v + one_for other id }
+    ensures taken { (s : Store) (id : ℤ) (ask : RequestBody) (v w : DeskView) (other : ℤ) → Takes s id ask v w → due other w ≡ due other v + one_for other id }
     ensures tried { (s : Store) (v w : DeskView) (other : ℤ) → Round s v w → due other w ≡ due other v }
     ensures long { (v w : DeskView) (other : ℤ) → RefusesLong v w → due other w ≡ due other v }
     ensures refused { (s : Store) (text : List ℕ) (v w : DeskView) (other : ℤ) → RefusesLine s text v w → due other w ≡ due other v }
-    ensures lines { (s : Store) (texts : List (List ℕ)) (v w : DeskView) → Steps (TakesText s) texts v w → LosesNone s texts v w }
+    ensures lines { (s : Store) (texts : List (List ℕ)) (v w : DeskView) → LabelledSteps (TakesText s) texts v w → LosesNone s texts v w }
     ensures finished { (s : Store) (v w : DeskView) (other : ℤ) → Finishes s v w → due other w ≡ due other v }
     ensures end { (s : Store) (text : List ℕ) (v w : DeskView) (other : ℤ) (before after : Option (List ℕ)) (served : ServesEnd s text v w (Appends before after))
         → (count_by (answers_to other) (with_closed served.ran).told ≡ due other served.runs.taken) × (w.waiting ≡ []) }

@@ -22,7 +22,7 @@ mod told;
 mod waiting;
 
 pub use desk::Desk;
-pub use failure::Failure;
+pub use failure::DeskFailure;
 pub use laws::{each_is_answered_once, nothing_told_is_lost};
 pub use naming::ServedNaming;
 pub use service::Service;

@@ -1,7 +1,7 @@
 // What a store has at one moment, as a desk tells it.
 ghost use Rattle.std.specs.Prelude.{◌≡◌, ◌++◌, ◌∷◌, [], ℕ, List, Bool, length, map, filter, IfOk, OnOk, if◌then◌else◌};
 ghost use Rattle.std.specs.Map.{keys_of};
-ghost use Rattle.tmem_requests.specs.declared.request.Ask.TheVariants.{State};
+ghost use Rattle.tmem_requests.specs.declared.request.RequestBody.TheVariants.{State};
 ghost use Rattle.tmem_desk.specs.Asking.{SeesValues, AnswersAsk, store};
 ghost use Rattle.tmem_desk.specs.Held.{first_numbers};
 

@@ -12,7 +12,7 @@ use tmem_disk::Disk;
 use tmem_fault::Fault;
 use tmem_front::Pass;
 use tmem_invariants::Invariants;
-use tmem_requests::{Answer, Proposal, attempt_of};
+use tmem_requests::{Answer, Proposal, proposed_attempt};
 use tmem_tentative::Attempt;
 use tmem_tree::StoredSteps;
 
@@ -30,7 +30,7 @@ impl<R: Wait, D: Disk + Drop, N: ServedNaming, T: Invariants + Drop, S: StoredSt
         requires { ProposalFits (length N.opening.values) N.program.names N.always proposal.now }
         ensures { IfOk result (λ given. SettlesProposal (store N.name.start N.opening N.program N.arities N.always) proposal.now pass.old given pass.new) }
     {
-        let attempt = attempt_of(self.alloc, proposal)?;
+        let attempt = proposed_attempt(self.alloc, proposal)?;
         for _ in self.rt.forever() {
             match self.front.settle(self.rt, pass, &attempt) {
                 Ok(settled) => return Ok(self.told_ending_of(pass, &attempt, settled)),

@@ -2,7 +2,7 @@
 ghost use Rattle.std.specs.Prelude.{◌≡◌, ℤ, length, IfOk, IfErr};
 ghost use Rattle.tmem_requests.specs.Errors.{IsNoRequest};
 ghost use Rattle.tmem_requests.specs.Reasons.{TellsReason};
-ghost use Rattle.tmem_requests.specs.declared.request.Ask.{Ask};
+ghost use Rattle.tmem_requests.specs.declared.request.RequestBody.{RequestBody};
 ghost use Rattle.tmem_desk.specs.Asking.{store};
 ghost use Rattle.tmem_desk.specs.Serving.{IsAskedOf};
 
@@ -68,7 +68,7 @@ impl<'a, R, D: Disk + Drop, N: ServedNaming, T: Invariants + Drop, S: StoredStep
     /// Reads a line: a request that can be made of this store.
     pub(crate) fn read(&self, text: &[u8]) -> Result<Request, RequestError>
         ensures request { IfOk result (λ request. IsAskedOf (store N.name.start N.opening N.program N.arities N.always) request.id request.ask text.now) }
-        ensures none { IfErr result (λ e. IsNoRequest e → (id : ℤ) (ask : Ask) → ¬ IsAskedOf (store N.name.start N.opening N.program N.arities N.always) id ask text.now) }
+        ensures none { IfErr result (λ e. IsNoRequest e → (id : ℤ) (ask : RequestBody) → ¬ IsAskedOf (store N.name.start N.opening N.program N.arities N.always) id ask text.now) }
         ensures why { IfErr result (λ e. TellsReason (length N.opening.values) N.program.names N.always text.now e) }
     {
         let request = Request::read(self.alloc, text)?;

@@ -11,7 +11,7 @@ ghost use Rattle.tmem_desk.specs.Serving.{by, Finishes, Splits, TakesAll, RunsPi
 ghost use Rattle.tmem_desk.specs.Told.{told_lines, failed};
 
 use crate::desk::Desk;
-use crate::failure::Failure;
+use crate::failure::DeskFailure;
 use crate::naming::ServedNaming;
 use crate::service::Service;
 use crate::told::Told;
@@ -37,13 +37,13 @@ impl<N: ServedNaming> Desk<N> {
         lines: &mut Lines,
         piece: &[u8],
         out: &mut W,
-    ) -> Result<(), Failure>
+    ) -> Result<(), DeskFailure>
         ensures ends { IfErr result (EndsBy (Appends (W.contents out.old) (W.contents out.new))) }
         ensures told { IfErr result (λ e. (text : List ℕ) → HoldsRestOf lines.old text → TellsAll (store N.name.start N.opening N.program N.arities N.always) (λ texts. Splits (text ++ piece.now) texts lines.new) (RunsPiece (store N.name.start N.opening N.program N.arities N.always) (text ++ piece.now) lines.new (desk_view self.old)) (desk_view self.old) (Appends (W.contents out.old) (W.contents out.new)) e) }
         ensures serves { OnOk result ((text : List ℕ) → HoldsRestOf lines.old text → ServesPiece (store N.name.start N.opening N.program N.arities N.always) (text ++ piece.now) lines.new (desk_view self.old) (desk_view self.new) (Appends (W.contents out.old) (W.contents out.new))) }
     {
         if lines.add(piece).is_err() {
-            return Err(Failure::Fault(Fault::Memory));
+            return Err(DeskFailure::Fault(Fault::Memory));
         }
         match self.run(service, lines) {
             Ok(()) => self.give(out),
@@ -110,7 +110,7 @@ impl<N: ServedNaming> Desk<N> {
     }
 
     // Prints all that is told. All that the pass knows is durable then.
-    fn give<W: Write>(&mut self, out: &mut W) -> Result<(), Failure>
+    fn give<W: Write>(&mut self, out: &mut W) -> Result<(), DeskFailure>
         requires { self.old.pass.seen ≡ self.old.pass.known }
         ensures printed { OnOk result (Appends (W.contents out.old) (W.contents out.new) (told_lines self.old.told.items)) }
         ensures desk { OnOk result (desk_view self.new ≡ record (desk_view self.old) { told = [] }) }
@@ -129,7 +129,7 @@ impl<N: ServedNaming> Desk<N> {
         service: &Service<R, D, N, T, S>,
         lines: &mut Lines,
         out: &mut W,
-    ) -> Result<(), Failure>
+    ) -> Result<(), DeskFailure>
         ensures ends { IfErr result (EndsBy (Appends (W.contents out.old) (W.contents out.new))) }
         ensures told { IfErr result (λ e. (text : List ℕ) → HoldsRestOf lines.old text → TellsAll (store N.name.start N.opening N.program N.arities N.always) (IsLast text) (RunsEnd (store N.name.start N.opening N.program N.arities N.always) text (desk_view self.old)) (desk_view self.old) (Appends (W.contents out.old) (W.contents out.new)) e) }
         ensures serves { OnOk result ((text : List ℕ) → HoldsRestOf lines.old text → ServesEnd (store N.name.start N.opening N.program N.arities N.always) text (desk_view self.old) (desk_view self.new) (Appends (W.contents out.old) (W.contents out.new))) }
@@ -195,7 +195,7 @@ impl<N: ServedNaming> Desk<N> {
         lines: &mut Lines,
         fault: Fault,
         out: &mut W,
-    ) -> Result<(), Failure>
+    ) -> Result<(), DeskFailure>
         ensures never { IsErr result }
         ensures ends { IfErr result (EndsBy (Appends (W.contents out.old) (W.contents out.new))) }
         ensures memory { fault ≡ Fault.Memory → IfErr result (IsMemoryOrOutput (Appends (W.contents out.old) (W.contents out.new))) }
@@ -206,10 +206,10 @@ impl<N: ServedNaming> Desk<N> {
         self.close_waiting()?;
         let told = mem::replace(&mut self.told, Vec::new(self.alloc));
         let Ok(failed) = all_failed(self.alloc, told, &fault) else {
-            return Err(Failure::Fault(Fault::Memory));
+            return Err(DeskFailure::Fault(Fault::Memory));
         };
         self.print(&failed, out)?;
-        Err(Failure::Fault(fault))
+        Err(DeskFailure::Fault(fault))
     }
 
     // Takes each line that has ended, and runs none.

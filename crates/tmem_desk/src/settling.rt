@@ -1,7 +1,7 @@
 // How transactions are settled for a desk, which is the only caller of its store.
 ghost use Rattle.std.specs.Prelude.{◌≡◌, ◌⊎◌, IfOk};
 ghost use Rattle.tmem_requests.specs.declared.answer.Answer.TheVariants.{Checkpointed, Fault as FaultOf};
-ghost use Rattle.tmem_requests.specs.declared.request.Ask.TheVariants.{Try};
+ghost use Rattle.tmem_requests.specs.declared.request.RequestBody.TheVariants.{Try};
 ghost use Rattle.tmem_front.specs.Settling.{KnowsMore};
 ghost use Rattle.tmem_desk.specs.Asking.{SettlesTx, TellsEnding, AnswersAsk, store};
 

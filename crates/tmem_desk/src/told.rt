@@ -2,11 +2,11 @@
 ghost use Rattle.std.specs.Prelude.{◌≡◌, ◌≤◌, ◌++◌, ℕ, List, [], length, OnOk, OnErr, IfOk, IfErr};
 ghost use Rattle.std.specs.Io.KnownBytes.{Appends};
 ghost use Rattle.tmem_desk.specs.Failing.{EndsBy, IsUnprinted, MayPrint};
-ghost use Rattle.tmem_desk.specs.declared.failure.Failure.TheVariants.{Output};
+ghost use Rattle.tmem_desk.specs.declared.failure.DeskFailure.TheVariants.{Output};
 ghost use Rattle.tmem_desk.specs.Told.{told_line, told_lines};
 
 use crate::desk::Desk;
-use crate::failure::Failure;
+use crate::failure::DeskFailure;
 use crate::naming::ServedNaming;
 use std::io::{self, ErrorKind, Write};
 use tmem_fault::Fault;
@@ -23,7 +23,7 @@ pub enum Told {
 
 impl<N: ServedNaming> Desk<N> {
     /// Prints what is told, by one write.
-    pub(crate) fn print<W: Write>(&self, told: &[Told], out: &mut W) -> Result<(), Failure>
+    pub(crate) fn print<W: Write>(&self, told: &[Told], out: &mut W) -> Result<(), DeskFailure>
         requires { MayPrint self.now.pass told.now }
         ensures printed { OnOk result (Appends (W.contents out.old) (W.contents out.new) (told_lines told.now)) }
         ensures ends { IfErr result (EndsBy (Appends (W.contents out.old) (W.contents out.new))) }
@@ -31,14 +31,14 @@ impl<N: ServedNaming> Desk<N> {
     {
         let mut text = Vec::new(self.alloc);
         if spell_all(told, &mut text).is_err() {
-            return Err(Failure::Fault(Fault::Memory));
+            return Err(DeskFailure::Fault(Fault::Memory));
         }
         write_flushed(&text, out)
     }
 }
 
 // Writes these bytes, and flushes them. Where that fails, the beginning of them was written at most.
-fn write_flushed<W: Write>(bytes: &[u8], out: &mut W) -> Result<(), Failure>
+fn write_flushed<W: Write>(bytes: &[u8], out: &mut W) -> Result<(), DeskFailure>
     ensures written { OnOk result (Appends (W.contents out.old) (W.contents out.new) bytes.now) }
     ensures part { OnErr result ((part : List ℕ) × (rest : List ℕ) × (bytes.now ≡ part ++ rest) × Appends (W.contents out.old) (W.contents out.new) part) }
     ensures failed { IfErr result (λ e. e ≡ Output) }
@@ -51,21 +51,21 @@ fn write_flushed<W: Write>(bytes: &[u8], out: &mut W) -> Result<(), Failure>
         }
         rest = write_some(rest, out)?;
     }
-    Err(Failure::Output)
+    Err(DeskFailure::Output)
 }
 
 // Writes some of these bytes, and answers the others: all of them where a signal came between.
-fn write_some<'a, W: Write>(bytes: &'a [u8], out: &mut W) -> Result<&'a [u8], Failure>
+fn write_some<'a, W: Write>(bytes: &'a [u8], out: &mut W) -> Result<&'a [u8], DeskFailure>
     requires { 1 ≤ length bytes.now }
     ensures written { IfOk result (λ rest. (part : List ℕ) × (bytes.now ≡ part ++ rest.now) × Appends (W.contents out.old) (W.contents out.new) part) }
     ensures none { OnErr result (Appends (W.contents out.old) (W.contents out.new) []) }
     ensures failed { IfErr result (λ e. e ≡ Output) }
 {
     match out.write(bytes) {
-        Ok(0) => Err(Failure::Output),
+        Ok(0) => Err(DeskFailure::Output),
         Ok(count) => Ok(&bytes[count..]),
         Err(error) if error.kind() == ErrorKind::Interrupted => Ok(bytes),
-        Err(_) => Err(Failure::Output),
+        Err(_) => Err(DeskFailure::Output),
     }
 }
 

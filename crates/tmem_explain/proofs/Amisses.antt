@@ -14,7 +14,7 @@ use Rattle.tmem_fault.specs.Name.{has_name}
 use Rattle.tmem_forms.proofs.Laws.{view_of_array}
 use Rattle.tmem_forms.specs.TxForms.{array_of, level_form, natural, tagged, tx_form}
 use Rattle.tmem_requests.specs.Wrong.{led, part, scope_behind, step_value}
-use Rattle.tmem_requests.specs.declared.place.Step.{Step}
+use Rattle.tmem_requests.specs.declared.place.PointerStep.{PointerStep}
 use Rattle.tmem_tree.specs.declared.tx.Tx.{Tx}
 use Rattle.tmem_tree.specs.declared.tx.Tx.TheFolds.{fold-roll-Tx}
 use Rattle.tmem_tree.specs.declared.tx.Tx.TheOpen as level
@@ -25,14 +25,14 @@ use Rattle.tmem_explain.specs.declared.amiss.Amiss.{Amiss}
 use Rattle.tmem_explain.specs.declared.expected.Expected.{Expected}
 
 -- what is wrong with the value itself
-pub amiss_here : (expected : Expected) (steps : List Step) (d : Data) → steps ≡ [] → IsAmiss expected d → LeadsToAmiss expected steps d
+pub amiss_here : (expected : Expected) (steps : List PointerStep) (d : Data) → steps ≡ [] → IsAmiss expected d → LeadsToAmiss expected steps d
 amiss_here expected steps d none is =
-    subst (λ (s : List Step). LeadsToAmiss expected s d) (sym none) (record { place = d; there = refl; is_amiss = is })
+    subst (λ (s : List PointerStep). LeadsToAmiss expected s d) (sym none) (record { place = d; there = refl; is_amiss = is })
 
 -- what is wrong behind a step
-pub amiss_behind : (expected : Expected) (step : Step) (steps more : List Step) (d e : Data) → more ≡ step ∷ steps → step_value step d ≡ Some e → LeadsToAmiss expected steps e → LeadsToAmiss expected more d
+pub amiss_behind : (expected : Expected) (step : PointerStep) (steps more : List PointerStep) (d e : Data) → more ≡ step ∷ steps → step_value step d ≡ Some e → LeadsToAmiss expected steps e → LeadsToAmiss expected more d
 amiss_behind expected step steps more d e is leads amiss =
-    subst (λ (s : List Step). LeadsToAmiss expected s d) (sym is) (record {
+    subst (λ (s : List PointerStep). LeadsToAmiss expected s d) (sym is) (record {
       place = amiss.place;
       there = ap (option_and_then (led steps)) leads ∙ amiss.there;
       is_amiss = amiss.is_amiss;
@@ -99,7 +99,7 @@ no_name vars name four no_nonneg no_sum no_ordered =
     rw (zero_there, one_there, two_there, three_there, not_first, not_second, not_third) refl
 
 -- inside of a part all is a part
-pub part_behind : (steps : List Step) → scope_behind part steps ≡ part
+pub part_behind : (steps : List PointerStep) → scope_behind part steps ≡ part
 part_behind [] = refl
 part_behind (step ∷ steps) = part_behind steps
 

@@ -9,7 +9,7 @@ use Rattle.tmem_fault.specs.declared.fault.Cause.TheVariants.{TooDeep}
 use Rattle.tmem_forms.specs.Members.{HasOnly}
 use Rattle.tmem_forms.specs.TxForms.{IsShort, array_of, natural, tx_form}
 use Rattle.tmem_requests.specs.Wrong.{IsWrong, led, part}
-use Rattle.tmem_requests.specs.declared.place.Step.{Step}
+use Rattle.tmem_requests.specs.declared.place.PointerStep.{PointerStep}
 use Rattle.tmem_tree.specs.Plans.{is_counted}
 use Rattle.tmem_tree.specs.declared.tx.Tx.{Tx}
 use Rattle.tmem_explain.specs.Excesses.{IsNamedBy, cause_of}
@@ -81,7 +81,7 @@ IsAmiss (expected.Plan excess vars) d = IsNodeOver excess vars d
 IsAmiss expected.Script d = Unit {0}
 
 -- these steps lead from a value to one with which this is amiss
-pub record LeadsToAmiss (expected : Expected) (steps : List Step) (d : Data) : Type 0 where
+pub record LeadsToAmiss (expected : Expected) (steps : List PointerStep) (d : Data) : Type 0 where
   pub place : Data
   pub there : led steps d ≡ Some place
   pub is_amiss : IsAmiss expected place

@@ -2,9 +2,9 @@
 use Rattle.std.specs.Prelude.{ℕ, Bool, true, false, if◌then◌else◌, List, [], ◌∷◌, ◌++◌, flat_map, codes, string_bytes}
 use Rattle.std.specs.Fmt.{decimal}
 use Rattle.tmem_requests.specs.Refusals.{request_why_text, step_text}
-use Rattle.tmem_requests.specs.declared.place.Step.{Step}
-use Rattle.tmem_requests.specs.declared.why.Why.{Why}
-use Rattle.tmem_requests.specs.declared.why.Why.TheVariants as why
+use Rattle.tmem_requests.specs.declared.place.PointerStep.{PointerStep}
+use Rattle.tmem_requests.specs.declared.why.RequestFlaw.{RequestFlaw}
+use Rattle.tmem_requests.specs.declared.why.RequestFlaw.TheVariants as why
 use Rattle.tmem_explain.specs.Excesses.{excess_text}
 use Rattle.tmem_explain.specs.declared.expected.Expected.{Expected}
 use Rattle.tmem_explain.specs.declared.expected.Expected.TheVariants as expected
@@ -13,7 +13,7 @@ use Rattle.tmem_explain.specs.declared.flaw.Spot.{Spot}
 use Rattle.tmem_explain.specs.declared.flaw.Spot.TheVariants.{Pointer, Unknown, Text}
 
 -- what is wrong in a transaction: as a request is told it, and which words there may be
-abbrev pub transaction_text : Why → List ℕ
+abbrev pub transaction_text : RequestFlaw → List ℕ
 transaction_text why.NotTransaction =
     codes "this is neither \"skip\" nor \"retry\", and no object with one of the keys seq, put, read, write, step, when, orelse, abort, check and retire alone"
 transaction_text why.NotStep = codes "this is none of the steps \"add\", \"sub\" and \"need\""
@@ -45,7 +45,7 @@ spot_text (Pointer steps) = flat_map step_text steps.items
 spot_text (Unknown key) = codes "/" ++ string_bytes key
 spot_text (Text line column) = codes "line " ++ decimal line ++ codes " column " ++ decimal column
 
-abbrev is_no_step : List Step → Bool
+abbrev is_no_step : List PointerStep → Bool
 is_no_step [] = true
 is_no_step (step ∷ steps) = false
 

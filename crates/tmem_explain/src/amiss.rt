@@ -10,14 +10,14 @@ use crate::expected::Expected;
 use crate::flaw::{Flaw, Spot};
 use std::alloc::Global;
 use tmem_forms::FormError;
-use tmem_requests::{Step, Why, Wrong};
+use tmem_requests::{PointerStep, RequestFlaw, WrongValue};
 
 /// What is wrong with a value or with one that it holds, and the steps that lead there. Where that is not known, or memory does not
 /// suffice for a step, no more is told than that the whole is no script.
 #[derive(Drop)]
 pub(crate) struct Amiss {
     expected: Expected,
-    steps: Vec<Step>,
+    steps: Vec<PointerStep>,
 }
 
 impl Amiss {
@@ -43,12 +43,12 @@ impl Amiss {
     }
 
     /// What was found wrong with a transaction.
-    pub(crate) fn of(wrong: Wrong) -> Amiss
+    pub(crate) fn of(wrong: WrongValue) -> Amiss
         ensures { (d : Data) → IsWrongOf part d wrong → IsAmissIn d result }
     {
-        let Wrong { why, steps } = wrong;
+        let WrongValue { why, steps } = wrong;
         match why {
-            Why::NotRequest => Amiss::unknown(steps),
+            RequestFlaw::NotRequest => Amiss::unknown(steps),
             _ => Amiss {
                 expected: Expected::Transaction(why),
                 steps,
@@ -57,7 +57,7 @@ impl Amiss {
     }
 
     /// The same of the value that this step begins at.
-    pub(crate) fn behind(self, step: Step) -> Amiss
+    pub(crate) fn behind(self, step: PointerStep) -> Amiss
         ensures amiss { (d e : Data) → step_value step d ≡ Some e → IsAmissIn e self → IsAmissIn d result }
         ensures cause { (cause : Cause) (vars : ℕ) → TellsCause cause vars self.expected → TellsCause cause vars result.expected }
     {
@@ -75,7 +75,7 @@ impl Amiss {
     }
 
     // That it is not known what is wrong.
-    fn unknown(mut steps: Vec<Step>) -> Amiss
+    fn unknown(mut steps: Vec<PointerStep>) -> Amiss
         ensures amiss { (d : Data) → IsAmissIn d result }
         ensures expected { result.expected ≡ Expected.Script }
     {
@@ -99,7 +99,7 @@ impl Amiss {
 }
 
 /// Hands on what was found in the value that a step leads to.
-pub(crate) fn inside<T: Drop>(step: Step, found: Result<T, Amiss>) -> Result<T, Amiss>
+pub(crate) fn inside<T: Drop>(step: PointerStep, found: Result<T, Amiss>) -> Result<T, Amiss>
     ensures amiss { (d e : Data) → step_value step d ≡ Some e → IfErr found (IsAmissIn e) → IfErr result (IsAmissIn d) }
     ensures cause { (cause : Cause) (vars : ℕ) → IfErr found (λ amiss. TellsCause cause vars amiss.expected) → IfErr result (λ amiss. TellsCause cause vars amiss.expected) }
 {

@@ -11,7 +11,7 @@ use serde_json::Value;
 use std::alloc::Global;
 use tmem_event::ATTEMPTS;
 use tmem_forms::{byte_of, pair_of};
-use tmem_requests::{Step, find_in_tx};
+use tmem_requests::{PointerStep, find_in_tx};
 
 /// Finds the first thing that is wrong with an entry.
 pub(crate) fn find_in_entry(alloc: Global, value: &Value) -> Result<(), Amiss>
@@ -46,9 +46,9 @@ fn find_in_event(alloc: Global, key: &str, body: &Value) -> Result<(), Amiss>
     ensures { IfErr result (IsAmissIn (tagged key.now (view body.now))) }
 {
     match key {
-        "begin" => inside(Step::Key("begin"), find_in_begin(alloc, body)),
-        "turn" => inside(Step::Key("turn"), find_in_attempt(alloc, body)),
-        "settle" => inside(Step::Key("settle"), find_in_attempt(alloc, body)),
+        "begin" => inside(PointerStep::Key("begin"), find_in_begin(alloc, body)),
+        "turn" => inside(PointerStep::Key("turn"), find_in_attempt(alloc, body)),
+        "settle" => inside(PointerStep::Key("settle"), find_in_attempt(alloc, body)),
         _ => Err(Amiss::here(alloc, Expected::Entry)),
     }
 }
@@ -58,8 +58,8 @@ fn find_in_begin(alloc: Global, body: &Value) -> Result<(), Amiss>
 {
     match pair_of(body) {
         Ok((attempt, tx)) => {
-            inside(Step::Item(0), find_in_attempt(alloc, attempt))?;
-            inside(Step::Item(1), find_in_transaction(alloc, tx))
+            inside(PointerStep::Item(0), find_in_attempt(alloc, attempt))?;
+            inside(PointerStep::Item(1), find_in_transaction(alloc, tx))
         }
         Err(error) => Err(Amiss::refused(alloc, error, Expected::Begin)),
     }

@@ -1,7 +1,7 @@
 //! What was expected where something is wrong.
 use crate::excess::Excess;
 use std::fmt;
-use tmem_requests::Why;
+use tmem_requests::RequestFlaw;
 
 /// What was expected at a place. Its text is what the user is told.
 #[derive(Clone, Copy)]
@@ -28,7 +28,7 @@ pub enum Expected {
     Begin,
     Attempt,
     /// What a transaction has there.
-    Transaction(Why),
+    Transaction(RequestFlaw),
     /// A transaction within the limit that this is past, for so many variables.
     Plan { excess: Excess, vars: u16 },
     /// A script: no reason was found why it is none.
@@ -71,11 +71,11 @@ impl fmt::Display for Expected {
                 f,
                 "this is not a whole number from 0 to 15, as an attempt is"
             ),
-            Expected::Transaction(Why::NotTransaction) => write!(
+            Expected::Transaction(RequestFlaw::NotTransaction) => write!(
                 f,
                 "this is neither \"skip\" nor \"retry\", and no object with one of the keys seq, put, read, write, step, when, orelse, abort, check and retire alone"
             ),
-            Expected::Transaction(Why::NotStep) => write!(
+            Expected::Transaction(RequestFlaw::NotStep) => write!(
                 f,
                 "this is none of the steps \"add\", \"sub\" and \"need\""
             ),

@@ -1,7 +1,7 @@
 //! What is wrong with a script, and where.
 use crate::expected::Expected;
 use std::fmt;
-use tmem_requests::Step;
+use tmem_requests::PointerStep;
 
 /// What is wrong with a script.
 #[derive(Drop)]
@@ -14,7 +14,7 @@ pub struct Flaw {
 #[derive(Drop)]
 pub enum Spot {
     /// The value that these steps lead to, from the whole: a JSON pointer (RFC 6901).
-    Pointer(Vec<Step>),
+    Pointer(Vec<PointerStep>),
     /// A key of the whole that it may not have. It is one that stands in a pointer as it is.
     Unknown(String),
     /// A line and a column of the text, from 1, where it is not JSON.

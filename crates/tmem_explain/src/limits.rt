@@ -15,8 +15,8 @@ use std::alloc::{AllocError, Global};
 use tmem_event::Event;
 use tmem_fault::Cause;
 use tmem_record::{LEAST_SLOTS, MOST_SLOTS, MOST_VARS};
-use tmem_requests::Step;
-use tmem_script::{Entry, Script};
+use tmem_requests::PointerStep;
+use tmem_script::{Script, ScriptEntry};
 
 /// A flaw for numbers that no store has, and one for each transaction that breaks a limit: for the least of the limits that it breaks, as
 /// a run would refuse it.
@@ -65,10 +65,10 @@ fn layout_flaw(alloc: Global, script: &Script) -> Flaw
 {
     if !has_vars(script) {
         let amiss = Amiss::here(alloc, Expected::Vars);
-        return amiss.behind(Step::Key("vars")).into_flaw();
+        return amiss.behind(PointerStep::Key("vars")).into_flaw();
     }
     let amiss = Amiss::here(alloc, Expected::Slots);
-    amiss.behind(Step::Key("slots")).into_flaw()
+    amiss.behind(PointerStep::Key("slots")).into_flaw()
 }
 
 // Notes each transaction that breaks a limit.
@@ -88,7 +88,7 @@ fn note_entry(
     alloc: Global,
     script: &Script,
     index: usize,
-    entry: &Entry,
+    entry: &ScriptEntry,
     flaws: &mut Vec<Flaw>,
 ) -> Result<(), AllocError>
     ensures told { (d : Data) → IsScript script.now.vars script.now.slots script.now.entries.items d → All (IsFlawOf d) flaws.old.items → OnOk result (All (IsFlawOf d) flaws.new.items) }
@@ -104,11 +104,11 @@ fn note_entry(
 }
 
 // The least limit that the transaction of an entry breaks.
-fn broken_in(entry: &Entry, vars: u16) -> Option<Cause>
+fn broken_in(entry: &ScriptEntry, vars: u16) -> Option<Cause>
     ensures none { IsNone result → KeepsLimit vars entry.now }
     ensures some { IfSome result (λ cause. ¬ KeepsLimit vars entry.now) }
 {
-    let Entry::Event(playable) = entry else {
+    let ScriptEntry::Event(playable) = entry else {
         return None;
     };
     match &playable.event {

@@ -20,8 +20,8 @@ use std::alloc::Global;
 use tmem_builtins::names;
 use tmem_event::Event;
 use tmem_fault::{Cause, Name};
-use tmem_requests::Step;
-use tmem_script::{Entry, Script};
+use tmem_requests::PointerStep;
+use tmem_script::{Script, ScriptEntry};
 use tmem_tree::{MAX_CHECKS, MAX_DEPTH, MAX_NODES, MAX_RETIRES, MAX_WRITES, REGISTERS, Tx};
 
 /// The limit of a cause, in a store of so many variables, and how much a transaction has of what it counts.
@@ -40,7 +40,7 @@ pub fn plan_flaw(alloc: Global, script: &Script, index: usize, cause: Cause) -> 
 {
     let entries = script.entries.as_slice();
     let found = find_in_entries(alloc, entries, script.vars, index, cause);
-    match inside(Step::Key("events"), found) {
+    match inside(PointerStep::Key("events"), found) {
         Ok(_) => Amiss::here(alloc, Expected::Script).into_flaw(),
         Err(amiss) => amiss.into_flaw(),
     }
@@ -48,7 +48,7 @@ pub fn plan_flaw(alloc: Global, script: &Script, index: usize, cause: Cause) -> 
 
 fn find_in_entries(
     alloc: Global,
-    entries: &[Entry],
+    entries: &[ScriptEntry],
     vars: u16,
     index: usize,
     cause: Cause,
@@ -60,14 +60,14 @@ fn find_in_entries(
         return Ok(0);
     }
     let found = find_in_begun(alloc, &entries[index], cause, vars);
-    inside(Step::Item(index as u64), found)
+    inside(PointerStep::Item(index as u64), found)
 }
 
-fn find_in_begun(alloc: Global, entry: &Entry, cause: Cause, vars: u16) -> Result<u32, Amiss>
+fn find_in_begun(alloc: Global, entry: &ScriptEntry, cause: Cause, vars: u16) -> Result<u32, Amiss>
     ensures amiss { IfErr result (IsAmissIn (entry_form entry.now)) }
     ensures cause { IfErr result (λ amiss. TellsCause cause vars amiss.expected) }
 {
-    let Entry::Event(playable) = entry else {
+    let ScriptEntry::Event(playable) = entry else {
         return Ok(0);
     };
     let Event::Begin { tx, .. } = &playable.event else {
@@ -75,7 +75,10 @@ fn find_in_begun(alloc: Global, entry: &Entry, cause: Cause, vars: u16) -> Resul
     };
     let limit = limit_of(tx, cause, vars);
     let found = find_in_plan(alloc, tx, limit, MAX_DEPTH, may_have(cause));
-    inside(Step::Key("begin"), inside(Step::Item(1), found))
+    inside(
+        PointerStep::Key("begin"),
+        inside(PointerStep::Item(1), found),
+    )
 }
 
 // The limit, and how much of what it counts the transaction has.
@@ -132,19 +135,31 @@ fn find_below(alloc: Global, tx: &Tx, limit: Limit, depth: u32, left: u32) -> Re
     match tx {
         Tx::Seq(txs) => {
             let found = find_in_row(alloc, txs, limit, depth, left);
-            inside(Step::Key("seq"), found)
+            inside(PointerStep::Key("seq"), found)
         }
         Tx::When { then, other, .. } => {
             let first = find_in_plan(alloc, then, limit, depth, left);
-            let left = inside(Step::Key("when"), inside(Step::Item(1), first))?;
+            let left = inside(
+                PointerStep::Key("when"),
+                inside(PointerStep::Item(1), first),
+            )?;
             let second = find_in_plan(alloc, other, limit, depth, left);
-            inside(Step::Key("when"), inside(Step::Item(2), second))
+            inside(
+                PointerStep::Key("when"),
+                inside(PointerStep::Item(2), second),
+            )
         }
         Tx::OrElse(first, second) => {
             let first = find_in_plan(alloc, first, limit, depth, left);
-            let left = inside(Step::Key("orelse"), inside(Step::Item(0), first))?;
+            let left = inside(
+                PointerStep::Key("orelse"),
+                inside(PointerStep::Item(0), first),
+            )?;
             let second = find_in_plan(alloc, second, limit, depth, left);
-            inside(Step::Key("orelse"), inside(Step::Item(1), second))
+            inside(
+                PointerStep::Key("orelse"),
+                inside(PointerStep::Item(1), second),
+            )
         }
         _ => Ok(left),
     }
@@ -158,7 +173,7 @@ fn find_in_row(alloc: Global, txs: &[Tx], limit: Limit, depth: u32, left: u32) -
     let mut left = left;
     for (i, tx) in txs.iter().enumerate() {
         let found = find_in_plan(alloc, tx, limit, depth, left);
-        left = inside(Step::Item(i as u64), found)?;
+        left = inside(PointerStep::Item(i as u64), found)?;
     }
     Ok(left)
 }

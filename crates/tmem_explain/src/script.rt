@@ -5,7 +5,7 @@ ghost use Rattle.serde_json.specs.Find.{get};
 ghost use Rattle.serde_json.specs.Read.{read};
 ghost use Rattle.serde_json.specs.View.{view};
 ghost use Rattle.tmem_script.specs.Scripts.{IsScriptText};
-ghost use Rattle.tmem_script.specs.declared.script.Entry.{Entry};
+ghost use Rattle.tmem_script.specs.declared.script.ScriptEntry.{ScriptEntry};
 ghost use Rattle.tmem_fault.specs.Name.{has_name};
 ghost use Rattle.tmem_requests.specs.Reasons.{IsNoJson};
 ghost use Rattle.tmem_explain.specs.Flaws.{HasUnknownScriptKey, IsAmissIn, IsFlawOf, IsTextFlaw};
@@ -19,7 +19,7 @@ use crate::limits::flaws_of_script;
 use serde_json::Value;
 use std::alloc::{AllocError, Global};
 use tmem_forms::short_of;
-use tmem_requests::{Step, has_only};
+use tmem_requests::{PointerStep, has_only};
 use tmem_script::{Script, ScriptError};
 
 /// All that is wrong with the text of a script: of each of its numbers, and of each entry, the first thing. Of a script these are numbers
@@ -129,11 +129,11 @@ fn note_entries(
 {
     let Value::Array(items) = events else {
         let found = find_no_array(alloc, events);
-        return note(flaws, inside(Step::Key("events"), found));
+        return note(flaws, inside(PointerStep::Key("events"), found));
     };
     for (i, item) in items.iter().enumerate() {
-        let found = inside(Step::Item(i as u64), find_in_entry(alloc, item));
-        note(flaws, inside(Step::Key("events"), found))?;
+        let found = inside(PointerStep::Item(i as u64), find_in_entry(alloc, item));
+        note(flaws, inside(PointerStep::Key("events"), found))?;
     }
     Ok(())
 }
@@ -236,7 +236,7 @@ fn find_in_number(alloc: Global, value: &Value, key: &'static str) -> Result<(),
     ensures { IfErr result (IsAmissIn (view value.now)) }
 {
     match value.get(key) {
-        Some(number) => inside(Step::Key(key), find_no_number(alloc, number)),
+        Some(number) => inside(PointerStep::Key(key), find_no_number(alloc, number)),
         None => Err(Amiss::here(alloc, Expected::Member(key))),
     }
 }

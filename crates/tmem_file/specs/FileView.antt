@@ -2,13 +2,13 @@
 use Rattle.std.specs.Prelude.{ℕ, Option, List, length}
 use Rattle.tmem_disk.specs.Disk.{DeviceView, IsDevice}
 use Rattle.tmem_disk.specs.declared.disk.DeviceFault.{DeviceFault}
-use Rattle.tmem_file.specs.Record.{Event, seen_after, LeftAfter, FileLeftSince, ReadsAgree}
+use Rattle.tmem_file.specs.Record.{FileEvent, seen_after, LeftAfter, FileLeftSince, ReadsAgree}
 use Rattle.tmem_file.specs.Recorded.{start_of, call_events}
 use Rattle.tmem_file.specs.Held.{seen_long, left_long, seen_stays, left_now, only_now}
 use Rattle.tmem_file.specs.declared.disk.FileDisk.{FileDisk}
 
 -- a file as a device, by its count of faults, the last one, and the record of its calls
-abbrev pub recorded_view : ℕ → Option DeviceFault → List ℕ → List Event → DeviceView
+abbrev pub recorded_view : ℕ → Option DeviceFault → List ℕ → List FileEvent → DeviceView
 recorded_view failures last_fault start events = record {
   capacity = length start;
   failures = failures;

@@ -4,22 +4,22 @@ use Rattle.std.specs.Prelude.{◌≡◌, ◌⊎◌, ⊤, ℕ, ◌+◌, ◌≤◌
 use Rattle.tmem_disk.specs.Disk.{overwritten, SameOutside}
 
 -- What came of a call.
-pub data Event : Type 0 where
+pub data FileEvent : Type 0 where
   -- a read gave these bytes from an offset on
-  gave : ℕ → List ℕ → Event
+  gave : ℕ → List ℕ → FileEvent
   -- these bytes stand from an offset on, after a write
-  holds : ℕ → List ℕ → Event
+  holds : ℕ → List ℕ → FileEvent
   -- a write of so many bytes from an offset on failed, and what stands there could not be read
-  tore : ℕ → ℕ → Event
+  tore : ℕ → ℕ → FileEvent
   -- a sync succeeded
-  synced : Event
+  synced : FileEvent
   -- a sync failed
-  lost : Event
+  lost : FileEvent
 
 -- The events stand with the newest first.
 
 -- the bytes that a read gives
-abbrev pub seen_after : List ℕ → List Event → List ℕ
+abbrev pub seen_after : List ℕ → List FileEvent → List ℕ
 seen_after start [] = start
 seen_after start (gave at bytes ∷ earlier) = seen_after start earlier
 seen_after start (holds at bytes ∷ earlier) = overwritten (seen_after start earlier) at bytes
@@ -28,7 +28,7 @@ seen_after start (synced ∷ earlier) = seen_after start earlier
 seen_after start (lost ∷ earlier) = seen_after start earlier
 
 -- what it holds is not known for sure after it
-abbrev pub is_loss : Event → Bool
+abbrev pub is_loss : FileEvent → Bool
 is_loss (gave at bytes) = false
 is_loss (holds at bytes) = false
 is_loss (tore at n) = true
@@ -36,12 +36,12 @@ is_loss synced = false
 is_loss lost = true
 
 -- and so it is after one such event
-abbrev pub has_lost : List Event → Bool
+abbrev pub has_lost : List FileEvent → Bool
 has_lost [] = false
 has_lost (event ∷ earlier) = is_loss event || has_lost earlier
 
 -- a sync succeeded, nothing was written since, and it is known for sure what the file holds
-abbrev pub is_synced : List Event → Bool
+abbrev pub is_synced : List FileEvent → Bool
 is_synced [] = false
 is_synced (gave at bytes ∷ earlier) = is_synced earlier
 is_synced (holds at bytes ∷ earlier) = false
@@ -56,7 +56,7 @@ by_case false P Q = Q
 
 -- What a crash may leave: at first anything as long as the file, after a sync what a read gives, and then anything in the
 -- ranges written since. Once it is not known for sure what the file holds, a sync promises nothing.
-abbrev pub LeftAfter : List ℕ → List Event → List ℕ → Type 0
+abbrev pub LeftAfter : List ℕ → List FileEvent → List ℕ → Type 0
 LeftAfter start [] c = length c ≡ length start
 LeftAfter start (gave at bytes ∷ earlier) c = LeftAfter start earlier c
 LeftAfter start (holds at bytes ∷ earlier) c = (b : List ℕ) × LeftAfter start earlier b × SameOutside at (length bytes) b c
@@ -65,12 +65,12 @@ LeftAfter start (synced ∷ earlier) c = by_case (has_lost earlier) (LeftAfter s
 LeftAfter start (lost ∷ earlier) c = LeftAfter start earlier c
 
 -- what a crash now may leave, or might have left after t events or more
-abbrev pub FileLeftSince : List ℕ → List Event → ℕ → List ℕ → Type 0
+abbrev pub FileLeftSince : List ℕ → List FileEvent → ℕ → List ℕ → Type 0
 FileLeftSince start [] t c = LeftAfter start [] c
 FileLeftSince start (event ∷ earlier) t c = LeftAfter start (event ∷ earlier) c ⊎ ((t ≤ length earlier) × FileLeftSince start earlier t c)
 
 -- each read gave the bytes that the file held by then
-abbrev pub ReadsAgree : List ℕ → List Event → Type 0
+abbrev pub ReadsAgree : List ℕ → List FileEvent → Type 0
 ReadsAgree start [] = ⊤
 ReadsAgree start (gave at bytes ∷ earlier) = ReadsAgree start earlier × (bytes ≡ slice_range (seen_after start earlier) at (at + length bytes))
 ReadsAgree start (holds at bytes ∷ earlier) = ReadsAgree start earlier
@@ -79,7 +79,7 @@ ReadsAgree start (synced ∷ earlier) = ReadsAgree start earlier
 ReadsAgree start (lost ∷ earlier) = ReadsAgree start earlier
 
 -- where the range of a call ends
-abbrev pub end_of : Event → ℕ
+abbrev pub end_of : FileEvent → ℕ
 end_of (gave at bytes) = at + length bytes
 end_of (holds at bytes) = at + length bytes
 end_of (tore at n) = at + n
@@ -87,6 +87,6 @@ end_of synced = 0
 end_of lost = 0
 
 -- the farthest end of a range
-abbrev pub reach : List Event → ℕ
+abbrev pub reach : List FileEvent → ℕ
 reach [] = 0
 reach (event ∷ earlier) = max (end_of event) (reach earlier)

@@ -8,7 +8,7 @@ use std::snapshot::Snapshot;
 
 /// What came of a call.
 #[derive(Drop)]
-pub(crate) enum Call {
+pub(crate) enum FileCall {
     /// A read gave these bytes.
     Gave(Range),
     /// These bytes stand there, after a write.
@@ -21,12 +21,12 @@ pub(crate) enum Call {
     Lost,
 }
 
-impl Call {
+impl FileCall {
     /// Is it not known for sure what the file holds after it?
     pub(crate) fn is_loss(&self) -> bool
         ensures { result ≡ is_loss (event_of self.now) }
     {
-        matches!(self, Call::Tore(_, _) | Call::Lost)
+        matches!(self, FileCall::Tore(_, _) | FileCall::Lost)
     }
 }
 
@@ -34,7 +34,7 @@ impl Call {
 #[derive(Drop)]
 pub(crate) enum Calls {
     Start(Snapshot<Range>),
-    After(Snapshot<Call>, Snapshot<Calls>),
+    After(Snapshot<FileCall>, Snapshot<Calls>),
 }
 
 impl Calls {
@@ -47,7 +47,7 @@ impl Calls {
     }
 
     /// One call more.
-    pub(crate) fn with(&self, call: &Call) -> Calls
+    pub(crate) fn with(&self, call: &FileCall) -> Calls
         ensures start { first_range result ≡ first_range self.now }
         ensures events { call_events result ≡ event_of call.now ∷ call_events self.now }
     {

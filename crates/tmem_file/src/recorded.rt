@@ -2,12 +2,12 @@
 ghost use Rattle.std.specs.Prelude.{◌≡◌, false, ◌+◌, ◌≤◌, ◌<◌, ◌^◌, pos, List, [], ◌∷◌, length, replicate, IfOk, OnOk, OnErr};
 ghost use Rattle.std.specs.Int.Signed.{◌<ℤ◌};
 ghost use Rattle.std.specs.Fd.{file_raw_fd};
-ghost use Rattle.tmem_file.specs.Record.{Event, gave, holds, synced, lost, has_lost, is_synced};
+ghost use Rattle.tmem_file.specs.Record.{FileEvent, gave, holds, synced, lost, has_lost, is_synced};
 ghost use Rattle.tmem_file.specs.Recorded.{range_bytes, event_of, first_range, start_of, call_events, Spoils};
 
 use crate::calls::{Range, Synced};
 use crate::naming::size_of;
-use crate::record::{Call, Calls};
+use crate::record::{Calls, FileCall};
 use std::fs::File;
 use std::io::{self, ErrorKind};
 
@@ -90,7 +90,7 @@ impl RecordedFile {
         ensures same { OnErr result (call_events self.new.calls ≡ call_events self.old.calls) }
     {
         let given = Range::from(at).read(&self.file, into)?;
-        self.note(&Call::Gave(given));
+        self.note(&FileCall::Gave(given));
         Ok(())
     }
 
@@ -103,7 +103,7 @@ impl RecordedFile {
     {
         match Range::from(at).write(&self.file, bytes) {
             Ok(written) => {
-                self.note(&Call::Holds(written));
+                self.note(&FileCall::Holds(written));
                 Ok(())
             }
             Err(error) => {
@@ -114,13 +114,13 @@ impl RecordedFile {
     }
 
     // What stands in a range in which a write failed.
-    fn look(&self, at: u64, count: u64) -> Call
+    fn look(&self, at: u64, count: u64) -> FileCall
         requires { at + count < 2 ^ 64 }
-        ensures { (earlier : List Event) → Spoils at count earlier (event_of result ∷ earlier) }
+        ensures { (earlier : List FileEvent) → Spoils at count earlier (event_of result ∷ earlier) }
     {
         match find(&self.file, at, count) {
-            Ok(found) => Call::Holds(found),
-            Err(_) => Call::Tore(at, count),
+            Ok(found) => FileCall::Holds(found),
+            Err(_) => FileCall::Tore(at, count),
         }
     }
 
@@ -140,24 +140,24 @@ impl RecordedFile {
         };
         match outcome {
             Ok(synced) => {
-                self.note(&Call::Synced(synced));
+                self.note(&FileCall::Synced(synced));
                 Ok(())
             }
             Err(error) => {
-                self.note(&Call::Lost);
+                self.note(&FileCall::Lost);
                 Err(error)
             }
         }
     }
 
     // Puts a call on record.
-    fn note(&mut self, call: &Call)
+    fn note(&mut self, call: &FileCall)
         ensures start { first_range self.new.calls ≡ first_range self.old.calls }
         ensures events { call_events self.new.calls ≡ event_of call.now ∷ call_events self.old.calls }
     {
         self.synced = match call {
-            Call::Gave(_) => self.synced,
-            Call::Synced(_) => !self.unsure,
+            FileCall::Gave(_) => self.synced,
+            FileCall::Synced(_) => !self.unsure,
             _ => false,
         };
         self.unsure = call.is_loss() || self.unsure;

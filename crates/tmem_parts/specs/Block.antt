@@ -5,8 +5,8 @@ use Rattle.tmem_record.specs.Layout.{IsLayout}
 use Rattle.tmem_record.specs.StandsAt.{StandsAt, zero_bytes}
 use Rattle.tmem_state.specs.Versions.{version_number}
 use Rattle.tmem_state.specs.declared.version.Version.{Version}
-use Rattle.tmem_parts.specs.declared.wrong.Why.{Why}
-use Rattle.tmem_parts.specs.declared.wrong.Why.TheVariants as why
+use Rattle.tmem_parts.specs.declared.wrong.FormatFlaw.{FormatFlaw}
+use Rattle.tmem_parts.specs.declared.wrong.FormatFlaw.TheVariants as why
 
 -- the number of two bytes from an offset on, the lesser one first
 abbrev pub short_in : List ℕ → ℕ → ℕ
@@ -34,7 +34,7 @@ IsNoBlock c = (version : Version) (vars slots : ℕ) → IsBlock version vars sl
 
 -- This is wrong with block 0, at that offset: the bytes end there; the gate is closed; a letter is another one; no version has that
 -- number; the number of variables, or that of log slots, is out of its limits; or a byte behind them is not 0.
-abbrev pub IsBlockWrong : Why → ℕ → List ℕ → Type 0
+abbrev pub IsBlockWrong : FormatFlaw → ℕ → List ℕ → Type 0
 IsBlockWrong why.Ends at c = (length c < 512) × (at ≡ length c)
 IsBlockWrong why.BlockClosed at c = (at ≡ 0) × IsClosed 0 c
 IsBlockWrong why.Letters at c = (1 ≤ at) × (at ≤ 4) × (slice_index c at ≢ slice_index (codes "TMEM") (at - 1))

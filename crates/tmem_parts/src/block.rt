@@ -4,7 +4,7 @@ ghost use Rattle.tmem_record.specs.Layout.{IsLayout};
 ghost use Rattle.tmem_record.specs.StandsAt.{StandsAt, zero_bytes};
 ghost use Rattle.tmem_parts.specs.Block.{IsBlockWrong, IsBlock, IsHeadedBy, IsNoBlock, short_in};
 
-use crate::wrong::{Why, Wrong};
+use crate::wrong::{FormatFlaw, WrongByte};
 use tmem_gate::reads_open;
 use tmem_record::{BLOCK_BYTES, LEAST_SLOTS, Layout};
 use tmem_state::Version;
@@ -23,34 +23,34 @@ pub struct Block {
 }
 
 /// Reads block 0. Where it is none of a store, the error is the first thing that is wrong with it.
-pub fn block_of(bytes: &[u8]) -> Result<Block, Wrong>
+pub fn block_of(bytes: &[u8]) -> Result<Block, WrongByte>
     ensures block { IfOk result (λ block. IsBlock block.version block.layout.vars block.layout.slots bytes.now) }
     ensures none { OnErr result (IsNoBlock bytes.now) }
     ensures wrong { IfErr result (λ wrong. IsBlockWrong wrong.why wrong.at bytes.now) }
 {
     if bytes.len() < BLOCK_BYTES {
-        return Err(Wrong {
+        return Err(WrongByte {
             at: bytes.len() as u64,
-            why: Why::Ends,
+            why: FormatFlaw::Ends,
         });
     }
     if !reads_open(bytes, 0) {
-        return Err(Wrong {
+        return Err(WrongByte {
             at: 0,
-            why: Why::BlockClosed,
+            why: FormatFlaw::BlockClosed,
         });
     }
     if let Some(at) = other_letter(bytes) {
-        return Err(Wrong {
+        return Err(WrongByte {
             at,
-            why: Why::Letters,
+            why: FormatFlaw::Letters,
         });
     }
     match Version::of_block(bytes[5]) {
         Some(version) => numbers_of(bytes, version),
-        None => Err(Wrong {
+        None => Err(WrongByte {
             at: 5,
-            why: Why::BlockVersion,
+            why: FormatFlaw::BlockVersion,
         }),
     }
 }
@@ -58,7 +58,7 @@ pub fn block_of(bytes: &[u8]) -> Result<Block, Wrong>
 // The offset of the first letter that is another one than that of `TMEM`.
 fn other_letter(bytes: &[u8]) -> Option<u64>
     requires { 512 ≤ length bytes.now }
-    ensures other { IfSome result (λ at. IsBlockWrong Why.Letters at bytes.now) }
+    ensures other { IfSome result (λ at. IsBlockWrong FormatFlaw.Letters at bytes.now) }
     ensures some { OnSome result (take 4 (drop 1 bytes.now) ≢ codes "TMEM") }
     ensures none { IfNone result (take 4 (drop 1 bytes.now) ≡ codes "TMEM") }
 {
@@ -72,7 +72,7 @@ fn other_letter(bytes: &[u8]) -> Option<u64>
 }
 
 // The block of a version, by its numbers and the zeros behind them.
-fn numbers_of(bytes: &[u8], version: Version) -> Result<Block, Wrong>
+fn numbers_of(bytes: &[u8], version: Version) -> Result<Block, WrongByte>
     requires { IsHeadedBy version bytes.now }
     ensures block { IfOk result (λ block. IsBlock block.version block.layout.vars block.layout.slots bytes.now) }
     ensures none { OnErr result (IsNoBlock bytes.now) }
@@ -83,9 +83,9 @@ fn numbers_of(bytes: &[u8], version: Version) -> Result<Block, Wrong>
         return Err(wrong_number(bytes));
     };
     if let Some(at) = other_than_zero(bytes) {
-        return Err(Wrong {
+        return Err(WrongByte {
             at,
-            why: Why::NotZero,
+            why: FormatFlaw::NotZero,
         });
     }
     Ok(Block { version, layout })
@@ -100,20 +100,20 @@ fn short_at(bytes: &[u8], at: usize) -> u16
 }
 
 // Which of the two numbers is out of its limits: that of the variables, where it is, and else that of the log slots.
-fn wrong_number(bytes: &[u8]) -> Wrong
+fn wrong_number(bytes: &[u8]) -> WrongByte
     requires long { 512 ≤ length bytes.now }
     requires unfit { ¬ IsLayout (short_in bytes.now 6) (short_in bytes.now 8) }
     ensures { IsBlockWrong result.why result.at bytes.now }
 {
     if Layout::new(short_at(bytes, 6), LEAST_SLOTS).is_ok() {
-        Wrong {
+        WrongByte {
             at: 8,
-            why: Why::Slots,
+            why: FormatFlaw::Slots,
         }
     } else {
-        Wrong {
+        WrongByte {
             at: 6,
-            why: Why::Vars,
+            why: FormatFlaw::Vars,
         }
     }
 }
@@ -121,7 +121,7 @@ fn wrong_number(bytes: &[u8]) -> Wrong
 // The offset of the first byte behind the numbers that is not 0.
 fn other_than_zero(bytes: &[u8]) -> Option<u64>
     requires { 512 ≤ length bytes.now }
-    ensures other { IfSome result (λ at. IsBlockWrong Why.NotZero at bytes.now) }
+    ensures other { IfSome result (λ at. IsBlockWrong FormatFlaw.NotZero at bytes.now) }
     ensures some { OnSome result (¬ StandsAt 10 (zero_bytes 502) bytes.now) }
     ensures none { IfNone result (StandsAt 10 (zero_bytes 502) bytes.now) }
 {

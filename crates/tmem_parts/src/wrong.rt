@@ -3,13 +3,13 @@ use std::fmt;
 
 /// An offset where bytes are not as the format says, and why.
 #[derive(Clone, Copy)]
-pub struct Wrong {
+pub struct WrongByte {
     /// The byte, counted from the first one of the store.
     pub at: u64,
-    pub why: Why,
+    pub why: FormatFlaw,
 }
 
-impl fmt::Display for Wrong {
+impl fmt::Display for WrongByte {
     fn fmt<W: fmt::Write>(&self, f: &mut fmt::Formatter<W>) -> fmt::Result {
         write!(f, "byte {}: {}", self.at, self.why)
     }
@@ -17,7 +17,7 @@ impl fmt::Display for Wrong {
 
 /// What is wrong with the bytes at an offset.
 #[derive(Clone, Copy)]
-pub enum Why {
+pub enum FormatFlaw {
     /// There are no more bytes.
     Ends,
     /// The gate of block 0 is closed.
@@ -74,42 +74,42 @@ pub enum Why {
     PastLimits,
 }
 
-impl fmt::Display for Why {
+impl fmt::Display for FormatFlaw {
     fn fmt<W: fmt::Write>(&self, f: &mut fmt::Formatter<W>) -> fmt::Result {
         f.pad(self.words())
     }
 }
 
-impl Why {
+impl FormatFlaw {
     fn words(self) -> &'static str {
         match self {
-            Why::Ends => "the bytes end here",
-            Why::BlockClosed => "the gate of block 0 is closed",
-            Why::Letters => "it is not the letter of TMEM that stands here",
-            Why::BlockVersion => "no version of the format has this number",
-            Why::Vars => "the number of variables is not 1 to 1024",
-            Why::Slots => "the number of log slots is not 2 to 64",
-            Why::NotZero => "the byte is not 0",
-            Why::NoImage => "neither image copy is open",
-            Why::SameGeneration => "both image copies are of this generation",
-            Why::NoGeneration => "the generation is 0",
-            Why::TooManyNames => "there are more than 64 names",
-            Why::NoName => "no name stands here",
-            Why::NotAscending => "the name does not come behind the one before it",
-            Why::Mark => "no version of an image has this mark",
-            Why::Earlier => "the image is of an earlier version than block 0",
-            Why::Last => "the generation is the last one, and the image is of version 1",
-            Why::First => "the number of the first record does not follow on",
-            Why::Records => "the number of records is not 1 to 64",
-            Why::TooManyWrites => "the record has more than 64 writes",
-            Why::Variable => "there is no such variable",
-            Why::Twice => "it stands twice in the record",
-            Why::TooManyChecks => "the record checks more than 8 names",
-            Why::TooManyRetires => "the record retires more than 8 names",
-            Why::Nothing => "the record changes nothing",
-            Why::TooLong => "the records have more than 4077 bytes",
-            Why::NotStale => "an open slot behind the log is not of an earlier generation",
-            Why::PastLimits => "the records take the count or the names past their limits",
+            FormatFlaw::Ends => "the bytes end here",
+            FormatFlaw::BlockClosed => "the gate of block 0 is closed",
+            FormatFlaw::Letters => "it is not the letter of TMEM that stands here",
+            FormatFlaw::BlockVersion => "no version of the format has this number",
+            FormatFlaw::Vars => "the number of variables is not 1 to 1024",
+            FormatFlaw::Slots => "the number of log slots is not 2 to 64",
+            FormatFlaw::NotZero => "the byte is not 0",
+            FormatFlaw::NoImage => "neither image copy is open",
+            FormatFlaw::SameGeneration => "both image copies are of this generation",
+            FormatFlaw::NoGeneration => "the generation is 0",
+            FormatFlaw::TooManyNames => "there are more than 64 names",
+            FormatFlaw::NoName => "no name stands here",
+            FormatFlaw::NotAscending => "the name does not come behind the one before it",
+            FormatFlaw::Mark => "no version of an image has this mark",
+            FormatFlaw::Earlier => "the image is of an earlier version than block 0",
+            FormatFlaw::Last => "the generation is the last one, and the image is of version 1",
+            FormatFlaw::First => "the number of the first record does not follow on",
+            FormatFlaw::Records => "the number of records is not 1 to 64",
+            FormatFlaw::TooManyWrites => "the record has more than 64 writes",
+            FormatFlaw::Variable => "there is no such variable",
+            FormatFlaw::Twice => "it stands twice in the record",
+            FormatFlaw::TooManyChecks => "the record checks more than 8 names",
+            FormatFlaw::TooManyRetires => "the record retires more than 8 names",
+            FormatFlaw::Nothing => "the record changes nothing",
+            FormatFlaw::TooLong => "the records have more than 4077 bytes",
+            FormatFlaw::NotStale => "an open slot behind the log is not of an earlier generation",
+            FormatFlaw::PastLimits => "the records take the count or the names past their limits",
         }
     }
 }

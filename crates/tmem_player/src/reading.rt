@@ -120,26 +120,26 @@ fn event_of(alloc: Global, key: &str, body: &Value) -> Result<Event, FormError>
 {
     if key == "begin" {
         let (first, second) = pair_of(body)?;
-        let slot = attempt_of(first)?;
+        let attempt = attempt_of(first)?;
         let tx = tx_of(alloc, second)?;
-        return Ok(Event::Begin { slot, tx });
+        return Ok(Event::Begin { slot: attempt, tx });
     }
-    let slot = attempt_of(body)?;
+    let attempt = attempt_of(body)?;
     Ok(if key == "turn" {
-        Event::Turn { slot }
+        Event::Turn { slot: attempt }
     } else {
-        Event::Settle { slot }
+        Event::Settle { slot: attempt }
     })
 }
 
 fn attempt_of(value: &Value) -> Result<u8, FormError>
-    ensures { IfOk result (λ slot. slot < 16) }
+    ensures { IfOk result (λ attempt. attempt < 16) }
 {
-    let slot = byte_of(value)?;
-    if slot as usize >= ATTEMPTS {
+    let attempt = byte_of(value)?;
+    if attempt as usize >= ATTEMPTS {
         return Err(FormError::NoForm);
     }
-    Ok(slot)
+    Ok(attempt)
 }
 
 fn add_opening(body: &Value, draft: &mut Draft) -> Result<(), FormError> {

@@ -6,12 +6,12 @@ use Rattle.tmem_tree.specs.declared.tx.Tx.{Tx}
 use Rattle.tmem_requests.specs.Forms.{list_at, IsInteger, AreIntegers, AreVariables, ArePairs, IsWord, IsKept}
 use Rattle.tmem_requests.specs.Requests.{key_of, IsSettle, AsksBy}
 use Rattle.tmem_requests.specs.declared.proposal.Proposal.{Proposal}
-use Rattle.tmem_requests.specs.declared.request.Ask.{Ask}
-use Rattle.tmem_requests.specs.declared.request.Ask.TheVariants.{Do, Try, Get, Settle, Changed, Cancel, Keep, Run, Look, State, Checkpoint, Stats}
+use Rattle.tmem_requests.specs.declared.request.RequestBody.{RequestBody}
+use Rattle.tmem_requests.specs.declared.request.RequestBody.TheVariants.{Do, Try, Get, Settle, Changed, Cancel, Keep, Run, Look, State, Checkpoint, Stats}
 
 -- nothing is asked for so
 abbrev pub NoAsk : List ℕ → Data → Data → Type 0
-NoAsk key body whole = (ask : Ask) → ¬ AsksBy ask key body whole
+NoAsk key body whole = (ask : RequestBody) → ¬ AsksBy ask key body whole
 
 pub no_do : (key : List ℕ) (body whole : Data) → key ≡ codes "do" → NoTx body → NoAsk key body whole
 no_do key body whole at none (Do tx) is = none tx is.body

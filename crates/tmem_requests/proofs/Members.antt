@@ -16,8 +16,8 @@ use Rattle.tmem_forms.specs.Members.{HasOnly, member_keys}
 use Rattle.tmem_requests.specs.Forms.{HasMember, IsInteger}
 use Rattle.tmem_forms.proofs.Laws.{same_members}
 use Rattle.tmem_requests.specs.Requests.{key_of, keys_by, IsBody, AsksBy, IsRequest}
-use Rattle.tmem_requests.specs.declared.request.Ask.{Ask}
-use Rattle.tmem_requests.specs.declared.request.Ask.TheVariants.{Do}
+use Rattle.tmem_requests.specs.declared.request.RequestBody.{RequestBody}
+use Rattle.tmem_requests.specs.declared.request.RequestBody.TheVariants.{Do}
 
 -- the keys beside which something is asked for
 abbrev pub aside : List (List ℕ)
@@ -131,7 +131,7 @@ beside_by key k false is other among =
 pub beside : (key k : List ℕ) → has_name aside k ≡ false → has_name (keys_by key) k ≡ true → key ≡ k
 beside key k other among = beside_by key k (bytes_eq key (codes "run")) refl other among
 
-pub not_aside : (ask : Ask) → has_name aside (key_of ask) ≡ false
+pub not_aside : (ask : RequestBody) → has_name aside (key_of ask) ≡ false
 not_aside (Do tx) = refl
 not_aside ask = refl
 
@@ -139,7 +139,7 @@ not_aside ask = refl
 
 -- no request has this form
 abbrev pub NoRequestIn : Data → Type 0
-NoRequestIn d = (id : ℤ) (ask : Ask) → ¬ IsRequest id ask d
+NoRequestIn d = (id : ℤ) (ask : RequestBody) → ¬ IsRequest id ask d
 
 pub no_request_unnumbered : (d : Data) → ((id : ℤ) → ¬ HasMember (codes "id") (IsInteger id) d) → NoRequestIn d
 no_request_unnumbered d none id ask is = none id is.numbered
@@ -151,7 +151,7 @@ pub no_request_unasked : (d : Data) → ((k : List ℕ) → IsSome (get k d) →
 no_request_unasked d all id ask is =
     false≢true (sym (not_aside ask) ∙ all (key_of ask) (some_is (get (key_of ask) d) is.asked.value is.asked.stands))
 
-pub asks_by : (d v : Data) (k : List ℕ) (id : ℤ) (ask : Ask) → get k d ≡ Some v → has_name aside k ≡ false → IsRequest id ask d → key_of ask ≡ k
+pub asks_by : (d v : Data) (k : List ℕ) (id : ℤ) (ask : RequestBody) → get k d ≡ Some v → has_name aside k ≡ false → IsRequest id ask d → key_of ask ≡ k
 asks_by d v k id ask found other is =
     beside (key_of ask) k other (key_known (keys_by (key_of ask)) k d v is.only found)
 
@@ -162,13 +162,13 @@ no_request_with_more d v k found other more id ask is =
 pub same_value : (a b : Data) → Some a ≡ Some b → a ≡ b
 same_value a b same = cc
 
-pub no_request_of_none : (d v : Data) (k : List ℕ) → get k d ≡ Some v → has_name aside k ≡ false → ((ask : Ask) → ¬ AsksBy ask k v d) → NoRequestIn d
+pub no_request_of_none : (d v : Data) (k : List ℕ) → get k d ≡ Some v → has_name aside k ≡ false → ((ask : RequestBody) → ¬ AsksBy ask k v d) → NoRequestIn d
 no_request_of_none d v k found other none id ask is =
     let key = asks_by d v k id ask found other is in
     let there : is.asked.value ≡ v = same_value is.asked.value v (sym is.asked.stands ∙ ap (λ (l : List ℕ). get l d) key ∙ found) in
     none ask (record { key = sym key; body = subst (λ (b : Data). IsBody ask b) there is.asked.is; numbers = is.numbers })
 
-pub request_of : (d v : Data) (k : List ℕ) (id : ℤ) (ask : Ask) → get k d ≡ Some v → HasOnly (keys_by k) d → HasMember (codes "id") (IsInteger id) d → AsksBy ask k v d → IsRequest id ask d
+pub request_of : (d v : Data) (k : List ℕ) (id : ℤ) (ask : RequestBody) → get k d ≡ Some v → HasOnly (keys_by k) d → HasMember (codes "id") (IsInteger id) d → AsksBy ask k v d → IsRequest id ask d
 request_of d v k id ask found only numbered asked =
     record {
       only = subst (λ (key : List ℕ). HasOnly (keys_by key) d) asked.key only;

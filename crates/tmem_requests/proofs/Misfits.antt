@@ -11,7 +11,7 @@ use Rattle.tmem_forms.specs.TxForms.{array_of, level_form, natural, tagged, tx_f
 use Rattle.tmem_requests.proofs.Reading.{list_found, list_left_out}
 use Rattle.tmem_requests.specs.Forms.{HasMember, list_at}
 use Rattle.tmem_requests.specs.Requests.{key_of, IsBody, IsRequest}
-use Rattle.tmem_requests.specs.declared.request.Ask.{Ask}
+use Rattle.tmem_requests.specs.declared.request.RequestBody.{RequestBody}
 
 -- the forms of transactions that hold others, and of one that retires
 pub form_of_seq : (txs : Vec Tx Global) → tx_form (Seq txs) ≡ tagged (codes "seq") (array_of (map tx_form txs.items))
@@ -45,5 +45,5 @@ at_its_key form key d xs P is there none = by (get key d) refl
     by None at = none (no_items form xs (sym (list_left_out key d at) ∙ is))
 
 -- what is asked for stands at its key
-pub asked_as : (id : ℤ) (d : Data) (ask other : Ask) → ask ≡ other → IsRequest id ask d → HasMember (key_of other) (IsBody other) d
-asked_as id d ask other same is = subst (λ (a : Ask). HasMember (key_of a) (IsBody a) d) same is.asked
+pub asked_as : (id : ℤ) (d : Data) (ask other : RequestBody) → ask ≡ other → IsRequest id ask d → HasMember (key_of other) (IsBody other) d
+asked_as id d ask other same is = subst (λ (a : RequestBody). HasMember (key_of a) (IsBody a) d) same is.asked

@@ -10,19 +10,19 @@ use Rattle.tmem_requests.specs.Fits.{AreNamed, AreThere, FitsStore, ProposalFits
 use Rattle.tmem_requests.specs.Forms.{pair_form}
 use Rattle.tmem_requests.specs.Requests.{key_of, IsBody, IsRequest, IsRequestText, IsSettle}
 use Rattle.tmem_requests.specs.declared.proposal.Proposal.{Proposal}
-use Rattle.tmem_requests.specs.declared.request.Ask.{Ask}
-use Rattle.tmem_requests.specs.declared.request.Ask.TheVariants as ask
+use Rattle.tmem_requests.specs.declared.request.RequestBody.{RequestBody}
+use Rattle.tmem_requests.specs.declared.request.RequestBody.TheVariants as ask
 use Rattle.tmem_requests.proofs.Members.{asks_by, not_aside, same_value}
 use Rattle.tmem_requests.proofs.Retired.{retired, retired_tx}
 use Rattle.tmem_requests.proofs.Same.{same_integer, same_naturals, same_pairs, same_strings}
 
 -- each request that a line is, its value is
-same_line : (line : List ℕ) (id other : ℤ) (asks others : Ask) (one : IsRequestText id asks line) → IsRequestText other others line → IsRequest other others one.value
+same_line : (line : List ℕ) (id other : ℤ) (asks others : RequestBody) (one : IsRequestText id asks line) → IsRequestText other others line → IsRequest other others one.value
 same_line line id other asks others one two =
     subst (λ (e : Data). IsRequest other others e) (same_value two.value one.value (sym two.reads ∙ one.reads)) two.request
 
 -- and has the same id
-pub one_id : (line : List ℕ) (id other : ℤ) (asks others : Ask) → IsRequestText id asks line → IsRequestText other others line → other ≡ id
+pub one_id : (line : List ℕ) (id other : ℤ) (asks others : RequestBody) → IsRequestText id asks line → IsRequestText other others line → other ≡ id
 one_id line id other asks others one two =
     let is = same_line line id other asks others one two in
     let mine = one.request.numbered in
@@ -50,7 +50,7 @@ module _ (vars : ℕ) (names always : List (List ℕ)) where
         keeps = subst (λ (l : List (List ℕ)). AreApart l always) retires fits.keeps;
       }
 
-  fits_at : (asks : Ask) (v : Data) → IsBody asks v → FitsStore vars names always asks → FitsAt (key_of asks) v
+  fits_at : (asks : RequestBody) (v : Data) → IsBody asks v → FitsStore vars names always asks → FitsAt (key_of asks) v
   fits_at (ask.Do tx) v is fits = ap (retired always) is.form ∙ (sym (retired_tx always tx) ∙ fits)
   fits_at (ask.Try tx) v is fits = ap (retired always) is.form ∙ (sym (retired_tx always tx) ∙ fits)
   fits_at (ask.Get all) v is fits = λ others form. subst (AreThere vars) (same_naturals v all.items others is.form form) fits
@@ -64,7 +64,7 @@ module _ (vars : ℕ) (names always : List (List ℕ)) where
   fits_at ask.Checkpoint v is fits = ap (retired always) is
   fits_at ask.Stats v is fits = ap (retired always) is
 
-  fits_from : (asks : Ask) (v : Data) → IsBody asks v → FitsAt (key_of asks) v → FitsStore vars names always asks
+  fits_from : (asks : RequestBody) (v : Data) → IsBody asks v → FitsAt (key_of asks) v → FitsStore vars names always asks
   fits_from (ask.Do tx) v is fits = retired_tx always tx ∙ (sym (ap (retired always) is.form) ∙ fits)
   fits_from (ask.Try tx) v is fits = retired_tx always tx ∙ (sym (ap (retired always) is.form) ∙ fits)
   fits_from (ask.Get all) v is fits = fits all.items is.form
@@ -79,7 +79,7 @@ module _ (vars : ℕ) (names always : List (List ℕ)) where
   fits_from ask.Stats v is fits = tt
 
   -- where one request that a line is can be made of a store, each that it is can be
-  pub fits_too : (line : List ℕ) (id other : ℤ) (asks others : Ask) → IsRequestText id asks line → IsRequestText other others line → FitsStore vars names always others → FitsStore vars names always asks
+  pub fits_too : (line : List ℕ) (id other : ℤ) (asks others : RequestBody) → IsRequestText id asks line → IsRequestText other others line → FitsStore vars names always others → FitsStore vars names always asks
   fits_too line id other asks others one two fits =
       let d = one.value in
       let v = one.request.asked.value in

@@ -16,7 +16,7 @@ use Rattle.tmem_requests.specs.Errors.{IsNoRequest, LacksMemory}
 use Rattle.tmem_requests.specs.Requests.{IsRequest, IsRequestText}
 use Rattle.tmem_requests.specs.declared.refusal.RequestError.{RequestError}
 use Rattle.tmem_requests.specs.declared.refusal.RequestError.TheVariants.{Memory, NoRequest}
-use Rattle.tmem_requests.specs.declared.request.Ask.{Ask}
+use Rattle.tmem_requests.specs.declared.request.RequestBody.{RequestBody}
 
 -- a result that is handed on
 pub handed_on : {X : Type 0} (P Q : Type 0) (r : Result X FormError) → IfErr r (λ e. Refuses e P) → (P → Q) → IfErr r (λ e. Refuses e Q)
@@ -71,12 +71,12 @@ not_wanting (Memory e) is wanting = is
 not_wanting (NoRequest refusal) is wanting = wanting
 
 -- a line that is not JSON in UTF-8
-pub no_text : (line : List ℕ) → (IsUtf8 line → read line ≡ None) → (id : ℤ) (ask : Ask) → ¬ IsRequestText id ask line
+pub no_text : (line : List ℕ) → (IsUtf8 line → read line ≡ None) → (id : ℤ) (ask : RequestBody) → ¬ IsRequestText id ask line
 no_text line none id ask is =
     let clash : Some is.value ≡ None = sym is.reads ∙ none is.utf8 in
     cc
 
 -- a line whose value is no request
-pub no_value : (line : List ℕ) (d : Data) → read line ≡ Some d → NoRequestIn d → (id : ℤ) (ask : Ask) → ¬ IsRequestText id ask line
+pub no_value : (line : List ℕ) (d : Data) → read line ≡ Some d → NoRequestIn d → (id : ℤ) (ask : RequestBody) → ¬ IsRequestText id ask line
 no_value line d reads none id ask is =
     none id ask (subst (λ (v : Data). IsRequest id ask v) (same_value is.value d (sym is.reads ∙ reads)) is.request)

@@ -13,15 +13,15 @@ use Rattle.tmem_forms.specs.TxForms.{array_of, tagged}
 use Rattle.tmem_fault.specs.Name.{has_name}
 use Rattle.tmem_requests.proofs.Members.{aside}
 use Rattle.tmem_requests.specs.Wrong.{HasStrangeKey, IsWrong, LeadsToWrong, Scope, whole, part, store, inner, is_headed, ask_keys, led, step_value, tx_keys}
-use Rattle.tmem_requests.specs.declared.explain.wrong.Wrong.{Wrong}
-use Rattle.tmem_requests.specs.declared.place.Step.{Step}
-use Rattle.tmem_requests.specs.declared.why.Why.{Why}
-use Rattle.tmem_requests.specs.declared.why.Why.TheVariants.{NotRequest}
+use Rattle.tmem_requests.specs.declared.explain.wrong.WrongValue.{WrongValue}
+use Rattle.tmem_requests.specs.declared.place.PointerStep.{PointerStep}
+use Rattle.tmem_requests.specs.declared.why.RequestFlaw.{RequestFlaw}
+use Rattle.tmem_requests.specs.declared.why.RequestFlaw.TheVariants.{NotRequest}
 
 -- what is wrong with the value itself
-pub wrong_here : (scope : Scope) (why : Why) (steps : List Step) (d : Data) → steps ≡ [] → IsWrong scope why d → LeadsToWrong scope why steps d
+pub wrong_here : (scope : Scope) (why : RequestFlaw) (steps : List PointerStep) (d : Data) → steps ≡ [] → IsWrong scope why d → LeadsToWrong scope why steps d
 wrong_here scope why steps d none is =
-    subst (λ (s : List Step). LeadsToWrong scope why s d) (sym none) (record { place = d; there = refl; is_wrong = is })
+    subst (λ (s : List PointerStep). LeadsToWrong scope why s d) (sym none) (record { place = d; there = refl; is_wrong = is })
 
 -- where no reason is known, nothing is said
 pub nothing_wrong : (scope : Scope) (d : Data) → IsWrong scope NotRequest d
@@ -30,16 +30,16 @@ nothing_wrong part d = tt
 nothing_wrong (store vars names always) d = tt
 
 -- what is wrong behind a step
-pub wrong_behind : (scope : Scope) (why : Why) (step : Step) (steps more : List Step) (d e : Data) → more ≡ step ∷ steps → step_value step d ≡ Some e → LeadsToWrong (inner scope) why steps e → LeadsToWrong scope why more d
+pub wrong_behind : (scope : Scope) (why : RequestFlaw) (step : PointerStep) (steps more : List PointerStep) (d e : Data) → more ≡ step ∷ steps → step_value step d ≡ Some e → LeadsToWrong (inner scope) why steps e → LeadsToWrong scope why more d
 wrong_behind scope why step steps more d e is leads wrong =
-    subst (λ (s : List Step). LeadsToWrong scope why s d) (sym is) (record {
+    subst (λ (s : List PointerStep). LeadsToWrong scope why s d) (sym is) (record {
       place = wrong.place;
       there = ap (option_and_then (led steps)) leads ∙ wrong.there;
       is_wrong = wrong.is_wrong;
     })
 
 -- what is handed on
-pub handed : {X : Type 0} (P : Wrong → Type 0) (r : Result X Wrong) (e : Wrong) → IsErrAnd r (λ y. y ≡ e) → P e → IfErr r P
+pub handed : {X : Type 0} (P : WrongValue → Type 0) (r : Result X WrongValue) (e : WrongValue) → IsErrAnd r (λ y. y ≡ e) → P e → IfErr r P
 handed P (Ok x) e same is = tt
 handed P (Err y) e same is = subst P (sym same) is
 
@@ -113,6 +113,6 @@ strange_key key d v found other none = record {
 }
 
 -- where all is fine, nothing is told
-pub nothing_told : {X : Type 0} (r : Result X Wrong) (P : Wrong → Type 0) → IsOk r → IfErr r P
+pub nothing_told : {X : Type 0} (r : Result X WrongValue) (P : WrongValue → Type 0) → IsOk r → IfErr r P
 nothing_told (Ok x) P fine = tt
 nothing_told (Err e) P fine = absurd (false≢true fine)

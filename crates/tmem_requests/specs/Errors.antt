@@ -2,7 +2,7 @@
 use Rattle.std.specs.Prelude.{◌≡◌, ⊤}
 use Rattle.tmem_requests.specs.declared.refusal.RequestError.{RequestError}
 use Rattle.tmem_requests.specs.declared.refusal.RequestError.TheVariants.{Memory, NoRequest}
-use Rattle.tmem_requests.specs.declared.why.Why.TheVariants.{NotJson}
+use Rattle.tmem_requests.specs.declared.why.RequestFlaw.TheVariants.{NotJson}
 
 -- memory was refused
 abbrev pub LacksMemory : RequestError → Type 0

@@ -7,8 +7,8 @@ use Rattle.tmem_tree.specs.Limits.{count}
 use Rattle.tmem_tree.specs.declared.tx.Tx.{Tx}
 use Rattle.tmem_tree.specs.declared.tx.Tx.TheVariants.{Retire}
 use Rattle.tmem_requests.specs.declared.proposal.Proposal.{Proposal}
-use Rattle.tmem_requests.specs.declared.request.Ask.{Ask}
-use Rattle.tmem_requests.specs.declared.request.Ask.TheVariants.{Do, Try, Get, Settle, Changed, Keep}
+use Rattle.tmem_requests.specs.declared.request.RequestBody.{RequestBody}
+use Rattle.tmem_requests.specs.declared.request.RequestBody.TheVariants.{Do, Try, Get, Settle, Changed, Keep}
 
 -- each variable is one of so many
 abbrev pub AreThere : ℕ → List ℕ → Type 0
@@ -36,7 +36,7 @@ pub record ProposalFits (vars : ℕ) (names always : List (List ℕ)) (proposal 
   pub keeps : AreApart proposal.retires.items always
 
 -- A transaction is held to nothing but that it retires none that always holds: the rest is asked of it as a plan.
-abbrev pub FitsStore : ℕ → List (List ℕ) → List (List ℕ) → Ask → Type 0
+abbrev pub FitsStore : ℕ → List (List ℕ) → List (List ℕ) → RequestBody → Type 0
 FitsStore vars names always (Do tx) = RetiresNone always tx
 FitsStore vars names always (Try tx) = RetiresNone always tx
 FitsStore vars names always (Keep word tx) = RetiresNone always tx

@@ -6,7 +6,7 @@ use Rattle.tmem_requests.specs.Wrong.{TellsTruth, whole, store}
 use Rattle.tmem_requests.specs.declared.refusal.NoRequest as refused
 use Rattle.tmem_requests.specs.declared.refusal.RequestError.{RequestError}
 use Rattle.tmem_requests.specs.declared.refusal.RequestError.TheVariants.{Memory, NoRequest}
-use Rattle.tmem_requests.specs.declared.why.Why.TheVariants.{NotJson}
+use Rattle.tmem_requests.specs.declared.why.RequestFlaw.TheVariants.{NotJson}
 
 -- the line is not JSON in UTF-8
 abbrev pub IsNoJson : List ℕ → Type 0

@@ -1,16 +1,16 @@
 -- The line that says that a line is no request, what is wrong with it, and where.
 use Rattle.std.specs.Prelude.{ℕ, List, ◌++◌, flat_map, codes}
 use Rattle.std.specs.Fmt.{decimal}
-use Rattle.tmem_requests.specs.declared.place.Place.{Place}
-use Rattle.tmem_requests.specs.declared.place.Place.TheVariants.{Pointer, Column}
-use Rattle.tmem_requests.specs.declared.place.Step.{Step}
-use Rattle.tmem_requests.specs.declared.place.Step.TheVariants.{Key, Item}
+use Rattle.tmem_requests.specs.declared.place.RequestPlace.{RequestPlace}
+use Rattle.tmem_requests.specs.declared.place.RequestPlace.TheVariants.{Pointer, Column}
+use Rattle.tmem_requests.specs.declared.place.PointerStep.{PointerStep}
+use Rattle.tmem_requests.specs.declared.place.PointerStep.TheVariants.{Key, Item}
 use Rattle.tmem_requests.specs.declared.refusal.NoRequest.{NoRequest}
-use Rattle.tmem_requests.specs.declared.why.Why.{Why}
-use Rattle.tmem_requests.specs.declared.why.Why.TheVariants as why
+use Rattle.tmem_requests.specs.declared.why.RequestFlaw.{RequestFlaw}
+use Rattle.tmem_requests.specs.declared.why.RequestFlaw.TheVariants as why
 
 -- what is wrong, in words
-abbrev pub request_why_text : Why → List ℕ
+abbrev pub request_why_text : RequestFlaw → List ℕ
 request_why_text why.TooLong = codes "the line is longer than 65536 bytes"
 request_why_text why.NotJson = codes "this is not JSON"
 request_why_text why.NotObject = codes "this is not an object"
@@ -42,12 +42,12 @@ request_why_text why.AlwaysHolds = codes "an invariant that always holds cannot 
 request_why_text why.NotRequest = codes "this is not a request"
 
 -- a step of a JSON pointer (RFC 6901)
-abbrev pub step_text : Step → List ℕ
+abbrev pub step_text : PointerStep → List ℕ
 step_text (Key key) = codes "/" ++ key.now
 step_text (Item number) = codes "/" ++ decimal number
 
 -- where it is wrong
-abbrev pub place_text : Place → List ℕ
+abbrev pub place_text : RequestPlace → List ℕ
 place_text (Pointer steps) = flat_map step_text steps.items
 place_text (Column column) = codes "line 1 column " ++ decimal column
 

@@ -12,24 +12,24 @@ use Rattle.tmem_forms.specs.TxForms.{IsByte, IsShort, array_of, integer, natural
 use Rattle.tmem_forms.specs.Members.{HasOnly}
 use Rattle.tmem_requests.specs.Forms.{ArePairs, AreWords, list_at}
 use Rattle.tmem_requests.specs.Requests.{keys_by}
-use Rattle.tmem_requests.specs.declared.explain.wrong.Wrong.{Wrong}
-use Rattle.tmem_requests.specs.declared.place.Place.{Place}
-use Rattle.tmem_requests.specs.declared.place.Place.TheVariants.{Pointer, Column}
-use Rattle.tmem_requests.specs.declared.place.Step.{Step}
-use Rattle.tmem_requests.specs.declared.place.Step.TheVariants.{Key, Item}
+use Rattle.tmem_requests.specs.declared.explain.wrong.WrongValue.{WrongValue}
+use Rattle.tmem_requests.specs.declared.place.RequestPlace.{RequestPlace}
+use Rattle.tmem_requests.specs.declared.place.RequestPlace.TheVariants.{Pointer, Column}
+use Rattle.tmem_requests.specs.declared.place.PointerStep.{PointerStep}
+use Rattle.tmem_requests.specs.declared.place.PointerStep.TheVariants.{Key, Item}
 use Rattle.tmem_requests.specs.declared.refusal.NoRequest as refused
 use Rattle.tmem_requests.specs.declared.refusal.RequestError.{RequestError}
 use Rattle.tmem_requests.specs.declared.refusal.RequestError.TheVariants.{Memory, NoRequest}
-use Rattle.tmem_requests.specs.declared.why.Why.{Why}
-use Rattle.tmem_requests.specs.declared.why.Why.TheVariants as why
+use Rattle.tmem_requests.specs.declared.why.RequestFlaw.{RequestFlaw}
+use Rattle.tmem_requests.specs.declared.why.RequestFlaw.TheVariants as why
 
 -- the value that a step leads to
-abbrev pub step_value : Step → Data → Option Data
+abbrev pub step_value : PointerStep → Data → Option Data
 step_value (Key key) d = get key.now d
 step_value (Item n) d = at n d
 
 -- the value that steps lead to, one after another
-abbrev pub led : List Step → Data → Option Data
+abbrev pub led : List PointerStep → Data → Option Data
 led [] d = Some d
 led (step ∷ steps) d = option_and_then (led steps) (step_value step d)
 
@@ -113,7 +113,7 @@ pub record ChecksAndRetires (d : Data) : Type 0 where
   pub both : ¬ AreApart checks retires
 
 -- That this is wrong with the whole, or with a value inside of it. Where no reason is found, nothing is said.
-abbrev pub IsFlaw : Bool → Why → Data → Type 0
+abbrev pub IsFlaw : Bool → RequestFlaw → Data → Type 0
 IsFlaw is_whole why.TooLong d = ⊥
 IsFlaw is_whole why.NotJson d = ⊥
 IsFlaw is_whole why.NotObject d = IsNone (as_object d)
@@ -158,7 +158,7 @@ pub record IsNameAmong (names : List (List ℕ)) (among : Bool) (d : Data) : Typ
 
 -- That for this a value inside of a request does not fit a store of so many variables, with invariants of these names, of which
 -- some always hold.
-abbrev pub IsMisfit : ℕ → List (List ℕ) → List (List ℕ) → Why → Data → Type 0
+abbrev pub IsMisfit : ℕ → List (List ℕ) → List (List ℕ) → RequestFlaw → Data → Type 0
 IsMisfit vars names always why.NoSuchVariable d = IsBeyond vars d
 IsMisfit vars names always why.NoSuchName d = IsNameAmong names false d
 IsMisfit vars names always why.AlwaysHolds d = IsNameAmong always true d
@@ -171,7 +171,7 @@ pub data Scope : Type 0 where
   part : Scope
   store : ℕ → List (List ℕ) → List (List ℕ) → Scope
 
-abbrev pub IsWrong : Scope → Why → Data → Type 0
+abbrev pub IsWrong : Scope → RequestFlaw → Data → Type 0
 IsWrong whole why d = IsFlaw true why d
 IsWrong part why d = IsFlaw false why d
 IsWrong (store vars names always) why d = IsMisfit vars names always why d
@@ -182,17 +182,17 @@ inner whole = part
 inner part = part
 inner (store vars names always) = store vars names always
 
-abbrev pub scope_behind : Scope → List Step → Scope
+abbrev pub scope_behind : Scope → List PointerStep → Scope
 scope_behind scope [] = scope
 scope_behind scope (step ∷ steps) = scope_behind (inner scope) steps
 
 -- these steps lead from a value to one with which this is wrong
-pub record LeadsToWrong (scope : Scope) (why : Why) (steps : List Step) (d : Data) : Type 0 where
+pub record LeadsToWrong (scope : Scope) (why : RequestFlaw) (steps : List PointerStep) (d : Data) : Type 0 where
   pub place : Data
   pub there : led steps d ≡ Some place
   pub is_wrong : IsWrong (scope_behind scope steps) why place
 
-abbrev TellsAt : Scope → Why → Place → Data → Type 0
+abbrev TellsAt : Scope → RequestFlaw → RequestPlace → Data → Type 0
 TellsAt scope why (Pointer steps) d = LeadsToWrong scope why steps.items d
 TellsAt scope why (Column column) d = ⊥
 
@@ -206,5 +206,5 @@ TellsTruthOf d (Memory e) = Unit {0}
 TellsTruthOf d (NoRequest refusal) = TellsTruth whole d refusal
 
 -- What was found is true of this value.
-abbrev pub IsTrueOf : Scope → Data → Wrong → Type 0
+abbrev pub IsTrueOf : Scope → Data → WrongValue → Type 0
 IsTrueOf scope d wrong = LeadsToWrong scope wrong.why wrong.steps.items d

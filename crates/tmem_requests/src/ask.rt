@@ -7,12 +7,12 @@ ghost use Rattle.tmem_tree.specs.declared.tx.Tx.{Tx};
 ghost use Rattle.tmem_requests.specs.Forms.{IsKept};
 ghost use Rattle.tmem_requests.specs.Requests.{AsksBy, IsSettle};
 ghost use Rattle.tmem_requests.specs.declared.proposal.Proposal.{Proposal};
-ghost use Rattle.tmem_requests.specs.declared.request.Ask.{Ask};
+ghost use Rattle.tmem_requests.specs.declared.request.RequestBody.{RequestBody};
 
 use crate::items::{Item, list_at, list_of};
 use crate::keys::has_only;
 use crate::proposal::Proposal;
-use crate::request::Ask;
+use crate::request::RequestBody;
 use serde_json::Value;
 use std::alloc::Global;
 use tmem_fault::Name;
@@ -25,25 +25,25 @@ pub(crate) fn ask_of(
     whole: &Value,
     key: &str,
     body: &Value,
-) -> Result<Ask, FormError>
+) -> Result<RequestBody, FormError>
     ensures ok { IfOk result (λ ask. AsksBy ask key.now (view body.now) (view whole.now)) }
-    ensures refused { IfErr result (λ e. Refuses e ((ask : Ask) → ¬ AsksBy ask key.now (view body.now) (view whole.now))) }
+    ensures refused { IfErr result (λ e. Refuses e ((ask : RequestBody) → ¬ AsksBy ask key.now (view body.now) (view whole.now))) }
 {
     match key {
-        "do" => Ok(Ask::Do(tx_of(alloc, body)?)),
-        "try" => Ok(Ask::Try(tx_of(alloc, body)?)),
-        "get" => Ok(Ask::Get(list_of(alloc, body)?)),
-        "settle" => Ok(Ask::Settle(proposal_of(alloc, body)?)),
-        "changed" => Ok(Ask::Changed(list_of(alloc, body)?)),
-        "cancel" => Ok(Ask::Cancel(integer_of(body)?)),
+        "do" => Ok(RequestBody::Do(tx_of(alloc, body)?)),
+        "try" => Ok(RequestBody::Try(tx_of(alloc, body)?)),
+        "get" => Ok(RequestBody::Get(list_of(alloc, body)?)),
+        "settle" => Ok(RequestBody::Settle(proposal_of(alloc, body)?)),
+        "changed" => Ok(RequestBody::Changed(list_of(alloc, body)?)),
+        "cancel" => Ok(RequestBody::Cancel(integer_of(body)?)),
         "keep" => {
             let (word, tx) = kept_of(alloc, body)?;
-            Ok(Ask::Keep(word, tx))
+            Ok(RequestBody::Keep(word, tx))
         }
         "run" => {
             let word = Name::read(body)?;
             let numbers = list_at(alloc, whole, "numbers")?;
-            Ok(Ask::Run(word, numbers))
+            Ok(RequestBody::Run(word, numbers))
         }
         "ask" => question_of(body),
         _ => Err(FormError::NoForm),
@@ -77,18 +77,18 @@ fn kept_of(alloc: Global, body: &Value) -> Result<(Name, Tx), FormError>
 }
 
 // What is asked for by a word.
-fn question_of(body: &Value) -> Result<Ask, FormError>
+fn question_of(body: &Value) -> Result<RequestBody, FormError>
     ensures ok { IfOk result (λ ask. (whole : Data) → AsksBy ask (codes "ask") (view body.now) whole) }
-    ensures refused { IfErr result (λ e. Refuses e ((ask : Ask) (whole : Data) → ¬ AsksBy ask (codes "ask") (view body.now) whole)) }
+    ensures refused { IfErr result (λ e. Refuses e ((ask : RequestBody) (whole : Data) → ¬ AsksBy ask (codes "ask") (view body.now) whole)) }
 {
     let Value::String(word) = body else {
         return Err(FormError::NoForm);
     };
     match word.as_str() {
-        "look" => Ok(Ask::Look),
-        "state" => Ok(Ask::State),
-        "checkpoint" => Ok(Ask::Checkpoint),
-        "stats" => Ok(Ask::Stats),
+        "look" => Ok(RequestBody::Look),
+        "state" => Ok(RequestBody::State),
+        "checkpoint" => Ok(RequestBody::Checkpoint),
+        "stats" => Ok(RequestBody::Stats),
         _ => Err(FormError::NoForm),
     }
 }

@@ -12,7 +12,7 @@ use tmem_tentative::{Attempt, Ending, Reads};
 use tmem_tree::REGISTERS;
 
 /// The attempt that a proposal is, to be settled as one that was made here: it ended normally, with registers that are 0.
-pub fn attempt_of(alloc: Global, proposal: &Proposal) -> Result<Attempt, AllocError>
+pub fn proposed_attempt(alloc: Global, proposal: &Proposal) -> Result<Attempt, AllocError>
     ensures { IfOk result (IsAttemptOf proposal.now) }
 {
     let reads = reads_of(alloc, &proposal.reads)?;

@@ -17,15 +17,15 @@ mod tx;
 mod wrong;
 
 use crate::keys::{asked_in, has_keys_by};
-use crate::place::Step;
+use crate::place::PointerStep;
 use crate::refusal::NoRequest;
-use crate::why::Why;
+use crate::why::RequestFlaw;
 use body::{find_in_body, find_in_integer, find_in_numbers};
 pub(crate) use misfit::explained_misfit;
 use serde_json::Value;
 use std::alloc::Global;
 pub use tx::find_in_tx;
-pub use wrong::Wrong;
+pub use wrong::WrongValue;
 use wrong::inside;
 
 /// Why a value is no request.
@@ -34,17 +34,17 @@ pub(crate) fn explained(alloc: Global, value: &Value) -> NoRequest
     ensures { TellsTruth whole (view value.now) result }
 {
     match find_wrong(alloc, value) {
-        Ok(()) => Wrong::here(alloc, Why::NotRequest).into_refusal(),
+        Ok(()) => WrongValue::here(alloc, RequestFlaw::NotRequest).into_refusal(),
         Err(wrong) => wrong.into_refusal(),
     }
 }
 
 // Finds the first thing that is wrong.
-fn find_wrong(alloc: Global, value: &Value) -> Result<(), Wrong>
+fn find_wrong(alloc: Global, value: &Value) -> Result<(), WrongValue>
     ensures { IfErr result (λ w. IsTrueOf whole (view value.now) w) }
 {
     if !value.is_object() {
-        return Err(Wrong::here(alloc, Why::NotObject));
+        return Err(WrongValue::here(alloc, RequestFlaw::NotObject));
     }
     find_in_id(alloc, value)?;
     find_in_asked(alloc, value)?;
@@ -52,27 +52,27 @@ fn find_wrong(alloc: Global, value: &Value) -> Result<(), Wrong>
 }
 
 // Finds what is wrong with what is asked for.
-fn find_in_asked(alloc: Global, value: &Value) -> Result<(), Wrong>
+fn find_in_asked(alloc: Global, value: &Value) -> Result<(), WrongValue>
     ensures { IfErr result (λ w. IsTrueOf whole (view value.now) w) }
 {
     let Some((asked, body)) = asked_in(value) else {
-        return Err(Wrong::here(alloc, Why::NoAsk));
+        return Err(WrongValue::here(alloc, RequestFlaw::NoAsk));
     };
     let Some(key) = known_key(asked) else {
-        return Err(Wrong::here(alloc, Why::UnknownKey));
+        return Err(WrongValue::here(alloc, RequestFlaw::UnknownKey));
     };
     if !has_keys_by(value, key) {
-        return Err(Wrong::here(alloc, why_other_keys(value, key)));
+        return Err(WrongValue::here(alloc, why_other_keys(value, key)));
     }
-    inside(Step::Key(key), find_in_body(alloc, key, body))
+    inside(PointerStep::Key(key), find_in_body(alloc, key, body))
 }
 
-fn find_in_id(alloc: Global, value: &Value) -> Result<(), Wrong>
+fn find_in_id(alloc: Global, value: &Value) -> Result<(), WrongValue>
     ensures { IfErr result (λ w. IsTrueOf whole (view value.now) w) }
 {
     match value.get("id") {
-        Some(id) => inside(Step::Key("id"), find_in_integer(alloc, id)),
-        None => Err(Wrong::here(alloc, Why::NoId)),
+        Some(id) => inside(PointerStep::Key("id"), find_in_integer(alloc, id)),
+        None => Err(WrongValue::here(alloc, RequestFlaw::NoId)),
     }
 }
 
@@ -97,16 +97,16 @@ fn known_key(key: &str) -> Option<&'static str>
 }
 
 // What is wrong with an object that asks by this key, and has another that it may not have beside it.
-fn why_other_keys(value: &Value, key: &str) -> Why
+fn why_other_keys(value: &Value, key: &str) -> RequestFlaw
     requires asks { has_name ask_keys key.now ≡ true }
     requires stands { IsSome (get key.now (view value.now)) }
     requires others { ¬ HasOnly (keys_by key.now) (view value.now) }
     ensures { IsWrong whole result (view value.now) }
 {
     if asks_beside(value, key) {
-        Why::TwoAsks
+        RequestFlaw::TwoAsks
     } else {
-        Why::UnknownKey
+        RequestFlaw::UnknownKey
     }
 }
 

@@ -5,22 +5,27 @@ ghost use Rattle.tmem_requests.specs.Fits.{AreNamed, AreThere, FitsStore, Propos
 
 use crate::limits::{are_apart, has_name};
 use crate::proposal::Proposal;
-use crate::request::Ask;
+use crate::request::RequestBody;
 use tmem_fault::Name;
 use tmem_tree::Tx;
 
 /// Whether what is asked for can be asked of a store: of so many variables, with invariants of these names, of which some always hold.
-pub(crate) fn fits_store(ask: &Ask, vars: u16, names: &[Name], always: &[Name]) -> bool
+pub(crate) fn fits_store(ask: &RequestBody, vars: u16, names: &[Name], always: &[Name]) -> bool
     ensures { IsTrue result ↔ FitsStore vars names.now always.now ask.now }
 {
     match ask {
-        Ask::Do(tx) | Ask::Try(tx) | Ask::Keep(_, tx) => retires_none(tx, always),
-        Ask::Get(all) => are_there(all, vars),
-        Ask::Changed(reads) => are_pairs_there(reads, vars),
-        Ask::Settle(proposal) => proposal_fits(proposal, vars, names, always),
-        Ask::Cancel(_) | Ask::Run(_, _) | Ask::Look | Ask::State | Ask::Checkpoint | Ask::Stats => {
-            true
-        }
+        RequestBody::Do(tx) | RequestBody::Try(tx) | RequestBody::Keep(_, tx) => retires_none(
+            tx, always,
+        ),
+        RequestBody::Get(all) => are_there(all, vars),
+        RequestBody::Changed(reads) => are_pairs_there(reads, vars),
+        RequestBody::Settle(proposal) => proposal_fits(proposal, vars, names, always),
+        RequestBody::Cancel(_)
+        | RequestBody::Run(_, _)
+        | RequestBody::Look
+        | RequestBody::State
+        | RequestBody::Checkpoint
+        | RequestBody::Stats => { true }
     }
 }
 

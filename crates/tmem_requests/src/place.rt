@@ -5,34 +5,34 @@ use std::fmt;
 
 /// A place in a line.
 #[derive(Drop)]
-pub enum Place {
+pub enum RequestPlace {
     /// The value that these steps lead to, from the whole: a JSON pointer (RFC 6901).
-    Pointer(Vec<Step>),
+    Pointer(Vec<PointerStep>),
     /// A column of the line, from 1, where the line is not JSON.
     Column(u64),
 }
 
-impl fmt::Display for Place {
+impl fmt::Display for RequestPlace {
     ghost use Rattle.tmem_requests.specs.Refusals.{place_text};
 
     ghost output = { λ place. Some (place_text place) };
 
     fn fmt<W: fmt::Write>(&self, f: &mut fmt::Formatter<W>) -> fmt::Result {
         match self {
-            Place::Pointer(steps) => {
+            RequestPlace::Pointer(steps) => {
                 for step in steps {
                     write!(f, "{step}")?;
                 }
                 Ok(())
             }
-            Place::Column(column) => write!(f, "line 1 column {column}"),
+            RequestPlace::Column(column) => write!(f, "line 1 column {column}"),
         }
     }
 }
 
 /// A step from a JSON value to one that it holds.
 #[derive(Clone, Copy)]
-pub enum Step {
+pub enum PointerStep {
     /// To what stands at this key. Keys are the program's own words: they have nothing in them that is escaped in a JSON string or in a
     /// pointer.
     Key(&'static str),
@@ -40,15 +40,15 @@ pub enum Step {
     Item(u64),
 }
 
-impl fmt::Display for Step {
+impl fmt::Display for PointerStep {
     ghost use Rattle.tmem_requests.specs.Refusals.{step_text};
 
     ghost output = { λ step. Some (step_text step) };
 
     fn fmt<W: fmt::Write>(&self, f: &mut fmt::Formatter<W>) -> fmt::Result {
         match self {
-            Step::Key(key) => write!(f, "/{key}"),
-            Step::Item(number) => write!(f, "/{number}"),
+            PointerStep::Key(key) => write!(f, "/{key}"),
+            PointerStep::Item(number) => write!(f, "/{number}"),
         }
     }
 }

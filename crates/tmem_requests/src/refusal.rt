@@ -1,14 +1,14 @@
 //! What a line is answered that is no request.
-use crate::place::Place;
-use crate::why::Why;
+use crate::place::RequestPlace;
+use crate::why::RequestFlaw;
 use std::alloc::AllocError;
 use std::fmt;
 
 /// That a line is no request: what is wrong with it, and where.
 #[derive(Drop)]
 pub struct NoRequest {
-    pub why: Why,
-    pub at: Place,
+    pub why: RequestFlaw,
+    pub at: RequestPlace,
 }
 
 /// Why a line was not read.
@@ -31,9 +31,9 @@ impl From<serde_json::Error> for RequestError {
             return RequestError::Memory(AllocError);
         }
         RequestError::NoRequest(NoRequest {
-            why: Why::NotJson,
+            why: RequestFlaw::NotJson,
             // an empty text has no column, and is wrong at its first
-            at: Place::Column(error.column().max(1) as u64),
+            at: RequestPlace::Column(error.column().max(1) as u64),
         })
     }
 }

@@ -10,7 +10,7 @@ ghost use Rattle.tmem_requests.specs.Forms.{HasMember, IsInteger};
 ghost use Rattle.tmem_requests.specs.Reasons.{IsNoJson};
 ghost use Rattle.tmem_requests.specs.Requests.{IsRequest, IsRequestText};
 ghost use Rattle.tmem_requests.specs.Wrong.{TellsTruth, TellsTruthOf, store};
-ghost use Rattle.tmem_requests.specs.declared.request.Ask.{Ask};
+ghost use Rattle.tmem_requests.specs.declared.request.RequestBody.{RequestBody};
 
 use crate::ask::ask_of;
 use crate::explain::{explained, explained_misfit};
@@ -28,12 +28,12 @@ use tmem_tree::Tx;
 #[derive(Drop)]
 pub struct Request {
     pub id: i64,
-    pub ask: Ask,
+    pub ask: RequestBody,
 }
 
 /// What is asked for.
 #[derive(Drop)]
-pub enum Ask {
+pub enum RequestBody {
     /// To run a transaction, and where it retries, to wait until it does not.
     Do(Tx),
     /// To run it once.
@@ -65,7 +65,7 @@ impl Request {
     /// stands twice the last value counts. Refused with `NoRequest`, which says what is wrong and where, and with `Memory`.
     pub fn read(alloc: Global, line: &[u8]) -> Result<Request, RequestError>
         ensures request { IfOk result (λ request. IsRequestText request.id request.ask line.now) }
-        ensures no_request { IfErr result (λ e. IsNoRequest e → (id : ℤ) (ask : Ask) → ¬ IsRequestText id ask line.now) }
+        ensures no_request { IfErr result (λ e. IsNoRequest e → (id : ℤ) (ask : RequestBody) → ¬ IsRequestText id ask line.now) }
         ensures told { IfErr result (λ e. (value : Data) → IsNoRequest e → IsUtf8 line.now → read line.now ≡ Some value → TellsTruthOf value e) }
         ensures no_json { IfErr result (λ e. IsNoJson line.now → IsNoRequest e → IsNotJson e) }
     {
@@ -98,7 +98,7 @@ impl Request {
     // The request that a value is.
     fn from_value(alloc: Global, value: &Value) -> Result<Request, FormError>
         ensures ok { IfOk result (λ request. IsRequest request.id request.ask (view value.now)) }
-        ensures refused { IfErr result (λ e. Refuses e ((id : ℤ) (ask : Ask) → ¬ IsRequest id ask (view value.now))) }
+        ensures refused { IfErr result (λ e. Refuses e ((id : ℤ) (ask : RequestBody) → ¬ IsRequest id ask (view value.now))) }
     {
         let id = id_in(value)?;
         let Some((key, body)) = asked_in(value) else {

@@ -5,7 +5,7 @@ use Rattle.tmem_disk.specs.Disk.{DeviceView, LeavesOnly}
 use Rattle.tmem_effect.specs.State.{State}
 use Rattle.tmem_event.specs.declared.event.Reply.TheVariants.{Opened}
 use Rattle.tmem_script.specs.Lines.{line_of}
-use Rattle.tmem_script.specs.declared.script.Entry.{Entry}
+use Rattle.tmem_script.specs.declared.script.ScriptEntry.{ScriptEntry}
 use Rattle.tmem_world.specs.declared.world.World.{World}
 use Rattle.tmem_world.specs.WorldModel.{Setting, WorldModel, opening}
 use Rattle.tmem_journal.specs.Mended.{IsFoundAt}
@@ -20,18 +20,18 @@ use Rattle.tmem_run.specs.Stored.{PlaysOnStore}
 use Rattle.tmem_run.proofs.Laws.{Appends-then, Appends-nil}
 
 -- one entry
-pub Prints-one : (set : Setting) (e : Entry) (text : List ℕ) (m m' : WorldModel) → AnswersEntry set m e text m' → Prints set m (e ∷ []) text m'
+pub Prints-one : (set : Setting) (e : ScriptEntry) (text : List ℕ) (m m' : WorldModel) → AnswersEntry set m e text m' → Prints set m (e ∷ []) text m'
 Prints-one set e text m m' now = (m', text, [], now, (refl, refl), sym (append-nil text))
 
 -- and one more
-pub Prints-more : (set : Setting) (es : List Entry) (text : List ℕ) (e : Entry) (last : List ℕ) (m mid m' : WorldModel) → Prints set m es text mid → AnswersEntry set mid e last m' → Prints set m (es ++ e ∷ []) (text ++ last) m'
+pub Prints-more : (set : Setting) (es : List ScriptEntry) (text : List ℕ) (e : ScriptEntry) (last : List ℕ) (m mid m' : WorldModel) → Prints set m es text mid → AnswersEntry set mid e last m' → Prints set m (es ++ e ∷ []) (text ++ last) m'
 Prints-more set [] text e last m mid m' so now =
     (m', last, [], subst (λ (x : WorldModel). AnswersEntry set x e last m') so.1 now, (refl, refl), ap (λ t. t ++ last) so.0 ∙ sym (append-nil last))
 Prints-more set (x ∷ es) text e last m mid m' so now =
     (so.0, so.1, so.2 ++ last, so.3, Prints-more set es so.2 e last so.0 mid m' so.4 now, ap (λ t. t ++ last) so.5 ∙ append_assoc so.1 so.2 last)
 
 -- what was printed for one entry
-pub Answers-of_one : (set : Setting) (e : Entry) (text : List ℕ) (m m' : WorldModel) → Prints set m (e ∷ []) text m' → AnswersEntry set m e text m'
+pub Answers-of_one : (set : Setting) (e : ScriptEntry) (text : List ℕ) (m m' : WorldModel) → Prints set m (e ∷ []) text m' → AnswersEntry set m e text m'
 Answers-of_one set e text m m' so =
     subst (λ (t : List ℕ). AnswersEntry set m e t m') (sym (so.5 ∙ ap (λ t. so.1 ++ t) so.4.0 ∙ append-nil so.1))
     (subst (λ (x : WorldModel). AnswersEntry set m e so.1 x) (sym so.4.1) so.3)
@@ -42,7 +42,7 @@ module _ {D T S : Type 0} {d t s : _} where
   PlaysEntries-nil w before program means m at premise = (m, [], (refl, refl), at, Appends-nil before)
 
   -- one entry more
-  pub PlaysEntries-more : (w mid new : World D T S d t s) (before between after : Option (List ℕ)) (es : List Entry) (e : Entry) → KeepsSetting w mid → KeepsSetting mid new → PlaysEntries w before es mid between → PlaysEntries mid between (e ∷ []) new after → PlaysEntries w before (es ++ e ∷ []) new after
+  pub PlaysEntries-more : (w mid new : World D T S d t s) (before between after : Option (List ℕ)) (es : List ScriptEntry) (e : ScriptEntry) → KeepsSetting w mid → KeepsSetting mid new → PlaysEntries w before es mid between → PlaysEntries mid between (e ∷ []) new after → PlaysEntries w before (es ++ e ∷ []) new after
   PlaysEntries-more w mid new before between after es e kept then so now program means m at premise =
       let one = so program means m at (then.model premise) in
       let two = now program (means_stay w mid program kept means) one.0 one.3 premise in
@@ -61,7 +61,7 @@ module _ {D T S : Type 0} {d t s : _} (w : World D T S d t s) (vars slots : ℕ)
 
 -- and a script was played on its device
 module _ {D T S : Type 0} {d t s : _} (old : DeviceView) (w new : World D T S d t s) (vars slots : ℕ) (over : (numbers_of new).vars ≡ vars) (log : (numbers_of new).slots ≡ slots) (means : Means w (builtin_program vars)) (set : setting_of w (builtin_program vars) ≡ builtin_setting vars slots) where
-  pub PlaysOn-of : (count : ℕ) (position : Position) (found : State) (before between after : Option (List ℕ)) (es : List Entry) → IsFoundAt vars slots old.seen found position → Represents (builtin_program vars) w (opening found position 0) → count ≡ found.count
+  pub PlaysOn-of : (count : ℕ) (position : Position) (found : State) (before between after : Option (List ℕ)) (es : List ScriptEntry) → IsFoundAt vars slots old.seen found position → Represents (builtin_program vars) w (opening found position 0) → count ≡ found.count
       → Appends before between (line (line_of (Opened count))) → PlaysEntries w between es new after → (world_view new).keeps_model → ((h : ChainHistory) → IsStore (builtin_program vars) vars slots h old → (text : List ℕ) × PlaysStore vars slots h es text old (world_view new) × Appends before after text)
       → PlaysOnStore vars slots es old (world_view new) before after
   PlaysOn-of count position found before between after es stands at is opened so premise stored =

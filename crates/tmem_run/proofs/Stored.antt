@@ -11,7 +11,7 @@ use Rattle.tmem_journal.specs.Calls.{FitsOn}
 use Rattle.tmem_journal.specs.Laws.{RepresentsOne, RefusedRepresentsNone, SpentIsAtLast}
 use Rattle.tmem_journal.specs.Contents.{Position, first_position, migrated, ContentRepresents}
 use Rattle.tmem_core.specs.Opening.{opening_fault}
-use Rattle.tmem_script.specs.declared.script.Entry.{Entry}
+use Rattle.tmem_script.specs.declared.script.ScriptEntry.{ScriptEntry}
 use Rattle.tmem_opening.specs.Opening.{OpeningRefused}
 use Rattle.tmem_opening.proofs.Laws.{only_failed, spent_content}
 use Rattle.tmem_run.specs.Builtin.{builtin_program}
@@ -21,7 +21,7 @@ use Rattle.tmem_run.proofs.Opening.{first_has_no_fault}
 
 module _ (one : RepresentsOne) (vars slots : ℕ) (fits : IsLayout vars slots) (old new : DeviceView) (empty : ContentRepresents vars slots first_position (first_state vars) old.seen) where
   -- a script on a device that represented the first state is one on an empty store
-  pub PlaysScript-of : (entries : List Entry) (before after : Option (List ℕ)) → PlaysOnStore vars slots entries old new before after → PlaysScript vars slots entries before after
+  pub PlaysScript-of : (entries : List ScriptEntry) (before after : Option (List ℕ)) → PlaysOnStore vars slots entries old new before after → PlaysScript vars slots entries before after
   PlaysScript-of entries before after it =
       let same = one vars slots it.stands.position first_position it.found (first_state vars) old.seen (omega (arith, fits.vars_fit)) it.stands.stands empty in
       let begins : it.position ≡ first_position = it.stands.goes_on ∙ ap migrated same.0 in

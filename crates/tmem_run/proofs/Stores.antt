@@ -9,8 +9,8 @@ use Rattle.tmem_core.specs.Program.{Program}
 use Rattle.tmem_event.specs.declared.event.Reply.{Reply}
 use Rattle.tmem_event.specs.declared.event.Reply.TheVariants as reply
 use Rattle.tmem_script.specs.Lines.{line_of}
-use Rattle.tmem_script.specs.declared.script.Entry.{Entry}
-use Rattle.tmem_script.specs.declared.script.Entry.TheVariants as entry
+use Rattle.tmem_script.specs.declared.script.ScriptEntry.{ScriptEntry}
+use Rattle.tmem_script.specs.declared.script.ScriptEntry.TheVariants as entry
 use Rattle.tmem_script.specs.declared.script.Playable.{Playable}
 use Rattle.tmem_world.specs.declared.world.World.{World}
 use Rattle.tmem_world.specs.WorldModel.{Setting, WorldModel, Allows, present, opening}
@@ -24,8 +24,8 @@ use Rattle.tmem_run.specs.Chains.{PrintsOn, entry_events, IsSafeAmong, EntriesGo
 
 module _ (set : Setting) where
   -- entries and then others
-  pub prints_on-append : (m : WorldModel) (h : ChainHistory) (es : List Entry) (rs : List Reply) (text : List ℕ) (x : WorldModel) (g : ChainHistory) → PrintsOn set m h es rs text x g
-      → (more : List Entry) (later : List Reply) (rest : List ℕ) (m' : WorldModel) (h' : ChainHistory) → PrintsOn set x g more later rest m' h' → PrintsOn set m h (es ++ more) (rs ++ later) (text ++ rest) m' h'
+  pub prints_on-append : (m : WorldModel) (h : ChainHistory) (es : List ScriptEntry) (rs : List Reply) (text : List ℕ) (x : WorldModel) (g : ChainHistory) → PrintsOn set m h es rs text x g
+      → (more : List ScriptEntry) (later : List Reply) (rest : List ℕ) (m' : WorldModel) (h' : ChainHistory) → PrintsOn set x g more later rest m' h' → PrintsOn set m h (es ++ more) (rs ++ later) (text ++ rest) m' h'
   prints_on-append m h [] [] text x g so more later rest m' h' then =
       subst (λ (t : List ℕ). PrintsOn set m h more later (t ++ rest) m' h') (sym so.0)
       (subst (λ (y : WorldModel). PrintsOn set y h more later rest m' h') so.1 (subst (λ (f : ChainHistory). PrintsOn set x f more later rest m' h') so.2 then))
@@ -45,7 +45,7 @@ module _ (set : Setting) where
   )
 
   -- the events among them are a run
-  pub runs_of : (m : WorldModel) (h : ChainHistory) (es : List Entry) (rs : List Reply) (text : List ℕ) (m' : WorldModel) (h' : ChainHistory) → PrintsOn set m h es rs text m' h' → RunsOn set m h (entry_events es) rs m' h'
+  pub runs_of : (m : WorldModel) (h : ChainHistory) (es : List ScriptEntry) (rs : List Reply) (text : List ℕ) (m' : WorldModel) (h' : ChainHistory) → PrintsOn set m h es rs text m' h' → RunsOn set m h (entry_events es) rs m' h'
   runs_of m h [] [] text m' h' so = (so.1, so.2)
   runs_of m h [] (r ∷ rs) text m' h' so = absurd so
   runs_of m h (entry.Event it ∷ es) [] text m' h' so = absurd so
@@ -60,9 +60,9 @@ module _ (set : Setting) where
   prints_show m h = ([], (refl, refl, refl), sym (append-nil (line (shown set.vars m.session (present set.program m)))))
 
   -- what is safe at a point between the first entries and the rest is so among all
-  safe_at : (m : WorldModel) (h : ChainHistory) (first : List Entry) (answers : List Reply) (early : List ℕ) (x : WorldModel) (g : ChainHistory) → PrintsOn set m h first answers early x g
-      → (rest : List Entry) (later : List Reply) (late : List ℕ) (m' : WorldModel) (h' : ChainHistory) → PrintsOn set x g rest later late m' h' → (c : List ℕ) → IsSafe set.program set.vars set.slots g c
-      → (es : List Entry) (rs : List Reply) → es ≡ first ++ rest → rs ≡ answers ++ later → IsSafeAmong set m h es rs m' h' c
+  safe_at : (m : WorldModel) (h : ChainHistory) (first : List ScriptEntry) (answers : List Reply) (early : List ℕ) (x : WorldModel) (g : ChainHistory) → PrintsOn set m h first answers early x g
+      → (rest : List ScriptEntry) (later : List Reply) (late : List ℕ) (m' : WorldModel) (h' : ChainHistory) → PrintsOn set x g rest later late m' h' → (c : List ℕ) → IsSafe set.program set.vars set.slots g c
+      → (es : List ScriptEntry) (rs : List Reply) → es ≡ first ++ rest → rs ≡ answers ++ later → IsSafeAmong set m h es rs m' h' c
   safe_at m h first answers early x g before rest later late m' h' after c safe es rs entries replies = record {
     first = first;
     rest = rest;
@@ -80,27 +80,27 @@ module _ (set : Setting) where
   }
 
   -- what was safe among the first entries is so among those and others
-  pub safe_among-more : (m : WorldModel) (h : ChainHistory) (es : List Entry) (rs : List Reply) (x : WorldModel) (g : ChainHistory)
-      → (more : List Entry) (later : List Reply) (rest : List ℕ) (m' : WorldModel) (h' : ChainHistory) → PrintsOn set x g more later rest m' h'
+  pub safe_among-more : (m : WorldModel) (h : ChainHistory) (es : List ScriptEntry) (rs : List Reply) (x : WorldModel) (g : ChainHistory)
+      → (more : List ScriptEntry) (later : List Reply) (rest : List ℕ) (m' : WorldModel) (h' : ChainHistory) → PrintsOn set x g more later rest m' h'
       → (c : List ℕ) → IsSafeAmong set m h es rs x g c → IsSafeAmong set m h (es ++ more) (rs ++ later) m' h' c
   safe_among-more m h es rs x g more later rest m' h' then c it =
       safe_at m h it.first it.answers it.early it.point it.reached it.before (it.rest ++ more) (it.later ++ later) (it.late ++ rest) m' h' (prints_on-append it.point it.reached it.rest it.later it.late x g it.after more later rest m' h' then) c it.safe
-      (es ++ more) (rs ++ later) (ap (λ (l : List Entry). l ++ more) it.entries ∙ append_assoc it.first it.rest more) (ap (λ (l : List Reply). l ++ later) it.replies ∙ append_assoc it.answers it.later later)
+      (es ++ more) (rs ++ later) (ap (λ (l : List ScriptEntry). l ++ more) it.entries ∙ append_assoc it.first it.rest more) (ap (λ (l : List Reply). l ++ later) it.replies ∙ append_assoc it.answers it.later later)
 
   -- what is safe among later ones is so among all
-  pub safe_among-then : (m : WorldModel) (h : ChainHistory) (es : List Entry) (rs : List Reply) (text : List ℕ) (x : WorldModel) (g : ChainHistory) → PrintsOn set m h es rs text x g
-      → (more : List Entry) (later : List Reply) (m' : WorldModel) (h' : ChainHistory)
+  pub safe_among-then : (m : WorldModel) (h : ChainHistory) (es : List ScriptEntry) (rs : List Reply) (text : List ℕ) (x : WorldModel) (g : ChainHistory) → PrintsOn set m h es rs text x g
+      → (more : List ScriptEntry) (later : List Reply) (m' : WorldModel) (h' : ChainHistory)
       → (c : List ℕ) → IsSafeAmong set x g more later m' h' c → IsSafeAmong set m h (es ++ more) (rs ++ later) m' h' c
   safe_among-then m h es rs text x g so more later m' h' c it =
       safe_at m h (es ++ it.first) (rs ++ it.answers) (text ++ it.early) it.point it.reached (prints_on-append m h es rs text x g so it.first it.answers it.early it.point it.reached it.before) it.rest it.later it.late m' h' it.after c it.safe
-      (es ++ more) (rs ++ later) (ap (λ (l : List Entry). es ++ l) it.entries ∙ sym (append_assoc es it.first it.rest)) (ap (λ (l : List Reply). rs ++ l) it.replies ∙ sym (append_assoc rs it.answers it.later))
+      (es ++ more) (rs ++ later) (ap (λ (l : List ScriptEntry). es ++ l) it.entries ∙ sym (append_assoc es it.first it.rest)) (ap (λ (l : List Reply). rs ++ l) it.replies ∙ sym (append_assoc rs it.answers it.later))
 
   -- what is safe before an entry is so among those from it on
-  pub safe_before : (m : WorldModel) (h : ChainHistory) (es : List Entry) (rs : List Reply) (text : List ℕ) (m' : WorldModel) (h' : ChainHistory) → PrintsOn set m h es rs text m' h' → (c : List ℕ) → IsSafe set.program set.vars set.slots h c → IsSafeAmong set m h es rs m' h' c
+  pub safe_before : (m : WorldModel) (h : ChainHistory) (es : List ScriptEntry) (rs : List Reply) (text : List ℕ) (m' : WorldModel) (h' : ChainHistory) → PrintsOn set m h es rs text m' h' → (c : List ℕ) → IsSafe set.program set.vars set.slots h c → IsSafeAmong set m h es rs m' h' c
   safe_before m h es rs text m' h' so c safe = safe_at m h [] [] [] m h (refl, refl, refl) es rs text m' h' so c safe es rs refl refl
 
   -- and what is safe after the last one too
-  pub safe_after : (m : WorldModel) (h : ChainHistory) (es : List Entry) (rs : List Reply) (text : List ℕ) (m' : WorldModel) (h' : ChainHistory) → PrintsOn set m h es rs text m' h' → (c : List ℕ) → IsSafe set.program set.vars set.slots h' c → IsSafeAmong set m h es rs m' h' c
+  pub safe_after : (m : WorldModel) (h : ChainHistory) (es : List ScriptEntry) (rs : List Reply) (text : List ℕ) (m' : WorldModel) (h' : ChainHistory) → PrintsOn set m h es rs text m' h' → (c : List ℕ) → IsSafe set.program set.vars set.slots h' c → IsSafeAmong set m h es rs m' h' c
   safe_after m h es rs text m' h' so c safe = safe_at m h es rs text m' h' so [] [] [] m' h' (refl, refl, refl) c safe es rs (sym (append-nil es)) (sym (append-nil rs))
 
 module _ {D T S : Type 0} {d t s : _} (program : Program) where
@@ -125,7 +125,7 @@ module _ {D T S : Type 0} {d t s : _} (program : Program) where
   go_on-event w new h m it r m' allowed has during =
       let set = setting_of w program in
       let h' = history_after m it.event r m' h in
-      let es : List Entry = entry.Event it ∷ [] in
+      let es : List ScriptEntry = entry.Event it ∷ [] in
       let rs : List Reply = r ∷ [] in
       let prints = prints_event set m h it r m' allowed in
       record {
@@ -156,7 +156,7 @@ module _ {D T S : Type 0} {d t s : _} (program : Program) where
       }
 
   -- entries and then others
-  pub go_on-then : (w mid new : World D T S d t s) (h : ChainHistory) (m : WorldModel) (es more : List Entry) (text rest : List ℕ) → setting_of mid program ≡ setting_of w program
+  pub go_on-then : (w mid new : World D T S d t s) (h : ChainHistory) (m : WorldModel) (es more : List ScriptEntry) (text rest : List ℕ) → setting_of mid program ≡ setting_of w program
       → ((world_view new).keeps_model → (world_view mid).keeps_model) → ((world_view mid).keeps_model → (world_view w).moment ≤ (world_view mid).moment) → (P : List ℕ → Type 0) → Elapses (world_view mid) (world_view new) P
       → (one : EntriesGoOn program w h m es text mid) → EntriesGoOn program mid one.reached one.end more rest new → EntriesGoOn program w h m (es ++ more) (text ++ rest) new
   go_on-then w mid new h m es more text rest same model later P time one two =
@@ -184,7 +184,7 @@ module _ {D T S : Type 0} {d t s : _} (w mid new : World D T S d t s) (kept : Ke
   then_within = WritesInStore-trans (numbers_of w) (world_view w) (world_view mid) (world_view new) then.model first (subst (λ (l : Layout). WritesInStore l (world_view mid) (world_view new)) kept.numbers second)
 
   -- entries and then others, and what was printed for them
-  pub plays-then : (es more : List Entry) (IsOne IsTwo IsBoth : List ℕ → Type 0) → ((one two : List ℕ) → IsOne one → IsTwo two → IsBoth (one ++ two))
+  pub plays-then : (es more : List ScriptEntry) (IsOne IsTwo IsBoth : List ℕ → Type 0) → ((one two : List ℕ) → IsOne one → IsTwo two → IsBoth (one ++ two))
       → PlaysEntriesOn w es mid IsOne → PlaysEntriesOn mid more new IsTwo → PlaysEntriesOn w (es ++ more) new IsBoth
   plays-then es more IsOne IsTwo IsBoth both one two program means h m has keeps =
       let start = one program means h m has (then.model keeps) in
@@ -194,7 +194,7 @@ module _ {D T S : Type 0} {d t s : _} (w mid new : World D T S d t s) (kept : Ke
 -- A world was opened on a store with the builtin steps and invariants, and entries were played on it.
 module _ {D T S : Type 0} {d t s : _} (w new : World D T S d t s) (vars slots : ℕ) (old : DeviceView) (over : (numbers_of new).vars ≡ vars) (log : (numbers_of new).slots ≡ slots) (means : Means w (builtin_program vars)) (set : setting_of w (builtin_program vars) ≡ builtin_setting vars slots)
     (kept : KeepsSetting w new) (mends : Mending vars slots old (world_view w)) (within : WritesInStore (numbers_of w) (world_view w) (world_view new)) where
-  pub plays_store : (h : ChainHistory) (opened : OpensStore (builtin_program vars) vars slots h old (Ok w)) (es : List Entry) (IsPrinted : List ℕ → Type 0) → PlaysEntriesOn w es new IsPrinted → (world_view new).keeps_model
+  pub plays_store : (h : ChainHistory) (opened : OpensStore (builtin_program vars) vars slots h old (Ok w)) (es : List ScriptEntry) (IsPrinted : List ℕ → Type 0) → PlaysEntriesOn w es new IsPrinted → (world_view new).keeps_model
       → (text : List ℕ) × PlaysStore vars slots h es (line (line_of (reply.Opened opened.found.0)) ++ text) old (world_view new) × IsPrinted text
   plays_store h opened es IsPrinted so keeps =
       let program = builtin_program vars in

@@ -7,8 +7,8 @@ use Rattle.tmem_event.specs.declared.event.Reply.TheVariants as reply
 use Rattle.tmem_journal.specs.Mended.{IsFoundAt}
 use Rattle.tmem_journal.specs.Contents.{Position}
 use Rattle.tmem_script.specs.Lines.{line_of}
-use Rattle.tmem_script.specs.declared.script.Entry.{Entry}
-use Rattle.tmem_script.specs.declared.script.Entry.TheVariants as entry
+use Rattle.tmem_script.specs.declared.script.ScriptEntry.{ScriptEntry}
+use Rattle.tmem_script.specs.declared.script.ScriptEntry.TheVariants as entry
 use Rattle.tmem_world.specs.WorldModel.{Setting, WorldModel, Allows, present, opening}
 use Rattle.tmem_world.specs.Chain.{ChainHistory, IsSafePrefix, IsSafe, IsStore, IsLeftBy, IsFirstOf, SessionRun, IsChain, IsChainAt, state_at, history_found, history_after}
 use Rattle.tmem_world.specs.declared.world.World.{World}
@@ -20,7 +20,7 @@ use Rattle.tmem_run.specs.Printed.{line, shown}
 
 -- At this point of a run that goes on with the history, the entries may be answered so, one after another: each event by a
 -- reply that is allowed, and by its line; `show` by the line of the present state.
-abbrev pub PrintsOn : Setting → WorldModel → ChainHistory → List Entry → List Reply → List ℕ → WorldModel → ChainHistory → Type 0
+abbrev pub PrintsOn : Setting → WorldModel → ChainHistory → List ScriptEntry → List Reply → List ℕ → WorldModel → ChainHistory → Type 0
 PrintsOn set m h [] [] text m' h' = (text ≡ []) × (m' ≡ m) × (h' ≡ h)
 PrintsOn set m h [] (r ∷ rs) text m' h' = ⊥
 PrintsOn set m h (entry.Event it ∷ es) [] text m' h' = ⊥
@@ -30,15 +30,15 @@ PrintsOn set m h (entry.Show ∷ es) rs text m' h' =
     (rest : List ℕ) × PrintsOn set m h es rs rest m' h' × (text ≡ line (shown set.vars m.session (present set.program m)) ++ rest)
 
 -- the events among entries
-abbrev pub entry_events : List Entry → List Event
+abbrev pub entry_events : List ScriptEntry → List Event
 entry_events [] = []
 entry_events (entry.Event it ∷ es) = it.event ∷ entry_events es
 entry_events (entry.Show ∷ es) = entry_events es
 
 -- The content is safe for the history after an initial part of these entries, from which the others led on.
-pub record IsSafeAmong (set : Setting) (m : WorldModel) (h : ChainHistory) (es : List Entry) (rs : List Reply) (m' : WorldModel) (h' : ChainHistory) (c : List ℕ) : Type 0 where
-  pub first : List Entry
-  pub rest : List Entry
+pub record IsSafeAmong (set : Setting) (m : WorldModel) (h : ChainHistory) (es : List ScriptEntry) (rs : List Reply) (m' : WorldModel) (h' : ChainHistory) (c : List ℕ) : Type 0 where
+  pub first : List ScriptEntry
+  pub rest : List ScriptEntry
   pub answers : List Reply
   pub later : List Reply
   pub early : List ℕ
@@ -53,7 +53,7 @@ pub record IsSafeAmong (set : Setting) (m : WorldModel) (h : ChainHistory) (es :
 
 -- From a world that carries a history these entries were answered by this text, and the next one carries what they make of the
 -- history. A crash at any moment of that leaves what is safe after an initial part of them.
-pub record EntriesGoOn {D T S : Type 0} {d t s : _} (program : Program) (old : World D T S d t s) (h : ChainHistory) (m : WorldModel) (entries : List Entry) (text : List ℕ) (new : World D T S d t s) : Type 0 where
+pub record EntriesGoOn {D T S : Type 0} {d t s : _} (program : Program) (old : World D T S d t s) (h : ChainHistory) (m : WorldModel) (entries : List ScriptEntry) (text : List ℕ) (new : World D T S d t s) : Type 0 where
   pub replies : List Reply
   pub end : WorldModel
   pub reached : ChainHistory
@@ -62,19 +62,19 @@ pub record EntriesGoOn {D T S : Type 0} {d t s : _} (program : Program) (old : W
   pub any_moment : AtEachMoment (world_view old) (world_view new) (λ c. ∥ IsSafeAmong (setting_of old program) m h entries replies end reached c ∥₁)
 
 -- so it is, whatever the closures mean, of a text that was printed so
-abbrev pub PlaysEntriesOn : {D T S : Type 0} {d t s : _} → World D T S d t s → List Entry → World D T S d t s → (List ℕ → Type 0) → Type 0
+abbrev pub PlaysEntriesOn : {D T S : Type 0} {d t s : _} → World D T S d t s → List ScriptEntry → World D T S d t s → (List ℕ → Type 0) → Type 0
 PlaysEntriesOn old entries new IsPrinted =
     (program : Program) → Means old program → (h : ChainHistory) (m : WorldModel) → Carries program old h m → (world_view new).keeps_model
     → (text : List ℕ) × EntriesGoOn program old h m entries text new × IsPrinted text
 
 -- and of an initial part of these entries, whatever was printed
-abbrev pub PlaysFirstOn : {D T S : Type 0} {d t s : _} → World D T S d t s → List Entry → World D T S d t s → Type 0
-PlaysFirstOn old entries new = (first : List Entry) × IsFirstOf first entries × PlaysEntriesOn old first new (λ text. ⊤)
+abbrev pub PlaysFirstOn : {D T S : Type 0} {d t s : _} → World D T S d t s → List ScriptEntry → World D T S d t s → Type 0
+PlaysFirstOn old entries new = (first : List ScriptEntry) × IsFirstOf first entries × PlaysEntriesOn old first new (λ text. ⊤)
 
 -- A store with this history was opened, the entries were played on it, and this text was printed: the line of the opening, and
 -- then theirs. The device is a store with the history that was reached. A crash at any moment of all that leaves what is safe for
 -- the history from before the opening, or for the one after an initial part of the entries.
-pub record PlaysStore (vars slots : ℕ) (h : ChainHistory) (entries : List Entry) (text : List ℕ) (old new : DeviceView) : Type 0 where
+pub record PlaysStore (vars slots : ℕ) (h : ChainHistory) (entries : List ScriptEntry) (text : List ℕ) (old new : DeviceView) : Type 0 where
   pub found : ℕ
   pub position : Position
   pub prefix : IsSafePrefix (builtin_program vars) vars h found
@@ -95,9 +95,9 @@ pub record PlaysStore (vars slots : ℕ) (h : ChainHistory) (entries : List Entr
 
 -- The session of an initial part of these entries is the last one of each chain that led to the history, and the device is a store
 -- with what they made of it.
-abbrev pub LeavesSession : ℕ → ℕ → ChainHistory → List Entry → DeviceView → Type 0
+abbrev pub LeavesSession : ℕ → ℕ → ChainHistory → List ScriptEntry → DeviceView → Type 0
 LeavesSession vars slots h entries left =
-    (s : SessionRun) × (first : List Entry) × (point : WorldModel) × (reached : ChainHistory) × IsFirstOf first entries × (s.set ≡ builtin_setting vars slots) × (s.events ≡ entry_events first)
+    (s : SessionRun) × (first : List ScriptEntry) × (point : WorldModel) × (reached : ChainHistory) × IsFirstOf first entries × (s.set ≡ builtin_setting vars slots) × (s.events ≡ entry_events first)
     × ((earlier : List SessionRun) → IsChain vars slots earlier h → IsChainAt vars slots earlier s reached point)
     × IsStore (builtin_program vars) vars slots reached left
 
@@ -105,7 +105,7 @@ LeavesSession vars slots h entries left =
 -- history from before the opening, or with the one after an initial part of the entries.
 abbrev pub CrashLeavesRun : {D : Type 0} → (D → DeviceView) → Type 0
 CrashLeavesRun {D} view =
-    (vars slots : ℕ) (h : ChainHistory) (entries : List Entry) (text : List ℕ) (old new left : D) → PlaysStore vars slots h entries text (view old) (view new)
+    (vars slots : ℕ) (h : ChainHistory) (entries : List ScriptEntry) (text : List ℕ) (old new left : D) → PlaysStore vars slots h entries text (view old) (view new)
     → IsLeftBy (view new) (view old).moment (view left) → IsSynced (view left) → (view left).keeps_model
     → ∥ IsStore (builtin_program vars) vars slots h (view left) ⊎ LeavesSession vars slots h entries (view left) ∥₁
 
@@ -115,6 +115,6 @@ pub record StaysStore (vars slots : ℕ) (h : ChainHistory) (old new : DeviceVie
   pub any_moment : AtEachMoment old new (IsSafe (builtin_program vars) vars slots h)
 
 -- an initial part of the entries was played on a store, if it is one
-abbrev pub LeavesStore : ℕ → ℕ → List Entry → DeviceView → DeviceView → Type 0
+abbrev pub LeavesStore : ℕ → ℕ → List ScriptEntry → DeviceView → DeviceView → Type 0
 LeavesStore vars slots entries old new = (h : ChainHistory) → IsStore (builtin_program vars) vars slots h old → new.keeps_model
-    → (first : List Entry) × (text : List ℕ) × IsFirstOf first entries × PlaysStore vars slots h first text old new
+    → (first : List ScriptEntry) × (text : List ℕ) × IsFirstOf first entries × PlaysStore vars slots h first text old new

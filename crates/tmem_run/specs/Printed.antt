@@ -12,10 +12,10 @@ use Rattle.tmem_core.specs.Program.{Program}
 use Rattle.tmem_event.specs.declared.event.Reply.{Reply}
 use Rattle.tmem_event.specs.declared.event.Reply.TheVariants as reply
 use Rattle.tmem_script.specs.Lines.{line_of}
-use Rattle.tmem_script.specs.declared.failure.Failure.{Failure}
-use Rattle.tmem_script.specs.declared.failure.Failure.TheVariants as failure
-use Rattle.tmem_script.specs.declared.script.Entry.{Entry}
-use Rattle.tmem_script.specs.declared.script.Entry.TheVariants as entry
+use Rattle.tmem_script.specs.declared.failure.ProgramFailure.{ProgramFailure}
+use Rattle.tmem_script.specs.declared.failure.ProgramFailure.TheVariants as failure
+use Rattle.tmem_script.specs.declared.script.ScriptEntry.{ScriptEntry}
+use Rattle.tmem_script.specs.declared.script.ScriptEntry.TheVariants as entry
 use Rattle.tmem_journal.specs.Contents.{Position, first_position}
 use Rattle.tmem_world.specs.WorldModel.{Setting, WorldModel, SessionStatus, Gone, Allows, present, opening}
 use Rattle.tmem_world.specs.declared.world.World.{World}
@@ -51,12 +51,12 @@ shown vars _ state = state_text vars state
 
 -- At this point of a run the entry may be answered by this text, and leads to that point: an event by the line of a reply
 -- that is allowed, `show` by the line of the present state.
-abbrev pub AnswersEntry : Setting → WorldModel → Entry → List ℕ → WorldModel → Type 0
+abbrev pub AnswersEntry : Setting → WorldModel → ScriptEntry → List ℕ → WorldModel → Type 0
 AnswersEntry set m (entry.Event it) text m' = (reply : Reply) × Allows set m it.event reply m' × (text ≡ line (line_of reply))
 AnswersEntry set m entry.Show text m' = (text ≡ line (shown set.vars m.session (present set.program m))) × (m' ≡ m)
 
 -- The entries may be answered by this text, one after another.
-abbrev pub Prints : Setting → WorldModel → List Entry → List ℕ → WorldModel → Type 0
+abbrev pub Prints : Setting → WorldModel → List ScriptEntry → List ℕ → WorldModel → Type 0
 Prints set m [] text m' = (text ≡ []) × (m' ≡ m)
 Prints set m (e ∷ es) text m' =
     (mid : WorldModel) × (first : List ℕ) × (rest : List ℕ) × AnswersEntry set m e first mid × Prints set mid es rest m' × (text ≡ first ++ rest)
@@ -64,22 +64,22 @@ Prints set m (e ∷ es) text m' =
 -- Whatever the closures mean, by their statement: from each point of a run that the old world is at, the entries may be
 -- answered by what was written meanwhile, and the new world is at the point that they lead to. It rests on the disk
 -- model, since an entry may open the device again.
-abbrev pub PlaysEntries : {D T S : Type 0} {d t s : _} → World D T S d t s → Option (List ℕ) → List Entry → World D T S d t s → Option (List ℕ) → Type 0
+abbrev pub PlaysEntries : {D T S : Type 0} {d t s : _} → World D T S d t s → Option (List ℕ) → List ScriptEntry → World D T S d t s → Option (List ℕ) → Type 0
 PlaysEntries old before entries new after =
     (program : Program) → Means old program → (m : WorldModel) → Represents program old m → (world_view new).keeps_model
     → (m' : WorldModel) × (text : List ℕ) × Prints (setting_of old program) m entries text m' × Represents program new m' × Appends before after text
 
 -- A whole script on a store that was opened in this state, at that position: the line of the opening, and then what its
 -- entries may be answered by from there, up to that point.
-pub record PlaysFrom (vars slots : ℕ) (found : State) (position : Position) (entries : List Entry) (end : WorldModel) (before after : Option (List ℕ)) : Type 0 where
+pub record PlaysFrom (vars slots : ℕ) (found : State) (position : Position) (entries : List ScriptEntry) (end : WorldModel) (before after : Option (List ℕ)) : Type 0 where
   pub text : List ℕ
   pub prints : Prints (builtin_setting vars slots) (opening found position 0) entries text end
   pub appends : Appends before after (line (line_of (reply.Opened found.count)) ++ text)
 
 -- A whole script on an empty store.
-abbrev pub PlaysScript : ℕ → ℕ → List Entry → Option (List ℕ) → Option (List ℕ) → Type 0
+abbrev pub PlaysScript : ℕ → ℕ → List ScriptEntry → Option (List ℕ) → Option (List ℕ) → Type 0
 PlaysScript vars slots entries before after = (end : WorldModel) × PlaysFrom vars slots (first_state vars) first_position entries end before after
 
 -- a run was stopped: the output failed, memory was refused, or a call of the device failed
-abbrev pub IsStop : Failure → Type 0
+abbrev pub IsStop : ProgramFailure → Type 0
 IsStop f = (f ≡ failure.Output) ⊎ ((f ≡ failure.Refused fault.Memory) ⊎ (f ≡ failure.Refused fault.Device))

@@ -3,7 +3,7 @@ ghost use Rattle.std.specs.Prelude.{◌≡◌, ◌⊎◌, [], ◌∷◌, None, I
 ghost use Rattle.std.specs.Io.KnownBytes.{Appends};
 ghost use Rattle.tmem_builtins.specs.Invariants.{is_not_negative, add_to_hundred, are_ordered};
 ghost use Rattle.tmem_record.specs.Layout.{IsLayout};
-ghost use Rattle.tmem_script.specs.declared.failure.Failure.TheVariants.{Output, Refused};
+ghost use Rattle.tmem_script.specs.declared.failure.ProgramFailure.TheVariants.{Output, Refused};
 ghost use Rattle.tmem_world.specs.Represents.{AreMeantBy, KeepsSetting, WritesInStore, numbers_of, world_view};
 ghost use Rattle.tmem_run.specs.Builtin.{builtin_program};
 ghost use Rattle.tmem_run.specs.Chains.{PlaysEntriesOn, PlaysFirstOn};
@@ -23,7 +23,7 @@ use tmem_fault::Fault;
 use tmem_file::FileDisk;
 use tmem_invariants::Invariants;
 use tmem_journal::{refused_represents_none, represents_one, spent_is_at_last};
-use tmem_script::{Entry, Failure, ReplyLine, Script};
+use tmem_script::{ProgramFailure, ReplyLine, Script, ScriptEntry};
 use tmem_tree::StoredSteps;
 use tmem_world::{Layout, Reply, World};
 
@@ -48,7 +48,7 @@ pub fn play<R: Files<File = File> + AllocGlobal, W: Write>(
     out: &mut W,
     device: &mut Option<Played>,
     notes: &mut Notes,
-) -> Result<(), Failure>
+) -> Result<(), ProgramFailure>
     requires { device.old ≡ None }
     ensures played { OnOk result (PlaysWhere (option_map (λ text. text.now) path.entry) device.new script.vars script.slots script.entries.items (W.contents out.old) (W.contents out.new)) }
     ensures fits { OnOk result (IsLayout script.vars script.slots) }
@@ -107,13 +107,13 @@ fn play_with<
     rt: &R,
     path: Option<&str>,
     layout: Layout,
-    entries: Vec<Entry>,
+    entries: Vec<ScriptEntry>,
     table: T,
     steps: S,
     out: &mut W,
     device: &mut Option<Played>,
     notes: &mut Notes,
-) -> Result<(), Failure>
+) -> Result<(), ProgramFailure>
     requires none { device.old ≡ None }
     requires vars { T.vars table ≡ layout.vars }
     requires arities { S.arities steps ≡ 2 ∷ 2 ∷ 2 ∷ [] }
@@ -160,12 +160,12 @@ pub fn play_on<D: Disk + Drop, T: Invariants + Drop, S: StoredSteps + Drop, W: W
     alloc: Global,
     disk: D,
     layout: Layout,
-    entries: Vec<Entry>,
+    entries: Vec<ScriptEntry>,
     table: T,
     steps: S,
     out: &mut W,
     notes: &mut Notes,
-) -> (D, Result<(), Failure>)
+) -> (D, Result<(), ProgramFailure>)
     requires vars { T.vars table ≡ layout.vars }
     requires arities { S.arities steps ≡ 2 ∷ 2 ∷ 2 ∷ [] }
     requires meant { AreMeantBy S.StoredSteps T.Invariants steps table (builtin_program layout.vars) }
@@ -175,7 +175,7 @@ pub fn play_on<D: Disk + Drop, T: Invariants + Drop, S: StoredSteps + Drop, W: W
 {
     let mut world = match World::open(alloc, disk, layout.vars, layout.slots, table, steps) {
         Ok(world) => world,
-        Err((fault, disk)) => return (disk, Err(Failure::Refused(fault))),
+        Err((fault, disk)) => return (disk, Err(ProgramFailure::Refused(fault))),
     };
     match print_line(out, ReplyLine(Reply::Opened(world.count()))) {
         Ok(()) => {}
@@ -188,11 +188,11 @@ pub fn play_on<D: Disk + Drop, T: Invariants + Drop, S: StoredSteps + Drop, W: W
 /// Plays the entries of a script, one after another.
 fn play_entries<D: Disk + Drop, T: Invariants + Drop, S: StoredSteps + Drop, W: Write>(
     world: &mut World<D, T, S>,
-    entries: Vec<Entry>,
+    entries: Vec<ScriptEntry>,
     vars: u16,
     out: &mut W,
     notes: &mut Notes,
-) -> Result<(), Failure>
+) -> Result<(), ProgramFailure>
     requires { (numbers_of world.old).vars ≡ vars }
     ensures played { OnOk result (PlaysEntries world.old (W.contents out.old) entries.items world.new (W.contents out.new)) }
     ensures failed { IfErr result (λ failure. failure ≡ Output) }
@@ -212,11 +212,11 @@ fn play_entries<D: Disk + Drop, T: Invariants + Drop, S: StoredSteps + Drop, W: 
 /// Plays one entry, and prints its line.
 fn play_entry<D: Disk + Drop, T: Invariants + Drop, S: StoredSteps + Drop, W: Write>(
     world: &mut World<D, T, S>,
-    entry: Entry,
+    entry: ScriptEntry,
     vars: u16,
     out: &mut W,
     notes: &mut Notes,
-) -> Result<(), Failure>
+) -> Result<(), ProgramFailure>
     requires { (numbers_of world.old).vars ≡ vars }
     ensures played { OnOk result (PlaysEntries world.old (W.contents out.old) (entry ∷ []) world.new (W.contents out.new)) }
     ensures failed { IfErr result (λ failure. failure ≡ Output) }
@@ -225,12 +225,12 @@ fn play_entry<D: Disk + Drop, T: Invariants + Drop, S: StoredSteps + Drop, W: Wr
     ensures kept { KeepsSetting world.old world.new }
 {
     match entry {
-        Entry::Event(playable) => {
+        ScriptEntry::Event(playable) => {
             let reply = world.step(playable.event);
             notes.note(&reply);
             print_line(out, ReplyLine(reply))
         }
-        Entry::Show => {
+        ScriptEntry::Show => {
             notes.note_shown(world.is_open());
             print_state(out, world, vars)
         }

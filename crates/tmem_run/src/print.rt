@@ -2,7 +2,7 @@
 ghost use Rattle.std.specs.Prelude.{◌≡◌, ◌++◌, ℕ, List, true, IfSome, IfErr, IfOk, OnOk, codes, if◌then◌else◌};
 ghost use Rattle.std.specs.Io.KnownBytes.{Appends};
 ghost use Rattle.tmem_core.specs.Program.{Program};
-ghost use Rattle.tmem_script.specs.declared.failure.Failure.TheVariants.{Output};
+ghost use Rattle.tmem_script.specs.declared.failure.ProgramFailure.TheVariants.{Output};
 ghost use Rattle.tmem_world.specs.WorldModel.{WorldModel, present};
 ghost use Rattle.tmem_world.specs.Represents.{Represents, numbers_of, HoldsSession};
 ghost use Rattle.tmem_run.specs.Printed.{line, listed, registered, values_text, shown};
@@ -13,16 +13,16 @@ use tmem_builtins::names;
 use tmem_disk::Disk;
 use tmem_fault::Fault;
 use tmem_invariants::Invariants;
-use tmem_script::{Failure, ReplyLine};
+use tmem_script::{ProgramFailure, ReplyLine};
 use tmem_tree::StoredSteps;
 use tmem_world::{Reply, World};
 
 /// Prints a text and a line break.
-pub fn print_line<W: Write, T: Display + Drop>(out: &mut W, text: T) -> Result<(), Failure>
+pub fn print_line<W: Write, T: Display + Drop>(out: &mut W, text: T) -> Result<(), ProgramFailure>
     ensures line { OnOk result (IfSome (T.output text) (λ bytes. Appends (W.contents out.old) (W.contents out.new) (line bytes))) }
     ensures failed { IfErr result (λ failure. failure ≡ Output) }
 {
-    writeln!(out, "{text}").map_err(|_| Failure::Output)
+    writeln!(out, "{text}").map_err(|_| ProgramFailure::Output)
 }
 
 /// Prints the present state, or the refusal where no session stands.
@@ -30,7 +30,7 @@ pub(crate) fn print_state<D: Disk + Drop, T: Invariants + Drop, S: StoredSteps +
     out: &mut W,
     world: &World<D, T, S>,
     vars: u16,
-) -> Result<(), Failure>
+) -> Result<(), ProgramFailure>
     requires { (numbers_of world.now).vars ≡ vars }
     ensures shown { OnOk result ((program : Program) (m : WorldModel) → Represents program world.now m
         → Appends (W.contents out.old) (W.contents out.new) (line (shown vars m.session (present program m)))) }
@@ -50,7 +50,7 @@ pub(crate) fn print_state<D: Disk + Drop, T: Invariants + Drop, S: StoredSteps +
 fn print_names<D: Disk + Drop, T: Invariants + Drop, S: StoredSteps + Drop, W: Write>(
     out: &mut W,
     world: &World<D, T, S>,
-) -> Result<(), Failure>
+) -> Result<(), ProgramFailure>
     requires { HoldsSession world.now }
     ensures names { OnOk result ((program : Program) (m : WorldModel) → Represents program world.now m
         → Appends (W.contents out.old) (W.contents out.new) (listed (registered (present program m)))) }
@@ -72,7 +72,7 @@ fn print_values<D: Disk + Drop, T: Invariants + Drop, S: StoredSteps + Drop, W: 
     out: &mut W,
     world: &World<D, T, S>,
     vars: u16,
-) -> Result<(), Failure>
+) -> Result<(), ProgramFailure>
     requires open { HoldsSession world.now }
     requires vars { (numbers_of world.now).vars ≡ vars }
     ensures values { OnOk result ((program : Program) (m : WorldModel) → Represents program world.now m
@@ -90,7 +90,7 @@ fn print_item<W: Write, T: Display + Drop>(
     out: &mut W,
     is_first: bool,
     text: T,
-) -> Result<(), Failure>
+) -> Result<(), ProgramFailure>
     ensures item { OnOk result (IfSome (T.output text) (λ bytes. Appends (W.contents out.old) (W.contents out.new) ((if is_first then codes "" else codes ",") ++ bytes))) }
     ensures failed { IfErr result (λ failure. failure ≡ Output) }
 {
@@ -99,9 +99,9 @@ fn print_item<W: Write, T: Display + Drop>(
 }
 
 // Prints a text.
-fn print_text<W: Write, T: Display + Drop>(out: &mut W, text: T) -> Result<(), Failure>
+fn print_text<W: Write, T: Display + Drop>(out: &mut W, text: T) -> Result<(), ProgramFailure>
     ensures text { OnOk result (IfSome (T.output text) (Appends (W.contents out.old) (W.contents out.new))) }
     ensures failed { IfErr result (λ failure. failure ≡ Output) }
 {
-    write!(out, "{text}").map_err(|_| Failure::Output)
+    write!(out, "{text}").map_err(|_| ProgramFailure::Output)
 }

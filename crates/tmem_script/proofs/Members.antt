@@ -8,7 +8,7 @@ use Rattle.serde_json.specs.View.{view, members_view}
 use Rattle.serde_json.specs.declared.value.Value.{Value, Object}
 use Rattle.tmem_script.specs.Scripts.{IsScript, EntryInRange, entry_form}
 use Rattle.tmem_forms.specs.TxForms.{natural, array_of, tagged, IsShort}
-use Rattle.tmem_script.specs.declared.script.Entry.{Entry}
+use Rattle.tmem_script.specs.declared.script.ScriptEntry.{ScriptEntry}
 
 -- an object's members as a list
 abbrev Entries : Type 0
@@ -49,12 +49,12 @@ some_left [] some none = some refl
 some_left (e ∷ es) some none = cc
 
 pub no_script_with_more : (d events slots vars : Data) (es : Entries) → d ≡ object (member (codes "events") events (member (codes "slots") slots (member (codes "vars") vars (members_view es)))) → ¬ (length es ≡ 0)
-    → (n m : ℕ) (entries : List Entry) → ¬ IsScript n m entries d
+    → (n m : ℕ) (entries : List ScriptEntry) → ¬ IsScript n m entries d
 no_script_with_more d events slots vars es found more n m entries is =
     let same = sym found ∙ is.form in
     some_left es more cc
 
-pub script_found : (d events slots vars : Data) (es : Entries) (n m : ℕ) (entries : List Entry) → d ≡ object (member (codes "events") events (member (codes "slots") slots (member (codes "vars") vars (members_view es)))) → length es ≡ 0
+pub script_found : (d events slots vars : Data) (es : Entries) (n m : ℕ) (entries : List ScriptEntry) → d ≡ object (member (codes "events") events (member (codes "slots") slots (member (codes "vars") vars (members_view es)))) → length es ≡ 0
     → events ≡ array_of (map entry_form entries) → slots ≡ natural m → vars ≡ natural n → IsShort n → IsShort m → All EntryInRange entries → IsScript n m entries d
 script_found d events slots vars es n m entries found none first second third vars_fit slots_fit in_range =
     let left : members_view es ≡ no_members = none_left es none in

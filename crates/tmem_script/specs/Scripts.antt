@@ -6,8 +6,8 @@ use Rattle.tmem_event.specs.Events.{NamesAttempt}
 use Rattle.tmem_event.specs.declared.event.Event.{Event}
 use Rattle.tmem_event.specs.declared.event.Event.TheVariants as event
 use Rattle.tmem_forms.specs.TxForms.{natural, array_of, tagged, tx_form, TxInRange, IsShort}
-use Rattle.tmem_script.specs.declared.script.Entry.{Entry}
-use Rattle.tmem_script.specs.declared.script.Entry.TheVariants as entry
+use Rattle.tmem_script.specs.declared.script.ScriptEntry.{ScriptEntry}
+use Rattle.tmem_script.specs.declared.script.ScriptEntry.TheVariants as entry
 
 -- the form of an event
 abbrev pub event_form : Event → Data
@@ -36,23 +36,23 @@ pub record IsEvent (event : Event) (d : Data) : Type 0 where
   pub in_range : EventInRange event
 
 -- the form of an entry
-abbrev pub entry_form : Entry → Data
+abbrev pub entry_form : ScriptEntry → Data
 entry_form (entry.Event playable) = event_form playable.event
 entry_form entry.Show = string (codes "show")
 
 -- The transaction of an entry's event is in range. The attempt is one that a world has in each entry, by its type.
-abbrev pub EntryInRange : Entry → Type 0
+abbrev pub EntryInRange : ScriptEntry → Type 0
 EntryInRange (entry.Event playable) = EventInRange playable.event
 EntryInRange entry.Show = Unit {0}
 
 -- this value is the form of this entry
-pub record IsEntry (entry : Entry) (d : Data) : Type 0 where
+pub record IsEntry (entry : ScriptEntry) (d : Data) : Type 0 where
   pub form : d ≡ entry_form entry
   pub in_range : EntryInRange entry
 
 -- This value is the form of a script: an object with these three keys and no other. The members of an object stand in
 -- the order of their keys here, in whatever order the text has them.
-pub record IsScript (vars slots : ℕ) (entries : List Entry) (d : Data) : Type 0 where
+pub record IsScript (vars slots : ℕ) (entries : List ScriptEntry) (d : Data) : Type 0 where
   pub form : d ≡ object (member (codes "events") (array_of (map entry_form entries))
       (member (codes "slots") (natural slots) (member (codes "vars") (natural vars) no_members)))
   pub vars_fit : IsShort vars
@@ -60,7 +60,7 @@ pub record IsScript (vars slots : ℕ) (entries : List Entry) (d : Data) : Type 
   pub in_range : All EntryInRange entries
 
 -- the text is JSON in UTF-8, and its value is the form of this script
-pub record IsScriptText (vars slots : ℕ) (entries : List Entry) (text : List ℕ) : Type 0 where
+pub record IsScriptText (vars slots : ℕ) (entries : List ScriptEntry) (text : List ℕ) : Type 0 where
   pub utf8 : IsUtf8 text
   pub value : Data
   pub reads : read text ≡ Some value

@@ -2,15 +2,15 @@
 use Rattle.std.specs.Prelude.{ℕ, List, [], ◌∷◌, ◌++◌, codes}
 use Rattle.tmem_fault.specs.Fault.{text_of}
 use Rattle.tmem_fault.specs.declared.fault.Fault.TheVariants as fault
-use Rattle.tmem_script.specs.declared.failure.Failure.{Failure}
-use Rattle.tmem_script.specs.declared.failure.Failure.TheVariants.{Script, Refused, Output, Clock, Words}
+use Rattle.tmem_script.specs.declared.failure.ProgramFailure.{ProgramFailure}
+use Rattle.tmem_script.specs.declared.failure.ProgramFailure.TheVariants.{Script, Refused, Output, Clock, Words}
 use Rattle.tmem_script.specs.declared.failure.WordsError.{WordsError}
 use Rattle.tmem_script.specs.declared.failure.WordsError.TheVariants as words_error
 use Rattle.tmem_script.specs.declared.script.ScriptError.{ScriptError}
 use Rattle.tmem_script.specs.declared.script.ScriptError.TheVariants.{Memory, Unreadable, NoScript}
 
 -- 3 where there was no script to play, 2 where the words could not be read, and else 1
-abbrev pub status_of : Failure → ℕ
+abbrev pub status_of : ProgramFailure → ℕ
 status_of (Script Unreadable) = 3
 status_of (Script NoScript) = 3
 status_of (Script (Memory e)) = 1
@@ -31,7 +31,7 @@ words_error_text words_error.NotText = codes "the command line is not UTF-8"
 words_error_text words_error.Memory = codes "not enough memory for the command line"
 
 -- the text of a failure
-abbrev pub failure_text : Failure → List ℕ
+abbrev pub failure_text : ProgramFailure → List ℕ
 failure_text (Script error) = script_error_text error
 failure_text (Refused f) = text_of f
 failure_text Output = codes "output failed"
@@ -39,5 +39,5 @@ failure_text Clock = codes "no clock"
 failure_text (Words error) = words_error_text error
 
 -- the line that the user is told
-abbrev pub failure_line : Failure → List ℕ
+abbrev pub failure_line : ProgramFailure → List ℕ
 failure_line failure = codes "tmem: " ++ failure_text failure ++ 10 ∷ []

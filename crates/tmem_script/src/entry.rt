@@ -4,19 +4,19 @@ ghost use Rattle.serde_json.specs.View.{view};
 ghost use Rattle.tmem_forms.specs.Errors.{Refuses};
 ghost use Rattle.tmem_script.specs.Scripts.{IsEntry, EntryInRange, entry_form};
 ghost use Rattle.tmem_forms.specs.TxForms.{array_of};
-ghost use Rattle.tmem_script.specs.declared.script.Entry.{Entry};
+ghost use Rattle.tmem_script.specs.declared.script.ScriptEntry.{ScriptEntry};
 
 use crate::event::event_of;
-use crate::script::{Entry, Playable};
+use crate::script::{Playable, ScriptEntry};
 use serde_json::Value;
 use std::alloc::Global;
 use tmem_forms::FormError;
 
 /// Reads an array of entries.
-pub(crate) fn entries_of(alloc: Global, value: Value) -> Result<Vec<Entry>, FormError>
+pub(crate) fn entries_of(alloc: Global, value: Value) -> Result<Vec<ScriptEntry>, FormError>
     ensures ok { IfOk result (λ entries. view value ≡ array_of (map entry_form entries.items)) }
     ensures in_range { IfOk result (λ entries. All EntryInRange entries.items) }
-    ensures refused { IfErr result (λ e. Refuses e ((entries : List Entry) → All EntryInRange entries
+    ensures refused { IfErr result (λ e. Refuses e ((entries : List ScriptEntry) → All EntryInRange entries
         → ¬ (view value ≡ array_of (map entry_form entries)))) }
 {
     let Value::Array(items) = value else {
@@ -29,13 +29,13 @@ pub(crate) fn entries_of(alloc: Global, value: Value) -> Result<Vec<Entry>, Form
     Ok(entries)
 }
 
-fn entry_of(alloc: Global, value: &Value) -> Result<Entry, FormError>
+fn entry_of(alloc: Global, value: &Value) -> Result<ScriptEntry, FormError>
     ensures ok { IfOk result (λ entry. IsEntry entry (view value.now)) }
-    ensures refused { IfErr result (λ e. Refuses e ((entry : Entry) → ¬ IsEntry entry (view value.now))) }
+    ensures refused { IfErr result (λ e. Refuses e ((entry : ScriptEntry) → ¬ IsEntry entry (view value.now))) }
 {
     if value.as_str() == Some("show") {
-        return Ok(Entry::Show);
+        return Ok(ScriptEntry::Show);
     }
     let event = event_of(alloc, value)?;
-    Ok(Entry::Event(Playable { event }))
+    Ok(ScriptEntry::Event(Playable { event }))
 }

@@ -51,12 +51,12 @@ fn event_of_member(alloc: Global, key: &str, body: &Value) -> Result<Event, Form
     match key {
         "begin" => begin_of(alloc, body),
         "turn" => {
-            let slot = attempt_of(body)?;
-            Ok(Event::Turn { slot })
+            let attempt = attempt_of(body)?;
+            Ok(Event::Turn { slot: attempt })
         }
         "settle" => {
-            let slot = attempt_of(body)?;
-            Ok(Event::Settle { slot })
+            let attempt = attempt_of(body)?;
+            Ok(Event::Settle { slot: attempt })
         }
         _ => Err(FormError::NoForm),
     }
@@ -67,19 +67,19 @@ fn begin_of(alloc: Global, body: &Value) -> Result<Event, FormError>
     ensures refused { IfErr result (λ e. Refuses e ((event : Event) → ¬ IsEvent event (tagged (codes "begin") (view body.now)))) }
 {
     let (first, second) = pair_of(body)?;
-    let slot = attempt_of(first)?;
+    let attempt = attempt_of(first)?;
     let tx = tx_of(alloc, second)?;
-    Ok(Event::Begin { slot, tx })
+    Ok(Event::Begin { slot: attempt, tx })
 }
 
 fn attempt_of(value: &Value) -> Result<u8, FormError>
-    ensures ok { IfOk result (λ slot. view value.now ≡ natural slot) }
-    ensures below { IfOk result (λ slot. slot < 16) }
-    ensures refused { IfErr result (λ e. Refuses e ((slot : ℕ) → slot < 16 → ¬ (view value.now ≡ natural slot))) }
+    ensures ok { IfOk result (λ attempt. view value.now ≡ natural attempt) }
+    ensures below { IfOk result (λ attempt. attempt < 16) }
+    ensures refused { IfErr result (λ e. Refuses e ((attempt : ℕ) → attempt < 16 → ¬ (view value.now ≡ natural attempt))) }
 {
-    let slot = byte_of(value)?;
-    if slot as usize >= ATTEMPTS {
+    let attempt = byte_of(value)?;
+    if attempt as usize >= ATTEMPTS {
         return Err(FormError::NoForm);
     }
-    Ok(slot)
+    Ok(attempt)
 }

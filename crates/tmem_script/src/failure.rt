@@ -11,7 +11,7 @@ use tmem_fault::Fault;
 
 /// Why the program did not do all that it was asked. Its text is what the user is told.
 #[derive(Debug, Drop, Error)]
-pub enum Failure {
+pub enum ProgramFailure {
     Script(ScriptError),
     /// The device, its format or its opening was refused, or memory for the way there.
     Refused(Fault),
@@ -22,7 +22,7 @@ pub enum Failure {
     Words(WordsError),
 }
 
-impl fmt::Display for Failure {
+impl fmt::Display for ProgramFailure {
     ghost use Rattle.std.specs.Prelude.{Some};
     ghost use Rattle.tmem_script.specs.Statuses.{failure_text};
 
@@ -30,11 +30,11 @@ impl fmt::Display for Failure {
 
     fn fmt<W: fmt::Write>(&self, f: &mut fmt::Formatter<W>) -> fmt::Result {
         match self {
-            Failure::Script(error) => write!(f, "{error}"),
-            Failure::Refused(fault) => write!(f, "{fault}"),
-            Failure::Output => write!(f, "output failed"),
-            Failure::Clock => write!(f, "no clock"),
-            Failure::Words(error) => write!(f, "{error}"),
+            ProgramFailure::Script(error) => write!(f, "{error}"),
+            ProgramFailure::Refused(fault) => write!(f, "{fault}"),
+            ProgramFailure::Output => write!(f, "output failed"),
+            ProgramFailure::Clock => write!(f, "no clock"),
+            ProgramFailure::Words(error) => write!(f, "{error}"),
         }
     }
 }
@@ -60,29 +60,29 @@ impl fmt::Display for WordsError {
     }
 }
 
-impl From<Fault> for Failure {
+impl From<Fault> for ProgramFailure {
     ghost use Rattle.std.specs.Prelude.{◌≡◌};
-    ghost use Rattle.tmem_script.specs.declared.failure.Failure.TheVariants.{Refused};
+    ghost use Rattle.tmem_script.specs.declared.failure.ProgramFailure.TheVariants.{Refused};
 
     ghost from_gives = { λ fault failure. failure ≡ Refused fault };
 
-    fn from(fault: Fault) -> Failure {
-        Failure::Refused(fault)
+    fn from(fault: Fault) -> ProgramFailure {
+        ProgramFailure::Refused(fault)
     }
 }
 
-impl From<ScriptError> for Failure {
+impl From<ScriptError> for ProgramFailure {
     ghost use Rattle.std.specs.Prelude.{◌≡◌};
-    ghost use Rattle.tmem_script.specs.declared.failure.Failure.TheVariants.{Script};
+    ghost use Rattle.tmem_script.specs.declared.failure.ProgramFailure.TheVariants.{Script};
 
     ghost from_gives = { λ error failure. failure ≡ Script error };
 
-    fn from(error: ScriptError) -> Failure {
-        Failure::Script(error)
+    fn from(error: ScriptError) -> ProgramFailure {
+        ProgramFailure::Script(error)
     }
 }
 
-impl Failure {
+impl ProgramFailure {
     ghost use Rattle.tmem_script.specs.Statuses.{status_of};
 
     // The status that the program ends with: 3 where there was no script to play, 2 where there were
@@ -92,18 +92,18 @@ impl Failure {
         ensures most { result ≤ 3 }
     {
         match self {
-            Failure::Script(ScriptError::Unreadable | ScriptError::NoScript) => 3,
-            Failure::Words(_) => 2,
-            Failure::Script(ScriptError::Memory(_))
-            | Failure::Refused(_)
-            | Failure::Output
-            | Failure::Clock => 1,
+            ProgramFailure::Script(ScriptError::Unreadable | ScriptError::NoScript) => 3,
+            ProgramFailure::Words(_) => 2,
+            ProgramFailure::Script(ScriptError::Memory(_))
+            | ProgramFailure::Refused(_)
+            | ProgramFailure::Output
+            | ProgramFailure::Clock => 1,
         }
     }
 }
 
 /// Prints a failure, and answers its status.
-pub fn report<E: Write>(failure: &Failure, err: &mut E) -> u8
+pub fn report<E: Write>(failure: &ProgramFailure, err: &mut E) -> u8
     ensures status { result ≡ status_of failure.now }
     ensures most { result ≤ 3 }
 {
@@ -113,7 +113,7 @@ pub fn report<E: Write>(failure: &Failure, err: &mut E) -> u8
 }
 
 // Prints what the user is told of a failure.
-fn tell<E: Write>(failure: &Failure, err: &mut E) -> io::Result<()>
+fn tell<E: Write>(failure: &ProgramFailure, err: &mut E) -> io::Result<()>
     ensures { OnOk result (Appends (E.contents err.old) (E.contents err.new) (failure_line failure.now)) }
 {
     writeln!(err, "tmem: {failure}")

@@ -11,6 +11,6 @@ mod failure;
 mod line;
 mod script;
 
-pub use failure::{Failure, WordsError, report};
+pub use failure::{ProgramFailure, WordsError, report};
 pub use line::ReplyLine;
-pub use script::{Entry, Playable, Script, ScriptError};
+pub use script::{Playable, Script, ScriptEntry, ScriptError};

@@ -19,12 +19,12 @@ use tmem_forms::{FormError, short_of};
 pub struct Script {
     pub vars: u16,
     pub slots: u16,
-    pub entries: Vec<Entry>,
+    pub entries: Vec<ScriptEntry>,
 }
 
 /// What one entry of a script's events asks for.
 #[derive(Drop)]
-pub enum Entry {
+pub enum ScriptEntry {
     Event(Playable),
     /// To print the state.
     Show,
@@ -116,7 +116,7 @@ impl Script {
     ghost use Rattle.tmem_forms.specs.Errors.{Refuses};
     ghost use Rattle.tmem_script.specs.Errors.{IsWanting};
     ghost use Rattle.tmem_script.specs.Scripts.{IsScript, IsScriptText};
-    ghost use Rattle.tmem_script.specs.declared.script.Entry.{Entry};
+    ghost use Rattle.tmem_script.specs.declared.script.ScriptEntry.{ScriptEntry};
     ghost use Rattle.tmem_script.specs.declared.script.ScriptError.TheVariants.{NoScript};
 
     /// Reads a script from its text: an object with the keys `vars`, `slots` and `events`, and no
@@ -124,7 +124,7 @@ impl Script {
     /// text is none, and with `Memory`.
     pub fn from_slice(alloc: Global, text: &[u8]) -> Result<Script, ScriptError>
         ensures script { IfOk result (λ script. IsScriptText script.vars script.slots script.entries.items text.now) }
-        ensures no_script { IfErr result (λ e. e ≡ NoScript → (vars slots : ℕ) (entries : List Entry)
+        ensures no_script { IfErr result (λ e. e ≡ NoScript → (vars slots : ℕ) (entries : List ScriptEntry)
             → ¬ IsScriptText vars slots entries text.now) }
         ensures refused { IfErr result (λ e. (e ≡ NoScript) ⊎ IsWanting e) }
     {
@@ -135,7 +135,7 @@ impl Script {
 
     fn from_value(alloc: Global, value: Value) -> Result<Script, FormError>
         ensures ok { IfOk result (λ script. IsScript script.vars script.slots script.entries.items (view value)) }
-        ensures refused { IfErr result (λ e. Refuses e ((vars slots : ℕ) (entries : List Entry)
+        ensures refused { IfErr result (λ e. Refuses e ((vars slots : ℕ) (entries : List ScriptEntry)
             → ¬ IsScript vars slots entries (view value))) }
     {
         let Value::Object(mut members) = value else {

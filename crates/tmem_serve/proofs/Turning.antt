@@ -11,18 +11,18 @@ use Rattle.tmem_desk.specs.Failing.{EndsBy, PrintsPart}
 use Rattle.tmem_desk.specs.Serving.{RunsEnd, ServesPiece, ServesEnd}
 use Rattle.tmem_desk.specs.Told.{told_lines}
 use Rattle.tmem_desk.specs.declared.told.Told.{Told}
-use Rattle.tmem_desk.specs.declared.failure.Failure.{Failure}
-use Rattle.tmem_desk.specs.declared.failure.Failure.TheVariants as failure
+use Rattle.tmem_desk.specs.declared.failure.DeskFailure.{DeskFailure}
+use Rattle.tmem_desk.specs.declared.failure.DeskFailure.TheVariants as failure
 use Rattle.tmem_desk.specs.Serving.{with_closed}
-use Rattle.tmem_serve.specs.Turns.{Turn, read_in, printed_in, ServesTurns, ServesInput, StopsInput, TellsStop}
+use Rattle.tmem_serve.specs.Turns.{InputTurn, read_in, printed_in, ServesTurns, ServesInput, StopsInput, TellsStop}
 
 -- what holds of a failure holds of a result that has it
-pub err_is : {T : Type 0} (P : Failure → Type 0) (r : Result T Failure) (e : Failure) → IsErrAnd r (λ f. f ≡ e) → P e → IfErr r P
+pub err_is : {T : Type 0} (P : DeskFailure → Type 0) (r : Result T DeskFailure) (e : DeskFailure) → IsErrAnd r (λ f. f ≡ e) → P e → IfErr r P
 err_is P (Ok x) e is so = tt
 err_is P (Err f) e is so = subst P (sym is) so
 
 -- and what follows from what is known of one
-pub err_more : {T : Type 0} (P Q : Failure → Type 0) (r : Result T Failure) → ((f : Failure) → P f → Q f) → IfErr r P → IfErr r Q
+pub err_more : {T : Type 0} (P Q : DeskFailure → Type 0) (r : Result T DeskFailure) → ((f : DeskFailure) → P f → Q f) → IfErr r P → IfErr r Q
 err_more P Q (Ok x) more so = tt
 err_more P Q (Err f) more so = more f so
 
@@ -78,7 +78,7 @@ Keeps-then (Some x) (Some y) (Some z) one other = other ∙ one
 
 -- From v to w some turns were served, and what is held represents what is left of the last line.
 pub record HasServed (s : Store) (v w : DeskView) (held : LinesView) (unread rest before after : Option (List ℕ)) : Type 0 where
-  pub turns : List Turn
+  pub turns : List InputTurn
   pub left : List ℕ
   pub served : ServesTurns s turns v w left
   pub stands : HoldsRestOf held left
@@ -99,7 +99,7 @@ module _ (s : Store) (v : DeskView) (unread before : Option (List ℕ)) where
       let of = serves so.left so.stands in
       let answers = told_lines of.ran.told in
       let same : ServesPiece s (so.left ++ piece) held' w w' (λ text. text ≡ answers) = record { ran = of.ran; runs = of.runs; printed = refl; is = of.is } in
-      let turn : Turn = record { piece = piece; answers = answers } in
+      let turn : InputTurn = record { piece = piece; answers = answers } in
       record {
         turns = turn ∷ so.turns;
         left = of.runs.takes.splits.rest;
@@ -130,7 +130,7 @@ module _ (s : Store) (v : DeskView) (unread before : Option (List ℕ)) where
       }
 
   -- or it ends early
-  pub stopped : (w : DeskView) (held : LinesView) (rest rest' after flushed : Option (List ℕ)) (piece : List ℕ) (f : Failure) (so : HasServed s v w held unread rest before after)
+  pub stopped : (w : DeskView) (held : LinesView) (rest rest' after flushed : Option (List ℕ)) (piece : List ℕ) (f : DeskFailure) (so : HasServed s v w held unread rest before after)
       → Consumes rest rest' piece → EndsBy (Appends after flushed) f → TellsStop s so.left piece w (Appends after flushed) f → StopsInput s v unread rest' before flushed f
   stopped w held rest rest' after flushed piece f so read ends told = record {
     turns = so.turns;
@@ -146,13 +146,13 @@ module _ (s : Store) (v : DeskView) (unread before : Option (List ℕ)) where
   }
 
   -- where what was printed could not be flushed
-  unflushed : (w : DeskView) (held : LinesView) (rest rest' after flushed : Option (List ℕ)) (piece : List ℕ) (f : Failure) (so : HasServed s v w held unread rest before after)
+  unflushed : (w : DeskView) (held : LinesView) (rest rest' after flushed : Option (List ℕ)) (piece : List ℕ) (f : DeskFailure) (so : HasServed s v w held unread rest before after)
       → Consumes rest rest' piece → f ≡ failure.Output → TellsStop s so.left piece w (Appends after flushed) failure.Output → StopsInput s v unread rest' before flushed f
   unflushed w held rest rest' after flushed piece f so read is told =
       stopped w held rest rest' after flushed piece f so read (subst (EndsBy (Appends after flushed)) (sym is) tt) (subst (TellsStop s so.left piece w (Appends after flushed)) (sym is) told)
 
   -- of a piece
-  pub piece_unflushed : (w w' : DeskView) (held held' : LinesView) (rest rest' after printed flushed : Option (List ℕ)) (piece : List ℕ) (f : Failure) → HasServed s v w held unread rest before after
+  pub piece_unflushed : (w w' : DeskView) (held held' : LinesView) (rest rest' after printed flushed : Option (List ℕ)) (piece : List ℕ) (f : DeskFailure) → HasServed s v w held unread rest before after
       → Consumes rest rest' piece
       → ((text : List ℕ) → HoldsRestOf held text → ServesPiece s (text ++ piece) held' w w' (Appends after printed))
       → Keeps printed flushed → f ≡ failure.Output → StopsInput s v unread rest' before flushed f
@@ -161,7 +161,7 @@ module _ (s : Store) (v : DeskView) (unread before : Option (List ℕ)) where
       unflushed w held rest rest' after flushed piece f so read is (inl (held', inl (of.ran, of.runs, whole_part after printed flushed of.ran.told of.printed kept)))
 
   -- and of the end
-  pub end_unflushed : (w w' : DeskView) (held : LinesView) (rest rest' after printed flushed : Option (List ℕ)) (f : Failure) → HasServed s v w held unread rest before after
+  pub end_unflushed : (w w' : DeskView) (held : LinesView) (rest rest' after printed flushed : Option (List ℕ)) (f : DeskFailure) → HasServed s v w held unread rest before after
       → Consumes rest rest' [] → ((text : List ℕ) → HoldsRestOf held text → ServesEnd s text w w' (Appends after printed))
       → Keeps printed flushed → f ≡ failure.Output → StopsInput s v unread rest' before flushed f
   end_unflushed w w' held rest rest' after printed flushed f so read serves kept is =

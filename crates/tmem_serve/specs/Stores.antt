@@ -16,8 +16,8 @@ use Rattle.tmem_spine.specs.Views.{new_pass}
 use Rattle.tmem_requests.specs.Answers.{opened_line}
 use Rattle.tmem_desk.specs.Asking.{Store}
 use Rattle.tmem_desk.specs.Held.{empty_desk}
-use Rattle.tmem_desk.specs.declared.failure.Failure.{Failure}
-use Rattle.tmem_desk.specs.declared.failure.Failure.TheVariants as failure
+use Rattle.tmem_desk.specs.declared.failure.DeskFailure.{DeskFailure}
+use Rattle.tmem_desk.specs.declared.failure.DeskFailure.TheVariants as failure
 use Rattle.tmem_serve.specs.declared.error.ServeError.{ServeError}
 use Rattle.tmem_serve.specs.declared.error.ServeError.TheVariants as error
 use Rattle.tmem_serve.specs.Turns.{ServesInput, StopsInput}
@@ -34,7 +34,7 @@ pub record ServesStore (s : Store) (vars : ℕ) (names : List (String Global × 
   pub input : ServesInput s (empty_desk (new_pass mark)) unread rest between after
 
 -- The same, and serving ended early.
-pub record StopsStore (s : Store) (vars : ℕ) (names : List (String Global × ℕ)) (unread rest before after : Option (List ℕ)) (f : Failure) : Type 0 where
+pub record StopsStore (s : Store) (vars : ℕ) (names : List (String Global × ℕ)) (unread rest before after : Option (List ℕ)) (f : DeskFailure) : Type 0 where
   pub between : Option (List ℕ)
   pub first : Appends before between (first_line s.start vars names)
   pub mark : ℕ
@@ -42,7 +42,7 @@ pub record StopsStore (s : Store) (vars : ℕ) (names : List (String Global × �
 
 -- Why a store that was opened was not served to the end of its input: no pass was left; or the first line could not be printed; or
 -- serving ended early.
-abbrev pub IsWhyStopped : Store → ℕ → List (String Global × ℕ) → Option (List ℕ) → Option (List ℕ) → Option (List ℕ) → Option (List ℕ) → Failure → Type 0
+abbrev pub IsWhyStopped : Store → ℕ → List (String Global × ℕ) → Option (List ℕ) → Option (List ℕ) → Option (List ℕ) → Option (List ℕ) → DeskFailure → Type 0
 IsWhyStopped s vars names unread rest before after f =
     ((f ≡ failure.Fault fault.NoSeat) × (rest ≡ unread) × (after ≡ before))
     ⊎ (((f ≡ failure.Output) × (rest ≡ unread)) ⊎ StopsStore s vars names unread rest before after f)
@@ -77,7 +77,7 @@ pub record OpensAndServes {D : Type 0} (view : D → DeviceView) (program : Prog
   pub served : ServesStore it vars names unread rest before after
 
 -- Its opening was refused.
-abbrev pub IsWhyNotServed : (Program → Type 0) → ℕ → ℕ → DeviceView → DeviceView → Failure → Type 0
+abbrev pub IsWhyNotServed : (Program → Type 0) → ℕ → ℕ → DeviceView → DeviceView → DeskFailure → Type 0
 IsWhyNotServed AreTheirs vars slots old new f = (g : Fault) × (f ≡ failure.Fault g) × OpeningRefused AreTheirs vars slots old g new
 
 -- Why a store was not served to the end of its input. It was opened, and this is the first that always holds and is not registered in it:

@@ -4,7 +4,7 @@ ghost use Rattle.std.specs.Io.KnownBytes.{Appends, Consumes, IsAtEnd, Keeps};
 ghost use Rattle.tmem_core.specs.Program.{Program, IsProgramOf};
 ghost use Rattle.tmem_desk.specs.Asking.{store};
 ghost use Rattle.tmem_desk.specs.Held.{desk_view};
-ghost use Rattle.tmem_desk.specs.declared.failure.Failure.TheVariants as failure;
+ghost use Rattle.tmem_desk.specs.declared.failure.DeskFailure.TheVariants as failure;
 ghost use Rattle.tmem_front.specs.Held.{front_found, spine_of, front_steps, front_table};
 ghost use Rattle.tmem_serve.specs.Turns.{ServesInput, StopsInput};
 ghost use Rattle.tmem_serve.specs.Stores.{IsWhyEnded, IsWhyStopped, OpensAndServes, ServesStore, first_line, first_unregistered};
@@ -14,7 +14,7 @@ use std::alloc::Global;
 use std::io::{ErrorKind, Read, Write};
 use std::marker::Brand;
 use std::sync::Wait;
-use tmem_desk::{Desk, Failure, ServedNaming, Service};
+use tmem_desk::{Desk, DeskFailure, ServedNaming, Service};
 use tmem_disk::Disk;
 use tmem_fault::{Fault, Name};
 use tmem_front::{Front, OpenedFront};
@@ -92,7 +92,7 @@ pub fn serve_store<
                 Err(failure) => Err(ServeError::Ended(failure)),
             },
         },
-        Err((fault, _disk)) => Err(ServeError::Ended(Failure::Fault(fault))),
+        Err((fault, _disk)) => Err(ServeError::Ended(DeskFailure::Fault(fault))),
     }
 }
 
@@ -122,7 +122,7 @@ fn serve_opened<
     served: Served,
     input: &mut I,
     out: &mut W,
-) -> Result<InputEnd, Failure>
+) -> Result<InputEnd, DeskFailure>
     requires spine { spine_of opened ≡ N.name }
     requires opening { front_found opened ≡ N.opening }
     requires names { T.names (front_table opened) ≡ N.program.names }
@@ -156,7 +156,7 @@ fn serve_front<
     served: Served,
     input: &mut I,
     out: &mut W,
-) -> Result<InputEnd, Failure>
+) -> Result<InputEnd, DeskFailure>
     requires arities { S.arities front.now.steps ≡ N.arities }
     requires vars { served.vars ≡ length N.opening.values }
     requires told { served.names.now ≡ N.program.names }
@@ -178,7 +178,7 @@ fn print_first<W: Write>(
     opened: u64,
     vars: u16,
     names: &[(String, u16)],
-) -> Result<(), Failure>
+) -> Result<(), DeskFailure>
     ensures printed { OnOk result (Appends (W.contents out.old) (W.contents out.new) (first_line opened vars names.now)) }
     ensures failed { IfErr result (λ f. f ≡ failure.Output) }
 {
@@ -192,7 +192,7 @@ fn print_first<W: Write>(
 }
 
 // Flushes what was printed.
-fn flush<W: Write>(out: &mut W) -> Result<(), Failure>
+fn flush<W: Write>(out: &mut W) -> Result<(), DeskFailure>
     ensures kept { Keeps (W.contents out.old) (W.contents out.new) }
     ensures failed { IfErr result (λ f. f ≡ failure.Output) }
 {
@@ -215,7 +215,7 @@ fn serve_lines<
     desk: &mut Desk<N>,
     input: &mut I,
     out: &mut W,
-) -> Result<InputEnd, Failure>
+) -> Result<InputEnd, DeskFailure>
     ensures served { OnOk result (ServesInput (store N.name.start N.opening N.program N.arities N.always) (desk_view desk.old) (I.remaining input.old) (I.remaining input.new) (W.contents out.old) (W.contents out.new)) }
     ensures whole { IfOk result (λ end. end ≡ InputEnd.Reached → IsAtEnd (I.remaining input.new)) }
     ensures stopped { IfErr result (StopsInput (store N.name.start N.opening N.program N.arities N.always) (desk_view desk.old) (I.remaining input.old) (I.remaining input.new) (W.contents out.old) (W.contents out.new)) }
@@ -239,13 +239,13 @@ fn serve_lines<
 }
 
 // The room for a piece.
-fn room_for_piece(alloc: Global) -> Result<Vec<u8>, Failure>
+fn room_for_piece(alloc: Global) -> Result<Vec<u8>, DeskFailure>
     ensures room { IfOk result (λ piece. 1 ≤ length piece.items) }
     ensures refused { IfErr result (λ f. f ≡ failure.Fault Fault.Memory) }
 {
     match vec![in alloc; 0; PIECE_BYTES] {
         Ok(piece) => Ok(piece),
-        Err(_) => Err(Failure::Fault(Fault::Memory)),
+        Err(_) => Err(DeskFailure::Fault(Fault::Memory)),
     }
 }
 

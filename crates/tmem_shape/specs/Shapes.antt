@@ -13,7 +13,7 @@ use Rattle.tmem_linear.specs.declared.linear.Linear.{Linear}
 use Rattle.tmem_linear.specs.declared.weight.Weight.{Weight}
 use Rattle.tmem_linear.specs.declared.weight.Weight.TheVariants.{Value, Nonzero}
 use Rattle.tmem_forms.specs.Members.{HasOnly}
-use Rattle.tmem_shape.specs.declared.shape.Shape.{Shape}
+use Rattle.tmem_shape.specs.declared.shape.StoreShape.{StoreShape}
 
 -- a whole number within bounds stands at a key
 pub record HasNumber (key : List ℕ) (least most n : ℕ) (d : Data) : Type 0 where
@@ -131,7 +131,7 @@ abbrev pub shape_keys : List (List ℕ)
 shape_keys = codes "vars" ∷ codes "slots" ∷ codes "invariants" ∷ codes "names" ∷ []
 
 -- The value is the form of this shape.
-pub record IsShape (shape : Shape) (d : Data) : Type 0 where
+pub record IsShape (shape : StoreShape) (d : Data) : Type 0 where
   pub only : HasOnly shape_keys d
   pub vars : HasNumber (codes "vars") 1 1024 shape.vars d
   pub slots : HasNumber (codes "slots") 2 64 shape.slots d
@@ -139,7 +139,7 @@ pub record IsShape (shape : Shape) (d : Data) : Type 0 where
   pub names : HasNames shape.vars shape.names.items d
 
 -- The text is JSON in UTF-8, and its value is the form of this shape. Of a key that stands twice in an object the last value counts.
-pub record IsShapeText (shape : Shape) (text : List ℕ) : Type 0 where
+pub record IsShapeText (shape : StoreShape) (text : List ℕ) : Type 0 where
   pub utf8 : IsUtf8 text
   pub value : Data
   pub reads : read text ≡ Some value

@@ -2,11 +2,11 @@
 use Rattle.std.specs.Prelude.{ℕ, List, ◌++◌, codes}
 use Rattle.std.specs.Fmt.{decimal}
 use Rattle.tmem_shape.specs.Keys.{key_text}
-use Rattle.tmem_shape.specs.declared.why.Why.{Why}
-use Rattle.tmem_shape.specs.declared.why.Why.TheVariants as why
+use Rattle.tmem_shape.specs.declared.why.ShapeFlaw.{ShapeFlaw}
+use Rattle.tmem_shape.specs.declared.why.ShapeFlaw.TheVariants as why
 
 -- what is wrong, in words
-abbrev pub shape_why_text : Why → List ℕ
+abbrev pub shape_why_text : ShapeFlaw → List ℕ
 shape_why_text why.NotJson = codes "this is not JSON"
 shape_why_text why.NotObject = codes "this is not an object"
 shape_why_text why.NotArray = codes "this is not an array"

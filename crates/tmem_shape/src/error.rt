@@ -1,6 +1,6 @@
 //! Why the text of a shape was not read.
-use crate::place::Place;
-use crate::why::Why;
+use crate::place::ShapePlace;
+use crate::why::ShapeFlaw;
 use std::alloc::{AllocError, AllocFailed};
 use std::fmt;
 use thiserror::Error;
@@ -12,7 +12,7 @@ pub enum ShapeError {
     /// Memory did not suffice.
     Memory(AllocError),
     /// The text is not a shape: what is wrong, and where.
-    NoShape { why: Why, at: Place },
+    NoShape { why: ShapeFlaw, at: ShapePlace },
 }
 
 impl fmt::Display for ShapeError {
@@ -21,7 +21,7 @@ impl fmt::Display for ShapeError {
             ShapeError::Memory(_) => write!(f, "{}", Fault::Memory),
             ShapeError::NoShape {
                 why,
-                at: Place::Whole,
+                at: ShapePlace::Whole,
             } => write!(f, "{why}"),
             ShapeError::NoShape { why, at } => write!(f, "{at}: {why}"),
         }

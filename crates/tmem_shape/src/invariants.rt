@@ -14,9 +14,9 @@ use crate::error::ShapeError;
 use crate::key::Key;
 use crate::members::{check_keys, member};
 use crate::numbers::integer_of;
-use crate::place::Place;
+use crate::place::ShapePlace;
 use crate::terms::sum_of;
-use crate::why::Why;
+use crate::why::ShapeFlaw;
 use serde_json::Value;
 use std::alloc::Global;
 use tmem_builtins::names;
@@ -33,22 +33,22 @@ pub(crate) fn invariants_of(
     ensures ok { IfOk result (λ invariants. HasInvariants vars invariants.items (view value.now)) }
     ensures refused { IfErr result (λ e. RefusesText e ((invariants : List Linear) → ¬ HasInvariants vars invariants (view value.now))) }
 {
-    let found = member(value, Key::Invariants, Place::Whole)?;
+    let found = member(value, Key::Invariants, ShapePlace::Whole)?;
     let items = found.as_array().ok_or(ShapeError::NoShape {
-        why: Why::NotArray,
-        at: Place::Member(Key::Invariants),
+        why: ShapeFlaw::NotArray,
+        at: ShapePlace::Member(Key::Invariants),
     })?;
     if items.len() > MAX_INVARIANTS {
         return Err(ShapeError::NoShape {
-            why: Why::TooManyInvariants,
-            at: Place::Member(Key::Invariants),
+            why: ShapeFlaw::TooManyInvariants,
+            at: ShapePlace::Member(Key::Invariants),
         });
     }
     let invariants = linears_of(alloc, items, vars)?;
     if let Some(i) = name_repeated(&invariants) {
         return Err(ShapeError::NoShape {
-            why: Why::NameTwice,
-            at: Place::InvariantMember(i, Key::Name),
+            why: ShapeFlaw::NameTwice,
+            at: ShapePlace::InvariantMember(i, Key::Name),
         });
     }
     Ok(invariants)
@@ -107,8 +107,8 @@ fn linear_of(
     let most = bound_of(value, Key::Most, invariant)?;
     if least.is_none() && most.is_none() {
         return Err(ShapeError::NoShape {
-            why: Why::NoBound,
-            at: Place::Invariant(invariant),
+            why: ShapeFlaw::NoBound,
+            at: ShapePlace::Invariant(invariant),
         });
     }
     let always = always_of(value, invariant)?;
@@ -120,15 +120,15 @@ fn name_of(value: &Value, invariant: usize) -> Result<Name, ShapeError>
     ensures ok { IfOk result (λ name. HasName name (view value.now)) }
     ensures refused { IfErr result (λ e. RefusesText e ((name : List ℕ) → ¬ HasName name (view value.now))) }
 {
-    let found = member(value, Key::Name, Place::Invariant(invariant))?;
+    let found = member(value, Key::Name, ShapePlace::Invariant(invariant))?;
     let name = word_of(found).ok_or(ShapeError::NoShape {
-        why: Why::NotWord,
-        at: Place::InvariantMember(invariant, Key::Name),
+        why: ShapeFlaw::NotWord,
+        at: ShapePlace::InvariantMember(invariant, Key::Name),
     })?;
     if names().contains(&name) {
         return Err(ShapeError::NoShape {
-            why: Why::Taken,
-            at: Place::InvariantMember(invariant, Key::Name),
+            why: ShapeFlaw::Taken,
+            at: ShapePlace::InvariantMember(invariant, Key::Name),
         });
     }
     Ok(name)
@@ -152,8 +152,8 @@ fn bound_of(value: &Value, key: Key, invariant: usize) -> Result<Option<i64>, Sh
         return Ok(None);
     };
     let number = integer_of(found).ok_or(ShapeError::NoShape {
-        why: Why::NotBound,
-        at: Place::InvariantMember(invariant, key),
+        why: ShapeFlaw::NotBound,
+        at: ShapePlace::InvariantMember(invariant, key),
     })?;
     Ok(Some(number))
 }
@@ -167,8 +167,8 @@ fn always_of(value: &Value, invariant: usize) -> Result<bool, ShapeError>
         None => Ok(false),
         Some(Value::Bool(true)) => Ok(true),
         Some(_) => Err(ShapeError::NoShape {
-            why: Why::NotTrue,
-            at: Place::InvariantMember(invariant, Key::Always),
+            why: ShapeFlaw::NotTrue,
+            at: ShapePlace::InvariantMember(invariant, Key::Always),
         }),
     }
 }

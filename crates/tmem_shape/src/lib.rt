@@ -1,6 +1,6 @@
 //! The shape of a store, from its text: how many variables and log slots it has, its invariants, and names of variables.
 //!
-//! `Shape::from_slice` reads the JSON text of a shape. It reads each text that is one, by `IsShapeText` of `specs/`, and
+//! `StoreShape::from_slice` reads the JSON text of a shape. It reads each text that is one, by `IsShapeText` of `specs/`, and
 //! refuses each other one, with why and where.
 #![tactic(auto)]
 
@@ -17,6 +17,6 @@ mod why;
 
 pub use error::ShapeError;
 pub use key::Key;
-pub use place::Place;
-pub use shape::Shape;
-pub use why::Why;
+pub use place::ShapePlace;
+pub use shape::StoreShape;
+pub use why::ShapeFlaw;

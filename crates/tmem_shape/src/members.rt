@@ -9,18 +9,18 @@ ghost use Rattle.tmem_shape.specs.Keys.{key_text};
 
 use crate::error::ShapeError;
 use crate::key::Key;
-use crate::place::Place;
-use crate::why::Why;
+use crate::place::ShapePlace;
+use crate::why::ShapeFlaw;
 use serde_json::{Map, Value};
 use std::alloc::Global;
 
 /// What stands at a key of an object, which is at this place.
-pub(crate) fn member(value: &Value, key: Key, at: Place) -> Result<&Value, ShapeError>
+pub(crate) fn member(value: &Value, key: Key, at: ShapePlace) -> Result<&Value, ShapeError>
     ensures ok { IfOk result (λ found. get (key_text key) (view value.now) ≡ Some (view found.now)) }
     ensures refused { IfErr result (λ e. RefusesText e (get (key_text key) (view value.now) ≡ None)) }
 {
     value.get(key.as_str()).ok_or(ShapeError::NoShape {
-        why: Why::Missing(key),
+        why: ShapeFlaw::Missing(key),
         at,
     })
 }
@@ -36,16 +36,16 @@ pub(crate) fn check_keys(
     ensures refused { IfErr result (λ e. RefusesText e (¬ HasOnly (map key_text keys.now) (view value.now))) }
 {
     let members = value.as_object().ok_or(ShapeError::NoShape {
-        why: Why::NotObject,
-        at: Place::of(invariant),
+        why: ShapeFlaw::NotObject,
+        at: ShapePlace::of(invariant),
     })?;
     let Some(key) = unknown_key(members, keys) else {
         return Ok(());
     };
     let key = String::from_str(alloc, key)?;
     Err(ShapeError::NoShape {
-        why: Why::UnknownKey,
-        at: Place::unknown_in(invariant, key),
+        why: ShapeFlaw::UnknownKey,
+        at: ShapePlace::unknown_in(invariant, key),
     })
 }
 

@@ -9,8 +9,8 @@ ghost use Rattle.tmem_shape.specs.Shapes.{HasNames, IsNameByte, IsVariableNamed,
 use crate::error::ShapeError;
 use crate::key::Key;
 use crate::numbers::variable_of;
-use crate::place::Place;
-use crate::why::Why;
+use crate::place::ShapePlace;
+use crate::why::ShapeFlaw;
 use serde_json::{Map, Value};
 use std::alloc::{AllocError, Global};
 use tmem_tables::first_repeated;
@@ -30,16 +30,16 @@ pub(crate) fn names_of(
         return Ok(Vec::new(alloc));
     };
     let members = found.as_object().ok_or(ShapeError::NoShape {
-        why: Why::NotObject,
-        at: Place::Member(Key::Names),
+        why: ShapeFlaw::NotObject,
+        at: ShapePlace::Member(Key::Names),
     })?;
     let names = named_of(alloc, members, vars)?;
     let variables = variables_of(alloc, &names)?;
     if let Some(i) = first_repeated(&variables) {
         let name = names[i].0.clone()?;
         return Err(ShapeError::NoShape {
-            why: Why::NamedTwice,
-            at: Place::Name(name),
+            why: ShapeFlaw::NamedTwice,
+            at: ShapePlace::Name(name),
         });
     }
     Ok(names)
@@ -73,15 +73,15 @@ fn named_variable(alloc: Global, name: &str, value: &Value, vars: u16) -> Result
     if !is_variable_name(name) {
         let name = String::from_str(alloc, name)?;
         return Err(ShapeError::NoShape {
-            why: Why::NotName,
-            at: Place::Name(name),
+            why: ShapeFlaw::NotName,
+            at: ShapePlace::Name(name),
         });
     }
     let Some(var) = variable_of(value, vars) else {
         let name = String::from_str(alloc, name)?;
         return Err(ShapeError::NoShape {
-            why: Why::NotVariable,
-            at: Place::Name(name),
+            why: ShapeFlaw::NotVariable,
+            at: ShapePlace::Name(name),
         });
     };
     Ok(var)

@@ -10,8 +10,8 @@ ghost use Rattle.tmem_shape.specs.Shapes.{HasNumber};
 use crate::error::ShapeError;
 use crate::key::Key;
 use crate::members::member;
-use crate::place::Place;
-use crate::why::Why;
+use crate::place::ShapePlace;
+use crate::why::ShapeFlaw;
 use serde_json::Value;
 
 /// The number at a key of the whole, which is within these bounds.
@@ -19,10 +19,10 @@ pub(crate) fn number_at(value: &Value, key: Key, least: u16, most: u16) -> Resul
     ensures ok { IfOk result (λ n. HasNumber (key_text key) least most n (view value.now)) }
     ensures refused { IfErr result (λ e. RefusesText e ((n : ℕ) → ¬ HasNumber (key_text key) least most n (view value.now))) }
 {
-    let found = member(value, key, Place::Whole)?;
+    let found = member(value, key, ShapePlace::Whole)?;
     natural_within(found, least, most).ok_or(ShapeError::NoShape {
-        why: Why::NotWithin(least, most),
-        at: Place::Member(key),
+        why: ShapeFlaw::NotWithin(least, most),
+        at: ShapePlace::Member(key),
     })
 }
 

@@ -5,7 +5,7 @@ use std::fmt;
 /// A place in the text of a shape. It prints as the JSON pointer (RFC 6901) of a value or of a key, or as a line and a column
 /// where the text is not JSON. Items are counted from 0, lines and columns from 1.
 #[derive(Debug, Drop)]
-pub enum Place {
+pub enum ShapePlace {
     /// A line and a column of the text.
     Text { line: usize, column: usize },
     /// The value of the whole text.
@@ -28,40 +28,40 @@ pub enum Place {
     Name(String),
 }
 
-impl Place {
+impl ShapePlace {
     // The place of an invariant, or of the whole.
-    pub(crate) fn of(invariant: Option<usize>) -> Place {
+    pub(crate) fn of(invariant: Option<usize>) -> ShapePlace {
         match invariant {
-            Some(i) => Place::Invariant(i),
-            None => Place::Whole,
+            Some(i) => ShapePlace::Invariant(i),
+            None => ShapePlace::Whole,
         }
     }
 
     // The place of a key that an invariant, or the whole, may not have.
-    pub(crate) fn unknown_in(invariant: Option<usize>, key: String) -> Place {
+    pub(crate) fn unknown_in(invariant: Option<usize>, key: String) -> ShapePlace {
         match invariant {
-            Some(i) => Place::InvariantUnknown(i, key),
-            None => Place::Unknown(key),
+            Some(i) => ShapePlace::InvariantUnknown(i, key),
+            None => ShapePlace::Unknown(key),
         }
     }
 }
 
-impl fmt::Display for Place {
+impl fmt::Display for ShapePlace {
     fn fmt<W: fmt::Write>(&self, f: &mut fmt::Formatter<W>) -> fmt::Result {
         match self {
-            Place::Text { line, column } => write!(f, "line {line} column {column}"),
-            Place::Whole => Ok(()),
-            Place::Member(key) => write!(f, "/{}", key.as_str()),
-            Place::Unknown(key) => write_step(f, key.as_str()),
-            Place::Invariant(i) => write!(f, "/invariants/{i}"),
-            Place::InvariantMember(i, key) => write!(f, "/invariants/{i}/{}", key.as_str()),
-            Place::InvariantUnknown(i, key) => {
+            ShapePlace::Text { line, column } => write!(f, "line {line} column {column}"),
+            ShapePlace::Whole => Ok(()),
+            ShapePlace::Member(key) => write!(f, "/{}", key.as_str()),
+            ShapePlace::Unknown(key) => write_step(f, key.as_str()),
+            ShapePlace::Invariant(i) => write!(f, "/invariants/{i}"),
+            ShapePlace::InvariantMember(i, key) => write!(f, "/invariants/{i}/{}", key.as_str()),
+            ShapePlace::InvariantUnknown(i, key) => {
                 write!(f, "/invariants/{i}")?;
                 write_step(f, key.as_str())
             }
-            Place::Term(i, term) => write!(f, "/invariants/{i}/sum/{term}"),
-            Place::TermItem(i, term, item) => write!(f, "/invariants/{i}/sum/{term}/{item}"),
-            Place::Name(name) => {
+            ShapePlace::Term(i, term) => write!(f, "/invariants/{i}/sum/{term}"),
+            ShapePlace::TermItem(i, term, item) => write!(f, "/invariants/{i}/sum/{term}/{item}"),
+            ShapePlace::Name(name) => {
                 write!(f, "/names")?;
                 write_step(f, name.as_str())
             }

@@ -10,8 +10,8 @@ use crate::key::Key;
 use crate::members::check_keys;
 use crate::names::names_of;
 use crate::numbers::number_at;
-use crate::place::Place;
-use crate::why::Why;
+use crate::place::ShapePlace;
+use crate::why::ShapeFlaw;
 use serde_json::Value;
 use std::alloc::{AllocError, Global};
 use tmem_fault::Name;
@@ -20,7 +20,7 @@ use tmem_record::{LEAST_SLOTS, MOST_SLOTS, MOST_VARS};
 
 /// What a store is: its variables, its log, its invariants, and names of variables.
 #[derive(Drop)]
-pub struct Shape {
+pub struct StoreShape {
     /// How many variables there are, from 1 to 1024.
     pub vars: u16,
     /// How many slots the log has, from 2 to 64.
@@ -31,23 +31,23 @@ pub struct Shape {
     pub names: Vec<(String, u16)>,
 }
 
-impl Shape {
+impl StoreShape {
     ghost use Rattle.std.specs.Prelude.{map, filter, true};
     ghost use Rattle.tmem_shape.specs.Shapes.{IsShape, IsShapeText};
-    ghost use Rattle.tmem_shape.specs.declared.shape.Shape.{Shape};
+    ghost use Rattle.tmem_shape.specs.declared.shape.StoreShape.{StoreShape};
 
     /// Reads a shape from its text, and refuses a text that is none, with why and where.
-    pub fn from_slice(alloc: Global, text: &[u8]) -> Result<Shape, ShapeError>
+    pub fn from_slice(alloc: Global, text: &[u8]) -> Result<StoreShape, ShapeError>
         ensures ok { IfOk result (λ shape. IsShapeText shape text.now) }
-        ensures refused { IfErr result (λ e. RefusesText e ((shape : Shape) → ¬ IsShapeText shape text.now)) }
+        ensures refused { IfErr result (λ e. RefusesText e ((shape : StoreShape) → ¬ IsShapeText shape text.now)) }
     {
         let value = value_of(alloc, text)?;
-        Shape::from_value(alloc, &value)
+        StoreShape::from_value(alloc, &value)
     }
 
-    fn from_value(alloc: Global, value: &Value) -> Result<Shape, ShapeError>
+    fn from_value(alloc: Global, value: &Value) -> Result<StoreShape, ShapeError>
         ensures ok { IfOk result (λ shape. IsShape shape (view value.now)) }
-        ensures refused { IfErr result (λ e. RefusesText e ((shape : Shape) → ¬ IsShape shape (view value.now))) }
+        ensures refused { IfErr result (λ e. RefusesText e ((shape : StoreShape) → ¬ IsShape shape (view value.now))) }
     {
         check_keys(
             alloc,
@@ -59,7 +59,7 @@ impl Shape {
         let slots = number_at(value, Key::Slots, LEAST_SLOTS, MOST_SLOTS)?;
         let invariants = invariants_of(alloc, value, vars)?;
         let names = names_of(alloc, value, vars)?;
-        Ok(Shape {
+        Ok(StoreShape {
             vars,
             slots,
             invariants,
@@ -106,8 +106,8 @@ fn value_of(alloc: Global, text: &[u8]) -> Result<Value, ShapeError>
         return Err(ShapeError::Memory(AllocError));
     }
     Err(ShapeError::NoShape {
-        why: Why::NotJson,
-        at: Place::Text {
+        why: ShapeFlaw::NotJson,
+        at: ShapePlace::Text {
             line: error.line(),
             column: error.column(),
         },

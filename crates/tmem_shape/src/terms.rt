@@ -11,8 +11,8 @@ use crate::error::ShapeError;
 use crate::key::Key;
 use crate::members::member;
 use crate::numbers::{coefficient_of, variable_of};
-use crate::place::Place;
-use crate::why::Why;
+use crate::place::ShapePlace;
+use crate::why::ShapeFlaw;
 use serde_json::Value;
 use std::alloc::Global;
 use tmem_invariants::MAX_FOOTPRINT;
@@ -29,28 +29,28 @@ pub(crate) fn sum_of(
     ensures ok { IfOk result (λ terms. HasSum vars terms.0.items terms.1.items (view value.now)) }
     ensures refused { IfErr result (λ e. RefusesText e ((footprint : List ℕ) (weights : List Weight) → ¬ HasSum vars footprint weights (view value.now))) }
 {
-    let found = member(value, Key::Sum, Place::Invariant(invariant))?;
+    let found = member(value, Key::Sum, ShapePlace::Invariant(invariant))?;
     let items = found.as_array().ok_or(ShapeError::NoShape {
-        why: Why::NotArray,
-        at: Place::InvariantMember(invariant, Key::Sum),
+        why: ShapeFlaw::NotArray,
+        at: ShapePlace::InvariantMember(invariant, Key::Sum),
     })?;
     if items.is_empty() {
         return Err(ShapeError::NoShape {
-            why: Why::NoTerm,
-            at: Place::InvariantMember(invariant, Key::Sum),
+            why: ShapeFlaw::NoTerm,
+            at: ShapePlace::InvariantMember(invariant, Key::Sum),
         });
     }
     if items.len() > MAX_FOOTPRINT {
         return Err(ShapeError::NoShape {
-            why: Why::TooManyTerms,
-            at: Place::InvariantMember(invariant, Key::Sum),
+            why: ShapeFlaw::TooManyTerms,
+            at: ShapePlace::InvariantMember(invariant, Key::Sum),
         });
     }
     let (footprint, weights) = terms_of(alloc, items, invariant, vars)?;
     if let Some(term) = first_repeated(&footprint) {
         return Err(ShapeError::NoShape {
-            why: Why::VariableTwice,
-            at: Place::TermItem(invariant, term, 1),
+            why: ShapeFlaw::VariableTwice,
+            at: ShapePlace::TermItem(invariant, term, 1),
         });
     }
     Ok((footprint, weights))
@@ -91,16 +91,16 @@ fn term_of(
         → ¬ (view value.now ≡ term_form var weight))) }
 {
     let (number, var, is_nonzero) = term_items(value).ok_or(ShapeError::NoShape {
-        why: Why::NotTerm,
-        at: Place::Term(invariant, term),
+        why: ShapeFlaw::NotTerm,
+        at: ShapePlace::Term(invariant, term),
     })?;
     let number = coefficient_of(number).ok_or(ShapeError::NoShape {
-        why: Why::NotCoefficient,
-        at: Place::TermItem(invariant, term, 0),
+        why: ShapeFlaw::NotCoefficient,
+        at: ShapePlace::TermItem(invariant, term, 0),
     })?;
     let var = variable_of(var, vars).ok_or(ShapeError::NoShape {
-        why: Why::NotVariable,
-        at: Place::TermItem(invariant, term, 1),
+        why: ShapeFlaw::NotVariable,
+        at: ShapePlace::TermItem(invariant, term, 1),
     })?;
     let weight = if is_nonzero {
         Weight::Nonzero(number)

@@ -4,7 +4,7 @@ use std::fmt;
 
 /// Why a text is not a shape. Its text is what the user is told.
 #[derive(Clone, Copy, Debug, PartialEq, Eq)]
-pub enum Why {
+pub enum ShapeFlaw {
     /// The text is not JSON, or not UTF-8.
     NotJson,
     NotObject,
@@ -38,7 +38,7 @@ pub enum Why {
     NamedTwice,
 }
 
-impl fmt::Display for Why {
+impl fmt::Display for ShapeFlaw {
     ghost use Rattle.std.specs.Prelude.{Some};
     ghost use Rattle.tmem_shape.specs.Words.{shape_why_text};
 
@@ -46,34 +46,34 @@ impl fmt::Display for Why {
 
     fn fmt<W: fmt::Write>(&self, f: &mut fmt::Formatter<W>) -> fmt::Result {
         match self {
-            Why::NotJson => write!(f, "this is not JSON"),
-            Why::NotObject => write!(f, "this is not an object"),
-            Why::NotArray => write!(f, "this is not an array"),
-            Why::UnknownKey => write!(f, "this key is not known"),
-            Why::Missing(key) => write!(f, "there is no {}", key.as_str()),
-            Why::NotWithin(least, most) => {
+            ShapeFlaw::NotJson => write!(f, "this is not JSON"),
+            ShapeFlaw::NotObject => write!(f, "this is not an object"),
+            ShapeFlaw::NotArray => write!(f, "this is not an array"),
+            ShapeFlaw::UnknownKey => write!(f, "this key is not known"),
+            ShapeFlaw::Missing(key) => write!(f, "there is no {}", key.as_str()),
+            ShapeFlaw::NotWithin(least, most) => {
                 write!(f, "this is not a whole number from {least} to {most}")
             }
-            Why::TooManyInvariants => write!(f, "there are more than 64 invariants"),
-            Why::NotWord => write!(f, "this is not one to sixteen letters from a to z"),
-            Why::Taken => write!(f, "nonneg, ordered and sum are names of other invariants"),
-            Why::NameTwice => write!(f, "an earlier invariant has this name"),
-            Why::NoTerm => write!(f, "there is no term"),
-            Why::TooManyTerms => write!(f, "there are more than 16 terms"),
-            Why::NotTerm => write!(f, "this is neither [C,VAR] nor [C,VAR,\"nonzero\"]"),
-            Why::NotCoefficient => write!(f, "this is not a whole number of 32 bits"),
-            Why::NotVariable => write!(f, "this is not a variable of the store"),
-            Why::VariableTwice => write!(f, "an earlier term has this variable"),
-            Why::NotBound => write!(f, "this is not a whole number of 64 bits"),
-            Why::NoBound => write!(f, "there is neither a least nor a most"),
-            Why::NotTrue => write!(f, "this is not true"),
-            Why::NotName => {
+            ShapeFlaw::TooManyInvariants => write!(f, "there are more than 64 invariants"),
+            ShapeFlaw::NotWord => write!(f, "this is not one to sixteen letters from a to z"),
+            ShapeFlaw::Taken => write!(f, "nonneg, ordered and sum are names of other invariants"),
+            ShapeFlaw::NameTwice => write!(f, "an earlier invariant has this name"),
+            ShapeFlaw::NoTerm => write!(f, "there is no term"),
+            ShapeFlaw::TooManyTerms => write!(f, "there are more than 16 terms"),
+            ShapeFlaw::NotTerm => write!(f, "this is neither [C,VAR] nor [C,VAR,\"nonzero\"]"),
+            ShapeFlaw::NotCoefficient => write!(f, "this is not a whole number of 32 bits"),
+            ShapeFlaw::NotVariable => write!(f, "this is not a variable of the store"),
+            ShapeFlaw::VariableTwice => write!(f, "an earlier term has this variable"),
+            ShapeFlaw::NotBound => write!(f, "this is not a whole number of 64 bits"),
+            ShapeFlaw::NoBound => write!(f, "there is neither a least nor a most"),
+            ShapeFlaw::NotTrue => write!(f, "this is not true"),
+            ShapeFlaw::NotName => {
                 write!(
                     f,
                     "this name is not 1 to 32 of a to z, 0 to 9 and _, a letter first"
                 )
             }
-            Why::NamedTwice => write!(f, "another name has this variable"),
+            ShapeFlaw::NamedTwice => write!(f, "another name has this variable"),
         }
     }
 }

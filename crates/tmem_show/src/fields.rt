@@ -6,7 +6,7 @@ use std::fmt;
 use tmem_effect::{MAX_CHECKS, MAX_RETIRES, MAX_WRITES};
 use tmem_fault::Name;
 use tmem_gate::GATE_OPEN;
-use tmem_parts::Why;
+use tmem_parts::FormatFlaw;
 use tmem_state::{MAX_NAMES, MAX_RECORDS, Version};
 
 /// Where in an image copy the mark of the version stands: in the last byte of the header.
@@ -116,7 +116,7 @@ pub(crate) fn walk_image(walk: &mut Walk, at: usize, vars: u16) -> Result<(), St
 fn walk_header(walk: &mut Walk, at: usize) -> Result<(), Stop> {
     let generation = walk.number()?;
     if generation == 0 {
-        return walk.wrong(Why::NoGeneration);
+        return walk.wrong(FormatFlaw::NoGeneration);
     }
     walk.pass(8, Is::Generation(generation))?;
     let count = walk.number()?;
@@ -125,20 +125,20 @@ fn walk_header(walk: &mut Walk, at: usize) -> Result<(), Stop> {
     walk.zeros_to(at.saturating_add(MARK_AT))?;
     let mark = walk.byte()?;
     if Version::of_mark(mark).is_none() {
-        return walk.wrong(Why::Mark);
+        return walk.wrong(FormatFlaw::Mark);
     }
     walk.pass(1, Is::Mark(mark))
 }
 
 // The registered names, behind how many there are.
 fn walk_registered(walk: &mut Walk) -> Result<(), Stop> {
-    let count = walk.count(MAX_NAMES, Why::TooManyNames)?;
+    let count = walk.count(MAX_NAMES, FormatFlaw::TooManyNames)?;
     walk.pass(1, Is::Names(count))?;
     let mut last: Option<Name> = None;
     for _ in 0..count {
         let name = walk.name()?;
         match last {
-            Some(last) if name <= last => return walk.wrong(Why::NotAscending),
+            Some(last) if name <= last => return walk.wrong(FormatFlaw::NotAscending),
             _ => {}
         }
         pass_name(walk, name)?;
@@ -187,7 +187,7 @@ pub(crate) fn walk_slot(walk: &mut Walk, vars: u16, version: Version) -> Result<
     walk.pass(8, Is::First(first))?;
     let count = walk.short()?;
     if count == 0 || count as usize > MAX_RECORDS {
-        return walk.wrong(Why::Records);
+        return walk.wrong(FormatFlaw::Records);
     }
     walk.pass(2, Is::Records(count))?;
     for _ in 0..count {
@@ -210,7 +210,7 @@ pub(crate) fn walk_stale(walk: &mut Walk) -> Result<(), Stop> {
 fn walk_record(walk: &mut Walk, vars: u16, version: Version) -> Result<(), Stop> {
     let writes = walk_writes(walk, vars)?;
     let mut names = Vec::new(walk.alloc);
-    let checks = walk.count(MAX_CHECKS, Why::TooManyChecks)?;
+    let checks = walk.count(MAX_CHECKS, FormatFlaw::TooManyChecks)?;
     walk.pass(1, Is::Checks(checks))?;
     walk_names(walk, checks, &mut names)?;
     let retires = match version {
@@ -218,23 +218,23 @@ fn walk_record(walk: &mut Walk, vars: u16, version: Version) -> Result<(), Stop>
         Version::Two => walk_retired(walk, &mut names)?,
     };
     if writes == 0 && checks == 0 && retires == 0 {
-        return walk.wrong(Why::Nothing);
+        return walk.wrong(FormatFlaw::Nothing);
     }
     Ok(())
 }
 
 // The writes of a record. Answers how many there are.
 fn walk_writes(walk: &mut Walk, vars: u16) -> Result<u8, Stop> {
-    let count = walk.count(MAX_WRITES, Why::TooManyWrites)?;
+    let count = walk.count(MAX_WRITES, FormatFlaw::TooManyWrites)?;
     walk.pass(1, Is::Writes(count))?;
     let mut written = Vec::new(walk.alloc);
     for _ in 0..count {
         let var = walk.short()?;
         if var >= vars {
-            return walk.wrong(Why::Variable);
+            return walk.wrong(FormatFlaw::Variable);
         }
         if written.contains(&var) {
-            return walk.wrong(Why::Twice);
+            return walk.wrong(FormatFlaw::Twice);
         }
         written.push(var)?;
         let value = walk.value_behind(2)?;
@@ -245,7 +245,7 @@ fn walk_writes(walk: &mut Walk, vars: u16) -> Result<u8, Stop> {
 
 // The retired names of a record, none of which may be among those that it checks. Answers how many there are.
 fn walk_retired(walk: &mut Walk, names: &mut Vec<Name>) -> Result<u8, Stop> {
-    let count = walk.count(MAX_RETIRES, Why::TooManyRetires)?;
+    let count = walk.count(MAX_RETIRES, FormatFlaw::TooManyRetires)?;
     walk.pass(1, Is::Retires(count))?;
     walk_names(walk, count, names)?;
     Ok(count)
@@ -256,7 +256,7 @@ fn walk_names(walk: &mut Walk, count: u8, names: &mut Vec<Name>) -> Result<(), S
     for _ in 0..count {
         let name = walk.name()?;
         if names.contains(&name) {
-            return walk.wrong(Why::Twice);
+            return walk.wrong(FormatFlaw::Twice);
         }
         names.push(name)?;
         pass_name(walk, name)?;

@@ -3,7 +3,7 @@ ghost use Rattle.std.specs.Prelude.{◌≤◌, ◌<◌};
 
 use crate::error::ShowError;
 use crate::fields::Field;
-use crate::look::{Look, Opening, Role, Walked, opening_without_block, too_short};
+use crate::look::{OpeningResult, PartRole, ShownStore, Walked, opening_without_block, too_short};
 use crate::source::Source;
 use crate::text::join;
 use std::alloc::Global;
@@ -11,7 +11,7 @@ use std::io::{self, Write};
 use tmem_effect::Effect;
 use tmem_fault::{Fault, Name};
 use tmem_image::ImageState;
-use tmem_parts::{Block, Image, Slot, Wrong, block_of};
+use tmem_parts::{Block, Image, Slot, WrongByte, block_of};
 use tmem_record::{Head, Layout};
 use tmem_state::{Records, State, Version};
 
@@ -51,7 +51,7 @@ fn put_store<W: Write>(
         write!(out, "}}")?;
         return Ok(put_opening(out, &too_short(source))?);
     }
-    match &Look::new(alloc, &source.bytes, layout) {
+    match &ShownStore::new(alloc, &source.bytes, layout) {
         Ok(look) => put_parts(alloc, look, version, hex, out),
         Err(fault) => Err(ShowError::Refused(*fault)),
     }
@@ -60,7 +60,7 @@ fn put_store<W: Write>(
 // The rest of block 0 and the parts behind it, of a store that was formatted with this version, and what an opening finds.
 fn put_parts<W: Write>(
     alloc: Global,
-    look: &Look,
+    look: &ShownStore,
     version: Version,
     hex: bool,
     out: &mut W,
@@ -85,7 +85,7 @@ fn put_block<W: Write>(out: &mut W, version: Version, layout: Layout) -> io::Res
 }
 
 // The end of block 0, and the image copies.
-fn put_images<W: Write>(look: &Look, hex: bool, out: &mut W) -> Result<(), ShowError> {
+fn put_images<W: Write>(look: &ShownStore, hex: bool, out: &mut W) -> Result<(), ShowError> {
     write!(out, "}},\"images\":[")?;
     for copy in 0..2 {
         put_image(look, copy, hex, out)?;
@@ -96,7 +96,7 @@ fn put_images<W: Write>(look: &Look, hex: bool, out: &mut W) -> Result<(), ShowE
 // The log slots.
 fn put_slots<W: Write>(
     alloc: Global,
-    look: &Look,
+    look: &ShownStore,
     hex: bool,
     out: &mut W,
 ) -> Result<(), ShowError> {
@@ -109,16 +109,16 @@ fn put_slots<W: Write>(
 }
 
 // What an opening finds, or its refusal, and where that comes from.
-fn put_opening<W: Write>(out: &mut W, opening: &Opening) -> io::Result<()> {
+fn put_opening<W: Write>(out: &mut W, opening: &OpeningResult) -> io::Result<()> {
     write!(out, ",\"recovery\":")?;
     match opening {
-        Opening::Found(state) => put_state(out, state),
-        Opening::Refused(fault, wrong) => put_refusal(out, *fault, *wrong),
+        OpeningResult::Found(state) => put_state(out, state),
+        OpeningResult::Refused(fault, wrong) => put_refusal(out, *fault, *wrong),
     }
 }
 
 // An image copy, behind a comma unless it is the first.
-fn put_image<W: Write>(look: &Look, copy: u8, hex: bool, out: &mut W) -> Result<(), ShowError>
+fn put_image<W: Write>(look: &ShownStore, copy: u8, hex: bool, out: &mut W) -> Result<(), ShowError>
     requires { copy ≤ 1 }
 {
     let walked = look.walk_image(copy)?;
@@ -153,7 +153,7 @@ fn put_head<W: Write>(out: &mut W, image: &ImageState) -> io::Result<()> {
 
 // A log slot, behind a comma unless it is the first.
 fn put_slot<W: Write>(
-    look: &Look,
+    look: &ShownStore,
     k: u16,
     records: &mut Records,
     hex: bool,
@@ -175,7 +175,7 @@ fn put_slot<W: Write>(
 
 // What counts of a slot that is open, and its batch.
 fn put_open_slot<W: Write>(
-    role: Role,
+    role: PartRole,
     slot: Slot,
     records: &Records,
     walked: &Walked,
@@ -183,7 +183,7 @@ fn put_open_slot<W: Write>(
 ) -> io::Result<()> {
     put_role(out, role)?;
     match (role, slot) {
-        (Role::Stale, _) | (_, Slot::Closed) => Ok(()),
+        (PartRole::Stale, _) | (_, Slot::Closed) => Ok(()),
         (_, Slot::Open(head)) => put_batch(out, head, records),
         (_, Slot::Damaged) => put_damage(out, walked),
     }
@@ -196,11 +196,11 @@ fn begin<W: Write>(out: &mut W, is_later: bool, at: u64) -> io::Result<()> {
 }
 
 // That a part is open, and what counts of it.
-fn put_role<W: Write>(out: &mut W, role: Role) -> io::Result<()> {
+fn put_role<W: Write>(out: &mut W, role: PartRole) -> io::Result<()> {
     let (counts, stale) = match role {
-        Role::Counts => (true, false),
-        Role::Stale => (false, true),
-        Role::Amiss => (false, false),
+        PartRole::Counts => (true, false),
+        PartRole::Stale => (false, true),
+        PartRole::Amiss => (false, false),
     };
     write!(out, "true,\"counts\":{counts},\"stale\":{stale}")
 }
@@ -244,7 +244,7 @@ fn put_damage<W: Write>(out: &mut W, walked: &Walked) -> io::Result<()> {
     }
 }
 
-fn put_wrong<W: Write>(out: &mut W, wrong: Wrong) -> io::Result<()> {
+fn put_wrong<W: Write>(out: &mut W, wrong: WrongByte) -> io::Result<()> {
     write!(
         out,
         "\"wrong\":{{\"at\":{},\"why\":\"{}\"}}",
@@ -262,7 +262,7 @@ fn put_state<W: Write>(out: &mut W, state: &State) -> io::Result<()> {
 }
 
 // The refusal of an opening, and where it comes from.
-fn put_refusal<W: Write>(out: &mut W, fault: Fault, wrong: Wrong) -> io::Result<()> {
+fn put_refusal<W: Write>(out: &mut W, fault: Fault, wrong: WrongByte) -> io::Result<()> {
     let (number, word) = number_and_word(fault);
     write!(out, "{{\"fault\":{number},\"word\":\"{word}\",")?;
     put_wrong(out, wrong)?;
@@ -281,7 +281,7 @@ fn number_and_word(fault: Fault) -> (u8, &'static str) {
 }
 
 // The bytes of a part, field by field: the place, the bytes, and what they are.
-fn put_fields<W: Write>(look: &Look, walked: &Walked, out: &mut W) -> io::Result<()> {
+fn put_fields<W: Write>(look: &ShownStore, walked: &Walked, out: &mut W) -> io::Result<()> {
     write!(out, ",\"fields\":[")?;
     for (i, field) in walked.fields.iter().enumerate() {
         let comma = if i > 0 { "," } else { "" };
@@ -292,7 +292,7 @@ fn put_fields<W: Write>(look: &Look, walked: &Walked, out: &mut W) -> io::Result
     write!(out, "]")
 }
 
-fn put_hex<W: Write>(look: &Look, field: &Field, out: &mut W) -> io::Result<()> {
+fn put_hex<W: Write>(look: &ShownStore, field: &Field, out: &mut W) -> io::Result<()> {
     for byte in look.bytes_of(field) {
         write!(out, "{byte:02x}")?;
     }

@@ -3,7 +3,7 @@ ghost use Rattle.std.specs.Prelude.{◌≤◌, ◌+◌, length};
 ghost use Rattle.tmem_record.specs.Layout.{end_at};
 
 use tmem_gate::reads_open;
-use tmem_parts::{Why, Wrong};
+use tmem_parts::{FormatFlaw, WrongByte};
 use tmem_record::Layout;
 use tmem_record::bytes::number_at;
 
@@ -16,14 +16,14 @@ pub(crate) struct Chosen {
 }
 
 /// The copy that is chosen: the open one of the greater generation.
-pub(crate) fn choose(bytes: &[u8], layout: Layout) -> Result<Chosen, Wrong>
+pub(crate) fn choose(bytes: &[u8], layout: Layout) -> Result<Chosen, WrongByte>
     requires { end_at layout.vars layout.slots ≤ length bytes.now }
 {
     let (first, second) = (layout.image(0), layout.image(1));
     match (generation_at(bytes, first), generation_at(bytes, second)) {
-        (None, None) => Err(amiss(first, Why::NoImage)),
+        (None, None) => Err(amiss(first, FormatFlaw::NoImage)),
         (Some(one), Some(other)) if one == other => {
-            Err(amiss(second.saturating_add(1), Why::SameGeneration))
+            Err(amiss(second.saturating_add(1), FormatFlaw::SameGeneration))
         }
         (Some(one), Some(other)) if one < other => Ok(Chosen {
             copy: 1,
@@ -66,14 +66,19 @@ pub(crate) fn used(bytes: &[u8], layout: Layout, generation: u64) -> u16
 }
 
 /// The first open slot behind the log that is not of an earlier generation.
-pub(crate) fn not_stale(bytes: &[u8], layout: Layout, used: u16, generation: u64) -> Option<Wrong>
+pub(crate) fn not_stale(
+    bytes: &[u8],
+    layout: Layout,
+    used: u16,
+    generation: u64,
+) -> Option<WrongByte>
     requires { end_at layout.vars layout.slots ≤ length bytes.now }
 {
     for k in used..layout.slots {
         let at = layout.slot(k);
         match generation_at(bytes, at) {
             Some(it) if it >= generation => {
-                return Some(amiss(at.saturating_add(1), Why::NotStale));
+                return Some(amiss(at.saturating_add(1), FormatFlaw::NotStale));
             }
             _ => {}
         }
@@ -81,6 +86,6 @@ pub(crate) fn not_stale(bytes: &[u8], layout: Layout, used: u16, generation: u64
     None
 }
 
-fn amiss(at: u64, why: Why) -> Wrong {
-    Wrong { at, why }
+fn amiss(at: u64, why: FormatFlaw) -> WrongByte {
+    WrongByte { at, why }
 }

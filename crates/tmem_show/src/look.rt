@@ -9,13 +9,13 @@ use crate::source::Source;
 use crate::walk::{Stop, Walk};
 use std::alloc::Global;
 use tmem_fault::Fault;
-use tmem_parts::{Image, Recovery, Slot, Why, Wrong, image_of, recovery_of, slot_of};
+use tmem_parts::{FormatFlaw, Image, Recovery, Slot, WrongByte, image_of, recovery_of, slot_of};
 use tmem_record::{BLOCK_BYTES, LEAST_SLOTS, Layout, SLOT_BYTES};
 use tmem_state::{Records, State, Version};
 
 /// What counts of an image copy or a slot that is open.
 #[derive(Clone, Copy)]
-pub(crate) enum Role {
+pub(crate) enum PartRole {
     /// An image that recovery begins with, or a slot of its log.
     Counts,
     /// Nothing but its generation, which is an earlier one.
@@ -26,16 +26,16 @@ pub(crate) enum Role {
 
 /// What an opening finds.
 #[derive(Drop)]
-pub(crate) enum Opening {
+pub(crate) enum OpeningResult {
     /// This state.
     Found(State),
     /// It is refused, for what is wrong there.
-    Refused(Fault, Wrong),
+    Refused(Fault, WrongByte),
 }
 
 /// The bytes of a store that has a block 0, and which image is chosen there.
 #[derive(Clone, Copy)]
-pub(crate) struct Look<'a> {
+pub(crate) struct ShownStore<'a> {
     alloc: Global,
     bytes: &'a [u8],
     pub(crate) layout: Layout,
@@ -52,17 +52,21 @@ pub(crate) struct Look<'a> {
 pub(crate) struct Walked {
     pub(crate) at: u64,
     pub(crate) fields: Vec<Field>,
-    pub(crate) wrong: Option<Wrong>,
+    pub(crate) wrong: Option<WrongByte>,
 }
 
-impl<'a> Look<'a> {
+impl<'a> ShownStore<'a> {
     /// Looks which image is chosen, and how far its log goes.
-    pub(crate) fn new(alloc: Global, bytes: &'a [u8], layout: Layout) -> Result<Look<'a>, Fault>
+    pub(crate) fn new(
+        alloc: Global,
+        bytes: &'a [u8],
+        layout: Layout,
+    ) -> Result<ShownStore<'a>, Fault>
         requires { end_at layout.vars layout.slots ≤ length bytes.now }
         ensures { IfOk result (λ look. look.layout ≡ layout) }
     {
         let Ok(it) = choose(bytes, layout) else {
-            return Ok(Look {
+            return Ok(ShownStore {
                 alloc,
                 bytes,
                 layout,
@@ -75,7 +79,7 @@ impl<'a> Look<'a> {
             Image::Open(image) => image.version,
             _ => Version::Two,
         };
-        Ok(Look {
+        Ok(ShownStore {
             alloc,
             bytes,
             layout,
@@ -102,13 +106,13 @@ impl<'a> Look<'a> {
     }
 
     /// What counts of an image copy, where it is open.
-    pub(crate) fn role_of_image(&self, copy: u8) -> Role
+    pub(crate) fn role_of_image(&self, copy: u8) -> PartRole
         requires { copy ≤ 1 }
     {
         match self.chosen {
-            Some(it) if it.copy == copy => Role::Counts,
-            Some(_) => Role::Stale,
-            None => Role::Amiss,
+            Some(it) if it.copy == copy => PartRole::Counts,
+            Some(_) => PartRole::Stale,
+            None => PartRole::Amiss,
         }
     }
 
@@ -120,16 +124,16 @@ impl<'a> Look<'a> {
     }
 
     /// What counts of a log slot, where it is open.
-    pub(crate) fn role_of_slot(&self, k: u16) -> Role
+    pub(crate) fn role_of_slot(&self, k: u16) -> PartRole
         requires { k < self.now.layout.slots }
     {
         if k < self.used {
-            return Role::Counts;
+            return PartRole::Counts;
         }
         let generation = generation_at(self.bytes, self.layout.slot(k));
         match (generation, self.chosen) {
-            (Some(generation), Some(it)) if generation < it.generation => Role::Stale,
-            _ => Role::Amiss,
+            (Some(generation), Some(it)) if generation < it.generation => PartRole::Stale,
+            _ => PartRole::Amiss,
         }
     }
 
@@ -158,21 +162,21 @@ impl<'a> Look<'a> {
         let at = self.layout.slot(k) as usize;
         let mut walk = Walk::new(self.alloc, self.bytes, at, at + SLOT_BYTES);
         let outcome = match self.role_of_slot(k) {
-            Role::Stale => walk_stale(&mut walk),
+            PartRole::Stale => walk_stale(&mut walk),
             _ => walk_slot(&mut walk, self.layout.vars, self.version),
         };
         passed(at, walk, outcome)
     }
 
     /// What an opening finds, of a store that was formatted with this version.
-    pub(crate) fn opening(&self, formatted: Version) -> Result<Opening, Fault> {
+    pub(crate) fn opening(&self, formatted: Version) -> Result<OpeningResult, Fault> {
         let fault = match recovery_of(self.alloc, self.bytes, self.layout) {
-            Recovery::Found(state) => return Ok(Opening::Found(state)),
+            Recovery::Found(state) => return Ok(OpeningResult::Found(state)),
             Recovery::Refused(Fault::Memory) => return Err(Fault::Memory),
             Recovery::Refused(fault) => fault,
         };
         match reason(self.alloc, self.bytes, self.layout, formatted) {
-            Ok(wrong) => Ok(Opening::Refused(fault, wrong)),
+            Ok(wrong) => Ok(OpeningResult::Refused(fault, wrong)),
             Err(_) => Err(Fault::Memory),
         }
     }
@@ -183,27 +187,27 @@ impl<'a> Look<'a> {
 pub(crate) fn opening_without_block(
     alloc: Global,
     source: &Source,
-    wrong: Wrong,
-) -> Result<Opening, Fault> {
+    wrong: WrongByte,
+) -> Result<OpeningResult, Fault> {
     let least = Layout {
         vars: 1,
         slots: LEAST_SLOTS,
     };
     match recovery_of(alloc, &source.bytes, least) {
-        Recovery::Found(state) => Ok(Opening::Found(state)),
+        Recovery::Found(state) => Ok(OpeningResult::Found(state)),
         Recovery::Refused(Fault::Memory) => Err(Fault::Memory),
         Recovery::Refused(Fault::Geometry) => Ok(too_short(source)),
-        Recovery::Refused(fault) => Ok(Opening::Refused(fault, wrong)),
+        Recovery::Refused(fault) => Ok(OpeningResult::Refused(fault, wrong)),
     }
 }
 
 /// What an opening finds where there are fewer bytes than the layout has.
-pub(crate) fn too_short(source: &Source) -> Opening {
-    let wrong = Wrong {
+pub(crate) fn too_short(source: &Source) -> OpeningResult {
+    let wrong = WrongByte {
         at: source.size,
-        why: Why::Ends,
+        why: FormatFlaw::Ends,
     };
-    Opening::Refused(Fault::Geometry, wrong)
+    OpeningResult::Refused(Fault::Geometry, wrong)
 }
 
 // What a walk passed, and where it stopped.

@@ -6,7 +6,7 @@ use crate::fields::{MARK_AT, walk_image, walk_slot};
 use crate::log::{choose, not_stale, used};
 use crate::walk::{Stop, Walk};
 use std::alloc::Global;
-use tmem_parts::{Why, Wrong};
+use tmem_parts::{FormatFlaw, WrongByte};
 use tmem_record::bytes::{number_at, short_at};
 use tmem_record::{Layout, SLOT_BYTES};
 use tmem_state::Version;
@@ -18,7 +18,7 @@ pub(crate) fn reason(
     bytes: &[u8],
     layout: Layout,
     formatted: Version,
-) -> Result<Wrong, Stop>
+) -> Result<WrongByte, Stop>
     requires { end_at layout.vars layout.slots ≤ length bytes.now }
 {
     match first_wrong(alloc, bytes, layout, formatted) {
@@ -33,7 +33,7 @@ fn first_wrong(
     bytes: &[u8],
     layout: Layout,
     formatted: Version,
-) -> Result<Wrong, Stop>
+) -> Result<WrongByte, Stop>
     requires { end_at layout.vars layout.slots ≤ length bytes.now }
 {
     let it = match choose(bytes, layout) {
@@ -45,7 +45,7 @@ fn first_wrong(
     walk_image(&mut Walk::new(alloc, bytes, at, end), at, layout.vars)?;
     let version = Version::of_mark(bytes[at + MARK_AT]).unwrap_or(Version::Two);
     if version.number() < formatted.number() {
-        return Ok(amiss(at + MARK_AT, Why::Earlier));
+        return Ok(amiss(at + MARK_AT, FormatFlaw::Earlier));
     }
     let used = used(bytes, layout, it.generation);
     walk_log(
@@ -58,8 +58,8 @@ fn first_wrong(
     )?;
     match not_stale(bytes, layout, used, it.generation) {
         Some(wrong) => Ok(wrong),
-        None if version == Version::One => Ok(amiss(at + 1, Why::Last)),
-        None => Ok(amiss(layout.slot(0) as usize, Why::PastLimits)),
+        None if version == Version::One => Ok(amiss(at + 1, FormatFlaw::Last)),
+        None => Ok(amiss(layout.slot(0) as usize, FormatFlaw::PastLimits)),
     }
 }
 
@@ -98,14 +98,14 @@ fn walk_on(
     let mut walk = Walk::new(alloc, bytes, at, at + SLOT_BYTES);
     walk_slot(&mut walk, layout.vars, version)?;
     if number_at(bytes, at + 9) != count {
-        return Err(Stop::Wrong(amiss(at + 9, Why::First)));
+        return Err(Stop::Wrong(amiss(at + 9, FormatFlaw::First)));
     }
     match count.checked_add(u64::from(short_at(bytes, at + 17))) {
         Some(count) => Ok(count),
-        None => Err(Stop::Wrong(amiss(at + 17, Why::PastLimits))),
+        None => Err(Stop::Wrong(amiss(at + 17, FormatFlaw::PastLimits))),
     }
 }
 
-fn amiss(at: usize, why: Why) -> Wrong {
-    Wrong { at: at as u64, why }
+fn amiss(at: usize, why: FormatFlaw) -> WrongByte {
+    WrongByte { at: at as u64, why }
 }

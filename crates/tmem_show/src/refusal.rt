@@ -1,10 +1,10 @@
 //! What of a store an opening refuses.
-use crate::look::{Look, Opening, opening_without_block, too_short};
+use crate::look::{OpeningResult, ShownStore, opening_without_block, too_short};
 use crate::source::Source;
 use std::alloc::Global;
 use std::fmt;
 use tmem_fault::Fault;
-use tmem_parts::{Block, Wrong, block_of};
+use tmem_parts::{Block, WrongByte, block_of};
 use tmem_record::{BLOCK_BYTES, Layout, SLOT_BYTES};
 
 /// Why an opening of a store is refused, and where. It prints as the part, the byte, and what is wrong there.
@@ -12,7 +12,7 @@ use tmem_record::{BLOCK_BYTES, Layout, SLOT_BYTES};
 pub struct Refusal {
     pub fault: Fault,
     part: Part,
-    wrong: Wrong,
+    wrong: WrongByte,
 }
 
 // A part of a store.
@@ -50,7 +50,7 @@ fn refusal_behind(alloc: Global, source: &Source, block: Block) -> Result<Option
     if (source.bytes.len() as u64) < layout.end() {
         return Ok(refusal_in(Some(layout), &too_short(source)));
     }
-    match &Look::new(alloc, &source.bytes, layout) {
+    match &ShownStore::new(alloc, &source.bytes, layout) {
         Ok(look) => {
             let opening = look.opening(version)?;
             Ok(refusal_in(Some(layout), &opening))
@@ -60,8 +60,8 @@ fn refusal_behind(alloc: Global, source: &Source, block: Block) -> Result<Option
 }
 
 // What is refused by what an opening finds in a store of this layout.
-fn refusal_in(layout: Option<Layout>, opening: &Opening) -> Option<Refusal> {
-    let Opening::Refused(fault, wrong) = opening else {
+fn refusal_in(layout: Option<Layout>, opening: &OpeningResult) -> Option<Refusal> {
+    let OpeningResult::Refused(fault, wrong) = opening else {
         return None;
     };
     let part = match layout {

@@ -3,7 +3,7 @@ ghost use Rattle.std.specs.Prelude.{◌≤◌, ◌<◌};
 
 use crate::error::ShowError;
 use crate::fields::Field;
-use crate::look::{Look, Opening, Role, Walked, opening_without_block, too_short};
+use crate::look::{OpeningResult, PartRole, ShownStore, Walked, opening_without_block, too_short};
 use crate::source::Source;
 use std::alloc::Global;
 use std::fmt::Display;
@@ -53,7 +53,7 @@ fn show_store<W: Write>(
     if (source.bytes.len() as u64) < layout.end() {
         return Ok(show_opening(out, &too_short(source))?);
     }
-    match &Look::new(alloc, &source.bytes, layout) {
+    match &ShownStore::new(alloc, &source.bytes, layout) {
         Ok(look) => show_parts(alloc, look, version, hex, out),
         Err(fault) => Err(ShowError::Refused(*fault)),
     }
@@ -62,7 +62,7 @@ fn show_store<W: Write>(
 // The parts behind block 0, of a store that was formatted with this version, and what an opening finds.
 fn show_parts<W: Write>(
     alloc: Global,
-    look: &Look,
+    look: &ShownStore,
     version: Version,
     hex: bool,
     out: &mut W,
@@ -90,23 +90,28 @@ fn show_block<W: Write>(out: &mut W, version: Version, layout: Layout) -> io::Re
 }
 
 // What an opening finds, or its refusal, and where that comes from.
-fn show_opening<W: Write>(out: &mut W, opening: &Opening) -> io::Result<()> {
+fn show_opening<W: Write>(out: &mut W, opening: &OpeningResult) -> io::Result<()> {
     match opening {
-        Opening::Found(state) => show_state(out, state),
-        Opening::Refused(fault, wrong) => writeln!(out, "recovery: {fault}, {wrong}"),
+        OpeningResult::Found(state) => show_state(out, state),
+        OpeningResult::Refused(fault, wrong) => writeln!(out, "recovery: {fault}, {wrong}"),
     }
 }
 
 // An image copy.
-fn show_image<W: Write>(look: &Look, copy: u8, hex: bool, out: &mut W) -> Result<(), ShowError>
+fn show_image<W: Write>(
+    look: &ShownStore,
+    copy: u8,
+    hex: bool,
+    out: &mut W,
+) -> Result<(), ShowError>
     requires { copy ≤ 1 }
 {
     let walked = look.walk_image(copy)?;
     write!(out, "image {copy} at {}: ", walked.at)?;
     let role = match look.role_of_image(copy) {
-        Role::Counts => "chosen",
-        Role::Stale => "stale",
-        Role::Amiss => "not chosen",
+        PartRole::Counts => "chosen",
+        PartRole::Stale => "stale",
+        PartRole::Amiss => "not chosen",
     };
     match look.image(copy)? {
         Image::Closed => writeln!(out, "closed")?,
@@ -133,7 +138,7 @@ fn show_open_image<W: Write>(out: &mut W, role: &str, image: &ImageState) -> io:
 // The log slots.
 fn show_slots<W: Write>(
     alloc: Global,
-    look: &Look,
+    look: &ShownStore,
     hex: bool,
     out: &mut W,
 ) -> Result<(), ShowError> {
@@ -146,7 +151,7 @@ fn show_slots<W: Write>(
 
 // A log slot.
 fn show_slot<W: Write>(
-    look: &Look,
+    look: &ShownStore,
     k: u16,
     records: &mut Records,
     hex: bool,
@@ -159,11 +164,11 @@ fn show_slot<W: Write>(
     let slot = look.slot(k, records);
     match (look.role_of_slot(k), slot) {
         (_, Slot::Closed) => writeln!(out, "closed")?,
-        (Role::Stale, _) => writeln!(out, "open, stale")?,
-        (Role::Counts, Slot::Open(head)) => show_batch(out, "in the log", head, records)?,
-        (Role::Amiss, Slot::Open(head)) => show_batch(out, "not in the log", head, records)?,
-        (Role::Counts, Slot::Damaged) => show_wrong(out, "in the log", &walked)?,
-        (Role::Amiss, Slot::Damaged) => show_wrong(out, "not in the log", &walked)?,
+        (PartRole::Stale, _) => writeln!(out, "open, stale")?,
+        (PartRole::Counts, Slot::Open(head)) => show_batch(out, "in the log", head, records)?,
+        (PartRole::Amiss, Slot::Open(head)) => show_batch(out, "not in the log", head, records)?,
+        (PartRole::Counts, Slot::Damaged) => show_wrong(out, "in the log", &walked)?,
+        (PartRole::Amiss, Slot::Damaged) => show_wrong(out, "not in the log", &walked)?,
     }
     if hex {
         show_fields(look, &walked, out)?;
@@ -218,7 +223,7 @@ fn show_state<W: Write>(out: &mut W, state: &State) -> io::Result<()> {
 }
 
 // The bytes of a part, field by field.
-fn show_fields<W: Write>(look: &Look, walked: &Walked, out: &mut W) -> io::Result<()> {
+fn show_fields<W: Write>(look: &ShownStore, walked: &Walked, out: &mut W) -> io::Result<()> {
     for field in walked.fields.iter() {
         show_field(look, field, out)?;
     }
@@ -228,7 +233,7 @@ fn show_fields<W: Write>(look: &Look, walked: &Walked, out: &mut W) -> io::Resul
     }
 }
 
-fn show_field<W: Write>(look: &Look, field: &Field, out: &mut W) -> io::Result<()> {
+fn show_field<W: Write>(look: &ShownStore, field: &Field, out: &mut W) -> io::Result<()> {
     let bytes = look.bytes_of(field);
     write!(out, "  {}:", field.at)?;
     for byte in bytes.iter().take(MOST_SHOWN) {

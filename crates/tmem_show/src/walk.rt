@@ -4,7 +4,7 @@ ghost use Rattle.std.specs.Prelude.{◌≡◌, ◌≤◌, ◌<◌, ◌+◌, ◌^
 use crate::fields::{Field, Is};
 use std::alloc::{AllocFailed, Global};
 use tmem_fault::Name;
-use tmem_parts::{Why, Wrong};
+use tmem_parts::{FormatFlaw, WrongByte};
 use tmem_record::bytes::{number_at, short_at, value_at};
 use tmem_record::read_name;
 
@@ -12,7 +12,7 @@ use tmem_record::read_name;
 #[derive(Drop)]
 pub(crate) enum Stop {
     /// The bytes are not as the format says.
-    Wrong(Wrong),
+    Wrong(WrongByte),
     /// There was no memory for the fields.
     Memory,
 }
@@ -69,13 +69,13 @@ impl<'a> Walk<'a> {
     }
 
     /// What is wrong with the next byte.
-    pub(crate) fn wrong<T>(&self, why: Why) -> Result<T, Stop> {
+    pub(crate) fn wrong<T>(&self, why: FormatFlaw) -> Result<T, Stop> {
         self.wrong_behind(0, why)
     }
 
     /// What is wrong with the byte behind so many.
-    pub(crate) fn wrong_behind<T>(&self, count: usize, why: Why) -> Result<T, Stop> {
-        Err(Stop::Wrong(Wrong {
+    pub(crate) fn wrong_behind<T>(&self, count: usize, why: FormatFlaw) -> Result<T, Stop> {
+        Err(Stop::Wrong(WrongByte {
             at: (self.at as u64).saturating_add(count as u64),
             why,
         }))
@@ -84,7 +84,7 @@ impl<'a> Walk<'a> {
     /// The next byte.
     pub(crate) fn byte(&self) -> Result<u8, Stop> {
         if self.at == self.end {
-            return self.wrong(Why::Ends);
+            return self.wrong(FormatFlaw::Ends);
         }
         Ok(self.bytes[self.at])
     }
@@ -92,7 +92,7 @@ impl<'a> Walk<'a> {
     /// The number of the next two bytes.
     pub(crate) fn short(&self) -> Result<u16, Stop> {
         if self.end - self.at < 2 {
-            return self.wrong_behind(self.end - self.at, Why::Ends);
+            return self.wrong_behind(self.end - self.at, FormatFlaw::Ends);
         }
         Ok(short_at(self.bytes, self.at))
     }
@@ -100,7 +100,7 @@ impl<'a> Walk<'a> {
     /// The number of the next eight bytes.
     pub(crate) fn number(&self) -> Result<u64, Stop> {
         if self.end - self.at < 8 {
-            return self.wrong_behind(self.end - self.at, Why::Ends);
+            return self.wrong_behind(self.end - self.at, FormatFlaw::Ends);
         }
         Ok(number_at(self.bytes, self.at))
     }
@@ -109,7 +109,7 @@ impl<'a> Walk<'a> {
     pub(crate) fn value_behind(&self, count: usize) -> Result<i64, Stop> {
         let left = self.end - self.at;
         if left < 8 || left - 8 < count {
-            return self.wrong_behind(left, Why::Ends);
+            return self.wrong_behind(left, FormatFlaw::Ends);
         }
         Ok(value_at(self.bytes, self.at + count))
     }
@@ -128,7 +128,7 @@ impl<'a> Walk<'a> {
     }
 
     /// The next byte as a count, which may be so much.
-    pub(crate) fn count(&self, most: usize, why: Why) -> Result<u8, Stop> {
+    pub(crate) fn count(&self, most: usize, why: FormatFlaw) -> Result<u8, Stop> {
         let count = self.byte()?;
         if count as usize > most {
             return self.wrong(why);
@@ -140,7 +140,7 @@ impl<'a> Walk<'a> {
     pub(crate) fn name(&self) -> Result<Name, Stop> {
         match read_name(&self.bytes[self.at..self.end]) {
             Some(name) => Ok(name),
-            None => self.wrong(Why::NoName),
+            None => self.wrong(FormatFlaw::NoName),
         }
     }
 
@@ -153,7 +153,7 @@ impl<'a> Walk<'a> {
         let zeros = &self.bytes[self.at..end];
         let before = zeros_in(zeros);
         if before < zeros.len() {
-            return self.wrong_behind(before, Why::NotZero);
+            return self.wrong_behind(before, FormatFlaw::NotZero);
         }
         self.pass(before, Is::Zeros)
     }

@@ -17,7 +17,7 @@ use tmem_invariants::Invariants;
 use tmem_tree::{Plan, StoredSteps};
 
 /// What the threads do with a store. The functions that start threads know no more of it.
-pub(crate) trait Counting {
+pub(crate) trait CountingStore {
     /// One who was to add so often may be answered that so many were committed.
     ghost is_answer: { Self → ℕ → ℕ → Type 0 };
 
@@ -38,7 +38,7 @@ pub(crate) trait Counting {
     fn close<R: Wait>(&self, rt: &R);
 }
 
-impl<D: Disk + Drop, N: StoreNaming, T: Invariants + Drop, S: StoredSteps + Drop> Counting
+impl<D: Disk + Drop, N: StoreNaming, T: Invariants + Drop, S: StoredSteps + Drop> CountingStore
     for Front<D, N, T, S> {
     ghost is_answer = { λ front turns committed. committed ≤ turns };
 

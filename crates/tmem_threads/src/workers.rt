@@ -2,7 +2,7 @@
 ghost use Rattle.std.specs.Prelude.{◌≡◌, ◌<◌, ◌^◌, Err, IsOk, IfOk, IfErr, All, Contains};
 ghost use Rattle.tmem_threads.specs.Counting.{AreCounted, committed_together};
 
-use crate::counting::Counting;
+use crate::counting::CountingStore;
 use std::alloc::Global;
 use std::rt::Clock;
 use std::sync::Wait;
@@ -19,7 +19,7 @@ pub struct Work {
 /// Lets the workers add beside a flusher, each in a thread of its own where one can be made, and else one after another.
 /// Answers how many transactions they committed once all have ended. The flusher's refusal comes before those that follow
 /// from it. With no thread for the flusher nobody works.
-pub(crate) fn work_and_flush<F: Counting + Sync, R: Threads + Wait + Clock + Sync>(
+pub(crate) fn work_and_flush<F: CountingStore + Sync, R: Threads + Wait + Clock + Sync>(
     rt: &R,
     alloc: Global,
     store: &F,
@@ -45,7 +45,7 @@ pub(crate) fn work_and_flush<F: Counting + Sync, R: Threads + Wait + Clock + Syn
     )
 }
 
-fn work_all<F: Counting + Sync, R: Threads + Wait + Sync>(
+fn work_all<F: CountingStore + Sync, R: Threads + Wait + Sync>(
     rt: &R,
     alloc: Global,
     store: &F,

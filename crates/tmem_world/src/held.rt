@@ -11,7 +11,7 @@ use tmem_journal::Layout;
 
 /// The device and the table, where no session stands.
 #[derive(Drop)]
-pub(crate) struct Left<D: Disk, T: Invariants> {
+pub(crate) struct DeviceAndTable<D: Disk, T: Invariants> {
     pub(crate) disk: D,
     pub(crate) layout: Layout,
     pub(crate) table: T,
@@ -26,7 +26,7 @@ pub(crate) struct Left<D: Disk, T: Invariants> {
 #[derive(Drop)]
 pub(crate) enum Held<D: Disk, T: Invariants> {
     With(Session<D, T>),
-    Without(Left<D, T>),
+    Without(DeviceAndTable<D, T>),
 }
 
 impl<D: Disk + Drop, T: Invariants + Drop> Held<D, T> {
@@ -45,7 +45,7 @@ impl<D: Disk + Drop, T: Invariants + Drop> Held<D, T> {
                 (journal.into_disk(), core.into_table())
             }
             Held::Without(left) => {
-                let Left { disk, table, .. } = left;
+                let DeviceAndTable { disk, table, .. } = left;
                 (disk, table)
             }
         }

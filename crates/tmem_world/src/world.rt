@@ -17,7 +17,7 @@ ghost use Rattle.tmem_event.specs.Events.{NamesAttempt};
 ghost use Rattle.tmem_world.specs.WorldModel.{WorldModel, opening, present, stands, Run};
 
 use crate::attempt::WorldAttempt;
-use crate::held::{Held, Left};
+use crate::held::{DeviceAndTable, Held};
 use crate::session::Session;
 use std::alloc::{AllocError, Global};
 use tmem_disk::Disk;
@@ -247,9 +247,9 @@ impl<D: Disk + Drop, T: Invariants + Drop, S: StoredSteps + Drop> World<D, T, S>
     }
 
     // Makes a plan of a transaction.
-    fn begin(&mut self, slot: u8, tx: Tx) -> Reply
-        requires { slot < 16 }
-        ensures { IsAnswered self.old (Event.Begin slot tx) result self.new }
+    fn begin(&mut self, attempt: u8, tx: Tx) -> Reply
+        requires { attempt < 16 }
+        ensures { IsAnswered self.old (Event.Begin attempt tx) result self.new }
     {
         if !self.is_open() {
             return Reply::Fault(Fault::Closed);
@@ -258,32 +258,34 @@ impl<D: Disk + Drop, T: Invariants + Drop, S: StoredSteps + Drop> World<D, T, S>
             Ok(plan) => plan,
             Err(fault) => return Reply::Fault(fault),
         };
-        match self.attempts[slot as usize].begin(plan) {
+        match self.attempts[attempt as usize].begin(plan) {
             Ok(()) => Reply::Begun,
             Err(fault) => Reply::Fault(fault),
         }
     }
 
     // Goes on with a plan as far as the values and the answers allow that it has.
-    fn turn(&mut self, slot: u8) -> Reply
-        requires { slot < 16 }
-        ensures { IsAnswered self.old (Event.Turn slot) result self.new }
+    fn turn(&mut self, attempt: u8) -> Reply
+        requires { attempt < 16 }
+        ensures { IsAnswered self.old (Event.Turn attempt) result self.new }
     {
         match &self.held {
             Some(Held::With(session)) => {
-                self.attempts[slot as usize].turn(&self.steps, &session.core)
+                self.attempts[attempt as usize].turn(&self.steps, &session.core)
             }
             _ => Reply::Fault(Fault::Closed),
         }
     }
 
     // Settles a plan that has ended.
-    fn settle(&mut self, slot: u8) -> Reply
-        requires { slot < 16 }
-        ensures { IsAnswered self.old (Event.Settle slot) result self.new }
+    fn settle(&mut self, attempt: u8) -> Reply
+        requires { attempt < 16 }
+        ensures { IsAnswered self.old (Event.Settle attempt) result self.new }
     {
         match &mut self.held {
-            Some(Held::With(session)) => session.settle_attempt(&mut self.attempts[slot as usize]),
+            Some(Held::With(session)) => session.settle_attempt(
+                &mut self.attempts[attempt as usize],
+            ),
             _ => Reply::Fault(Fault::Closed),
         }
     }
@@ -341,7 +343,7 @@ impl<D: Disk + Drop, T: Invariants + Drop, S: StoredSteps + Drop> World<D, T, S>
                 Reply::Opened(count)
             }
             Err((fault, disk, table)) => {
-                let left = Left {
+                let left = DeviceAndTable {
                     disk,
                     layout,
                     table,

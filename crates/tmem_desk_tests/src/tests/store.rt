@@ -11,7 +11,7 @@ use std::process::Abort;
 use std::sync::Wait;
 use std::test::Fail;
 use tmem_builtins::stored_steps;
-use tmem_desk::{Desk, Failure, ServedNaming, Service};
+use tmem_desk::{Desk, DeskFailure, ServedNaming, Service};
 use tmem_disk::SimDisk;
 use tmem_fault::{Fault, Name};
 use tmem_front::{Front, OpenedFront};

@@ -5,24 +5,24 @@ ghost use Rattle.tmem_requests.specs.Wrong.{IsTrueOf, part, whole};
 
 use crate::explain::settle::find_in_settle;
 use crate::explain::tx::find_in_tx;
-use crate::explain::wrong::{Wrong, inside};
+use crate::explain::wrong::{WrongValue, inside};
 use crate::items::Item;
-use crate::place::Step;
-use crate::why::Why;
+use crate::place::PointerStep;
+use crate::why::RequestFlaw;
 use serde_json::Value;
 use std::alloc::Global;
 use tmem_fault::Name;
 use tmem_forms::{byte_of, integer_of, pair_of, short_of};
 
 /// Finds the first thing that is wrong with what stands at this key.
-pub(crate) fn find_in_body(alloc: Global, key: &str, body: &Value) -> Result<(), Wrong>
+pub(crate) fn find_in_body(alloc: Global, key: &str, body: &Value) -> Result<(), WrongValue>
     ensures { IfErr result (λ w. IsTrueOf part (view body.now) w) }
 {
     match key {
         "do" | "try" => find_in_tx(alloc, body),
-        "get" => find_in_items(alloc, Kind::Variable, body),
+        "get" => find_in_items(alloc, ItemKind::Variable, body),
         "settle" => find_in_settle(alloc, body),
-        "changed" => find_in_items(alloc, Kind::Pair, body),
+        "changed" => find_in_items(alloc, ItemKind::Pair, body),
         "cancel" => find_in_integer(alloc, body),
         "keep" => find_in_kept(alloc, body),
         "run" => find_in_word(alloc, body),
@@ -31,13 +31,13 @@ pub(crate) fn find_in_body(alloc: Global, key: &str, body: &Value) -> Result<(),
 }
 
 /// The same with the numbers for what is run.
-pub(crate) fn find_in_numbers(alloc: Global, value: &Value) -> Result<(), Wrong>
+pub(crate) fn find_in_numbers(alloc: Global, value: &Value) -> Result<(), WrongValue>
     ensures { IfErr result (λ w. IsTrueOf whole (view value.now) w) }
 {
     match value.get("numbers") {
         Some(numbers) => inside(
-            Step::Key("numbers"),
-            find_in_items(alloc, Kind::Integer, numbers),
+            PointerStep::Key("numbers"),
+            find_in_items(alloc, ItemKind::Integer, numbers),
         ),
         None => Ok(()),
     }
@@ -45,7 +45,7 @@ pub(crate) fn find_in_numbers(alloc: Global, value: &Value) -> Result<(), Wrong>
 
 /// What the items of an array are.
 #[derive(Clone, Copy)]
-pub(crate) enum Kind {
+pub(crate) enum ItemKind {
     Variable,
     Register,
     Integer,
@@ -54,95 +54,95 @@ pub(crate) enum Kind {
 }
 
 /// Finds the first item of an array that is wrong.
-pub(crate) fn find_in_items(alloc: Global, kind: Kind, value: &Value) -> Result<(), Wrong>
+pub(crate) fn find_in_items(alloc: Global, kind: ItemKind, value: &Value) -> Result<(), WrongValue>
     ensures { IfErr result (λ w. IsTrueOf part (view value.now) w) }
 {
     let Value::Array(items) = value else {
-        return Err(Wrong::here(alloc, Why::NotArray));
+        return Err(WrongValue::here(alloc, RequestFlaw::NotArray));
     };
     for (i, item) in items.iter().enumerate() {
-        inside(Step::Item(i as u64), find_in_item(alloc, kind, item))?;
+        inside(PointerStep::Item(i as u64), find_in_item(alloc, kind, item))?;
     }
     Ok(())
 }
 
-fn find_in_item(alloc: Global, kind: Kind, item: &Value) -> Result<(), Wrong>
+fn find_in_item(alloc: Global, kind: ItemKind, item: &Value) -> Result<(), WrongValue>
     ensures { IfErr result (λ w. IsTrueOf part (view item.now) w) }
 {
     match kind {
-        Kind::Variable => find_in_variable(alloc, item),
-        Kind::Register => find_in_register(alloc, item),
-        Kind::Integer => find_in_integer(alloc, item),
-        Kind::Pair => find_in_pair(alloc, item),
-        Kind::Word => find_in_word(alloc, item),
+        ItemKind::Variable => find_in_variable(alloc, item),
+        ItemKind::Register => find_in_register(alloc, item),
+        ItemKind::Integer => find_in_integer(alloc, item),
+        ItemKind::Pair => find_in_pair(alloc, item),
+        ItemKind::Word => find_in_word(alloc, item),
     }
 }
 
-fn find_in_pair(alloc: Global, value: &Value) -> Result<(), Wrong>
+fn find_in_pair(alloc: Global, value: &Value) -> Result<(), WrongValue>
     ensures { IfErr result (λ w. IsTrueOf part (view value.now) w) }
 {
     match pair_of(value) {
         Ok((var, number)) => {
-            inside(Step::Item(0), find_in_variable(alloc, var))?;
-            inside(Step::Item(1), find_in_integer(alloc, number))
+            inside(PointerStep::Item(0), find_in_variable(alloc, var))?;
+            inside(PointerStep::Item(1), find_in_integer(alloc, number))
         }
-        Err(error) => Err(Wrong::refused(alloc, error, Why::NotTwo)),
+        Err(error) => Err(WrongValue::refused(alloc, error, RequestFlaw::NotTwo)),
     }
 }
 
-fn find_in_kept(alloc: Global, body: &Value) -> Result<(), Wrong>
+fn find_in_kept(alloc: Global, body: &Value) -> Result<(), WrongValue>
     ensures { IfErr result (λ w. IsTrueOf part (view body.now) w) }
 {
     match pair_of(body) {
         Ok((word, tx)) => {
-            inside(Step::Item(0), find_in_word(alloc, word))?;
-            inside(Step::Item(1), find_in_tx(alloc, tx))
+            inside(PointerStep::Item(0), find_in_word(alloc, word))?;
+            inside(PointerStep::Item(1), find_in_tx(alloc, tx))
         }
-        Err(error) => Err(Wrong::refused(alloc, error, Why::NotTwo)),
+        Err(error) => Err(WrongValue::refused(alloc, error, RequestFlaw::NotTwo)),
     }
 }
 
-fn find_in_question(alloc: Global, body: &Value) -> Result<(), Wrong>
+fn find_in_question(alloc: Global, body: &Value) -> Result<(), WrongValue>
     ensures { IfErr result (λ w. IsTrueOf part (view body.now) w) }
 {
     match body.as_str() {
         Some("look" | "state" | "checkpoint" | "stats") => Ok(()),
-        _ => Err(Wrong::here(alloc, Why::NotQuestion)),
+        _ => Err(WrongValue::here(alloc, RequestFlaw::NotQuestion)),
     }
 }
 
-pub(crate) fn find_in_integer(alloc: Global, value: &Value) -> Result<(), Wrong>
+pub(crate) fn find_in_integer(alloc: Global, value: &Value) -> Result<(), WrongValue>
     ensures { IfErr result (λ w. IsTrueOf part (view value.now) w) }
 {
     match integer_of(value) {
         Ok(_) => Ok(()),
-        Err(error) => Err(Wrong::refused(alloc, error, Why::NotInteger)),
+        Err(error) => Err(WrongValue::refused(alloc, error, RequestFlaw::NotInteger)),
     }
 }
 
-pub(crate) fn find_in_variable(alloc: Global, value: &Value) -> Result<(), Wrong>
+pub(crate) fn find_in_variable(alloc: Global, value: &Value) -> Result<(), WrongValue>
     ensures { IfErr result (λ w. IsTrueOf part (view value.now) w) }
 {
     match short_of(value) {
         Ok(_) => Ok(()),
-        Err(error) => Err(Wrong::refused(alloc, error, Why::NotVariable)),
+        Err(error) => Err(WrongValue::refused(alloc, error, RequestFlaw::NotVariable)),
     }
 }
 
-pub(crate) fn find_in_register(alloc: Global, value: &Value) -> Result<(), Wrong>
+pub(crate) fn find_in_register(alloc: Global, value: &Value) -> Result<(), WrongValue>
     ensures { IfErr result (λ w. IsTrueOf part (view value.now) w) }
 {
     match byte_of(value) {
         Ok(_) => Ok(()),
-        Err(error) => Err(Wrong::refused(alloc, error, Why::NotRegister)),
+        Err(error) => Err(WrongValue::refused(alloc, error, RequestFlaw::NotRegister)),
     }
 }
 
-pub(crate) fn find_in_word(alloc: Global, value: &Value) -> Result<(), Wrong>
+pub(crate) fn find_in_word(alloc: Global, value: &Value) -> Result<(), WrongValue>
     ensures { IfErr result (λ w. IsTrueOf part (view value.now) w) }
 {
     match Name::read(value) {
         Ok(_) => Ok(()),
-        Err(error) => Err(Wrong::refused(alloc, error, Why::NotWord)),
+        Err(error) => Err(WrongValue::refused(alloc, error, RequestFlaw::NotWord)),
     }
 }

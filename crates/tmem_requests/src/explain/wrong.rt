@@ -4,62 +4,62 @@ ghost use Rattle.serde_json.specs.Data.{Data};
 ghost use Rattle.tmem_forms.specs.Errors.{Refuses};
 ghost use Rattle.tmem_requests.specs.Wrong.{IsTrueOf, IsWrong, Scope, TellsTruth, inner, step_value};
 
-use crate::place::{Place, Step};
+use crate::place::{PointerStep, RequestPlace};
 use crate::refusal::NoRequest;
-use crate::why::Why;
+use crate::why::RequestFlaw;
 use std::alloc::Global;
 use tmem_forms::FormError;
 
 /// What is wrong with a value or with one that it holds, and the steps that lead there. Where that is not known, or memory does not
 /// suffice for a step, no more is told than that the whole is no request.
 #[derive(Drop)]
-pub struct Wrong {
-    pub why: Why,
-    pub steps: Vec<Step>,
+pub struct WrongValue {
+    pub why: RequestFlaw,
+    pub steps: Vec<PointerStep>,
 }
 
-impl Wrong {
+impl WrongValue {
     /// That the value itself is wrong.
-    pub(crate) fn here(alloc: Global, why: Why) -> Wrong
+    pub(crate) fn here(alloc: Global, why: RequestFlaw) -> WrongValue
         ensures { (scope : Scope) (d : Data) → IsWrong scope why d → IsTrueOf scope d result }
     {
-        Wrong {
+        WrongValue {
             why,
             steps: Vec::new(alloc),
         }
     }
 
     /// The same of a value whose form was not read. Where memory did not suffice to read it, nothing is known to be wrong with it.
-    pub(crate) fn refused(alloc: Global, error: FormError, why: Why) -> Wrong
+    pub(crate) fn refused(alloc: Global, error: FormError, why: RequestFlaw) -> WrongValue
         ensures { (scope : Scope) (d : Data) → Refuses error (IsWrong scope why d) → IsTrueOf scope d result }
     {
         match error {
-            FormError::Memory(_) => Wrong::here(alloc, Why::NotRequest),
-            FormError::NoForm => Wrong::here(alloc, why),
+            FormError::Memory(_) => WrongValue::here(alloc, RequestFlaw::NotRequest),
+            FormError::NoForm => WrongValue::here(alloc, why),
         }
     }
 
     // The same of the value that this step begins at.
-    fn behind(self, step: Step) -> Wrong
+    fn behind(self, step: PointerStep) -> WrongValue
         ensures { (scope : Scope) (d e : Data) → step_value step d ≡ Some e → IsTrueOf (inner scope) e self → IsTrueOf scope d result }
     {
-        let Wrong { why, mut steps } = self;
+        let WrongValue { why, mut steps } = self;
         match why {
-            Why::NotRequest => Wrong::unknown(steps),
+            RequestFlaw::NotRequest => WrongValue::unknown(steps),
             _ => match steps.insert(0, step) {
-                Ok(()) => Wrong { why, steps },
-                Err(_) => Wrong::unknown(steps),
+                Ok(()) => WrongValue { why, steps },
+                Err(_) => WrongValue::unknown(steps),
             },
         }
     }
 
     // That it is not known what is wrong.
-    fn unknown(mut steps: Vec<Step>) -> Wrong
+    fn unknown(mut steps: Vec<PointerStep>) -> WrongValue
         ensures { (scope : Scope) (d : Data) → IsTrueOf scope d result }
     {
         steps.clear();
-        Wrong {
-            why: Why::NotRequest,
+        WrongValue {
+            why: RequestFlaw::NotRequest,
             steps,
         }
     }
@@ -70,13 +70,13 @@ impl Wrong {
     {
         NoRequest {
             why: self.why,
-            at: Place::Pointer(self.steps),
+            at: RequestPlace::Pointer(self.steps),
         }
     }
 }
 
 /// Hands on what was found in the value that a step leads to.
-pub(crate) fn inside(step: Step, found: Result<(), Wrong>) -> Result<(), Wrong>
+pub(crate) fn inside(step: PointerStep, found: Result<(), WrongValue>) -> Result<(), WrongValue>
     ensures fine { IsOk found → IsOk result }
     ensures told { (scope : Scope) (d e : Data) → step_value step d ≡ Some e → IfErr found (λ w. IsTrueOf (inner scope) e w) → IfErr result (λ w. IsTrueOf scope d w) }
 {

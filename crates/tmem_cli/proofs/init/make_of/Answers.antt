@@ -2,13 +2,13 @@ use Rattle.std.proofs.Common.{◌≡◌, ◌∙◌, ℕ, List, subst}
 use Rattle.tmem_disk.specs.Disk.{DeviceView}
 use Rattle.tmem_init.specs.Content.{IsNewStore}
 use Rattle.tmem_shape.specs.Shapes.{IsShapeText}
-use Rattle.tmem_shape.specs.declared.shape.Shape.{Shape}
+use Rattle.tmem_shape.specs.declared.shape.StoreShape.{StoreShape}
 use Rattle.tmem_cli.specs.Shaped.{IsStoreOf, always_in}
 use Rattle.tmem_cli.proofs.init.make_of.Goals as goal
 use Rattle.tmem_cli.proofs.init.make_of.Goals.{then-is_in_place+in_ok-made, else-is_in_place+in_ok-made-2}
 
 -- a new store with what a shape says is one of that shape
-is_store_of : (text : List ℕ) (shape : Shape) (vars slots : ℕ) (names : List (List ℕ)) (d : DeviceView) → IsShapeText shape text → vars ≡ shape.vars → slots ≡ shape.slots → names ≡ always_in shape.invariants.items → IsNewStore vars slots names d → IsStoreOf text d
+is_store_of : (text : List ℕ) (shape : StoreShape) (vars slots : ℕ) (names : List (List ℕ)) (d : DeviceView) → IsShapeText shape text → vars ≡ shape.vars → slots ≡ shape.slots → names ≡ always_in shape.invariants.items → IsNewStore vars slots names d → IsStoreOf text d
 is_store_of text shape vars slots names d is many long same made =
     let with_names = subst (λ (x : List (List ℕ)). IsNewStore vars slots x d) same made in
     let with_slots = subst (λ (n : ℕ). IsNewStore vars n (always_in shape.invariants.items) d) long with_names in

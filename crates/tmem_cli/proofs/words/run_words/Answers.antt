@@ -4,8 +4,8 @@ use Rattle.clap.specs.Kinds.{HasKind}
 use Rattle.tmem_args.specs.CommandLine.{IsAsked, IsTold, why_not_done}
 use Rattle.tmem_args.specs.declared.args.Asked.TheVariants.{Run, Init, Serve}
 use Rattle.tmem_script.specs.Statuses.{status_of}
-use Rattle.tmem_script.specs.declared.failure.Failure.{Failure}
-use Rattle.tmem_script.specs.declared.failure.Failure.TheVariants as failure
+use Rattle.tmem_script.specs.declared.failure.ProgramFailure.{ProgramFailure}
+use Rattle.tmem_script.specs.declared.failure.ProgramFailure.TheVariants as failure
 use Rattle.tmem_script.specs.declared.script.ScriptError.TheVariants as error
 use Rattle.tmem_cli.specs.Outcomes.{MayBeRead, PlaysRead}
 use Rattle.tmem_run.specs.declared.playing.Played.{Played}
@@ -83,7 +83,7 @@ returns-in-Serve-clause-done g c = λ none.
     inr (inr (inr (inr (inl (inr (inr ((no_fault, asked.0), of_ok _ c.serve-served.result c.conclude_store-in-Serve.ensures.status c.serve-served.ensures none)))))))
 
 -- no failure has status 0
-never_zero : (f : Failure) → status_of f ≡ 0 → ⊥
+never_zero : (f : ProgramFailure) → status_of f ≡ 0 → ⊥
 never_zero (failure.Script (error.Memory e)) is = cc
 never_zero (failure.Script error.Unreadable) is = cc
 never_zero (failure.Script error.NoScript) is = cc
@@ -92,7 +92,7 @@ never_zero failure.Output is = cc
 never_zero failure.Clock is = cc
 never_zero (failure.Words e) is = cc
 
-of_done : {T P : Type 0} (n : ℕ) (r : Result T Failure) → MatchResult r (λ _. n ≡ 0) (λ f. n ≡ status_of f) → OnOk r P → n ≡ 0 → P
+of_done : {T P : Type 0} (n : ℕ) (r : Result T ProgramFailure) → MatchResult r (λ _. n ≡ 0) (λ f. n ≡ status_of f) → OnOk r P → n ≡ 0 → P
 of_done n (Ok x) is so none = so
 of_done n (Err f) is so none = absurd (never_zero f (sym is ∙ none))
 

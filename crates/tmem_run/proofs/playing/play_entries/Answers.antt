@@ -6,7 +6,7 @@ use Rattle.tmem_world.proofs.Laws.{KeepsSetting-refl, KeepsSetting-trans, Writes
 use Rattle.tmem_run.specs.Chains.{PlaysEntriesOn, PlaysFirstOn}
 use Rattle.tmem_run.proofs.Laws.{err_of}
 use Rattle.tmem_run.specs.Printed.{PlaysEntries}
-use Rattle.tmem_script.specs.declared.script.Entry.{Entry}
+use Rattle.tmem_script.specs.declared.script.ScriptEntry.{ScriptEntry}
 use Rattle.tmem_run.proofs.Entries.{PlaysEntries-nil, PlaysEntries-more}
 use Rattle.tmem_run.proofs.Stores.{go_on-nil, plays-then, then_within}
 use Rattle.tmem_run.proofs.Laws.{Appends-then, Appends-nil}
@@ -17,7 +17,7 @@ loop-entry-preserved g c =
     let so = c.loop-entry.invariant in
     let taken : c.loop-entry.entry-iterator.rest.items ≡ c.in-Some.entry ∷ c.next.new.self.rest.items = c.in-Some.ensures.steps.0 in
     let parts : (c.loop-entry.yielded ++ c.in-Some.entry ∷ []) ++ c.next.new.self.rest.items ≡ c.args.entries.items =
-    append_assoc c.loop-entry.yielded (c.in-Some.entry ∷ []) c.next.new.self.rest.items ∙ ap (λ (es : List Entry). c.loop-entry.yielded ++ es) (sym taken) ∙ so.parts in
+    append_assoc c.loop-entry.yielded (c.in-Some.entry ∷ []) c.next.new.self.rest.items ∙ ap (λ (es : List ScriptEntry). c.loop-entry.yielded ++ es) (sym taken) ∙ so.parts in
     record {
       kept = KeepsSetting-trans c.args.world.now c.loop-entry.world c.play_entry.new.world so.kept c.play_entry.ensures.kept;
       parts = parts;
@@ -31,7 +31,7 @@ pub returns-clause-played : goal.returns-clause-played
 returns-clause-played g c =
     let so = c.loop-entry.invariant in
     let all : c.loop-entry.yielded ≡ c.args.entries.items = grind (arith, common_steps, so.parts) in
-    subst (λ (es : List Entry). PlaysEntries c.args.world.now (g.W.Write.contents c.args.out.now) es c.loop-entry.world (g.W.Write.contents c.loop-entry.out)) all so.played
+    subst (λ (es : List ScriptEntry). PlaysEntries c.args.world.now (g.W.Write.contents c.args.out.now) es c.loop-entry.world (g.W.Write.contents c.loop-entry.out)) all so.played
 
 pub loop-entry-init : goal.loop-entry-init
 loop-entry-init g c =
@@ -50,7 +50,7 @@ returns-in_err-play_entry-clause-stopped g c =
     let so = c.loop-entry.invariant in
     let taken : c.loop-entry.entry-iterator.rest.items ≡ c.in-Some.entry ∷ c.next.new.self.rest.items = c.in-Some.ensures.steps.0 in
     let parts : (c.loop-entry.yielded ++ c.in-Some.entry ∷ []) ++ c.next.new.self.rest.items ≡ c.args.entries.items =
-    append_assoc c.loop-entry.yielded (c.in-Some.entry ∷ []) c.next.new.self.rest.items ∙ ap (λ (es : List Entry). c.loop-entry.yielded ++ es) (sym taken) ∙ so.parts in
+    append_assoc c.loop-entry.yielded (c.in-Some.entry ∷ []) c.next.new.self.rest.items ∙ ap (λ (es : List ScriptEntry). c.loop-entry.yielded ++ es) (sym taken) ∙ so.parts in
     err_of (PlaysFirstOn c.args.world.now c.args.entries.items c.play_entry.new.world) c.from_residual.result (
       c.loop-entry.yielded ++ c.in-Some.entry ∷ [],
       (c.next.new.self.rest.items, sym parts),
@@ -62,7 +62,7 @@ pub returns-clause-chain : goal.returns-clause-chain
 returns-clause-chain g c =
     let so = c.loop-entry.invariant in
     let all : c.loop-entry.yielded ≡ c.args.entries.items = grind (arith, common_steps, so.parts) in
-    subst (λ (es : List Entry). PlaysEntriesOn c.args.world.now es c.loop-entry.world (Appends (g.W.Write.contents c.args.out.now) (g.W.Write.contents c.loop-entry.out))) all so.chain
+    subst (λ (es : List ScriptEntry). PlaysEntriesOn c.args.world.now es c.loop-entry.world (Appends (g.W.Write.contents c.args.out.now) (g.W.Write.contents c.loop-entry.out))) all so.chain
 
 pub returns-in_err-play_entry-clause-elsewhere : goal.returns-in_err-play_entry-clause-elsewhere
 returns-in_err-play_entry-clause-elsewhere g c =

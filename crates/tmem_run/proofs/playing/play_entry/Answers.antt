@@ -3,8 +3,8 @@ use Rattle.std.specs.Prelude.{OnOk}
 use Rattle.std.specs.Io.KnownBytes.{Appends}
 use Rattle.std.proofs.lemmas.Result.{on_ok_weaker}
 use Rattle.tmem_script.specs.Lines.{line_of}
-use Rattle.tmem_script.specs.declared.script.Entry.{Entry}
-use Rattle.tmem_script.specs.declared.script.Entry.TheVariants.{Event, Show}
+use Rattle.tmem_script.specs.declared.script.ScriptEntry.{ScriptEntry}
+use Rattle.tmem_script.specs.declared.script.ScriptEntry.TheVariants.{Event, Show}
 use Rattle.tmem_world.specs.WorldModel.{present}
 use Rattle.tmem_world.specs.Represents.{setting_of, world_disk}
 use Rattle.tmem_run.specs.Chains.{PlaysEntriesOn}
@@ -16,7 +16,7 @@ use Rattle.tmem_run.proofs.playing.play_entry.Goals as goal
 
 pub returns-in-Event-clause-played : goal.returns-in-Event-clause-played
 returns-in-Event-clause-played g c =
-    subst (λ (e : Entry). OnOk c.print_line.result (PlaysEntries c.args.world.now (g.W.Write.contents c.args.out.now) (e ∷ []) c.step-reply.new.self (g.W.Write.contents c.print_line.new.out))) (sym c.in-Event.is)
+    subst (λ (e : ScriptEntry). OnOk c.print_line.result (PlaysEntries c.args.world.now (g.W.Write.contents c.args.out.now) (e ∷ []) c.step-reply.new.self (g.W.Write.contents c.print_line.new.out))) (sym c.in-Event.is)
     (on_ok_weaker c.print_line.result
     (λ wrote program means m at premise.
     let next = c.step-reply.ensures.step program means m at (rests_on _ c.in-Event.playable.event premise) in
@@ -25,7 +25,7 @@ returns-in-Event-clause-played g c =
 
 pub returns-in-Show-clause-played : goal.returns-in-Show-clause-played
 returns-in-Show-clause-played g c =
-    subst (λ (e : Entry). OnOk c.print_state.result (PlaysEntries c.args.world.now (g.W.Write.contents c.args.out.now) (e ∷ []) c.args.world.now (g.W.Write.contents c.print_state.new.out))) (sym c.in-Show.is)
+    subst (λ (e : ScriptEntry). OnOk c.print_state.result (PlaysEntries c.args.world.now (g.W.Write.contents c.args.out.now) (e ∷ []) c.args.world.now (g.W.Write.contents c.print_state.new.out))) (sym c.in-Show.is)
     (on_ok_weaker c.print_state.result
     (λ wrote program means m at premise.
     let text = line (shown c.args.vars m.session (present program m)) in
@@ -38,7 +38,7 @@ returns-in-Event-clause-chain g c =
     let new = c.step-reply.new.self in
     let it = c.in-Event.playable in
     let r = c.step-reply.result in
-    subst (λ (e : Entry). PlaysEntriesOn w (e ∷ []) new (λ text. OnOk c.print_line.result (Appends (g.W.Write.contents c.args.out.now) (g.W.Write.contents c.print_line.new.out) text))) (sym c.in-Event.is)
+    subst (λ (e : ScriptEntry). PlaysEntriesOn w (e ∷ []) new (λ text. OnOk c.print_line.result (Appends (g.W.Write.contents c.args.out.now) (g.W.Write.contents c.print_line.new.out) text))) (sym c.in-Event.is)
     (λ program means h m has keeps.
     let now = c.step-reply.ensures.chain program means h m has keeps in
     (line (line_of r), go_on-event program w new h m it r now.0 now.1 now.2 now.3, c.print_line.ensures.line))
@@ -48,7 +48,7 @@ returns-in-Show-clause-chain g c =
     let w = c.args.world.now in
     let before = g.W.Write.contents c.args.out.now in
     let after = g.W.Write.contents c.print_state.new.out in
-    subst (λ (e : Entry). PlaysEntriesOn w (e ∷ []) w (λ text. OnOk c.print_state.result (Appends before after text))) (sym c.in-Show.is)
+    subst (λ (e : ScriptEntry). PlaysEntriesOn w (e ∷ []) w (λ text. OnOk c.print_state.result (Appends before after text))) (sym c.in-Show.is)
     (λ program means h m has keeps. (
       line (shown w.layout.vars m.session (present program m)),
       go_on-show program w (g.met.D.Disk.is_device (world_disk w)) h m has,

@@ -4,7 +4,7 @@ use Rattle.std.specs.Io.KnownBytes.{Appends}
 use Rattle.tmem_record.specs.declared.layout.Layout.{Layout}
 use Rattle.tmem_event.specs.declared.event.Reply.TheVariants as reply
 use Rattle.tmem_script.specs.Lines.{line_of}
-use Rattle.tmem_script.specs.declared.failure.Failure.{Failure}
+use Rattle.tmem_script.specs.declared.failure.ProgramFailure.{ProgramFailure}
 use Rattle.tmem_world.specs.WorldModel.{opening}
 use Rattle.tmem_world.specs.Represents.{Represents, world_disk, world_view}
 use Rattle.tmem_core.specs.Program.{IsProgramOf}
@@ -62,7 +62,7 @@ returns-clause-failed g c =
     let fits = so.fits in
     let means = means_builtin w vars slots c.args.table c.args.steps fits.0 fits.1 so.table so.steps c.requires.meant in
     let set = setting_builtin w vars slots c.args.table c.args.steps fits.0 fits.1 so.table so.steps c.requires.arities in
-    subst (λ (x : g.row.D.Denot). IfErr c.play_entries-outcome.result (λ (f : Failure). StopsOver g.D.Disk.view vars slots c.args.entries.items c.args.disk x f ⊎ RefusesOver g.D.Disk.view vars slots c.args.disk x f)) (sym c.into_disk-2.ensures)
+    subst (λ (x : g.row.D.Denot). IfErr c.play_entries-outcome.result (λ (f : ProgramFailure). StopsOver g.D.Disk.view vars slots c.args.entries.items c.args.disk x f ⊎ RefusesOver g.D.Disk.view vars slots c.args.disk x f)) (sym c.into_disk-2.ensures)
     (err_both c.play_entries-outcome.result did.failed did.stopped
     (λ failure output stopped. inl (
       output,

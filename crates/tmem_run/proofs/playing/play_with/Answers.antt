@@ -2,7 +2,7 @@ use Rattle.std.proofs.Common.{◌⊎◌, ℕ, List, Option, Some, option_map, Bo
 use Rattle.std.specs.Prelude.{OnOk, IfErr}
 use Rattle.std.proofs.lemmas.Result.{on_ok_weaker, IfErr-weaker}
 use Rattle.tmem_disk.specs.SimParts.{sim_is_device, sim_view}
-use Rattle.tmem_script.specs.declared.failure.Failure.TheVariants.{Refused}
+use Rattle.tmem_script.specs.declared.failure.ProgramFailure.TheVariants.{Refused}
 use Rattle.tmem_file.specs.FileView.{file_view}
 use Rattle.tmem_file.specs.declared.disk.FileDisk.{FileDisk}
 use Rattle.tmem_run.specs.Stored.{IsFoundOrMade, PlaysOver, StopsOver, RefusesOver, PlaysWhere, StopsWhere}

@@ -2,14 +2,14 @@ use Rattle.std.proofs.Common.{◌≡◌, List, map, All}
 use Rattle.serde_json.specs.View.{view}
 use Rattle.tmem_script.specs.Scripts.{IsEntry, EntryInRange, entry_form}
 use Rattle.tmem_forms.specs.TxForms.{array_of}
-use Rattle.tmem_script.specs.declared.script.Entry.{Entry}
+use Rattle.tmem_script.specs.declared.script.ScriptEntry.{ScriptEntry}
 use Rattle.tmem_forms.proofs.Laws.{passed_on, no_items_at, items_of_body}
 use Rattle.tmem_script.proofs.entry.entries_of.Goals as goal
 
 pub returns-in_err-entry_of-clause-refused : goal.returns-in_err-entry_of-clause-refused
 returns-in_err-entry_of-clause-refused c =
     let items = c.deref-item-items.result.now in
-    passed_on ((entry : Entry) → ¬ IsEntry entry (view c.item-item.result)) ((entries : List Entry) → All EntryInRange entries → ¬ (view c.args.value ≡ array_of (map entry_form entries)))
+    passed_on ((entry : ScriptEntry) → ¬ IsEntry entry (view c.item-item.result)) ((entries : List ScriptEntry) → All EntryInRange entries → ¬ (view c.args.value ≡ array_of (map entry_form entries)))
     c.from_residual-in_err-entry_of.result c.in_err-entry_of.field-0.0 c.from_residual-in_err-entry_of.ensures.1 c.in_err-entry_of.ensures.refused
     (λ none entries all is.
     no_items_at entry_form EntryInRange items c.loop-item.item-index c.item-item.result c.loop-item-test.true c.item-item.is

@@ -9,8 +9,8 @@ use Rattle.tmem_threads.proofs.workers.work_all.Goals as goal
 
 pub sum_of-requires : goal.sum_of-requires
 sum_of-requires g c =
-    let is_answer = g.F.Counting.is_answer c.args.store.now c.args.work.turns in
-    let each : All (λ (r : Result ℕ Fault). IfOk r (λ n. n ≤ c.args.work.turns)) c.in_ok-answers.answers.items = λ k d less. IfOk-weaker _ _ _ (g.F.Counting.most c.args.store.now c.args.work.turns) (c.in_ok-answers.ensures.each k d (search (rules, less))).1.met in
+    let is_answer = g.F.CountingStore.is_answer c.args.store.now c.args.work.turns in
+    let each : All (λ (r : Result ℕ Fault). IfOk r (λ n. n ≤ c.args.work.turns)) c.in_ok-answers.answers.items = λ k d less. IfOk-weaker _ _ _ (g.F.CountingStore.most c.args.store.now c.args.work.turns) (c.in_ok-answers.ensures.each k d (search (rules, less))).1.met in
     let many : length c.in_ok-answers.answers.items ≡ c.args.work.workers = search rules in
     let few : c.args.work.workers < 65536 = search rules in
     let short : c.args.work.turns < 65536 = search rules in
@@ -19,7 +19,7 @@ sum_of-requires g c =
 pub returns : goal.returns
 returns g c =
     let answers = c.in_ok-answers.answers.items in
-    let is_answer = g.F.Counting.is_answer c.args.store.now c.args.work.turns in
+    let is_answer = g.F.CountingStore.is_answer c.args.store.now c.args.work.turns in
     let each : All (λ (r : Result ℕ Fault). IfOk r is_answer) answers = λ k d less. (c.in_ok-answers.ensures.each k d (search (rules, less))).1.met in
     let many : length answers ≡ c.args.work.workers = search rules in
     are_counted is_answer answers c.args.work.workers c.sum_of.result many each

@@ -2,7 +2,7 @@ use Rattle.std.proofs.Common.{◌≡◌, ℕ, ℤ, w64, ◌<◌, List, length, m
 use Rattle.std.specs.Prelude.{IsSome, OnSome, position}
 use Rattle.std.specs.Ordering.{int_eq}
 use Rattle.std.proofs.lemmas.Bool.{false≢true}
-use Rattle.tmem_requests.specs.declared.request.Ask.{Ask}
+use Rattle.tmem_requests.specs.declared.request.RequestBody.{RequestBody}
 use Rattle.tmem_desk.specs.Desks.{DeskView}
 use Rattle.tmem_desk.proofs.Places.{found_at}
 use Rattle.std.proofs.lemmas.Int.{to_z-of_z}
@@ -16,7 +16,7 @@ on_some : {X P : Type 0} (o : Option X) → OnSome o P → IsSome o → P
 on_some (Some x) is some = is
 on_some None is some = absurd (false≢true some)
 
-found_below : {X : Type 0} (g : X → ℤ × Ask) (id : ℤ) (xs : List X) (at : ℕ) (v : DeskView) → v.waiting ≡ map g xs → position (λ (x : X). int_eq (g x).0 id) xs ≡ Some at → at < length xs
+found_below : {X : Type 0} (g : X → ℤ × RequestBody) (id : ℤ) (xs : List X) (at : ℕ) (v : DeskView) → v.waiting ≡ map g xs → position (λ (x : X). int_eq (g x).0 id) xs ≡ Some at → at < length xs
 found_below {X} g id xs at v all found =
     let place = found_at (λ (x : X). int_eq (g x).0 id) xs at found in
     subst (λ (k : ℕ). k < length xs) place.1 place.0

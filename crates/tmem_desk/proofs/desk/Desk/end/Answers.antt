@@ -5,7 +5,7 @@ use Rattle.tmem_desk.proofs.Giving.{on_ok_both, serves_end}
 use Rattle.std.proofs.Common.{inl, ℕ, List}
 use Rattle.tmem_desk.specs.Serving.{RunsEnd}
 use Rattle.tmem_desk.specs.Failing.{IsLast}
-use Rattle.tmem_desk.specs.declared.failure.Failure.TheVariants as failure
+use Rattle.tmem_desk.specs.declared.failure.DeskFailure.TheVariants as failure
 use Rattle.tmem_desk.proofs.Losing.{end_fails, handed, unprinted_texts}
 use Rattle.tmem_desk.proofs.desk.Desk.end.Goals as goal
 

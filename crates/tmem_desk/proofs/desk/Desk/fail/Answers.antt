@@ -5,7 +5,7 @@ use Rattle.tmem_desk.specs.Asking.{store}
 use Rattle.tmem_desk.specs.Held.{desk_view}
 use Rattle.tmem_desk.specs.Failing.{RanNone}
 use Rattle.tmem_desk.specs.Serving.{Splits}
-use Rattle.tmem_desk.specs.declared.failure.Failure.TheVariants as failure
+use Rattle.tmem_desk.specs.declared.failure.DeskFailure.TheVariants as failure
 use Rattle.tmem_desk.proofs.Losing.{handed, tells_each, unprinted_why, wanting_all}
 use Rattle.tmem_desk.proofs.desk.Desk.fail.Goals as goal
 

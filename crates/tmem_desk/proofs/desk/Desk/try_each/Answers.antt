@@ -1,6 +1,6 @@
 use Rattle.std.proofs.Common.{◌≡◌, ◌∙◌, ◌+◌, ℕ, ℤ, suc, subst, length, arith}
 use Rattle.std.proofs.lemmas.List.{length-map}
-use Rattle.tmem_requests.specs.declared.request.Ask.{Ask}
+use Rattle.tmem_requests.specs.declared.request.RequestBody.{RequestBody}
 use Rattle.tmem_desk.specs.Asking.{store}
 use Rattle.tmem_desk.specs.Held.{asked, asking, desk_view}
 use Rattle.tmem_desk.specs.Serving.{TriesNext}
@@ -18,7 +18,7 @@ loop-turn-preserved g c =
 
 pub returns-clause-ok : goal.returns-clause-ok
 returns-clause-ok g c =
-    let long : length (asking c.args.self.now.waiting.items) ≡ length c.args.self.now.waiting.items = length-map {B = ℤ × Ask} c.args.self.now.waiting.items (λ w. (w.id, asked w.held)) in
+    let long : length (asking c.args.self.now.waiting.items) ≡ length c.args.self.now.waiting.items = length-map {B = ℤ × RequestBody} c.args.self.now.waiting.items (λ w. (w.id, asked w.held)) in
     let all : c.loop-turn._turn ≡ length (asking c.args.self.now.waiting.items) = omega (arith, long) in
     subst (λ (n : ℕ). Repeats (TriesNext (store g.N.Naming.name.start g.N.StoreNaming.opening g.N.ProgramNaming.program g.N.ServedNaming.arities g.N.ServedNaming.always)) n (desk_view c.args.self.now) (desk_view c.loop-turn.self)) all c.loop-turn.invariant
 

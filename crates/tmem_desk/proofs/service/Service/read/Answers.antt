@@ -5,12 +5,12 @@ use Rattle.tmem_requests.specs.Fits.{FitsStore}
 use Rattle.tmem_requests.specs.Reasons.{IsReason}
 use Rattle.tmem_requests.specs.declared.refusal.NoRequest.{NoRequest}
 use Rattle.tmem_requests.specs.declared.refusal.RequestError.{RequestError}
-use Rattle.tmem_requests.specs.declared.request.Ask.{Ask}
+use Rattle.tmem_requests.specs.declared.request.RequestBody.{RequestBody}
 use Rattle.tmem_requests.proofs.Laws.{fits_too, reason_of_misfit, reason_of_value}
 use Rattle.tmem_desk.proofs.service.Service.read.Goals as goal
 
 -- what is asked of the numbers and names that it has is asked of those of the store
-same_store : (asks : Ask) (vars vars' : ℕ) (names names' always always' : List (List ℕ)) → vars ≡ vars' → names ≡ names' → always ≡ always' → FitsStore vars names always asks → FitsStore vars' names' always' asks
+same_store : (asks : RequestBody) (vars vars' : ℕ) (names names' always always' : List (List ℕ)) → vars ≡ vars' → names ≡ names' → always ≡ always' → FitsStore vars names always asks → FitsStore vars' names' always' asks
 same_store asks vars vars' names names' always always' over named kept fits =
     subst (λ (l : List (List ℕ)). FitsStore vars' names' l asks) kept (subst (λ (l : List (List ℕ)). FitsStore vars' l always asks) named (subst (λ (n : ℕ). FitsStore n names always asks) over fits))
 

@@ -3,7 +3,7 @@ use Rattle.serde_json.specs.Data.{Data, string}
 use Rattle.tmem_forms.specs.TxForms.{IsTx, array_of, natural, tx_form}
 use Rattle.tmem_requests.specs.Forms.{ArePairs, AreVariables, IsKept, pair_form}
 use Rattle.tmem_requests.specs.Wrong.{IsTrueOf, store}
-use Rattle.tmem_requests.specs.declared.request.Ask.TheVariants.{Do, Try, Get, Changed, Keep}
+use Rattle.tmem_requests.specs.declared.request.RequestBody.TheVariants.{Do, Try, Get, Changed, Keep}
 use Rattle.tmem_requests.proofs.Misfits.{asked_as}
 use Rattle.tmem_requests.proofs.explain.misfit.find_misfit.Goals as goal
 

@@ -24,16 +24,16 @@ returns-in-Ok-begin g c =
     let is = c.in-Ok.ensures.plan in
     attempts_answered w _ _ _ refl refl refl (g.met.D.Disk.is_device (world_disk w))
     (λ program means m r keeps. (
-      holding m c.args.slot (Begun c.args.tx [] 0),
+      holding m c.args.attempt (Begun c.args.tx [] 0),
       in_session program (held_of w) m _ _ _ r.session (search rules) (subst (λ (ns : List (List ℕ)). BreaksNone (g.S.StoredSteps.arities w.steps) w.layout.vars ns c.args.tx) (ap names_of c.deref.ensures.value ∙ w.named ∙ sym means.invariants.names) c.in-Ok.ensures.fine, refl),
-      with_attempt program w _ m c.args.slot new (Begun c.args.tx [] 0) r
+      with_attempt program w _ m c.args.attempt new (Begun c.args.tx [] 0) r
           (record { plan = ap (option_map (λ (p : PlanView). p.tree)) so.plan ∙ ap Some is; at = subst (λ (p : Tx). IsAt program.steps program.tests p new.cursor) is (so.at program.steps program.tests); given = so.given }, ap length so.answers, so.going) refl refl refl,
     )) tt (λ n. refl) tt
 
 pub returns-in-Err-begin : goal.returns-in-Err-begin
 returns-in-Err-begin g c =
     let w = c.args.self.now in
-    let below : c.args.slot < length w.attempts.items = omega (arith, w.sized) in
+    let below : c.args.attempt < length w.attempts.items = omega (arith, w.sized) in
     let old = c.index_mut.result.now in
     let new = c.begin.new.self in
     let so = c.in-Err-begin.ensures in
@@ -41,9 +41,9 @@ returns-in-Err-begin g c =
     (λ program means m r keeps.
     let fine = subst (λ (ns : List (List ℕ)). BreaksNone (g.S.StoredSteps.arities w.steps) w.layout.vars ns c.args.tx) (ap names_of c.deref.ensures.value ∙ w.named ∙ sym means.invariants.names) c.in-Ok.ensures.fine in
     let may : IsPlanFault (setting_of w program) c.args.tx c.in-Err-begin.fault = subst (λ (f : Fault). IsPlanFault (setting_of w program) c.args.tx f) (sym so.same.0) fine in (
-      holding m c.args.slot (attempt_at m c.args.slot),
-      in_session program (held_of w) m _ _ _ r.session (search rules) (may, same_attempt m c.args.slot),
-      with_attempt program w _ m c.args.slot new (attempt_at m c.args.slot) r (held_again program (attempt_at m c.args.slot) old new so.same.1 so.same.2 so.stays_at (attempt_holds program _ m c.args.slot old r below c.index_mut.ensures.value)) refl refl refl,
+      holding m c.args.attempt (attempt_at m c.args.attempt),
+      in_session program (held_of w) m _ _ _ r.session (search rules) (may, same_attempt m c.args.attempt),
+      with_attempt program w _ m c.args.attempt new (attempt_at m c.args.attempt) r (held_again program (attempt_at m c.args.attempt) old new so.same.1 so.same.2 so.stays_at (attempt_holds program _ m c.args.attempt old r below c.index_mut.ensures.value)) refl refl refl,
     )) tt (λ n. ap (λ (f : Fault). failures_by (reply.Fault f) n) so.same.0) tt
 
 pub returns-in-Err : goal.returns-in-Err
@@ -68,15 +68,15 @@ invariant_of-self-2 g c =
     let named = subst (λ (ns : List (List ℕ)). FitsNames ns c.args.tx) (ap names_of c.deref.ensures.value) so.names in
     let shapes = λ (tests : Meanings) (asked : tested tests). so.shapes tests (subst (AreMeant tests) (sym c.deref.ensures.value) asked) in
     let variables = so.variables (subst (AreWithin w.layout.vars) (sym c.deref.ensures.value) w.within) in
-    let held : FitsAttempt w.layout.vars arities stated known tested c.index_mut.result.now = subst (FitsAttempt w.layout.vars arities stated known tested) (sym c.index_mut.ensures.value) (w.fit c.args.slot c.index_mut.result.now (omega (arith, w.sized))) in
+    let held : FitsAttempt w.layout.vars arities stated known tested c.index_mut.result.now = subst (FitsAttempt w.layout.vars arities stated known tested) (sym c.index_mut.ensures.value) (w.fit c.args.attempt c.index_mut.result.now (omega (arith, w.sized))) in
     let fits = begun_fits w.layout.vars arities stated known tested c.in-Ok.plan c.index_mut.result.now c.begin.new.self c.begin.result variables (subst (FitsSteps arities) (sym is) so.steps) (subst (FitsNames known) (sym is) named) shapes now.plan now.stands now.going now.same now.stays held in
     record {
-      sized = length-set w.attempts.items c.args.slot c.begin.new.self ∙ w.sized;
+      sized = length-set w.attempts.items c.args.attempt c.begin.new.self ∙ w.sized;
       here = w.here;
       same_vars = w.same_vars;
       same_slots = w.same_slots;
       named = w.named;
       meant = w.meant;
       within = w.within;
-      fit = All-set (FitsAttempt w.layout.vars arities stated known tested) w.attempts.items c.args.slot c.begin.new.self fits w.fit;
+      fit = All-set (FitsAttempt w.layout.vars arities stated known tested) w.attempts.items c.args.attempt c.begin.new.self fits w.fit;
     }

@@ -18,7 +18,7 @@ pub invariant_of-self-clause-fit : goal.invariant_of-self-clause-fit
 invariant_of-self-clause-fit g c =
     let w = c.args.self.now in
     let Fits = FitsAttempt w.layout.vars (g.S.StoredSteps.arities w.steps) (g.S.StoredSteps.is_stated w.steps) (names_of w.shapes.items) (λ tests. AreMeant tests w.shapes.items) in
-    All-set Fits w.attempts.items c.args.slot c.settle_attempt.new.held (settles_fit _ _ _ _ _ _ _ _ _ _ c.settle_attempt.ensures.settled (subst Fits (sym c.index_mut.ensures.value) (w.fit c.args.slot c.index_mut.result.now (omega (arith, w.sized))))) w.fit
+    All-set Fits w.attempts.items c.args.attempt c.settle_attempt.new.held (settles_fit _ _ _ _ _ _ _ _ _ _ c.settle_attempt.ensures.settled (subst Fits (sym c.index_mut.ensures.value) (w.fit c.args.attempt c.index_mut.result.now (omega (arith, w.sized))))) w.fit
 
 pub invariant_of-self-clause-meant : goal.invariant_of-self-clause-meant
 invariant_of-self-clause-meant g c = λ tests is.
@@ -34,7 +34,7 @@ returns-in_default g c =
     elim c.in_default.branch [
       | in_default-via-in-Some+in-Without-1 v ↦
           let same : new.held ≡ w.held = search rules in
-          settles_without w new c.args.slot (λ it. let o = session_of_it (held_of w) it in let there : w.held ≡ Some (With o.0) = held_as w.held w.here (With o.0) o.1 in cc) (ap (λ x. x.layout) v.self-is) (ap (λ x. x.steps) v.self-is) same (ap (λ x. x.attempts.items) v.self-is) (g.met.D.Disk.is_device (world_disk w))
+          settles_without w new c.args.attempt (λ it. let o = session_of_it (held_of w) it in let there : w.held ≡ Some (With o.0) = held_as w.held w.here (With o.0) o.1 in cc) (ap (λ x. x.layout) v.self-is) (ap (λ x. x.steps) v.self-is) same (ap (λ x. x.attempts.items) v.self-is) (g.met.D.Disk.is_device (world_disk w))
       | in_default-via-in-None-1 v ↦ absurd (search rules)
     ]
 
@@ -43,11 +43,11 @@ returns-in-Some-With g c =
     let w = c.args.self.now in
     let o = c.in-Some-With.session in
     let before : held_of w ≡ With o = held_is w.held w.here (With o) (c.in-Some-With.is ∙ ap Some c.in-Some-With.field-0-is) in
-    let below : c.args.slot < length w.attempts.items = omega (arith, w.sized) in
+    let below : c.args.attempt < length w.attempts.items = omega (arith, w.sized) in
     let so = c.settle_attempt.ensures in
     let same = ap (λ j. journal.disk_of j) so.journal ∙ sym (ap (λ h. held_disk h) before) in
     still_answered w _ _ _ refl refl (so.table ∙ sym (ap (λ h. table_in h) before)) same (g.met.D.Disk.is_device (world_disk w))
     (λ program means m r keeps.
-    let holds = attempt_holds program _ m c.args.slot c.index_mut.result.now r below c.index_mut.ensures.value in
-    let done = settles program w _ m c.args.slot o c.settle_attempt.new.self (core_means program w o before means) so.journal r before refl _ c.settle_attempt.new.held (attempt_at m c.args.slot) c.settle_attempt.result c.index_mut.ensures.value refl holds so.settled in
+    let holds = attempt_holds program _ m c.args.attempt c.index_mut.result.now r below c.index_mut.ensures.value in
+    let done = settles program w _ m c.args.attempt o c.settle_attempt.new.self (core_means program w o before means) so.journal r before refl _ c.settle_attempt.new.held (attempt_at m c.args.attempt) c.settle_attempt.result c.index_mut.ensures.value refl holds so.settled in
     (done.0, in_session program (held_of w) m _ _ _ r.session (is_with (held_of w) o before) done.1, done.2)) tt so.failures tt

@@ -18,7 +18,7 @@ turn-requires g c =
     let o = c.in-Some-With.session in
     let before : held_of w ≡ With o = held_is w.held w.here (With o) (search rules) in
     let Fits = FitsAttempt w.layout.vars (g.S.StoredSteps.arities w.steps) (g.S.StoredSteps.is_stated w.steps) (names_of w.shapes.items) (λ tests. AreMeant tests w.shapes.items) in
-    fits_table w o before c.index_mut.result.now (subst Fits (sym c.index_mut.ensures.value) (w.fit c.args.slot c.index_mut.result.now (omega (arith, w.sized))))
+    fits_table w o before c.index_mut.result.now (subst Fits (sym c.index_mut.ensures.value) (w.fit c.args.attempt c.index_mut.result.now (omega (arith, w.sized))))
 
 pub invariant_of-self : goal.invariant_of-self
 invariant_of-self g c =
@@ -28,16 +28,16 @@ invariant_of-self g c =
     let known = names_of w.shapes.items in
     let tested : Meanings → Type 0 = λ tests. AreMeant tests w.shapes.items in
     let Fits = FitsAttempt w.layout.vars (g.S.StoredSteps.arities w.steps) (g.S.StoredSteps.is_stated w.steps) known tested in
-    let was = fits_session w o before c.index_mut.result.now (subst Fits (sym c.index_mut.ensures.value) (w.fit c.args.slot c.index_mut.result.now (omega (arith, w.sized)))) in
+    let was = fits_session w o before c.index_mut.result.now (subst Fits (sym c.index_mut.ensures.value) (w.fit c.args.attempt c.index_mut.result.now (omega (arith, w.sized)))) in
     record {
-      sized = length-set w.attempts.items c.args.slot c.turn.new.self ∙ w.sized;
+      sized = length-set w.attempts.items c.args.attempt c.turn.new.self ∙ w.sized;
       here = w.here;
       same_vars = w.same_vars;
       same_slots = w.same_slots;
       named = w.named;
       meant = w.meant;
       within = w.within;
-      fit = All-set Fits w.attempts.items c.args.slot c.turn.new.self (fits_world w o before c.turn.new.self (c.turn.ensures.fits w.shapes.items was)) w.fit;
+      fit = All-set Fits w.attempts.items c.args.attempt c.turn.new.self (fits_world w o before c.turn.new.self (c.turn.ensures.fits w.shapes.items was)) w.fit;
     }
 
 pub returns-in-Some-With : goal.returns-in-Some-With
@@ -45,14 +45,14 @@ returns-in-Some-With g c =
     let w = c.args.self.now in
     let o = c.in-Some-With.session in
     let before : held_of w ≡ With o = held_is w.held w.here (With o) (search rules) in
-    let below : c.args.slot < length w.attempts.items = omega (arith, w.sized) in
+    let below : c.args.attempt < length w.attempts.items = omega (arith, w.sized) in
     let old = c.index_mut.result.now in
     let new = c.turn.new.self in
     let so = c.turn.ensures in
     attempts_answered w _ _ _ refl refl refl (g.met.D.Disk.is_device (world_disk w))
     (λ program means m r keeps.
-    let holds = attempt_holds program _ m c.args.slot old r below c.index_mut.ensures.value in
+    let holds = attempt_holds program _ m c.args.attempt old r below c.index_mut.ensures.value in
     let tests = (core_means program w o before means).tests in
-    let done = turns program m c.args.slot old new (core_state o.core) (session_at program w m o before r).state (g.S.StoredSteps.is_stated w.steps) means.steps (g.T.Invariants.is_stated (core_table o.core)) tests
-    (attempt_at m c.args.slot) c.turn.result refl holds so.idle so.ended so.begun (λ plan is. so.at plan program.steps program.tests is means.steps tests) so.plan in
-    (holding m c.args.slot done.0, in_session program (held_of w) m _ _ _ r.session (is_with (held_of w) o before) done.1, with_attempt program w _ m c.args.slot new done.0 r done.2 refl refl refl)) tt so.failures tt
+    let done = turns program m c.args.attempt old new (core_state o.core) (session_at program w m o before r).state (g.S.StoredSteps.is_stated w.steps) means.steps (g.T.Invariants.is_stated (core_table o.core)) tests
+    (attempt_at m c.args.attempt) c.turn.result refl holds so.idle so.ended so.begun (λ plan is. so.at plan program.steps program.tests is means.steps tests) so.plan in
+    (holding m c.args.attempt done.0, in_session program (held_of w) m _ _ _ r.session (is_with (held_of w) o before) done.1, with_attempt program w _ m c.args.attempt new done.0 r done.2 refl refl refl)) tt so.failures tt

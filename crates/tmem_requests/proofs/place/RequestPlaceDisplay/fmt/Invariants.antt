@@ -1,7 +1,7 @@
 use Rattle.std.proofs.Common.{flat_map, take}
 use Rattle.std.specs.Fmt.{HasWritten, IsPlainFormatter}
 use Rattle.tmem_requests.specs.Refusals.{step_text}
-use Rattle.tmem_requests.proofs.place.PlaceDisplay.fmt.Given as goal
+use Rattle.tmem_requests.proofs.place.RequestPlaceDisplay.fmt.Given as goal
 
 abbrev pub invariant-loop-step : goal.invariant-loop-step
 invariant-loop-step g l =
