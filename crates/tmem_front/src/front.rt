@@ -30,7 +30,7 @@ use tmem_disk::Disk;
 use tmem_fault::{Cause, Fault};
 use tmem_invariants::Invariants;
 use tmem_seats::{CoreSeat, Failure, JournalSeat, LogCounts, StoreNaming, with_registers};
-use tmem_spine::{Pass as SpinePass, Spine};
+use tmem_spine::{PassSide, Spine};
 use tmem_tentative::{Attempt, Cursor, Probe, Progress};
 use tmem_tree::{Plan, Shape, StoredSteps, Tx};
 
@@ -143,7 +143,7 @@ impl<D: Disk + Drop, N: StoreNaming, T: Invariants + Drop, S: StoredSteps + Drop
     fn settle_under(
         &self,
         mut core: MutexGuard<CoreSeat<N, T>>,
-        seat: &mut SpinePass<N>,
+        seat: &mut PassSide<N>,
         attempt: &Attempt,
     ) -> Result<Settled, Fault>
         requires variables { IsForVariables (length N.opening.values) attempt.now }
@@ -194,7 +194,7 @@ impl<D: Disk + Drop, N: StoreNaming, T: Invariants + Drop, S: StoredSteps + Drop
     fn try_alone<R: Wait>(
         &self,
         rt: &R,
-        seat: &mut SpinePass<N>,
+        seat: &mut PassSide<N>,
         cursor: &mut Cursor,
         plan: &Plan,
     ) -> Result<Settled, Fault>

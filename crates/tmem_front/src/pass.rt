@@ -12,7 +12,7 @@ use tmem_tentative::Cursor;
 /// knows: its mark, what is committed and what is durable as far as it knows, and its own effects. It may go to another
 /// thread, and is used with the front that gave it.
 pub struct Pass<N: Naming> {
-    pub(crate) seat: tmem_spine::Pass<N>,
+    pub(crate) seat: tmem_spine::PassSide<N>,
     pub(crate) cursor: Cursor,
     // how many the front gave out before it
     pub(crate) number: u64,

@@ -25,7 +25,7 @@ use tmem_disk::Disk;
 use tmem_fault::Fault;
 use tmem_invariants::Invariants;
 use tmem_seats::{CoreSeat, StoreNaming};
-use tmem_spine::Pass as SpinePass;
+use tmem_spine::PassSide;
 use tmem_tentative::{Attempt, Cursor};
 use tmem_tree::{Plan, StoredSteps};
 
@@ -133,7 +133,7 @@ impl<D: Disk + Drop, N: StoreNaming, T: Invariants + Drop, S: StoredSteps + Drop
         &self,
         rt: &R,
         patience: &P,
-        seat: &mut SpinePass<N>,
+        seat: &mut PassSide<N>,
         cursor: &mut Cursor,
         plan: &Plan,
         how: Turn,
@@ -162,7 +162,7 @@ impl<D: Disk + Drop, N: StoreNaming, T: Invariants + Drop, S: StoredSteps + Drop
         rt: &R,
         patience: &P,
         mut core: MutexGuard<CoreSeat<N, T>>,
-        seat: &mut SpinePass<N>,
+        seat: &mut PassSide<N>,
         attempt: &Attempt,
         how: Turn,
     ) -> Result<Decision, Fault>
@@ -189,7 +189,7 @@ impl<D: Disk + Drop, N: StoreNaming, T: Invariants + Drop, S: StoredSteps + Drop
         &self,
         rt: &R,
         patience: &P,
-        seat: &mut SpinePass<N>,
+        seat: &mut PassSide<N>,
         cursor: &mut Cursor,
         plan: &Plan,
         how: Turn,

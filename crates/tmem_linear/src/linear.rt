@@ -7,7 +7,7 @@ ghost use Rattle.tmem_linear.specs.Bounds.{is_from as from, is_to as to};
 use crate::sum::sum;
 use crate::weight::Weight;
 use tmem_fault::Name;
-use tmem_tables::{Entry, TableOf};
+use tmem_tables::{TableEntry, TableOf};
 
 /// Invariants that are sums within bounds, in order, over some number of variables.
 pub type LinearTable = TableOf<Linear>;
@@ -83,7 +83,7 @@ fn is_to(most: Option<i64>, total: i128) -> bool
     }
 }
 
-impl Entry for Linear {
+impl TableEntry for Linear {
     ghost use Rattle.tmem_linear.specs.Sums.{IsAnswerOfSum, is_sum_within};
 
     ghost name = { λ linear. linear.name };

@@ -48,10 +48,10 @@ impl Counts {
 }
 
 /// The counts, for whoever reads them and for each closure.
-pub(crate) type Calls = Arc<Counts>;
+pub(crate) type CallCounts = Arc<Counts>;
 
 /// Counts that begin at 0.
-pub(crate) fn no_calls(alloc: Global) -> Result<Calls, AllocError> {
+pub(crate) fn no_calls(alloc: Global) -> Result<CallCounts, AllocError> {
     let counts = Counts {
         tests: AtomicU64::new(0),
         steps: AtomicU64::new(0),
@@ -62,13 +62,13 @@ pub(crate) fn no_calls(alloc: Global) -> Result<Calls, AllocError> {
 /// The counts for three closures.
 #[derive(Drop)]
 pub(crate) struct Three {
-    pub(crate) first: Calls,
-    pub(crate) second: Calls,
-    pub(crate) third: Calls,
+    pub(crate) first: CallCounts,
+    pub(crate) second: CallCounts,
+    pub(crate) third: CallCounts,
 }
 
 impl Three {
-    pub(crate) fn of(calls: &Calls) -> Result<Three, AllocError> {
+    pub(crate) fn of(calls: &CallCounts) -> Result<Three, AllocError> {
         Ok(Three {
             first: calls.clone()?,
             second: calls.clone()?,

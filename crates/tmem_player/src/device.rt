@@ -2,7 +2,7 @@
 ghost use Rattle.std.specs.Prelude.{◌≡◌, ◌≤◌, ◌+◌, true};
 ghost use Rattle.tmem_disk.specs.SimParts.{sim_view};
 
-use crate::failure::Failure;
+use crate::failure::PlayFailure;
 use crate::printing::print_fault;
 use crate::row::{Numbers, Touch};
 use std::alloc::Global;
@@ -18,7 +18,7 @@ pub(crate) fn touch<W: Write>(
     disk: &mut SimDisk,
     act: Touch,
     out: &mut W,
-) -> Result<(), Failure> {
+) -> Result<(), PlayFailure> {
     match act {
         Touch::Format(numbers) => tell(out, "formatted", formatted(disk, numbers)),
         Touch::Recover(numbers) => recover(alloc, disk, numbers, out),
@@ -34,7 +34,7 @@ pub(crate) fn touch<W: Write>(
 }
 
 // Prints what was done, or the fault.
-fn tell<W: Write>(out: &mut W, done: &str, outcome: Result<(), Fault>) -> Result<(), Failure> {
+fn tell<W: Write>(out: &mut W, done: &str, outcome: Result<(), Fault>) -> Result<(), PlayFailure> {
     match outcome {
         Ok(()) => writeln!(out, "{done}")?,
         Err(fault) => print_fault(fault, out)?,
@@ -65,7 +65,7 @@ fn recover<W: Write>(
     disk: &mut SimDisk,
     numbers: Numbers,
     out: &mut W,
-) -> Result<(), Failure> {
+) -> Result<(), PlayFailure> {
     match recovered(alloc, disk, numbers) {
         Ok(count) => writeln!(out, "recovered {count}")?,
         Err(fault) => print_fault(fault, out)?,
@@ -90,7 +90,7 @@ fn recovered(alloc: Global, disk: &mut SimDisk, numbers: Numbers) -> Result<u64,
 }
 
 // Starts a device again, and says whether it had crashed.
-fn restart<W: Write>(disk: &mut SimDisk, out: &mut W) -> Result<(), Failure> {
+fn restart<W: Write>(disk: &mut SimDisk, out: &mut W) -> Result<(), PlayFailure> {
     let is_crashed = disk.is_crashed();
     if is_crashed {
         disk.restart();
@@ -111,7 +111,7 @@ fn show<W: Write>(
     at: u64,
     count: u64,
     out: &mut W,
-) -> Result<(), Failure> {
+) -> Result<(), PlayFailure> {
     let bytes = read(alloc, disk, at, count)?;
     print_bytes(&bytes, out)?;
     Ok(())
@@ -122,7 +122,7 @@ fn overwrite<W: Write>(
     at: u64,
     bytes: &[u8],
     out: &mut W,
-) -> Result<(), Failure> {
+) -> Result<(), PlayFailure> {
     let written = write(disk, at, bytes)?;
     tell(out, "written", written)
 }
@@ -134,7 +134,7 @@ fn copy<W: Write>(
     count: u64,
     to: u64,
     out: &mut W,
-) -> Result<(), Failure> {
+) -> Result<(), PlayFailure> {
     let bytes = read(alloc, disk, from, count)?;
     overwrite(disk, to, &bytes, out)
 }
@@ -150,22 +150,22 @@ fn has_range(disk: &SimDisk, at: u64, count: u64) -> bool
 }
 
 // The bytes that a read gives. The row is bad where the device has none there, or a fault is met.
-fn read(alloc: Global, disk: &mut SimDisk, at: u64, count: u64) -> Result<Vec<u8>, Failure> {
+fn read(alloc: Global, disk: &mut SimDisk, at: u64, count: u64) -> Result<Vec<u8>, PlayFailure> {
     if !has_range(disk, at, count) {
-        return Err(Failure::NoRow);
+        return Err(PlayFailure::NoRow);
     }
     let len = count as usize;
     let mut bytes = vec![in alloc; 0; len]?;
     match disk.read(at, bytes.as_mut_slice()) {
         Ok(()) => Ok(bytes),
-        Err(_) => Err(Failure::Refused(Fault::Device)),
+        Err(_) => Err(PlayFailure::Refused(Fault::Device)),
     }
 }
 
 // Writes bytes, and syncs.
-fn write(disk: &mut SimDisk, at: u64, bytes: &[u8]) -> Result<Result<(), Fault>, Failure> {
+fn write(disk: &mut SimDisk, at: u64, bytes: &[u8]) -> Result<Result<(), Fault>, PlayFailure> {
     if !has_range(disk, at, bytes.len() as u64) {
-        return Err(Failure::NoRow);
+        return Err(PlayFailure::NoRow);
     }
     if disk.write_at(at, bytes).is_err() || disk.sync().is_err() {
         return Ok(Err(Fault::Device));

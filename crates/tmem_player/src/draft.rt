@@ -1,7 +1,7 @@
 //! A row as far as it was read.
 ghost use Rattle.tmem_event.specs.Events.{NamesAttempt};
 
-use crate::row::{Act, Events, Handed, Job, Numbers, Part, Row, Task};
+use crate::row::{Events, Handed, Numbers, Row, RowAct, RowJob, RowPart, RowTask};
 use std::alloc::Global;
 use std::mem;
 use tmem_event::Event;
@@ -12,9 +12,9 @@ use tmem_forms::FormError;
 pub(crate) struct Draft {
     alloc: Global,
     numbers: Numbers,
-    acts: Vec<Act>,
+    acts: Vec<RowAct>,
     opening: Option<(Handed, Numbers)>,
-    parts: Vec<Part>,
+    parts: Vec<RowPart>,
     // the events behind these parts
     events: Events,
 }
@@ -44,14 +44,14 @@ impl Draft {
         Ok(())
     }
 
-    pub(crate) fn add_part(&mut self, part: Part) -> Result<(), FormError> {
+    pub(crate) fn add_part(&mut self, part: RowPart) -> Result<(), FormError> {
         self.need_session()?;
         self.end_events()?;
         self.parts.push(part)?;
         Ok(())
     }
 
-    pub(crate) fn add_act(&mut self, act: Act) -> Result<(), FormError> {
+    pub(crate) fn add_act(&mut self, act: RowAct) -> Result<(), FormError> {
         self.end_session()?;
         self.acts.push(act)?;
         Ok(())
@@ -88,7 +88,7 @@ impl Draft {
     fn end_events(&mut self) -> Result<(), FormError> {
         if !self.events.list.is_empty() {
             let events = mem::replace(&mut self.events, Events::new(self.alloc));
-            self.parts.push(Part::Events(events))?;
+            self.parts.push(RowPart::Events(events))?;
         }
         Ok(())
     }
@@ -97,8 +97,8 @@ impl Draft {
         self.end_events()?;
         if let Some((handed, numbers)) = self.opening.take() {
             let parts = mem::replace(&mut self.parts, Vec::new(self.alloc));
-            let job = Job::Session(parts);
-            self.acts.push(Act::Do(Task {
+            let job = RowJob::Session(parts);
+            self.acts.push(RowAct::Do(RowTask {
                 handed,
                 numbers,
                 job,

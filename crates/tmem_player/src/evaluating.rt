@@ -5,8 +5,8 @@ ghost use Rattle.tmem_tree.specs.StepAnswers.{StepMeanings};
 ghost use Rattle.tmem_tree.specs.Plans.{FitsSteps};
 ghost use Rattle.tmem_tentative.specs.Cursors.{StandsIn, IsAnswer};
 
-use crate::calls::Calls;
-use crate::failure::Failure;
+use crate::calls::CallCounts;
+use crate::failure::PlayFailure;
 use crate::printing::{print_fault, print_name, print_numbers, print_pair};
 use std::alloc::Global;
 use std::io::{self, Write};
@@ -23,9 +23,9 @@ pub(crate) fn evaluate_twice<S: StoredSteps, W: Write>(
     values: &[i64],
     tx: Tx,
     steps: &S,
-    calls: &Calls,
+    calls: &CallCounts,
     out: &mut W,
-) -> Result<(), Failure> {
+) -> Result<(), PlayFailure> {
     match Plan::new(tx, steps, vars, &shapes()) {
         Ok(plan) => evaluate_plan(alloc, &plan, values, steps, calls, out),
         Err(fault) => Ok(print_fault(fault, out)?),
@@ -74,9 +74,9 @@ fn evaluate_plan<S: StoredSteps, W: Write>(
     plan: &Plan,
     values: &[i64],
     steps: &S,
-    calls: &Calls,
+    calls: &CallCounts,
     out: &mut W,
-) -> Result<(), Failure>
+) -> Result<(), PlayFailure>
     requires { FitsSteps (S.arities steps.now) plan.now.tree }
 {
     let _ = calls.take_steps();
@@ -92,7 +92,7 @@ fn print_trials<W: Write>(
     other: &Trial,
     calls: (u64, u64),
     out: &mut W,
-) -> Result<(), Failure> {
+) -> Result<(), PlayFailure> {
     match both_ways(plain, other) {
         Some(attempt) => {
             print_attempt(attempt, out)?;
@@ -126,9 +126,9 @@ fn by_evaluate<S: StoredSteps, W: Write>(
     plan: &Plan,
     steps: &S,
     values: &[i64],
-    calls: &Calls,
+    calls: &CallCounts,
     out: &mut W,
-) -> Result<Trial, Failure>
+) -> Result<Trial, PlayFailure>
     requires { FitsSteps (S.arities steps.now) plan.now.tree }
 {
     let mut reads = Reads::new(alloc);
@@ -167,9 +167,9 @@ fn evaluated<S: StoredSteps, W: Write>(
     steps: &S,
     reads: &Reads,
     answers: &[bool],
-    calls: &Calls,
+    calls: &CallCounts,
     out: &mut W,
-) -> Result<Outcome, Failure>
+) -> Result<Outcome, PlayFailure>
     requires { FitsSteps (S.arities steps.now) plan.now.tree }
 {
     let before = calls.steps();
@@ -184,7 +184,7 @@ fn evaluated<S: StoredSteps, W: Write>(
 }
 
 // Adds a value that was read.
-fn read<W: Write>(reads: &mut Reads, var: u16, value: i64, out: &mut W) -> Result<(), Failure> {
+fn read<W: Write>(reads: &mut Reads, var: u16, value: i64, out: &mut W) -> Result<(), PlayFailure> {
     if reads.insert(var, value).is_err() {
         print_fault(Fault::Memory, out)?;
         reads.insert(var, value)?;
@@ -199,7 +199,7 @@ fn by_cursor<S: StoredSteps, W: Write>(
     steps: &S,
     values: &[i64],
     out: &mut W,
-) -> Result<Trial, Failure>
+) -> Result<Trial, PlayFailure>
     requires { FitsSteps (S.arities steps.now) plan.now.tree }
 {
     let mut cursor = new_cursor(alloc, plan, out)?;
@@ -213,7 +213,7 @@ fn by_cursor<S: StoredSteps, W: Write>(
 }
 
 // A cursor at the start of a plan.
-fn new_cursor<W: Write>(alloc: Global, plan: &Plan, out: &mut W) -> Result<Cursor, Failure>
+fn new_cursor<W: Write>(alloc: Global, plan: &Plan, out: &mut W) -> Result<Cursor, PlayFailure>
     ensures { (m : StepMeanings) → IfOk result (StandsIn m plan.now) }
 {
     match Cursor::new(alloc, plan) {
@@ -232,7 +232,7 @@ fn gone_on<S: StoredSteps, W: Write>(
     steps: &S,
     values: &[i64],
     out: &mut W,
-) -> Result<Option<Attempt>, Failure>
+) -> Result<Option<Attempt>, PlayFailure>
     requires steps { FitsSteps (S.arities steps.now) plan.now.tree }
     requires stands { (m : StepMeanings) → S.is_stated steps.now m → StandsIn m plan.now cursor.old }
     ensures { (m : StepMeanings) → S.is_stated steps.now m → StandsIn m plan.now cursor.new }
@@ -256,7 +256,7 @@ fn resumed<S: StoredSteps, W: Write>(
     plan: &Plan,
     steps: &S,
     out: &mut W,
-) -> Result<Outcome, Failure>
+) -> Result<Outcome, PlayFailure>
     requires steps { FitsSteps (S.arities steps.now) plan.now.tree }
     requires stands { (m : StepMeanings) → S.is_stated steps.now m → StandsIn m plan.now cursor.old }
     ensures stands { (m : StepMeanings) → S.is_stated steps.now m → StandsIn m plan.now cursor.new }

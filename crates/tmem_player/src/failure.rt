@@ -7,7 +7,7 @@ use tmem_forms::FormError;
 
 /// Why a row was not played to its end. Its text is what the user is told.
 #[derive(Clone, Copy)]
-pub(crate) enum Failure {
+pub(crate) enum PlayFailure {
     /// The command line is another one than `step` or `play`.
     Words,
     /// The input is no row.
@@ -20,58 +20,58 @@ pub(crate) enum Failure {
     Io,
 }
 
-impl Failure {
+impl PlayFailure {
     /// The status that the program ends with: 3 where the row is bad, 2 where the words are, and else 1.
     pub(crate) fn status(&self) -> u8 {
         match self {
-            Failure::NoRow | Failure::NoSession => 3,
-            Failure::Words => 2,
-            Failure::Refused(_) | Failure::Io => 1,
+            PlayFailure::NoRow | PlayFailure::NoSession => 3,
+            PlayFailure::Words => 2,
+            PlayFailure::Refused(_) | PlayFailure::Io => 1,
         }
     }
 }
 
-impl fmt::Display for Failure {
+impl fmt::Display for PlayFailure {
     fn fmt<W: fmt::Write>(&self, f: &mut fmt::Formatter<W>) -> fmt::Result {
         match self {
-            Failure::Words => write!(f, "say step or play"),
-            Failure::NoRow => write!(f, "bad row"),
-            Failure::NoSession => write!(f, "bad row: events for a world that was not opened"),
-            Failure::Refused(fault) => write!(f, "{fault}"),
-            Failure::Io => write!(f, "input or output failed"),
+            PlayFailure::Words => write!(f, "say step or play"),
+            PlayFailure::NoRow => write!(f, "bad row"),
+            PlayFailure::NoSession => write!(f, "bad row: events for a world that was not opened"),
+            PlayFailure::Refused(fault) => write!(f, "{fault}"),
+            PlayFailure::Io => write!(f, "input or output failed"),
         }
     }
 }
 
-impl From<Fault> for Failure {
-    fn from(fault: Fault) -> Failure {
-        Failure::Refused(fault)
+impl From<Fault> for PlayFailure {
+    fn from(fault: Fault) -> PlayFailure {
+        PlayFailure::Refused(fault)
     }
 }
 
-impl From<AllocError> for Failure {
-    fn from(_: AllocError) -> Failure {
-        Failure::Refused(Fault::Memory)
+impl From<AllocError> for PlayFailure {
+    fn from(_: AllocError) -> PlayFailure {
+        PlayFailure::Refused(Fault::Memory)
     }
 }
 
-impl<T: Drop> From<AllocFailed<T>> for Failure {
-    fn from(_: AllocFailed<T>) -> Failure {
-        Failure::Refused(Fault::Memory)
+impl<T: Drop> From<AllocFailed<T>> for PlayFailure {
+    fn from(_: AllocFailed<T>) -> PlayFailure {
+        PlayFailure::Refused(Fault::Memory)
     }
 }
 
-impl From<FormError> for Failure {
-    fn from(error: FormError) -> Failure {
+impl From<FormError> for PlayFailure {
+    fn from(error: FormError) -> PlayFailure {
         match error {
-            FormError::Memory(_) => Failure::Refused(Fault::Memory),
-            FormError::NoForm => Failure::NoRow,
+            FormError::Memory(_) => PlayFailure::Refused(Fault::Memory),
+            FormError::NoForm => PlayFailure::NoRow,
         }
     }
 }
 
-impl From<io::Error> for Failure {
-    fn from(_: io::Error) -> Failure {
-        Failure::Io
+impl From<io::Error> for PlayFailure {
+    fn from(_: io::Error) -> PlayFailure {
+        PlayFailure::Io
     }
 }

@@ -5,10 +5,10 @@ ghost use Rattle.tmem_invariants.specs.Answers.{MayCall, HasMeaning};
 ghost use Rattle.std.specs.Prelude.{IfOk};
 
 use crate::Mode;
-use crate::calls::{Calls, CountedSteps, Three};
+use crate::calls::{CallCounts, CountedSteps, Three};
 use crate::evaluating::evaluate_twice;
-use crate::failure::Failure;
-use crate::row::{Handed, Job, Numbers, Part, Task};
+use crate::failure::PlayFailure;
+use crate::row::{Handed, Numbers, RowJob, RowPart, RowTask};
 use crate::session::play_session;
 use std::alloc::Global;
 use std::io::Write;
@@ -22,20 +22,20 @@ pub(crate) fn do_task<W: Write>(
     alloc: Global,
     mode: Mode,
     disk: &mut SimDisk,
-    task: Task,
-    calls: &Calls,
+    task: RowTask,
+    calls: &CallCounts,
     out: &mut W,
-) -> Result<(), Failure> {
-    let Task {
+) -> Result<(), PlayFailure> {
+    let RowTask {
         handed,
         numbers,
         job,
     } = task;
     match job {
-        Job::Session(mut parts) => {
+        RowJob::Session(mut parts) => {
             do_under(alloc, mode, disk, handed, numbers, &mut parts, calls, out)
         }
-        Job::Evaluate(values, tx) => {
+        RowJob::Evaluate(values, tx) => {
             let steps = CountedSteps { counts: calls };
             evaluate_twice(alloc, numbers.vars, &values, tx, &steps, calls, out)
         }
@@ -49,10 +49,10 @@ fn do_under<W: Write>(
     disk: &mut SimDisk,
     handed: Handed,
     numbers: Numbers,
-    parts: &mut [Part],
-    calls: &Calls,
+    parts: &mut [RowPart],
+    calls: &CallCounts,
     out: &mut W,
-) -> Result<(), Failure> {
+) -> Result<(), PlayFailure> {
     match handed {
         Handed::None => do_with_none(alloc, mode, disk, numbers, parts, calls, out),
         Handed::Builtin => do_with_builtins(alloc, mode, disk, numbers, parts, calls, out),
@@ -66,10 +66,10 @@ fn do_with_none<W: Write>(
     mode: Mode,
     disk: &mut SimDisk,
     numbers: Numbers,
-    parts: &mut [Part],
-    calls: &Calls,
+    parts: &mut [RowPart],
+    calls: &CallCounts,
     out: &mut W,
-) -> Result<(), Failure> {
+) -> Result<(), PlayFailure> {
     let table = Table::of(alloc, Vec::new(alloc), numbers.vars)?;
     play_session(alloc, mode, disk, numbers, parts, table, calls, out)
 }
@@ -80,10 +80,10 @@ fn do_with_builtins<W: Write>(
     mode: Mode,
     disk: &mut SimDisk,
     numbers: Numbers,
-    parts: &mut [Part],
-    calls: &Calls,
+    parts: &mut [RowPart],
+    calls: &CallCounts,
     out: &mut W,
-) -> Result<(), Failure> {
+) -> Result<(), PlayFailure> {
     let Three {
         first,
         second,
@@ -129,10 +129,10 @@ fn do_with_broken<W: Write>(
     mode: Mode,
     disk: &mut SimDisk,
     numbers: Numbers,
-    parts: &mut [Part],
-    calls: &Calls,
+    parts: &mut [RowPart],
+    calls: &CallCounts,
     out: &mut W,
-) -> Result<(), Failure> {
+) -> Result<(), PlayFailure> {
     let never = Box::new(
         alloc,
         |_values: &[i64]| -> bool

@@ -45,7 +45,7 @@ mod reading;
 mod row;
 mod session;
 
-use failure::Failure;
+use failure::PlayFailure;
 use playing::play;
 use reading::row_of;
 use std::alloc::Global;
@@ -79,7 +79,7 @@ fn run<R: Read, W: Write>(
     rt: &(impl Env + AllocGlobal),
     input: &mut R,
     output: &mut W,
-) -> Result<(), Failure> {
+) -> Result<(), PlayFailure> {
     let mode = mode_of(rt)?;
     let mut out = BufWriter::new(rt.alloc(), output)?;
     let played = play_input(rt.alloc(), mode, input, &mut out);
@@ -88,12 +88,12 @@ fn run<R: Read, W: Write>(
 }
 
 // The one word of the command line.
-fn mode_of(rt: &(impl Env + AllocGlobal)) -> Result<Mode, Failure> {
+fn mode_of(rt: &(impl Env + AllocGlobal)) -> Result<Mode, PlayFailure> {
     let word = env::args(rt)?.nth(1);
     match word.as_deref() {
         Some("step") => Ok(Mode::Step),
         Some("play") => Ok(Mode::Play),
-        _ => Err(Failure::Words),
+        _ => Err(PlayFailure::Words),
     }
 }
 
@@ -103,13 +103,13 @@ fn play_input<R: Read, W: Write>(
     mode: Mode,
     input: &mut R,
     out: &mut W,
-) -> Result<(), Failure> {
+) -> Result<(), PlayFailure> {
     let text = read_all(alloc, input)?;
     play(alloc, mode, row_of(alloc, &text)?, out)
 }
 
 // Reads all that is left of the input.
-fn read_all<R: Read>(alloc: Global, input: &mut R) -> Result<Vec<u8>, Failure> {
+fn read_all<R: Read>(alloc: Global, input: &mut R) -> Result<Vec<u8>, PlayFailure> {
     let mut text = Vec::new(alloc);
     input.read_to_end(&mut text)?;
     Ok(text)

@@ -1,11 +1,11 @@
 //! Plays a row, one act after another.
 
 use crate::Mode;
-use crate::calls::{Calls, no_calls};
+use crate::calls::{CallCounts, no_calls};
 use crate::device::touch;
-use crate::failure::Failure;
+use crate::failure::PlayFailure;
 use crate::handing::do_task;
-use crate::row::{Act, Numbers, Row};
+use crate::row::{Numbers, Row, RowAct};
 use std::alloc::Global;
 use std::io::Write;
 use tmem_disk::SimDisk;
@@ -18,7 +18,7 @@ pub(crate) fn play<W: Write>(
     mode: Mode,
     row: Row,
     out: &mut W,
-) -> Result<(), Failure> {
+) -> Result<(), PlayFailure> {
     let mut disk = formatted(alloc, row.numbers)?;
     let calls = no_calls(alloc)?;
     play_acts(alloc, mode, &mut disk, row, &calls, out)
@@ -37,9 +37,9 @@ fn play_acts<W: Write>(
     mode: Mode,
     disk: &mut SimDisk,
     row: Row,
-    calls: &Calls,
+    calls: &CallCounts,
     out: &mut W,
-) -> Result<(), Failure> {
+) -> Result<(), PlayFailure> {
     let Row { numbers: _, acts } = row;
     for act in acts {
         play_act(alloc, mode, disk, act, calls, out)?;
@@ -53,16 +53,16 @@ fn play_act<W: Write>(
     alloc: Global,
     mode: Mode,
     disk: &mut SimDisk,
-    act: Act,
-    calls: &Calls,
+    act: RowAct,
+    calls: &CallCounts,
     out: &mut W,
-) -> Result<(), Failure> {
+) -> Result<(), PlayFailure> {
     match act {
-        Act::Blank(size) => {
+        RowAct::Blank(size) => {
             *disk = SimDisk::new(alloc, size)?;
             Ok(())
         }
-        Act::Touch(act) => touch(alloc, disk, act, out),
-        Act::Do(task) => do_task(alloc, mode, disk, task, calls, out),
+        RowAct::Touch(act) => touch(alloc, disk, act, out),
+        RowAct::Do(task) => do_task(alloc, mode, disk, task, calls, out),
     }
 }

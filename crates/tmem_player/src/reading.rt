@@ -3,8 +3,8 @@ ghost use Rattle.std.specs.Prelude.{◌<◌, IfOk};
 ghost use Rattle.tmem_event.specs.Events.{NamesAttempt};
 
 use crate::draft::Draft;
-use crate::failure::Failure;
-use crate::row::{Act, Handed, Job, Numbers, Part, Row, Task, Touch};
+use crate::failure::PlayFailure;
+use crate::row::{Handed, Numbers, Row, RowAct, RowJob, RowPart, RowTask, Touch};
 use serde_json::Value;
 use std::alloc::Global;
 use tmem_disk::{DeviceFault, Fill};
@@ -13,11 +13,11 @@ use tmem_fault::Fault;
 use tmem_forms::{FormError, byte_of, pair_of, short_of, tx_of};
 
 /// Reads a row: an object with the keys `vars`, `slots` and `events`, and no other.
-pub(crate) fn row_of(alloc: Global, text: &[u8]) -> Result<Row, Failure> {
+pub(crate) fn row_of(alloc: Global, text: &[u8]) -> Result<Row, PlayFailure> {
     match Value::from_slice(alloc, text) {
         Ok(value) => Ok(row_of_value(alloc, &value)?),
-        Err(error) if error.is_memory() => Err(Failure::Refused(Fault::Memory)),
-        Err(_) => Err(Failure::NoRow),
+        Err(error) if error.is_memory() => Err(PlayFailure::Refused(Fault::Memory)),
+        Err(_) => Err(PlayFailure::NoRow),
     }
 }
 
@@ -92,10 +92,10 @@ fn add_one(alloc: Global, entry: &Value, draft: &mut Draft) -> Result<(), FormEr
 
 fn add_word(word: &str, draft: &mut Draft) -> Result<(), FormError> {
     match word {
-        "show" => draft.add_part(Part::Show),
-        "registers" => draft.add_part(Part::Registers),
-        "calls" => draft.add_part(Part::Calls),
-        "restart" => draft.add_act(Act::Touch(Touch::Restart)),
+        "show" => draft.add_part(RowPart::Show),
+        "registers" => draft.add_part(RowPart::Registers),
+        "calls" => draft.add_part(RowPart::Calls),
+        "restart" => draft.add_act(RowAct::Touch(Touch::Restart)),
         "flush" => draft.add_event(Event::Flush),
         "checkpoint" => draft.add_event(Event::Checkpoint),
         "look" => draft.add_event(Event::Look),
@@ -109,8 +109,8 @@ fn add_member(alloc: Global, key: &str, body: &Value, draft: &mut Draft) -> Resu
         "begin" | "turn" | "settle" => draft.add_event(event_of(alloc, key, body)?),
         "open" => add_opening(body, draft),
         "evaluate" => add_evaluation(alloc, body, draft),
-        "blank" => draft.add_act(Act::Blank(body.as_u64().ok_or(FormError::NoForm)?)),
-        _ => draft.add_act(Act::Touch(touch_of(alloc, key, body)?)),
+        "blank" => draft.add_act(RowAct::Blank(body.as_u64().ok_or(FormError::NoForm)?)),
+        _ => draft.add_act(RowAct::Touch(touch_of(alloc, key, body)?)),
     }
 }
 
@@ -169,17 +169,17 @@ fn handed_of(value: &Value) -> Option<Handed> {
 
 fn add_evaluation(alloc: Global, body: &Value, draft: &mut Draft) -> Result<(), FormError> {
     let job = evaluation_of(alloc, body)?;
-    draft.add_act(Act::Do(Task {
+    draft.add_act(RowAct::Do(RowTask {
         handed: Handed::None,
         numbers: draft.numbers(),
         job,
     }))
 }
 
-fn evaluation_of(alloc: Global, body: &Value) -> Result<Job, FormError> {
+fn evaluation_of(alloc: Global, body: &Value) -> Result<RowJob, FormError> {
     let (first, second) = pair_of(body)?;
     let values = values_of(alloc, first)?;
-    Ok(Job::Evaluate(values, tx_of(alloc, second)?))
+    Ok(RowJob::Evaluate(values, tx_of(alloc, second)?))
 }
 
 fn values_of(alloc: Global, value: &Value) -> Result<Vec<i64>, FormError> {

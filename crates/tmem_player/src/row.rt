@@ -11,7 +11,7 @@ use tmem_tree::Tx;
 #[derive(Drop)]
 pub(crate) struct Row {
     pub(crate) numbers: Numbers,
-    pub(crate) acts: Vec<Act>,
+    pub(crate) acts: Vec<RowAct>,
 }
 
 /// The numbers of a store.
@@ -23,21 +23,21 @@ pub(crate) struct Numbers {
 
 /// One thing that a row does with its device.
 #[derive(Drop)]
-pub(crate) enum Act {
+pub(crate) enum RowAct {
     /// Puts a device of so many zeros in its place.
     Blank(u64),
     /// Does something to the device that needs no store.
     Touch(Touch),
     /// Does something with closures.
-    Do(Task),
+    Do(RowTask),
 }
 
 /// What is done with closures, for which numbers and under which invariants.
 #[derive(Drop)]
-pub(crate) struct Task {
+pub(crate) struct RowTask {
     pub(crate) handed: Handed,
     pub(crate) numbers: Numbers,
-    pub(crate) job: Job,
+    pub(crate) job: RowJob,
 }
 
 /// What is done to a device that needs no store.
@@ -75,16 +75,16 @@ pub(crate) enum Handed {
 
 /// What is done with closures.
 #[derive(Drop)]
-pub(crate) enum Job {
+pub(crate) enum RowJob {
     /// Opens the device, and plays these parts on it.
-    Session(Vec<Part>),
+    Session(Vec<RowPart>),
     /// Evaluates a transaction in two ways, where the variables have these values, and each further one 0.
     Evaluate(Vec<i64>, Tx),
 }
 
 /// A part of what is played on one world.
 #[derive(Drop)]
-pub(crate) enum Part {
+pub(crate) enum RowPart {
     Events(Events),
     Show,
     /// Prints the registers of the last transaction that was answered with some.

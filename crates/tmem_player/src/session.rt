@@ -3,10 +3,10 @@ ghost use Rattle.std.specs.Prelude.{◌≡◌, IfOk};
 ghost use Rattle.tmem_world.specs.Represents.{numbers_of, HoldsSession};
 
 use crate::Mode;
-use crate::calls::{Calls, CountedSteps};
-use crate::failure::Failure;
+use crate::calls::{CallCounts, CountedSteps};
+use crate::failure::PlayFailure;
 use crate::printing::{print_fault, print_name, print_number, print_numbers};
-use crate::row::{Events, Numbers, Part};
+use crate::row::{Events, Numbers, RowPart};
 use std::alloc::Global;
 use std::io::{self, Write};
 use std::mem;
@@ -19,7 +19,7 @@ use tmem_tree::{REGISTERS, StoredSteps};
 use tmem_world::{Reply, Settled, World};
 
 /// A world, and how many variables it has.
-struct Session<T: Invariants, S: StoredSteps> {
+struct OpenWorld<T: Invariants, S: StoredSteps> {
     world: World<SimDisk, T, S>,
     vars: u16,
     // of the last transaction that was answered with some
@@ -33,11 +33,11 @@ pub(crate) fn play_session<T: Invariants + Drop, W: Write>(
     mode: Mode,
     disk: &mut SimDisk,
     numbers: Numbers,
-    parts: &mut [Part],
+    parts: &mut [RowPart],
     table: T,
-    calls: &Calls,
+    calls: &CallCounts,
     out: &mut W,
-) -> Result<(), Failure>
+) -> Result<(), PlayFailure>
     requires { T.vars table ≡ numbers.vars }
 {
     match opened(alloc, disk, numbers, table, CountedSteps { counts: calls }) {
@@ -57,14 +57,14 @@ fn opened<T: Invariants + Drop, S: StoredSteps + Drop>(
     numbers: Numbers,
     table: T,
     steps: S,
-) -> Result<Session<T, S>, Fault>
+) -> Result<OpenWorld<T, S>, Fault>
     requires { T.vars table ≡ numbers.vars }
     ensures { IfOk result (λ session. HoldsSession session.world) }
 {
     let Numbers { vars, slots } = numbers;
     let held = mem::replace(disk, SimDisk::new(alloc, 0)?);
     match World::open(alloc, held, vars, slots, table, steps) {
-        Ok(world) => Ok(Session {
+        Ok(world) => Ok(OpenWorld {
             world,
             vars,
             registers: [0; REGISTERS],
@@ -77,25 +77,25 @@ fn opened<T: Invariants + Drop, S: StoredSteps + Drop>(
 }
 
 // Prints why a device was not opened. The row is bad where something was to be played on it.
-fn refuse<W: Write>(fault: Fault, parts: &[Part], out: &mut W) -> Result<(), Failure> {
+fn refuse<W: Write>(fault: Fault, parts: &[RowPart], out: &mut W) -> Result<(), PlayFailure> {
     print_fault(fault, out)?;
     if parts.is_empty() {
         Ok(())
     } else {
-        Err(Failure::NoSession)
+        Err(PlayFailure::NoSession)
     }
 }
 
-impl<T: Invariants + Drop, S: StoredSteps + Drop> Session<T, S> {
+impl<T: Invariants + Drop, S: StoredSteps + Drop> OpenWorld<T, S> {
     // Prints how many transactions were found, and plays parts.
     fn play_parts<W: Write>(
         &mut self,
         alloc: Global,
         mode: Mode,
-        parts: &mut [Part],
-        calls: &Calls,
+        parts: &mut [RowPart],
+        calls: &CallCounts,
         out: &mut W,
-    ) -> Result<(), Failure>
+    ) -> Result<(), PlayFailure>
         requires { HoldsSession self.old.world }
     {
         writeln!(out, "opened {}", self.world.count())?;
@@ -111,15 +111,15 @@ impl<T: Invariants + Drop, S: StoredSteps + Drop> Session<T, S> {
         &mut self,
         alloc: Global,
         mode: Mode,
-        part: &mut Part,
-        calls: &Calls,
+        part: &mut RowPart,
+        calls: &CallCounts,
         out: &mut W,
-    ) -> Result<(), Failure> {
+    ) -> Result<(), PlayFailure> {
         match part {
-            Part::Show => Ok(self.show(out)?),
-            Part::Registers => Ok(print_registers(&self.registers, out)?),
-            Part::Calls => Ok(print_calls(calls, out)?),
-            Part::Events(events) => {
+            RowPart::Show => Ok(self.show(out)?),
+            RowPart::Registers => Ok(print_registers(&self.registers, out)?),
+            RowPart::Calls => Ok(print_calls(calls, out)?),
+            RowPart::Events(events) => {
                 let events = mem::replace(events, Events::new(alloc));
                 match mode {
                     Mode::Step => self.step_all(events, out),
@@ -130,7 +130,7 @@ impl<T: Invariants + Drop, S: StoredSteps + Drop> Session<T, S> {
     }
 
     // Plays events one by one.
-    fn step_all<W: Write>(&mut self, events: Events, out: &mut W) -> Result<(), Failure> {
+    fn step_all<W: Write>(&mut self, events: Events, out: &mut W) -> Result<(), PlayFailure> {
         let Events { list } = events;
         for event in list {
             let reply = self.world.step(event);
@@ -141,7 +141,7 @@ impl<T: Invariants + Drop, S: StoredSteps + Drop> Session<T, S> {
     }
 
     // Plays events as one list. Where the list as a whole is refused, one line says so.
-    fn play_all<W: Write>(&mut self, events: Events, out: &mut W) -> Result<(), Failure> {
+    fn play_all<W: Write>(&mut self, events: Events, out: &mut W) -> Result<(), PlayFailure> {
         let Events { list } = events;
         match self.world.play(list) {
             Ok(replies) => {
@@ -197,7 +197,7 @@ impl<T: Invariants + Drop, S: StoredSteps + Drop> Session<T, S> {
     }
 
     fn into_disk(self) -> SimDisk {
-        let Session {
+        let OpenWorld {
             world,
             vars: _,
             registers: _,
@@ -224,7 +224,7 @@ fn print_registers<W: Write>(registers: &[i64; REGISTERS], out: &mut W) -> io::R
 }
 
 // Prints how often closures and stored steps were called since the last time.
-fn print_calls<W: Write>(calls: &Calls, out: &mut W) -> io::Result<()> {
+fn print_calls<W: Write>(calls: &CallCounts, out: &mut W) -> io::Result<()> {
     let (tests, steps) = (calls.take_tests(), calls.take_steps());
     writeln!(out, "calls invariants={tests} steps={steps}")
 }

@@ -23,7 +23,7 @@ use tmem_core::{Core, Decision, MAX_WAITING, Settled};
 use tmem_effect::Effect;
 use tmem_fault::{Fault, Name};
 use tmem_invariants::Invariants;
-use tmem_spine::{CoreSide, JournalSide, Pass, Spine};
+use tmem_spine::{CoreSide, JournalSide, PassSide, Spine};
 use tmem_state::Batch;
 use tmem_tentative::{Attempt, Probe, Reads};
 
@@ -91,7 +91,7 @@ impl<N: StoreNaming, T: Invariants + Drop> CoreSeat<N, T> {
     pub fn decide(
         &mut self,
         spine: &Spine<N>,
-        pass: &mut Pass<N>,
+        pass: &mut PassSide<N>,
         attempt: &Attempt,
     ) -> Result<Decision, Fault>
         requires variables { IsForVariables (length N.opening.values) attempt.now }
@@ -110,7 +110,7 @@ impl<N: StoreNaming, T: Invariants + Drop> CoreSeat<N, T> {
     pub fn settle(
         &mut self,
         spine: &Spine<N>,
-        pass: &mut Pass<N>,
+        pass: &mut PassSide<N>,
         attempt: &Attempt,
     ) -> Result<Settled, Fault>
         requires variables { IsForVariables (length N.opening.values) attempt.now }
@@ -123,7 +123,7 @@ impl<N: StoreNaming, T: Invariants + Drop> CoreSeat<N, T> {
 
     /// Gives out a pass that knows nothing yet, under the mark that is next. Refused with `NoSeat` exactly where as
     /// many were given out as a spine has.
-    pub fn pass(&mut self, spine: &Spine<N>) -> Result<Pass<N>, Fault>
+    pub fn pass(&mut self, spine: &Spine<N>) -> Result<PassSide<N>, Fault>
         ensures pass { IfOk result (λ pass. pass ≡ new_pass self.old.given) }
         ensures given { IfOk result (λ _. (self.old.given < MOST_PASSES) × (self.new ≡ record self.old { given = self.old.given + 1 })) }
         ensures none { IfErr result (λ fault. (fault ≡ Fault.NoSeat) × (self.old.given ≡ MOST_PASSES) × (self.new ≡ self.old)) }
@@ -139,7 +139,7 @@ impl<N: StoreNaming, T: Invariants + Drop> CoreSeat<N, T> {
     }
 
     /// A pass knows all that is committed then, and the core learns how many are durable. Answers how many are committed.
-    pub fn meet(&mut self, spine: &Spine<N>, seat: &mut Pass<N>) -> u64
+    pub fn meet(&mut self, spine: &Spine<N>, seat: &mut PassSide<N>) -> u64
         ensures count { result ≡ count N.name.start self.new.committed }
         ensures core { self.new ≡ record self.old { trimmed = self.new.trimmed } }
         ensures trimmed { (self.old.trimmed ≤ self.new.trimmed) × (count N.name.start seat.old.seen ≤ self.new.trimmed) }
@@ -339,7 +339,7 @@ impl<N: StoreNaming, T: Invariants + Drop> CoreSeat<N, T> {
 fn enter<N: StoreNaming>(
     spine: &Spine<N>,
     side: &mut CoreSide<N>,
-    pass: &mut Pass<N>,
+    pass: &mut PassSide<N>,
     decision: &Result<Decision, Fault>,
     attempt: &Attempt,
 )

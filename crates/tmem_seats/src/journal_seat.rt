@@ -21,7 +21,7 @@ use tmem_disk::Disk;
 use tmem_fault::Fault;
 use tmem_invariants::Invariants;
 use tmem_journal::Journal;
-use tmem_spine::{JournalSide, Pass, Spine};
+use tmem_spine::{JournalSide, PassSide, Spine};
 use tmem_state::Batch;
 
 /// What was done to the log of a store since it was opened, and what is free there.
@@ -117,7 +117,7 @@ impl<D: Disk, N: StoreNaming> JournalSeat<D, N> {
 
     /// How many are durable. The pass then knows at least these, and its own effect at the number is among them, if it
     /// saw so many.
-    pub fn vouch(&mut self, spine: &Spine<N>, pass: &mut Pass<N>, number: u64) -> u64
+    pub fn vouch(&mut self, spine: &Spine<N>, pass: &mut PassSide<N>, number: u64) -> u64
         requires { number < count N.name.start pass.old.seen }
         ensures same { (side_of self.new ≡ side_of self.old) × (journal_of self.new ≡ journal_of self.old) }
         ensures answer { result ≡ count N.name.start (side_of self.old).durable }

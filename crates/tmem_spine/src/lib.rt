@@ -23,6 +23,6 @@ mod view;
 pub use laws::no_number_twice;
 pub use naming::Naming;
 pub use opened::Opened;
-pub use seats::{CoreSide, JournalSide, Pass};
+pub use seats::{CoreSide, JournalSide, PassSide};
 pub use spine::{MOST_PASSES, Spine};
 pub use view::{Entry, Law, Role, View};

@@ -48,12 +48,12 @@ impl<N: Naming> Model for JournalSide<N> {
 /// A caller's seat. Contracts see its mark, what it knows to be committed, what it saw to be durable, and its own effects.
 /// It may go to another thread, and is used with the spine that gave it.
 #[derive(Drop)]
-pub struct Pass<N: Naming> {
+pub struct PassSide<N: Naming> {
     pub(crate) place: Place<N>,
     pub(crate) answered: u64,
 }
 
-impl<N: Naming> Model for Pass<N> {
+impl<N: Naming> Model for PassSide<N> {
     ghost use Rattle.tmem_spine.specs.Seats.{IsPassOf};
     ghost use Rattle.tmem_spine.specs.Views.{PassRoleView, pass_role_view};
 
@@ -73,7 +73,7 @@ impl<N: Naming> CoreSide<N> {
     }
 }
 
-impl<N: Naming> Pass<N> {
+impl<N: Naming> PassSide<N> {
     /// The greatest answer that a look of this pass gave, and the opening count before any. What a pass saw is a prefix of
     /// what it knows, and its own effects stand there, at their numbers and under its mark.
     pub fn seen(&self) -> u64

@@ -6,7 +6,7 @@ ghost use Rattle.tmem_spine.specs.History.{count, entry, longer, Has, HasAt};
 ghost use Rattle.tmem_spine.specs.Views.{new_pass};
 
 use crate::naming::Naming;
-use crate::seats::{CoreSide, JournalSide, Pass};
+use crate::seats::{CoreSide, JournalSide, PassSide};
 use crate::view::{Law, View};
 use atomic_table::Table;
 use std::alloc::Global;
@@ -31,7 +31,7 @@ pub struct Spine<N: Naming> {
 
 impl<N: Naming> Spine<N> {
     /// Gives out a pass with a mark of its own, unless `MOST_PASSES` were given out.
-    pub fn pass(&self, core: &mut CoreSide<N>) -> Option<Pass<N>>
+    pub fn pass(&self, core: &mut CoreSide<N>) -> Option<PassSide<N>>
         ensures some { IfSome result (λ p. (p ≡ new_pass core.old.given) × (core.new ≡ record core.old { given = core.old.given + 1 })) }
         ensures few { IfSome result (λ _. core.old.given < MOST_PASSES) }
         ensures none { IfNone result ((core.old.given ≡ MOST_PASSES) × (core.new ≡ core.old)) }
@@ -41,7 +41,7 @@ impl<N: Naming> Spine<N> {
         }
         let place = self.give_step(&mut core.place);
         core.given += 1;
-        Some(Pass {
+        Some(PassSide {
             place,
             answered: self.start,
         })
@@ -49,7 +49,7 @@ impl<N: Naming> Spine<N> {
 
     /// The core learns how many are durable, for a pass beside it: at least as many as it knew of, and as the pass saw. What
     /// the pass knows is a prefix of what is committed.
-    pub fn trim(&self, core: &mut CoreSide<N>, pass: &mut Pass<N>) -> u64
+    pub fn trim(&self, core: &mut CoreSide<N>, pass: &mut PassSide<N>) -> u64
         ensures core { core.new ≡ record core.old { trimmed = result } }
         ensures pass { pass.new ≡ pass.old }
         ensures least { (core.old.trimmed ≤ result) × (count N.name.start pass.old.seen ≤ result) }
@@ -63,7 +63,7 @@ impl<N: Naming> Spine<N> {
 
     /// The core commits an effect for a pass, which then knows all that is committed and has the effect as its own. Answers
     /// the effect's number.
-    pub fn accept(&self, core: &mut CoreSide<N>, pass: &mut Pass<N>, effect: &Effect) -> u64
+    pub fn accept(&self, core: &mut CoreSide<N>, pass: &mut PassSide<N>, effect: &Effect) -> u64
         requires room { count N.name.start core.old.committed + 1 < 2 ^ 64 }
         requires begins { IsPrefix pass.old.known core.old.committed }
         ensures number { result ≡ count N.name.start core.old.committed }
@@ -77,7 +77,7 @@ impl<N: Naming> Spine<N> {
     }
 
     /// A pass meets the core: it knows all that is committed.
-    pub fn meet_core(&self, core: &mut CoreSide<N>, pass: &mut Pass<N>)
+    pub fn meet_core(&self, core: &mut CoreSide<N>, pass: &mut PassSide<N>)
         requires begins { IsPrefix pass.old.known core.old.committed }
         ensures core { core.new ≡ core.old }
         ensures pass { pass.new ≡ record pass.old { known = core.old.committed } }
@@ -130,7 +130,7 @@ impl<N: Naming> Spine<N> {
 
     /// A pass meets the journal: it knows at least what is durable. What it saw is a prefix of that, so its own effects below
     /// the number that it saw are durable, at their numbers.
-    pub fn meet_journal(&self, journal: &mut JournalSide<N>, pass: &mut Pass<N>)
+    pub fn meet_journal(&self, journal: &mut JournalSide<N>, pass: &mut PassSide<N>)
         ensures journal { journal.new ≡ journal.old }
         ensures pass { pass.new ≡ record pass.old { known = longer pass.old.known journal.old.durable } }
         ensures begins { IsPrefix pass.old.known pass.new.known }
@@ -149,7 +149,7 @@ impl<N: Naming> Spine<N> {
     }
 
     /// How many are durable, which the pass then saw. It takes no lock, and never answers less than before.
-    pub fn look(&self, pass: &mut Pass<N>) -> u64
+    pub fn look(&self, pass: &mut PassSide<N>) -> u64
         ensures pass { pass.new ≡ record pass.old { seen = pass.new.seen; known = longer pass.old.known pass.new.seen } }
         ensures answer { result ≡ count N.name.start pass.new.seen }
         ensures later { IsPrefix pass.old.seen pass.new.seen }

@@ -5,12 +5,12 @@ ghost use Rattle.std.specs.List.{list_any};
 ghost use Rattle.tmem_invariants.specs.Indices.{IsTouching, has_index, has_var};
 ghost use Rattle.tmem_invariants.specs.TableNames.{AreBelow};
 
-use crate::entry::Entry;
+use crate::entry::TableEntry;
 use std::alloc::{AllocError, Global};
 use tmem_invariants::with_index;
 
 // The indices of these invariants, by variable.
-pub(crate) fn indices_by_variable<E: Entry>(
+pub(crate) fn indices_by_variable<E: TableEntry>(
     alloc: Global,
     entries: &[E],
     vars: u16,

@@ -7,13 +7,13 @@ ghost use Rattle.tmem_invariants.specs.Indices.{AreAsked};
 ghost use Rattle.tmem_invariants.specs.TableNames.{AreBelow, AreDistinct, AreTableNames, has_name, name_at};
 ghost use Rattle.tmem_tables.specs.Verdicts.{IsVerdict};
 
-use crate::entry::{Entry, is_true};
+use crate::entry::{TableEntry, is_true};
 use crate::indices::{lowest_index, without_index};
 use tmem_fault::{Fault, Name};
 use tmem_invariants::MAX_INVARIANTS;
 
 // Why these make no table over so many variables, if they make none: `BadName` comes before `BadFootprint`.
-pub(crate) fn fault_of<E: Entry>(entries: &[E], vars: u16) -> Option<Fault>
+pub(crate) fn fault_of<E: TableEntry>(entries: &[E], vars: u16) -> Option<Fault>
     ensures { IsVerdict (AreTableNames (map E.name entries.now)) (All (λ entry. AreBelow vars (E.footprint entry)) entries.now) result }
 {
     if entries.len() > MAX_INVARIANTS || !have_distinct_names(entries) {
@@ -26,7 +26,7 @@ pub(crate) fn fault_of<E: Entry>(entries: &[E], vars: u16) -> Option<Fault>
 }
 
 // Whether no name stands twice.
-fn have_distinct_names<E: Entry>(entries: &[E]) -> bool
+fn have_distinct_names<E: TableEntry>(entries: &[E]) -> bool
     ensures { IsTrue result ↔ AreDistinct (map E.name entries.now) }
 {
     for (i, entry) in entries.iter().enumerate() {
@@ -38,7 +38,7 @@ fn have_distinct_names<E: Entry>(entries: &[E]) -> bool
 }
 
 // Whether each variable of a footprint is below a number.
-fn are_within<E: Entry>(entries: &[E], vars: u16) -> bool
+fn are_within<E: TableEntry>(entries: &[E], vars: u16) -> bool
     ensures { IsTrue result ↔ All (λ entry. AreBelow vars (E.footprint entry)) entries.now }
 {
     for entry in entries {
@@ -50,14 +50,14 @@ fn are_within<E: Entry>(entries: &[E], vars: u16) -> bool
 }
 
 // Whether each variable of its footprint is below a number.
-fn is_within<E: Entry>(entry: &E, vars: u16) -> bool
+fn is_within<E: TableEntry>(entry: &E, vars: u16) -> bool
     ensures { IsTrue result ↔ AreBelow vars (E.footprint entry.now) }
 {
     entry.footprint().iter().all(|var| *var < vars)
 }
 
 // The index of a name.
-pub(crate) fn index_among<E: Entry>(entries: &[E], name: &Name) -> Option<usize>
+pub(crate) fn index_among<E: TableEntry>(entries: &[E], name: &Name) -> Option<usize>
     ensures there { IsSome result ↔ IsTrue (has_name (map E.name entries.now) name.now) }
     ensures index { IfSome result (λ index. slice_get (map E.name entries.now) index ≡ Some name.now) }
 {
@@ -70,7 +70,11 @@ pub(crate) fn index_among<E: Entry>(entries: &[E], name: &Name) -> Option<usize>
 }
 
 // The first index of a set whose invariant is false. The set is of those that are asked for, by name.
-pub(crate) fn test_indices<E: Entry>(entries: &[E], values: &[i64], indices: u64) -> Option<usize>
+pub(crate) fn test_indices<E: TableEntry>(
+    entries: &[E],
+    values: &[i64],
+    indices: u64,
+) -> Option<usize>
     requires { All (λ entry. AreBelow (length values.now) (E.footprint entry)) entries.now }
     ensures within { IfSome result (λ index. index < length entries.now) }
     ensures first { (m : Meanings) (asked : List ℕ → Bool) → All (λ entry. IsMeant m (E.name entry) (E.footprint entry) (E.answers entry)) entries.now

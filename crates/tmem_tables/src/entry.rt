@@ -12,7 +12,7 @@ use tmem_invariants::MAX_FOOTPRINT;
 
 /// A yes or no for the values of a few variables, with the name that it is known by in every session. It is a closure or
 /// data: a table asks no more of it than this.
-pub trait Entry: Drop {
+pub trait TableEntry: Drop {
     /// What it is known by.
     ghost name: { Self → List ℕ };
 
@@ -43,7 +43,7 @@ pub trait Entry: Drop {
 }
 
 // Whether an entry is true of a map. It is handed the values of its footprint, and nothing else.
-pub(crate) fn is_true<E: Entry>(entry: &E, values: &[i64]) -> bool
+pub(crate) fn is_true<E: TableEntry>(entry: &E, values: &[i64]) -> bool
     requires { AreBelow (length values.now) (E.footprint entry.now) }
     ensures { (m : Meanings) → IsMeant m (E.name entry.now) (E.footprint entry.now) (E.answers entry.now)
         → result ≡ holds m values.now (E.name entry.now) }

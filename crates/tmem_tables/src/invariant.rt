@@ -4,7 +4,7 @@ ghost use Rattle.std.specs.Prelude.{◌≡◌, ◌↔◌, ℕ, ◌≤◌, length
 ghost use Rattle.tmem_invariants.specs.Answers.{MayCall, HasMeaning};
 ghost use Rattle.tmem_invariants.specs.TableNames.{AreDistinct, IsFootprint};
 
-use crate::entry::Entry;
+use crate::entry::TableEntry;
 use crate::footprint::is_distinct;
 use tmem_fault::{Fault, Name};
 use tmem_invariants::MAX_FOOTPRINT;
@@ -53,7 +53,7 @@ impl Invariant {
     }
 }
 
-impl Entry for Invariant {
+impl TableEntry for Invariant {
     ghost name = { λ invariant. invariant.name };
 
     ghost footprint = { λ invariant. invariant.footprint.items };

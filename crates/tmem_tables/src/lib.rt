@@ -1,6 +1,6 @@
 //! Tables of invariants.
 //!
-//! An `Entry` is one invariant, data or a closure: `Invariant` keeps a closure with the meaning that its maker stated. A table tests
+//! An `TableEntry` is one invariant, data or a closure: `Invariant` keeps a closure with the meaning that its maker stated. A table tests
 //! all its entries, or those alone that a change can have broken, to the same answer: for each variable it knows the entries over it.
 //! `Table` has closures, and `TableOf` data of one kind.
 #![tactic(auto)]
@@ -14,7 +14,7 @@ mod invariant;
 mod table;
 mod table_of;
 
-pub use entry::Entry;
+pub use entry::TableEntry;
 pub use footprint::first_repeated;
 pub use invariant::{Invariant, Test};
 pub use table::Table;

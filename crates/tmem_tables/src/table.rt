@@ -7,7 +7,7 @@ ghost use Rattle.tmem_invariants.specs.TableNames.{AreBelow, AreTableNames, AreD
 
 use crate::by_variable::{indices_by_variable, indices_touched};
 use crate::entries::{fault_of, index_among, test_indices};
-use crate::entry::Entry;
+use crate::entry::TableEntry;
 use crate::invariant::{Invariant, Test};
 use std::alloc::Global;
 use tmem_fault::{Fault, Name};

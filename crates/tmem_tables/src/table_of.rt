@@ -7,7 +7,7 @@ ghost use Rattle.tmem_invariants.specs.TableNames.{AreBelow, AreTableNames, AreD
 
 use crate::by_variable::{indices_by_variable, indices_touched};
 use crate::entries::{fault_of, index_among, test_indices};
-use crate::entry::Entry;
+use crate::entry::TableEntry;
 use std::alloc::Global;
 use tmem_fault::{Fault, Name};
 use tmem_invariants::Invariants;
@@ -15,7 +15,7 @@ use tmem_invariants::Invariants;
 /// Invariants in order, over some number of variables: of any kind that is data. Those that are closures have `Table`, which
 /// contracts of other crates can name.
 #[derive(Drop)]
-pub struct TableOf<E: Entry> {
+pub struct TableOf<E: TableEntry> {
     /// The invariants, in order.
     pub entries: Vec<E>,
     /// How many variables there are.
@@ -29,7 +29,7 @@ pub struct TableOf<E: Entry> {
     ghost touching: { (var : ℕ) → IsTouching (map E.footprint entries.items) var (slice_index_or by_variable.items var 0) },
 }
 
-impl<E: Entry> TableOf<E> {
+impl<E: TableEntry> TableOf<E> {
     /// The table. Refused with `BadName` where there are more than `MAX_INVARIANTS` or a name stands twice, else with
     /// `BadFootprint` where a footprint has a variable that is not below `vars`, else for want of memory.
     pub fn of(alloc: Global, entries: Vec<E>, vars: u16) -> Result<TableOf<E>, Fault>
@@ -75,7 +75,7 @@ impl<E: Entry> TableOf<E> {
     }
 }
 
-impl<E: Entry> Invariants for TableOf<E> {
+impl<E: TableEntry> Invariants for TableOf<E> {
     ghost names = { λ table. map E.name table.entries.items };
 
     ghost footprints = { λ table. map E.footprint table.entries.items };

@@ -7,7 +7,7 @@ use std::marker::Brand;
 use std::test::Fail;
 use std::thread::{Threads, join};
 use tmem_effect::Effect;
-use tmem_spine::{CoreSide, JournalSide, Naming, Opened, Pass, Spine};
+use tmem_spine::{CoreSide, JournalSide, Naming, Opened, PassSide, Spine};
 
 const START: u64 = 5;
 
@@ -22,8 +22,8 @@ fn told<N: Naming>(
     spine: &Spine<N>,
     core: &mut CoreSide<N>,
     journal: &mut JournalSide<N>,
-    writer: &mut Pass<N>,
-    reader: &mut Pass<N>,
+    writer: &mut PassSide<N>,
+    reader: &mut PassSide<N>,
 ) -> Told
     requires start { N.name.start ≡ 5 }
     requires core { core.old.committed ≡ [] }
@@ -98,7 +98,7 @@ fn writes<N: Naming>(
     spine: &Spine<N>,
     mut core: CoreSide<N>,
     mut journal: JournalSide<N>,
-    mut pass: Pass<N>,
+    mut pass: PassSide<N>,
 ) -> u64
     requires start { N.name.start ≡ 5 }
     requires core { core.committed ≡ [] }
@@ -116,7 +116,7 @@ fn writes<N: Naming>(
 }
 
 // Looks again and again. True where no answer was less than the one before.
-fn looks<N: Naming>(spine: &Spine<N>, mut pass: Pass<N>) -> (bool, Pass<N>) {
+fn looks<N: Naming>(spine: &Spine<N>, mut pass: PassSide<N>) -> (bool, PassSide<N>) {
     let mut ascends = true;
     for _ in 0..TURNS {
         let before = pass.seen();
@@ -127,7 +127,10 @@ fn looks<N: Naming>(spine: &Spine<N>, mut pass: Pass<N>) -> (bool, Pass<N>) {
 }
 
 // Two passes. What is committed stays.
-fn two_passes<N: Naming>(spine: &Spine<N>, core: &mut CoreSide<N>) -> Option<(Pass<N>, Pass<N>)>
+fn two_passes<N: Naming>(
+    spine: &Spine<N>,
+    core: &mut CoreSide<N>,
+) -> Option<(PassSide<N>, PassSide<N>)>
     ensures { core.new.committed ≡ core.old.committed }
 {
     let writer = spine.pass(core)?;
@@ -141,8 +144,8 @@ fn at_once<N: Naming + Send + Sync, R: Threads + Sync>(
     spine: &Spine<N>,
     core: CoreSide<N>,
     journal: JournalSide<N>,
-    writer: Pass<N>,
-    reader: Pass<N>,
+    writer: PassSide<N>,
+    reader: PassSide<N>,
 ) -> (u64, bool, u64)
     requires start { N.name.start ≡ 5 }
     requires core { core.committed ≡ [] }

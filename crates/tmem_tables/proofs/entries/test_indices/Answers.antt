@@ -9,35 +9,35 @@ use Rattle.tmem_tables.proofs.entries.test_indices.Goals as goal
 
 pub returns-in_err-entry-clause-first : goal.returns-in_err-entry-clause-first
 returns-in_err-entry-clause-first g c = λ m asked stated asks.
-    let names = map g.E.Entry.name c.args.entries.now in
+    let names = map g.E.TableEntry.name c.args.entries.now in
     let past : length c.args.entries.now ≤ c.lowest_index-index.result = search rules in
     rw c.from_residual.ensures (tested-all (holds m c.args.values.now) names c.args.indices c.loop-left.left (c.loop-left.invariant m stated) asked asks
-    (λ index within. c.lowest_index-index.ensures.lowest index (omega (arith, past, within, length-map c.args.entries.now g.E.Entry.name))))
+    (λ index within. c.lowest_index-index.ensures.lowest index (omega (arith, past, within, length-map c.args.entries.now g.E.TableEntry.name))))
 
 pub returns-then-not-is_true-clause-first : goal.returns-then-not-is_true-clause-first
 returns-then-not-is_true-clause-first g c = λ m asked stated asks.
-    let names = map g.E.Entry.name c.args.entries.now in
+    let names = map g.E.TableEntry.name c.args.entries.now in
     let entry = c.in_ok-entry.entry.now in
     let within : c.lowest_index-index.result < length c.args.entries.now = search rules in
     let is = c.in_ok-entry.ensures.lookup.1 in
-    let here = All_read c.args.entries.now (λ entry. IsMeant m (g.E.Entry.name entry) (g.E.Entry.footprint entry) (g.E.Entry.answers entry)) c.lowest_index-index.result entry within is stated in
+    let here = All_read c.args.entries.now (λ entry. IsMeant m (g.E.TableEntry.name entry) (g.E.TableEntry.footprint entry) (g.E.TableEntry.answers entry)) c.lowest_index-index.result entry within is stated in
     tested-here (holds m c.args.values.now) names c.args.indices c.loop-left.left (c.loop-left.invariant m stated) asked asks
-    c.lowest_index-index.result (g.E.Entry.name entry) (slice_get-map_read c.args.entries.now g.E.Entry.name c.lowest_index-index.result entry within is)
+    c.lowest_index-index.result (g.E.TableEntry.name entry) (slice_get-map_read c.args.entries.now g.E.TableEntry.name c.lowest_index-index.result entry within is)
     c.lowest_index-index.ensures.there c.lowest_index-index.ensures.lowest (sym (c.is_true.ensures m here) ∙ c.if-not-is_true.true)
 
 pub loop-left-preserved : goal.loop-left-preserved
 loop-left-preserved g c = λ m stated.
-    let names = map g.E.Entry.name c.args.entries.now in
+    let names = map g.E.TableEntry.name c.args.entries.now in
     let entry = c.in_ok-entry.entry.now in
     let within : c.lowest_index-index.result < length c.args.entries.now = search rules in
     let is = c.in_ok-entry.ensures.lookup.1 in
-    let here = All_read c.args.entries.now (λ entry. IsMeant m (g.E.Entry.name entry) (g.E.Entry.footprint entry) (g.E.Entry.answers entry)) c.lowest_index-index.result entry within is stated in
-    let at = slice_get-map_read c.args.entries.now g.E.Entry.name c.lowest_index-index.result entry within is in
+    let here = All_read c.args.entries.now (λ entry. IsMeant m (g.E.TableEntry.name entry) (g.E.TableEntry.footprint entry) (g.E.TableEntry.answers entry)) c.lowest_index-index.result entry within is stated in
+    let at = slice_get-map_read c.args.entries.now g.E.TableEntry.name c.lowest_index-index.result entry within is in
     tested-more (holds m c.args.values.now) names c.args.indices c.loop-left.left (c.loop-left.invariant m stated) c.lowest_index-index.result c.without_index-left.result c.without_index-left.ensures.others
-    (g.E.Entry.name entry) at (sym (c.is_true.ensures m here) ∙ c.if-not-is_true.false)
+    (g.E.TableEntry.name entry) at (sym (c.is_true.ensures m here) ∙ c.if-not-is_true.false)
 
 pub returns-clause-first : goal.returns-clause-first
 returns-clause-first g c = λ m asked stated asks.
-    let names = map g.E.Entry.name c.args.entries.now in
+    let names = map g.E.TableEntry.name c.args.entries.now in
     tested-all (holds m c.args.values.now) names c.args.indices c.loop-left.left (c.loop-left.invariant m stated) asked asks
     (λ index within. ap (λ n. has_index n index) c.loop-left-test.false ∙ has_index-zero index)

@@ -5,12 +5,12 @@ use Rattle.tmem_tables.proofs.table_of.TableOfInvariants.missing.Goals as goal
 
 pub returns-then-is_none : goal.returns-then-is_none
 returns-then-is_none g c =
-    sym (find_here (lacks (map g.E.Entry.name c.args.self.now.entries.items)) c.args.registered.now c.loop-name.name-index c.name-item.result (slice_get_read c.args.registered.now c.loop-name.name-index c.name-item.result c.loop-name-test.true c.name-item.is) c.loop-name.invariant (lacks_from_none _ _ c.index_of.ensures.there.1 (c.is_none.ensures ∙ ap not c.if-is_none.true)))
+    sym (find_here (lacks (map g.E.TableEntry.name c.args.self.now.entries.items)) c.args.registered.now c.loop-name.name-index c.name-item.result (slice_get_read c.args.registered.now c.loop-name.name-index c.name-item.result c.loop-name-test.true c.name-item.is) c.loop-name.invariant (lacks_from_none _ _ c.index_of.ensures.there.1 (c.is_none.ensures ∙ ap not c.if-is_none.true)))
 
 pub loop-name-preserved : goal.loop-name-preserved
 loop-name-preserved g c =
-    list_any-take_more (lacks (map g.E.Entry.name c.args.self.now.entries.items)) c.args.registered.now c.loop-name.name-index c.name-item.result (slice_get_read c.args.registered.now c.loop-name.name-index c.name-item.result c.loop-name-test.true c.name-item.is) c.loop-name.invariant (ap not (c.index_of.ensures.there.0 (c.is_none.ensures ∙ ap not c.if-is_none.false)))
+    list_any-take_more (lacks (map g.E.TableEntry.name c.args.self.now.entries.items)) c.args.registered.now c.loop-name.name-index c.name-item.result (slice_get_read c.args.registered.now c.loop-name.name-index c.name-item.result c.loop-name-test.true c.name-item.is) c.loop-name.invariant (ap not (c.index_of.ensures.there.0 (c.is_none.ensures ∙ ap not c.if-is_none.false)))
 
 pub returns : goal.returns
 returns g c =
-    sym (find_none (lacks (map g.E.Entry.name c.args.self.now.entries.items)) c.args.registered.now (list_any_whole (lacks (map g.E.Entry.name c.args.self.now.entries.items)) c.args.registered.now c.loop-name.name-index c.loop-name-test.false c.loop-name.invariant))
+    sym (find_none (lacks (map g.E.TableEntry.name c.args.self.now.entries.items)) c.args.registered.now (list_any_whole (lacks (map g.E.TableEntry.name c.args.self.now.entries.items)) c.args.registered.now c.loop-name.name-index c.loop-name-test.false c.loop-name.invariant))

@@ -5,4 +5,4 @@ use Rattle.tmem_tables.proofs.table_of.TableOfInvariants.missing.Given as goal
 
 abbrev pub invariant-loop-name : goal.invariant-loop-name
 invariant-loop-name g l =
-    list_any (lacks (map g.E.Entry.name l.self.entries.items)) (take l.name-index l.registered) ≡ false
+    list_any (lacks (map g.E.TableEntry.name l.self.entries.items)) (take l.name-index l.registered) ≡ false
