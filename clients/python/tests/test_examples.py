@@ -3,6 +3,7 @@
 import glob
 import importlib.util
 import os
+import re
 import shutil
 import signal
 import subprocess
@@ -135,6 +136,23 @@ class Shell(StoreCase):
             good = f"set a 5\n\nadd a 1\n{end}\nset a 9\n"
             self.assertEqual(run([sys.executable, "-m", "tmem", self.path], input=good), (0, "a = 5\na = 6\n", ""))
 
+    def test_its_other_words(self):
+        self.store.run(lambda t: (t.check("solvent"), t.__setitem__("a", 4)))
+        self.store.close()
+        usage = {"get": "get VARIABLE ..", "add a": "add VARIABLE NUMBER ..", "add a 1 b": "add VARIABLE NUMBER ..", "set": "set VARIABLE VALUE .."}
+        usage.update({"check": "check INVARIANT ..", "retire": "retire INVARIANT ..", "wait": "wait VARIABLE", "wait a b": "wait VARIABLE"})
+        self.assertEqual(run([sys.executable, "-m", "tmem", self.path], input="\n".join(usage)), (1, "\n".join([*usage.values(), ""]), ""))
+        given = "retire solvent\ncheck solvent balanced\nadd a -4 b 1\n.stats\n.help\n"
+        status, printed, told = run([sys.executable, "-m", "tmem", self.path], input=given)
+        self.assertEqual((status, told), (0, ""))
+        first, second, a, b, *stats = printed.splitlines()
+        self.assertEqual([first, second, a, b], ["registered: none", "registered: solvent, balanced", "a = 0", "b = 1"])
+        self.assertEqual(stats[0:1], ["committed 3"])
+        self.assertIn("waiting 0", stats)
+        # Each of its words is in the help, with what follows it.
+        for line in {*usage.values(), ".state", ".names", ".stats", ".checkpoint", ".help", ".quit, quit, exit"}:
+            self.assertRegex(printed, f"(?m)^{re.escape(line)}  ")
+
     def test_it_ends_with_the_store(self):
         self.store.close()
         shell = subprocess.Popen([sys.executable, "-m", "tmem", self.path], stdin=subprocess.PIPE, stdout=subprocess.PIPE, stderr=subprocess.PIPE, text=True)
@@ -196,6 +214,17 @@ class Shell(StoreCase):
         self.assertTrue(os.path.exists(history))
         # Where no history can be kept, nothing is said of it.
         self.assertEqual(run([sys.executable, "-c", script, self.path], env={**env, "TMEM_HISTORY": f"{history}/none"})[::2], (0, ""))
+
+
+class ShellByHub(HubCase):
+    def test_it_waits(self):
+        self.set(a=5)
+        shell = self.in_thread(run, [sys.executable, "-m", "tmem", f"unix:{self.path}.sock"], input="wait a\nget a b\n")
+        self.until(lambda: self.store.stats()["waiting"] == 1)
+        self.set(b=1)
+        self.assertEqual((self.store.stats()["waiting"], shell.is_running()), (1, True))
+        self.set(a=0)
+        self.assertEqual(shell.result(), (0, "a = 0\na = 0\nb = 1\n", ""))
 
 
 class InC(HubCase):
