@@ -33,6 +33,8 @@ class Raw:
 
     def __init__(self, path):
         self.socket = socket.socket(socket.AF_UNIX)
+        # (so that a test fails where an answer does not come)
+        self.socket.settimeout(60)
         self.socket.connect(path)
         self.lines = self.socket.makefile("rb")
         self.first = json.loads(self.lines.readline())
@@ -244,6 +246,27 @@ class HubTests(HubCase):
         client.socket.close()
         client.lines.close()
         self.assertEqual(self.store.get("b"), 0)
+
+    def test_what_a_dead_client_sent_may_come_late(self):
+        """Behind a transaction that frees its leases: it takes one once more, unless that has written what it read."""
+        def free(t):
+            t["a"] = 0
+            t["x"] += 1
+
+        for read, wanted in ((b"[[0,0]]", 7), (b"[[0,0],[2,1]]", 0)):
+            client = self.raw()
+            # (the last line lacks its break, so the hub hands it on once the client is gone)
+            client.send(b'{"id":1,"settle":{"reads":%s,"writes":[[0,7]]}}' % read)
+            self.store.run(free)
+            before = self.attempted()
+            client.close()
+            with self.subTest(read=read):
+                self.until(lambda: self.attempted() == before + 1)
+                self.assertEqual(self.store.get("a"), wanted)
+
+    def attempted(self):
+        stats = self.store.stats()
+        return stats["committed"] + stats["conflicts"]
 
     def test_pieces_of_a_line(self):
         client = self.raw()
