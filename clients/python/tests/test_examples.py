@@ -1,6 +1,7 @@
 """The examples print what stands beside them; the shell and the one in C too; and the package installs."""
 
 import glob
+import importlib.machinery
 import importlib.util
 import os
 import re
@@ -11,6 +12,7 @@ import sys
 import tempfile
 import time
 import unittest
+from unittest import mock
 
 from support import TOP, HubCase, StoreCase
 
@@ -248,6 +250,28 @@ class InC(HubCase):
         self.assertEqual(self.store.get(0, 1), (0, 6))
         self.assertEqual(run([program, socket])[0], 2)
         self.assertEqual(run([program, f"{socket}.none", "7"]), (1, "", f"{socket}.none: No such file or directory\n"))
+
+
+class WrongClients(unittest.TestCase):
+    """The bugs that trials/wrong_clients plants, which takes too long for each run of these tests."""
+
+    def test_each_is_an_edit_of_the_package_and_names_tests(self):
+        path = os.path.join(TOP, "trials", "wrong_clients")
+        loader = importlib.machinery.SourceFileLoader("wrong_clients", path)
+        trial = importlib.util.module_from_spec(importlib.util.spec_from_loader("wrong_clients", loader))
+        # (it lies beside the package, where nothing is to be left)
+        with mock.patch("sys.dont_write_bytecode", True):
+            loader.exec_module(trial)
+        self.assertGreater(len(trial.WRONG), 100)
+        for name, (file, old, new, tests, *more) in trial.WRONG.items():
+            with self.subTest(name=name), open(os.path.join(TOP, file), encoding="utf-8") as it:
+                text = it.read()
+                for here, there in [(old, new), *zip(more[::2], more[1::2])]:
+                    self.assertEqual(text.count(here), 1)
+                    text = text.replace(here, there)
+                compile(text, file, "exec")
+                found = unittest.defaultTestLoader.loadTestsFromNames(tests.split())
+                self.assertEqual((found.countTestCases() > 0, "_FailedTest" in str(found)), (True, False))
 
 
 class Installed(unittest.TestCase):

@@ -2,10 +2,12 @@
 
 import contextlib
 import fcntl
+import json
 import os
 import pty
 import select
 import signal
+import socket
 import struct
 import subprocess
 import sys
@@ -14,6 +16,7 @@ import time
 import unittest
 
 from support import PROGRAM, HubCase, StoreCase, tmem
+from test_hub import Raw
 
 # A client that waits for `b`, and says so once it does. After an interrupt it goes on with its store.
 CLIENT = """
@@ -165,6 +168,21 @@ class HubEnds(HubCase):
         self.assertFalse(any(it.done() for it in answers))
         return answers
 
+    def test_what_can_go_on_as_a_client_ends_its_input_goes_on(self):
+        """Its lines come to the program in one piece, behind which those that wait are attempted, before they are taken back."""
+        client = Raw(f"{self.path}.sock")
+        self.addCleanup(client.close)
+        os.kill(self.program, signal.SIGSTOP)
+        client.send(b'{"id":1,"changed":[[1,0]]}\n{"id":2,"settle":{"writes":[[1,4]]}}\n{"id":3,"changed":[[0,0]]}\n')
+        client.socket.shutdown(socket.SHUT_WR)
+        self.until(lambda: not unread(client.socket))
+        # (it finds the end too before the program goes on)
+        time.sleep(0.3)
+        self.go_on()
+        found = [json.loads(line) for line in client.lines]
+        self.assertEqual([it["id"] for it in found], [2, 1, 3])
+        self.assertEqual((found[1].get("values"), found[2].get("word")), ([[1, 4]], "closed"))
+
     def test_nobody_is_read_while_the_program_is_behind(self):
         os.kill(self.program, signal.SIGSTOP)
         ours = self.store._link.stream._socket
@@ -185,9 +203,9 @@ class HubEnds(HubCase):
         return before and len(answers) == before
 
 
-def unread(socket):
+def unread(connection):
     """How many bytes the other end of a connection has not read."""
-    return struct.unpack("i", fcntl.ioctl(socket, termios.TIOCOUTQ, bytes(4)))[0]
+    return struct.unpack("i", fcntl.ioctl(connection, termios.TIOCOUTQ, bytes(4)))[0]
 
 
 class Words(StoreCase):
