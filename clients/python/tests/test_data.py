@@ -26,6 +26,7 @@ class Data(StoreCase):
         with self.assertRaises(tmem.Fault) as caught:
             self.store.do({"put": [16, 1]})
         self.assertEqual((caught.exception.number, caught.exception.word, caught.exception.cause), (12, "badplan", 5))
+        self.assertRegex(str(caught.exception), "^fault 12 badplan 5: .*register")
         with self.assertRaises(tmem.NoRequest) as caught:
             self.store.do({"put": [1]})
 
@@ -101,6 +102,9 @@ class Data(StoreCase):
             self.store.keep("x", {1, 2})
         with self.assertRaises(ValueError):
             self.store.submit({"id": 1, "get": [0]})
+        for number, error in ((1.5, TypeError), ("1", TypeError), (True, TypeError), (2**63, OverflowError)):
+            with self.assertRaises(error):
+                self.store.call("bump", 1, number)
         # None of these was counted as a line: the next line that is no request still finds who sent it.
         with self.assertRaises(tmem.NoRequest):
             self.store.submit({"do": {"put": [0]}}).result(timeout=20)

@@ -1,8 +1,10 @@
 """The examples print what stands beside them; the shell and the one in C too; and the package installs."""
 
 import glob
+import importlib.machinery
 import importlib.util
 import os
+import re
 import shutil
 import signal
 import subprocess
@@ -10,6 +12,7 @@ import sys
 import tempfile
 import time
 import unittest
+from unittest import mock
 
 from support import TOP, HubCase, StoreCase
 
@@ -135,6 +138,23 @@ class Shell(StoreCase):
             good = f"set a 5\n\nadd a 1\n{end}\nset a 9\n"
             self.assertEqual(run([sys.executable, "-m", "tmem", self.path], input=good), (0, "a = 5\na = 6\n", ""))
 
+    def test_its_other_words(self):
+        self.store.run(lambda t: (t.check("solvent"), t.__setitem__("a", 4)))
+        self.store.close()
+        usage = {"get": "get VARIABLE ..", "add a": "add VARIABLE NUMBER ..", "add a 1 b": "add VARIABLE NUMBER ..", "set": "set VARIABLE VALUE .."}
+        usage.update({"check": "check INVARIANT ..", "retire": "retire INVARIANT ..", "wait": "wait VARIABLE", "wait a b": "wait VARIABLE"})
+        self.assertEqual(run([sys.executable, "-m", "tmem", self.path], input="\n".join(usage)), (1, "\n".join([*usage.values(), ""]), ""))
+        given = "retire solvent\ncheck solvent balanced\nadd a -4 b 1\n.stats\n.help\n"
+        status, printed, told = run([sys.executable, "-m", "tmem", self.path], input=given)
+        self.assertEqual((status, told), (0, ""))
+        first, second, a, b, *stats = printed.splitlines()
+        self.assertEqual([first, second, a, b], ["registered: none", "registered: solvent, balanced", "a = 0", "b = 1"])
+        self.assertEqual(stats[0:1], ["committed 3"])
+        self.assertIn("waiting 0", stats)
+        # Each of its words is in the help, with what follows it.
+        for line in {*usage.values(), ".state", ".names", ".stats", ".checkpoint", ".help", ".quit, quit, exit"}:
+            self.assertRegex(printed, f"(?m)^{re.escape(line)}  ")
+
     def test_it_ends_with_the_store(self):
         self.store.close()
         shell = subprocess.Popen([sys.executable, "-m", "tmem", self.path], stdin=subprocess.PIPE, stdout=subprocess.PIPE, stderr=subprocess.PIPE, text=True)
@@ -198,6 +218,17 @@ class Shell(StoreCase):
         self.assertEqual(run([sys.executable, "-c", script, self.path], env={**env, "TMEM_HISTORY": f"{history}/none"})[::2], (0, ""))
 
 
+class ShellByHub(HubCase):
+    def test_it_waits(self):
+        self.set(a=5)
+        shell = self.in_thread(run, [sys.executable, "-m", "tmem", f"unix:{self.path}.sock"], input="wait a\nget a b\n")
+        self.until(lambda: self.store.stats()["waiting"] == 1)
+        self.set(b=1)
+        self.assertEqual((self.store.stats()["waiting"], shell.is_running()), (1, True))
+        self.set(a=0)
+        self.assertEqual(shell.result(), (0, "a = 0\na = 0\nb = 1\n", ""))
+
+
 class InC(HubCase):
     shape = {"vars": 2, "slots": 4, "invariants": []}
 
@@ -219,6 +250,28 @@ class InC(HubCase):
         self.assertEqual(self.store.get(0, 1), (0, 6))
         self.assertEqual(run([program, socket])[0], 2)
         self.assertEqual(run([program, f"{socket}.none", "7"]), (1, "", f"{socket}.none: No such file or directory\n"))
+
+
+class WrongClients(unittest.TestCase):
+    """The bugs that trials/wrong_clients plants, which takes too long for each run of these tests."""
+
+    def test_each_is_an_edit_of_the_package_and_names_tests(self):
+        path = os.path.join(TOP, "trials", "wrong_clients")
+        loader = importlib.machinery.SourceFileLoader("wrong_clients", path)
+        trial = importlib.util.module_from_spec(importlib.util.spec_from_loader("wrong_clients", loader))
+        # (it lies beside the package, where nothing is to be left)
+        with mock.patch("sys.dont_write_bytecode", True):
+            loader.exec_module(trial)
+        self.assertGreater(len(trial.WRONG), 100)
+        for name, (file, old, new, tests, *more) in trial.WRONG.items():
+            with self.subTest(name=name), open(os.path.join(TOP, file), encoding="utf-8") as it:
+                text = it.read()
+                for here, there in [(old, new), *zip(more[::2], more[1::2])]:
+                    self.assertEqual(text.count(here), 1)
+                    text = text.replace(here, there)
+                compile(text, file, "exec")
+                found = unittest.defaultTestLoader.loadTestsFromNames(tests.split())
+                self.assertEqual((found.countTestCases() > 0, "_FailedTest" in str(found)), (True, False))
 
 
 class Installed(unittest.TestCase):

@@ -12,6 +12,7 @@ import subprocess
 import sys
 import time
 import unittest
+from unittest import mock
 
 from support import PROGRAM, HubCase, tmem
 from tmem import hub
@@ -32,6 +33,8 @@ class Raw:
 
     def __init__(self, path):
         self.socket = socket.socket(socket.AF_UNIX)
+        # (so that a test fails where an answer does not come)
+        self.socket.settimeout(60)
         self.socket.connect(path)
         self.lines = self.socket.makefile("rb")
         self.first = json.loads(self.lines.readline())
@@ -158,6 +161,42 @@ class HubTests(HubCase):
         self.set(b=1)
         self.assertEqual(self.store.get("b"), 1)
 
+    def test_whatever_waits_is_taken_back_with_its_client(self):
+        for wait in (b'"do":"retry"', b'"changed":[[1,0]]', b'"run":"waits"', b'"run":"waits","numbers":[]'):
+            client = self.raw()
+            client.ask(b'{"id":1,"keep":["waits","retry"]}')
+            client.send(b'{"id":1,%s}\n' % wait * 3)
+            with self.subTest(wait=wait):
+                self.until_all_wait(3)
+                client.close()
+                self.until_all_wait(0)
+
+    def test_a_cancel_for_each_of_one_id(self):
+        """They come in one piece, so that none is answered before the last is read."""
+        client = self.raw()
+        client.send(b'{"id":1,"do":"retry"}\n{"id":1,"changed":[[0,0]]}\n' + b'{"id":2,"cancel":1}\n' * 3)
+        found = [json.loads(client.lines.readline()) for _ in range(5)]
+        cancelled, of_cancels = ([it for it in found if it["id"] == id] for id in (1, 2))
+        self.assertEqual(cancelled, [{"id": 1, "cancelled": True}] * 2)
+        self.assertEqual([it["found"] for it in of_cancels], [True, True, False])
+
+    def test_a_client_that_has_ended_is_forgotten(self):
+        """What it had asked for is no more in the hub's books once it is answered."""
+
+        async def main():
+            it = hub.Hub(1 << 20, 10)
+            it.send = lambda lines: None
+            client = hub.Client(it)
+            client.transport = mock.Mock()
+            client.handed_on(b'{"id":5,"do":"retry"}')
+            client.handed_on(b'{"id":6,"get":[0]}')
+            client.connection_lost(None)
+            held = [asked for asked in it._asked.values() if asked.client is client]
+            it.pipe_data_received(1, b'{"opened":0,"vars":1,"names":{}}\n{"id":2,"count":0,"values":[[0,0]]}\n{"id":1,"cancelled":true}\n{"id":3,"found":true}\n')
+            return held, it._asked, it._taken_back, client.transport.write.called
+
+        self.assertEqual(asyncio.run(main()), ([], {}, set(), False))
+
     def test_a_client_that_ends_its_input_is_answered(self):
         client = self.raw()
         client.send(b'{"id":1,"changed":[[0,0]]}\n{"id":2,"settle":{"writes":[[1,4]]}}\n{"id":3,"get":[1]}')
@@ -207,6 +246,27 @@ class HubTests(HubCase):
         client.socket.close()
         client.lines.close()
         self.assertEqual(self.store.get("b"), 0)
+
+    def test_what_a_dead_client_sent_may_come_late(self):
+        """Behind a transaction that frees its leases: it takes one once more, unless that has written what it read."""
+        def free(t):
+            t["a"] = 0
+            t["x"] += 1
+
+        for read, wanted in ((b"[[0,0]]", 7), (b"[[0,0],[2,1]]", 0)):
+            client = self.raw()
+            # (the last line lacks its break, so the hub hands it on once the client is gone)
+            client.send(b'{"id":1,"settle":{"reads":%s,"writes":[[0,7]]}}' % read)
+            self.store.run(free)
+            before = self.attempted()
+            client.close()
+            with self.subTest(read=read):
+                self.until(lambda: self.attempted() == before + 1)
+                self.assertEqual(self.store.get("a"), wanted)
+
+    def attempted(self):
+        stats = self.store.stats()
+        return stats["committed"] + stats["conflicts"]
 
     def test_pieces_of_a_line(self):
         client = self.raw()

@@ -38,7 +38,8 @@ def some_statement(rng, depth):
     return (word,)
 
 
-# The model: a program on a state gives ("value", number, state), ("retry",) or ("failed", number), and which variables it looked at.
+# The model: a program on a state gives ("value", number, state), ("retry",) or ("failed", number), and what it saw: each variable that it
+# read, the value, and whether that is the store's, and not one that it had written.
 
 
 class Retries(Exception):
@@ -46,15 +47,15 @@ class Retries(Exception):
 
 
 def meaning(program, state):
-    looked = set()
+    seen = []
 
-    def play(statements, state, number):
+    def play(statements, writes, number):
         for word, *more in statements:
             if word == "read":
-                looked.add(more[0])
-                number = state[more[0]]
+                number = writes.get(more[0], state[more[0]])
+                seen.append((more[0], number, more[0] not in writes))
             elif word == "write":
-                state = {**state, more[0]: number}
+                writes = {**writes, more[0]: number}
             elif word == "add":
                 number += more[0]
             elif word == "set":
@@ -65,32 +66,37 @@ def meaning(program, state):
                 raise Failed(number)
             elif word == "or_else":
                 try:
-                    state, number = play(more[0], state, number)
+                    writes, number = play(more[0], writes, number)
                 except Retries:
-                    state, number = play(more[1], state, number)
+                    writes, number = play(more[1], writes, number)
             elif word == "when":
-                state, number = play(more[number % 2], state, number)
+                writes, number = play(more[number % 2], writes, number)
             elif word == "call":
-                state, number = play(more[0], state, number)
-        return state, number
+                writes, number = play(more[0], writes, number)
+        return writes, number
 
     try:
-        state, number = play(program, dict(state), 0)
-        return ("value", number, state), looked
+        writes, number = play(program, {}, 0)
+        return ("value", number, {**state, **writes}), seen
     except Retries:
-        return ("retry",), looked
+        return ("retry",), seen
     except Failed as failed:
-        return ("failed", failed.args[0]), looked
+        return ("failed", failed.args[0]), seen
 
 
-# The same as functions on the store. A function is given the local number, and returns it.
+def looked_at(program, state):
+    """The variables whose values in the store a program has read."""
+    return {variable for variable, _, is_store_s in meaning(program, state)[1] if is_store_s}
 
 
-def function(program):
+# The same as functions on the store. A function is given the local number, and returns it. `look` is how it reads a variable.
+
+
+def function(program, look=tmem.Transaction.__getitem__):
     def body(t, number=0):
         for word, *more in program:
             if word == "read":
-                number = t[more[0]]
+                number = look(t, more[0])
             elif word == "write":
                 t[more[0]] = number
             elif word == "add":
@@ -102,11 +108,11 @@ def function(program):
             elif word == "fail_if" and number % 3 == more[0]:
                 raise Failed(number)
             elif word == "or_else":
-                number = tmem.or_else(function(more[0]), function(more[1]))(t, number)
+                number = tmem.or_else(function(more[0], look), function(more[1], look))(t, number)
             elif word == "when":
-                number = function(more[number % 2])(t, number)
+                number = function(more[number % 2], look)(t, number)
             elif word == "call":
-                number = function(more[0])(t, number)
+                number = function(more[0], look)(t, number)
         return number
 
     return body
@@ -192,13 +198,14 @@ class Laws(StoreCase):
         for case in range(CASES // 8):
             rng = random.Random(f"{SEED} waits {case}")
             program, state = self.some_that_waits(rng)
-            looked = meaning(program, state)[1]
+            looked = looked_at(program, state)
             with self.subTest(case=case, program=program, state=state):
                 self.put(state)
                 sent = self.watch()
                 waiter = self.in_thread(self.store.run, function(program))
                 self.until_waiting(1)
-                ((_, answer),) = [it for it in sent if "changed" in it[0]]
+                ((ask, answer),) = [it for it in sent if "changed" in it[0]]
+                self.assertEqual(dict(ask["changed"]), {variable: state[variable] for variable in looked})
                 # Another value where it did not look wakes nobody.
                 for variable in set(VARIABLES) - looked:
                     state[variable] += 1
@@ -211,16 +218,14 @@ class Laws(StoreCase):
         """A program, and a state on which it retries; it would not do so on each."""
         while True:
             program, state = some_program(rng, 3), self.some_state(rng)
-            wanted, looked = meaning(program, state)
             states = [self.some_state(rng) for _ in range(20)]
-            if wanted == ("retry",) and looked and any(meaning(program, it)[0][0] == "value" for it in states):
+            if meaning(program, state)[0] == ("retry",) and looked_at(program, state) and any(meaning(program, it)[0][0] == "value" for it in states):
                 return program, state
 
     def wake(self, rng, program, state, waiter):
         """Changes values until the program goes on, or for some turns: whether it did. It comes to what the model says then."""
         for _ in range(12):
-            looked = meaning(program, state)[1]
-            variable = rng.choice(sorted(looked))
+            variable = rng.choice(sorted(looked_at(program, state)))
             state[variable] += rng.choice([1, 2])
             wanted, _ = meaning(program, state)
             self.put({variable: state[variable]})

@@ -173,7 +173,6 @@ class Plain(StoreCase):
         tmem.create(path, {"vars": 600, "slots": 2, "invariants": []})
         return self.open(path)
 
-
     def test_several_values_take_one_exchange(self):
         self.set(a=1, b=2)
         sent = self.watch()
@@ -184,6 +183,14 @@ class Plain(StoreCase):
 
         self.assertEqual(self.store.run(body), ((2, 7, 1, 2), 1))
         self.assertEqual([ask for ask, _ in sent], [{"get": [1, 0]}, {"settle": {"reads": [(0, 1), (1, 2)], "writes": [(2, 7)]}}])
+        sent.clear()
+        self.assertEqual([self.store.get("b", "x"), asyncio.run(self.store.get_async("b", "x"))], [(2, 7)] * 2)
+        self.assertEqual([ask for ask, _ in sent], [{"get": [1, 2]}] * 2)
+
+    def test_of_some_functions_is_kept_what_they_read(self):
+        for number in range(600):
+            self.assertEqual(self.store.run(eval(f"lambda t: (t['a'], {number})")), (0, number))
+        self.assertLessEqual(len(self.store._hints), 300)
 
 
 class Opacity(StoreCase):
@@ -567,6 +574,20 @@ class Retry(StoreCase):
         self.set(a=1)
         self.store.run(tmem.or_else(first, second))
         self.assertEqual((self.store.get("a", "b"), list(self.store.state().names)), ((1, 2), []))
+
+    def test_of_three_branches_the_last_finds_nothing_of_the_others(self):
+        def retries(name):
+            def branch(t):
+                seen.append(t.get("a", "b", "x"))
+                t[name] = 5
+                t.check("solvent")
+                t.retry()
+
+            return branch
+
+        seen = []
+        self.store.run(tmem.or_else(retries("a"), retries("b"), lambda t: t.__setitem__("x", sum(t.get("a", "b")) + 1)))
+        self.assertEqual((seen, self.store.get("a", "b", "x"), self.store.state().names), ([(0, 0, 0)] * 2, (0, 0, 1), []))
 
     def test_an_exception_of_the_first_branch_is_no_retry(self):
         def first(t):
