@@ -1,6 +1,7 @@
 /* Loaded before a program's libraries. It appends a line for each call to the file CALLS: what is called, the name of the file,
    the place in it and how many bytes. And it lets calls fail, as these variables say:
    FAILING=N  the Nth call that writes, syncs or names a file
+   ERRNO=N    that call fails by this error, else by EIO
    KILLED=N   the program is killed at that call, and half of a write is done then
    SHORT=N    no call moves more than N bytes of a file
    THREADS=N  N threads can be started
@@ -63,7 +64,7 @@ static void say_of(const char *call, int file, long at, long count) {
 static int fails(void) {
   if (++made == number("KILLED")) kill(getpid(), SIGKILL);
   if (made != number("FAILING")) return 0;
-  errno = EIO;
+  errno = number("ERRNO") > 0 ? (int)number("ERRNO") : EIO;
   return 1;
 }
 

@@ -1,5 +1,5 @@
 -- Why a file could not be used: what an error of the system tells, which causes there are for what was wanted, and what to do.
-use Rattle.std.specs.Prelude.{ℤ, pos, Bool, true, false, if◌then◌else◌, ℕ, List, codes, Option, Some, None}
+use Rattle.std.specs.Prelude.{ℤ, pos, Bool, true, false, if◌then◌else◌, ℕ, ◌-◌, List, length, slice_get, codes, Option, Some, None}
 use Rattle.std.specs.Ordering.{int_eq}
 use Rattle.std.specs.declared.io.ErrorKind.{ErrorKind}
 use Rattle.std.specs.declared.io.ErrorKind.TheVariants as kind
@@ -25,6 +25,16 @@ call_cause kind.InvalidFilename number = call.LongName
 call_cause kind.FileTooLarge number = call.Limit
 call_cause kind.FilesystemLoop number = call.Circle
 call_cause _ number = other_cause number
+
+-- a file system without hard links refuses one by either of these kinds
+abbrev pub link_cause : ErrorKind → Option ℤ → DeviceCause
+link_cause kind.PermissionDenied number = cause.NoLinks
+link_cause kind.Unsupported number = cause.NoLinks
+link_cause k number = cause.Call (call_cause k number)
+
+-- the last byte of a text, if it has one
+abbrev pub last_byte : List ℕ → Option ℕ
+last_byte text = slice_get text (length text - 1)
 
 -- A lock is told only of what this program does not have open itself, that something is there only of a new file, and that nothing is
 -- only of what was to be there.
@@ -67,6 +77,7 @@ device_help cause.Missing = codes "nothing has this path; check it"
 device_help cause.DeadLink = codes "it is a link to nothing; mend the link, or name a file"
 device_help cause.There = codes "something has this path, and a new file was to be made; name another path"
 device_help cause.MissingFolder = codes "its folder is not there; make it, or check the path"
+device_help cause.Slash = codes "it ends in /, as the path of a folder does; name a file"
 device_help cause.ClosedFolder = codes "this user may not make a file in its folder; change the folder's rights, or name a path in another"
 device_help cause.NoLinks = codes "its file system makes no hard links, by which a new file gets its name; name a path on another"
 device_help (cause.Call c) = call_help c

@@ -1,7 +1,7 @@
 //! Why a file could not be used.
-ghost use Rattle.std.specs.Prelude.{◌≡◌, [], true};
+ghost use Rattle.std.specs.Prelude.{◌≡◌, ◌↔◌, ◌<◌, [], true, Some, IsTrue, IsOk, IfErr, IfSome};
 ghost use Rattle.std.specs.IoError.{error_kind, raw_os_error};
-ghost use Rattle.tmem_explain.specs.Causes.{call_cause, may_be_told};
+ghost use Rattle.tmem_explain.specs.Causes.{call_cause, last_byte, link_cause, may_be_told};
 
 use std::fmt;
 use std::fs::{self, File, FileType, Files, OpenOptions, TryLockError};
@@ -13,6 +13,9 @@ use std::path::Path;
 const PIECE_BYTES: usize = 4096;
 
 const MOST_PIECES: u64 = 70;
+
+// Under so many names it is tried whether a file can be made, where others are left over.
+const MOST_TRIES: u8 = 9;
 
 // The number by which the system tells an error of a disk (EIO).
 const DISK_ERROR: i32 = 5;
@@ -34,6 +37,8 @@ pub enum DeviceCause {
     /// Something has the path.
     There,
     MissingFolder,
+    /// The path ends as that of a folder does.
+    Slash,
     /// No file may be made in its folder.
     ClosedFolder,
     /// Its file system makes no hard links.
@@ -121,6 +126,7 @@ impl fmt::Display for DeviceCause {
             DeviceCause::There =>
                 "something has this path, and a new file was to be made; name another path",
             DeviceCause::MissingFolder => "its folder is not there; make it, or check the path",
+            DeviceCause::Slash => "it ends in /, as the path of a folder does; name a file",
             DeviceCause::ClosedFolder =>
                 "this user may not make a file in its folder; change the folder's rights, or name a path in another",
             DeviceCause::NoLinks =>
@@ -165,10 +171,17 @@ pub fn cause_of<R: Files<File = File> + AllocGlobal>(
         Ok(found) => cause_of_found(rt, path, wanted, found.file_type()),
         Err(error) => match error.kind() {
             ErrorKind::NotFound => cause_of_missing(rt, path, wanted, size),
+            ErrorKind::NotADirectory if ends_in_slash(path) => DeviceCause::Slash,
             ErrorKind::NotADirectory => DeviceCause::MissingFolder,
             _ => DeviceCause::Call(CallCause::of(error)),
         },
     }
+}
+
+fn ends_in_slash(path: &str) -> bool
+    ensures { IsTrue result ↔ (last_byte path.now ≡ Some 47) }
+{
+    path.as_bytes().last().copied() == Some(b'/')
 }
 
 // The same where nothing is found at a path.
@@ -189,12 +202,28 @@ fn cause_of_missing<R: Files<File = File> + AllocGlobal>(
     };
     match (folder, wanted) {
         (Err(_), _) => DeviceCause::MissingFolder,
+        (Ok(_), Wanted::Made | Wanted::FoundOrMade) if ends_in_slash(path) => DeviceCause::Slash,
+        (Ok(_), Wanted::Made | Wanted::FoundOrMade) if is_folder_closed(rt, path) => {
+            DeviceCause::ClosedFolder
+        }
         (Ok(_), Wanted::Made | Wanted::FoundOrMade) => cause_of_making(rt, path, size),
         (Ok(_), _) => DeviceCause::Missing,
     }
 }
 
-// Why no file of so many bytes can be made beside a path.
+// Whether this user may not read the folder of a path, which has to be synced where a file is made.
+fn is_folder_closed<R: Files<File = File>>(rt: &R, path: &str) -> bool {
+    let opened = match Path::new(path).parent() {
+        Some(folder) if !folder.as_os_str().is_empty() => File::open(rt, folder),
+        _ => File::open(rt, "."),
+    };
+    match opened {
+        Ok(_) => false,
+        Err(error) => error.kind() == ErrorKind::PermissionDenied,
+    }
+}
+
+// Why no file of so many bytes can be made beside a path. Names that something has are passed over.
 fn cause_of_making<R: Files<File = File> + AllocGlobal>(
     rt: &R,
     path: &str,
@@ -203,11 +232,31 @@ fn cause_of_making<R: Files<File = File> + AllocGlobal>(
     ensures told { may_be_told Wanted.Made result ≡ true }
     ensures or_found { may_be_told Wanted.FoundOrMade result ≡ true }
 {
+    for number in 0..MOST_TRIES {
+        if let Some(cause) = cause_of_trying(rt, path, size, number) {
+            return cause;
+        }
+    }
+    DeviceCause::Call(CallCause::Other)
+}
+
+// The same by the name of this number, unless something has that.
+fn cause_of_trying<R: Files<File = File> + AllocGlobal>(
+    rt: &R,
+    path: &str,
+    size: u64,
+    number: u8,
+) -> Option<DeviceCause>
+    requires { number < 9 }
+    ensures told { IfSome result (λ cause. may_be_told Wanted.Made cause ≡ true) }
+    ensures or_found { IfSome result (λ cause. may_be_told Wanted.FoundOrMade cause ≡ true) }
+{
+    let next = number + 1;
     let (Ok(name), Ok(link)) = (
-        format!(in rt.alloc(); "{path}.try0"),
-        format!(in rt.alloc(); "{path}.try1"),
+        format!(in rt.alloc(); "{path}.try{number}"),
+        format!(in rt.alloc(); "{path}.try{next}"),
     ) else {
-        return DeviceCause::Call(CallCause::Other);
+        return Some(DeviceCause::Call(CallCause::Other));
     };
     match File::create_new(rt, name.as_str()) {
         Ok(file) => {
@@ -215,16 +264,34 @@ fn cause_of_making<R: Files<File = File> + AllocGlobal>(
             let linked = fs::hard_link(rt, name.as_str(), link.as_str());
             // What cannot be removed is left: nothing reads it.
             let _ = fs::remove_file(rt, name.as_str());
-            let _ = fs::remove_file(rt, link.as_str());
-            match (filled, linked) {
-                (Err(error), _) => DeviceCause::Call(CallCause::of(error)),
-                (Ok(()), Err(_)) => DeviceCause::NoLinks,
-                (Ok(()), Ok(())) => DeviceCause::Call(CallCause::Other),
+            if linked.is_ok() {
+                let _ = fs::remove_file(rt, link.as_str());
             }
+            Some(cause_of_made(filled, linked))
         }
-        Err(error) if error.kind() == ErrorKind::PermissionDenied => DeviceCause::ClosedFolder,
-        Err(error) => DeviceCause::Call(CallCause::of(error)),
+        Err(error) => match error.kind() {
+            ErrorKind::AlreadyExists => None,
+            ErrorKind::PermissionDenied => Some(DeviceCause::ClosedFolder),
+            _ => Some(DeviceCause::Call(CallCause::of(error))),
+        },
     }
+}
+
+// Why a file was not made that was filled and then linked so.
+fn cause_of_made(filled: io::Result<()>, linked: io::Result<()>) -> DeviceCause
+    ensures filled { IfErr filled (λ why. result ≡ DeviceCause.Call (call_cause (error_kind why) (raw_os_error why))) }
+    ensures linked { IsOk filled → IfErr linked (λ why. result ≡ link_cause (error_kind why) (raw_os_error why)) }
+    ensures made { IsOk filled → IsOk linked → result ≡ DeviceCause.Call CallCause.Other }
+{
+    let error = match (filled, linked) {
+        (Err(error), _) => error,
+        (Ok(()), Err(error)) => match error.kind() {
+            ErrorKind::PermissionDenied | ErrorKind::Unsupported => return DeviceCause::NoLinks,
+            _ => error,
+        },
+        (Ok(()), Ok(())) => return DeviceCause::Call(CallCause::Other),
+    };
+    DeviceCause::Call(CallCause::of(error))
 }
 
 // Writes so many zeros.

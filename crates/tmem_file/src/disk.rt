@@ -6,7 +6,7 @@ ghost use Rattle.tmem_file.specs.Record.{reach};
 ghost use Rattle.tmem_file.specs.Recorded.{start_of, call_events};
 ghost use Rattle.tmem_file.specs.Opening.{IsFreshlyOpened};
 
-use crate::naming::{lock, open_there};
+use crate::naming::{keep_name, lock, open_there};
 use crate::recorded::RecordedFile;
 use std::fs::{File, Files};
 use tmem_disk::{DeviceFault, Disk};
@@ -40,17 +40,21 @@ impl FileDisk {
 
     /// Opens a file or a block device that is there, and locks it for as long as the device lives. Its first bytes are the device,
     /// as many as there are, but no more than `most`: those are read once, and then synced, and nothing behind them is read or
-    /// written. Refused by `Device` where it is missing, is no regular file and no block device, may not be read and written, or is
-    /// open as a device already, and where a call fails.
+    /// written. Where it has a second name, as a new file has whose folder is not known to be synced, the folder of the path is synced
+    /// first (of a link the link's; none that this user may not read, or whose file system refuses). Refused by `Device` where the file is
+    /// missing, is no regular file and no block device, may not be read and written, or is open as a device already, and where a call fails.
     pub fn open<R: Files<File = File>>(rt: &R, path: &str, most: u64) -> Result<FileDisk, Fault>
         ensures opened { IfOk result (λ disk. IsFreshlyOpened (file_view disk)) }
         ensures most { IfOk result (λ disk. (file_view disk).capacity ≤ most) }
         ensures refused { IsOkUnless result Fault.Device }
     {
-        match open_there(rt, path)
-            .and_then(lock)
-            .and_then(|file| RecordedFile::found(file, most))
-        {
+        let Ok(file) = open_there(rt, path).and_then(lock) else {
+            return Err(Fault::Device);
+        };
+        if keep_name(rt, path, &file).is_err() {
+            return Err(Fault::Device);
+        }
+        match RecordedFile::found(file, most) {
             Ok(found) => FileDisk::settle(found),
             Err(_) => Err(Fault::Device),
         }

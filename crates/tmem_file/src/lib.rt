@@ -5,7 +5,7 @@
 //! `FileDisk::open` opens one that is there. `NewFile` makes one beside its name, which gets that name once it is whole.
 //!
 //! That each call of the system does what its name says is not proved: `calls` has those that read, write and
-//! sync, each with what it puts on record, and `naming` those that open, lock, link and remove.
+//! sync, each with what it puts on record, `naming` those that open, lock and sync a folder, and `new_file` those that link and remove.
 #![tactic(auto)]
 
 mod calls;

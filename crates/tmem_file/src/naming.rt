@@ -1,12 +1,12 @@
-// The calls of the system that open, lock and make files.
-ghost use Rattle.std.specs.Prelude.{◌≡◌, ◌⊎◌, pos, IfOk, IfErr};
+// The calls of the system that open, lock, make and name files.
+ghost use Rattle.std.specs.Prelude.{◌≡◌, ◌⊎◌, ◌↔◌, ◌<◌, pos, IsTrue, IfOk, IfErr};
 ghost use Rattle.std.specs.Int.Signed.{◌<ℤ◌};
 ghost use Rattle.std.specs.Fd.{file_raw_fd};
 
 use std::fs::{self, File, FileType, Files, OpenOptions};
 use std::io::{self, ErrorKind, Seek, SeekFrom};
 use std::os::fd::AsRawFd;
-use std::os::unix::fs::FileTypeExt;
+use std::os::unix::fs::{FileTypeExt, MetadataExt};
 use std::path::Path;
 use tmem_fault::Fault;
 
@@ -59,6 +59,37 @@ pub(crate) fn open_folder<R: Files<File = File>>(rt: &R, path: &str) -> io::Resu
         Some(folder) if !folder.as_os_str().is_empty() => File::open(rt, folder),
         _ => File::open(rt, "."),
     }
+}
+
+/// Has the system put on the disk that an open file stands in the folder of its path, where that is in doubt: a new file has a second
+/// name until its folder is synced.
+pub(crate) fn keep_name<R: Files<File = File>>(rt: &R, path: &str, file: &File) -> io::Result<()> {
+    if !is_in_doubt(file.metadata()?.nlink()) {
+        return Ok(());
+    }
+    match sync_folder(rt, path) {
+        Err(error) if may_stay_unsynced(error.kind()) => Ok(()),
+        outcome => outcome,
+    }
+}
+
+// Whether a file of so many names may not have its own for good.
+fn is_in_doubt(names: u64) -> bool
+    ensures { IsTrue result ↔ 1 < names }
+{
+    names > 1
+}
+
+fn sync_folder<R: Files<File = File>>(rt: &R, path: &str) -> io::Result<()> {
+    open_folder(rt, path)?.sync_all()
+}
+
+// Whether a folder is left unsynced that fails so: this user may not read it (EACCES), or its file system syncs none (EINVAL). What
+// stands there is opened all the same. (Nothing is made there: that needs the sync.)
+fn may_stay_unsynced(kind: ErrorKind) -> bool
+    ensures { IsTrue result ↔ (kind ≡ ErrorKind.PermissionDenied) ⊎ (kind ≡ ErrorKind.InvalidInput) }
+{
+    matches!(kind, ErrorKind::PermissionDenied | ErrorKind::InvalidInput)
 }
 
 /// Locks an open file or block device, under a number that is none of the standard streams'. The lock lasts until the file is closed.

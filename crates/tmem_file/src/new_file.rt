@@ -11,7 +11,7 @@ use tmem_fault::Fault;
 
 /// A new file that stands beside the name that it is to get, under that name with `.new` and a number behind it. Whoever
 /// makes it writes to `disk` what the file is to hold, and then calls `give_name`, or else `discard`. After a crash in between
-/// it is left over: nothing reads it, and it may be removed.
+/// it is left over: nothing reads it, and it may be removed, or if the file has its own name too, once that was opened.
 #[derive(Drop)]
 pub struct NewFile {
     /// The file as a device.
@@ -56,8 +56,9 @@ impl NewFile {
         }
     }
 
-    /// Syncs the file where that is left to do, gives it its name, and syncs the folder. It never takes the name from a file that has it. Refused by
-    /// `Device` where a call fails: this file has the name then, whole, or does not have it.
+    /// Syncs the file where that is left to do, gives it its name, and syncs the folder. It never takes the name from a file that has it.
+    /// Refused by `Device` where a call fails: this file has the name then, whole, or does not have it. If it has the name and its folder
+    /// is not synced, it keeps the other one too, by which `FileDisk::open` sees that.
     pub fn give_name<R: Files<File = File>>(self, rt: &R) -> Result<FileDisk, Fault>
         ensures named { IfOk result (λ disk. HasItsName (file_view self.disk) (file_view disk)) }
         ensures refused { IsOkUnless result Fault.Device }
@@ -70,13 +71,12 @@ impl NewFile {
         } = self;
         let linked = disk.sync().is_ok()
             && fs::hard_link(rt, beside.as_str(), name.as_str()).is_ok();
-        // A file that is linked has two names now. If this one is left over, nothing reads it.
-        let _ = fs::remove_file(rt, beside.as_str());
-        if linked && folder.sync_all().is_ok() {
-            Ok(disk)
-        } else {
-            Err(Fault::Device)
+        // A file that is linked has two names now, until its folder is synced. If this one is left over, nothing reads it.
+        let named = linked && folder.sync_all().is_ok();
+        if named || !linked {
+            let _ = fs::remove_file(rt, beside.as_str());
         }
+        if named { Ok(disk) } else { Err(Fault::Device) }
     }
 
     /// Removes the file.

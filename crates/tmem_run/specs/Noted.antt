@@ -20,6 +20,7 @@ pub record KeepsEntries (old new : Notes) : Type 0 where
   pub explains : new.explains ≡ old.explains
   pub played : new.played ≡ old.played
   pub refused : new.refused ≡ old.refused
+  pub counts : new.counts ≡ old.counts
 
 -- all but what is kept of the entries stays
 pub record KeepsOthers (old new : Notes) : Type 0 where

@@ -1,7 +1,9 @@
 //! What is kept of a run, so that more can be told of what fails.
 ghost use Rattle.std.specs.Prelude.{◌≡◌, ◌+◌, ◌<◌, ◌^◌, [], true, false, if◌then◌else◌};
+ghost use Rattle.tmem_run.specs.Counted.{counts_after, found_counts, lost_of};
 ghost use Rattle.tmem_run.specs.Noted.{IsNotedOf, KeepsEntries, KeepsOthers};
 
+use crate::counts::{Counts, Lost};
 use std::alloc::Global;
 use tmem_fault::Fault;
 use tmem_world::Reply;
@@ -17,6 +19,8 @@ pub struct Notes {
     // how many entries were played
     played: usize,
     refused: Vec<Refused>,
+    // what is committed and what is durable
+    counts: Counts,
 }
 
 /// An entry that was refused.
@@ -34,6 +38,7 @@ impl Notes {
         ensures device { result.is_held ≡ false }
         ensures played { result.played ≡ 0 }
         ensures refused { result.refused.items ≡ [] }
+        ensures counts { result.counts ≡ found_counts 0 }
     {
         Notes {
             explains,
@@ -41,6 +46,7 @@ impl Notes {
             is_held: false,
             played: 0,
             refused: Vec::new(alloc),
+            counts: Counts::found(0),
         }
     }
 
@@ -55,15 +61,27 @@ impl Notes {
         }
     }
 
+    /// Takes how many transactions the first opening found.
+    pub(crate) fn note_found(&mut self, count: u64)
+        ensures counts { self.new.counts ≡ found_counts count }
+        ensures played { self.new.played ≡ self.old.played }
+        ensures refused { self.new.refused ≡ self.old.refused }
+        ensures others { KeepsOthers self.old self.new }
+    {
+        self.counts = Counts::found(count);
+    }
+
     /// Takes what the next entry is answered.
     pub(crate) fn note(&mut self, reply: &Reply)
         ensures refused { IsNotedOf self.old.explains self.old.played reply.now self.old.refused.items self.new.refused.items }
         ensures played { self.old.played + 1 < 2 ^ 64 → self.new.played ≡ self.old.played + 1 }
+        ensures counts { self.new.counts ≡ counts_after self.old.counts reply.now }
         ensures others { KeepsOthers self.old self.new }
     {
         if let Reply::Fault(fault) = reply {
             self.note_fault(*fault);
         }
+        self.counts = self.counts.after(reply);
         self.played = self.played.saturating_add(1);
     }
 
@@ -72,6 +90,7 @@ impl Notes {
         ensures shown { is_open ≡ true → self.new.refused ≡ self.old.refused }
         ensures refused { is_open ≡ false → IsNotedOf self.old.explains self.old.played (Reply.Fault Fault.Closed) self.old.refused.items self.new.refused.items }
         ensures played { self.old.played + 1 < 2 ^ 64 → self.new.played ≡ self.old.played + 1 }
+        ensures counts { self.new.counts ≡ self.old.counts }
         ensures others { KeepsOthers self.old self.new }
     {
         if is_open {
@@ -85,6 +104,7 @@ impl Notes {
     fn note_fault(&mut self, fault: Fault)
         ensures refused { IsNotedOf self.old.explains self.old.played (Reply.Fault fault) self.old.refused.items self.new.refused.items }
         ensures played { self.new.played ≡ self.old.played }
+        ensures counts { self.new.counts ≡ self.old.counts }
         ensures others { KeepsOthers self.old self.new }
     {
         if self.explains {
@@ -115,6 +135,13 @@ impl Notes {
         ensures { result.now ≡ self.now.refused.items }
     {
         self.refused.as_slice()
+    }
+
+    /// What was committed and is not known durable as the run ends.
+    pub fn lost(&self) -> Option<Lost>
+        ensures { result ≡ lost_of self.now.counts }
+    {
+        self.counts.lost()
     }
 
     /// The text of the script, as far as it was kept.

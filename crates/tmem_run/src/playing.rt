@@ -155,7 +155,7 @@ fn play_with<
 /// Opens a device, plays the entries of a script on it as `tmem run` does, and hands the device back. The invariants and the
 /// steps are the builtin ones, for as many variables as the layout has, and no call of the device has failed yet. `Output`
 /// where the output failed; `Refused` with its fault where the opening was refused, and nothing is printed then. `notes` takes the
-/// entries that are refused.
+/// entries that are refused, and what is committed and durable.
 pub fn play_on<D: Disk + Drop, T: Invariants + Drop, S: StoredSteps + Drop, W: Write>(
     alloc: Global,
     disk: D,
@@ -177,7 +177,9 @@ pub fn play_on<D: Disk + Drop, T: Invariants + Drop, S: StoredSteps + Drop, W: W
         Ok(world) => world,
         Err((fault, disk)) => return (disk, Err(ProgramFailure::Refused(fault))),
     };
-    match print_line(out, ReplyLine(Reply::Opened(world.count()))) {
+    let count = world.count();
+    notes.note_found(count);
+    match print_line(out, ReplyLine(Reply::Opened(count))) {
         Ok(()) => {}
         Err(failure) => return (world.into_disk(), Err(failure)),
     }

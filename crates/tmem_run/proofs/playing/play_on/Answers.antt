@@ -40,12 +40,12 @@ returns-clause-played g c =
     (ok_both c.play_entries-outcome.result did.played did.chain
     (λ played chain premise. (
       so.uses.model (did.kept.model premise),
-      PlaysOn-of (g.D.Disk.view c.args.disk) w new vars slots over log means set c.count.result found.1 found.0 _ _ _ c.args.entries.items (found.3 (did.kept.model premise)).was at (c.count.ensures program (opening found.0 found.1 0) at) c.in-Ok-print_line.ensures.line played premise
+      PlaysOn-of (g.D.Disk.view c.args.disk) w new vars slots over log means set c.count-count.result found.1 found.0 _ _ _ c.args.entries.items (found.3 (did.kept.model premise)).was at (c.count-count.ensures program (opening found.0 found.1 0) at) c.in-Ok-print_line.ensures.line played premise
           (λ h store.
           let opened = so.chain program h c.requires.meant store (did.kept.model premise) in
           let n = opened.found.0 in
           let it = plays_store w new vars slots (g.D.Disk.view c.args.disk) over log means set did.kept so.mends did.elsewhere h opened c.args.entries.items _ chain premise in
-          let counted = c.count.ensures program (opening (state_at program vars h n) opened.found.1 (g.D.Disk.view c.args.disk).failures) opened.found.3.point ∙ count_at program vars h n opened.found.2 in (
+          let counted = c.count-count.ensures program (opening (state_at program vars h n) opened.found.1 (g.D.Disk.view c.args.disk).failures) opened.found.3.point ∙ count_at program vars h n opened.found.2 in (
             line (line_of (reply.Opened n)) ++ it.0,
             it.1,
             Appends-then _ _ _ (line (line_of (reply.Opened n))) it.0 (subst (λ (k : ℕ). Appends (g.W.Write.contents c.args.out.now) (g.W.Write.contents c.print_line.new.out) (line (line_of (reply.Opened k)))) counted c.in-Ok-print_line.ensures.line) it.2,
