@@ -1,6 +1,6 @@
 // Where a store is kept.
 ghost use Rattle.std.specs.Prelude.{◌≡◌, ◌≢◌, ◌≤◌, ◌↔◌, length, IfOk, IsTrue};
-ghost use Rattle.tmem_bench.specs.declared.device.Place.TheVariants.{Memory};
+ghost use Rattle.tmem_bench.specs.declared.device.Medium.TheVariants.{Memory};
 
 use crate::error::{BenchError, now, since};
 use crate::figures::Figures;
@@ -17,18 +17,18 @@ const SYNCED_BYTES: usize = 32;
 
 /// Where the device of a store is.
 #[derive(Clone, Copy)]
-pub enum Place<'a> {
+pub enum Medium<'a> {
     Memory,
     /// In a file, which is not there before and is removed after.
     File(&'a str),
 }
 
-impl Place<'_> {
+impl Medium<'_> {
     /// What a line of the table calls it.
     pub fn name(self) -> &'static str {
         match self {
-            Place::Memory => "memory",
-            Place::File(_) => "file",
+            Medium::Memory => "memory",
+            Medium::File(_) => "file",
         }
     }
 
@@ -37,8 +37,8 @@ impl Place<'_> {
         ensures { IsTrue result ↔ (self.entry ≢ Memory) }
     {
         match self {
-            Place::Memory => false,
-            Place::File(_) => true,
+            Medium::Memory => false,
+            Medium::File(_) => true,
         }
     }
 }
@@ -71,12 +71,12 @@ pub fn removed<R: Files<File = File>, X: Drop>(
 /// What a new device does by two syncs alone, for so long: write, sync, write, sync, again and again.
 pub fn two_syncs<R: Clock + Files<File = File> + AllocGlobal>(
     rt: &R,
-    place: Place<'_>,
+    place: Medium<'_>,
     time: Duration,
 ) -> Result<Figures, BenchError> {
     match place {
-        Place::Memory => sync_on(rt, SimDisk::new(rt.alloc(), SYNCED_BYTES as u64)?, time),
-        Place::File(path) => {
+        Medium::Memory => sync_on(rt, SimDisk::new(rt.alloc(), SYNCED_BYTES as u64)?, time),
+        Medium::File(path) => {
             let disk = new_file(rt, path, SYNCED_BYTES as u64)?;
             let had = sync_on(rt, disk, time);
             removed(rt, path, had)

@@ -4,7 +4,7 @@ ghost use Rattle.std.specs.Io.KnownBytes.{Appends};
 ghost use Rattle.std.specs.Duration.{as_nanos};
 ghost use Rattle.tmem_bench.specs.Printed.{head, line, lines_wanted, printed, PrintsTable};
 
-use crate::device::{Place, new_file, removed, two_syncs};
+use crate::device::{Medium, new_file, removed, two_syncs};
 use crate::error::BenchError;
 use crate::figures::{Figures, Line};
 use crate::jobs::{Act, Callers, JOBS, Job, LOOSE_JOBS, SLOTS, VARS};
@@ -83,7 +83,7 @@ pub fn run_jobs<R: Clock + Files<File = File> + AllocGlobal + Threads + Wait + S
     ensures printed { OnOk result ((lines : List (List ℕ)) × (length lines ≡ lines_wanted wanted.entry.job)
         × Appends (W.contents out.old) (W.contents out.new) (printed (head ∷ lines))) }
 {
-    two_syncs(rt, Place::File(wanted.path), wanted.sync_time())?;
+    two_syncs(rt, Medium::File(wanted.path), wanted.sync_time())?;
     print_line(out, HEAD)?;
     let (first, end) = wanted.places();
     for place in first..end {
@@ -106,15 +106,15 @@ fn line_at<R: Clock + Files<File = File> + AllocGlobal + Threads + Wait + Sync>(
     wanted: JobsWanted<'_>,
     place: usize,
 ) -> Result<String, BenchError> {
-    let (file, time, sync_time) = (Place::File(wanted.path), wanted.time(), wanted.sync_time());
+    let (file, time, sync_time) = (Medium::File(wanted.path), wanted.time(), wanted.sync_time());
     match place {
         0 => line_of_core(rt, "add", Act::Add, time),
         1 => line_of_core(rt, "transfer", Act::Transfer, time),
         2 => line_of_core(rt, "wide transfer", Act::WideMany, time),
-        3..23 => line_of_job(rt, Place::Memory, Job::at(place - 3, time), sync_time),
+        3..23 => line_of_job(rt, Medium::Memory, Job::at(place - 3, time), sync_time),
         23..27 => line_of_job(
             rt,
-            Place::Memory,
+            Medium::Memory,
             Job::loose_at(place - 23, time),
             sync_time,
         ),
@@ -145,7 +145,7 @@ fn line_of_core<R: Clock + AllocGlobal + Threads + Wait + Sync>(
 // A job on a device. One that makes a file durable runs between two loops of syncs, each for so long.
 fn line_of_job<R: Clock + Files<File = File> + AllocGlobal + Threads + Wait + Sync>(
     rt: &R,
-    place: Place<'_>,
+    place: Medium<'_>,
     job: Job,
     sync_time: Duration,
 ) -> Result<String, BenchError> {
@@ -170,13 +170,13 @@ fn line_of_job<R: Clock + Files<File = File> + AllocGlobal + Threads + Wait + Sy
 // Runs a job on a new device.
 fn run<R: Clock + Files<File = File> + AllocGlobal + Threads + Wait + Sync>(
     rt: &R,
-    place: Place<'_>,
+    place: Medium<'_>,
     job: Job,
 ) -> Result<Figures, BenchError> {
     let size = Layout::new(VARS, SLOTS)?.end();
     match place {
-        Place::Memory => run_in(rt, SimDisk::new(rt.alloc(), size)?, job),
-        Place::File(path) => {
+        Medium::Memory => run_in(rt, SimDisk::new(rt.alloc(), size)?, job),
+        Medium::File(path) => {
             let disk = new_file(rt, path, size)?;
             let had = run_in(rt, disk, job);
             removed(rt, path, had)
