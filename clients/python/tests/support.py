@@ -1,9 +1,12 @@
 """What the tests share. The program is the one in the variable TMEM, or else the stand-in beside this file."""
 
+import fcntl
 import os
+import struct
 import subprocess
 import sys
 import tempfile
+import termios
 import threading
 import time
 import unittest
@@ -92,6 +95,18 @@ class StoreCase(unittest.TestCase):
 
         link.send = noted
         return sent
+
+
+def unread(connection):
+    """How many bytes the other end of a connection has not read."""
+    return struct.unpack("i", fcntl.ioctl(connection, termios.TIOCOUTQ, bytes(4)))[0]
+
+
+def stands(count):
+    """Whether a count has begun, and does not go on."""
+    before = count()
+    time.sleep(0.7)
+    return before and count() == before
 
 
 class InThread:

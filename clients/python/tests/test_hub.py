@@ -14,7 +14,7 @@ import time
 import unittest
 from unittest import mock
 
-from support import PROGRAM, HubCase, tmem
+from support import PROGRAM, HubCase, stands, tmem, unread
 from tmem import hub
 
 CHILD = """
@@ -411,7 +411,28 @@ class ReadsSlowly(HubCase):
             if count % 30 == 0:
                 time.sleep(0.3)
         self.assertGreater(size, 300 * 2048)
+        # Once it has read all it is read again, and may be silent for as long as it likes.
+        self.assertEqual(client.ask(b'{"id":2,"ask":"look"}'), {"id": 2, "durable": 0})
+        time.sleep(3.2)
+        self.assertEqual(client.ask(b'{"id":3,"ask":"look"}'), {"id": 3, "durable": 0})
         self.assertEqual(self.store.get(0), 0)
+
+
+class HeldBack(HubCase):
+    options = ["--held", "1000000", "--patience", "1000"]
+    shape = {"vars": 1024, "slots": 2, "invariants": []}
+
+    def test_a_client_that_is_slow_to_read_is_read_no_further(self):
+        """Else more would be held for it than may be."""
+        client = Raw(f"{self.path}.sock")
+        self.addCleanup(client.close)
+        # (the answers are 4 MB, and its lines so long that few of them are under way)
+        line = b'{"id":1,' + b" " * 4000 + b'"ask":"state"}\n'
+        sending = self.in_thread(client.send, line * 2000)
+        self.until(lambda: stands(lambda: unread(client.socket)))
+        self.assertTrue(sending.is_running())
+        self.assertEqual({json.loads(client.lines.readline())["id"] for _ in range(2000)}, {1})
+        sending.result()
 
 
 class HeldForOne(HubCase):

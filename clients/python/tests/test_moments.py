@@ -6,6 +6,7 @@ transaction found. SEED and CASES in the environment set others."""
 
 import asyncio
 import random
+import threading
 import unittest
 
 from support import StoreCase, tmem
@@ -19,14 +20,14 @@ class Moments(StoreCase):
         super().setUp()
         # The state before each transaction, by its number, and at the end the present one.
         self.states = [dict.fromkeys(VARIABLES, 0)]
+        # (one that is woken may commit before the one that woke it knows that it has committed)
+        self.committing = threading.Lock()
 
     def put(self, change):
         """Commits a transaction that writes alone, as another thread does."""
-        self.set_all(change)
-        self.states.append({**self.states[-1], **change})
-
-    def set_all(self, change):
-        self.in_thread(self.store.run, lambda t: [t.__setitem__(*it) for it in change.items()]).result()
+        with self.committing:
+            self.in_thread(self.store.run, lambda t: [t.__setitem__(*it) for it in change.items()]).result()
+            self.states.append({**self.states[-1], **change})
 
     def some_change(self, rng, seen=()):
         """Other values of some variables, more often of those that a run has seen."""
@@ -156,6 +157,51 @@ class Moments(StoreCase):
             waiter.result()
         self.store = self.open()
         return None
+
+
+class LastTime(StoreCase):
+    """What a function read the last time it asks for at once, also where each call makes a function of its own."""
+
+    def asked(self, body):
+        """What it reads in each exchange."""
+        sent = self.watch()
+        self.store.run(body)
+        del self.store._link.send
+        return [ask["get"] for ask, _ in sent if "get" in ask]
+
+    def test_a_function_is_known_again(self):
+        def plain():
+            return lambda t: (t["a"], t["b"])
+
+        def marked():
+            return tmem.transaction(lambda t: (t["x"], t["y"]))
+
+        def marked_too():
+            return tmem.transaction(lambda t: t[7])
+
+        def choice():
+            return tmem.or_else(lambda t: t["b"] and t["x"] or t.retry(), lambda t: t["held"])
+
+        def other_choice():
+            return tmem.or_else(lambda t: t["y"] or t.retry(), lambda t: t[7])
+
+        for make, first, second in (
+            (plain, [[0], [0, 1]], [[0, 1]]),
+            (marked, [[2], [2, 3]], [[2, 3]]),
+            (marked_too, [[7]], [[7]]),
+            (choice, [[1], [1, 4]], [[1, 4]]),
+            (other_choice, [[3], [3, 7]], [[3, 7]]),
+        ):
+            with self.subTest(make=make.__name__):
+                self.assertEqual([self.asked(make()), self.asked(make())], [first, second])
+
+    def test_what_it_reads_no_more_is_forgotten(self):
+        def body(t):
+            return t["a"] and t["b"]
+
+        for value, asked in ((0, [[0]]), (1, [[0], [0, 1]]), (0, [[0, 1]]), (0, [[0]])):
+            self.set(a=value)
+            self.assertEqual(self.asked(body), asked)
 
 
 if __name__ == "__main__":

@@ -1,21 +1,18 @@
 """Signals: an interrupt from the keyboard goes to all processes of a terminal, and what was asked for is answered all the same."""
 
 import contextlib
-import fcntl
 import json
 import os
 import pty
 import select
 import signal
 import socket
-import struct
 import subprocess
 import sys
-import termios
 import time
 import unittest
 
-from support import PROGRAM, HubCase, StoreCase, tmem
+from support import PROGRAM, HubCase, StoreCase, stands, tmem, unread
 from test_hub import Raw
 
 # A client that waits for `b`, and says so once it does. After an interrupt it goes on with its store.
@@ -63,6 +60,22 @@ class Interrupts(StoreCase):
         os.killpg(client.pid, signal.SIGINT)
         self.assertEqual((*client.communicate(timeout=60), client.returncode), ("interrupted 5\n", "", 0))
         self.assertEqual(self.open().get("a"), 5)
+
+
+class Closing(StoreCase):
+    def test_a_store_is_closed_once_all_is_answered_and_its_program_has_ended(self):
+        add = {"seq": [{"put": [1, 1]}, {"read": [0, 0]}, {"step": ["add", [0, 1], 0]}, {"write": [0, 0]}]}
+        program = self.store._link.stream.process
+        os.kill(program.pid, signal.SIGSTOP)
+        self.addCleanup(program.kill)
+        *answers, waits = [self.store.submit({"do": it}) for it in [add] * 20 + ["retry"]]
+        closing = self.in_thread(self.store.close)
+        time.sleep(0.3)
+        self.assertTrue(closing.is_running())
+        os.kill(program.pid, signal.SIGCONT)
+        closing.result()
+        self.assertEqual([it.result(0)["registers"] for it in answers], [[k + 1, 1] for k in range(20)])
+        self.assertEqual((waits.result(0)["word"], program.returncode), ("closed", 0))
 
 
 class Terminal(StoreCase):
@@ -189,23 +202,13 @@ class HubEnds(HubCase):
         # What the pipe, the hub and the connection hold is less than two megabytes. (These are no requests, so the answers are short.)
         answers = []
         sending = self.in_thread(lambda: [answers.append(self.store.submit({"ask": "x" * 4000})) for _ in range(1000)])
-        self.until(lambda: self.stands(answers))
+        self.until(lambda: stands(lambda: len(answers)))
         self.assertTrue(sending.is_running() and unread(ours))
         self.assertLess(len(answers) * 4000, 2 << 20)
         self.go_on()
         sending.result()
         self.assertEqual({type(it.exception(60)) for it in answers}, {tmem.NoRequest})
         self.assertEqual(self.store.get("a"), 0)
-
-    def stands(self, answers):
-        before = len(answers)
-        time.sleep(0.7)
-        return before and len(answers) == before
-
-
-def unread(connection):
-    """How many bytes the other end of a connection has not read."""
-    return struct.unpack("i", fcntl.ioctl(connection, termios.TIOCOUTQ, bytes(4)))[0]
 
 
 class Words(StoreCase):
