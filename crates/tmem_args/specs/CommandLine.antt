@@ -15,6 +15,7 @@ use Rattle.tmem_args.specs.declared.args.Asked.TheVariants.{Run, Threads, Bench,
 use Rattle.tmem_args.specs.declared.args.Showing.{Showing}
 use Rattle.tmem_args.specs.declared.args.Making.{Making}
 use Rattle.tmem_args.specs.declared.args.Serving.{Serving}
+use Rattle.tmem_args.specs.declared.args.Timing.{Timing}
 use Rattle.tmem_args.specs.declared.args.Invocation.{Invocation}
 
 -- the path of a script
@@ -50,9 +51,18 @@ abbrev pub threads_words : Shape
 threads_words =
     record (new_shape (codes "threads")) { rules = number_word (codes "workers") 16 ∷ number_word (codes "turns") 1000 ∷ disk_words ∷ explain_words ∷ [] }
 
--- `bench`, maybe with the path of a store
+-- an option of this name, of whose value a parser says what it may be
+abbrev pub parsed_option : Text → ValueParser → Rule
+parsed_option id parser = record (new_rule id) { long = Some id; value_names = 1; parser = Some parser }
+
+-- an option of this name, with a number between these two
+abbrev pub option_words : Text → ℕ → ℕ → Rule
+option_words id least most = parsed_option id (vp.Signed (pos least) (pos most))
+
+-- `bench`, maybe with the path of a store, how many milliseconds a job goes on, and which one is wanted
 abbrev pub bench_words : Shape
-bench_words = record (new_shape (codes "bench")) { rules = disk_words ∷ explain_words ∷ [] }
+bench_words =
+    record (new_shape (codes "bench")) { rules = disk_words ∷ option_words (codes "millis") 10 60000 ∷ option_words (codes "job") 1 48 ∷ explain_words ∷ [] }
 
 -- the path of a store, which has to be there
 abbrev pub store_word : Rule
@@ -183,6 +193,12 @@ IsNumberOf None n = n ≡ 0
 IsNumberOf (Some text) n =
     IsNumeral 10 (without_leading_plus text) → digits_value 10 (without_leading_plus text) < 2 ^ 16 → n ≡ digits_value 10 (without_leading_plus text)
 
+-- The same of a number that may be left out: none where there is no text.
+abbrev pub IsNumberIfAny : Option Text → Option ℕ → Type 0
+IsNumberIfAny None number = number ≡ None
+IsNumberIfAny (Some text) number =
+    IsNumeral 10 (without_leading_plus text) → digits_value 10 (without_leading_plus text) < 2 ^ 16 → number ≡ Some (digits_value 10 (without_leading_plus text))
+
 -- the path of the file that a store is made of
 abbrev pub file_in : List Text → Option Text
 file_in words = option_and_then (λ found. first_of (codes "file") found.1) (subcommand_of command_line words)
@@ -201,6 +217,12 @@ pub record IsFlagOf (text : Option Text) (flag : Bool) : Type 0 where
 pub record AreNumbersIn (words : List Text) (workers turns : ℕ) : Type 0 where
   pub many : IsNumberOf (text_in (codes "workers") words) workers
   pub often : IsNumberOf (text_in (codes "turns") words) turns
+
+-- how jobs are to be timed: in which file, how long each, and which one
+pub record IsTimingIn (words : List Text) (timing : Timing) : Type 0 where
+  pub store : option_map (λ text. text.now) timing.disk ≡ disk_in words
+  pub time : IsNumberIfAny (text_in (codes "millis") words) timing.millis
+  pub line : IsNumberIfAny (text_in (codes "job") words) timing.job
 
 -- which store is to be shown, and how
 pub record IsShowingIn (words : List Text) (showing : Showing) : Type 0 where
@@ -225,7 +247,7 @@ IsAsked words (Run paths) =
     NamesNoOther words × (option_map (λ text. text.now) paths.script ≡ path_in words) × (option_map (λ text. text.now) paths.disk ≡ disk_in words)
 IsAsked words (Threads counting) =
     (command_in words ≡ Some (codes "threads")) × AreNumbersIn words counting.workers counting.turns × (option_map (λ text. text.now) counting.disk ≡ disk_in words)
-IsAsked words (Bench disk) = (command_in words ≡ Some (codes "bench")) × (option_map (λ text. text.now) disk ≡ disk_in words)
+IsAsked words (Bench timing) = (command_in words ≡ Some (codes "bench")) × IsTimingIn words timing
 IsAsked words (Show showing) = (command_in words ≡ Some (codes "show")) × IsShowingIn words showing
 IsAsked words (Init making) = (command_in words ≡ Some (codes "init")) × IsMakingIn words making
 IsAsked words (Serve serving) = (command_in words ≡ Some (codes "serve")) × IsServingIn words serving
@@ -253,10 +275,12 @@ pub record Counts (words : List Text) (workers turns : Text) (disk : Option Text
   pub often : text_in (codes "turns") words ≡ Some turns
   pub store : disk_in words ≡ disk
 
--- the jobs of a service are to be timed: in a file of this path, or of the usual one
-pub record Benches (words : List Text) (disk : Option Text) : Type 0 where
+-- the jobs of a service are to be timed: in a file of this path, or of the usual one; for so long, or for the usual time; and this one, or all
+pub record Benches (words : List Text) (disk millis job : Option Text) : Type 0 where
   pub asks : AsksToBench words
   pub store : disk_in words ≡ disk
+  pub time : text_in (codes "millis") words ≡ millis
+  pub line : text_in (codes "job") words ≡ job
 
 -- the store of this path is to be shown: as JSON or as text, with its bytes or without
 pub record Shows (words : List Text) (store json hex : Text) : Type 0 where
@@ -297,7 +321,7 @@ pub record ExplainsPlainly (name : Text) : Type 0 where
 -- how the plain command lines are read: `run` plays what stands on standard input, `run` with a path that file, each in
 -- memory or, behind `--disk`, on the store of that path; help and the version are requests; no command, an unknown one,
 -- `--disk` with no path and `--disk` twice are neither. `threads` takes two numbers, from 1 to 16 and from 1 to 1000: other ones,
--- what is no number, and fewer than two are neither. `bench` takes no number. `show` takes the path of a store, and both of its flags or none, in any
+-- what is no number, and fewer than two are neither. `bench` takes numbers behind its options alone. `show` takes the path of a store, and both of its flags or none, in any
 -- order. `init` takes the path of a store and that of a file, and maybe its flag, and `serve` the path of a store, and maybe that of a
 -- shape. `check` takes the path of a script alone. `--explain` stands behind each of the others.
 pub record ReadsPlainly (name : Text) : Type 0 where
@@ -321,8 +345,11 @@ pub record ReadsPlainly (name : Text) : Type 0 where
   pub many_turns : AreRefused (name ∷ codes "threads" ∷ codes "4" ∷ codes "1001" ∷ [])
   pub no_number : AreRefused (name ∷ codes "threads" ∷ codes "four" ∷ codes "100" ∷ [])
   pub one_number : AreRefused (name ∷ codes "threads" ∷ codes "4" ∷ [])
-  pub bench : Benches (name ∷ codes "bench" ∷ []) None
-  pub bench_on_store : Benches (name ∷ codes "bench" ∷ codes "--disk" ∷ codes "store" ∷ []) (Some (codes "store"))
+  pub bench : Benches (name ∷ codes "bench" ∷ []) None None None
+  pub bench_on_store : Benches (name ∷ codes "bench" ∷ codes "--disk" ∷ codes "store" ∷ []) (Some (codes "store")) None None
+  pub bench_one_job : Benches (name ∷ codes "bench" ∷ codes "--millis" ∷ codes "60000" ∷ codes "--job=48" ∷ []) None (Some (codes "60000")) (Some (codes "48"))
+  pub bench_too_short : AreRefused (name ∷ codes "bench" ∷ codes "--millis" ∷ codes "9" ∷ [])
+  pub bench_no_job : AreRefused (name ∷ codes "bench" ∷ codes "--job" ∷ codes "49" ∷ [])
   pub bench_by_number : AreRefused (name ∷ codes "bench" ∷ codes "4" ∷ [])
   pub show : Shows (name ∷ codes "show" ∷ codes "store" ∷ []) (codes "store") (codes "false") (codes "false")
   pub show_as_json : Shows (name ∷ codes "show" ∷ codes "store" ∷ codes "--json" ∷ []) (codes "store") (codes "true") (codes "false")

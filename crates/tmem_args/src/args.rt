@@ -5,7 +5,7 @@ ghost use Rattle.clap.specs.Kinds.{FailsBy};
 ghost use Rattle.clap.specs.Matches.{found_of};
 ghost use Rattle.clap.specs.Simple.{App, Shape, app_of, subcommand_of, subcommand_rows_of, with_subcommand as adding};
 ghost use Rattle.clap.specs.Walk.{Text, first_of, one_of, rows_of, rule_of};
-ghost use Rattle.tmem_args.specs.CommandLine.{IsAsked, IsNumberOf, IsTold, ReadsPlainly, IsFlagOf, bench_words, check_words, command_line, disk_words, explain_words, file_word, flag_word, init_words, number_word, parsed_word, program_alone, run_words, script_to_check, script_word, serve_words, shape_words, show_words, store_word, text_in, threads_words, why_not_done};
+ghost use Rattle.tmem_args.specs.CommandLine.{IsAsked, IsNumberIfAny, IsNumberOf, IsTold, ReadsPlainly, IsFlagOf, bench_words, check_words, command_line, disk_words, explain_words, file_word, flag_word, init_words, number_word, option_words, parsed_option, parsed_word, program_alone, run_words, script_to_check, script_word, serve_words, shape_words, show_words, store_word, text_in, threads_words, why_not_done};
 
 use clap::builder::ValueParser;
 use clap::{Arg, ArgAction, ArgMatches, Command, value_parser};
@@ -30,8 +30,8 @@ pub enum Asked<'a> {
     Run(Paths<'a>),
     /// Threads are to count up.
     Threads(Counting<'a>),
-    /// The jobs of a service are to be timed, in the file of this path or of the usual one.
-    Bench(Option<&'a str>),
+    /// The jobs of a service are to be timed.
+    Bench(Timing<'a>),
     /// A store is to be shown.
     Show(Showing<'a>),
     /// A store is to be made.
@@ -91,6 +91,17 @@ pub struct Counting<'a> {
     pub disk: Option<&'a str>,
 }
 
+/// How the jobs of a service are to be timed.
+#[derive(Clone, Copy)]
+pub struct Timing<'a> {
+    /// The file of the timed stores, or none for the usual one.
+    pub disk: Option<&'a str>,
+    /// For how many milliseconds each job goes on, from 10 to 60000, or none for the usual time.
+    pub millis: Option<u16>,
+    /// Which line of the table is wanted, from 1 to 48, or none for all.
+    pub job: Option<u16>,
+}
+
 /// What is asked for. Refused with what is to be told of the words: help or the version where it was asked for, else what is
 /// wrong with them.
 pub fn asked_of<'a>(alloc: Global, words: &'a [String]) -> Result<Invocation<'a>, clap::Error>
@@ -137,7 +148,7 @@ fn asked_in<'a>(matches: &ArgMatches<'a>) -> Asked<'a>
         return Asked::Threads(counting_of(threads));
     }
     if let Some(bench) = matches.subcommand_matches("bench") {
-        return Asked::Bench(disk_of(bench));
+        return Asked::Bench(timing_of(bench));
     }
     if let Some(show) = matches.subcommand_matches("show") {
         return Asked::Show(showing_of(show));
@@ -181,6 +192,19 @@ fn counting_of<'a>(threads: &ArgMatches<'a>) -> Counting<'a>
         workers: number_in(threads, "workers"),
         turns: number_in(threads, "turns"),
         disk: disk_of(threads),
+    }
+}
+
+// What `bench` is given.
+fn timing_of<'a>(bench: &ArgMatches<'a>) -> Timing<'a>
+    ensures disk { option_map (λ text. text.now) result.disk ≡ first_of (codes "disk") (rows_of (found_of bench.now)) }
+    ensures millis { IsNumberIfAny (one_of (codes "millis") (rows_of (found_of bench.now))) result.millis }
+    ensures job { IsNumberIfAny (one_of (codes "job") (rows_of (found_of bench.now))) result.job }
+{
+    Timing {
+        disk: disk_of(bench),
+        millis: number_if_any(bench, "millis"),
+        job: number_if_any(bench, "job"),
     }
 }
 
@@ -247,6 +271,13 @@ fn number_in(matches: &ArgMatches, id: &str) -> u16
     ensures { IsNumberOf (one_of id.now (rows_of (found_of matches.now))) result }
 {
     matches.get_one(id).unwrap_or(0)
+}
+
+// The same of an argument that may be left out.
+fn number_if_any(matches: &ArgMatches, id: &str) -> Option<u16>
+    ensures { IsNumberIfAny (one_of id.now (rows_of (found_of matches.now))) result }
+{
+    matches.get_one(id)
 }
 
 fn command<'a>(alloc: Global) -> Result<Command<'a>, AllocError>
@@ -326,6 +357,8 @@ fn bench_command<'a>(alloc: Global) -> Result<Command<'a>, AllocError>
             alloc,
             "The file of the timed stores, which must not be there yet, and is removed again [default: tmem-bench.store]",
         ))?
+        .arg(millis_arg(alloc))?
+        .arg(job_arg(alloc))?
         .arg(explain_arg(alloc))
 }
 
@@ -466,6 +499,39 @@ fn turns_arg<'a>(alloc: Global) -> Arg<'a>
 {
     let turns = value_parser!(u16).range(1..=1000);
     number_arg(alloc, "turns", "TURNS", turns).help("How often each of them adds 1, from 1 to 1000")
+}
+
+// `--millis` with how long a job goes on.
+fn millis_arg<'a>(alloc: Global) -> Arg<'a>
+    ensures rule { rule_of result ≡ option_words (codes "millis") 10 60000 }
+    ensures local { result.global ≡ false }
+{
+    let millis = value_parser!(u16).range(10..=60000);
+    option_arg(alloc, "millis", millis).help(
+        "For how many milliseconds each job goes on, from 10 to 60000 [default: 1000]",
+    )
+}
+
+// `--job` with the number of a line.
+fn job_arg<'a>(alloc: Global) -> Arg<'a>
+    ensures rule { rule_of result ≡ option_words (codes "job") 1 48 }
+    ensures local { result.global ≡ false }
+{
+    let lines = value_parser!(u16).range(1..=48);
+    option_arg(alloc, "job", lines).help(
+        "The one job to time, by its line in the table, from 1 to 48 [default: all]",
+    )
+}
+
+// A number behind an option of this name.
+fn option_arg<'a>(alloc: Global, id: &'a str, numbers: ValueParser<'a>) -> Arg<'a>
+    ensures rule { rule_of result ≡ parsed_option id.entry.now numbers.entry }
+    ensures local { result.global ≡ false }
+{
+    Arg::new(alloc, id)
+        .long(id)
+        .value_name("N")
+        .value_parser(numbers)
 }
 
 // A number, which has to be given.

@@ -5,6 +5,12 @@ use Rattle.tmem_builtins.specs.Invariants.{has_no_negative}
 use Rattle.tmem_core.specs.Program.{Program}
 use Rattle.tmem_bench.specs.declared.jobs.Act.{Act}
 use Rattle.tmem_bench.specs.declared.jobs.Act.TheVariants.{Add, AddMany, Transfer, TransferMany, WideMany, Look}
+use Rattle.tmem_bench.specs.declared.jobs.Callers.{Callers}
+use Rattle.tmem_bench.specs.declared.jobs.Callers.TheVariants.{Alone, Beside}
+use Rattle.tmem_bench.specs.declared.store.Task.{Task}
+use Rattle.tmem_bench.specs.declared.store.Task.TheVariants.{Serve, Fill, Open}
+use Rattle.tmem_bench.specs.declared.store.On.{On}
+use Rattle.tmem_bench.specs.declared.store.On.TheVariants.{Core, Store}
 
 -- what the invariant of a job is over: all 16 variables, or the two accounts
 abbrev pub variables_of : Act → List ℕ
@@ -14,6 +20,31 @@ variables_of AddMany = 1 ∷ 2 ∷ []
 variables_of Transfer = 1 ∷ 2 ∷ []
 variables_of TransferMany = 1 ∷ 2 ∷ []
 variables_of Look = 1 ∷ 2 ∷ []
+
+-- after how many transactions a caller waits
+abbrev pub stride_of : Act → ℕ
+stride_of Add = 1
+stride_of Transfer = 1
+stride_of AddMany = 64
+stride_of TransferMany = 64
+stride_of WideMany = 64
+stride_of Look = 64
+
+-- how many callers there are
+abbrev pub callers_in : Callers → ℕ
+callers_in Alone = 1
+callers_in (Beside count) = count
+
+-- what the invariant is over of a store with which this is done: the accounts where nothing moves
+abbrev pub variables_in : Task → List ℕ
+variables_in (Serve job) = variables_of job.act
+variables_in Fill = 1 ∷ 2 ∷ []
+variables_in Open = 1 ∷ 2 ∷ []
+
+-- the same, on a core or on a store
+abbrev pub variables_on : {D : Type 0} → On D → List ℕ
+variables_on (Core job) = variables_of job.act
+variables_on (Store disk task) = variables_in task
 
 -- the stored steps, and the one invariant, which is over these variables
 abbrev pub bench_bank : List ℕ → Program

@@ -1,5 +1,6 @@
 // Where a store is kept.
-ghost use Rattle.std.specs.Prelude.{◌≡◌, ◌≤◌, length, IfOk};
+ghost use Rattle.std.specs.Prelude.{◌≡◌, ◌≢◌, ◌≤◌, ◌↔◌, length, IfOk, IsTrue};
+ghost use Rattle.tmem_bench.specs.declared.device.Place.TheVariants.{Memory};
 
 use crate::error::{BenchError, now, since};
 use crate::figures::Figures;
@@ -10,9 +11,6 @@ use std::time::Duration;
 use tmem_disk::{Disk, SimDisk};
 use tmem_fault::Fault;
 use tmem_file::{FileDisk, NewFile};
-
-// The loop of two syncs goes on for so long.
-const SYNC_MILLIS: u64 = 250;
 
 // About as many bytes as a batch of one transaction has.
 const SYNCED_BYTES: usize = 32;
@@ -35,7 +33,9 @@ impl Place<'_> {
     }
 
     /// Whether it is a file.
-    pub fn is_file(self) -> bool {
+    pub fn is_file(self) -> bool
+        ensures { IsTrue result ↔ (self.entry ≢ Memory) }
+    {
         match self {
             Place::Memory => false,
             Place::File(_) => true,
@@ -68,23 +68,28 @@ pub fn removed<R: Files<File = File>, X: Drop>(
     }
 }
 
-/// What a new device does by two syncs alone: write, sync, write, sync, again and again.
+/// What a new device does by two syncs alone, for so long: write, sync, write, sync, again and again.
 pub fn two_syncs<R: Clock + Files<File = File> + AllocGlobal>(
     rt: &R,
     place: Place<'_>,
+    time: Duration,
 ) -> Result<Figures, BenchError> {
     match place {
-        Place::Memory => sync_on(rt, SimDisk::new(rt.alloc(), SYNCED_BYTES as u64)?),
+        Place::Memory => sync_on(rt, SimDisk::new(rt.alloc(), SYNCED_BYTES as u64)?, time),
         Place::File(path) => {
             let disk = new_file(rt, path, SYNCED_BYTES as u64)?;
-            let had = sync_on(rt, disk);
+            let had = sync_on(rt, disk, time);
             removed(rt, path, had)
         }
     }
 }
 
 // Writes a batch, and then a byte, as a flush does.
-fn sync_on<D: Disk + Drop, R: Clock>(rt: &R, mut disk: D) -> Result<Figures, BenchError>
+fn sync_on<D: Disk + Drop, R: Clock>(
+    rt: &R,
+    mut disk: D,
+    time: Duration,
+) -> Result<Figures, BenchError>
     requires { SYNCED_BYTES ≤ (D.view disk).capacity }
 {
     let start = now(rt)?;
@@ -94,7 +99,7 @@ fn sync_on<D: Disk + Drop, R: Clock>(rt: &R, mut disk: D) -> Result<Figures, Ben
         put(&mut disk, &batch)?;
         put(&mut disk, &batch[..1])?;
         had.operations = had.operations.saturating_add(1);
-        if since(rt, start)? >= Duration::from_millis(SYNC_MILLIS) {
+        if since(rt, start)? >= time {
             break;
         }
     }

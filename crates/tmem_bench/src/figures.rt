@@ -1,4 +1,7 @@
 // What was counted, and the line of it.
+ghost use Rattle.std.specs.Prelude.{◌≡◌, ◌+◌, ◌-◌, ◌^◌, min};
+ghost use Rattle.std.specs.Duration.{as_nanos, max_nanos};
+
 use crate::jobs::Callers;
 use std::fmt;
 use std::num::nearest_u64_to_f64;
@@ -14,7 +17,9 @@ pub struct Figures {
 
 impl Figures {
     /// Nothing yet.
-    pub fn zero() -> Figures {
+    pub fn zero() -> Figures
+        ensures { (result.operations ≡ 0) × (result.flushes ≡ 0) × (as_nanos result.time ≡ 0) }
+    {
         Figures {
             operations: 0,
             flushes: 0,
@@ -23,7 +28,9 @@ impl Figures {
     }
 
     /// Of one that took so long.
-    pub fn once(time: Duration) -> Figures {
+    pub fn once(time: Duration) -> Figures
+        ensures { (result.operations ≡ 1) × (result.flushes ≡ 0) × (result.time ≡ time) }
+    {
         Figures {
             operations: 1,
             flushes: 0,
@@ -32,7 +39,11 @@ impl Figures {
     }
 
     /// Both together.
-    pub fn with(self, other: Figures) -> Figures {
+    pub fn with(self, other: Figures) -> Figures
+        ensures operations { result.operations ≡ min (self.operations + other.operations) (2 ^ 64 - 1) }
+        ensures flushes { result.flushes ≡ min (self.flushes + other.flushes) (2 ^ 64 - 1) }
+        ensures time { as_nanos result.time ≡ min (as_nanos self.time + as_nanos other.time) max_nanos }
+    {
         Figures {
             operations: self.operations.saturating_add(other.operations),
             flushes: self.flushes.saturating_add(other.flushes),

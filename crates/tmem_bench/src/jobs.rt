@@ -1,8 +1,10 @@
 // What the callers of a store do.
-ghost use Rattle.tmem_bench.specs.Accounts.{variables_of};
-ghost use Rattle.std.specs.Prelude.{◌≡◌};
+ghost use Rattle.tmem_bench.specs.Accounts.{callers_in, stride_of, variables_of};
+ghost use Rattle.std.specs.Prelude.{◌≡◌, IfOk};
+ghost use Rattle.tmem_bench.specs.Transactions.{Does, MovesOne, ReadsAccounts};
 
 use std::alloc::{AllocError, Global};
+use std::time::Duration;
 use tmem_builtins::{add_to, all_of, put, read};
 use tmem_fault::{Fault, Name};
 use tmem_tree::Tx;
@@ -65,7 +67,9 @@ impl Act {
     }
 
     /// After so many a caller waits until the last of them is durable, and looks at the clock.
-    pub fn stride(self) -> u64 {
+    pub fn stride(self) -> u64
+        ensures { result ≡ stride_of self }
+    {
         match self {
             Act::Add | Act::Transfer => 1,
             Act::AddMany | Act::TransferMany | Act::WideMany | Act::Look => 64,
@@ -83,7 +87,9 @@ impl Act {
     }
 
     /// Its transaction.
-    pub fn transaction(self, alloc: Global) -> Result<Tx, AllocError> {
+    pub fn transaction(self, alloc: Global) -> Result<Tx, AllocError>
+        ensures { IfOk result (Does self) }
+    {
         match self {
             Act::Add | Act::AddMany => add_to(alloc, COUNTER, 1),
             Act::Transfer | Act::TransferMany | Act::WideMany => transfer(alloc),
@@ -103,7 +109,9 @@ pub enum Callers {
 
 impl Callers {
     /// How many there are.
-    pub fn count(self) -> usize {
+    pub fn count(self) -> usize
+        ensures { result ≡ callers_in self }
+    {
         match self {
             Callers::Alone => 1,
             Callers::Beside(callers) => callers,
@@ -119,11 +127,12 @@ impl Callers {
     }
 }
 
-/// What so many callers do.
+/// What so many callers do, and for how long.
 #[derive(Clone, Copy)]
 pub struct Job {
     pub act: Act,
     pub callers: Callers,
+    pub time: Duration,
 }
 
 const ACTS: [Act; 4] = [Act::Add, Act::AddMany, Act::Transfer, Act::Look];
@@ -149,18 +158,20 @@ pub const LOOSE_JOBS: usize = 4;
 
 impl Job {
     /// The jobs, in the order of the table.
-    pub fn at(place: usize) -> Job {
+    pub fn at(place: usize, time: Duration) -> Job {
         Job {
             act: ACTS[place / 5 % 4],
             callers: CALLERS[place % 5],
+            time,
         }
     }
 
     /// The jobs in memory alone.
-    pub fn loose_at(place: usize) -> Job {
+    pub fn loose_at(place: usize, time: Duration) -> Job {
         Job {
             act: LOOSE_ACTS[place / 2 % 2],
             callers: LOOSE_CALLERS[place % 2],
+            time,
         }
     }
 }
@@ -173,12 +184,16 @@ pub fn deposits(alloc: Global) -> Result<Tx, Fault> {
 }
 
 // Moves 1 between the accounts.
-fn transfer(alloc: Global) -> Result<Tx, AllocError> {
+fn transfer(alloc: Global) -> Result<Tx, AllocError>
+    ensures { IfOk result MovesOne }
+{
     let (paid, received) = (add_to(alloc, PAYER, -1)?, add_to(alloc, PAYEE, 1)?);
     Ok(all_of(vec![in alloc; paid, received]?))
 }
 
-fn two_reads(alloc: Global) -> Result<Tx, AllocError> {
+fn two_reads(alloc: Global) -> Result<Tx, AllocError>
+    ensures { IfOk result ReadsAccounts }
+{
     let (payer, payee) = (read(PAYER), read(PAYEE));
     Ok(all_of(vec![in alloc; payer.into_register(0), payee.into_register(1)]?))
 }

@@ -19,4 +19,4 @@ mod store;
 pub use error::BenchError;
 pub use figures::{Figures, Line};
 pub use jobs::Callers;
-pub use run::run_jobs;
+pub use run::{JobsWanted, run_jobs};

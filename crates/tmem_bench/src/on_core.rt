@@ -1,14 +1,16 @@
 // The core alone: no device, and no other thread.
 ghost use Rattle.std.specs.Prelude.{◌≡◌, [], length, IfOk};
 ghost use Rattle.tmem_core.specs.Held.{core_state};
+ghost use Rattle.tmem_bench.specs.Accounts.{bench_bank, variables_of};
 ghost use Rattle.tmem_tree.specs.Plans.{FitsSteps, FitsVariables, FitsNames};
 
 use crate::error::{BenchError, now, since};
 use crate::figures::Figures;
-use crate::jobs::{Act, DEPOSIT, SOLVENT};
+use crate::jobs::{DEPOSIT, Job, SOLVENT};
 use crate::service::is_over;
 use std::alloc::Global;
 use std::rt::Clock;
+use std::time::Duration;
 use tmem_core::Core;
 use tmem_fault::{Fault, Name};
 use tmem_invariants::Invariants;
@@ -19,19 +21,21 @@ use tmem_tree::{MAX_TURNS, Plan, StoredSteps};
 // After so many transactions they are noted as durable, and the clock is read.
 const ROUND: u64 = 64;
 
-/// What transactions on a core come to. Every variable has something at the start, and the invariant is registered.
+/// What the transactions of a job on a core come to. Every variable has something at the start, and the invariant is registered.
 pub fn run_on_core<R: Clock, T: Invariants + Drop, S: StoredSteps>(
     rt: &R,
     alloc: Global,
     vars: u16,
-    act: Act,
+    job: Job,
     table: T,
     steps: &S,
 ) -> Result<Figures, BenchError>
-    requires { T.vars table ≡ vars }
+    requires vars { T.vars table ≡ vars }
+    requires names { T.names table ≡ (bench_bank (variables_of job.act)).names }
+    requires stated { T.is_stated table (bench_bank (variables_of job.act)).tests }
 {
     let mut core = new_core(alloc, vars, table)?;
-    plan_on(rt, alloc, vars, act, &mut core, steps)
+    plan_on(rt, alloc, vars, job, &mut core, steps)
 }
 
 // Makes the plan.
@@ -39,17 +43,25 @@ fn plan_on<R: Clock, T: Invariants + Drop, S: StoredSteps>(
     rt: &R,
     alloc: Global,
     vars: u16,
-    act: Act,
+    job: Job,
     core: &mut Core<T>,
     steps: &S,
 ) -> Result<Figures, BenchError>
     requires { length (core_state core.old).values ≡ vars }
 {
-    let plan = Plan::new(act.transaction(alloc)?, steps, vars, &[])?;
-    settle_on(rt, core, &mut Cursor::idle(alloc), &plan, steps, vars)
+    let plan = Plan::new(job.act.transaction(alloc)?, steps, vars, &[])?;
+    settle_on(
+        rt,
+        core,
+        &mut Cursor::idle(alloc),
+        &plan,
+        steps,
+        vars,
+        job.time,
+    )
 }
 
-// Settles a plan over so many variables for a while.
+// Settles a plan over so many variables for so long.
 fn settle_on<R: Clock, T: Invariants + Drop, S: StoredSteps>(
     rt: &R,
     core: &mut Core<T>,
@@ -57,6 +69,7 @@ fn settle_on<R: Clock, T: Invariants + Drop, S: StoredSteps>(
     plan: &Plan,
     steps: &S,
     vars: u16,
+    time: Duration,
 ) -> Result<Figures, BenchError>
     requires sized { length (core_state core.old).values ≡ vars }
     requires steps { FitsSteps (S.arities steps.now) plan.now.tree }
@@ -68,7 +81,7 @@ fn settle_on<R: Clock, T: Invariants + Drop, S: StoredSteps>(
     for _ in 0..u64::MAX {
         settle_round(core, cursor, plan, steps, vars)?;
         had.operations = had.operations.saturating_add(ROUND);
-        if is_over(rt, start) {
+        if is_over(rt, start, time) {
             break;
         }
     }

@@ -10,17 +10,19 @@ use std::fs::{self, File, Files};
 use std::rt::Clock;
 use std::sync::Wait;
 use std::thread::Threads;
+use std::time::Duration;
 use tmem_fault::Fault;
 use tmem_file::FileDisk;
 use tmem_journal::{Layout, format};
 
-/// What openings of a store whose log is full came to, and what as many times two reads of its file came to.
+/// What openings of a store whose log is full came to in so much time, and what as many times two reads of its file came to.
 pub fn open_again<R: Clock + Files<File = File> + AllocGlobal + Threads + Wait + Sync>(
     rt: &R,
     path: &str,
+    time: Duration,
 ) -> Result<(Figures, Figures), BenchError> {
     let disk = new_file(rt, path, Layout::new(MANY, SLOTS)?.end())?;
-    let had = fill_and_open(rt, disk, path);
+    let had = fill_and_open(rt, disk, path, time);
     removed(rt, path, had)
 }
 
@@ -29,13 +31,14 @@ fn fill_and_open<R: Clock + Files<File = File> + AllocGlobal + Threads + Wait + 
     rt: &R,
     mut disk: FileDisk,
     path: &str,
+    time: Duration,
 ) -> Result<(Figures, Figures), BenchError> {
     format(&mut disk, MANY, SLOTS)?;
     with_bank(rt, MANY, On::Store(disk, Task::Fill))?;
     let start = now(rt)?;
     let (mut opened, mut read) = (Figures::zero(), Figures::zero());
     for _ in 0..u64::MAX {
-        if is_over(rt, start) {
+        if is_over(rt, start, time) {
             break;
         }
         opened = opened.with(open_once(rt, path)?);

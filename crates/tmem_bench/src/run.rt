@@ -1,7 +1,8 @@
 // Runs the jobs, and prints what they did.
-ghost use Rattle.std.specs.Prelude.{◌≡◌, ◌∷◌, ℕ, List, OnOk, length};
+ghost use Rattle.std.specs.Prelude.{◌≡◌, ◌≤◌, ◌+◌, ◌*◌, ◌∷◌, ℕ, List, IfSome, OnOk, length};
 ghost use Rattle.std.specs.Io.KnownBytes.{Appends};
-ghost use Rattle.tmem_bench.specs.Printed.{head, line, printed, PrintsTable};
+ghost use Rattle.std.specs.Duration.{as_nanos};
+ghost use Rattle.tmem_bench.specs.Printed.{head, line, lines_wanted, printed, PrintsTable};
 
 use crate::device::{Place, new_file, removed, two_syncs};
 use crate::error::BenchError;
@@ -15,6 +16,7 @@ use std::io::Write;
 use std::rt::Clock;
 use std::sync::Wait;
 use std::thread::Threads;
+use std::time::Duration;
 use tmem_disk::{Disk, SimDisk};
 use tmem_journal::{Layout, format};
 
@@ -26,22 +28,66 @@ const HEAD: &str =
 // openings.
 const LINES: usize = 2 * JOBS + LOOSE_JOBS + 4;
 
+/// Which jobs are wanted, where, and for how long.
+#[derive(Clone, Copy)]
+pub struct JobsWanted<'a> {
+    /// The path of their file.
+    pub path: &'a str,
+    /// For how many milliseconds each goes on.
+    pub millis: u16,
+    /// The one that is wanted, by its line in the table, from 1 to 48, or none for all. What is no line counts as the nearest one.
+    pub job: Option<u16>,
+}
+
+impl JobsWanted<'_> {
+    // For how long each job goes on.
+    fn time(self) -> Duration
+        ensures { as_nanos result ≡ self.entry.millis * 1_000_000 }
+    {
+        Duration::from_millis(u64::from(self.millis))
+    }
+
+    // For how long each loop of two syncs goes on: a quarter of that.
+    fn sync_time(self) -> Duration
+        ensures { as_nanos result ≡ self.entry.millis * 250_000 }
+    {
+        Duration::from_micros(u64::from(self.millis) * 250)
+    }
+
+    // Which lines are wanted: from this place in the table up to that one.
+    fn places(self) -> (usize, usize)
+        ensures many { result.1 ≡ result.0 + lines_wanted self.entry.job }
+        ensures most { result.1 ≤ 48 }
+        ensures last { IfSome self.entry.job (λ job. 1 ≤ job → job ≤ 48 → result.1 ≡ job) }
+    {
+        match self.job {
+            None => (0, LINES),
+            Some(job) => {
+                let place = usize::from(job).saturating_sub(1);
+                let first = if place < LINES { place } else { LINES - 1 };
+                (first, first + 1)
+            }
+        }
+    }
+}
+
 /// Runs the jobs of a service: an add and transfers on the core alone, all jobs on a device in memory, and some there alone; all of
 /// them in a file, which is made for each job and removed after it, also where the job fails, and openings of a file. Prints the head
-/// of a table, and a line as each job ends. Refused by `Device`, before anything is printed or touched, where something has the path
-/// or no file can be made there.
+/// of a table, and a line as each job ends that is wanted. Refused by `Device`, before anything is printed or touched, where something
+/// has the path or no file can be made there.
 pub fn run_jobs<R: Clock + Files<File = File> + AllocGlobal + Threads + Wait + Sync, W: Write>(
     rt: &R,
-    path: &str,
+    wanted: JobsWanted<'_>,
     out: &mut W,
 ) -> Result<(), BenchError>
-    ensures printed { OnOk result ((lines : List (List ℕ)) × (length lines ≡ 48)
+    ensures printed { OnOk result ((lines : List (List ℕ)) × (length lines ≡ lines_wanted wanted.entry.job)
         × Appends (W.contents out.old) (W.contents out.new) (printed (head ∷ lines))) }
 {
-    two_syncs(rt, Place::File(path))?;
+    two_syncs(rt, Place::File(wanted.path), wanted.sync_time())?;
     print_line(out, HEAD)?;
-    for place in 0..LINES {
-        let text = line_at(rt, path, place)?;
+    let (first, end) = wanted.places();
+    for place in first..end {
+        let text = line_at(rt, wanted, place)?;
         print_line(out, text.as_str())?;
     }
     Ok(())
@@ -57,17 +103,23 @@ fn print_line<W: Write>(out: &mut W, text: &str) -> Result<(), BenchError>
 // A line of the table.
 fn line_at<R: Clock + Files<File = File> + AllocGlobal + Threads + Wait + Sync>(
     rt: &R,
-    path: &str,
+    wanted: JobsWanted<'_>,
     place: usize,
 ) -> Result<String, BenchError> {
+    let (file, time, sync_time) = (Place::File(wanted.path), wanted.time(), wanted.sync_time());
     match place {
-        0 => line_of_core(rt, "add", Act::Add),
-        1 => line_of_core(rt, "transfer", Act::Transfer),
-        2 => line_of_core(rt, "wide transfer", Act::WideMany),
-        3..23 => line_of_job(rt, Place::Memory, Job::at(place - 3)),
-        23..27 => line_of_job(rt, Place::Memory, Job::loose_at(place - 23)),
-        27..47 => line_of_job(rt, Place::File(path), Job::at(place - 27)),
-        _ => line_of_openings(rt, path),
+        0 => line_of_core(rt, "add", Act::Add, time),
+        1 => line_of_core(rt, "transfer", Act::Transfer, time),
+        2 => line_of_core(rt, "wide transfer", Act::WideMany, time),
+        3..23 => line_of_job(rt, Place::Memory, Job::at(place - 3, time), sync_time),
+        23..27 => line_of_job(
+            rt,
+            Place::Memory,
+            Job::loose_at(place - 23, time),
+            sync_time,
+        ),
+        27..47 => line_of_job(rt, file, Job::at(place - 27, time), sync_time),
+        _ => line_of_openings(rt, wanted.path, time),
     }
 }
 
@@ -76,27 +128,31 @@ fn line_of_core<R: Clock + AllocGlobal + Threads + Wait + Sync>(
     rt: &R,
     name: &'static str,
     act: Act,
+    time: Duration,
 ) -> Result<String, BenchError> {
+    let callers = Callers::Alone;
+    let job = Job { act, callers, time };
     let line = Line {
         device: "core",
         name,
-        callers: Callers::Alone,
-        had: with_bank::<SimDisk, R>(rt, VARS, On::Core(act))?,
+        callers,
+        had: with_bank::<SimDisk, R>(rt, VARS, On::Core(job))?,
         baseline: None,
     };
     Ok(format!(in rt.alloc(); "{line}")?)
 }
 
-// A job on a device. One that makes a file durable runs between two loops of syncs.
+// A job on a device. One that makes a file durable runs between two loops of syncs, each for so long.
 fn line_of_job<R: Clock + Files<File = File> + AllocGlobal + Threads + Wait + Sync>(
     rt: &R,
     place: Place<'_>,
     job: Job,
+    sync_time: Duration,
 ) -> Result<String, BenchError> {
     let (had, baseline) = if place.is_file() && job.act != Act::Look {
-        let before = two_syncs(rt, place)?;
+        let before = two_syncs(rt, place, sync_time)?;
         let had = run(rt, place, job)?;
-        let after = two_syncs(rt, place)?;
+        let after = two_syncs(rt, place, sync_time)?;
         (had, Some(before.with(after)))
     } else {
         (run(rt, place, job)?, None)
@@ -142,8 +198,9 @@ fn run_in<D: Disk + Drop + Send, R: Clock + AllocGlobal + Threads + Wait + Sync>
 fn line_of_openings<R: Clock + Files<File = File> + AllocGlobal + Threads + Wait + Sync>(
     rt: &R,
     path: &str,
+    time: Duration,
 ) -> Result<String, BenchError> {
-    let (had, baseline) = open_again(rt, path)?;
+    let (had, baseline) = open_again(rt, path, time)?;
     let line = Line {
         device: "file",
         name: "open 1024 variables",

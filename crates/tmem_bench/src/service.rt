@@ -18,16 +18,13 @@ use tmem_invariants::Invariants;
 use tmem_state::MAX_RECORDS;
 use tmem_tree::{Plan, StoredSteps, Tx};
 
-// A job goes on for so long.
-const JOB_MILLIS: u64 = 1000;
-
 // A batch has so many records at most.
 const RECORDS: u16 = MAX_RECORDS as u16;
 
-/// Whether a job that began then is over, or the clock cannot be read.
-pub fn is_over<R: Clock>(rt: &R, start: Instant) -> bool {
+/// Whether so much time is over since then, or the clock cannot be read.
+pub fn is_over<R: Clock>(rt: &R, start: Instant, time: Duration) -> bool {
     match start.elapsed(rt) {
-        Ok(elapsed) => elapsed >= Duration::from_millis(JOB_MILLIS),
+        Ok(elapsed) => elapsed >= time,
         Err(_) => true,
     }
 }
@@ -51,7 +48,7 @@ pub trait Service {
     /// Puts something into the accounts, registers the invariant, and makes that durable.
     fn prepare<R: Wait>(&self, rt: &R, alloc: Global) -> Result<(), Fault>;
 
-    /// Does a caller's part of a job, until the time from the start is over.
+    /// Does a caller's part of a job, until its time from the start is over.
     fn work<R: Clock + Wait>(
         &self,
         rt: &R,
@@ -158,7 +155,7 @@ fn settle_once<
     Ok(())
 }
 
-// Settles a plan again and again, until the time from the start is over.
+// Settles a plan again and again, until the time of the job from the start is over.
 fn settle_until<
     D: Disk + Drop,
     N: StoreNaming,
@@ -181,7 +178,7 @@ fn settle_until<
     let mut had = Figures::zero();
     for _ in rt.forever() {
         settle_some(rt, front, pass, plan, job, &mut had)?;
-        if is_over(rt, start) {
+        if is_over(rt, start, job.time) {
             return Ok(had);
         }
     }

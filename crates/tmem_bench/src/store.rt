@@ -3,7 +3,7 @@ ghost use Rattle.std.specs.Prelude.{◌≡◌, length};
 ghost use Rattle.std.specs.List.{list_any};
 ghost use Rattle.tmem_front.specs.Held.{front_found, spine_of, front_steps, front_table};
 ghost use Rattle.tmem_builtins.specs.Invariants.{has_no_negative, is_negative};
-ghost use Rattle.tmem_bench.specs.Accounts.{bench_bank};
+ghost use Rattle.tmem_bench.specs.Accounts.{bench_bank, variables_in, variables_on};
 
 use crate::error::BenchError;
 use crate::figures::Figures;
@@ -38,16 +38,18 @@ pub enum Task {
 #[derive(Drop)]
 pub enum On<D: Disk> {
     /// On a core alone.
-    Core(Act),
+    Core(Job),
     /// On the store of a device, which was formatted.
     Store(D, Task),
 }
 
 impl<D: Disk> On<D> {
     // What the invariant is over.
-    fn footprint(&self) -> &'static [u16] {
+    fn footprint(&self) -> &'static [u16]
+        ensures { result.now ≡ variables_on self.now }
+    {
         match self {
-            On::Core(act) => act.footprint(),
+            On::Core(job) => job.act.footprint(),
             On::Store(_, Task::Serve(job)) => job.act.footprint(),
             On::Store(_, Task::Fill | Task::Open) => Act::Add.footprint(),
         }
@@ -67,14 +69,13 @@ pub fn with_bank<D: Disk + Drop + Send, R: Clock + AllocGlobal + Threads + Wait 
             ensures { result ≡ has_no_negative accounts.now }
         { !has_negative(accounts) },
     )?;
-    let footprint = on.footprint();
-    let variables = Vec::from_slice(alloc, footprint)?;
+    let variables = Vec::from_slice(alloc, on.footprint())?;
     let solvent = Invariant::new(Name::new(SOLVENT)?, variables, solvent)?;
     let table = Table::of(alloc, vec![in alloc; solvent]?, vars)?;
     let steps = stored_steps();
     match on {
-        On::Core(act) => run_on_core(rt, alloc, vars, act, table, &steps),
-        On::Store(disk, task) => open(rt, vars, disk, task, footprint, table, steps),
+        On::Core(job) => run_on_core(rt, alloc, vars, job, table, &steps),
+        On::Store(disk, task) => open(rt, vars, disk, task, table, steps),
     }
 }
 
@@ -90,23 +91,15 @@ fn open<
     T: Invariants + Drop + Send,
     S: StoredSteps + Drop + Send + Sync,
     R: Clock + AllocGlobal + Threads + Wait + Sync,
->(
-    rt: &R,
-    vars: u16,
-    disk: D,
-    task: Task,
-    footprint: &[u16],
-    table: T,
-    steps: S,
-) -> Result<Figures, BenchError>
+>(rt: &R, vars: u16, disk: D, task: Task, table: T, steps: S) -> Result<Figures, BenchError>
     requires vars { T.vars table ≡ vars }
-    requires names { T.names table ≡ (bench_bank footprint.now).names }
-    requires stated { T.is_stated table (bench_bank footprint.now).tests }
-    requires steps { S.is_stated steps (bench_bank footprint.now).steps }
+    requires names { T.names table ≡ (bench_bank (variables_in task)).names }
+    requires stated { T.is_stated table (bench_bank (variables_in task)).tests }
+    requires steps { S.is_stated steps (bench_bank (variables_in task)).steps }
 {
     let alloc = rt.alloc();
     match OpenedFront::open(alloc, disk, vars, SLOTS, table, steps) {
-        Ok(opened) => with_front::<Brand, D, T, S, R>(rt, alloc, opened, footprint, task),
+        Ok(opened) => with_front::<Brand, D, T, S, R>(rt, alloc, opened, task),
         Err((fault, _disk)) => Err(BenchError::Refused(fault)),
     }
 }
@@ -117,16 +110,10 @@ fn with_front<
     T: Invariants + Drop + Send,
     S: StoredSteps + Drop + Send + Sync,
     R: Clock + Threads + Wait + Sync,
->(
-    rt: &R,
-    alloc: Global,
-    opened: OpenedFront<D, T, S>,
-    footprint: &[u16],
-    task: Task,
-) -> Result<Figures, BenchError>
+>(rt: &R, alloc: Global, opened: OpenedFront<D, T, S>, task: Task) -> Result<Figures, BenchError>
     requires spine { spine_of opened ≡ N.name }
     requires opening { front_found opened ≡ N.opening }
-    requires program { N.program ≡ bench_bank footprint.now }
+    requires program { N.program ≡ bench_bank (variables_in task) }
     requires names { T.names (front_table opened) ≡ N.program.names }
     requires stated { T.is_stated (front_table opened) N.program.tests }
     requires steps { S.is_stated (front_steps opened) N.program.steps }

@@ -15,14 +15,14 @@ use Rattle.tmem_script.specs.declared.script.ScriptError.{ScriptError}
 use Rattle.tmem_script.specs.declared.script.ScriptError.TheVariants as error
 use Rattle.tmem_bench.specs.declared.error.BenchError.{BenchError}
 use Rattle.tmem_bench.specs.declared.error.BenchError.TheVariants as bench
-use Rattle.tmem_bench.specs.Printed.{head, printed}
+use Rattle.tmem_bench.specs.Printed.{head, lines_wanted, printed}
 use Rattle.tmem_threads.specs.Counting.{AreTotals}
 use Rattle.tmem_file.specs.declared.disk.FileDisk.{FileDisk}
 use Rattle.tmem_threads.specs.declared.store.TheConstants.{VARS, SLOTS}
 use Rattle.tmem_threads.specs.declared.store.Totals.{Totals}
 use Rattle.tmem_threads.specs.declared.workers.Work.{Work}
 use Rattle.tmem_run.specs.declared.playing.Played.{Played}
-use Rattle.tmem_args.specs.CommandLine.{AsksToPlay, AsksToCount, AsksToBench, AsksToShow, AsksToInit, AsksToServe, AsksToCheck, AsksForHelp, AreNumbersIn, path_in, disk_in}
+use Rattle.tmem_args.specs.CommandLine.{AsksToPlay, AsksToCount, AsksToBench, AsksToShow, AsksToInit, AsksToServe, AsksToCheck, AsksForHelp, AreNumbersIn, IsNumberIfAny, path_in, disk_in, text_in}
 use Rattle.tmem_cli.specs.Checked.{HasFlaws, IsScriptThere}
 use Rattle.tmem_run.specs.Printed.{line}
 use Rattle.tmem_cli.specs.Shaped.{MakesStore, ServesAnyShape}
@@ -98,9 +98,13 @@ IsWhyNotCounted f = (f ≡ failure.Output) ⊎ ((fault : Fault) × (f ≡ failur
 abbrev pub IsWhyNotTimed : ProgramFailure → Type 0
 IsWhyNotTimed f = (f ≡ failure.Clock) ⊎ IsWhyNotCounted f
 
--- The head of a table was printed, and below it a line for each job.
-abbrev pub TimesJobs : Option (List ℕ) → Option (List ℕ) → Type 0
-TimesJobs before after = (lines : List (List ℕ)) × (length lines ≡ 48) × Appends before after (printed (head ∷ lines))
+-- The head of a table was printed, and below it a line for the job of this number, or for each.
+abbrev pub TimesJobs : Option ℕ → Option (List ℕ) → Option (List ℕ) → Type 0
+TimesJobs job before after = (lines : List (List ℕ)) × (length lines ≡ lines_wanted job) × Appends before after (printed (head ∷ lines))
+
+-- the same of the job that the words name
+abbrev pub TimesAs : List Text → Option (List ℕ) → Option (List ℕ) → Type 0
+TimesAs words before after = (job : Option ℕ) × IsNumberIfAny (text_in (codes "job") words) job × TimesJobs job before after
 
 -- what the user is told where the jobs ended early
 abbrev pub failure_of : BenchError → ProgramFailure
@@ -127,7 +131,7 @@ abbrev pub IsDone : List Text → Option (List ℕ) → Option (List ℕ) → Op
 IsDone words left rest device before after =
     AsksForHelp words
     ⊎ ((AsksToPlay words × PlaysRead (MayBeRead (path_in words) left) (disk_in words) device before after)
-    ⊎ ((AsksToCount words × CountsAs words before after) ⊎ ((AsksToBench words × TimesJobs before after) ⊎ (DoesWithStore words left rest before after ⊎ (AsksToCheck words × IsScriptThere)))))
+    ⊎ ((AsksToCount words × CountsAs words before after) ⊎ ((AsksToBench words × TimesAs words before after) ⊎ (DoesWithStore words left rest before after ⊎ (AsksToCheck words × IsScriptThere)))))
 
 -- Status 1: the same was asked for, and it failed on the way.
 abbrev pub IsFailed : List Text → Option (List ℕ) → Option Played → Type 0

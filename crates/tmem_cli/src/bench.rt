@@ -7,21 +7,30 @@ use std::io::Write;
 use std::rt::Clock;
 use std::sync::Wait;
 use std::thread::Threads;
-use tmem_bench::{BenchError, run_jobs};
+use tmem_args::Timing;
+use tmem_bench::{BenchError, JobsWanted, run_jobs};
 use tmem_script::ProgramFailure;
 
 // The file of the timed stores, where the words name none.
 pub(crate) const STORE: &str = "tmem-bench.store";
 
-/// Times the jobs on stores in memory and in a file, which must not be there yet, and prints what each came to.
+// How many milliseconds a job goes on, where the words do not say it.
+const MILLIS: u16 = 1000;
+
+/// Times the jobs that are asked for on stores in memory and in a file, which must not be there yet, and prints what each came to.
 pub(crate) fn run_bench<
     R: Files<File = File> + AllocGlobal + Threads + Wait + Clock + Sync,
     W: Write,
->(rt: &R, path: Option<&str>, out: &mut W) -> Result<(), ProgramFailure>
-    ensures timed { OnOk result (TimesJobs (W.contents out.old) (W.contents out.new)) }
+>(rt: &R, timing: Timing<'_>, out: &mut W) -> Result<(), ProgramFailure>
+    ensures timed { OnOk result (TimesJobs timing.entry.job (W.contents out.old) (W.contents out.new)) }
     ensures failed { IfErr result IsWhyNotTimed }
 {
-    match run_jobs(rt, path.unwrap_or(STORE), out) {
+    let wanted = JobsWanted {
+        path: timing.disk.unwrap_or(STORE),
+        millis: timing.millis.unwrap_or(MILLIS),
+        job: timing.job,
+    };
+    match run_jobs(rt, wanted, out) {
         Ok(()) => Ok(()),
         Err(error) => Err(failure(error)),
     }

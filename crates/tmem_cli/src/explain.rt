@@ -403,7 +403,7 @@ fn store_of<'a>(asked: Asked<'a>) -> Option<(&'a str, Wanted)> {
     match asked {
         Asked::Run(paths) => Some((paths.disk?, Wanted::FoundOrMade)),
         Asked::Threads(counting) => Some((counting.disk?, Wanted::Made)),
-        Asked::Bench(path) => Some((path.unwrap_or(STORE), Wanted::Made)),
+        Asked::Bench(timing) => Some((timing.disk.unwrap_or(STORE), Wanted::Made)),
         Asked::Show(showing) => Some((showing.store?, Wanted::Read)),
         Asked::Init(making) if making.is_in_place => Some((making.store?, Wanted::Found)),
         Asked::Init(making) => Some((making.store?, Wanted::FoundOrMade)),

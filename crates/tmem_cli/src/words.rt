@@ -24,7 +24,7 @@ use std::io::{Read, Write};
 use std::rt::Clock;
 use std::sync::Wait;
 use std::thread::Threads;
-use tmem_args::{Asked, Counting, Invocation, Making, Paths, Serving, Showing, asked_of};
+use tmem_args::{Asked, Counting, Invocation, Making, Paths, Serving, Showing, Timing, asked_of};
 use tmem_run::{Notes, Played, play, print_line};
 use tmem_script::{ProgramFailure, Script, ScriptError, WordsError, report};
 use tmem_threads::Work;
@@ -75,8 +75,8 @@ pub fn run_words<R: Read, W: Write, E: Write>(
             let outcome = count(rt, counting, out, &mut notes);
             (conclude(rt, told, &notes, outcome, err), None)
         }
-        Asked::Bench(path) => {
-            let outcome = bench(rt, path, out);
+        Asked::Bench(timing) => {
+            let outcome = bench(rt, timing, out);
             (conclude(rt, told, &notes, outcome, err), None)
         }
         Asked::Show(showing) => {
@@ -249,13 +249,13 @@ fn count<W: Write>(
 /// Times the jobs of a service, in memory and in a file, and prints what each came to.
 fn bench<W: Write>(
     rt: &(impl Files<File = File> + AllocGlobal + Threads + Wait + Clock + Sync),
-    path: Option<&str>,
+    timing: Timing,
     out: &mut W,
 ) -> Result<(), ProgramFailure>
-    ensures timed { OnOk result (TimesJobs (W.contents out.old) (W.contents out.new)) }
+    ensures timed { OnOk result (TimesJobs timing.entry.job (W.contents out.old) (W.contents out.new)) }
     ensures failed { IfErr result IsWhyNotTimed }
 {
-    run_bench(rt, path, out)?;
+    run_bench(rt, timing, out)?;
     flush(out)
 }
 

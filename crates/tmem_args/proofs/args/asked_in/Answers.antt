@@ -1,6 +1,6 @@
 use Rattle.std.proofs.Common.{None, codes, refl, subst, sym, ◌∙◌}
 use Rattle.clap.specs.Walk.{first_of, one_of}
-use Rattle.tmem_args.specs.CommandLine.{IsFlagOf}
+use Rattle.tmem_args.specs.CommandLine.{IsFlagOf, IsNumberIfAny}
 use Rattle.tmem_args.proofs.Asking.{given, named, names_no_other}
 use Rattle.tmem_args.proofs.args.asked_in.Goals as goal
 
@@ -18,6 +18,18 @@ returns c words met =
       names_no_other c.args.matches.now words met (λ is. cc (c.in_default.ensures.found.1 is)) (λ is. cc (c.in_default-subcommand_matches.ensures.found.1 is)) (λ is. cc (c.in_default-subcommand_matches-2.ensures.found.1 is)) (λ is. cc (c.in_default-subcommand_matches-3.ensures.found.1 is)) (λ is. cc (c.in_default-subcommand_matches-4.ensures.found.1 is)) (λ is. cc (c.in_default-subcommand_matches-5.ensures.found.1 is)),
       c.paths_of.ensures.script ∙ given c.args.matches.now words met (first_of (codes "script")) _ rows,
       c.paths_of.ensures.disk ∙ given c.args.matches.now words met (first_of (codes "disk")) _ rows,
+    )
+
+pub returns-in-Some-subcommand_matches : goal.returns-in-Some-subcommand_matches
+returns-in-Some-subcommand_matches c words met =
+    let it = c.in-Some-subcommand_matches.ensures in
+    let rows = sym it.rows in (
+      named c.args.matches.now words met ∙ it.found.0 refl,
+      record {
+        store = c.timing_of.ensures.disk ∙ given c.args.matches.now words met (first_of (codes "disk")) _ rows;
+        time = subst (λ t. IsNumberIfAny t c.timing_of.result.millis) (given c.args.matches.now words met (one_of (codes "millis")) _ rows) c.timing_of.ensures.millis;
+        line = subst (λ t. IsNumberIfAny t c.timing_of.result.job) (given c.args.matches.now words met (one_of (codes "job")) _ rows) c.timing_of.ensures.job;
+      },
     )
 
 pub returns-in-Some-subcommand_matches-2 : goal.returns-in-Some-subcommand_matches-2

@@ -25,8 +25,11 @@ returns c = λ name. record {
   many_turns = (λ e. cc, λ is. elim is [ inl e ↦ e | inr e ↦ e ]);
   no_number = (λ e. cc, λ is. elim is [ inl e ↦ e | inr e ↦ e ]);
   one_number = (λ e. cc, λ is. elim is [ inl e ↦ e | inr e ↦ e ]);
-  bench = record { asks = (refl, refl); store = refl };
-  bench_on_store = record { asks = (refl, refl); store = refl };
+  bench = record { asks = (refl, refl); store = refl; time = refl; line = refl };
+  bench_on_store = record { asks = (refl, refl); store = refl; time = refl; line = refl };
+  bench_one_job = record { asks = (refl, refl); store = refl; time = refl; line = refl };
+  bench_too_short = (λ e. cc, λ is. elim is [ inl e ↦ e | inr e ↦ e ]);
+  bench_no_job = (λ e. cc, λ is. elim is [ inl e ↦ e | inr e ↦ e ]);
   bench_by_number = (λ e. cc, λ is. elim is [ inl e ↦ e | inr e ↦ e ]);
   show = record { asks = (refl, refl); path = refl; as_json = refl; with_hex = refl };
   show_as_json = record { asks = (refl, refl); path = refl; as_json = refl; with_hex = refl };

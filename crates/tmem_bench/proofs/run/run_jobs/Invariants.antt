@@ -1,7 +1,7 @@
-use Rattle.std.proofs.Common.{◌≤◌}
+use Rattle.std.proofs.Common.{◌≡◌, ◌≤◌, ◌+◌, ℕ}
 use Rattle.tmem_bench.specs.Printed.{PrintsTable}
 use Rattle.tmem_bench.proofs.run.run_jobs.Given as goal
 
--- the lines so far
+-- the lines so far, from the first one on
 abbrev pub invariant-loop-place : goal.invariant-loop-place
-invariant-loop-place g l = PrintsTable (g.W.Write.contents l.fn.out) (g.W.Write.contents l.out) l.place × (l.place ≤ 48)
+invariant-loop-place g l = ((n : ℕ) × PrintsTable (g.W.Write.contents l.fn.out) (g.W.Write.contents l.out) n × (l.first + n ≡ l.place)) × (l.place ≤ l.end)

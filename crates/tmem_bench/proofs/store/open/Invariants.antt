@@ -1,5 +1,5 @@
 use Rattle.tmem_front.specs.Held.{front_found, spine_of}
-use Rattle.tmem_bench.specs.Accounts.{bench_bank}
+use Rattle.tmem_bench.specs.Accounts.{bench_bank, variables_in}
 use Rattle.tmem_bench.proofs.store.open.Given as goal
 
 -- the store that was just opened
@@ -7,7 +7,7 @@ abbrev pub ghosts-with_front-N-Naming : goal.ghosts-with_front-N-Naming
 ghosts-with_front-N-Naming g a = record { name = spine_of a.opened }
 
 abbrev pub ghosts-with_front-N-ProgramNaming : goal.ghosts-with_front-N-ProgramNaming
-ghosts-with_front-N-ProgramNaming g a = record { program = bench_bank a.footprint.now }
+ghosts-with_front-N-ProgramNaming g a = record { program = bench_bank (variables_in a.task) }
 
 abbrev pub ghosts-with_front-N-StoreNaming : goal.ghosts-with_front-N-StoreNaming
 ghosts-with_front-N-StoreNaming g a = record { opening = front_found a.opened }
