@@ -42,7 +42,7 @@ bench: build
 
 # Proves the program, and times it beside Redis, LMDB, SQLite, PostgreSQL and GHC's stm, in five minutes at most. bench/packages names
 # the Debian packages that these need; one without them is left out. Leaves tables, all samples and plots in bench/out.
-ROUNDS = 5
+ROUNDS = 12
 
 bench-peers: build
 	@bench/compare crates/tmem/out/tmem --rounds $(ROUNDS)

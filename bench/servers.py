@@ -1,9 +1,11 @@
-"""The folder in which the peers run, and the servers of Redis and PostgreSQL in it. All ends with the `with` that began it."""
+"""The folder in which the peers run, and the servers of Redis and PostgreSQL in it, which each round starts anew. All ends with the
+`with` that began it."""
 import os
 import pwd
 import shutil
 import socket
 import subprocess
+import sys
 import tempfile
 import time
 
@@ -89,18 +91,16 @@ def listens(at):
     return True
 
 
-def start_redis(room, server):
+def start_redis(room, server, number):
     """Redis, which answers once its log is synced, and takes no snapshots. Answers the server, and where it is asked."""
-    folder = room.new("redis")
+    folder = room.new(f"redis{number}")
     at = f"{folder}/socket"
     words = ["--port", "0", "--unixsocket", at, "--dir", folder, "--appendonly", "yes", "--appendfsync", "always", "--save", ""]
     return Server("redis", [*bound("KILL"), server, *words], f"{room.path}/redis.log", lambda: listens(at)), at
 
 
-def start_postgres(room, server):
-    """PostgreSQL as it is installed, but for serializable transactions and no network."""
-    folder, programs = room.new("postgres"), os.path.dirname(server)
-    user = "postgres" if os.getuid() == 0 else None
+def make_postgres(folder, programs, user):
+    """Makes what PostgreSQL keeps in a folder, which all rounds use, and has it written before anything is timed."""
     if user:
         try:
             owner = pwd.getpwnam(user)
@@ -111,6 +111,15 @@ def start_postgres(room, server):
     it = subprocess.run(made, cwd="/", stdin=subprocess.DEVNULL, stdout=subprocess.PIPE, stderr=subprocess.STDOUT, text=True)
     if it.returncode:
         raise CannotStart(f"postgres: initdb: {it.stdout[-300:].strip()}")
+    os.sync()
+
+
+def start_postgres(room, server, number):
+    """PostgreSQL as it is installed, but for serializable transactions and no network."""
+    folder, programs = f"{room.path}/postgres", os.path.dirname(server)
+    user = "postgres" if os.getuid() == 0 else None
+    if number == 1:
+        make_postgres(room.new("postgres"), programs, user)
     words = ["-D", f"{folder}/data", "-k", folder, "-c", "listen_addresses=", "-c", "default_transaction_isolation=serializable"]
     asked = [f"{programs}/pg_isready", "-q", "-h", folder]
     is_ready = lambda: subprocess.run(asked, stdin=subprocess.DEVNULL).returncode == 0  # noqa: E731
@@ -118,3 +127,36 @@ def start_postgres(room, server):
 
 
 STARTS = {"redis": start_redis, "postgres": start_postgres}
+
+
+class Servers:
+    """The servers of the peers that are there, for a round. What one start of a server brings about, as where its memory lies, is
+    another one in each round, and so in the spread of the figures."""
+
+    def __init__(self, room, paths):
+        self.room, self.left_out, self.running = room, {}, []
+        self.paths = {peer: server for peer, server in paths.items() if peer in STARTS}
+
+    def start(self, number):
+        """Starts them for the round of a number, from 1, and answers where each is asked. One that cannot be started for the first
+        round is left out of all."""
+        places = {}
+        for peer, server in self.paths.items():
+            if peer not in self.left_out:
+                try:
+                    it, places[peer] = STARTS[peer](self.room, server, number)
+                    self.running.append(it)
+                except CannotStart as error:
+                    if number > 1:
+                        raise
+                    self.left_out[peer] = str(error)
+        return places
+
+    def stop(self):
+        """Stops all of them, also where one of them resists."""
+        while self.running:
+            it = self.running.pop()
+            try:
+                it.stop()
+            except OSError as error:
+                print(f"{it.name}: {error}", file=sys.stderr)
