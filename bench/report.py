@@ -20,8 +20,9 @@ PARTS = {
 
 
 def spread(values):
-    """The median, the least and the most."""
-    return {"median": statistics.median(values), "least": min(values), "most": max(values)}
+    """The median, the least and the most; and the one in the middle, or the two, as the lower and the upper one."""
+    middle = [statistics.median_low(values), statistics.median_high(values)]
+    return {"median": statistics.median(values), "least": min(values), "most": max(values), "middle": middle}
 
 
 def summarize(samples):
