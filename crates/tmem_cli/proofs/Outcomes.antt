@@ -1,6 +1,6 @@
 -- What became of a command line.
 use Rattle.std.proofs.Common.{◌≡◌, ◌≤◌, ℕ, List, [], ◌∷◌, Option, Some, None, Bor, Result, Ok, Err, refl, sym, inl, inr, subst, option_map, ◌∙◌, append-nil, arith}
-use Rattle.std.specs.Prelude.{IfErr, IsSome, OnOk, OnErr, MatchResult}
+use Rattle.std.specs.Prelude.{IfErr, IsSome, OnErr, MatchResult}
 use Rattle.std.proofs.lemmas.Bool.{false≢true}
 use Rattle.std.proofs.lemmas.Option.{none-some}
 use Rattle.std.specs.Io.KnownBytes.{Keeps}

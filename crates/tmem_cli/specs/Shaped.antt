@@ -1,5 +1,5 @@
 -- What `init` makes of the shape of a store, and how `serve` serves that.
-use Rattle.std.specs.Prelude.{ℕ, Bool, true, List, [], ◌∷◌, Option, map, filter}
+use Rattle.std.specs.Prelude.{ℕ, true, List, [], ◌∷◌, Option, map, filter}
 use Rattle.std.specs.Io.KnownBytes.{IsAtEnd}
 use Rattle.tmem_disk.specs.Disk.{DeviceView}
 use Rattle.tmem_core.specs.Program.{Program}
