@@ -7,8 +7,9 @@ use crate::failure::StoreFailure;
 use crate::init::text_in;
 use std::alloc::Global;
 use std::fmt::Display;
-use std::fs::{File, Files};
+use std::fs::{self, File, Files};
 use std::io::{self, Write};
+use std::os::unix::fs::FileTypeExt;
 use tmem_args::Asked;
 use tmem_desk::DeskFailure;
 use tmem_explain::{
@@ -44,6 +45,11 @@ const TEXT_UNREAD: &str =
     "what has the path of its shape, STORE.json, cannot be read; look at its rights, or move it away";
 
 const A_STORE: &str = "it is a store already; serve it, or name another";
+
+const A_DEVICE: &str = "it is a block device; add --in-place to make a store on it";
+
+const PLACED_OR_NOT: &str =
+    "the device failed while the store was made on it, so it is made or not; look into the system's log (dmesg), and give the same words again: they make it, or say that the device is not blank, and then it is made";
 
 const NOT_BLANK: &str =
     "it has bytes other than 0, and a store is made in place of nothing else; name another, or fill it with zeros";
@@ -156,6 +162,9 @@ fn explain_store_failure<E: Write>(
         StoreFailure::NotMade(InitError::Refused(fault))
         | StoreFailure::NotServed(ServeError::Ended(DeskFailure::Fault(fault)))
         | StoreFailure::Refused(fault) => tell_refused(rt, asked, &notes, *fault, err),
+        StoreFailure::NotMade(InitError::StoreIsThere) if is_block_device(rt, asked) => {
+            tell_of(err, asked, A_DEVICE)
+        }
         StoreFailure::NotMade(InitError::StoreIsThere) => tell_of(err, asked, DeviceCause::There),
         StoreFailure::NotMade(InitError::NotBlank) if is_store(rt, asked) => {
             tell_of(err, asked, A_STORE)
@@ -233,6 +242,17 @@ fn is_store(rt: &(impl Files<File = File> + AllocGlobal), asked: Asked) -> bool 
     }
 }
 
+// Whether a block device has the path of the store.
+fn is_block_device(rt: &(impl Files<File = File> + AllocGlobal), asked: Asked) -> bool {
+    let Some((path, _)) = store_of(asked) else {
+        return false;
+    };
+    match fs::metadata(rt, path) {
+        Ok(found) => found.file_type().is_block_device(),
+        Err(_) => false,
+    }
+}
+
 // Tells why the file that is read first was not: a script, or a shape.
 fn tell_unread<E: Write>(
     rt: &(impl Files<File = File> + AllocGlobal),
@@ -277,9 +297,13 @@ fn tell_refused<E: Write>(
             } else {
                 wanted
             };
-            let cause = cause_of(rt, path, wanted, size_asked(rt, asked, notes));
-            tell_cause(err, path, cause)
+            tell_device(rt, asked, path, wanted, size_asked(rt, asked, notes), err)
         }
+        (Fault::Unknown, _) if matches!(asked, Asked::Init(_)) => tell_of(
+            err,
+            asked,
+            PLACED_OR_NOT,
+        ),
         (Fault::Damaged | Fault::NotFormatted, Some((path, _))) => {
             if tell_bytes(rt, path, err)? {
                 return Ok(());
@@ -294,6 +318,35 @@ fn tell_refused<E: Write>(
             ),
         ),
         (_, _) => tell_of(err, asked, FaultHelp(fault)),
+    }
+}
+
+// Tells why the file of the store could not be used; and where nothing is found there, why that of the shape beside it could not be made.
+fn tell_device<E: Write>(
+    rt: &(impl Files<File = File> + AllocGlobal),
+    asked: Asked,
+    path: &str,
+    wanted: Wanted,
+    size: u64,
+    err: &mut E,
+) -> io::Result<()> {
+    let cause = cause_of(rt, path, wanted, size);
+    if cause == DeviceCause::Call(CallCause::Other) && places_shape(asked) {
+        if let Ok(beside) = shape_beside(rt.alloc(), path) {
+            let of_shape = cause_of(rt, beside.as_str(), wanted, 0);
+            if of_shape != cause {
+                return tell_cause(err, beside.as_str(), of_shape);
+            }
+        }
+    }
+    tell_cause(err, path, cause)
+}
+
+// Whether a shape is put beside the store.
+fn places_shape(asked: Asked) -> bool {
+    match asked {
+        Asked::Init(making) => !making.is_in_place,
+        _ => false,
     }
 }
 
@@ -417,7 +470,8 @@ fn shape_beside(alloc: Global, store: &str) -> Result<String, StoreFailure> {
     Ok(format!(in alloc; "{store}.json")?)
 }
 
-// Tells of each entry that was refused what its fault means, of a transaction which node breaks a limit, and of a call which cause.
+// Tells of each entry that was refused what its fault means, of a transaction which node breaks a limit, and of a call which cause. Then
+// what a run in a file committed and left that is not durable.
 fn explain_entries<E: Write>(
     rt: &(impl Files<File = File> + AllocGlobal),
     asked: Asked,
@@ -428,7 +482,10 @@ fn explain_entries<E: Write>(
     for refused in notes.refused() {
         explain_entry(rt, path, notes.text(), refused, err)?;
     }
-    Ok(())
+    match (path, notes.lost()) {
+        (Some(path), Some(lost)) => tell(err, format_args!("{path}: {lost}")),
+        (_, _) => Ok(()),
+    }
 }
 
 fn explain_entry<E: Write>(
