@@ -44,6 +44,11 @@ impl<R: Clock> Pace for Counted<'_, R> {
         self.turns = self.turns.saturating_add(1);
         self.pace.next()
     }
+
+    fn next_when_full(&mut self) -> bool {
+        self.turns = self.turns.saturating_add(1);
+        self.pace.next_when_full()
+    }
 }
 
 /// What threads do with a store that they share. The functions that start threads know no more of it.

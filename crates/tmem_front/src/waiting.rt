@@ -318,7 +318,7 @@ impl<D: Disk + Drop, N: StoreNaming, T: Invariants + Drop, S: StoredSteps + Drop
         ensures refused { IfErr result IsFlusherRefusal }
     {
         for _ in rt.forever() {
-            if !pace.next() {
+            if !self.has_turn(rt, pace) {
                 return Ok(());
             }
             let core = self.wait_for_commit(rt, self.core.lock(rt));
@@ -328,6 +328,20 @@ impl<D: Disk + Drop, N: StoreNaming, T: Invariants + Drop, S: StoredSteps + Drop
             self.flush_with_room(rt)?;
         }
         unreachable!()
+    }
+
+    // Whether a flusher takes another turn. Its pace is asked under no lock.
+    fn has_turn<R: Wait, P: Pace>(&self, rt: &R, pace: &mut P) -> bool {
+        if self.has_batch(rt) {
+            pace.next_when_full()
+        } else {
+            pace.next()
+        }
+    }
+
+    // Whether a whole batch waits to be durable.
+    fn has_batch<R: Wait>(&self, rt: &R) -> bool {
+        self.core.lock(rt).has_batch()
     }
 
     // Waits under the core's lock until a transaction waits to be durable, or the front is shut.
