@@ -7,8 +7,8 @@ use Rattle.tmem_bench.specs.declared.jobs.Act.{Act}
 use Rattle.tmem_bench.specs.declared.jobs.Act.TheVariants.{Add, AddMany, Transfer, TransferMany, WideMany, Look}
 use Rattle.tmem_bench.specs.declared.jobs.Callers.{Callers}
 use Rattle.tmem_bench.specs.declared.jobs.Callers.TheVariants.{Alone, Beside}
-use Rattle.tmem_bench.specs.declared.store.Task.{Task}
-use Rattle.tmem_bench.specs.declared.store.Task.TheVariants.{Serve, Fill, Open}
+use Rattle.tmem_bench.specs.declared.store.StoreUse.{StoreUse}
+use Rattle.tmem_bench.specs.declared.store.StoreUse.TheVariants.{Serve, Fill, Open}
 use Rattle.tmem_bench.specs.declared.store.On.{On}
 use Rattle.tmem_bench.specs.declared.store.On.TheVariants.{Core, Store}
 
@@ -36,7 +36,7 @@ callers_in Alone = 1
 callers_in (Beside count) = count
 
 -- what the invariant is over of a store with which this is done: the accounts where nothing moves
-abbrev pub variables_in : Task → List ℕ
+abbrev pub variables_in : StoreUse → List ℕ
 variables_in (Serve job) = variables_of job.act
 variables_in Fill = 1 ∷ 2 ∷ []
 variables_in Open = 1 ∷ 2 ∷ []

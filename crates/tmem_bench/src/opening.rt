@@ -4,7 +4,7 @@ use crate::error::{BenchError, now, since};
 use crate::figures::Figures;
 use crate::jobs::{MANY, SLOTS};
 use crate::service::is_over;
-use crate::store::{On, Task, with_bank};
+use crate::store::{On, StoreUse, with_bank};
 use std::alloc::AllocGlobal;
 use std::fs::{self, File, Files};
 use std::rt::Clock;
@@ -34,7 +34,7 @@ fn fill_and_open<R: Clock + Files<File = File> + AllocGlobal + Threads + Wait + 
     time: Duration,
 ) -> Result<(Figures, Figures), BenchError> {
     format(&mut disk, MANY, SLOTS)?;
-    with_bank(rt, MANY, On::Store(disk, Task::Fill))?;
+    with_bank(rt, MANY, On::Store(disk, StoreUse::Fill))?;
     let start = now(rt)?;
     let (mut opened, mut read) = (Figures::zero(), Figures::zero());
     for _ in 0..u64::MAX {
@@ -54,7 +54,7 @@ fn open_once<R: Clock + Files<File = File> + AllocGlobal + Threads + Wait + Sync
 ) -> Result<Figures, BenchError> {
     let start = now(rt)?;
     let disk = FileDisk::open(rt, path, u64::MAX)?;
-    with_bank(rt, MANY, On::Store(disk, Task::Open))?;
+    with_bank(rt, MANY, On::Store(disk, StoreUse::Open))?;
     Ok(Figures::once(since(rt, start)?))
 }
 

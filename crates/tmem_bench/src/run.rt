@@ -9,7 +9,7 @@ use crate::error::BenchError;
 use crate::figures::{Figures, Line};
 use crate::jobs::{Act, Callers, JOBS, Job, LOOSE_JOBS, SLOTS, VARS};
 use crate::opening::open_again;
-use crate::store::{On, Task, with_bank};
+use crate::store::{On, StoreUse, with_bank};
 use std::alloc::AllocGlobal;
 use std::fs::{File, Files};
 use std::io::Write;
@@ -191,7 +191,7 @@ fn run_in<D: Disk + Drop + Send, R: Clock + AllocGlobal + Threads + Wait + Sync>
     job: Job,
 ) -> Result<Figures, BenchError> {
     format(&mut disk, VARS, SLOTS)?;
-    with_bank(rt, VARS, On::Store(disk, Task::Serve(job)))
+    with_bank(rt, VARS, On::Store(disk, StoreUse::Serve(job)))
 }
 
 // Openings of a store, one after another.

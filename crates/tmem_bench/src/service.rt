@@ -41,10 +41,15 @@ impl<R: Clock> Pace for Counted<'_, R> {
         self.turns = self.turns.saturating_add(1);
         self.pace.next()
     }
+
+    fn next_when_full(&mut self) -> bool {
+        self.turns = self.turns.saturating_add(1);
+        self.pace.next_when_full()
+    }
 }
 
 /// What threads do with a store that they share. The functions that start threads know no more of it.
-pub trait Service {
+pub trait SharedStore {
     /// Puts something into the accounts, registers the invariant, and makes that durable.
     fn prepare<R: Wait>(&self, rt: &R, alloc: Global) -> Result<(), Fault>;
 
@@ -67,7 +72,7 @@ pub trait Service {
     fn fill<R: Wait>(&self, rt: &R, alloc: Global) -> Result<(), Fault>;
 }
 
-impl<D: Disk + Drop, N: StoreNaming, T: Invariants + Drop, S: StoredSteps + Drop> Service
+impl<D: Disk + Drop, N: StoreNaming, T: Invariants + Drop, S: StoredSteps + Drop> SharedStore
     for Front<D, N, T, S> {
     fn prepare<R: Wait>(&self, rt: &R, alloc: Global) -> Result<(), Fault> {
         deposit(rt, alloc, self)?;
@@ -239,7 +244,7 @@ fn number_of(settled: &Settled) -> Option<u64> {
 }
 
 /// Runs a job on a new store, until all that it committed is durable.
-pub fn serve<F: Service + Sync, R: Clock + Threads + Wait + Sync>(
+pub fn serve<F: SharedStore + Sync, R: Clock + Threads + Wait + Sync>(
     rt: &R,
     alloc: Global,
     store: &F,
@@ -257,7 +262,7 @@ pub fn serve<F: Service + Sync, R: Clock + Threads + Wait + Sync>(
 
 // Callers beside a flusher in a thread of its own, which ends once they have ended and all is durable. Its refusal comes before
 // those that follow from it. With no thread for it nobody calls.
-fn work_beside<F: Service + Sync, R: Clock + Threads + Wait + Sync>(
+fn work_beside<F: SharedStore + Sync, R: Clock + Threads + Wait + Sync>(
     rt: &R,
     alloc: Global,
     store: &F,
@@ -277,7 +282,7 @@ fn work_beside<F: Service + Sync, R: Clock + Threads + Wait + Sync>(
 }
 
 // All callers, each in a thread of its own where one can be made, and else one after another.
-fn work_all<F: Service + Sync, R: Clock + Threads + Wait + Sync>(
+fn work_all<F: SharedStore + Sync, R: Clock + Threads + Wait + Sync>(
     rt: &R,
     alloc: Global,
     store: &F,

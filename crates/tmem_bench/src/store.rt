@@ -9,7 +9,7 @@ use crate::error::BenchError;
 use crate::figures::Figures;
 use crate::jobs::{Act, Job, SLOTS, SOLVENT};
 use crate::on_core::run_on_core;
-use crate::service::{Service, serve};
+use crate::service::{SharedStore, serve};
 use std::alloc::{AllocGlobal, Global};
 use std::marker::Brand;
 use std::rt::Clock;
@@ -25,7 +25,7 @@ use tmem_tree::StoredSteps;
 
 /// What is done with a store once it is open.
 #[derive(Clone, Copy)]
-pub enum Task {
+pub enum StoreUse {
     /// Runs a job.
     Serve(Job),
     /// Fills the log.
@@ -40,7 +40,7 @@ pub enum On<D: Disk> {
     /// On a core alone.
     Core(Job),
     /// On the store of a device, which was formatted.
-    Store(D, Task),
+    Store(D, StoreUse),
 }
 
 impl<D: Disk> On<D> {
@@ -50,8 +50,8 @@ impl<D: Disk> On<D> {
     {
         match self {
             On::Core(job) => job.act.footprint(),
-            On::Store(_, Task::Serve(job)) => job.act.footprint(),
-            On::Store(_, Task::Fill | Task::Open) => Act::Add.footprint(),
+            On::Store(_, StoreUse::Serve(job)) => job.act.footprint(),
+            On::Store(_, StoreUse::Fill | StoreUse::Open) => Act::Add.footprint(),
         }
     }
 }
@@ -91,7 +91,7 @@ fn open<
     T: Invariants + Drop + Send,
     S: StoredSteps + Drop + Send + Sync,
     R: Clock + AllocGlobal + Threads + Wait + Sync,
->(rt: &R, vars: u16, disk: D, task: Task, table: T, steps: S) -> Result<Figures, BenchError>
+>(rt: &R, vars: u16, disk: D, task: StoreUse, table: T, steps: S) -> Result<Figures, BenchError>
     requires vars { T.vars table ≡ vars }
     requires names { T.names table ≡ (bench_bank (variables_in task)).names }
     requires stated { T.is_stated table (bench_bank (variables_in task)).tests }
@@ -110,7 +110,12 @@ fn with_front<
     T: Invariants + Drop + Send,
     S: StoredSteps + Drop + Send + Sync,
     R: Clock + Threads + Wait + Sync,
->(rt: &R, alloc: Global, opened: OpenedFront<D, T, S>, task: Task) -> Result<Figures, BenchError>
+>(
+    rt: &R,
+    alloc: Global,
+    opened: OpenedFront<D, T, S>,
+    task: StoreUse,
+) -> Result<Figures, BenchError>
     requires spine { spine_of opened ≡ N.name }
     requires opening { front_found opened ≡ N.opening }
     requires program { N.program ≡ bench_bank (variables_in task) }
@@ -128,13 +133,13 @@ fn use_front<
     T: Invariants + Drop + Send,
     S: StoredSteps + Drop + Send + Sync,
     R: Clock + Threads + Wait + Sync,
->(rt: &R, alloc: Global, front: &Front<D, N, T, S>, task: Task) -> Result<Figures, BenchError> {
+>(rt: &R, alloc: Global, front: &Front<D, N, T, S>, task: StoreUse) -> Result<Figures, BenchError> {
     match task {
-        Task::Serve(job) => serve(rt, alloc, front, job),
-        Task::Fill => {
+        StoreUse::Serve(job) => serve(rt, alloc, front, job),
+        StoreUse::Fill => {
             front.fill(rt, alloc)?;
             Ok(Figures::zero())
         }
-        Task::Open => Ok(Figures::zero()),
+        StoreUse::Open => Ok(Figures::zero()),
     }
 }

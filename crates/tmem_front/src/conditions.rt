@@ -81,10 +81,11 @@ impl Conditions {
     pub(crate) fn sleep_for_work<'a, R: Wait, N: StoreNaming, T: Invariants + Drop>(
         &self,
         rt: &R,
-        core: MutexGuard<'a, CoreSeat<N, T>>,
+        mut core: MutexGuard<'a, CoreSeat<N, T>>,
     ) -> MutexGuard<'a, CoreSeat<N, T>>
         requires { ¬ HasWorkOrShut N.name.start (mutex_guard_value core) }
     {
+        core.rest();
         self.committed.wait(rt, core)
     }
 
@@ -115,15 +116,19 @@ impl Conditions {
         self.end_waits_for_commits();
     }
 
-    /// Lets the core's lock go, and tells of a commit: the flushers, and each pass that waits for what this effect writes.
+    /// Lets the core's lock go, and tells of a commit: the flushers, where one sleeps, and each pass that waits for what this effect
+    /// writes.
     pub(crate) fn tell_commit<N: StoreNaming, T: Invariants + Drop>(
         &self,
         mut core: MutexGuard<CoreSeat<N, T>>,
         effect: &Effect,
     ) {
         let woken = core.wake(effect);
+        let wakes_flushers = core.rouse();
         drop(core);
-        self.committed.notify_all();
+        if wakes_flushers {
+            self.committed.notify_all();
+        }
         if woken != 0 {
             self.wake(woken);
         }

@@ -15,10 +15,16 @@ const MOST_YIELDS: u32 = 1000;
 pub trait Pace {
     /// Whether there is to be another turn. It is asked at the start of each, and may take its time, so that callers gather.
     fn next(&mut self) -> bool;
+
+    /// The same where a whole batch waits already, so that nobody has to gather. It is asked in place of `next` then.
+    fn next_when_full(&mut self) -> bool {
+        self.next()
+    }
 }
 
 /// A pace with no end: the flusher goes on until the store is shut. Where a store has several callers, it lets them in for
-/// some ten microseconds at the start of each turn, so that one flush makes the transactions of several durable.
+/// some ten microseconds at the start of each turn, so that one flush makes the transactions of several durable, unless a whole batch
+/// waits already.
 #[derive(Drop)]
 pub struct Gathering<'a, R: Clock> {
     clock: &'a R,
@@ -41,6 +47,12 @@ impl<R: Clock> Pace for Gathering<'_, R> {
         if self.has_several {
             let_others_in(self.clock);
         }
+        self.next_when_full()
+    }
+
+    fn next_when_full(&mut self) -> bool
+        ensures { result ≡ true }
+    {
         true
     }
 }

@@ -10,6 +10,7 @@ ghost use Rattle.tmem_core.specs.Program.{IsProgramOf};
 ghost use Rattle.tmem_spine.specs.History.{count};
 ghost use Rattle.tmem_spine.specs.Views.{new_core, new_pass};
 ghost use Rattle.tmem_spine.specs.declared.spine.TheConstants.{MOST_PASSES};
+ghost use Rattle.tmem_state.specs.declared.records.TheConstants.{MAX_RECORDS};
 ghost use Rattle.tmem_seats.specs.Deciding.{Decides};
 ghost use Rattle.tmem_seats.specs.Flushing.{BatchGoesOn, TakesOldest};
 ghost use Rattle.tmem_seats.specs.Histories.{state_after_history, marked, numbered, IsSoundState};
@@ -24,7 +25,7 @@ use tmem_effect::Effect;
 use tmem_fault::{Fault, Name};
 use tmem_invariants::Invariants;
 use tmem_spine::{CoreSide, JournalSide, PassSide, Spine};
-use tmem_state::Batch;
+use tmem_state::{Batch, MAX_RECORDS};
 use tmem_tentative::{Attempt, Probe, Reads};
 
 /// The core, beside its seat. Contracts see what it committed, how many are known durable, how many passes it gave out,
@@ -38,6 +39,8 @@ pub struct CoreSeat<N: StoreNaming, T: Invariants> {
     is_draining: bool,
     failure: Failure,
     sleepers: Sleepers,
+    // a flusher sleeps until something is committed
+    is_flusher_asleep: bool,
 }
 
 // By hand, so that a function that drops one makes one call.
@@ -50,6 +53,7 @@ impl<N: StoreNaming, T: Invariants + Drop> Drop for CoreSeat<N, T> {
             is_draining: _is_draining,
             failure: _failure,
             sleepers: _sleepers,
+            is_flusher_asleep: _is_flusher_asleep,
         } = self;
     }
 }
@@ -82,12 +86,15 @@ impl<N: StoreNaming, T: Invariants + Drop> CoreSeat<N, T> {
             is_draining,
             failure,
             sleepers: Sleepers::new(),
+            is_flusher_asleep: false,
         }
     }
 
     /// Settles an attempt for a pass. The core first learns how many are durable, at least as many as the pass saw, and
     /// then answers by its present state. The answer leaves out the registers, which are those of the attempt. What commits
-    /// is committed under the mark of the pass, which has it as its own. The pass knows all that is committed then.
+    /// is committed under the mark of the pass, which has it as its own. The pass knows all that is committed then. (As a part of its
+    /// callers: an answer that came by way of memory would be waited for.)
+    #[inline(always)]
     pub fn decide(
         &mut self,
         spine: &Spine<N>,
@@ -233,6 +240,13 @@ impl<N: StoreNaming, T: Invariants + Drop> CoreSeat<N, T> {
         self.durable() < self.count()
     }
 
+    /// Whether as many are not known durable as a batch has records at most.
+    pub fn has_batch(&self) -> bool
+        ensures { IsTrue result ↔ (self.now.trimmed + MAX_RECORDS ≤ count N.name.start self.now.committed) }
+    {
+        self.count().saturating_sub(self.durable()) >= MAX_RECORDS as u64
+    }
+
     /// Whether it was shut.
     pub fn is_shut(&self) -> bool
         ensures { result ≡ self.now.is_shut }
@@ -289,6 +303,22 @@ impl<N: StoreNaming, T: Invariants + Drop> CoreSeat<N, T> {
         ensures { self.new ≡ self.old }
     {
         self.sleepers.wake(effect)
+    }
+
+    /// A flusher sleeps until something is committed.
+    pub fn rest(&mut self)
+        ensures { self.new ≡ self.old }
+    {
+        self.is_flusher_asleep = true;
+    }
+
+    /// Whether a flusher sleeps. Whoever asks wakes each, so none sleeps any more.
+    pub fn rouse(&mut self) -> bool
+        ensures { self.new ≡ self.old }
+    {
+        let is_asleep = self.is_flusher_asleep;
+        self.is_flusher_asleep = false;
+        is_asleep
     }
 
     /// How often whoever waits has looked at what it waits for.

@@ -2,8 +2,8 @@
 use super::moves::Answer::{Committed, Done, Holds, Nothing, Number, Refused, Value};
 use super::moves::Move::{
     AddDurably, Await, AwaitHeld, Checkpoint, Commit, CommitAndFlush, Count, FaultOf, Fill, Flush,
-    FlushAll, FlushWithRoom, HoldTurns, Look, OtherPass, Peek, Release, RunFlusher, Seen, Shut,
-    Sleep, TryCommit, ValuesAre,
+    FlushAll, FlushWithRoom, FullTurnsAre, HoldTurns, Look, OtherPass, Peek, Release, RunFlusher,
+    Seen, Shut, Sleep, TryCommit, ValuesAre,
 };
 use super::moves::{Answer, Refusal, Task};
 use super::scenes::Line::{
@@ -23,6 +23,19 @@ static SCENES: &[Line<'static>] = &[
     Before(Fill(200), Number(200)),
     Before(RunFlusher(2), Done),
     Before(Look, Number(128)),
+    Scene("nobody gathers where a whole batch waits"),
+    Before(Fill(200), Number(200)),
+    // with 200, 136, 72 and 8 that wait
+    Before(RunFlusher(4), Done),
+    Before(FullTurnsAre(3), Holds(true)),
+    Scene("nobody gathers where just a batch waits"),
+    Before(Fill(64), Number(64)),
+    Before(RunFlusher(1), Done),
+    Before(FullTurnsAre(1), Holds(true)),
+    Scene("callers gather where one less waits"),
+    Before(Fill(63), Number(63)),
+    Before(RunFlusher(1), Done),
+    Before(FullTurnsAre(0), Holds(true)),
     Scene("a flusher makes durable what waits before it ends"),
     Before(Fill(200), Number(200)),
     Before(Shut, Done),

@@ -135,6 +135,8 @@ pub(super) enum Move {
     AddsAtMost(u64),
     /// Whether `NeedOne` was evaluated so often at the most.
     NeedsAtMost(u64),
+    /// Whether so many turns of a pace began with a whole batch.
+    FullTurnsAre(u64),
     /// Whether the calls that wait have looked so often at the most.
     LooksAtMost(u64),
     /// Whether they have looked so often at the least.

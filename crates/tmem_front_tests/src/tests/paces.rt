@@ -50,6 +50,14 @@ fn readings_of_a_turn<R: Abort>(rt: &R, has_several: bool) -> u64 {
 }
 
 #[test]
+fn a_turn_with_a_whole_batch_lets_nobody_in(rt: HostRuntime) -> Result<(), Fail> {
+    let clock = Still::new();
+    assert!(&rt; Gathering::new(&clock, true).next_when_full());
+    assert!(&rt; clock.readings() == 0);
+    Ok(())
+}
+
+#[test]
 fn a_turn_lets_others_in_where_there_are_several(rt: HostRuntime) -> Result<(), Fail> {
     assert!(&rt; readings_of_a_turn(&rt, false) == 0);
     let several = readings_of_a_turn(&rt, true);

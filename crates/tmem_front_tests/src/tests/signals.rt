@@ -25,6 +25,7 @@ pub(super) struct Signals {
     gave_up: AtomicBool,
     adds: AtomicU64,
     needs: AtomicU64,
+    full_turns: AtomicU64,
     ended: AtomicU64,
     calls: AtomicU64,
 }
@@ -40,6 +41,7 @@ impl Signals {
             gave_up: AtomicBool::new(false),
             adds: AtomicU64::new(0),
             needs: AtomicU64::new(0),
+            full_turns: AtomicU64::new(0),
             ended: AtomicU64::new(0),
             calls: AtomicU64::new(0),
         }
@@ -121,6 +123,16 @@ impl Signals {
     /// How often a number was needed.
     pub(super) fn needs(&self) -> u64 {
         self.needs.load(Ordering::SeqCst)
+    }
+
+    /// Counts a turn that began with a whole batch.
+    pub(super) fn count_full_turn(&self) {
+        self.full_turns.fetch_add(1, Ordering::SeqCst);
+    }
+
+    /// How many turns did.
+    pub(super) fn full_turns(&self) -> u64 {
+        self.full_turns.load(Ordering::SeqCst)
     }
 
     /// Counts a call of the device.

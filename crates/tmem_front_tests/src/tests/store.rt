@@ -101,6 +101,11 @@ impl Pace for Turns<'_> {
         self.left = self.left.saturating_sub(1);
         is_one_left
     }
+
+    fn next_when_full(&mut self) -> bool {
+        self.signals.count_full_turn();
+        self.next()
+    }
 }
 
 impl<D: Disk + Drop, N: StoreNaming, T: Invariants + Drop, S: StoredSteps + Drop> Store<
@@ -586,6 +591,7 @@ impl<'a, R: Clock> Stage<'a, R> {
             Move::Release => Answer::in_time(self.signals.release()),
             Move::AddsAtMost(most) => Answer::Holds(self.signals.adds() <= most),
             Move::NeedsAtMost(most) => Answer::Holds(self.signals.needs() <= most),
+            Move::FullTurnsAre(turns) => Answer::Holds(self.signals.full_turns() == turns),
             _ => Answer::Nothing,
         }
     }
