@@ -243,8 +243,8 @@ class Recovered(Opened):
 
 def recovery(content):
     """What an opening of a content finds, by the numbers of its own block 0, as `tmem show --json` tells it: a state, or the number of a
-    fault."""
-    if len(content) < 512:
+    fault. The size is looked at first, and what is shorter than the shortest store is too short for any numbers."""
+    if len(content) < Layout(1, 2).end:
         return {"fault": 17}
     if content[:5] != bytes([OPEN]) + b"TMEM":
         return {"fault": 8}

@@ -25,6 +25,7 @@ use Rattle.tmem_run.specs.declared.playing.Played.{Played}
 use Rattle.tmem_args.specs.CommandLine.{AsksToPlay, AsksToCount, AsksToBench, AsksToShow, AsksToInit, AsksToServe, AsksToCheck, AsksForHelp, AreNumbersIn, IsNumberIfAny, path_in, disk_in, text_in}
 use Rattle.tmem_cli.specs.Checked.{HasFlaws, IsScriptThere}
 use Rattle.tmem_run.specs.Printed.{line}
+use Rattle.tmem_show.specs.Refusals.{TellsOf}
 use Rattle.tmem_cli.specs.Shaped.{MakesStore, ServesAnyShape}
 use Rattle.tmem_run.specs.Stored.{IsMade, PlaysWhere, StopsPlaying}
 
@@ -112,9 +113,13 @@ failure_of (bench.Refused fault) = failure.Refused fault
 failure_of bench.Output = failure.Output
 failure_of bench.Clock = failure.Clock
 
--- why a store was not shown: the output failed, or it was not read, or memory was refused
+-- why a store was not shown, or an opening is refused: the output failed, or a fault is told
 abbrev pub IsWhyNotShown : ProgramFailure → Type 0
 IsWhyNotShown f = IsWhyNotCounted f
+
+-- a store was shown whose bytes an opening does not refuse
+abbrev pub OpensShown : Type 0
+OpensShown = (bytes : List ℕ) × TellsOf bytes None
 
 -- a store was to be shown, made or served
 abbrev pub AsksOfStore : List Text → Type 0

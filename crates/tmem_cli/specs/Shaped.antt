@@ -1,5 +1,5 @@
 -- What `init` makes of the shape of a store, and how `serve` serves that.
-use Rattle.std.specs.Prelude.{ℕ, true, List, [], ◌∷◌, Option, map, filter}
+use Rattle.std.specs.Prelude.{ℕ, All, true, List, [], ◌∷◌, Option, map, filter}
 use Rattle.std.specs.Io.KnownBytes.{IsAtEnd}
 use Rattle.tmem_disk.specs.Disk.{DeviceView}
 use Rattle.tmem_core.specs.Program.{Program}
@@ -8,7 +8,7 @@ use Rattle.tmem_invariants.specs.Chosen.{meaning_also}
 use Rattle.tmem_linear.specs.Sums.{is_sum_within}
 use Rattle.tmem_linear.specs.declared.linear.Linear.{Linear}
 use Rattle.tmem_builtins.specs.Builtins.{builtin_steps}
-use Rattle.tmem_shape.specs.Shapes.{IsShapeText}
+use Rattle.tmem_shape.specs.Shapes.{CanHold, IsShapeText}
 use Rattle.tmem_shape.specs.declared.shape.StoreShape.{StoreShape}
 use Rattle.tmem_file.specs.FileView.{file_view}
 use Rattle.tmem_file.specs.Opening.{IsFreshlyOpened}
@@ -33,11 +33,12 @@ meanings_of (linear ∷ others) = meaning_also linear.name linear.footprint.item
 abbrev pub program_of : List Linear → Program
 program_of all = record { steps = builtin_steps; names = names_in all; tests = meanings_of all }
 
--- The text is that of a shape, and a store of it is on this device: an opening finds that every variable is 0, and that the invariants
+-- The text is that of a shape, each of whose invariants some sum keeps, and a store of it is on this device: an opening finds that every variable is 0, and that the invariants
 -- are registered that always hold, and no others.
 pub record IsStoreOf (text : List ℕ) (d : DeviceView) : Type 0 where
   pub shape : StoreShape
   pub is : IsShapeText shape text
+  pub hold : All CanHold shape.invariants.items
   pub made : IsNewStore shape.vars shape.slots (always_in shape.invariants.items) d
 
 -- a store was made of the shape of a text

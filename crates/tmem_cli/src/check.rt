@@ -1,12 +1,14 @@
 //! Says what is wrong with a script.
-ghost use Rattle.std.specs.Prelude.{◌≡◌, true, false, IfErr, IfOk, OnOk};
+ghost use Rattle.std.specs.Prelude.{◌≡◌, ◌⊎◌, true, false, IfErr, IfOk, OnOk};
 ghost use Rattle.std.specs.Io.KnownBytes.{Appends};
 ghost use Rattle.tmem_script.specs.Errors.{IsUnread};
 ghost use Rattle.tmem_script.specs.Statuses.{status_of};
-ghost use Rattle.tmem_script.specs.declared.failure.ProgramFailure.TheVariants.{Output};
-ghost use Rattle.tmem_cli.specs.Checked.{HasFlaws, IsWhyNotChecked, IsScriptThere, lines_of};
+ghost use Rattle.tmem_script.specs.declared.failure.ProgramFailure.TheVariants.{Output, Refused};
+ghost use Rattle.tmem_explain.specs.Limits.{IsFineText};
+ghost use Rattle.tmem_cli.specs.Checked.{HasFlaws, IsWhyNotChecked, IsScriptThere, TellsFlaws, lines_of};
 
 use crate::words::flush;
+use std::alloc::Global;
 use std::fs::{self, File, Files};
 use std::io::Write;
 use tmem_explain::{Flaw, flaws_in};
@@ -27,7 +29,17 @@ pub(crate) fn check<W: Write>(
     ensures unread { IfErr result (λ failure. status_of failure ≡ 3 → out.new ≡ out.old) }
 {
     let text = text_of(rt, path)?;
-    let Ok(flaws) = flaws_in(rt.alloc(), &text) else {
+    check_text(rt.alloc(), &text, out)
+}
+
+/// Prints a line for each flaw of a text. Whether it is a script of which a run refuses no number and no transaction: then nothing is
+/// printed. `Memory` where that does not suffice.
+pub fn check_text<W: Write>(alloc: Global, text: &[u8], out: &mut W) -> Result<bool, ProgramFailure>
+    ensures fine { IfOk result (λ fine. fine ≡ true → IsFineText text.now × (out.new ≡ out.old)) }
+    ensures flawed { IfOk result (λ fine. fine ≡ false → TellsFlaws text.now (W.contents out.old) (W.contents out.new)) }
+    ensures failed { IfErr result (λ failure. (failure ≡ Refused Fault.Memory) ⊎ (failure ≡ Output)) }
+{
+    let Ok(flaws) = flaws_in(alloc, text) else {
         return Err(ProgramFailure::Refused(Fault::Memory));
     };
     if flaws.is_empty() {

@@ -41,6 +41,7 @@ fn make_of(
     ensures { IfOk result (λ disk. IsStoreOf text.now (file_view disk)) }
 {
     let shape = StoreShape::from_slice(rt.alloc(), text)?;
+    shape.check_bounds()?;
     let always = shape.always_names(rt.alloc())?;
     let StoreShape {
         vars,

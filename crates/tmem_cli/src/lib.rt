@@ -15,4 +15,5 @@ mod serve;
 mod show;
 mod words;
 
+pub use check::check_text;
 pub use words::run_words;

@@ -1,31 +1,60 @@
 //! Shows what is in a store.
-ghost use Rattle.std.specs.Prelude.{IfErr};
-ghost use Rattle.tmem_cli.specs.Outcomes.{IsWhyNotShown};
+ghost use Rattle.std.specs.Prelude.{None, IfErr, OnOk};
+ghost use Rattle.tmem_show.specs.Refusals.{TellsOf};
+ghost use Rattle.tmem_cli.specs.Outcomes.{IsWhyNotShown, OpensShown};
 
+use crate::words::flush;
+use std::alloc::Global;
 use std::fs::{File, Files};
 use std::io::Write;
 use tmem_args::Showing;
 use tmem_script::ProgramFailure;
-use tmem_show::{ShowError, Source};
+use tmem_show::{ShowError, Source, refusal_of};
 
 /// Prints what is in a store. Its file is opened for reading alone, and is not locked. `Device` where it is not read, and `Memory` where
-/// there is none.
+/// there is none; and what an opening would be refused by, once all is printed.
 pub(crate) fn show_store<W: Write>(
     rt: &(impl Files<File = File> + AllocGlobal),
     showing: Showing,
     out: &mut W,
 ) -> Result<(), ProgramFailure>
+    ensures opens { OnOk result OpensShown }
     ensures failed { IfErr result IsWhyNotShown }
 {
     let source = Source::read(rt, showing.store.unwrap_or(""))?;
+    print_source(rt.alloc(), &source, showing, out)?;
+    flush(out)?;
+    check_opening(rt.alloc(), &source)
+}
+
+// Prints what was read.
+fn print_source<W: Write>(
+    alloc: Global,
+    source: &Source,
+    showing: Showing,
+    out: &mut W,
+) -> Result<(), ProgramFailure>
+    ensures { IfErr result IsWhyNotShown }
+{
     let shown = if showing.is_json {
-        tmem_show::show_json(rt.alloc(), &source, showing.has_hex, out)
+        tmem_show::show_json(alloc, source, showing.has_hex, out)
     } else {
-        tmem_show::show(rt.alloc(), &source, showing.has_hex, out)
+        tmem_show::show(alloc, source, showing.has_hex, out)
     };
     match shown {
         Ok(()) => Ok(()),
         Err(ShowError::Output) => Err(ProgramFailure::Output),
         Err(ShowError::Refused(fault)) => Err(ProgramFailure::Refused(fault)),
+    }
+}
+
+// Refuses what an opening refuses.
+fn check_opening(alloc: Global, source: &Source) -> Result<(), ProgramFailure>
+    ensures opens { OnOk result (TellsOf source.now.bytes.items None) }
+    ensures failed { IfErr result IsWhyNotShown }
+{
+    match refusal_of(alloc, source)? {
+        Some(refusal) => Err(ProgramFailure::Refused(refusal.fault)),
+        None => Ok(()),
     }
 }

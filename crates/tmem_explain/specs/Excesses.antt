@@ -54,6 +54,15 @@ IsNamedBy all tx (excess.Arguments n) = arguments_in tx ≡ Some n
 IsNamedBy all tx (excess.Name vars) = vars ≡ all
 IsNamedBy all tx _ = ⊤
 
+-- it is told how much a transaction has of what a limit counts
+abbrev pub HasTotal : ℕ → Excess → Type 0
+HasTotal total (excess.Depth n) = n ≡ total
+HasTotal total (excess.Nodes n) = n ≡ total
+HasTotal total (excess.Writes n) = n ≡ total
+HasTotal total (excess.Checks n) = n ≡ total
+HasTotal total (excess.Retires n) = n ≡ total
+HasTotal total _ = ⊤
+
 -- what is past a limit, beside that limit
 abbrev pub excess_text : Excess → List ℕ
 excess_text (excess.Depth n) = codes "it is " ++ (decimal n ++ codes " deep, and may be 32 deep")

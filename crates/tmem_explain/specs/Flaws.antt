@@ -12,7 +12,7 @@ use Rattle.tmem_requests.specs.Wrong.{IsWrong, led, part}
 use Rattle.tmem_requests.specs.declared.place.PointerStep.{PointerStep}
 use Rattle.tmem_tree.specs.Plans.{is_counted}
 use Rattle.tmem_tree.specs.declared.tx.Tx.{Tx}
-use Rattle.tmem_explain.specs.Excesses.{IsNamedBy, cause_of}
+use Rattle.tmem_explain.specs.Excesses.{HasTotal, IsNamedBy, cause_of}
 use Rattle.tmem_explain.specs.declared.amiss.Amiss.{Amiss}
 use Rattle.tmem_explain.specs.declared.excess.Excess.{Excess}
 use Rattle.tmem_explain.specs.declared.expected.Expected.{Expected}
@@ -55,11 +55,16 @@ pub record IsNodeOver (excess : Excess) (vars : ℕ) (d : Data) : Type 0 where
   pub form : d ≡ tx_form node
   pub over : IsPastLimit vars node excess
 
--- what is told of a plan is told by the limit of this cause, for so many variables; or nothing is known
-abbrev pub TellsCause : Cause → ℕ → Expected → Type 0
-TellsCause cause all (expected.Plan excess vars) = (cause_of excess ≡ cause) × (vars ≡ all)
-TellsCause cause all expected.Script = Unit {0}
-TellsCause cause all _ = ⊥
+-- What is told of a plan is told by the limit of this cause, for so many variables, and how much there is of what is counted; or nothing
+-- is known.
+abbrev pub TellsCause : Cause → ℕ → ℕ → Expected → Type 0
+TellsCause cause all total (expected.Plan excess vars) = (cause_of excess ≡ cause) × (vars ≡ all) × HasTotal total excess
+TellsCause cause all total expected.Script = Unit {0}
+TellsCause cause all total _ = ⊥
+
+-- a limit of a plan is told
+abbrev pub IsPlanTold : Expected → Type 0
+IsPlanTold told = (excess : Excess) × (vars : ℕ) × (told ≡ expected.Plan excess vars)
 
 -- That this was expected of a value, and is not so. Where no reason was found, nothing is said.
 abbrev pub IsAmiss : Expected → Data → Type 0
@@ -89,6 +94,11 @@ pub record LeadsToAmiss (expected : Expected) (steps : List PointerStep) (d : Da
 -- what was found is true of this value
 abbrev pub IsAmissIn : Data → Amiss → Type 0
 IsAmissIn d amiss = LeadsToAmiss amiss.expected amiss.steps.items d
+
+-- what is told of the value that a step leads to, told of the whole
+pub record IsBehind (step : PointerStep) (inner outer : Amiss) : Type 0 where
+  pub expected : outer.expected ≡ inner.expected
+  pub steps : outer.steps.items ≡ step ∷ inner.steps.items
 
 -- an object has this key, which is none of a script
 abbrev pub HasUnknownScriptKey : List ℕ → Data → Type 0

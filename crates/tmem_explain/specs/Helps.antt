@@ -19,18 +19,18 @@ fault_help fault.LogFull = codes "every slot of the log is used; make a checkpoi
 fault_help fault.Conflict = codes "a value that the transaction read has changed; begin it again"
 fault_help fault.NotFormatted = codes "this does not begin as a store; check the path, or restore a copy"
 fault_help fault.Damaged =
-    codes "the content is none that a store may have, or a later version of the program wrote it; run that version, or restore a copy"
+    codes "the file is not as tmem leaves one: something else changed it, or a later version of tmem wrote it; run that version, or put a copy of the file in its place (nothing repairs it)"
 fault_help (fault.Missing name) =
     codes "the invariant " ++ name ++ codes " is registered in the store, and the program or shape has none of this name; open the store with the one that it belongs to"
 fault_help (fault.Broken name) =
     codes "the invariant " ++ name ++ codes " is registered in the store, and false of its values; compare what it means in the program or shape now and before, or restore a copy"
 fault_help (fault.BadPlan c) = cause_text c ++ codes "; change the transaction"
 fault_help fault.BadName = codes "a name is not 1 to 16 letters from a to z, or stands twice, or there are more than 64; change the program"
-fault_help fault.BadFootprint = codes "an invariant has no variable, more than 16, one twice, or one that the store lacks; change the program"
+fault_help fault.BadFootprint = codes "an invariant is over no variable, over more than 16, over one twice, or over one that the store lacks (they count from 0); correct that invariant"
 fault_help fault.Spent = codes "no use comes to this number, so something changed the file; restore a copy"
 fault_help fault.NoSeat = codes "all 32 passes were given out; keep passes, or borrow them of the pool"
 fault_help fault.Geometry =
-    codes "the numbers of variables and log slots are none of a store, or not this one's, or its file is too short; state those that tmem show prints, or restore a copy"
+    codes "the numbers of variables and log slots that were asked for are out of limits (1 to 1024, 2 to 64) or not the store's own, or its file was cut off; state those that tmem show PATH prints, or put a copy of the file in its place"
 
 -- the numbers that were asked for, beside what there is
 abbrev pub numbers_help : NumbersHelp → List ℕ

@@ -1,4 +1,7 @@
 //! What is told of texts and files that end too soon.
+ghost use Rattle.std.specs.Prelude.{IsTrue};
+ghost use Rattle.tmem_requests.specs.Reasons.{IsNoJson};
+
 use serde_json::Value;
 use std::alloc::Global;
 
@@ -9,8 +12,10 @@ pub const CUT_OFF: &str =
 /// What to do with a store whose file is shorter than its first bytes say.
 pub const TOO_SHORT: &str = "the file was cut off; restore a copy";
 
-/// Whether a text ends before its JSON does.
-pub fn is_cut_off(alloc: Global, text: &[u8]) -> bool {
+/// Whether a text ends before its JSON does. One that is JSON does not, nor is it told where memory does not suffice.
+pub fn is_cut_off(alloc: Global, text: &[u8]) -> bool
+    ensures { IsTrue result → IsNoJson text.now }
+{
     match Value::from_slice(alloc, text) {
         Ok(_) => false,
         Err(error) => error.is_eof(),

@@ -1,10 +1,10 @@
 //! What was found wrong with a value, and the way there.
-ghost use Rattle.std.specs.Prelude.{◌≡◌, ℕ, Some, IfErr};
+ghost use Rattle.std.specs.Prelude.{◌≡◌, ℕ, Some, Err, IfErr};
 ghost use Rattle.serde_json.specs.Data.{Data};
 ghost use Rattle.tmem_fault.specs.declared.fault.Cause.{Cause};
 ghost use Rattle.tmem_forms.specs.Errors.{Refuses};
 ghost use Rattle.tmem_requests.specs.Wrong.{IsTrueOf as IsWrongOf, part, step_value};
-ghost use Rattle.tmem_explain.specs.Flaws.{IsAmiss, IsAmissIn, IsFlawOf, TellsCause};
+ghost use Rattle.tmem_explain.specs.Flaws.{IsAmiss, IsAmissIn, IsBehind, IsFlawOf, IsPlanTold, TellsCause};
 
 use crate::expected::Expected;
 use crate::flaw::{Flaw, Spot};
@@ -59,7 +59,8 @@ impl Amiss {
     /// The same of the value that this step begins at.
     pub(crate) fn behind(self, step: PointerStep) -> Amiss
         ensures amiss { (d e : Data) → step_value step d ≡ Some e → IsAmissIn e self → IsAmissIn d result }
-        ensures cause { (cause : Cause) (vars : ℕ) → TellsCause cause vars self.expected → TellsCause cause vars result.expected }
+        ensures cause { (cause : Cause) (vars total : ℕ) → TellsCause cause vars total self.expected → TellsCause cause vars total result.expected }
+        ensures told { IsPlanTold result.expected → IsBehind step self result }
     {
         let Amiss {
             expected,
@@ -90,6 +91,7 @@ impl Amiss {
     pub(crate) fn into_flaw(self) -> Flaw
         ensures flaw { (d : Data) → IsAmissIn d self → IsFlawOf d result }
         ensures expected { result.expected ≡ self.expected }
+        ensures at { result.at ≡ Spot.Pointer self.steps }
     {
         Flaw {
             expected: self.expected,
@@ -101,7 +103,8 @@ impl Amiss {
 /// Hands on what was found in the value that a step leads to.
 pub(crate) fn inside<T: Drop>(step: PointerStep, found: Result<T, Amiss>) -> Result<T, Amiss>
     ensures amiss { (d e : Data) → step_value step d ≡ Some e → IfErr found (IsAmissIn e) → IfErr result (IsAmissIn d) }
-    ensures cause { (cause : Cause) (vars : ℕ) → IfErr found (λ amiss. TellsCause cause vars amiss.expected) → IfErr result (λ amiss. TellsCause cause vars amiss.expected) }
+    ensures cause { (cause : Cause) (vars total : ℕ) → IfErr found (λ amiss. TellsCause cause vars total amiss.expected) → IfErr result (λ amiss. TellsCause cause vars total amiss.expected) }
+    ensures told { IfErr result (λ outer. IsPlanTold outer.expected → (inner : Amiss) × (found ≡ Err inner) × IsBehind step inner outer) }
 {
     match found {
         Ok(value) => Ok(value),

@@ -1,5 +1,6 @@
 //! Why a file could not be used.
 ghost use Rattle.std.specs.Prelude.{◌≡◌, ◌↔◌, ◌<◌, [], true, Some, IsTrue, IsOk, IfErr, IfSome};
+ghost use Rattle.std.specs.Fs.{IsDir};
 ghost use Rattle.std.specs.IoError.{error_kind, raw_os_error};
 ghost use Rattle.tmem_explain.specs.Causes.{call_cause, last_byte, link_cause, may_be_told};
 
@@ -313,7 +314,8 @@ fn cause_of_found<R: Files<File = File>>(
     wanted: Wanted,
     kind: FileType,
 ) -> DeviceCause
-    ensures { may_be_told wanted result ≡ true }
+    ensures told { may_be_told wanted result ≡ true }
+    ensures folder { IsDir kind → result ≡ DeviceCause.Folder }
 {
     if kind.is_dir() {
         return DeviceCause::Folder;

@@ -49,7 +49,7 @@ impl fmt::Display for FaultHelp {
             ),
             Fault::Damaged => write!(
                 f,
-                "the content is none that a store may have, or a later version of the program wrote it; run that version, or restore a copy"
+                "the file is not as tmem leaves one: something else changed it, or a later version of tmem wrote it; run that version, or put a copy of the file in its place (nothing repairs it)"
             ),
             Fault::Missing(name) => write!(
                 f,
@@ -66,7 +66,7 @@ impl fmt::Display for FaultHelp {
             ),
             Fault::BadFootprint => write!(
                 f,
-                "an invariant has no variable, more than 16, one twice, or one that the store lacks; change the program"
+                "an invariant is over no variable, over more than 16, over one twice, or over one that the store lacks (they count from 0); correct that invariant"
             ),
             Fault::Spent => write!(
                 f,
@@ -78,7 +78,7 @@ impl fmt::Display for FaultHelp {
             ),
             Fault::Geometry => write!(
                 f,
-                "the numbers of variables and log slots are none of a store, or not this one's, or its file is too short; state those that tmem show prints, or restore a copy"
+                "the numbers of variables and log slots that were asked for are out of limits (1 to 1024, 2 to 64) or not the store's own, or its file was cut off; state those that tmem show PATH prints, or put a copy of the file in its place"
             ),
         }
     }

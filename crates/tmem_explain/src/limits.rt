@@ -1,27 +1,29 @@
 //! What of a script a run would refuse: numbers that no store has, and transactions that break a limit.
-ghost use Rattle.std.specs.Prelude.{◌≡◌, ◌≤◌, ◌↔◌, [], All, IfOk, IfSome, IsNone, IsTrue, OnOk};
+ghost use Rattle.std.specs.Prelude.{◌≡◌, ◌≤◌, ◌<◌, ◌+◌, ◌↔◌, ◌⊎◌, ℕ, [], All, IfOk, IsTrue, OnOk, Some};
 ghost use Rattle.serde_json.specs.Data.{Data};
+ghost use Rattle.tmem_fault.specs.declared.fault.Cause.{Cause};
 ghost use Rattle.tmem_record.specs.Layout.{IsLayout};
 ghost use Rattle.tmem_script.specs.Scripts.{IsScript};
+ghost use Rattle.tmem_tree.specs.declared.tx.Tx.{Tx};
 ghost use Rattle.tmem_explain.specs.Flaws.{IsFlawOf};
-ghost use Rattle.tmem_explain.specs.Limits.{KeepsLimits, KeepsLimit};
+ghost use Rattle.tmem_explain.specs.Limits.{AreAmong, BreaksLimit, HasFlaw, IsLimitFlaw, KeepsLimits, TellsLimit, TellsLimits, TellsNumber, begun_at};
 
 use crate::amiss::Amiss;
 use crate::expected::Expected;
 use crate::flaw::Flaw;
-use crate::plan::plan_flaw;
-use crate::total::least_broken;
+use crate::plan::{begun_at, plan_flaw};
+use crate::total::breaks;
 use std::alloc::{AllocError, Global};
-use tmem_event::Event;
 use tmem_fault::Cause;
 use tmem_record::{LEAST_SLOTS, MOST_SLOTS, MOST_VARS};
 use tmem_requests::PointerStep;
-use tmem_script::{Script, ScriptEntry};
+use tmem_script::Script;
+use tmem_tree::Tx;
 
-/// A flaw for numbers that no store has, and one for each transaction that breaks a limit: for the least of the limits that it breaks, as
-/// a run would refuse it.
+/// A flaw for numbers that no store has, and one for each limit that a transaction breaks.
 pub(crate) fn flaws_of_script(alloc: Global, script: &Script) -> Result<Vec<Flaw>, AllocError>
     ensures told { IfOk result (λ flaws. (d : Data) → IsScript script.now.vars script.now.slots script.now.entries.items d → All (IsFlawOf d) flaws.items) }
+    ensures limits { IfOk result (λ flaws. TellsLimits script.now.vars script.now.slots script.now.entries.items flaws.items) }
     ensures some { IfOk result (λ flaws. KeepsLimits script.now.vars script.now.slots script.now.entries.items → flaws.items ≡ []) }
     ensures fine { IfOk result (λ flaws. flaws.items ≡ [] → KeepsLimits script.now.vars script.now.slots script.now.entries.items) }
 {
@@ -33,14 +35,14 @@ pub(crate) fn flaws_of_script(alloc: Global, script: &Script) -> Result<Vec<Flaw
 
 // Notes the numbers of a script, if no store has them.
 fn note_layout(alloc: Global, script: &Script, flaws: &mut Vec<Flaw>) -> Result<(), AllocError>
-    ensures told { (d : Data) → IsScript script.now.vars script.now.slots script.now.entries.items d → All (IsFlawOf d) flaws.old.items → OnOk result (All (IsFlawOf d) flaws.new.items) }
-    ensures some { IsLayout script.now.vars script.now.slots → OnOk result (flaws.new.items ≡ flaws.old.items) }
-    ensures fine { OnOk result (flaws.new.items ≡ [] → (flaws.old.items ≡ []) × IsLayout script.now.vars script.now.slots) }
+    ensures only { All (IsLimitFlaw script.now.vars script.now.slots script.now.entries.items) flaws.old.items → OnOk result (All (IsLimitFlaw script.now.vars script.now.slots script.now.entries.items) flaws.new.items) }
+    ensures numbers { OnOk result (IsLayout script.now.vars script.now.slots ⊎ HasFlaw TellsNumber flaws.new.items) }
 {
     if has_layout(script) {
         return Ok(());
     }
-    flaws.push(layout_flaw(alloc, script))?;
+    let flaw = layout_flaw(alloc, script)?;
+    flaws.push(flaw)?;
     Ok(())
 }
 
@@ -59,7 +61,20 @@ fn has_vars(script: &Script) -> bool
 }
 
 // The first number that no store has.
-fn layout_flaw(alloc: Global, script: &Script) -> Flaw
+fn layout_flaw(alloc: Global, script: &Script) -> Result<Flaw, AllocError>
+    requires { ¬ IsLayout script.now.vars script.now.slots }
+    ensures told { IfOk result (λ flaw. (d : Data) → IsScript script.now.vars script.now.slots script.now.entries.items d → IsFlawOf d flaw) }
+    ensures number { IfOk result TellsNumber }
+{
+    let flaw = number_flaw(alloc, script);
+    match flaw.expected {
+        Expected::Vars | Expected::Slots => Ok(flaw),
+        _ => Err(AllocError),
+    }
+}
+
+// The same, or that memory did not suffice.
+fn number_flaw(alloc: Global, script: &Script) -> Flaw
     requires { ¬ IsLayout script.now.vars script.now.slots }
     ensures { (d : Data) → IsScript script.now.vars script.now.slots script.now.entries.items d → IsFlawOf d result }
 {
@@ -71,50 +86,81 @@ fn layout_flaw(alloc: Global, script: &Script) -> Flaw
     amiss.behind(PointerStep::Key("slots")).into_flaw()
 }
 
-// Notes each transaction that breaks a limit.
+// Notes each limit that a transaction breaks.
 fn note_plans(alloc: Global, script: &Script, flaws: &mut Vec<Flaw>) -> Result<(), AllocError>
-    ensures told { (d : Data) → IsScript script.now.vars script.now.slots script.now.entries.items d → All (IsFlawOf d) flaws.old.items → OnOk result (All (IsFlawOf d) flaws.new.items) }
-    ensures some { All (KeepsLimit script.now.vars) script.now.entries.items → OnOk result (flaws.new.items ≡ flaws.old.items) }
-    ensures fine { OnOk result (flaws.new.items ≡ [] → (flaws.old.items ≡ []) × All (KeepsLimit script.now.vars) script.now.entries.items) }
+    ensures only { All (IsLimitFlaw script.now.vars script.now.slots script.now.entries.items) flaws.old.items → OnOk result (All (IsLimitFlaw script.now.vars script.now.slots script.now.entries.items) flaws.new.items) }
+    ensures kept { OnOk result (AreAmong flaws.old.items flaws.new.items) }
+    ensures each { OnOk result ((i : ℕ) (tx : Tx) (cause : Cause) → begun_at script.now.entries.items i ≡ Some tx → BreaksLimit script.now.vars tx cause → HasFlaw (TellsLimit script.now.vars i tx cause) flaws.new.items) }
 {
-    for (i, entry) in script.entries.iter().enumerate() {
-        note_entry(alloc, script, i, entry, flaws)?;
+    for i in 0..script.entries.len() {
+        note_entry(alloc, script, i, flaws)?;
     }
     Ok(())
 }
 
-// Notes the transaction of an entry, if it breaks a limit.
+// Notes each limit that the transaction of an entry breaks, if it begins one.
 fn note_entry(
     alloc: Global,
     script: &Script,
     index: usize,
-    entry: &ScriptEntry,
     flaws: &mut Vec<Flaw>,
 ) -> Result<(), AllocError>
-    ensures told { (d : Data) → IsScript script.now.vars script.now.slots script.now.entries.items d → All (IsFlawOf d) flaws.old.items → OnOk result (All (IsFlawOf d) flaws.new.items) }
-    ensures some { KeepsLimit script.now.vars entry.now → OnOk result (flaws.new.items ≡ flaws.old.items) }
-    ensures fine { OnOk result (flaws.new.items ≡ [] → (flaws.old.items ≡ []) × KeepsLimit script.now.vars entry.now) }
+    ensures only { All (IsLimitFlaw script.now.vars script.now.slots script.now.entries.items) flaws.old.items → OnOk result (All (IsLimitFlaw script.now.vars script.now.slots script.now.entries.items) flaws.new.items) }
+    ensures kept { OnOk result (AreAmong flaws.old.items flaws.new.items) }
+    ensures each { OnOk result ((tx : Tx) (cause : Cause) → begun_at script.now.entries.items index ≡ Some tx → BreaksLimit script.now.vars tx cause → HasFlaw (TellsLimit script.now.vars index tx cause) flaws.new.items) }
 {
-    let Some(cause) = broken_in(entry, script.vars) else {
-        return Ok(());
-    };
-    let flaw = limit_flaw(alloc, script, index, cause)?;
-    flaws.push(flaw)?;
+    match begun_at(&script.entries, index) {
+        Some(tx) => note_limits(alloc, script, index, tx, flaws),
+        None => Ok(()),
+    }
+}
+
+// Notes each limit that this transaction of an entry breaks.
+fn note_limits(
+    alloc: Global,
+    script: &Script,
+    index: usize,
+    tx: &Tx,
+    flaws: &mut Vec<Flaw>,
+) -> Result<(), AllocError>
+    requires { begun_at script.now.entries.items index ≡ Some tx.now }
+    ensures only { All (IsLimitFlaw script.now.vars script.now.slots script.now.entries.items) flaws.old.items → OnOk result (All (IsLimitFlaw script.now.vars script.now.slots script.now.entries.items) flaws.new.items) }
+    ensures kept { OnOk result (AreAmong flaws.old.items flaws.new.items) }
+    ensures each { OnOk result ((cause : Cause) → BreaksLimit script.now.vars tx.now cause → HasFlaw (TellsLimit script.now.vars index tx.now cause) flaws.new.items) }
+{
+    note_limit(alloc, script, index, tx, Cause::TooDeep, flaws)?;
+    note_limit(alloc, script, index, tx, Cause::TooManyNodes, flaws)?;
+    note_limit(alloc, script, index, tx, Cause::TooManyWrites, flaws)?;
+    note_limit(alloc, script, index, tx, Cause::TooManyChecks, flaws)?;
+    note_limit(alloc, script, index, tx, Cause::BadRegister, flaws)?;
+    note_limit(alloc, script, index, tx, Cause::BadVariable, flaws)?;
+    note_limit(alloc, script, index, tx, Cause::BadStep, flaws)?;
+    note_limit(alloc, script, index, tx, Cause::BadArguments, flaws)?;
+    note_limit(alloc, script, index, tx, Cause::UnknownName, flaws)?;
+    note_limit(alloc, script, index, tx, Cause::TooManyRetires, flaws)?;
     Ok(())
 }
 
-// The least limit that the transaction of an entry breaks.
-fn broken_in(entry: &ScriptEntry, vars: u16) -> Option<Cause>
-    ensures none { IsNone result → KeepsLimit vars entry.now }
-    ensures some { IfSome result (λ cause. ¬ KeepsLimit vars entry.now) }
+// Notes that this transaction of an entry breaks the limit of a cause, if it does.
+fn note_limit(
+    alloc: Global,
+    script: &Script,
+    index: usize,
+    tx: &Tx,
+    cause: Cause,
+    flaws: &mut Vec<Flaw>,
+) -> Result<(), AllocError>
+    requires { begun_at script.now.entries.items index ≡ Some tx.now }
+    ensures only { All (IsLimitFlaw script.now.vars script.now.slots script.now.entries.items) flaws.old.items → OnOk result (All (IsLimitFlaw script.now.vars script.now.slots script.now.entries.items) flaws.new.items) }
+    ensures kept { OnOk result (AreAmong flaws.old.items flaws.new.items) }
+    ensures told { OnOk result (BreaksLimit script.now.vars tx.now cause → HasFlaw (TellsLimit script.now.vars index tx.now cause) flaws.new.items) }
 {
-    let ScriptEntry::Event(playable) = entry else {
-        return None;
-    };
-    match &playable.event {
-        Event::Begin { tx, .. } => least_broken(tx, vars),
-        _ => None,
+    if !breaks(tx, cause, script.vars) {
+        return Ok(());
     }
+    let flaw = limit_flaw(alloc, script, index, cause)?;
+    flaws.push(flaw)?;
+    Ok(())
 }
 
 // Where that is.
@@ -124,7 +170,8 @@ fn limit_flaw(
     index: usize,
     cause: Cause,
 ) -> Result<Flaw, AllocError>
-    ensures { IfOk result (λ flaw. (d : Data) → IsScript script.now.vars script.now.slots script.now.entries.items d → IsFlawOf d flaw) }
+    ensures told { IfOk result (λ flaw. (d : Data) → IsScript script.now.vars script.now.slots script.now.entries.items d → IsFlawOf d flaw) }
+    ensures limit { IfOk result (λ flaw. (tx : Tx) → begun_at script.now.entries.items index ≡ Some tx → TellsLimit script.now.vars index tx cause flaw) }
 {
     let flaw = plan_flaw(alloc, script, index, cause);
     match flaw.expected {

@@ -1,5 +1,5 @@
 //! Which node of a transaction breaks a limit.
-ghost use Rattle.std.specs.Prelude.{◌≡◌, IfErr, IfSome, map};
+ghost use Rattle.std.specs.Prelude.{◌≡◌, ℕ, IfErr, IfSome, Some, map, option_map};
 ghost use Rattle.std.specs.List.{list_any};
 ghost use Rattle.serde_json.specs.Data.{Data};
 ghost use Rattle.tmem_builtins.specs.Builtins.{builtin_names};
@@ -8,14 +8,15 @@ ghost use Rattle.tmem_forms.specs.TxForms.{array_of, tx_form};
 ghost use Rattle.tmem_script.specs.Scripts.{IsScript, entry_form};
 ghost use Rattle.tmem_tree.specs.Limits.{has_bad_register, has_bad_variable, has_bad_step, has_bad_arguments, has_unknown_name, is_no_register};
 ghost use Rattle.tmem_tree.specs.Plans.{is_counted};
-ghost use Rattle.tmem_explain.specs.Excesses.{cause_of};
-ghost use Rattle.tmem_explain.specs.Flaws.{IsAmissIn, IsFlawOf, IsPastLimit, TellsCause, step_arities};
+ghost use Rattle.tmem_explain.specs.Excesses.{HasTotal, cause_of};
+ghost use Rattle.tmem_explain.specs.Flaws.{IsAmissIn, IsFlawOf, IsPastLimit, IsPlanTold, TellsCause, step_arities};
+ghost use Rattle.tmem_explain.specs.Limits.{IsTotal, LeadIntoItem, TellsLimit, begun_at, begun_by};
 
 use crate::amiss::{Amiss, inside};
 use crate::excess::{Excess, arguments_in, bad_register_in, step_in, variable_in};
 use crate::expected::Expected;
 use crate::flaw::Flaw;
-use crate::total::{count_of, depth_of};
+use crate::total::{MOST_LEVELS, count_of, depth_of};
 use std::alloc::Global;
 use tmem_builtins::names;
 use tmem_event::Event;
@@ -36,10 +37,12 @@ pub(crate) struct Limit {
 /// first that is too many. Where none is found, or memory does not suffice, that is told as of no script.
 pub fn plan_flaw(alloc: Global, script: &Script, index: usize, cause: Cause) -> Flaw
     ensures there { (d : Data) → IsScript script.now.vars script.now.slots script.now.entries.items d → IsFlawOf d result }
-    ensures cause { TellsCause cause script.now.vars result.expected }
+    ensures cause { (total : ℕ) × TellsCause cause script.now.vars total result.expected }
+    ensures limit { IsPlanTold result.expected → (tx : Tx) → begun_at script.now.entries.items index ≡ Some tx → TellsLimit script.now.vars index tx cause result }
 {
     let entries = script.entries.as_slice();
-    let found = find_in_entries(alloc, entries, script.vars, index, cause);
+    let limit = limit_at(entries, index, cause, script.vars);
+    let found = find_in_entries(alloc, entries, index, limit);
     match inside(PointerStep::Key("events"), found) {
         Ok(_) => Amiss::here(alloc, Expected::Script).into_flaw(),
         Err(amiss) => amiss.into_flaw(),
@@ -49,23 +52,23 @@ pub fn plan_flaw(alloc: Global, script: &Script, index: usize, cause: Cause) -> 
 fn find_in_entries(
     alloc: Global,
     entries: &[ScriptEntry],
-    vars: u16,
     index: usize,
-    cause: Cause,
+    limit: Limit,
 ) -> Result<u32, Amiss>
     ensures amiss { IfErr result (IsAmissIn (array_of (map entry_form entries.now))) }
-    ensures cause { IfErr result (λ amiss. TellsCause cause vars amiss.expected) }
+    ensures cause { IfErr result (λ amiss. TellsCause limit.cause limit.vars limit.total amiss.expected) }
+    ensures item { IfErr result (λ amiss. IsPlanTold amiss.expected → LeadIntoItem index amiss.steps.items) }
 {
     if index >= entries.len() {
         return Ok(0);
     }
-    let found = find_in_begun(alloc, &entries[index], cause, vars);
+    let found = find_in_begun(alloc, &entries[index], limit);
     inside(PointerStep::Item(index as u64), found)
 }
 
-fn find_in_begun(alloc: Global, entry: &ScriptEntry, cause: Cause, vars: u16) -> Result<u32, Amiss>
+fn find_in_begun(alloc: Global, entry: &ScriptEntry, limit: Limit) -> Result<u32, Amiss>
     ensures amiss { IfErr result (IsAmissIn (entry_form entry.now)) }
-    ensures cause { IfErr result (λ amiss. TellsCause cause vars amiss.expected) }
+    ensures cause { IfErr result (λ amiss. TellsCause limit.cause limit.vars limit.total amiss.expected) }
 {
     let ScriptEntry::Event(playable) = entry else {
         return Ok(0);
@@ -73,24 +76,72 @@ fn find_in_begun(alloc: Global, entry: &ScriptEntry, cause: Cause, vars: u16) ->
     let Event::Begin { tx, .. } = &playable.event else {
         return Ok(0);
     };
-    let limit = limit_of(tx, cause, vars);
-    let found = find_in_plan(alloc, tx, limit, MAX_DEPTH, may_have(cause));
+    let (levels, left) = (may_nest(limit.cause), may_have(limit.cause));
+    let found = find_in_plan(alloc, tx, limit, levels, left);
     inside(
         PointerStep::Key("begin"),
         inside(PointerStep::Item(1), found),
     )
 }
 
-// The limit, and how much of what it counts the transaction has.
-fn limit_of(tx: &Tx, cause: Cause, vars: u16) -> Limit
+/// The transaction that the entry of a number begins.
+pub(crate) fn begun_at<'a>(entries: &'a [ScriptEntry], index: usize) -> Option<&'a Tx>
+    ensures { option_map (λ tx. tx.now) result ≡ begun_at entries.now index }
+{
+    if index >= entries.len() {
+        return None;
+    }
+    begun_by(&entries[index])
+}
+
+fn begun_by<'a>(entry: &'a ScriptEntry) -> Option<&'a Tx>
+    ensures { option_map (λ tx. tx.now) result ≡ begun_by entry.now }
+{
+    let ScriptEntry::Event(playable) = entry else {
+        return None;
+    };
+    match &playable.event {
+        Event::Begin { tx, .. } => Some(tx),
+        _ => None,
+    }
+}
+
+// The limit, and how much of what it counts the transaction of an entry has.
+fn limit_at(entries: &[ScriptEntry], index: usize, cause: Cause, vars: u16) -> Limit
     ensures cause { result.cause ≡ cause }
     ensures vars { result.vars ≡ vars }
+    ensures total { (tx : Tx) → begun_at entries.now index ≡ Some tx → IsTotal vars tx cause result.total }
 {
-    let total = match cause {
+    let total = total_at(entries, index, cause, vars);
+    Limit { cause, vars, total }
+}
+
+// How much of what a limit counts the transaction of an entry has, if it begins one.
+fn total_at(entries: &[ScriptEntry], index: usize, cause: Cause, vars: u16) -> u64
+    ensures { (tx : Tx) → begun_at entries.now index ≡ Some tx → IsTotal vars tx cause result }
+{
+    match begun_at(entries, index) {
+        Some(tx) => total_of(tx, cause, vars),
+        None => 0,
+    }
+}
+
+// How much of what a limit counts a transaction has.
+fn total_of(tx: &Tx, cause: Cause, vars: u16) -> u64
+    ensures { IsTotal vars tx.now cause result }
+{
+    match cause {
         Cause::TooDeep => depth_of(tx),
         _ => count_of(tx, cause, vars),
-    };
-    Limit { cause, vars, total }
+    }
+}
+
+// How many levels of a transaction are looked at: those that it may have, or all that a text can nest.
+fn may_nest(cause: Cause) -> u32 {
+    match cause {
+        Cause::TooDeep => MAX_DEPTH,
+        _ => MOST_LEVELS,
+    }
 }
 
 // How many nodes may be counted.
@@ -108,7 +159,7 @@ fn may_have(cause: Cause) -> u32 {
 #[cycle(plan)]
 fn find_in_plan(alloc: Global, tx: &Tx, limit: Limit, depth: u32, left: u32) -> Result<u32, Amiss>
     ensures amiss { IfErr result (IsAmissIn (tx_form tx.now)) }
-    ensures cause { IfErr result (λ amiss. TellsCause limit.cause limit.vars amiss.expected) }
+    ensures cause { IfErr result (λ amiss. TellsCause limit.cause limit.vars limit.total amiss.expected) }
 {
     if depth == 0 {
         return match limit.cause {
@@ -130,7 +181,7 @@ fn find_in_plan(alloc: Global, tx: &Tx, limit: Limit, depth: u32, left: u32) -> 
 #[cycle(plan)]
 fn find_below(alloc: Global, tx: &Tx, limit: Limit, depth: u32, left: u32) -> Result<u32, Amiss>
     ensures amiss { IfErr result (IsAmissIn (tx_form tx.now)) }
-    ensures cause { IfErr result (λ amiss. TellsCause limit.cause limit.vars amiss.expected) }
+    ensures cause { IfErr result (λ amiss. TellsCause limit.cause limit.vars limit.total amiss.expected) }
 {
     match tx {
         Tx::Seq(txs) => {
@@ -168,7 +219,7 @@ fn find_below(alloc: Global, tx: &Tx, limit: Limit, depth: u32, left: u32) -> Re
 #[cycle(plan)]
 fn find_in_row(alloc: Global, txs: &[Tx], limit: Limit, depth: u32, left: u32) -> Result<u32, Amiss>
     ensures amiss { IfErr result (IsAmissIn (array_of (map tx_form txs.now))) }
-    ensures cause { IfErr result (λ amiss. TellsCause limit.cause limit.vars amiss.expected) }
+    ensures cause { IfErr result (λ amiss. TellsCause limit.cause limit.vars limit.total amiss.expected) }
 {
     let mut left = left;
     for (i, tx) in txs.iter().enumerate() {
@@ -181,7 +232,7 @@ fn find_in_row(alloc: Global, txs: &[Tx], limit: Limit, depth: u32, left: u32) -
 // That a node is deeper than may be.
 fn too_deep(alloc: Global, limit: Limit) -> Amiss
     ensures amiss { (tx : Tx) → IsAmissIn (tx_form tx) result }
-    ensures cause { TellsCause Cause.TooDeep limit.vars result.expected }
+    ensures cause { TellsCause Cause.TooDeep limit.vars limit.total result.expected }
 {
     past(alloc, Excess::Depth(limit.total), limit.vars)
 }
@@ -189,7 +240,7 @@ fn too_deep(alloc: Global, limit: Limit) -> Amiss
 // That this of a node is past a limit.
 fn past(alloc: Global, excess: Excess, vars: u16) -> Amiss
     ensures amiss { (tx : Tx) → IsPastLimit vars tx excess → IsAmissIn (tx_form tx) result }
-    ensures cause { TellsCause (cause_of excess) vars result.expected }
+    ensures cause { (total : ℕ) → HasTotal total excess → TellsCause (cause_of excess) vars total result.expected }
 {
     Amiss::here(alloc, Expected::Plan { excess, vars })
 }
@@ -198,6 +249,7 @@ fn past(alloc: Global, excess: Excess, vars: u16) -> Amiss
 fn excess_in(tx: &Tx, limit: Limit) -> Option<Excess>
     ensures over { IfSome result (IsPastLimit limit.vars tx.now) }
     ensures cause { IfSome result (λ excess. cause_of excess ≡ limit.cause) }
+    ensures total { IfSome result (HasTotal limit.total) }
 {
     let Limit { cause, vars, total } = limit;
     if !is_counted(tx, cause, vars) {

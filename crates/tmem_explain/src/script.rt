@@ -1,5 +1,5 @@
 //! All that is wrong with a script.
-ghost use Rattle.std.specs.Prelude.{◌≡◌, ◌≢◌, [], ℕ, List, All, IsUtf8, Some, IfErr, IfOk, OnOk, codes, map, string_bytes};
+ghost use Rattle.std.specs.Prelude.{◌≡◌, ◌≢◌, ◌⊎◌, [], ℕ, List, All, IsUtf8, Some, IfErr, IfOk, OnOk, codes, map, string_bytes};
 ghost use Rattle.serde_json.specs.Data.{Data};
 ghost use Rattle.serde_json.specs.Find.{get};
 ghost use Rattle.serde_json.specs.Read.{read};
@@ -9,7 +9,7 @@ ghost use Rattle.tmem_script.specs.declared.script.ScriptEntry.{ScriptEntry};
 ghost use Rattle.tmem_fault.specs.Name.{has_name};
 ghost use Rattle.tmem_requests.specs.Reasons.{IsNoJson};
 ghost use Rattle.tmem_explain.specs.Flaws.{HasUnknownScriptKey, IsAmissIn, IsFlawOf, IsTextFlaw};
-ghost use Rattle.tmem_explain.specs.Limits.{IsFineText, IsFlawedText};
+ghost use Rattle.tmem_explain.specs.Limits.{IsFineText, IsFlawedText, IsNoScript, TellsItsLimits};
 
 use crate::amiss::{Amiss, inside};
 use crate::entry::find_in_entry;
@@ -23,11 +23,12 @@ use tmem_requests::{PointerStep, has_only};
 use tmem_script::{Script, ScriptError};
 
 /// All that is wrong with the text of a script: of each of its numbers, and of each entry, the first thing. Of a script these are numbers
-/// that no store has, and transactions that break a limit. There is nothing where the text is a script that keeps them. Refused where
+/// that no store has, and each limit that a transaction breaks. There is nothing where the text is a script that keeps them. Refused where
 /// memory does not suffice.
 pub fn flaws_in(alloc: Global, text: &[u8]) -> Result<Vec<Flaw>, AllocError>
     ensures told { IfOk result (λ flaws. (value : Data) → IsUtf8 text.now → read text.now ≡ Some value → All (IsFlawOf value) flaws.items) }
     ensures no_json { IfOk result (λ flaws. IsNoJson text.now → All IsTextFlaw flaws.items) }
+    ensures limits { IfOk result (λ flaws. IsNoScript text.now ⊎ TellsItsLimits text.now flaws.items) }
     ensures some { IfOk result (λ flaws. flaws.items ≢ [] → IsFlawedText text.now) }
     ensures fine { IfOk result (λ flaws. flaws.items ≡ [] → IsFineText text.now) }
 {

@@ -2,52 +2,40 @@
 ghost use Rattle.std.specs.Prelude.{◌≡◌, ◌+◌, ◌<◌, ◌≤◌, ◌↔◌, IfSome, IsNone, IsTrue};
 ghost use Rattle.tmem_builtins.specs.Builtins.{builtin_names};
 ghost use Rattle.tmem_tree.specs.Limits.{count, depth};
-ghost use Rattle.tmem_tree.specs.Plans.{BreaksNone, IsLeastBroken, is_counted};
+ghost use Rattle.tmem_tree.specs.Plans.{is_counted};
 ghost use Rattle.tmem_explain.specs.Flaws.{step_arities};
+ghost use Rattle.tmem_explain.specs.Limits.{BreaksLimit};
 
 use crate::plan::is_counted;
 use tmem_fault::Cause;
 use tmem_tree::{MAX_CHECKS, MAX_DEPTH, MAX_NODES, MAX_RETIRES, MAX_WRITES, Tx};
 
 // No text nests a transaction deeper.
-const MOST_LEVELS: u32 = 128;
+pub(crate) const MOST_LEVELS: u32 = 128;
 
-/// The first limit by number that a transaction breaks.
-pub(crate) fn least_broken(tx: &Tx, vars: u16) -> Option<Cause>
-    ensures broken { IfSome result (IsLeastBroken step_arities vars (builtin_names vars) tx.now) }
-    ensures none { IsNone result → BreaksNone step_arities vars (builtin_names vars) tx.now }
+/// Whether a transaction breaks the limit of a cause.
+pub(crate) fn breaks(tx: &Tx, cause: Cause, vars: u16) -> bool
+    ensures { IsTrue result ↔ BreaksLimit vars tx.now cause }
 {
-    if !is_within_depth(tx, MAX_DEPTH) {
-        return Some(Cause::TooDeep);
+    match cause {
+        Cause::TooDeep => !is_within_depth(tx, MAX_DEPTH),
+        Cause::TooManyNodes => has_more(tx, Cause::TooManyNodes, vars, MAX_NODES as u64),
+        Cause::TooManyWrites => has_more(tx, Cause::TooManyWrites, vars, MAX_WRITES as u64),
+        Cause::TooManyChecks => has_more(tx, Cause::TooManyChecks, vars, MAX_CHECKS as u64),
+        Cause::BadRegister => has_more(tx, Cause::BadRegister, vars, 0),
+        Cause::BadVariable => has_more(tx, Cause::BadVariable, vars, 0),
+        Cause::BadStep => has_more(tx, Cause::BadStep, vars, 0),
+        Cause::BadArguments => has_more(tx, Cause::BadArguments, vars, 0),
+        Cause::UnknownName => has_more(tx, Cause::UnknownName, vars, 0),
+        Cause::TooManyRetires => has_more(tx, Cause::TooManyRetires, vars, MAX_RETIRES as u64),
     }
-    if spend(tx, Cause::TooManyNodes, vars, MAX_NODES as u64).is_none() {
-        return Some(Cause::TooManyNodes);
-    }
-    if spend(tx, Cause::TooManyWrites, vars, MAX_WRITES as u64).is_none() {
-        return Some(Cause::TooManyWrites);
-    }
-    if spend(tx, Cause::TooManyChecks, vars, MAX_CHECKS as u64).is_none() {
-        return Some(Cause::TooManyChecks);
-    }
-    if spend(tx, Cause::BadRegister, vars, 0).is_none() {
-        return Some(Cause::BadRegister);
-    }
-    if spend(tx, Cause::BadVariable, vars, 0).is_none() {
-        return Some(Cause::BadVariable);
-    }
-    if spend(tx, Cause::BadStep, vars, 0).is_none() {
-        return Some(Cause::BadStep);
-    }
-    if spend(tx, Cause::BadArguments, vars, 0).is_none() {
-        return Some(Cause::BadArguments);
-    }
-    if spend(tx, Cause::UnknownName, vars, 0).is_none() {
-        return Some(Cause::UnknownName);
-    }
-    if spend(tx, Cause::TooManyRetires, vars, MAX_RETIRES as u64).is_none() {
-        return Some(Cause::TooManyRetires);
-    }
-    None
+}
+
+// Whether a limit counts more nodes than so many.
+fn has_more(tx: &Tx, cause: Cause, vars: u16, most: u64) -> bool
+    ensures { IsTrue result ↔ (most < count (is_counted cause step_arities vars (builtin_names vars)) tx.now) }
+{
+    spend(tx, cause, vars, most).is_none()
 }
 
 /// How many nodes a limit counts, and no more than 2^64 - 1.

@@ -1,3 +1,4 @@
+mod Kept
 pub mod Arrays
 pub mod Found
 pub mod Linears

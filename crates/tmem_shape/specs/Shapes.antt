@@ -9,6 +9,7 @@ use Rattle.serde_json.specs.Read.{read}
 use Rattle.tmem_fault.specs.Name.{IsLetter, IsName, has_name}
 use Rattle.tmem_forms.specs.TxForms.{natural, integer, array_of}
 use Rattle.tmem_invariants.specs.TableNames.{AreBelow, AreDistinct, IsFootprint}
+use Rattle.tmem_linear.specs.Bounds.{is_to}
 use Rattle.tmem_linear.specs.declared.linear.Linear.{Linear}
 use Rattle.tmem_linear.specs.declared.weight.Weight.{Weight}
 use Rattle.tmem_linear.specs.declared.weight.Weight.TheVariants.{Value, Nonzero}
@@ -82,6 +83,14 @@ pub record IsInvariant (vars : ℕ) (linear : Linear) (d : Data) : Type 0 where
   pub most : HasBound (codes "most") linear.most d
   pub bounded : (is_some linear.least || is_some linear.most) ≡ true
   pub always : HasAlways linear.always d
+
+-- the least is not above the most, where there are both: else no values keep the invariant
+abbrev pub are_bounds_met : Option ℤ → Option ℤ → Bool
+are_bounds_met None most = true
+are_bounds_met (Some least) most = is_to most least
+
+abbrev pub CanHold : Linear → Type 0
+CanHold linear = are_bounds_met linear.least linear.most ≡ true
 
 -- an array of the forms of these invariants, in order, stands at `invariants`: at most 64, and no name twice
 pub record HasInvariants (vars : ℕ) (invariants : List Linear) (d : Data) : Type 0 where

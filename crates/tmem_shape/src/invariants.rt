@@ -1,5 +1,5 @@
 //! Invariants.
-ghost use Rattle.std.specs.Prelude.{◌≡◌, ℕ, ℤ, List, Bool, Option, map, IsNone, IfSome, IfOk, IfErr, MatchOption};
+ghost use Rattle.std.specs.Prelude.{◌≡◌, ◌↔◌, ℕ, ℤ, List, All, Bool, IsTrue, Option, map, IsNone, IfSome, IfOk, IfErr, MatchOption};
 ghost use Rattle.std.specs.List.{AllZip};
 ghost use Rattle.serde_json.specs.Data.{string};
 ghost use Rattle.serde_json.specs.View.{view};
@@ -8,7 +8,7 @@ ghost use Rattle.tmem_invariants.specs.TableNames.{AreDistinct, has_name};
 ghost use Rattle.tmem_linear.specs.declared.linear.Linear.{Linear};
 ghost use Rattle.tmem_shape.specs.Errors.{RefusesText};
 ghost use Rattle.tmem_shape.specs.Keys.{key_text};
-ghost use Rattle.tmem_shape.specs.Shapes.{HasAlways, HasBound, HasInvariants, HasName, IsInvariant};
+ghost use Rattle.tmem_shape.specs.Shapes.{CanHold, HasAlways, HasBound, HasInvariants, HasName, IsInvariant};
 
 use crate::error::ShapeError;
 use crate::key::Key;
@@ -76,6 +76,28 @@ fn name_repeated(invariants: &[Linear]) -> Option<usize>
         }
     }
     None
+}
+
+/// The place of the first invariant whose least is above its most, if there is one.
+pub(crate) fn first_crossed(invariants: &[Linear]) -> Option<usize>
+    ensures { MatchOption result (All CanHold invariants.now) (λ place. ¬ All CanHold invariants.now) }
+{
+    for (i, linear) in invariants.iter().enumerate() {
+        if !can_hold(linear) {
+            return Some(i);
+        }
+    }
+    None
+}
+
+// Whether the bounds of an invariant leave room for a sum.
+fn can_hold(linear: &Linear) -> bool
+    ensures { IsTrue result ↔ CanHold linear.now }
+{
+    match (linear.least, linear.most) {
+        (Some(least), Some(most)) => least <= most,
+        _ => true,
+    }
 }
 
 // Whether one of these has a name.

@@ -5,7 +5,7 @@ ghost use Rattle.serde_json.specs.View.{view};
 ghost use Rattle.tmem_shape.specs.Errors.{RefusesText};
 
 use crate::error::ShapeError;
-use crate::invariants::invariants_of;
+use crate::invariants::{first_crossed, invariants_of};
 use crate::key::Key;
 use crate::members::check_keys;
 use crate::names::names_of;
@@ -32,8 +32,8 @@ pub struct StoreShape {
 }
 
 impl StoreShape {
-    ghost use Rattle.std.specs.Prelude.{map, filter, true};
-    ghost use Rattle.tmem_shape.specs.Shapes.{IsShape, IsShapeText};
+    ghost use Rattle.std.specs.Prelude.{All, OnOk, map, filter, true};
+    ghost use Rattle.tmem_shape.specs.Shapes.{CanHold, IsShape, IsShapeText};
     ghost use Rattle.tmem_shape.specs.declared.shape.StoreShape.{StoreShape};
 
     /// Reads a shape from its text, and refuses a text that is none, with why and where.
@@ -65,6 +65,21 @@ impl StoreShape {
             invariants,
             names,
         })
+    }
+
+    /// Refuses a shape with an invariant that no values keep, since its least is above its most, with the place of the first. A store that
+    /// was made so before can be served: such an invariant refuses what checks it.
+    pub fn check_bounds(&self) -> Result<(), ShapeError>
+        ensures ok { OnOk result (All CanHold self.now.invariants.items) }
+        ensures refused { IfErr result (λ e. RefusesText e (¬ All CanHold self.now.invariants.items)) }
+    {
+        match first_crossed(&self.invariants) {
+            None => Ok(()),
+            Some(i) => Err(ShapeError::NoShape {
+                why: ShapeFlaw::Crossed,
+                at: ShapePlace::InvariantMember(i, Key::Least),
+            }),
+        }
     }
 
     /// The names of the invariants, in order.

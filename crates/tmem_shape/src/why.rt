@@ -31,6 +31,8 @@ pub enum ShapeFlaw {
     NotBound,
     /// There is neither a least nor a most.
     NoBound,
+    /// The least is more than the most.
+    Crossed,
     NotTrue,
     /// It is not a name that a variable may have.
     NotName,
@@ -66,6 +68,10 @@ impl fmt::Display for ShapeFlaw {
             ShapeFlaw::VariableTwice => write!(f, "an earlier term has this variable"),
             ShapeFlaw::NotBound => write!(f, "this is not a whole number of 64 bits"),
             ShapeFlaw::NoBound => write!(f, "there is neither a least nor a most"),
+            ShapeFlaw::Crossed => write!(
+                f,
+                "the least is more than the most, so no values keep this"
+            ),
             ShapeFlaw::NotTrue => write!(f, "this is not true"),
             ShapeFlaw::NotName => {
                 write!(

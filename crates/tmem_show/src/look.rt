@@ -1,6 +1,7 @@
 //! What is known of a store once its block 0 was read.
-ghost use Rattle.std.specs.Prelude.{◌≡◌, ◌≤◌, ◌<◌, length, IfOk, IfErr};
+ghost use Rattle.std.specs.Prelude.{◌≡◌, ◌≤◌, ◌<◌, ◌⊎◌, length, IfOk, IfErr};
 ghost use Rattle.tmem_record.specs.Layout.{end_at};
+ghost use Rattle.tmem_show.specs.Refusals.{IsOpening};
 
 use crate::fields::{Field, walk_block, walk_image, walk_slot, walk_stale};
 use crate::log::{Chosen, choose, generation_at, used};
@@ -63,7 +64,9 @@ impl<'a> ShownStore<'a> {
         layout: Layout,
     ) -> Result<ShownStore<'a>, Fault>
         requires { end_at layout.vars layout.slots ≤ length bytes.now }
-        ensures { IfOk result (λ look. look.layout ≡ layout) }
+        ensures layout { IfOk result (λ look. look.layout ≡ layout) }
+        ensures bytes { IfOk result (λ look. look.bytes.now ≡ bytes.now) }
+        ensures refused { IfErr result (λ fault. (fault ≡ Fault.Memory) ⊎ (fault ≡ Fault.Device)) }
     {
         let Ok(it) = choose(bytes, layout) else {
             return Ok(ShownStore {
@@ -169,7 +172,10 @@ impl<'a> ShownStore<'a> {
     }
 
     /// What an opening finds, of a store that was formatted with this version.
-    pub(crate) fn opening(&self, formatted: Version) -> Result<OpeningResult, Fault> {
+    pub(crate) fn opening(&self, formatted: Version) -> Result<OpeningResult, Fault>
+        ensures found { IfOk result (IsOpening self.now.layout.vars self.now.layout.slots self.now.bytes.now) }
+        ensures refused { IfErr result (λ fault. fault ≡ Fault.Memory) }
+    {
         let fault = match recovery_of(self.alloc, self.bytes, self.layout) {
             Recovery::Found(state) => return Ok(OpeningResult::Found(state)),
             Recovery::Refused(Fault::Memory) => return Err(Fault::Memory),
@@ -188,7 +194,10 @@ pub(crate) fn opening_without_block(
     alloc: Global,
     source: &Source,
     wrong: WrongByte,
-) -> Result<OpeningResult, Fault> {
+) -> Result<OpeningResult, Fault>
+    ensures found { IfOk result (IsOpening 1 2 source.now.bytes.items) }
+    ensures refused { IfErr result (λ fault. fault ≡ Fault.Memory) }
+{
     let least = Layout {
         vars: 1,
         slots: LEAST_SLOTS,
@@ -202,7 +211,9 @@ pub(crate) fn opening_without_block(
 }
 
 /// What an opening finds where there are fewer bytes than the layout has.
-pub(crate) fn too_short(source: &Source) -> OpeningResult {
+pub(crate) fn too_short(source: &Source) -> OpeningResult
+    ensures { result ≡ OpeningResult.Refused Fault.Geometry (record { at = source.now.size; why = FormatFlaw.Ends }) }
+{
     let wrong = WrongByte {
         at: source.size,
         why: FormatFlaw::Ends,

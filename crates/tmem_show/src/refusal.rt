@@ -1,4 +1,7 @@
 //! What of a store an opening refuses.
+ghost use Rattle.std.specs.Prelude.{◌≡◌, ◌⊎◌, ℕ, List, IfErr, IfOk};
+ghost use Rattle.tmem_show.specs.Refusals.{IsInPart, IsOpening, TellsOf, TellsOpening};
+
 use crate::look::{OpeningResult, ShownStore, opening_without_block, too_short};
 use crate::source::Source;
 use std::alloc::Global;
@@ -33,8 +36,12 @@ impl fmt::Display for Refusal {
     }
 }
 
-/// Why an opening of these bytes is refused, if it is. The only error is want of memory.
-pub fn refusal_of(alloc: Global, source: &Source) -> Result<Option<Refusal>, Fault> {
+/// Why an opening of these bytes is refused, if it is. The only error is want of memory, or a failure of the copy of the bytes, which does
+/// not happen.
+pub fn refusal_of(alloc: Global, source: &Source) -> Result<Option<Refusal>, Fault>
+    ensures told { IfOk result (TellsOf source.now.bytes.items) }
+    ensures refused { IfErr result (λ fault. (fault ≡ Fault.Memory) ⊎ (fault ≡ Fault.Device)) }
+{
     match block_of(&source.bytes) {
         Ok(block) => refusal_behind(alloc, source, block),
         Err(wrong) => {
@@ -45,7 +52,10 @@ pub fn refusal_of(alloc: Global, source: &Source) -> Result<Option<Refusal>, Fau
 }
 
 // The same of a store with this block 0.
-fn refusal_behind(alloc: Global, source: &Source, block: Block) -> Result<Option<Refusal>, Fault> {
+fn refusal_behind(alloc: Global, source: &Source, block: Block) -> Result<Option<Refusal>, Fault>
+    ensures told { IfOk result (TellsOpening block.layout.vars block.layout.slots source.now.bytes.items) }
+    ensures refused { IfErr result (λ fault. (fault ≡ Fault.Memory) ⊎ (fault ≡ Fault.Device)) }
+{
     let Block { version, layout } = block;
     if (source.bytes.len() as u64) < layout.end() {
         return Ok(refusal_in(Some(layout), &too_short(source)));
@@ -60,7 +70,9 @@ fn refusal_behind(alloc: Global, source: &Source, block: Block) -> Result<Option
 }
 
 // What is refused by what an opening finds in a store of this layout.
-fn refusal_in(layout: Option<Layout>, opening: &OpeningResult) -> Option<Refusal> {
+fn refusal_in(layout: Option<Layout>, opening: &OpeningResult) -> Option<Refusal>
+    ensures { (vars slots : ℕ) (c : List ℕ) → IsOpening vars slots c opening.now → TellsOpening vars slots c result }
+{
     let OpeningResult::Refused(fault, wrong) = opening else {
         return None;
     };
@@ -76,7 +88,9 @@ fn refusal_in(layout: Option<Layout>, opening: &OpeningResult) -> Option<Refusal
 }
 
 // The part that a byte belongs to.
-fn part_at(layout: Layout, at: u64) -> Part {
+fn part_at(layout: Layout, at: u64) -> Part
+    ensures { IsInPart layout.vars at result }
+{
     let log = layout.slot(0);
     if at < BLOCK_BYTES as u64 {
         Part::Block

@@ -1,28 +1,25 @@
-use Rattle.std.proofs.Common.{◌∙◌, arith}
-use Rattle.tmem_explain.specs.Limits.{KeepsLimit}
-use Rattle.tmem_explain.proofs.Limited.{all_at, all_up_to, all_at_end}
+use Rattle.std.proofs.Common.{◌≡◌, Some, length, rules, arith}
+use Rattle.tmem_fault.specs.declared.fault.Cause.{Cause}
+use Rattle.tmem_tree.specs.declared.tx.Tx.{Tx}
+use Rattle.tmem_explain.specs.Limits.{BreaksLimit, HasFlaw, TellsLimit, begun_at}
+use Rattle.tmem_explain.proofs.Limited.{begun_within, each_more, still_told}
 use Rattle.tmem_explain.proofs.limits.note_plans.Goals as goal
 
 pub loop-i-preserved : goal.loop-i-preserved
 loop-i-preserved c =
     let script = c.args.script.now in
-    let entry = c.entry-item.result in
-    let items = c.deref-entry-items.result.now in
-    let same = c.deref-entry-items.ensures.value in
+    let flaws = c.note_entry.new.flaws.items in
     record {
-      told = λ d is all. c.in_ok-note_entry.ensures.told d is (c.loop-i.invariant.told d is all);
-      some = λ all.
-          c.in_ok-note_entry.ensures.some (all_at (KeepsLimit script.vars) script.entries.items items c.loop-i.i same entry c.loop-i-test.true c.entry-item.is all)
-          ∙ c.loop-i.invariant.some all;
-      fine = λ none. c.loop-i.invariant.fine (c.in_ok-note_entry.ensures.fine none).0;
-      each = λ none.
-          let before = c.in_ok-note_entry.ensures.fine none in
-          all_up_to (KeepsLimit script.vars) script.entries.items items c.loop-i.i same entry c.loop-i-test.true c.entry-item.is before.1 (c.loop-i.invariant.each before.0);
+      only = λ all. c.in_ok-note_entry.ensures.only (c.loop-i.invariant.only all);
+      kept = λ flaw there. c.in_ok-note_entry.ensures.kept flaw (c.loop-i.invariant.kept flaw there);
+      each = λ i tx cause below begun breaks.
+          each_more (λ i. (tx : Tx) (cause : Cause) → begun_at script.entries.items i ≡ Some tx → BreaksLimit script.vars tx cause → HasFlaw (TellsLimit script.vars i tx cause) flaws) c.loop-i.i
+          (λ i before tx cause begun breaks. still_told _ _ _ c.in_ok-note_entry.ensures.kept (c.loop-i.invariant.each i tx cause before begun breaks))
+          c.in_ok-note_entry.ensures.each i below tx cause begun breaks;
     }
 
-pub returns-clause-fine : goal.returns-clause-fine
-returns-clause-fine c = λ none.
-    let script = c.args.script.now in (
-      c.loop-i.invariant.fine none,
-      all_at_end (KeepsLimit script.vars) script.entries.items c.deref-entry-items.result.now c.loop-i.i c.deref-entry-items.ensures.value (omega (arith, c.loop-i-test.false)) (c.loop-i.invariant.each none),
-    )
+pub returns-clause-each : goal.returns-clause-each
+returns-clause-each c = λ i tx cause begun breaks.
+    let entries = c.args.script.now.entries.items in
+    let long : c.len-i-end.result ≡ length entries = search rules in
+    c.loop-i.invariant.each i tx cause (omega (arith, begun_within entries i tx begun, c.loop-i-test.false, long)) begun breaks

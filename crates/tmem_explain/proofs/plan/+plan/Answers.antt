@@ -1,5 +1,6 @@
 use Rattle.std.proofs.Common.{◌≡◌, ◌∷◌, [], IfErr, map, codes, refl, sym, ap, ◌∙◌, subst}
 use Rattle.serde_json.specs.Data.{Data}
+use Rattle.tmem_fault.specs.declared.fault.Cause.{Cause}
 use Rattle.tmem_forms.specs.TxForms.{array_of, natural, tagged, tx_form}
 use Rattle.tmem_explain.specs.Flaws.{IsAmissIn, TellsCause}
 use Rattle.tmem_explain.proofs.Amisses.{form_of_or_else, form_of_when, form_there, handed}
@@ -54,33 +55,39 @@ pub find_below-returns-in_err-left-in-When-clause-cause :
     goal.find_below-returns-in_err-left-in-When-clause-cause
 find_below-returns-in_err-left-in-When-clause-cause t c =
     let l = c.args.limit in
-    handed (λ a. TellsCause l.cause l.vars a.expected) c.from_residual.result c.in_err-left-in-When.field-0.0 c.from_residual.ensures.1
-    (c.in_err-left-in-When.ensures.cause l.cause l.vars (c.inside-in-When.ensures.cause l.cause l.vars c.find_in_plan-first.ensures.cause))
+    handed (λ a. TellsCause l.cause l.vars l.total a.expected) c.from_residual.result c.in_err-left-in-When.field-0.0 c.from_residual.ensures.1
+    (c.in_err-left-in-When.ensures.cause l.cause l.vars l.total (c.inside-in-When.ensures.cause l.cause l.vars l.total c.find_in_plan-first.ensures.cause))
 
 pub find_below-returns-in_err-left-in-OrElse-clause-cause :
     goal.find_below-returns-in_err-left-in-OrElse-clause-cause
 find_below-returns-in_err-left-in-OrElse-clause-cause t c =
     let l = c.args.limit in
-    handed (λ a. TellsCause l.cause l.vars a.expected) c.from_residual-in_err-left-in-OrElse.result c.in_err-left-in-OrElse.field-0.0 c.from_residual-in_err-left-in-OrElse.ensures.1
-    (c.in_err-left-in-OrElse.ensures.cause l.cause l.vars (c.inside-in-OrElse.ensures.cause l.cause l.vars c.find_in_plan-first-in-OrElse.ensures.cause))
+    handed (λ a. TellsCause l.cause l.vars l.total a.expected) c.from_residual-in_err-left-in-OrElse.result c.in_err-left-in-OrElse.field-0.0 c.from_residual-in_err-left-in-OrElse.ensures.1
+    (c.in_err-left-in-OrElse.ensures.cause l.cause l.vars l.total (c.inside-in-OrElse.ensures.cause l.cause l.vars l.total c.find_in_plan-first-in-OrElse.ensures.cause))
 
 pub find_below-returns-in_ok-left-in-When-clause-cause :
     goal.find_below-returns-in_ok-left-in-When-clause-cause
 find_below-returns-in_ok-left-in-When-clause-cause t c =
     let l = c.args.limit in
-    c.inside-in-When-4.ensures.cause l.cause l.vars (c.inside-in-When-3.ensures.cause l.cause l.vars c.find_in_plan-second.ensures.cause)
+    c.inside-in-When-4.ensures.cause l.cause l.vars l.total (c.inside-in-When-3.ensures.cause l.cause l.vars l.total c.find_in_plan-second.ensures.cause)
 
 pub find_below-returns-in_ok-left-in-OrElse-clause-cause :
     goal.find_below-returns-in_ok-left-in-OrElse-clause-cause
 find_below-returns-in_ok-left-in-OrElse-clause-cause t c =
     let l = c.args.limit in
-    c.inside-in-OrElse-4.ensures.cause l.cause l.vars (c.inside-in-OrElse-3.ensures.cause l.cause l.vars c.find_in_plan-second-in-OrElse.ensures.cause)
+    c.inside-in-OrElse-4.ensures.cause l.cause l.vars l.total (c.inside-in-OrElse-3.ensures.cause l.cause l.vars l.total c.find_in_plan-second-in-OrElse.ensures.cause)
 
 pub find_below-returns-in-Seq-clause-cause : goal.find_below-returns-in-Seq-clause-cause
-find_below-returns-in-Seq-clause-cause t c = c.inside.ensures.cause c.args.limit.cause c.args.limit.vars c.find_in_row-found.ensures.cause
+find_below-returns-in-Seq-clause-cause t c = c.inside.ensures.cause c.args.limit.cause c.args.limit.vars c.args.limit.total c.find_in_row-found.ensures.cause
 
 pub find_in_row-returns-in_err-left-clause-cause : goal.find_in_row-returns-in_err-left-clause-cause
 find_in_row-returns-in_err-left-clause-cause t c =
     let l = c.args.limit in
-    handed (λ a. TellsCause l.cause l.vars a.expected) c.from_residual.result c.in_err-left.field-0.0 c.from_residual.ensures.1
-    (c.in_err-left.ensures.cause l.cause l.vars c.find_in_plan-found.ensures.cause)
+    handed (λ a. TellsCause l.cause l.vars l.total a.expected) c.from_residual.result c.in_err-left.field-0.0 c.from_residual.ensures.1
+    (c.in_err-left.ensures.cause l.cause l.vars l.total c.find_in_plan-found.ensures.cause)
+
+pub find_in_plan-returns-in-None-checked_sub-clause-cause :
+    goal.find_in_plan-returns-in-None-checked_sub-clause-cause
+find_in_plan-returns-in-None-checked_sub-clause-cause t c =
+    let l = c.args.limit in
+    subst (λ (k : Cause). TellsCause k l.vars l.total c.past.result.expected) c.in-Some.ensures.cause (c.past.ensures.cause l.total c.in-Some.ensures.total)

@@ -1,9 +1,8 @@
-use Rattle.std.proofs.Common.{◌≡◌, ◌∷◌, ℕ, [], IfErr, codes, refl, sym, ap, ◌∙◌, subst}
+use Rattle.std.proofs.Common.{◌≡◌, ◌∷◌, [], IfErr, codes, refl, sym, ap, ◌∙◌, subst}
 use Rattle.serde_json.specs.Data.{Data}
 use Rattle.tmem_forms.specs.TxForms.{array_of, natural, tagged, tx_form}
 use Rattle.tmem_script.specs.Scripts.{entry_form, event_form}
-use Rattle.tmem_fault.specs.declared.fault.Cause.{Cause}
-use Rattle.tmem_explain.specs.Flaws.{IsAmissIn, TellsCause}
+use Rattle.tmem_explain.specs.Flaws.{IsAmissIn}
 use Rattle.tmem_explain.proofs.plan.find_in_begun.Goals as goal
 
 pub returns-clause-amiss : goal.returns-clause-amiss
@@ -15,6 +14,5 @@ returns-clause-amiss c =
 
 pub returns-clause-cause : goal.returns-clause-cause
 returns-clause-cause c =
-    let told = subst (λ (n : ℕ). IfErr c.find_in_plan-found.result (λ a. TellsCause c.limit_of-limit.result.cause n a.expected)) c.limit_of-limit.ensures.vars c.find_in_plan-found.ensures.cause in
-    let told_of = subst (λ (k : Cause). IfErr c.find_in_plan-found.result (λ a. TellsCause k c.args.vars a.expected)) c.limit_of-limit.ensures.cause told in
-    c.inside-2.ensures.cause c.args.cause c.args.vars (c.inside.ensures.cause c.args.cause c.args.vars told_of)
+    let l = c.args.limit in
+    c.inside-2.ensures.cause l.cause l.vars l.total (c.inside.ensures.cause l.cause l.vars l.total c.find_in_plan-found.ensures.cause)

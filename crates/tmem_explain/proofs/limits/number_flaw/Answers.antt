@@ -2,7 +2,7 @@ use Rattle.std.proofs.Common.{◌≡◌, codes, Some, refl, sym, subst, rules}
 use Rattle.serde_json.specs.Find.{get}
 use Rattle.tmem_forms.specs.TxForms.{natural}
 use Rattle.tmem_explain.proofs.Limited.{not_both}
-use Rattle.tmem_explain.proofs.limits.layout_flaw.Goals as goal
+use Rattle.tmem_explain.proofs.limits.number_flaw.Goals as goal
 
 pub returns-then-not-has_vars : goal.returns-then-not-has_vars
 returns-then-not-has_vars c = λ d is.

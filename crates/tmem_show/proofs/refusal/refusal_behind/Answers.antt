@@ -1,0 +1,37 @@
+use Rattle.std.proofs.Common.{◌≡◌, ◌∙◌, ℕ, List, Result, IfOk, IfErr, length, refl, rules, sym, subst, arith}
+use Rattle.std.specs.Prelude.{◌⊎◌}
+use Rattle.tmem_fault.specs.declared.fault.Fault.{Fault}
+use Rattle.tmem_fault.specs.declared.fault.Fault.TheVariants.{Memory, Device}
+use Rattle.tmem_record.specs.Layout.{end_at}
+use Rattle.tmem_record.specs.declared.layout.Layout.{Layout}
+use Rattle.tmem_show.specs.Refusals.{IsOpening}
+use Rattle.tmem_show.specs.declared.look.OpeningResult.{OpeningResult}
+use Rattle.tmem_show.specs.declared.look.ShownStore.{ShownStore}
+use Rattle.tmem_show.proofs.refusal.refusal_behind.Goals as goal
+
+pub returns-then-len-end-clause-told : goal.returns-then-len-end-clause-told
+returns-then-len-end-clause-told c =
+    let layout = c.args.block.layout in
+    let bytes = c.args.source.now.bytes.items in
+    let long : c.len.result ≡ length bytes = search rules in
+    let last : c.end.result ≡ end_at layout.vars layout.slots = c.end.ensures in
+    c.refusal_in.ensures layout.vars layout.slots bytes
+    (subst (λ (o : OpeningResult). IsOpening layout.vars layout.slots bytes o) (sym c.too_short.ensures) (record {
+      numbers = λ no. refl;
+      why = λ fits. absurd (omega (arith, fits.room, c.if-len-end.true, long, last));
+    }))
+
+pub returns-in_ok-opening-in-Ok-clause-told : goal.returns-in_ok-opening-in-Ok-clause-told
+returns-in_ok-opening-in-Ok-clause-told c =
+    let layout = c.args.block.layout in
+    let look = c.in-Ok.look in
+    let found = c.in_ok-opening-in-Ok.opening in
+    let same : look.layout ≡ layout = subst (λ (r : Result ShownStore Fault). IfOk r (λ l. l.layout ≡ layout)) c.in-Ok.is c.new.ensures.layout in
+    let read : look.bytes.now ≡ c.deref.result.now = subst (λ (r : Result ShownStore Fault). IfOk r (λ l. l.bytes.now ≡ c.deref.result.now)) c.in-Ok.is c.new.ensures.bytes in
+    let with_layout = subst (λ (l : Layout). IsOpening l.vars l.slots look.bytes.now found) same c.in_ok-opening-in-Ok.ensures.found in
+    let with_bytes = subst (λ (b : List ℕ). IsOpening layout.vars layout.slots b found) (read ∙ c.deref.ensures.value) with_layout in
+    c.refusal_in-in-Ok.ensures layout.vars layout.slots c.args.source.now.bytes.items with_bytes
+
+pub returns-in-Err-clause-refused : goal.returns-in-Err-clause-refused
+returns-in-Err-clause-refused c =
+    subst (λ (r : Result ShownStore Fault). IfErr r (λ (f : Fault). (f ≡ Memory) ⊎ (f ≡ Device))) c.in-Err.is c.new.ensures.refused
