@@ -9,6 +9,8 @@
    SLOW=N     each sync lasts N milliseconds more, and how often threads let others run is told, by hundreds
    REFUSED=N  the Nth request for memory (malloc and realloc, the only ones that the programs make)
    ROOM=N     standard output takes N bytes
+   ZERO=N     the Nth write to it takes nothing
+   SIGNALOUT=N   a signal comes at the Nth write to it, which takes nothing then
    GIVEN=N    standard input gives N bytes and then fails
    FEW=N      a read of it gives no more than N bytes
    SIGNAL=N   a signal comes at the Nth read of it, which gives nothing then */
@@ -27,8 +29,8 @@
 #include <unistd.h>
 
 #define REAL(call) static __typeof__(&call) real; if (!real) real = (__typeof__(&call))dlsym(RTLD_NEXT, #call)
-static _Atomic long made, started, requests, yields, loads;
-static long out = -1, room = -1, given = -1, slow = -1, at_once = -1, signalled = -1;
+static _Atomic long made, started, requests, yields, loads, prints;
+static long out = -1, room = -1, given = -1, slow = -1, at_once = -1, signalled = -1, zero = -1, signalled_out = -1;
 
 static long number(const char *name) {
   const char *text = getenv(name);
@@ -42,6 +44,8 @@ __attribute__((constructor)) static void begin(void) {
   slow = number("SLOW");
   at_once = number("FEW");
   signalled = number("SIGNAL");
+  zero = number("ZERO");
+  signalled_out = number("SIGNALOUT");
 }
 
 /* It asks for no memory, since it is called by those that do. */
@@ -124,6 +128,9 @@ static ssize_t moved(const char *stream, long *left, ssize_t count) {
 ssize_t write(int file, const void *bytes, size_t count) {
   REAL(write);
   if (file != 1) return real(file, bytes, count);
+  errno = EINTR;
+  if (++prints == signalled_out) return -1;
+  if (prints == zero) return 0;
   errno = EPIPE;
   return room ? moved("print", &room, real(file, bytes, room > 0 && count > (size_t)room ? (size_t)room : count)) : -1;
 }

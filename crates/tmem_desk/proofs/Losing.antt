@@ -18,7 +18,7 @@ use Rattle.tmem_requests.specs.declared.request.RequestBody.{RequestBody}
 use Rattle.tmem_desk.specs.Asking.{Store}
 use Rattle.tmem_desk.specs.Desks.{DeskView}
 use Rattle.tmem_desk.specs.Due.{LineCounts, LinesCount, LosesNone, KeepsDue, answers_any_of, due_of, waits_of}
-use Rattle.tmem_desk.specs.Failing.{AnswersLine, AnswersOnly, IsLast, IsUnprinted, IsMemoryOrOutput, OrMemory, PassesAll, PassesLine, RanNone, TakesPart, TakesRest, TellsAll, TellsEach}
+use Rattle.tmem_desk.specs.Failing.{AnswersLine, AnswersOnly, IsLast, IsUnprinted, IsMemoryOrOutput, OrMemory, PassesAll, PassesLine, PrintsBeginning, PrintsPart, TakesPart, TakesRest, TellsAll, TellsEach, TellsWhy}
 use Rattle.tmem_desk.specs.Serving.{IsAskedOf, RefusesLine, RefusesLong, Splits, TakesAll, TakesLast, TakesLine, TakesText, TakesShort, Wakes, by, one_line_more, tells, with_closed}
 use Rattle.tmem_desk.specs.Steps.{LabelledSteps}
 use Rattle.tmem_desk.specs.Told.{TellsOnly, answer_told, failed, told_lines}
@@ -246,9 +246,13 @@ split_then s text held held' v mid so ys sp = record {
 
 -- where a part of a text came before
 pub part_then : (s : Store) (text : List ℕ) (held held' : LinesView) (Ran : DeskView → Type 0) (v mid : DeskView) (prints : List ℕ → Type 0) (e : DeskFailure) (so : TakesPart s text held v mid)
-    → TellsAll s (λ (ys : List (List ℕ)). Splits so.rest ys held') RanNone mid prints e → TellsAll s (λ (xs : List (List ℕ)). Splits text xs held') Ran v prints e
-part_then s text held held' Ran v mid prints Output so (inl none) = absurd none.1
-part_then s text held held' Ran v mid prints Output so (inr why) = inr why
+    → TellsWhy s (λ (ys : List (List ℕ)). Splits so.rest ys held') mid prints e → TellsAll s (λ (xs : List (List ℕ)). Splits text xs held') Ran v prints e
+part_then s text held held' Ran v mid prints Output so why = inr (inl (record {
+  fault = why.fault;
+  texts = so.texts ++ why.texts;
+  lines = split_then s text held held' v mid so why.texts why.lines;
+  tells = each_then s so.texts why.texts v mid why.fault (PrintsBeginning prints) so.loses why.tells;
+}))
 part_then s text held held' Ran v mid prints (failure.Fault f) so (inl is) = inl is
 part_then s text held held' Ran v mid prints (failure.Fault f) so (inr t) =
     inr (so.texts ++ t.0, split_then s text held held' v mid so t.0 t.1, each_then s so.texts t.0 v mid f prints so.loses t.2)
@@ -263,25 +267,29 @@ none_split (y ∷ ys) rest is =
     let none : 0 ≡ length (flat_map line (y ∷ ys) ++ rest) = ap length is in
     absurd (omega (arith, long, head, last, none))
 
+-- nothing came behind the rest
+rest_each : (s : Store) (text : List ℕ) (held : LinesView) (v mid : DeskView) (f : Fault) (prints : List ℕ → Type 0) (so : TakesRest s text v mid) (ys : List (List ℕ)) → Splits [] ys held
+    → TellsEach s ys mid f prints → TellsEach s so.texts v f prints
+rest_each s text held v mid f prints so ys splits t =
+    let each : TellsEach s [] mid f prints = subst (λ (ys : List (List ℕ)). TellsEach s ys mid f prints) (none_split ys splits.rest splits.is) t in
+    record {
+      all = each.all;
+      only = each.only;
+      each = λ among others n c. omega (arith, each.each among others 0 refl, so.loses among others n c);
+      printed = each.printed;
+    }
+
 -- where the rest came before
 pub rest_then : (s : Store) (text : List ℕ) (held : LinesView) (Ran : DeskView → Type 0) (v mid : DeskView) (prints : List ℕ → Type 0) (e : DeskFailure) → TakesRest s text v mid
-    → TellsAll s (λ (ys : List (List ℕ)). Splits [] ys held) RanNone mid prints e → TellsAll s (IsLast text) Ran v prints e
-rest_then s text held Ran v mid prints Output so (inl none) = absurd none.1
-rest_then s text held Ran v mid prints Output so (inr why) = inr why
+    → TellsWhy s (λ (ys : List (List ℕ)). Splits [] ys held) mid prints e → TellsAll s (IsLast text) Ran v prints e
+rest_then s text held Ran v mid prints Output so why = inr (inl (record {
+  fault = why.fault;
+  texts = so.texts;
+  lines = so.last;
+  tells = rest_each s text held v mid why.fault (PrintsBeginning prints) so why.texts why.lines why.tells;
+}))
 rest_then s text held Ran v mid prints (failure.Fault f) so (inl is) = inl is
-rest_then s text held Ran v mid prints (failure.Fault f) so (inr t) =
-    let none : t.0 ≡ [] = none_split t.0 t.1.rest t.1.is in
-    let each : TellsEach s [] mid f prints = subst (λ (ys : List (List ℕ)). TellsEach s ys mid f prints) none t.2 in
-    inr (
-      so.texts,
-      so.last,
-      record {
-        all = each.all;
-        only = each.only;
-        each = λ among others n c. omega (arith, each.each among others 0 refl, so.loses among others n c);
-        printed = each.printed;
-      },
-    )
+rest_then s text held Ran v mid prints (failure.Fault f) so (inr t) = inr (so.texts, so.last, rest_each s text held v mid f prints so t.0 t.1 t.2)
 
 -- all ran, and what is told could not be printed
 unprinted_all : (s : Store) (Are : List (List ℕ) → Type 0) (Ran : DeskView → Type 0) (v ran : DeskView) (prints : List ℕ → Type 0) (e : DeskFailure) → Ran ran → IsUnprinted prints ran.told e → TellsAll s Are Ran v prints e
@@ -289,12 +297,18 @@ unprinted_all s Are Ran v ran prints Output runs is = inl (ran, runs, is)
 unprinted_all s Are Ran v ran prints (failure.Fault f) runs is = inl is
 
 -- why the store cannot go on could not be printed
-pub unprinted_why : (fault : Fault) (all : List Told) (prints : List ℕ → Type 0) (e : DeskFailure) → All (TellsOnly fault) all → IsUnprinted prints all e → IsMemoryOrOutput prints e
-unprinted_why fault all prints Output only is = (fault, all, only, is)
-unprinted_why fault all prints (failure.Fault f) only is = is
+pub unprinted_why : (s : Store) (Are : List (List ℕ) → Type 0) (v : DeskView) (prints : List ℕ → Type 0) (texts : List (List ℕ)) (fault : Fault) (all : List Told) (e : DeskFailure) → Are texts
+    → (PrintsPart prints all → TellsEach s texts v fault (PrintsBeginning prints)) → IsUnprinted prints all e → TellsWhy s Are v prints e
+unprinted_why s Are v prints texts fault all Output are each is = record { fault = fault; texts = texts; lines = are; tells = each is }
+unprinted_why s Are v prints texts fault all (failure.Fault f) are each is = inl is
+
+-- that memory did not suffice could not be printed
+pub unprinted_want : (fault : Fault) (all : List Told) (prints : List ℕ → Type 0) (e : DeskFailure) → fault ≡ Memory → All (TellsOnly fault) all → IsUnprinted prints all e → IsMemoryOrOutput prints e
+unprinted_want fault all prints Output wanting only is = (all, subst (λ (f : Fault). All (TellsOnly f) all) wanting only, is)
+unprinted_want fault all prints (failure.Fault f) wanting only is = is
 
 pub wanting_all : (s : Store) (Are : List (List ℕ) → Type 0) (Ran : DeskView → Type 0) (v : DeskView) (prints : List ℕ → Type 0) (e : DeskFailure) → IsMemoryOrOutput prints e → TellsAll s Are Ran v prints e
-wanting_all s Are Ran v prints Output is = inr is
+wanting_all s Are Ran v prints Output is = inr (inr is)
 wanting_all s Are Ran v prints (failure.Fault f) is = inl is
 
 -- a line that came behind the fault
@@ -313,7 +327,7 @@ unprinted_texts Is s Are Ran v ran prints (Err e) runs is = λ text so. unprinte
 -- a piece whose lines met a fault
 pub piece_fails : {X : Type 0} {Is : List ℕ → Type 0} (r : Result X DeskFailure) (s : Store) (piece : List ℕ) (held held' : LinesView) (Ran : List ℕ → DeskView → Type 0) (v mid : DeskView) (prints : List ℕ → Type 0) (f : Fault)
     → ((text : List ℕ) → Is text → OrMemory f (TakesPart s (text ++ piece) held v mid)) → (f ≡ Memory → IfErr r (IsMemoryOrOutput prints))
-    → IfErr r (λ e. (text : List ℕ) → HoldsRestOf held text → TellsAll s (λ (ys : List (List ℕ)). Splits text ys held') RanNone mid prints e)
+    → IfErr r (λ e. (text : List ℕ) → HoldsRestOf held text → TellsWhy s (λ (ys : List (List ℕ)). Splits text ys held') mid prints e)
     → IfErr r (λ e. (text : List ℕ) → Is text → TellsAll s (λ (xs : List (List ℕ)). Splits (text ++ piece) xs held') (Ran text) v prints e)
 piece_fails (Ok x) s piece held held' Ran v mid prints f before wanting told = tt
 piece_fails (Err e) s piece held held' Ran v mid prints f before wanting told =
@@ -326,7 +340,7 @@ piece_fails (Err e) s piece held held' Ran v mid prints f before wanting told =
 -- the end, where that met one
 pub end_fails : {X : Type 0} {Is : List ℕ → Type 0} (r : Result X DeskFailure) (s : Store) (held held' : LinesView) (Ran : List ℕ → DeskView → Type 0) (v mid : DeskView) (prints : List ℕ → Type 0) (f : Fault)
     → ((text : List ℕ) → Is text → OrMemory f (TakesRest s text v mid)) → HoldsRestOf held [] → (f ≡ Memory → IfErr r (IsMemoryOrOutput prints))
-    → IfErr r (λ e. (text : List ℕ) → HoldsRestOf held text → TellsAll s (λ (ys : List (List ℕ)). Splits text ys held') RanNone mid prints e)
+    → IfErr r (λ e. (text : List ℕ) → HoldsRestOf held text → TellsWhy s (λ (ys : List (List ℕ)). Splits text ys held') mid prints e)
     → IfErr r (λ e. (text : List ℕ) → Is text → TellsAll s (IsLast text) (Ran text) v prints e)
 end_fails (Ok x) s held held' Ran v mid prints f before none wanting told = tt
 end_fails (Err e) s held held' Ran v mid prints f before none wanting told =

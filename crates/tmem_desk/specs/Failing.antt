@@ -34,28 +34,45 @@ pub record TellsEach (s : Store) (texts : List (List ℕ)) (v : DeskView) (fault
   pub each : (among : ℤ → Bool) (others : Bool) (n : ℕ) → LinesCount s among others texts n → count_by (answers_any_of among others) all ≡ due_of among others v + n
   pub printed : prints (told_lines all)
 
--- of the lines of these, no more than the beginning is printed
+-- of a text, no more than the beginning is printed
+abbrev pub PrintsBeginning : (List ℕ → Type 0) → List ℕ → Type 0
+PrintsBeginning prints text = (part : List ℕ) × (rest : List ℕ) × (text ≡ part ++ rest) × prints part
+
+-- and of the lines of these
 abbrev pub PrintsPart : (List ℕ → Type 0) → List Told → Type 0
-PrintsPart prints all = (part : List ℕ) × (rest : List ℕ) × (told_lines all ≡ part ++ rest) × prints part
+PrintsPart prints all = PrintsBeginning prints (told_lines all)
 
--- so much of why the store cannot go on, and of nothing else
-abbrev pub PrintsWhy : (List ℕ → Type 0) → Type 0
-PrintsWhy prints = (fault : Fault) × (all : List Told) × All (TellsOnly fault) all × PrintsPart prints all
+-- so much of a want of memory, and of nothing else
+abbrev pub PrintsWant : (List ℕ → Type 0) → Type 0
+PrintsWant prints = (all : List Told) × All (TellsOnly Memory) all × PrintsPart prints all
 
--- The output failed: of what is told once all ran and is durable, no more than the beginning was printed, or of why the store cannot go on.
-abbrev pub OutputFailed : (DeskView → Type 0) → (List ℕ → Type 0) → Type 0
-OutputFailed Ran prints = ((ran : DeskView) × Ran ran × PrintsPart prints ran.told) ⊎ PrintsWhy prints
+-- so much of why the store cannot go on, where each of these lines and each that was due is told that
+pub record PrintsWhy (s : Store) (AreLines : List (List ℕ) → Type 0) (v : DeskView) (prints : List ℕ → Type 0) : Type 0 where
+  pub fault : Fault
+  pub texts : List (List ℕ)
+  pub lines : AreLines texts
+  pub tells : TellsEach s texts v fault (PrintsBeginning prints)
+
+-- The output failed. No more than the beginning was printed: of what is told once all ran and is durable; or of why the store cannot go
+-- on, told to each; or of a want of memory.
+abbrev pub OutputFailed : Store → (List (List ℕ) → Type 0) → (DeskView → Type 0) → DeskView → (List ℕ → Type 0) → Type 0
+OutputFailed s AreLines Ran v prints = ((ran : DeskView) × Ran ran × PrintsPart prints ran.told) ⊎ (PrintsWhy s AreLines v prints ⊎ PrintsWant prints)
 
 -- Where the store cannot go on, each is told, of these lines: unless memory did not suffice, or the output failed.
 abbrev pub TellsAll : Store → (List (List ℕ) → Type 0) → (DeskView → Type 0) → DeskView → (List ℕ → Type 0) → DeskFailure → Type 0
 TellsAll s AreLines Ran v prints (failure.Fault fault) = (fault ≡ Memory) ⊎ ((texts : List (List ℕ)) × AreLines texts × TellsEach s texts v fault prints)
-TellsAll s AreLines Ran v prints Output = OutputFailed Ran prints
+TellsAll s AreLines Ran v prints Output = OutputFailed s AreLines Ran v prints
 
 -- what is left at the end of the input: nothing, or a line that lacks its line break
 abbrev pub IsLast : List ℕ → List (List ℕ) → Type 0
 IsLast text texts = ((text ≡ []) × (texts ≡ [])) ⊎ ((text ≢ []) × (texts ≡ text ∷ []))
 
 -- ---- on the way there
+
+-- the same where none ran to its end
+abbrev pub TellsWhy : Store → (List (List ℕ) → Type 0) → DeskView → (List ℕ → Type 0) → DeskFailure → Type 0
+TellsWhy s AreLines v prints (failure.Fault fault) = (fault ≡ Memory) ⊎ ((texts : List (List ℕ)) × AreLines texts × TellsEach s texts v fault prints)
+TellsWhy s AreLines v prints Output = PrintsWhy s AreLines v prints
 
 -- memory did not suffice, or this holds
 abbrev pub OrMemory : Fault → Type 0 → Type 0
@@ -69,11 +86,7 @@ IsUnprinted prints all Output = PrintsPart prints all
 -- memory did not suffice to tell each why the store cannot go on, or the output failed
 abbrev pub IsMemoryOrOutput : (List ℕ → Type 0) → DeskFailure → Type 0
 IsMemoryOrOutput prints (failure.Fault fault) = fault ≡ Memory
-IsMemoryOrOutput prints Output = PrintsWhy prints
-
--- nothing ran to its end
-abbrev pub RanNone : DeskView → Type 0
-RanNone v = ⊥
+IsMemoryOrOutput prints Output = PrintsWant prints
 
 -- a request of this id is answered, and else nothing is changed but what the pass knows
 pub record AnswersOnly (id : ℤ) (v w : DeskView) : Type 0 where

@@ -1,11 +1,11 @@
 // A piece of input: its lines, those that wait, and then all that is told, once that is durable.
-ghost use Rattle.std.specs.Prelude.{◌≡◌, ◌++◌, ℕ, List, [], map, OnOk, IfOk, IfErr, IsErr};
+ghost use Rattle.std.specs.Prelude.{◌≡◌, ◌≢◌, ◌++◌, ℕ, List, [], map, OnOk, IfOk, IfErr, IsErr, unwrap_or};
 ghost use Rattle.std.specs.Io.KnownBytes.{Appends};
 ghost use Rattle.tmem_front.specs.Settling.{SeesMore};
 ghost use Rattle.tmem_lines.specs.Lines.{HoldsRestOf};
 ghost use Rattle.tmem_desk.specs.Asking.{store};
 ghost use Rattle.tmem_desk.specs.Due.{KeepsDue};
-ghost use Rattle.tmem_desk.specs.Failing.{EndsBy, IsLast, IsUnprinted, IsMemoryOrOutput, OrMemory, PassesAll, RanNone, TakesPart, TakesRest, TellsAll};
+ghost use Rattle.tmem_desk.specs.Failing.{EndsBy, IsLast, IsUnprinted, IsMemoryOrOutput, OrMemory, PassesAll, TakesPart, TakesRest, TellsAll, TellsWhy};
 ghost use Rattle.tmem_desk.specs.Held.{desk_view};
 ghost use Rattle.tmem_desk.specs.Serving.{by, Finishes, Splits, TakesAll, RunsPiece, ServesPiece, TakesLast, RunsLast, RunsEnd, ServesEnd, with_closed};
 ghost use Rattle.tmem_desk.specs.Told.{told_lines, failed};
@@ -199,7 +199,7 @@ impl<N: ServedNaming> Desk<N> {
         ensures never { IsErr result }
         ensures ends { IfErr result (EndsBy (Appends (W.contents out.old) (W.contents out.new))) }
         ensures memory { fault ≡ Fault.Memory → IfErr result (IsMemoryOrOutput (Appends (W.contents out.old) (W.contents out.new))) }
-        ensures told { IfErr result (λ e. (text : List ℕ) → HoldsRestOf lines.old text → TellsAll (store N.name.start N.opening N.program N.arities N.always) (λ texts. Splits text texts lines.new) RanNone (desk_view self.old) (Appends (W.contents out.old) (W.contents out.new)) e) }
+        ensures told { IfErr result (λ e. (text : List ℕ) → HoldsRestOf lines.old text → TellsWhy (store N.name.start N.opening N.program N.arities N.always) (λ texts. Splits text texts lines.new) (desk_view self.old) (Appends (W.contents out.old) (W.contents out.new)) e) }
     {
         let fault = why_ended(fault, service.front.fault(service.rt));
         self.pass_over(service, lines)?;
@@ -234,7 +234,8 @@ impl<N: ServedNaming> Desk<N> {
 
 // Why serving ends: what the front says, unless memory did not suffice.
 fn why_ended(fault: Fault, of_front: Option<Fault>) -> Fault
-    ensures { fault ≡ Fault.Memory → result ≡ Fault.Memory }
+    ensures memory { fault ≡ Fault.Memory → result ≡ Fault.Memory }
+    ensures first { fault ≢ Fault.Memory → result ≡ unwrap_or of_front fault }
 {
     match fault {
         Fault::Memory => Fault::Memory,

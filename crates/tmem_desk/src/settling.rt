@@ -1,8 +1,9 @@
 // How transactions are settled for a desk, which is the only caller of its store.
-ghost use Rattle.std.specs.Prelude.{◌≡◌, ◌⊎◌, IfOk};
+ghost use Rattle.std.specs.Prelude.{◌≡◌, ◌≢◌, ◌⊎◌, IfOk, IfErr};
 ghost use Rattle.tmem_requests.specs.declared.answer.Answer.TheVariants.{Checkpointed, Fault as FaultOf};
 ghost use Rattle.tmem_requests.specs.declared.request.RequestBody.TheVariants.{Try};
 ghost use Rattle.tmem_front.specs.Settling.{KnowsMore};
+ghost use Rattle.tmem_seats.specs.Flushing.{IsCheckpointRefusal};
 ghost use Rattle.tmem_desk.specs.Asking.{SettlesTx, TellsEnding, AnswersAsk, store};
 
 use crate::naming::ServedNaming;
@@ -76,9 +77,11 @@ impl<R: Wait, D: Disk + Drop, N: ServedNaming, T: Invariants + Drop, S: StoredSt
         }
     }
 
-    /// Writes the durable state as a whole. Refused where the store cannot go on.
+    /// Writes the durable state as a whole. Refused where the store cannot go on; it can where generations are spent, and that is told.
     pub(crate) fn write_image(&self) -> Result<Answer, Fault>
-        ensures { IfOk result (λ given. (given ≡ Checkpointed) ⊎ (given ≡ FaultOf Fault.Spent)) }
+        ensures given { IfOk result (λ given. (given ≡ Checkpointed) ⊎ (given ≡ FaultOf Fault.Spent)) }
+        ensures refused { IfErr result IsCheckpointRefusal }
+        ensures ends { IfErr result (λ fault. fault ≢ Fault.Spent) }
     {
         match self.front.checkpoint(self.rt) {
             Ok(()) => Ok(Answer::Checkpointed),

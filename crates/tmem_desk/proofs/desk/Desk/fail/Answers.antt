@@ -3,10 +3,10 @@ use Rattle.std.specs.Io.KnownBytes.{Appends}
 use Rattle.tmem_desk.proofs.Giving.{ends_failed, only_failed}
 use Rattle.tmem_desk.specs.Asking.{store}
 use Rattle.tmem_desk.specs.Held.{desk_view}
-use Rattle.tmem_desk.specs.Failing.{RanNone}
+use Rattle.tmem_desk.specs.Failing.{PrintsBeginning}
 use Rattle.tmem_desk.specs.Serving.{Splits}
 use Rattle.tmem_desk.specs.declared.failure.DeskFailure.TheVariants as failure
-use Rattle.tmem_desk.proofs.Losing.{handed, tells_each, unprinted_why, wanting_all}
+use Rattle.tmem_desk.proofs.Losing.{handed, tells_each, unprinted_want, unprinted_why}
 use Rattle.tmem_desk.proofs.desk.Desk.fail.Goals as goal
 
 pub print-requires : goal.print-requires
@@ -16,7 +16,7 @@ pub returns-clause-ends : goal.returns-clause-ends
 returns-clause-ends g c = ends_failed _ c.replace-told.result.items c.deref.result.now (Appends (g.W.Write.contents c.args.out.now) (g.W.Write.contents c.print.new.out)) (c.deref.ensures.value ∙ c.in-Ok.ensures) c.in_ok-print.ensures.printed
 
 pub returns-clause-memory : goal.returns-clause-memory
-returns-clause-memory g c = λ wanting. c.why_ended-fault.ensures wanting
+returns-clause-memory g c = λ wanting. c.why_ended-fault.ensures.memory wanting
 
 pub returns-clause-told : goal.returns-clause-told
 returns-clause-told g c = λ text stands.
@@ -33,13 +33,20 @@ returns-clause-told g c = λ text stands.
 pub returns-in_err-print-clause-told : goal.returns-in_err-print-clause-told
 returns-in_err-print-clause-told g c =
     handed c.from_residual-in_err-print.result c.in_err-print.field-0.0 _ c.from_residual-in_err-print.ensures.1
-    (λ text stands. wanting_all (store g.N.Naming.name.start g.N.StoreNaming.opening g.N.ProgramNaming.program g.N.ServedNaming.arities g.N.ServedNaming.always) (λ (texts : List (List ℕ)). Splits text texts c.pass_over.new.lines) RanNone (desk_view c.args.self.now) (Appends (g.W.Write.contents c.args.out.now) (g.W.Write.contents c.print.new.out)) c.in_err-print.field-0.0
-    (unprinted_why c.why_ended-fault.result c.deref.result.now (Appends (g.W.Write.contents c.args.out.now) (g.W.Write.contents c.print.new.out)) c.in_err-print.field-0.0 (only_failed c.why_ended-fault.result c.replace-told.result.items _ (c.deref.ensures.value ∙ c.in-Ok.ensures)) c.in_err-print.ensures.err))
+    (λ text stands.
+    let s = (store g.N.Naming.name.start g.N.StoreNaming.opening g.N.ProgramNaming.program g.N.ServedNaming.arities g.N.ServedNaming.always) in
+    let v = desk_view c.args.self.now in
+    let prints = Appends (g.W.Write.contents c.args.out.now) (g.W.Write.contents c.print.new.out) in
+    let over = c.in_ok-pass_over.ensures.ok text stands in
+    unprinted_why s (λ (texts : List (List ℕ)). Splits text texts c.pass_over.new.lines) v prints over.texts c.why_ended-fault.result c.deref.result.now c.in_err-print.field-0.0 over.splits
+    (λ part. tells_each s over.texts v (desk_view c.pass_over.new.self) (desk_view c.close_waiting.new.self) c.why_ended-fault.result c.replace-told.result.items _ (PrintsBeginning prints) over.loses c.in_ok-close_waiting.ensures.told (ap (λ v. v.items) c.replace-told.ensures.value)
+    (c.deref.ensures.value ∙ c.in-Ok.ensures) part)
+    c.in_err-print.ensures.err)
 
 pub returns-in_err-print-clause-memory : goal.returns-in_err-print-clause-memory
 returns-in_err-print-clause-memory g c = λ wanting.
     handed c.from_residual-in_err-print.result c.in_err-print.field-0.0 _ c.from_residual-in_err-print.ensures.1
-    (unprinted_why c.why_ended-fault.result c.deref.result.now (Appends (g.W.Write.contents c.args.out.now) (g.W.Write.contents c.print.new.out)) c.in_err-print.field-0.0 (only_failed c.why_ended-fault.result c.replace-told.result.items _ (c.deref.ensures.value ∙ c.in-Ok.ensures)) c.in_err-print.ensures.err)
+    (unprinted_want c.why_ended-fault.result c.deref.result.now (Appends (g.W.Write.contents c.args.out.now) (g.W.Write.contents c.print.new.out)) c.in_err-print.field-0.0 (c.why_ended-fault.ensures.memory wanting) (only_failed c.why_ended-fault.result c.replace-told.result.items _ (c.deref.ensures.value ∙ c.in-Ok.ensures)) c.in_err-print.ensures.err)
 
 pub returns-in_err-pass_over-clause-told : goal.returns-in_err-pass_over-clause-told
 returns-in_err-pass_over-clause-told g c = handed c.from_residual.result (failure.Fault c.in_err-pass_over.field-0.0) _ c.from_residual.ensures.1 (λ text stands. inl c.in_err-pass_over.ensures.err)

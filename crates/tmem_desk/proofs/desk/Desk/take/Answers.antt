@@ -59,7 +59,7 @@ returns-in_ok-answer-in-State-clause-ok g c =
 pub returns-in_ok-answer-in-Checkpoint-clause-ok : goal.returns-in_ok-answer-in-Checkpoint-clause-ok
 returns-in_ok-answer-in-Checkpoint-clause-ok g c =
     on_ok_weaker c.tell-in-Checkpoint.result
-    (λ is. takes_as (store g.N.Naming.name.start g.N.StoreNaming.opening g.N.ProgramNaming.program g.N.ServedNaming.arities g.N.ServedNaming.always) c.args.id _ ask.Checkpoint c.args.ask (desk_view c.args.self.now) (desk_view c.tell-in-Checkpoint.new.self) (to_z-of_z w64 c.args.id c.ranges.id) c.in-Checkpoint.is (is_answered (store g.N.Naming.name.start g.N.StoreNaming.opening g.N.ProgramNaming.program g.N.ServedNaming.arities g.N.ServedNaming.always) _ ask.Checkpoint (desk_view c.args.self.now) (desk_view c.tell-in-Checkpoint.new.self) c.args.self.now.pass c.in_ok-answer-in-Checkpoint.answer (c.in_ok-answer-in-Checkpoint.ensures, refl) is))
+    (λ is. takes_as (store g.N.Naming.name.start g.N.StoreNaming.opening g.N.ProgramNaming.program g.N.ServedNaming.arities g.N.ServedNaming.always) c.args.id _ ask.Checkpoint c.args.ask (desk_view c.args.self.now) (desk_view c.tell-in-Checkpoint.new.self) (to_z-of_z w64 c.args.id c.ranges.id) c.in-Checkpoint.is (is_answered (store g.N.Naming.name.start g.N.StoreNaming.opening g.N.ProgramNaming.program g.N.ServedNaming.arities g.N.ServedNaming.always) _ ask.Checkpoint (desk_view c.args.self.now) (desk_view c.tell-in-Checkpoint.new.self) c.args.self.now.pass c.in_ok-answer-in-Checkpoint.answer (c.in_ok-answer-in-Checkpoint.ensures.given, refl) is))
     c.tell-in-Checkpoint.ensures.ok
 
 pub returns-in-Cancel-clause-err : goal.returns-in-Cancel-clause-err
