@@ -66,6 +66,16 @@ impl Act {
         }
     }
 
+    /// What a line of the core calls it, where nothing is awaited.
+    pub fn name_on_core(self) -> &'static str {
+        match self {
+            Act::Add | Act::AddMany => "add",
+            Act::Transfer | Act::TransferMany => "transfer",
+            Act::WideMany => "wide transfer",
+            Act::Look => "two reads",
+        }
+    }
+
     /// After so many a caller waits until the last of them is durable, and looks at the clock.
     pub fn stride(self) -> u64
         ensures { result ≡ stride_of self }

@@ -108,9 +108,9 @@ fn line_at<R: Clock + Files<File = File> + AllocGlobal + Threads + Wait + Sync>(
 ) -> Result<String, BenchError> {
     let (file, time, sync_time) = (Medium::File(wanted.path), wanted.time(), wanted.sync_time());
     match place {
-        0 => line_of_core(rt, "add", Act::Add, time),
-        1 => line_of_core(rt, "transfer", Act::Transfer, time),
-        2 => line_of_core(rt, "wide transfer", Act::WideMany, time),
+        0 => line_of_core(rt, Act::Add, time),
+        1 => line_of_core(rt, Act::Transfer, time),
+        2 => line_of_core(rt, Act::WideMany, time),
         3..23 => line_of_job(rt, Medium::Memory, Job::at(place - 3, time), sync_time),
         23..27 => line_of_job(
             rt,
@@ -126,7 +126,6 @@ fn line_at<R: Clock + Files<File = File> + AllocGlobal + Threads + Wait + Sync>(
 // Transactions on the core.
 fn line_of_core<R: Clock + AllocGlobal + Threads + Wait + Sync>(
     rt: &R,
-    name: &'static str,
     act: Act,
     time: Duration,
 ) -> Result<String, BenchError> {
@@ -134,7 +133,7 @@ fn line_of_core<R: Clock + AllocGlobal + Threads + Wait + Sync>(
     let job = Job { act, callers, time };
     let line = Line {
         device: "core",
-        name,
+        name: act.name_on_core(),
         callers,
         had: with_bank::<SimDisk, R>(rt, VARS, On::Core(job))?,
         baseline: None,
