@@ -211,6 +211,25 @@ class HubEnds(HubCase):
         self.assertEqual(self.store.get("a"), 0)
 
 
+class HubEndsBeforeAllIsRead(HubCase):
+    shape = {"vars": 1024, "slots": 2, "invariants": []}
+
+    def test_who_has_not_read_its_answers_gets_them(self):
+        client = Raw(f"{self.path}.sock")
+        self.addCleanup(client.close)
+        # (the answers are 600 KB, more than the connection holds)
+        client.send(b'{"id":1,"ask":"state"}\n' * 300)
+        self.until(lambda: not unread(client.socket))
+        self.assertEqual(self.store.get(0), 0)
+        program = program_of(self.hub, self.path)
+        self.hub.terminate()
+        self.until(lambda: not os.path.exists(f"/proc/{program}"))
+        # (it gives them two seconds)
+        time.sleep(0.3)
+        self.assertEqual(len(client.lines.readlines()), 300)
+        self.assertEqual(self.hub.wait(60), 0)
+
+
 class Words(StoreCase):
     """What the hub and the shell are told by words: where the shape and the program are."""
 
