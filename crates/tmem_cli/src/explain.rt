@@ -253,6 +253,7 @@ fn tell_refused<E: Write>(
     fault: Fault,
     err: &mut E,
 ) -> io::Result<()> {
+    let of_bytes = is_of_bytes(asked, fault);
     match (fault, store_of(asked)) {
         (Fault::Device, Some((path, wanted))) => {
             let wanted = if notes.is_held() {
@@ -263,7 +264,7 @@ fn tell_refused<E: Write>(
             let cause = cause_of(rt, path, wanted, size_asked(rt, asked, notes));
             tell_cause(err, path, cause)
         }
-        (_, Some((path, _))) if is_of_bytes(asked, fault) => {
+        (_, Some((path, _))) if of_bytes => {
             if tell_bytes(rt, path, err)? {
                 return Ok(());
             }
