@@ -57,10 +57,27 @@ pub(crate) fn explain<E: Write>(
     err: &mut E,
 ) {
     // Where this fails, nobody is left to tell.
-    if let Err(failure) = outcome {
-        let _ = explain_failure(rt, asked, notes, failure, err);
-    }
+    let _ = match outcome {
+        Ok(()) => explain_shown(rt, asked, err),
+        Err(failure) => explain_failure(rt, asked, notes, failure, err),
+    };
     let _ = explain_entries(rt, asked, notes, err);
+}
+
+// Tells what to do with a store that was shown, and of which an opening is refused.
+fn explain_shown<E: Write>(
+    rt: &(impl Files<File = File> + AllocGlobal),
+    asked: Asked,
+    err: &mut E,
+) -> io::Result<()> {
+    let Asked::Show(_) = asked else {
+        return Ok(());
+    };
+    let Some((path, _)) = store_of(asked) else {
+        return Ok(());
+    };
+    tell_bytes(rt, path, err)?;
+    Ok(())
 }
 
 // Tells which byte of a store an opening refuses, and what to do. Answers whether there is one.
@@ -253,7 +270,6 @@ fn tell_refused<E: Write>(
     fault: Fault,
     err: &mut E,
 ) -> io::Result<()> {
-    let of_bytes = is_of_bytes(asked, fault);
     match (fault, store_of(asked)) {
         (Fault::Device, Some((path, wanted))) => {
             let wanted = if notes.is_held() {
@@ -264,7 +280,7 @@ fn tell_refused<E: Write>(
             let cause = cause_of(rt, path, wanted, size_asked(rt, asked, notes));
             tell_cause(err, path, cause)
         }
-        (_, Some((path, _))) if of_bytes => {
+        (Fault::Damaged | Fault::NotFormatted, Some((path, _))) => {
             if tell_bytes(rt, path, err)? {
                 return Ok(());
             }
@@ -278,15 +294,6 @@ fn tell_refused<E: Write>(
             ),
         ),
         (_, _) => tell_of(err, asked, FaultHelp(fault)),
-    }
-}
-
-// Whether a fault comes of the bytes of a store: also of their number where no other numbers were asked for.
-fn is_of_bytes(asked: Asked, fault: Fault) -> bool {
-    match fault {
-        Fault::Damaged | Fault::NotFormatted => true,
-        Fault::Geometry | Fault::Spent => matches!(asked, Asked::Show(_)),
-        _ => false,
     }
 }
 
