@@ -63,10 +63,27 @@ pub(crate) fn explain<E: Write>(
     err: &mut E,
 ) {
     // Where this fails, nobody is left to tell.
-    if let Err(failure) = outcome {
-        let _ = explain_failure(rt, asked, notes, failure, err);
-    }
+    let _ = match outcome {
+        Ok(()) => explain_shown(rt, asked, err),
+        Err(failure) => explain_failure(rt, asked, notes, failure, err),
+    };
     let _ = explain_entries(rt, asked, notes, err);
+}
+
+// Tells what to do with a store that was shown, and of which an opening is refused.
+fn explain_shown<E: Write>(
+    rt: &(impl Files<File = File> + AllocGlobal),
+    asked: Asked,
+    err: &mut E,
+) -> io::Result<()> {
+    let Asked::Show(_) = asked else {
+        return Ok(());
+    };
+    let Some((path, _)) = store_of(asked) else {
+        return Ok(());
+    };
+    tell_bytes(rt, path, err)?;
+    Ok(())
 }
 
 // Tells which byte of a store an opening refuses, and what to do. Answers whether there is one.
@@ -287,7 +304,7 @@ fn tell_refused<E: Write>(
             asked,
             PLACED_OR_NOT,
         ),
-        (_, Some((path, _))) if is_of_bytes(asked, fault) => {
+        (Fault::Damaged | Fault::NotFormatted, Some((path, _))) => {
             if tell_bytes(rt, path, err)? {
                 return Ok(());
             }
@@ -329,15 +346,6 @@ fn tell_device<E: Write>(
 fn places_shape(asked: Asked) -> bool {
     match asked {
         Asked::Init(making) => !making.is_in_place,
-        _ => false,
-    }
-}
-
-// Whether a fault comes of the bytes of a store: also of their number where no other numbers were asked for.
-fn is_of_bytes(asked: Asked, fault: Fault) -> bool {
-    match fault {
-        Fault::Damaged | Fault::NotFormatted => true,
-        Fault::Geometry | Fault::Spent => matches!(asked, Asked::Show(_)),
         _ => false,
     }
 }
