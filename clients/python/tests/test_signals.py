@@ -39,7 +39,12 @@ with tmem.open(sys.argv[1]) as store:
 def begin(*words, **more):
     """A process in a group of its own, which an interrupt ends unless it sees to that. (What a shell starts behind `&` ignores it.)"""
     how = {"stdin": subprocess.PIPE, "stdout": subprocess.PIPE, "stderr": subprocess.PIPE, **more}
-    return subprocess.Popen(words, start_new_session=True, preexec_fn=lambda: signal.signal(signal.SIGINT, signal.SIG_DFL), **how)
+
+    def alone():
+        os.setpgid(0, 0)
+        signal.signal(signal.SIGINT, signal.SIG_DFL)
+
+    return subprocess.Popen(words, preexec_fn=alone, **how)
 
 
 def program_of(process, path):
