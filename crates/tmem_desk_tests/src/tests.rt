@@ -2,5 +2,6 @@
 mod answers;
 mod limits;
 mod lines;
+mod outputs;
 mod pieces;
 mod store;

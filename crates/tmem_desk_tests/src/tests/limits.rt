@@ -80,10 +80,7 @@ fn serve_text<R: Abort + Wait>(
         pieces: &[piece.as_str()],
         prints: &[],
     };
-    let printed = match serve_case(rt, alloc, &case) {
-        Ok(printed) => printed,
-        Err(_) => Vec::new(alloc),
-    };
+    let printed = serve_case(rt, alloc, &case);
     let is_wanted = printed.as_slice() == wanted.as_slice();
     let shown = String::from_utf8(printed);
     assert!(rt; is_wanted, "{shown:?}");

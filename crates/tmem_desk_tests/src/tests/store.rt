@@ -6,6 +6,7 @@ ghost use Rattle.tmem_builtins.specs.Invariants.{has_no_negative, is_negative};
 ghost use Rattle.tmem_desk_tests.specs.Examples.{solvent};
 
 use std::alloc::Global;
+use std::io::Write;
 use std::marker::Brand;
 use std::process::Abort;
 use std::sync::Wait;
@@ -43,10 +44,7 @@ pub(super) fn serve_all<R: Abort + Wait>(
     cases: &[Case],
 ) -> Result<(), Fail> {
     for case in cases {
-        let printed = match serve_case(rt, alloc, case) {
-            Ok(printed) => printed,
-            Err(_) => Vec::new(alloc),
-        };
+        let printed = serve_case(rt, alloc, case);
         let mut wanted = Vec::new(alloc);
         for line in case.prints {
             wanted.extend_from_slice(line.as_bytes())?;
@@ -61,7 +59,19 @@ pub(super) fn serve_all<R: Abort + Wait>(
 }
 
 /// What is printed for a case.
-pub(super) fn serve_case<R: Wait>(rt: &R, alloc: Global, case: &Case) -> Result<Vec<u8>, Fault> {
+pub(super) fn serve_case<R: Wait>(rt: &R, alloc: Global, case: &Case) -> Vec<u8> {
+    let mut out = Vec::new(alloc);
+    let _ = serve_into(rt, alloc, case, &mut out);
+    out
+}
+
+/// Prints what is printed for a case, and answers how serving ended; or why there is no store.
+pub(super) fn serve_into<R: Wait, W: Write>(
+    rt: &R,
+    alloc: Global,
+    case: &Case,
+    out: &mut W,
+) -> Result<Result<(), DeskFailure>, Fault> {
     let test = Box::new(
         alloc,
         |values: &[i64]| -> bool
@@ -70,7 +80,7 @@ pub(super) fn serve_case<R: Wait>(rt: &R, alloc: Global, case: &Case) -> Result<
     )?;
     let invariant = Invariant::new(Name::new("solvent")?, vec![in alloc; 0, 1]?, test)?;
     let table = Table::of(alloc, vec![in alloc; invariant]?, VARS)?;
-    serve_new_store(rt, alloc, case, table, stored_steps())
+    serve_new_store(rt, alloc, case, table, stored_steps(), out)
 }
 
 // Whether a value is below zero.
@@ -81,13 +91,14 @@ fn has_negative(values: &[i64]) -> bool
 }
 
 // The same with this table and these steps.
-fn serve_new_store<R: Wait, T: Invariants + Drop, S: StoredSteps + Drop>(
+fn serve_new_store<R: Wait, T: Invariants + Drop, S: StoredSteps + Drop, W: Write>(
     rt: &R,
     alloc: Global,
     case: &Case,
     table: T,
     steps: S,
-) -> Result<Vec<u8>, Fault>
+    out: &mut W,
+) -> Result<Result<(), DeskFailure>, Fault>
     requires vars { T.vars table ≡ VARS }
     requires names { T.names table ≡ solvent.names }
     requires tests { T.is_stated table solvent.tests }
@@ -101,18 +112,19 @@ fn serve_new_store<R: Wait, T: Invariants + Drop, S: StoredSteps + Drop>(
         disk.fail_sync(k.saturating_add(1));
     }
     match OpenedFront::open(alloc, disk, VARS, SLOTS, table, steps) {
-        Ok(opened) => serve_named::<Brand, T, S, R>(rt, alloc, case, opened),
+        Ok(opened) => serve_named::<Brand, T, S, R, W>(rt, alloc, case, opened, out),
         Err((fault, _disk)) => Err(fault),
     }
 }
 
 // The same in a store that was opened.
-fn serve_named<N: ServedNaming, T: Invariants + Drop, S: StoredSteps + Drop, R: Wait>(
+fn serve_named<N: ServedNaming, T: Invariants + Drop, S: StoredSteps + Drop, R: Wait, W: Write>(
     rt: &R,
     alloc: Global,
     case: &Case,
     opened: OpenedFront<SimDisk, T, S>,
-) -> Result<Vec<u8>, Fault>
+    out: &mut W,
+) -> Result<Result<(), DeskFailure>, Fault>
     requires spine { spine_of opened ≡ N.name }
     requires opening { front_found opened ≡ N.opening }
     requires program { N.program ≡ solvent }
@@ -128,15 +140,10 @@ fn serve_named<N: ServedNaming, T: Invariants + Drop, S: StoredSteps + Drop, R: 
     let service = Service::new(rt, alloc, &front, VARS, &names, &[]);
     let mut desk = Desk::new(alloc, front.pass(rt)?);
     let mut lines = Lines::new(alloc);
-    let mut out = Vec::new(alloc);
     for piece in case.pieces {
-        if desk
-            .serve(&service, &mut lines, piece.as_bytes(), &mut out)
-            .is_err()
-        {
-            return Ok(out);
+        if let Err(failure) = desk.serve(&service, &mut lines, piece.as_bytes(), out) {
+            return Ok(Err(failure));
         }
     }
-    let _ = desk.end(&service, &mut lines, &mut out);
-    Ok(out)
+    Ok(desk.end(&service, &mut lines, out))
 }

@@ -1,0 +1,208 @@
+//! How what is told is written, by outputs that take it in pieces, hold it back or fail.
+use super::store::{Case, serve_into};
+use std::alloc::Global;
+use std::io::{self, ErrorKind, Write};
+use std::process::Abort;
+use std::sync::Wait;
+use std::test::Fail;
+use tmem_desk::DeskFailure;
+use tmem_fault::Fault;
+
+/// What a write is answered.
+#[derive(Clone, Copy)]
+enum WriteTurn {
+    /// It takes so many bytes at most.
+    Takes(usize),
+    /// A signal comes before it takes any.
+    Signal,
+    /// It fails.
+    Fails,
+}
+
+/// How serving ended.
+#[derive(Clone, Copy, Debug, PartialEq, Eq)]
+enum ServingEnd {
+    InputRead,
+    OutputFailed,
+    Fault,
+}
+
+/// What is served, how the output answers, and what it is to have taken.
+#[derive(Clone, Copy)]
+struct Row<'a> {
+    name: &'a str,
+    /// What its writes are answered, in turn, and then from the first one on again.
+    writes: &'a [WriteTurn],
+    /// Whether its flushes fail.
+    flush_fails: bool,
+    ends: ServingEnd,
+    takes: &'a str,
+    /// How many bytes it has taken at its flushes. Flushes at the same number count once.
+    flushed: &'a [usize],
+}
+
+/// An output, and what it took.
+#[derive(Drop)]
+struct Output<'a> {
+    row: Row<'a>,
+    // the next of the answers to a write
+    at: usize,
+    taken: Vec<u8>,
+    flushed: Vec<usize>,
+}
+
+impl Write for Output<'_> {
+    fn write(&mut self, buf: &[u8]) -> io::Result<usize> {
+        let turn = match self.row.writes.get(self.at) {
+            Some(turn) => *turn,
+            None => WriteTurn::Fails,
+        };
+        self.at = self.at.wrapping_add(1);
+        if self.at >= self.row.writes.len() {
+            self.at = 0;
+        }
+        match turn {
+            WriteTurn::Takes(most) => {
+                let count = buf.len().min(most);
+                self.taken.extend_from_slice(&buf[..count])?;
+                Ok(count)
+            }
+            WriteTurn::Signal => Err(io::Error::from(ErrorKind::Interrupted)),
+            WriteTurn::Fails => Err(io::Error::from(ErrorKind::Other)),
+        }
+    }
+
+    fn flush(&mut self) -> io::Result<()> {
+        if self.row.flush_fails {
+            return Err(io::Error::from(ErrorKind::Other));
+        }
+        let count = self.taken.len();
+        if self.flushed.last() != Some(&count) {
+            self.flushed.push(count)?;
+        }
+        Ok(())
+    }
+}
+
+const ALL: usize = usize::MAX;
+
+static SERVED: Case<'static> = Case {
+    name: "two lines and one",
+    fails: None,
+    pieces: &[
+        "{\"id\":1,\"ask\":\"look\"}\n{\"id\":2,\"ask\":\"look\"}\n",
+        "{\"id\":3,\"ask\":\"look\"}\n",
+        "{\"id\":4,\"do\":\"retry\"}\n",
+    ],
+    prints: &[],
+};
+
+// each answer to a look has 21 bytes with its line break, and that to what waited at the end has 35
+const ANSWERS: &str =
+    "{\"id\":1,\"durable\":0}\n{\"id\":2,\"durable\":0}\n{\"id\":3,\"durable\":0}\n{\"id\":4,\"fault\":3,\"word\":\"closed\"}\n";
+
+static ROWS: &[Row<'static>] = &[
+    Row {
+        name: "all at once, and flushed for each piece",
+        writes: &[WriteTurn::Takes(ALL)],
+        flush_fails: false,
+        ends: ServingEnd::InputRead,
+        takes: ANSWERS,
+        flushed: &[42, 63, 98],
+    },
+    Row {
+        name: "byte by byte",
+        writes: &[WriteTurn::Takes(1)],
+        flush_fails: false,
+        ends: ServingEnd::InputRead,
+        takes: ANSWERS,
+        flushed: &[42, 63, 98],
+    },
+    Row {
+        name: "two signals before each byte",
+        writes: &[WriteTurn::Signal, WriteTurn::Signal, WriteTurn::Takes(1)],
+        flush_fails: false,
+        ends: ServingEnd::InputRead,
+        takes: ANSWERS,
+        flushed: &[42, 63, 98],
+    },
+    Row {
+        name: "a write that takes nothing",
+        writes: &[
+            WriteTurn::Takes(5),
+            WriteTurn::Takes(0),
+            WriteTurn::Takes(ALL),
+        ],
+        flush_fails: false,
+        ends: ServingEnd::OutputFailed,
+        takes: "{\"id\"",
+        flushed: &[],
+    },
+    Row {
+        name: "a write that fails",
+        writes: &[
+            WriteTurn::Takes(42),
+            WriteTurn::Takes(5),
+            WriteTurn::Fails,
+            WriteTurn::Takes(ALL),
+        ],
+        flush_fails: false,
+        ends: ServingEnd::OutputFailed,
+        takes: "{\"id\":1,\"durable\":0}\n{\"id\":2,\"durable\":0}\n{\"id\"",
+        flushed: &[42],
+    },
+    Row {
+        name: "a flush that fails",
+        writes: &[WriteTurn::Takes(ALL)],
+        flush_fails: true,
+        ends: ServingEnd::OutputFailed,
+        takes: "{\"id\":1,\"durable\":0}\n{\"id\":2,\"durable\":0}\n",
+        flushed: &[],
+    },
+];
+
+#[test]
+fn what_is_told_is_written_and_flushed(rt: HostRuntime) -> Result<(), Fail> {
+    for row in ROWS {
+        serve_row(&rt, rt.alloc(), *row)?;
+    }
+    Ok(())
+}
+
+// Serves the same into the output of a row.
+fn serve_row<R: Abort + Wait>(rt: &R, alloc: Global, row: Row) -> Result<(), Fail> {
+    let mut out = Output {
+        row,
+        at: 0,
+        taken: Vec::new(alloc),
+        flushed: Vec::new(alloc),
+    };
+    let ends = end_of(serve_into(rt, alloc, &SERVED, &mut out));
+    compare(rt, out, ends)
+}
+
+// Compares what an output took, and how serving ended, with what its row wants.
+fn compare<R: Abort>(rt: &R, out: Output, ends: ServingEnd) -> Result<(), Fail> {
+    let Output {
+        row,
+        taken,
+        flushed,
+        ..
+    } = out;
+    let name = row.name;
+    assert!(rt; ends == row.ends, "{name}: {ends:?}");
+    assert!(rt;
+        taken.as_slice() == row.takes.as_bytes(),
+        "{name}: {taken:?}"
+    );
+    assert!(rt; flushed.as_slice() == row.flushed, "{name}: {flushed:?}");
+    Ok(())
+}
+
+fn end_of(served: Result<Result<(), DeskFailure>, Fault>) -> ServingEnd {
+    match served {
+        Ok(Ok(())) => ServingEnd::InputRead,
+        Ok(Err(DeskFailure::Output)) => ServingEnd::OutputFailed,
+        Ok(Err(DeskFailure::Fault(_))) | Err(_) => ServingEnd::Fault,
+    }
+}
