@@ -34,7 +34,11 @@ const NO_INPUT: &str = "standard input could not be read";
 const NO_CLOCK: &str = "the system did not tell the time; try again";
 
 const NOT_REGISTERED: &str =
-    "the store was made before the shape had it; serve it with a shape in which it lacks always, let a transaction check it, and try again";
+    "either the store was made before the shape had it: serve it with a shape in which it lacks always, let a transaction check it, and try again; or something changed the file (look by tmem show PATH): restore a copy";
+
+const EMPTY_FILE: &str = "the file is empty";
+
+const EMPTY_INPUT: &str = "standard input is empty";
 
 const NO_SHAPE: &str = "no store was touched; correct that place, and try again";
 
@@ -44,15 +48,19 @@ const OTHER_TEXT: &str =
 const TEXT_UNREAD: &str =
     "what has the path of its shape, STORE.json, cannot be read; look at its rights, or move it away";
 
-const A_STORE: &str = "it is a store already; serve it, or name another";
+const A_STORE: &str = "it is a store already; serve that store, or name another path";
+
+const NO_STORE: &str = "what is there is no store";
 
 const A_DEVICE: &str = "it is a block device; add --in-place to make a store on it";
 
 const PLACED_OR_NOT: &str =
-    "the device failed while the store was made on it, so it is made or not; look into the system's log (dmesg), and give the same words again: they make it, or say that the device is not blank, and then it is made";
+    "the device failed while the store was made on it, so it is made or not; look into the system's log (dmesg), start the machine anew after an error of the disk, and give the same words again: they make it, or say that the device is not blank, and then it is made";
 
 const NOT_BLANK: &str =
     "it has bytes other than 0, and a store is made in place of nothing else; name another, or fill it with zeros";
+
+const LOOK_AGAIN: &str = "if a program has it open, look again";
 
 /// Tells more of why a run ended before its last line, and of each entry that was refused.
 pub(crate) fn explain<E: Write>(
@@ -64,32 +72,18 @@ pub(crate) fn explain<E: Write>(
 ) {
     // Where this fails, nobody is left to tell.
     let _ = match outcome {
-        Ok(()) => explain_shown(rt, asked, err),
+        Ok(()) => Ok(()),
         Err(failure) => explain_failure(rt, asked, notes, failure, err),
     };
     let _ = explain_entries(rt, asked, notes, err);
 }
 
-// Tells what to do with a store that was shown, and of which an opening is refused.
-fn explain_shown<E: Write>(
-    rt: &(impl Files<File = File> + AllocGlobal),
-    asked: Asked,
-    err: &mut E,
-) -> io::Result<()> {
-    let Asked::Show(_) = asked else {
-        return Ok(());
-    };
-    let Some((path, _)) = store_of(asked) else {
-        return Ok(());
-    };
-    tell_bytes(rt, path, err)?;
-    Ok(())
-}
-
-// Tells which byte of a store an opening refuses, and what to do. Answers whether there is one.
+// Tells which byte of a store an opening refuses, and what to do. Answers whether there is one. (A store is shown without its lock: what
+// another program writes meanwhile is read in part.)
 fn tell_bytes<E: Write>(
     rt: &(impl Files<File = File> + AllocGlobal),
     path: &str,
+    is_shown: bool,
     err: &mut E,
 ) -> io::Result<bool> {
     let Ok(source) = Source::read(rt, path) else {
@@ -100,12 +94,24 @@ fn tell_bytes<E: Write>(
     };
     match refusal.fault {
         Fault::Geometry => tell(err, format_args!("{path}: {refusal}: {TOO_SHORT}"))?,
+        Fault::Damaged if is_shown => {
+            let help = FaultHelp(Fault::Damaged);
+            tell(
+                err,
+                format_args!("{path}: {refusal}: {LOOK_AGAIN}; else {help}"),
+            )?;
+        }
         fault => {
             let help = FaultHelp(fault);
             tell(err, format_args!("{path}: {refusal}: {help}"))?;
         }
     }
     Ok(true)
+}
+
+// Whether a store is to be shown.
+fn shows(asked: Asked) -> bool {
+    matches!(asked, Asked::Show(_))
 }
 
 fn explain_failure<E: Write>(
@@ -116,6 +122,9 @@ fn explain_failure<E: Write>(
     err: &mut E,
 ) -> io::Result<()> {
     match failure {
+        ProgramFailure::Script(ScriptError::NoScript) if notes.text().is_empty() => {
+            tell_empty(asked, err)
+        }
         ProgramFailure::Script(ScriptError::NoScript) => tell_flaw(rt.alloc(), notes.text(), err),
         ProgramFailure::Script(ScriptError::Unreadable) => tell_unread(rt, asked, err),
         ProgramFailure::Script(ScriptError::Memory(_)) => tell(err, FaultHelp(Fault::Memory)),
@@ -123,6 +132,17 @@ fn explain_failure<E: Write>(
         ProgramFailure::Output => tell(err, NO_OUTPUT),
         ProgramFailure::Clock => tell(err, NO_CLOCK),
         ProgramFailure::Words(_) => Ok(()),
+    }
+}
+
+// Tells that a script has no byte.
+fn tell_empty<E: Write>(asked: Asked, err: &mut E) -> io::Result<()> {
+    match asked {
+        Asked::Run(paths) => match paths.script {
+            Some(path) => tell(err, format_args!("{path}: {EMPTY_FILE}")),
+            None => tell(err, EMPTY_INPUT),
+        },
+        _ => tell(err, EMPTY_FILE),
     }
 }
 
@@ -165,7 +185,10 @@ fn explain_store_failure<E: Write>(
         StoreFailure::NotMade(InitError::StoreIsThere) if is_block_device(rt, asked) => {
             tell_of(err, asked, A_DEVICE)
         }
-        StoreFailure::NotMade(InitError::StoreIsThere) => tell_of(err, asked, DeviceCause::There),
+        StoreFailure::NotMade(InitError::StoreIsThere) if is_store(rt, asked) => {
+            tell_of(err, asked, A_STORE)
+        }
+        StoreFailure::NotMade(InitError::StoreIsThere) => tell_no_store(rt, asked, err),
         StoreFailure::NotMade(InitError::NotBlank) if is_store(rt, asked) => {
             tell_of(err, asked, A_STORE)
         }
@@ -175,6 +198,24 @@ fn explain_store_failure<E: Write>(
         StoreFailure::NotServed(ServeError::Unregistered(_)) => tell(err, NOT_REGISTERED),
         StoreFailure::Input => tell(err, NO_INPUT),
         StoreFailure::NotServed(ServeError::Ended(DeskFailure::Output)) => tell(err, NO_OUTPUT),
+    }
+}
+
+// Tells what is there where a store was to be made and none is.
+fn tell_no_store<E: Write>(
+    rt: &(impl Files<File = File> + AllocGlobal),
+    asked: Asked,
+    err: &mut E,
+) -> io::Result<()> {
+    let Some((path, _)) = store_of(asked) else {
+        return tell(err, NO_STORE);
+    };
+    match cause_of(rt, path, Wanted::Read, 0) {
+        DeviceCause::Call(CallCause::Other) => tell(
+            err,
+            format_args!("{path}: {NO_STORE}; move it away, or name another path"),
+        ),
+        cause => tell(err, format_args!("{path}: {NO_STORE}: {cause}")),
     }
 }
 
@@ -217,10 +258,20 @@ fn tell_of_shape<E: Write>(
     err: &mut E,
     path: &str,
 ) -> io::Result<()> {
+    if is_file_empty(rt, path) {
+        return tell(err, format_args!("{path}: {EMPTY_FILE}; {NO_SHAPE}"));
+    }
     if is_file_cut_off(rt, path) {
         return tell(err, format_args!("{path}: {CUT_OFF}; {NO_SHAPE}"));
     }
     tell(err, format_args!("{path}: {NO_SHAPE}"))
+}
+
+fn is_file_empty(rt: &(impl Files<File = File> + AllocGlobal), path: &str) -> bool {
+    match text_in(rt, path) {
+        Ok(text) => text.is_empty(),
+        Err(_) => false,
+    }
 }
 
 // Whether the text in a file ends too early.
@@ -253,6 +304,17 @@ fn is_block_device(rt: &(impl Files<File = File> + AllocGlobal), asked: Asked) -
     }
 }
 
+// Whether that is a block device of no bytes.
+fn has_no_bytes(rt: &(impl Files<File = File> + AllocGlobal), asked: Asked) -> bool {
+    let Some((path, _)) = store_of(asked) else {
+        return false;
+    };
+    match Source::read(rt, path) {
+        Ok(source) => source.size == 0 && is_block_device(rt, asked),
+        Err(_) => false,
+    }
+}
+
 // Tells why the file that is read first was not: a script, or a shape.
 fn tell_unread<E: Write>(
     rt: &(impl Files<File = File> + AllocGlobal),
@@ -264,22 +326,33 @@ fn tell_unread<E: Write>(
         Asked::Check(script) => script,
         Asked::Init(making) => making.file,
         Asked::Serve(serving) if serving.shape.is_some() => serving.shape,
-        Asked::Serve(serving) => {
-            let Ok(beside) = shape_beside(rt.alloc(), serving.store.unwrap_or("")) else {
-                return tell(err, FaultHelp(Fault::Memory));
-            };
-            let cause = cause_of(rt, beside.as_str(), Wanted::Read, 0);
-            return tell(
-                err,
-                format_args!("{beside}: {cause}, or name a shape by --shape"),
-            );
-        }
+        Asked::Serve(serving) => return tell_unserved(rt, serving.store.unwrap_or(""), err),
         _ => None,
     };
     match path {
         Some(path) => { tell_cause(err, path, cause_of(rt, path, Wanted::Read, 0)) }
         None => tell(err, NO_INPUT),
     }
+}
+
+// Tells why a store could not be served whose shape was to stand beside it: what is wrong with its own path, or else with that of the shape.
+fn tell_unserved<E: Write>(
+    rt: &(impl Files<File = File> + AllocGlobal),
+    store: &str,
+    err: &mut E,
+) -> io::Result<()> {
+    let cause = cause_of(rt, store, Wanted::Read, 0);
+    if cause != DeviceCause::Call(CallCause::Other) {
+        return tell_cause(err, store, cause);
+    }
+    let Ok(beside) = shape_beside(rt.alloc(), store) else {
+        return tell(err, FaultHelp(Fault::Memory));
+    };
+    let cause = cause_of(rt, beside.as_str(), Wanted::Read, 0);
+    tell(
+        err,
+        format_args!("{beside}: {cause}, or name a shape by --shape"),
+    )
 }
 
 // Tells what a fault means, and what is known of the file of the store.
@@ -305,7 +378,7 @@ fn tell_refused<E: Write>(
             PLACED_OR_NOT,
         ),
         (Fault::Damaged | Fault::NotFormatted, Some((path, _))) => {
-            if tell_bytes(rt, path, err)? {
+            if tell_bytes(rt, path, shows(asked), err)? {
                 return Ok(());
             }
             tell_of(err, asked, FaultHelp(fault))
@@ -366,8 +439,11 @@ fn tell_geometry<E: Write>(
     notes: &Notes,
     err: &mut E,
 ) -> io::Result<()> {
+    if has_no_bytes(rt, asked) {
+        return tell_of(err, asked, DeviceCause::NoBytes);
+    }
     let Some((vars, slots)) = numbers_in(rt, asked, notes) else {
-        return tell_of(err, asked, FaultHelp(Fault::Geometry));
+        return tell_cut_off(rt, asked, err);
     };
     match Layout::new(vars, slots) {
         Ok(layout) => match found_in(rt, asked, layout) {
@@ -376,6 +452,20 @@ fn tell_geometry<E: Write>(
         },
         Err(_) => tell(err, NumbersHelp::Limits { vars, slots }),
     }
+}
+
+// Tells where a store ends too soon of which no numbers were asked.
+fn tell_cut_off<E: Write>(
+    rt: &(impl Files<File = File> + AllocGlobal),
+    asked: Asked,
+    err: &mut E,
+) -> io::Result<()> {
+    if let Some((path, _)) = store_of(asked) {
+        if tell_bytes(rt, path, shows(asked), err)? {
+            return Ok(());
+        }
+    }
+    tell_of(err, asked, FaultHelp(Fault::Geometry))
 }
 
 // The numbers that were asked for, by a script or a shape.
@@ -441,6 +531,9 @@ fn found_in(
         return None;
     }
     match asked {
+        Asked::Init(_) if source.bytes.iter().any(|byte| *byte != 0) => {
+            Some(NumbersHelp::NotBlank { has, wants })
+        }
         Asked::Init(_) => Some(NumbersHelp::NoRoom { has, wants }),
         _ => Some(NumbersHelp::Short {
             vars,

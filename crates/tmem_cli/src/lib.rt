@@ -16,4 +16,5 @@ mod show;
 mod words;
 
 pub use check::check_text;
+pub use show::show_source;
 pub use words::run_words;

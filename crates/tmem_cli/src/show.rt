@@ -22,9 +22,22 @@ pub(crate) fn show_store<W: Write>(
     ensures failed { IfErr result IsWhyNotShown }
 {
     let source = Source::read(rt, showing.store.unwrap_or(""))?;
-    print_source(rt.alloc(), &source, showing, out)?;
+    show_source(rt.alloc(), &source, showing, out)
+}
+
+/// Prints what these bytes of a store hold. Ends well only where an opening of them is not refused.
+pub fn show_source<W: Write>(
+    alloc: Global,
+    source: &Source,
+    showing: Showing,
+    out: &mut W,
+) -> Result<(), ProgramFailure>
+    ensures opens { OnOk result (TellsOf source.now.bytes.items None) }
+    ensures failed { IfErr result IsWhyNotShown }
+{
+    print_source(alloc, source, showing, out)?;
     flush(out)?;
-    check_opening(rt.alloc(), &source)
+    check_opening(alloc, source)
 }
 
 // Prints what was read.

@@ -12,7 +12,7 @@ use Rattle.tmem_script.specs.Scripts.{IsScript}
 use Rattle.tmem_script.specs.declared.script.ScriptEntry.{ScriptEntry}
 use Rattle.tmem_tree.specs.declared.tx.Tx.{Tx}
 use Rattle.tmem_explain.specs.Flaws.{IsFlawOf}
-use Rattle.tmem_explain.specs.Limits.{AreAmong, HasFlaw, IsLimitFlaw, KeepsLimits, TellsLimits, TellsNumber, TellsSomeLimit, begun_at, begun_by}
+use Rattle.tmem_explain.specs.Limits.{HasFlaw, IsLimitFlaw, KeepsFlaws, KeepsLimits, MayHaveSlots, MayHaveVars, TellsLimits, TellsNumber, TellsSlots, TellsSomeLimit, TellsVars, begun_at, begun_by}
 use Rattle.tmem_explain.specs.declared.flaw.Flaw.{Flaw}
 
 -- a test does not give both answers
@@ -56,10 +56,10 @@ pub same_begun : (o : Option Tx) (a b : Tx) → o ≡ Some a → o ≡ Some b �
 same_begun o a b first second = ap (from_some a) (sym second ∙ first)
 
 -- what is told stays told
-pub still_told : (P : Flaw → Type 0) (some all : List Flaw) → AreAmong some all → HasFlaw P some → HasFlaw P all
+pub still_told : (P : Flaw → Type 0) (some all : List Flaw) → KeepsFlaws some all → HasFlaw P some → HasFlaw P all
 still_told P some all among has = (has.0, among has.0 has.1, has.2)
 
-pub numbers_kept : (A : Type 0) (P : Flaw → Type 0) (some all : List Flaw) → AreAmong some all → A ⊎ HasFlaw P some → A ⊎ HasFlaw P all
+pub numbers_kept : (A : Type 0) (P : Flaw → Type 0) (some all : List Flaw) → KeepsFlaws some all → A ⊎ HasFlaw P some → A ⊎ HasFlaw P all
 numbers_kept A P some all among (inl a) = inl a
 numbers_kept A P some all among (inr has) = inr (still_told P some all among has)
 
@@ -68,7 +68,7 @@ pub none_yet : (P : Flaw → Type 0) (flaws : List Flaw) → flaws ≡ [] → Al
 none_yet P flaws none = subst (λ fs. All P fs) (sym none) (All-nil P)
 
 -- a flaw more
-pub among_more : (old new : List Flaw) (flaw : Flaw) → new ≡ old ++ flaw ∷ [] → AreAmong old new
+pub among_more : (old new : List Flaw) (flaw : Flaw) → new ≡ old ++ flaw ∷ [] → KeepsFlaws old new
 among_more old new flaw is = λ other there. subst (λ fs. Contains fs other) (sym is) (Contains-append_left old (flaw ∷ []) other there)
 
 pub told_last : (P : Flaw → Type 0) (old new : List Flaw) (flaw : Flaw) → new ≡ old ++ flaw ∷ [] → P flaw → HasFlaw P new
@@ -132,8 +132,11 @@ none_there P (flaw ∷ flaws) none has = cc
 
 -- where nothing is told, the limits are kept
 pub keeps_all : (vars slots : ℕ) (entries : List ScriptEntry) (flaws : List Flaw) → TellsLimits vars slots entries flaws → flaws ≡ [] → KeepsLimits vars slots entries
-keeps_all vars slots entries flaws tells none = (layout tells.numbers, λ i tx cause begun breaks. none_there _ flaws none (tells.each i tx cause begun breaks))
+keeps_all vars slots entries flaws tells none =
+    let v = kept (MayHaveVars vars) TellsVars tells.of_vars in
+    let s = kept (MayHaveSlots slots) TellsSlots tells.of_slots in
+    (record { some_vars = v.0; vars_fit = v.1; some_slots = s.0; slots_fit = s.1 }, λ i tx cause begun breaks. none_there _ flaws none (tells.each i tx cause begun breaks))
   where
-    layout : IsLayout vars slots ⊎ HasFlaw TellsNumber flaws → IsLayout vars slots
-    layout (inl is) = is
-    layout (inr has) = absurd (none_there _ flaws none has)
+    kept : (A : Type 0) (P : Flaw → Type 0) → A ⊎ HasFlaw P flaws → A
+    kept A P (inl a) = a
+    kept A P (inr has) = absurd (none_there P flaws none has)

@@ -37,7 +37,7 @@ abbrev pub last_byte : List ℕ → Option ℕ
 last_byte text = slice_get text (length text - 1)
 
 -- A lock is told only of what this program does not have open itself, that something is there only of a new file, and that nothing is
--- only of what was to be there.
+-- only of what was to be there. That a second name is in the way is told only of what was to be used.
 abbrev pub may_be_told : Wanted → DeviceCause → Bool
 may_be_told wanted.Read cause.Locked = false
 may_be_told wanted.Held cause.Locked = false
@@ -54,6 +54,8 @@ may_be_told wanted.Held cause.ClosedFolder = false
 may_be_told wanted.Read cause.NoLinks = false
 may_be_told wanted.Found cause.NoLinks = false
 may_be_told wanted.Held cause.NoLinks = false
+may_be_told wanted.Read cause.SecondName = false
+may_be_told wanted.Made cause.SecondName = false
 may_be_told wanted c = true
 
 -- why a call was refused, and what to do
@@ -61,11 +63,11 @@ abbrev pub call_help : CallCause → List ℕ
 call_help call.NoPermission = codes "this user may not use it; change its rights, or run as its owner"
 call_help call.ReadOnly = codes "its file system is mounted read-only; mount it for writing, or name a path on another"
 call_help call.NoRoom = codes "there is no room on its file system, or no quota is left; free some (df, df -i, quota), or name a path on another"
-call_help call.LongName = codes "its name is too long; name a path whose last part has at most 250 bytes"
+call_help call.LongName = codes "the path or its last part is too long; name one whose last part has at most 250 bytes, for init 245 (STORE.json)"
 call_help call.Limit = codes "this process may not write a file so long (ulimit -f); raise that limit, and run the program again"
 call_help call.Circle = codes "links on this path lead in a circle; mend them, or name the file"
 call_help call.DiskError = codes "the disk reports an error (EIO); look into the system's log (dmesg), and restore a copy on another disk"
-call_help call.Other = codes "a call on it failed, and what was tried again did not; look at the room (df), at open files (ulimit -n) and into the system's log (dmesg)"
+call_help call.Other = codes "a call on it failed, and what was tried again did not; look at its rights, at room (df), at limits (ulimit -f, ulimit -n), whether the device is read-only, and into the system's log (dmesg)"
 
 -- why a file could not be used, and what to do
 abbrev pub device_help : DeviceCause → List ℕ
@@ -80,4 +82,6 @@ device_help cause.MissingFolder = codes "its folder is not there; make it, or ch
 device_help cause.Slash = codes "it ends in /, as the path of a folder does; name a file"
 device_help cause.ClosedFolder = codes "this user may not make a file in its folder; change the folder's rights, or name a path in another"
 device_help cause.NoLinks = codes "its file system makes no hard links, by which a new file gets its name; name a path on another"
+device_help cause.NoBytes = codes "the device has 0 bytes; look whether anything is attached to it"
+device_help cause.SecondName = codes "it has a second name, as a new file has until its folder is synced, and its folder cannot be synced; let one who may read the folder sync it (sync FOLDER), and then remove PATH.new0"
 device_help (cause.Call c) = call_help c

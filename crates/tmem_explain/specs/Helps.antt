@@ -9,11 +9,11 @@ use Rattle.tmem_explain.specs.declared.numbers.NumbersHelp.TheVariants as number
 
 -- what went wrong, and what to do
 abbrev pub fault_help : Fault → List ℕ
-fault_help fault.Memory = codes "memory did not suffice, or no thread could be started; give the program more, or ask for less"
-fault_help fault.Device = codes "a call on the file failed; look for its rights, for room and for errors of the disk, and run the program again"
+fault_help fault.Memory = codes "memory did not suffice, or no thread could be started; give the program more (ulimit -v, ulimit -u), or ask for less"
+fault_help fault.Device = codes "a call on the file failed; look at its rights, at room (df), at limits (ulimit -f, ulimit -n), whether the device is read-only, and into the system's log (dmesg), and run the program again"
 fault_help fault.Closed = codes "an earlier failure has closed the store: a call on its file failed, or it could not be opened again; mend that, and run the program again"
 fault_help fault.Unknown =
-    codes "the device failed while a batch was made durable, and all of the batch is durable or nothing; open the store again, and it says how many transactions there are"
+    codes "the device failed while a batch was made durable, and all of the batch is durable or nothing; open the store again, after an error of the disk once the machine was started anew, and it says how many transactions there are"
 fault_help fault.Full = codes "256 transactions wait to be durable; flush, and settle again"
 fault_help fault.LogFull = codes "every slot of the log is used; make a checkpoint, and flush again"
 fault_help fault.Conflict = codes "a value that the transaction read has changed; begin it again"
@@ -27,7 +27,7 @@ fault_help (fault.Broken name) =
 fault_help (fault.BadPlan c) = cause_text c ++ codes "; change the transaction"
 fault_help fault.BadName = codes "a name is not 1 to 16 letters from a to z, or stands twice, or there are more than 64; change the program"
 fault_help fault.BadFootprint = codes "an invariant is over no variable, over more than 16, over one twice, or over one that the store lacks (they count from 0); correct that invariant"
-fault_help fault.Spent = codes "no use comes to this number, so something changed the file; restore a copy"
+fault_help fault.Spent = codes "the count of transactions or of images is at 2^64 - 1, to which no use comes, so something changed the file; restore a copy"
 fault_help fault.NoSeat = codes "all 32 passes were given out; keep passes, or borrow them of the pool"
 fault_help fault.Geometry =
     codes "the numbers of variables and log slots that were asked for are out of limits (1 to 1024, 2 to 64) or not the store's own, or its file was cut off; state those that tmem show PATH prints, or put a copy of the file in its place"
@@ -44,3 +44,5 @@ numbers_help (numbers.Short vars slots has wants) =
     ++ (decimal wants ++ codes "; check the path, or restore a copy")))))))
 numbers_help (numbers.NoRoom has wants) =
     codes "it has " ++ (decimal has ++ (codes " bytes, and the store takes " ++ (decimal wants ++ codes "; make it at least so long, or name another")))
+numbers_help (numbers.NotBlank has wants) =
+    codes "it has " ++ (decimal has ++ (codes " bytes, not all of them 0, and the store takes " ++ (decimal wants ++ codes "; name another")))

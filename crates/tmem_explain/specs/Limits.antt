@@ -1,5 +1,5 @@
 -- What a run refuses of a script, and that all of it is told.
-use Rattle.std.specs.Prelude.{◌≡◌, ◌⊎◌, ◌<◌, ◌≤◌, ◌≢◌, ℕ, zero, suc, All, List, [], ◌∷◌, codes, Option, Some, None}
+use Rattle.std.specs.Prelude.{◌≡◌, ◌⊎◌, ◌<◌, ◌≤◌, ◌≢◌, ◌-◌, ◌^◌, min, ℕ, zero, suc, All, List, [], ◌∷◌, codes, Option, Some, None}
 use Rattle.std.specs.List.{Contains}
 use Rattle.serde_json.specs.Data.{Data}
 use Rattle.tmem_builtins.specs.Builtins.{builtin_names}
@@ -47,10 +47,14 @@ abbrev pub KeepsLimits : ℕ → ℕ → List ScriptEntry → Type 0
 KeepsLimits vars slots entries =
     IsLayout vars slots × ((i : ℕ) (tx : Tx) (cause : Cause) → begun_at entries i ≡ Some tx → ¬ BreaksLimit vars tx cause)
 
--- So much a transaction has of what the limit of a cause counts. (No text nests one deeper than 128, nor has as many nodes.)
+-- the largest number that is told
+abbrev pub most_told : ℕ
+most_told = 2 ^ 64 - 1
+
+-- So much a transaction has of what the limit of a cause counts. (No text nests one deeper than 128.)
 pub record IsTotal (vars : ℕ) (tx : Tx) (cause : Cause) (n : ℕ) : Type 0 where
   pub deep : cause ≡ TooDeep → 32 < depth tx → depth tx ≤ 128 → n ≡ depth tx
-  pub counted : cause ≢ TooDeep → n < 18446744073709551615 → n ≡ count (is_counted cause step_arities vars (builtin_names vars)) tx
+  pub counted : cause ≢ TooDeep → n ≡ min (count (is_counted cause step_arities vars (builtin_names vars)) tx) most_told
 
 -- steps lead into the entry of a number
 abbrev IsEvents : PointerStep → Type 0
@@ -84,9 +88,22 @@ pub record TellsLimit (vars i : ℕ) (tx : Tx) (cause : Cause) (flaw : Flaw) : T
   pub has_total : HasTotal total excess
   pub place : IsInEntry i flaw.at
 
--- a flaw tells that a number is none of a store
+-- a store may have so many variables, and so many log slots
+abbrev pub MayHaveVars : ℕ → Type 0
+MayHaveVars vars = (1 ≤ vars) × (vars ≤ 1024)
+
+abbrev pub MayHaveSlots : ℕ → Type 0
+MayHaveSlots slots = (2 ≤ slots) × (slots ≤ 64)
+
+-- a flaw tells that no store has so many variables, or so many log slots
+abbrev pub TellsVars : Flaw → Type 0
+TellsVars flaw = flaw.expected ≡ expected.Vars
+
+abbrev pub TellsSlots : Flaw → Type 0
+TellsSlots flaw = flaw.expected ≡ expected.Slots
+
 abbrev pub TellsNumber : Flaw → Type 0
-TellsNumber flaw = (flaw.expected ≡ expected.Vars) ⊎ (flaw.expected ≡ expected.Slots)
+TellsNumber flaw = TellsVars flaw ⊎ TellsSlots flaw
 
 -- a flaw tells the limit that some transaction breaks
 abbrev pub TellsSomeLimit : ℕ → List ScriptEntry → Flaw → Type 0
@@ -102,15 +119,16 @@ pub record IsLimitFlaw (vars slots : ℕ) (entries : List ScriptEntry) (flaw : F
 abbrev pub HasFlaw : (Flaw → Type 0) → List Flaw → Type 0
 HasFlaw IsSo flaws = (flaw : Flaw) × Contains flaws flaw × IsSo flaw
 
--- all of these are among those
-abbrev pub AreAmong : List Flaw → List Flaw → Type 0
-AreAmong some all = (flaw : Flaw) → Contains some flaw → Contains all flaw
+-- of these flaws none is lost: each is among those
+abbrev pub KeepsFlaws : List Flaw → List Flaw → Type 0
+KeepsFlaws some all = (flaw : Flaw) → Contains some flaw → Contains all flaw
 
--- Of a script each flaw is a limit that is broken, and each limit that is broken is told: numbers that no store has, and of each
+-- Of a script each flaw is a limit that is broken, and each limit that is broken is told: each number that no store has, and of each
 -- transaction each limit.
 pub record TellsLimits (vars slots : ℕ) (entries : List ScriptEntry) (flaws : List Flaw) : Type 0 where
   pub only : All (IsLimitFlaw vars slots entries) flaws
-  pub numbers : IsLayout vars slots ⊎ HasFlaw TellsNumber flaws
+  pub of_vars : MayHaveVars vars ⊎ HasFlaw TellsVars flaws
+  pub of_slots : MayHaveSlots slots ⊎ HasFlaw TellsSlots flaws
   pub each : (i : ℕ) (tx : Tx) (cause : Cause) → begun_at entries i ≡ Some tx → BreaksLimit vars tx cause → HasFlaw (TellsLimit vars i tx cause) flaws
 
 -- the text is that of no script

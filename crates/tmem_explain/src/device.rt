@@ -6,8 +6,8 @@ ghost use Rattle.tmem_explain.specs.Causes.{call_cause, last_byte, link_cause, m
 
 use std::fmt;
 use std::fs::{self, File, FileType, Files, OpenOptions, TryLockError};
-use std::io::{self, ErrorKind};
-use std::os::unix::fs::{FileExt, FileTypeExt};
+use std::io::{self, ErrorKind, Seek, SeekFrom};
+use std::os::unix::fs::{FileExt, FileTypeExt, MetadataExt};
 use std::path::Path;
 
 // So many bytes are read or written at once, and so often a file is read: the longest store has 283,136 bytes.
@@ -44,6 +44,10 @@ pub enum DeviceCause {
     ClosedFolder,
     /// Its file system makes no hard links.
     NoLinks,
+    /// It is a block device of no bytes.
+    NoBytes,
+    /// It has a second name, and its folder cannot be synced.
+    SecondName,
     /// A call of the system is refused.
     Call(CallCause),
 }
@@ -98,14 +102,14 @@ impl fmt::Display for CallCause {
             CallCause::NoRoom =>
                 "there is no room on its file system, or no quota is left; free some (df, df -i, quota), or name a path on another",
             CallCause::LongName =>
-                "its name is too long; name a path whose last part has at most 250 bytes",
+                "the path or its last part is too long; name one whose last part has at most 250 bytes, for init 245 (STORE.json)",
             CallCause::Limit =>
                 "this process may not write a file so long (ulimit -f); raise that limit, and run the program again",
             CallCause::Circle => "links on this path lead in a circle; mend them, or name the file",
             CallCause::DiskError =>
                 "the disk reports an error (EIO); look into the system's log (dmesg), and restore a copy on another disk",
             CallCause::Other =>
-                "a call on it failed, and what was tried again did not; look at the room (df), at open files (ulimit -n) and into the system's log (dmesg)",
+                "a call on it failed, and what was tried again did not; look at its rights, at room (df), at limits (ulimit -f, ulimit -n), whether the device is read-only, and into the system's log (dmesg)",
         })
     }
 }
@@ -132,6 +136,9 @@ impl fmt::Display for DeviceCause {
                 "this user may not make a file in its folder; change the folder's rights, or name a path in another",
             DeviceCause::NoLinks =>
                 "its file system makes no hard links, by which a new file gets its name; name a path on another",
+            DeviceCause::NoBytes => "the device has 0 bytes; look whether anything is attached to it",
+            DeviceCause::SecondName =>
+                "it has a second name, as a new file has until its folder is synced, and its folder cannot be synced; let one who may read the folder sync it (sync FOLDER), and then remove PATH.new0",
             DeviceCause::Call(cause) => return write!(f, "{cause}"),
         };
         f.write_str(text)
@@ -214,13 +221,17 @@ fn cause_of_missing<R: Files<File = File> + AllocGlobal>(
 
 // Whether this user may not read the folder of a path, which has to be synced where a file is made.
 fn is_folder_closed<R: Files<File = File>>(rt: &R, path: &str) -> bool {
-    let opened = match Path::new(path).parent() {
-        Some(folder) if !folder.as_os_str().is_empty() => File::open(rt, folder),
-        _ => File::open(rt, "."),
-    };
-    match opened {
+    match open_folder(rt, path) {
         Ok(_) => false,
         Err(error) => error.kind() == ErrorKind::PermissionDenied,
+    }
+}
+
+// Opens the folder of a path.
+fn open_folder<R: Files<File = File>>(rt: &R, path: &str) -> io::Result<File> {
+    match Path::new(path).parent() {
+        Some(folder) if !folder.as_os_str().is_empty() => File::open(rt, folder),
+        _ => File::open(rt, "."),
     }
 }
 
@@ -241,7 +252,7 @@ fn cause_of_making<R: Files<File = File> + AllocGlobal>(
     DeviceCause::Call(CallCause::Other)
 }
 
-// The same by the name of this number, unless something has that.
+// The same by the name of this number and the next, unless something has one of these.
 fn cause_of_trying<R: Files<File = File> + AllocGlobal>(
     rt: &R,
     path: &str,
@@ -268,6 +279,9 @@ fn cause_of_trying<R: Files<File = File> + AllocGlobal>(
             if linked.is_ok() {
                 let _ = fs::remove_file(rt, link.as_str());
             }
+            if filled.is_ok() && is_taken(&linked) {
+                return None;
+            }
             Some(cause_of_made(filled, linked))
         }
         Err(error) => match error.kind() {
@@ -275,6 +289,14 @@ fn cause_of_trying<R: Files<File = File> + AllocGlobal>(
             ErrorKind::PermissionDenied => Some(DeviceCause::ClosedFolder),
             _ => Some(DeviceCause::Call(CallCause::of(error))),
         },
+    }
+}
+
+// Whether a link was not made because something has its name.
+fn is_taken(linked: &io::Result<()>) -> bool {
+    match linked {
+        Ok(()) => false,
+        Err(error) => error.kind() == ErrorKind::AlreadyExists,
     }
 }
 
@@ -308,7 +330,7 @@ fn fill(file: &File, size: u64) -> io::Result<()> {
 }
 
 // Why what is there could not be used.
-fn cause_of_found<R: Files<File = File>>(
+fn cause_of_found<R: Files<File = File> + AllocGlobal>(
     rt: &R,
     path: &str,
     wanted: Wanted,
@@ -326,6 +348,10 @@ fn cause_of_found<R: Files<File = File>>(
     let writes = wanted != Wanted::Read;
     match OpenOptions::new().read(true).write(writes).open(rt, path) {
         Ok(file) if may_be_locked(wanted) && is_locked(&file) => DeviceCause::Locked,
+        Ok(file) if kind.is_block_device() && has_no_bytes(&file) => DeviceCause::NoBytes,
+        Ok(file) if may_be_named_twice(wanted) && is_name_in_doubt(rt, path, &file) => {
+            DeviceCause::SecondName
+        }
         Ok(file) => cause_of_open(&file, writes),
         Err(error) => DeviceCause::Call(CallCause::of(error)),
     }
@@ -338,8 +364,36 @@ fn may_be_locked(wanted: Wanted) -> bool
     matches!(wanted, Wanted::Found | Wanted::FoundOrMade)
 }
 
+// Whether a second name may be why, where it was wanted so: what is opened for use has its folder synced then.
+fn may_be_named_twice(wanted: Wanted) -> bool
+    ensures { result ≡ may_be_told wanted DeviceCause.SecondName }
+{
+    matches!(wanted, Wanted::Found | Wanted::Held | Wanted::FoundOrMade)
+}
+
+// Whether a file has a second name, and the folder in which it stands cannot be synced.
+fn is_name_in_doubt<R: Files<File = File> + AllocGlobal>(rt: &R, path: &str, file: &File) -> bool {
+    match file.metadata() {
+        Ok(found) => found.nlink() > 1 && sync_folder(rt, path).is_err(),
+        Err(_) => false,
+    }
+}
+
+// Syncs the folder in which a file stands. Where a link leads to the file, that is not the link's.
+fn sync_folder<R: Files<File = File> + AllocGlobal>(rt: &R, path: &str) -> io::Result<()> {
+    let own_path = rt.canonicalize(rt.alloc(), path)?;
+    open_folder(rt, own_path.as_str())?.sync_all()
+}
+
 fn is_locked(file: &File) -> bool {
     matches!(file.try_lock(), Err(TryLockError::WouldBlock))
+}
+
+fn has_no_bytes(mut file: &File) -> bool {
+    match file.seek(SeekFrom::End(0)) {
+        Ok(size) => size == 0,
+        Err(_) => false,
+    }
 }
 
 // Why what was opened could not be used. It is read, and synced where it was opened for writing.

@@ -17,11 +17,11 @@ impl fmt::Display for FaultHelp {
         match &self.0 {
             Fault::Memory => write!(
                 f,
-                "memory did not suffice, or no thread could be started; give the program more, or ask for less"
+                "memory did not suffice, or no thread could be started; give the program more (ulimit -v, ulimit -u), or ask for less"
             ),
             Fault::Device => write!(
                 f,
-                "a call on the file failed; look for its rights, for room and for errors of the disk, and run the program again"
+                "a call on the file failed; look at its rights, at room (df), at limits (ulimit -f, ulimit -n), whether the device is read-only, and into the system's log (dmesg), and run the program again"
             ),
             Fault::Closed => write!(
                 f,
@@ -29,7 +29,7 @@ impl fmt::Display for FaultHelp {
             ),
             Fault::Unknown => write!(
                 f,
-                "the device failed while a batch was made durable, and all of the batch is durable or nothing; open the store again, and it says how many transactions there are"
+                "the device failed while a batch was made durable, and all of the batch is durable or nothing; open the store again, after an error of the disk once the machine was started anew, and it says how many transactions there are"
             ),
             Fault::Full => write!(
                 f,
@@ -70,7 +70,7 @@ impl fmt::Display for FaultHelp {
             ),
             Fault::Spent => write!(
                 f,
-                "no use comes to this number, so something changed the file; restore a copy"
+                "the count of transactions or of images is at 2^64 - 1, to which no use comes, so something changed the file; restore a copy"
             ),
             Fault::NoSeat => write!(
                 f,

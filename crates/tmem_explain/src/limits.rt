@@ -2,11 +2,10 @@
 ghost use Rattle.std.specs.Prelude.{◌≡◌, ◌≤◌, ◌<◌, ◌+◌, ◌↔◌, ◌⊎◌, ℕ, [], All, IfOk, IsTrue, OnOk, Some};
 ghost use Rattle.serde_json.specs.Data.{Data};
 ghost use Rattle.tmem_fault.specs.declared.fault.Cause.{Cause};
-ghost use Rattle.tmem_record.specs.Layout.{IsLayout};
 ghost use Rattle.tmem_script.specs.Scripts.{IsScript};
 ghost use Rattle.tmem_tree.specs.declared.tx.Tx.{Tx};
 ghost use Rattle.tmem_explain.specs.Flaws.{IsFlawOf};
-ghost use Rattle.tmem_explain.specs.Limits.{AreAmong, BreaksLimit, HasFlaw, IsLimitFlaw, KeepsLimits, TellsLimit, TellsLimits, TellsNumber, begun_at};
+ghost use Rattle.tmem_explain.specs.Limits.{BreaksLimit, HasFlaw, IsLimitFlaw, KeepsFlaws, KeepsLimits, MayHaveSlots, MayHaveVars, TellsLimit, TellsLimits, TellsSlots, TellsVars, begun_at};
 
 use crate::amiss::Amiss;
 use crate::expected::Expected;
@@ -20,7 +19,7 @@ use tmem_requests::PointerStep;
 use tmem_script::Script;
 use tmem_tree::Tx;
 
-/// A flaw for numbers that no store has, and one for each limit that a transaction breaks.
+/// A flaw for each number that no store has, and one for each limit that a transaction breaks.
 pub(crate) fn flaws_of_script(alloc: Global, script: &Script) -> Result<Vec<Flaw>, AllocError>
     ensures told { IfOk result (λ flaws. (d : Data) → IsScript script.now.vars script.now.slots script.now.entries.items d → All (IsFlawOf d) flaws.items) }
     ensures limits { IfOk result (λ flaws. TellsLimits script.now.vars script.now.slots script.now.entries.items flaws.items) }
@@ -33,55 +32,98 @@ pub(crate) fn flaws_of_script(alloc: Global, script: &Script) -> Result<Vec<Flaw
     Ok(flaws)
 }
 
-// Notes the numbers of a script, if no store has them.
+// Notes each number of a script that no store has.
 fn note_layout(alloc: Global, script: &Script, flaws: &mut Vec<Flaw>) -> Result<(), AllocError>
     ensures only { All (IsLimitFlaw script.now.vars script.now.slots script.now.entries.items) flaws.old.items → OnOk result (All (IsLimitFlaw script.now.vars script.now.slots script.now.entries.items) flaws.new.items) }
-    ensures numbers { OnOk result (IsLayout script.now.vars script.now.slots ⊎ HasFlaw TellsNumber flaws.new.items) }
+    ensures of_vars { OnOk result (MayHaveVars script.now.vars ⊎ HasFlaw TellsVars flaws.new.items) }
+    ensures of_slots { OnOk result (MayHaveSlots script.now.slots ⊎ HasFlaw TellsSlots flaws.new.items) }
 {
-    if has_layout(script) {
+    note_vars(alloc, script, flaws)?;
+    note_slots(alloc, script, flaws)?;
+    Ok(())
+}
+
+// Notes the number of variables of a script, if no store has so many.
+fn note_vars(alloc: Global, script: &Script, flaws: &mut Vec<Flaw>) -> Result<(), AllocError>
+    ensures only { All (IsLimitFlaw script.now.vars script.now.slots script.now.entries.items) flaws.old.items → OnOk result (All (IsLimitFlaw script.now.vars script.now.slots script.now.entries.items) flaws.new.items) }
+    ensures told { OnOk result (MayHaveVars script.now.vars ⊎ HasFlaw TellsVars flaws.new.items) }
+{
+    if has_vars(script) {
         return Ok(());
     }
-    let flaw = layout_flaw(alloc, script)?;
+    let flaw = vars_flaw(alloc, script)?;
     flaws.push(flaw)?;
     Ok(())
 }
 
-// Whether a store may have the numbers of a script.
-fn has_layout(script: &Script) -> bool
-    ensures { IsTrue result ↔ IsLayout script.now.vars script.now.slots }
-{
-    has_vars(script) && LEAST_SLOTS <= script.slots && script.slots <= MOST_SLOTS
-}
-
-// Whether a store may have as many variables.
+// Whether a store may have so many.
 fn has_vars(script: &Script) -> bool
-    ensures { IsTrue result ↔ ((1 ≤ script.now.vars) × (script.now.vars ≤ 1024)) }
+    ensures { IsTrue result ↔ MayHaveVars script.now.vars }
 {
     1 <= script.vars && script.vars <= MOST_VARS
 }
 
-// The first number that no store has.
-fn layout_flaw(alloc: Global, script: &Script) -> Result<Flaw, AllocError>
-    requires { ¬ IsLayout script.now.vars script.now.slots }
+// The flaw of such a number.
+fn vars_flaw(alloc: Global, script: &Script) -> Result<Flaw, AllocError>
+    requires { ¬ MayHaveVars script.now.vars }
     ensures told { IfOk result (λ flaw. (d : Data) → IsScript script.now.vars script.now.slots script.now.entries.items d → IsFlawOf d flaw) }
-    ensures number { IfOk result TellsNumber }
+    ensures number { IfOk result TellsVars }
 {
-    let flaw = number_flaw(alloc, script);
+    let flaw = vars_or_memory(alloc, script);
     match flaw.expected {
-        Expected::Vars | Expected::Slots => Ok(flaw),
+        Expected::Vars => Ok(flaw),
         _ => Err(AllocError),
     }
 }
 
 // The same, or that memory did not suffice.
-fn number_flaw(alloc: Global, script: &Script) -> Flaw
-    requires { ¬ IsLayout script.now.vars script.now.slots }
+fn vars_or_memory(alloc: Global, script: &Script) -> Flaw
+    requires { ¬ MayHaveVars script.now.vars }
     ensures { (d : Data) → IsScript script.now.vars script.now.slots script.now.entries.items d → IsFlawOf d result }
 {
-    if !has_vars(script) {
-        let amiss = Amiss::here(alloc, Expected::Vars);
-        return amiss.behind(PointerStep::Key("vars")).into_flaw();
+    let amiss = Amiss::here(alloc, Expected::Vars);
+    amiss.behind(PointerStep::Key("vars")).into_flaw()
+}
+
+// Notes the number of log slots of a script, if no store has so many.
+fn note_slots(alloc: Global, script: &Script, flaws: &mut Vec<Flaw>) -> Result<(), AllocError>
+    ensures only { All (IsLimitFlaw script.now.vars script.now.slots script.now.entries.items) flaws.old.items → OnOk result (All (IsLimitFlaw script.now.vars script.now.slots script.now.entries.items) flaws.new.items) }
+    ensures kept { OnOk result (KeepsFlaws flaws.old.items flaws.new.items) }
+    ensures told { OnOk result (MayHaveSlots script.now.slots ⊎ HasFlaw TellsSlots flaws.new.items) }
+{
+    if has_slots(script) {
+        return Ok(());
     }
+    let flaw = slots_flaw(alloc, script)?;
+    flaws.push(flaw)?;
+    Ok(())
+}
+
+// Whether a store may have so many.
+fn has_slots(script: &Script) -> bool
+    ensures { IsTrue result ↔ MayHaveSlots script.now.slots }
+{
+    LEAST_SLOTS <= script.slots && script.slots <= MOST_SLOTS
+}
+
+// The flaw of such a number.
+fn slots_flaw(alloc: Global, script: &Script) -> Result<Flaw, AllocError>
+    requires { ¬ MayHaveSlots script.now.slots }
+    ensures told { IfOk result (λ flaw. (d : Data) → IsScript script.now.vars script.now.slots script.now.entries.items d → IsFlawOf d flaw) }
+    ensures number { IfOk result TellsSlots }
+{
+    let flaw = slots_or_memory(alloc, script);
+    match flaw.expected {
+        Expected::Slots => Ok(flaw),
+        _ => Err(AllocError),
+    }
+}
+
+// The same, or that memory did not suffice.
+fn slots_or_memory(alloc: Global, script: &Script) -> Flaw
+    requires { ¬ MayHaveSlots script.now.slots }
+    ensures { (d : Data) → IsScript script.now.vars script.now.slots script.now.entries.items d → IsFlawOf d result }
+{
     let amiss = Amiss::here(alloc, Expected::Slots);
     amiss.behind(PointerStep::Key("slots")).into_flaw()
 }
@@ -89,7 +131,7 @@ fn number_flaw(alloc: Global, script: &Script) -> Flaw
 // Notes each limit that a transaction breaks.
 fn note_plans(alloc: Global, script: &Script, flaws: &mut Vec<Flaw>) -> Result<(), AllocError>
     ensures only { All (IsLimitFlaw script.now.vars script.now.slots script.now.entries.items) flaws.old.items → OnOk result (All (IsLimitFlaw script.now.vars script.now.slots script.now.entries.items) flaws.new.items) }
-    ensures kept { OnOk result (AreAmong flaws.old.items flaws.new.items) }
+    ensures kept { OnOk result (KeepsFlaws flaws.old.items flaws.new.items) }
     ensures each { OnOk result ((i : ℕ) (tx : Tx) (cause : Cause) → begun_at script.now.entries.items i ≡ Some tx → BreaksLimit script.now.vars tx cause → HasFlaw (TellsLimit script.now.vars i tx cause) flaws.new.items) }
 {
     for i in 0..script.entries.len() {
@@ -106,7 +148,7 @@ fn note_entry(
     flaws: &mut Vec<Flaw>,
 ) -> Result<(), AllocError>
     ensures only { All (IsLimitFlaw script.now.vars script.now.slots script.now.entries.items) flaws.old.items → OnOk result (All (IsLimitFlaw script.now.vars script.now.slots script.now.entries.items) flaws.new.items) }
-    ensures kept { OnOk result (AreAmong flaws.old.items flaws.new.items) }
+    ensures kept { OnOk result (KeepsFlaws flaws.old.items flaws.new.items) }
     ensures each { OnOk result ((tx : Tx) (cause : Cause) → begun_at script.now.entries.items index ≡ Some tx → BreaksLimit script.now.vars tx cause → HasFlaw (TellsLimit script.now.vars index tx cause) flaws.new.items) }
 {
     match begun_at(&script.entries, index) {
@@ -125,7 +167,7 @@ fn note_limits(
 ) -> Result<(), AllocError>
     requires { begun_at script.now.entries.items index ≡ Some tx.now }
     ensures only { All (IsLimitFlaw script.now.vars script.now.slots script.now.entries.items) flaws.old.items → OnOk result (All (IsLimitFlaw script.now.vars script.now.slots script.now.entries.items) flaws.new.items) }
-    ensures kept { OnOk result (AreAmong flaws.old.items flaws.new.items) }
+    ensures kept { OnOk result (KeepsFlaws flaws.old.items flaws.new.items) }
     ensures each { OnOk result ((cause : Cause) → BreaksLimit script.now.vars tx.now cause → HasFlaw (TellsLimit script.now.vars index tx.now cause) flaws.new.items) }
 {
     note_limit(alloc, script, index, tx, Cause::TooDeep, flaws)?;
@@ -152,7 +194,7 @@ fn note_limit(
 ) -> Result<(), AllocError>
     requires { begun_at script.now.entries.items index ≡ Some tx.now }
     ensures only { All (IsLimitFlaw script.now.vars script.now.slots script.now.entries.items) flaws.old.items → OnOk result (All (IsLimitFlaw script.now.vars script.now.slots script.now.entries.items) flaws.new.items) }
-    ensures kept { OnOk result (AreAmong flaws.old.items flaws.new.items) }
+    ensures kept { OnOk result (KeepsFlaws flaws.old.items flaws.new.items) }
     ensures told { OnOk result (BreaksLimit script.now.vars tx.now cause → HasFlaw (TellsLimit script.now.vars index tx.now cause) flaws.new.items) }
 {
     if !breaks(tx, cause, script.vars) {

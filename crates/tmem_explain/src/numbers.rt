@@ -28,6 +28,11 @@ pub enum NumbersHelp {
         has: u64,
         wants: u64,
     },
+    /// The same where not all of these bytes are 0.
+    NotBlank {
+        has: u64,
+        wants: u64,
+    },
 }
 
 impl fmt::Display for NumbersHelp {
@@ -63,6 +68,10 @@ impl fmt::Display for NumbersHelp {
             NumbersHelp::NoRoom { has, wants } => write!(
                 f,
                 "it has {has} bytes, and the store takes {wants}; make it at least so long, or name another"
+            ),
+            NumbersHelp::NotBlank { has, wants } => write!(
+                f,
+                "it has {has} bytes, not all of them 0, and the store takes {wants}; name another"
             ),
         }
     }

@@ -1,10 +1,10 @@
 //! How much a transaction has of what a limit counts.
-ghost use Rattle.std.specs.Prelude.{◌≡◌, ◌+◌, ◌<◌, ◌≤◌, ◌↔◌, IfSome, IsNone, IsTrue};
+ghost use Rattle.std.specs.Prelude.{min, ◌≡◌, ◌+◌, ◌<◌, ◌≤◌, ◌↔◌, IfSome, IsNone, IsTrue};
 ghost use Rattle.tmem_builtins.specs.Builtins.{builtin_names};
 ghost use Rattle.tmem_tree.specs.Limits.{count, depth};
 ghost use Rattle.tmem_tree.specs.Plans.{is_counted};
 ghost use Rattle.tmem_explain.specs.Flaws.{step_arities};
-ghost use Rattle.tmem_explain.specs.Limits.{BreaksLimit};
+ghost use Rattle.tmem_explain.specs.Limits.{BreaksLimit, most_told};
 
 use crate::plan::is_counted;
 use tmem_fault::Cause;
@@ -40,8 +40,7 @@ fn has_more(tx: &Tx, cause: Cause, vars: u16, most: u64) -> bool
 
 /// How many nodes a limit counts, and no more than 2^64 - 1.
 pub(crate) fn count_of(tx: &Tx, cause: Cause, vars: u16) -> u64
-    ensures most { result ≤ count (is_counted cause step_arities vars (builtin_names vars)) tx.now }
-    ensures exact { result < 18446744073709551615 → result ≡ count (is_counted cause step_arities vars (builtin_names vars)) tx.now }
+    ensures { result ≡ min (count (is_counted cause step_arities vars (builtin_names vars)) tx.now) most_told }
 {
     match spend(tx, cause, vars, u64::MAX) {
         Some(left) => u64::MAX - left,

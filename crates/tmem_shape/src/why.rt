@@ -72,7 +72,7 @@ impl fmt::Display for ShapeFlaw {
                 f,
                 "the least is more than the most, so no values keep this"
             ),
-            ShapeFlaw::NotTrue => write!(f, "this is not true"),
+            ShapeFlaw::NotTrue => write!(f, "this is not true; write true, or leave the key out"),
             ShapeFlaw::NotName => {
                 write!(
                     f,

@@ -31,5 +31,5 @@ TellsOf c told =
 -- a byte is in this part of a store of so many variables
 abbrev pub IsInPart : ℕ → ℕ → Part → Type 0
 IsInPart vars at part.Block = at < 512
-IsInPart vars at (part.Image copy) = (image_at vars copy ≤ at) × (at < image_at vars (copy + 1))
+IsInPart vars at (part.Image copy) = (copy < 2) × (image_at vars copy ≤ at) × (at < image_at vars (copy + 1))
 IsInPart vars at (part.Slot k) = (slot_at vars k ≤ at) × (at < slot_at vars k + 4096)

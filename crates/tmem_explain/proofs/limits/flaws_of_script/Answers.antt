@@ -1,5 +1,4 @@
-use Rattle.tmem_record.specs.Layout.{IsLayout}
-use Rattle.tmem_explain.specs.Limits.{IsLimitFlaw, TellsNumber}
+use Rattle.tmem_explain.specs.Limits.{IsLimitFlaw, MayHaveSlots, MayHaveVars, TellsSlots, TellsVars}
 use Rattle.tmem_explain.proofs.Limited.{all_told, keeps_all, none_told, none_yet, numbers_kept}
 use Rattle.tmem_explain.proofs.limits.flaws_of_script.Goals as goal
 
@@ -15,7 +14,8 @@ returns-clause-limits c =
     let first = none_yet (IsLimitFlaw script.vars script.slots script.entries.items) c.new-flaws.result.items c.new-flaws.ensures.items in
     record {
       only = c.in_ok-note_plans.ensures.only (c.in_ok-note_layout.ensures.only first);
-      numbers = numbers_kept (IsLayout script.vars script.slots) TellsNumber c.note_layout.new.flaws.items c.note_plans.new.flaws.items c.in_ok-note_plans.ensures.kept c.in_ok-note_layout.ensures.numbers;
+      of_vars = numbers_kept (MayHaveVars script.vars) TellsVars c.note_layout.new.flaws.items c.note_plans.new.flaws.items c.in_ok-note_plans.ensures.kept c.in_ok-note_layout.ensures.of_vars;
+      of_slots = numbers_kept (MayHaveSlots script.slots) TellsSlots c.note_layout.new.flaws.items c.note_plans.new.flaws.items c.in_ok-note_plans.ensures.kept c.in_ok-note_layout.ensures.of_slots;
       each = c.in_ok-note_plans.ensures.each;
     }
 
@@ -31,6 +31,7 @@ returns-clause-fine c =
     let first = none_yet (IsLimitFlaw script.vars script.slots script.entries.items) c.new-flaws.result.items c.new-flaws.ensures.items in
     keeps_all script.vars script.slots script.entries.items c.note_plans.new.flaws.items (record {
       only = c.in_ok-note_plans.ensures.only (c.in_ok-note_layout.ensures.only first);
-      numbers = numbers_kept (IsLayout script.vars script.slots) TellsNumber c.note_layout.new.flaws.items c.note_plans.new.flaws.items c.in_ok-note_plans.ensures.kept c.in_ok-note_layout.ensures.numbers;
+      of_vars = numbers_kept (MayHaveVars script.vars) TellsVars c.note_layout.new.flaws.items c.note_plans.new.flaws.items c.in_ok-note_plans.ensures.kept c.in_ok-note_layout.ensures.of_vars;
+      of_slots = numbers_kept (MayHaveSlots script.slots) TellsSlots c.note_layout.new.flaws.items c.note_plans.new.flaws.items c.in_ok-note_plans.ensures.kept c.in_ok-note_layout.ensures.of_slots;
       each = c.in_ok-note_plans.ensures.each;
     })

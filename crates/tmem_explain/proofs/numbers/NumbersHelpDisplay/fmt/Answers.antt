@@ -18,3 +18,7 @@ returns-in-Short-clause-writes g c = λ plain ok.
 pub returns-in-NoRoom-clause-writes : goal.returns-in-NoRoom-clause-writes
 returns-in-NoRoom-clause-writes g c = λ plain ok.
     subst (λ it. HasWritten g.W.Write.write_str_gives c.args.f.now (numbers_help it) c.write-in-NoRoom.new.self) (sym c.in-NoRoom.is) (c.write-in-NoRoom.ensures.writes plain ok)
+
+pub returns-in-NotBlank-clause-writes : goal.returns-in-NotBlank-clause-writes
+returns-in-NotBlank-clause-writes g c = λ plain ok.
+    subst (λ it. HasWritten g.W.Write.write_str_gives c.args.f.now (numbers_help it) c.write-in-NotBlank.new.self) (sym c.in-NotBlank.is) (c.write-in-NotBlank.ensures.writes plain ok)

@@ -1,0 +1,10 @@
+use Rattle.std.proofs.Common.{◌≡◌, codes, Some, refl, sym, subst}
+use Rattle.serde_json.specs.Find.{get}
+use Rattle.tmem_forms.specs.TxForms.{natural}
+use Rattle.tmem_explain.proofs.limits.vars_or_memory.Goals as goal
+
+pub returns : goal.returns
+returns c = λ d is.
+    let n = c.args.script.now.vars in
+    let there : get (codes "vars") d ≡ Some (natural n) = subst (λ x. get (codes "vars") x ≡ Some (natural n)) (sym is.form) refl in
+    c.into_flaw.ensures.flaw d (c.behind.ensures.amiss d (natural n) there (c.here-amiss.ensures.amiss (natural n) (n, refl, λ some fits. c.requires (some, fits))))
