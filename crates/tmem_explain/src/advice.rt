@@ -10,7 +10,8 @@ pub const CUT_OFF: &str =
     "the text ends before its JSON does: a bracket or a quotation mark is left open";
 
 /// What to do with a store whose file is shorter than its first bytes say.
-pub const TOO_SHORT: &str = "the file was cut off, or is no store; restore a copy, or check the path";
+pub const TOO_SHORT: &str =
+    "the file was cut off, or is no store; restore a copy, or check the path";
 
 /// Whether a text ends before its JSON does. One that is JSON does not, nor is it told where memory does not suffice.
 pub fn is_cut_off(alloc: Global, text: &[u8]) -> bool

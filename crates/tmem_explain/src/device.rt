@@ -136,7 +136,8 @@ impl fmt::Display for DeviceCause {
                 "this user may not make a file in its folder; change the folder's rights, or name a path in another",
             DeviceCause::NoLinks =>
                 "its file system makes no hard links, by which a new file gets its name; name a path on another",
-            DeviceCause::NoBytes => "the device has 0 bytes; look whether anything is attached to it",
+            DeviceCause::NoBytes =>
+                "the device has 0 bytes; look whether anything is attached to it",
             DeviceCause::SecondName =>
                 "it has a second name, as a new file has until its folder is synced, and its folder cannot be synced; let one who may read the folder sync it (sync FOLDER), and then remove PATH.new0",
             DeviceCause::Call(cause) => return write!(f, "{cause}"),
