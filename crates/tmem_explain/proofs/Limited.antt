@@ -12,7 +12,7 @@ use Rattle.tmem_script.specs.Scripts.{IsScript}
 use Rattle.tmem_script.specs.declared.script.ScriptEntry.{ScriptEntry}
 use Rattle.tmem_tree.specs.declared.tx.Tx.{Tx}
 use Rattle.tmem_explain.specs.Flaws.{IsFlawOf}
-use Rattle.tmem_explain.specs.Limits.{AreAmong, HasFlaw, IsLimitFlaw, KeepsLimits, TellsLimits, TellsNumber, TellsSomeLimit, begun_at, begun_by}
+use Rattle.tmem_explain.specs.Limits.{HasFlaw, IsLimitFlaw, KeepsFlaws, KeepsLimits, TellsLimits, TellsNumber, TellsSomeLimit, begun_at, begun_by}
 use Rattle.tmem_explain.specs.declared.flaw.Flaw.{Flaw}
 
 -- a test does not give both answers
@@ -56,10 +56,10 @@ pub same_begun : (o : Option Tx) (a b : Tx) → o ≡ Some a → o ≡ Some b �
 same_begun o a b first second = ap (from_some a) (sym second ∙ first)
 
 -- what is told stays told
-pub still_told : (P : Flaw → Type 0) (some all : List Flaw) → AreAmong some all → HasFlaw P some → HasFlaw P all
+pub still_told : (P : Flaw → Type 0) (some all : List Flaw) → KeepsFlaws some all → HasFlaw P some → HasFlaw P all
 still_told P some all among has = (has.0, among has.0 has.1, has.2)
 
-pub numbers_kept : (A : Type 0) (P : Flaw → Type 0) (some all : List Flaw) → AreAmong some all → A ⊎ HasFlaw P some → A ⊎ HasFlaw P all
+pub numbers_kept : (A : Type 0) (P : Flaw → Type 0) (some all : List Flaw) → KeepsFlaws some all → A ⊎ HasFlaw P some → A ⊎ HasFlaw P all
 numbers_kept A P some all among (inl a) = inl a
 numbers_kept A P some all among (inr has) = inr (still_told P some all among has)
 
@@ -68,7 +68,7 @@ pub none_yet : (P : Flaw → Type 0) (flaws : List Flaw) → flaws ≡ [] → Al
 none_yet P flaws none = subst (λ fs. All P fs) (sym none) (All-nil P)
 
 -- a flaw more
-pub among_more : (old new : List Flaw) (flaw : Flaw) → new ≡ old ++ flaw ∷ [] → AreAmong old new
+pub among_more : (old new : List Flaw) (flaw : Flaw) → new ≡ old ++ flaw ∷ [] → KeepsFlaws old new
 among_more old new flaw is = λ other there. subst (λ fs. Contains fs other) (sym is) (Contains-append_left old (flaw ∷ []) other there)
 
 pub told_last : (P : Flaw → Type 0) (old new : List Flaw) (flaw : Flaw) → new ≡ old ++ flaw ∷ [] → P flaw → HasFlaw P new

@@ -102,9 +102,9 @@ pub record IsLimitFlaw (vars slots : ℕ) (entries : List ScriptEntry) (flaw : F
 abbrev pub HasFlaw : (Flaw → Type 0) → List Flaw → Type 0
 HasFlaw IsSo flaws = (flaw : Flaw) × Contains flaws flaw × IsSo flaw
 
--- all of these are among those
-abbrev pub AreAmong : List Flaw → List Flaw → Type 0
-AreAmong some all = (flaw : Flaw) → Contains some flaw → Contains all flaw
+-- of these flaws none is lost: each is among those
+abbrev pub KeepsFlaws : List Flaw → List Flaw → Type 0
+KeepsFlaws some all = (flaw : Flaw) → Contains some flaw → Contains all flaw
 
 -- Of a script each flaw is a limit that is broken, and each limit that is broken is told: numbers that no store has, and of each
 -- transaction each limit.

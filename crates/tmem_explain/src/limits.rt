@@ -6,7 +6,7 @@ ghost use Rattle.tmem_record.specs.Layout.{IsLayout};
 ghost use Rattle.tmem_script.specs.Scripts.{IsScript};
 ghost use Rattle.tmem_tree.specs.declared.tx.Tx.{Tx};
 ghost use Rattle.tmem_explain.specs.Flaws.{IsFlawOf};
-ghost use Rattle.tmem_explain.specs.Limits.{AreAmong, BreaksLimit, HasFlaw, IsLimitFlaw, KeepsLimits, TellsLimit, TellsLimits, TellsNumber, begun_at};
+ghost use Rattle.tmem_explain.specs.Limits.{BreaksLimit, HasFlaw, IsLimitFlaw, KeepsFlaws, KeepsLimits, TellsLimit, TellsLimits, TellsNumber, begun_at};
 
 use crate::amiss::Amiss;
 use crate::expected::Expected;
@@ -89,7 +89,7 @@ fn number_flaw(alloc: Global, script: &Script) -> Flaw
 // Notes each limit that a transaction breaks.
 fn note_plans(alloc: Global, script: &Script, flaws: &mut Vec<Flaw>) -> Result<(), AllocError>
     ensures only { All (IsLimitFlaw script.now.vars script.now.slots script.now.entries.items) flaws.old.items → OnOk result (All (IsLimitFlaw script.now.vars script.now.slots script.now.entries.items) flaws.new.items) }
-    ensures kept { OnOk result (AreAmong flaws.old.items flaws.new.items) }
+    ensures kept { OnOk result (KeepsFlaws flaws.old.items flaws.new.items) }
     ensures each { OnOk result ((i : ℕ) (tx : Tx) (cause : Cause) → begun_at script.now.entries.items i ≡ Some tx → BreaksLimit script.now.vars tx cause → HasFlaw (TellsLimit script.now.vars i tx cause) flaws.new.items) }
 {
     for i in 0..script.entries.len() {
@@ -106,7 +106,7 @@ fn note_entry(
     flaws: &mut Vec<Flaw>,
 ) -> Result<(), AllocError>
     ensures only { All (IsLimitFlaw script.now.vars script.now.slots script.now.entries.items) flaws.old.items → OnOk result (All (IsLimitFlaw script.now.vars script.now.slots script.now.entries.items) flaws.new.items) }
-    ensures kept { OnOk result (AreAmong flaws.old.items flaws.new.items) }
+    ensures kept { OnOk result (KeepsFlaws flaws.old.items flaws.new.items) }
     ensures each { OnOk result ((tx : Tx) (cause : Cause) → begun_at script.now.entries.items index ≡ Some tx → BreaksLimit script.now.vars tx cause → HasFlaw (TellsLimit script.now.vars index tx cause) flaws.new.items) }
 {
     match begun_at(&script.entries, index) {
@@ -125,7 +125,7 @@ fn note_limits(
 ) -> Result<(), AllocError>
     requires { begun_at script.now.entries.items index ≡ Some tx.now }
     ensures only { All (IsLimitFlaw script.now.vars script.now.slots script.now.entries.items) flaws.old.items → OnOk result (All (IsLimitFlaw script.now.vars script.now.slots script.now.entries.items) flaws.new.items) }
-    ensures kept { OnOk result (AreAmong flaws.old.items flaws.new.items) }
+    ensures kept { OnOk result (KeepsFlaws flaws.old.items flaws.new.items) }
     ensures each { OnOk result ((cause : Cause) → BreaksLimit script.now.vars tx.now cause → HasFlaw (TellsLimit script.now.vars index tx.now cause) flaws.new.items) }
 {
     note_limit(alloc, script, index, tx, Cause::TooDeep, flaws)?;
@@ -152,7 +152,7 @@ fn note_limit(
 ) -> Result<(), AllocError>
     requires { begun_at script.now.entries.items index ≡ Some tx.now }
     ensures only { All (IsLimitFlaw script.now.vars script.now.slots script.now.entries.items) flaws.old.items → OnOk result (All (IsLimitFlaw script.now.vars script.now.slots script.now.entries.items) flaws.new.items) }
-    ensures kept { OnOk result (AreAmong flaws.old.items flaws.new.items) }
+    ensures kept { OnOk result (KeepsFlaws flaws.old.items flaws.new.items) }
     ensures told { OnOk result (BreaksLimit script.now.vars tx.now cause → HasFlaw (TellsLimit script.now.vars index tx.now cause) flaws.new.items) }
 {
     if !breaks(tx, cause, script.vars) {

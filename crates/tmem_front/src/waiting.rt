@@ -156,7 +156,7 @@ impl<D: Disk + Drop, N: StoreNaming, T: Invariants + Drop, S: StoredSteps + Drop
 
     // Settles an attempt under the core's lock, and lets that go. What retries waits under the same lock until another transaction has
     // written what it read, and what finds no room until a flush made some, if it is to wait for that; or until the front is shut.
-    // Values that are present give no conflict. (As a part of its callers: an answer that came by way of memory would be waited for.)
+    // Values that are present give no conflict. (Inlined: returning the answer through memory stalls the caller.)
     #[inline(always)]
     fn settle_or_wait<R: Wait, P: Patience>(
         &self,

@@ -1,4 +1,4 @@
-use Rattle.tmem_explain.specs.Limits.{AreAmong, BreaksLimit, HasFlaw, TellsLimit}
+use Rattle.tmem_explain.specs.Limits.{BreaksLimit, HasFlaw, KeepsFlaws, TellsLimit}
 use Rattle.tmem_explain.proofs.Limited.{each_cause, still_told}
 use Rattle.tmem_explain.proofs.limits.note_limits.Goals as goal
 
@@ -10,15 +10,15 @@ returns-clause-kept c = λ flaw there. c.in_ok-note_limit-10.ensures.kept flaw (
 
 pub returns-clause-each : goal.returns-clause-each
 returns-clause-each c =
-    let k9 : AreAmong c.note_limit-9.new.flaws.items c.note_limit-10.new.flaws.items = c.in_ok-note_limit-10.ensures.kept in
-    let k8 : AreAmong c.note_limit-8.new.flaws.items c.note_limit-10.new.flaws.items = λ flaw there. k9 flaw (c.in_ok-note_limit-9.ensures.kept flaw there) in
-    let k7 : AreAmong c.note_limit-7.new.flaws.items c.note_limit-10.new.flaws.items = λ flaw there. k8 flaw (c.in_ok-note_limit-8.ensures.kept flaw there) in
-    let k6 : AreAmong c.note_limit-6.new.flaws.items c.note_limit-10.new.flaws.items = λ flaw there. k7 flaw (c.in_ok-note_limit-7.ensures.kept flaw there) in
-    let k5 : AreAmong c.note_limit-5.new.flaws.items c.note_limit-10.new.flaws.items = λ flaw there. k6 flaw (c.in_ok-note_limit-6.ensures.kept flaw there) in
-    let k4 : AreAmong c.note_limit-4.new.flaws.items c.note_limit-10.new.flaws.items = λ flaw there. k5 flaw (c.in_ok-note_limit-5.ensures.kept flaw there) in
-    let k3 : AreAmong c.note_limit-3.new.flaws.items c.note_limit-10.new.flaws.items = λ flaw there. k4 flaw (c.in_ok-note_limit-4.ensures.kept flaw there) in
-    let k2 : AreAmong c.note_limit-2.new.flaws.items c.note_limit-10.new.flaws.items = λ flaw there. k3 flaw (c.in_ok-note_limit-3.ensures.kept flaw there) in
-    let k1 : AreAmong c.note_limit.new.flaws.items c.note_limit-10.new.flaws.items = λ flaw there. k2 flaw (c.in_ok-note_limit-2.ensures.kept flaw there) in
+    let k9 : KeepsFlaws c.note_limit-9.new.flaws.items c.note_limit-10.new.flaws.items = c.in_ok-note_limit-10.ensures.kept in
+    let k8 : KeepsFlaws c.note_limit-8.new.flaws.items c.note_limit-10.new.flaws.items = λ flaw there. k9 flaw (c.in_ok-note_limit-9.ensures.kept flaw there) in
+    let k7 : KeepsFlaws c.note_limit-7.new.flaws.items c.note_limit-10.new.flaws.items = λ flaw there. k8 flaw (c.in_ok-note_limit-8.ensures.kept flaw there) in
+    let k6 : KeepsFlaws c.note_limit-6.new.flaws.items c.note_limit-10.new.flaws.items = λ flaw there. k7 flaw (c.in_ok-note_limit-7.ensures.kept flaw there) in
+    let k5 : KeepsFlaws c.note_limit-5.new.flaws.items c.note_limit-10.new.flaws.items = λ flaw there. k6 flaw (c.in_ok-note_limit-6.ensures.kept flaw there) in
+    let k4 : KeepsFlaws c.note_limit-4.new.flaws.items c.note_limit-10.new.flaws.items = λ flaw there. k5 flaw (c.in_ok-note_limit-5.ensures.kept flaw there) in
+    let k3 : KeepsFlaws c.note_limit-3.new.flaws.items c.note_limit-10.new.flaws.items = λ flaw there. k4 flaw (c.in_ok-note_limit-4.ensures.kept flaw there) in
+    let k2 : KeepsFlaws c.note_limit-2.new.flaws.items c.note_limit-10.new.flaws.items = λ flaw there. k3 flaw (c.in_ok-note_limit-3.ensures.kept flaw there) in
+    let k1 : KeepsFlaws c.note_limit.new.flaws.items c.note_limit-10.new.flaws.items = λ flaw there. k2 flaw (c.in_ok-note_limit-2.ensures.kept flaw there) in
     each_cause (λ cause. BreaksLimit c.args.script.now.vars c.args.tx.now cause → HasFlaw (TellsLimit c.args.script.now.vars c.args.index c.args.tx.now cause) c.note_limit-10.new.flaws.items)
     (λ breaks. still_told _ _ _ k1 (c.in_ok-note_limit.ensures.told breaks))
     (λ breaks. still_told _ _ _ k2 (c.in_ok-note_limit-2.ensures.told breaks))
