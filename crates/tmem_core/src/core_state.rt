@@ -228,8 +228,7 @@ impl<T: Invariants + Drop> Core<T> {
     }
 
     /// Settles an attempt as `settle` does, and is refused as it is. The answer leaves out the registers: they are those of the
-    /// attempt, and are not copied. (Inlined: returning the answer through memory stalls the caller.)
-    #[inline(always)]
+    /// attempt, and are not copied.
     pub fn decide(&mut self, attempt: &Attempt) -> Result<Decision, Fault>
         requires variables { IsForVariables (length (core_state self.old).values) attempt.now }
         requires names { IsForNames (T.names (core_table self.old)) attempt.now }
