@@ -67,7 +67,7 @@ gone_text lost =
 
 abbrev pub doubt_text : Lost → List ℕ
 doubt_text lost =
-    codes "not known durable: " ++ (decimal lost.count ++ (codes " of the committed transactions, from number " ++ (decimal lost.first ++ codes " on; those of the flush that met fault 4 are all there or none, and the others are gone; open the store again, and it says how many there are")))
+    codes "not known durable: " ++ (decimal lost.count ++ (codes " of the committed transactions, from number " ++ (decimal lost.first ++ codes " on; those of the flush that met fault 4 are all there or none, and the others are gone; open the store again, after an error of the disk once the machine was started anew, and it says how many there are")))
 
 abbrev pub lost_text : Lost → List ℕ
 lost_text lost = if lost.in_doubt then doubt_text lost else gone_text lost

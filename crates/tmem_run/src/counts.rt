@@ -156,7 +156,7 @@ impl fmt::Display for Lost {
         if in_doubt {
             write!(
                 f,
-                "not known durable: {count} of the committed transactions, from number {first} on; those of the flush that met fault 4 are all there or none, and the others are gone; open the store again, and it says how many there are"
+                "not known durable: {count} of the committed transactions, from number {first} on; those of the flush that met fault 4 are all there or none, and the others are gone; open the store again, after an error of the disk once the machine was started anew, and it says how many there are"
             )
         } else {
             write!(
