@@ -20,7 +20,8 @@ use Rattle.tmem_script.specs.declared.script.ScriptError.{ScriptError}
 use Rattle.tmem_script.specs.declared.script.ScriptError.TheVariants.{Memory, Unreadable, NoScript}
 use Rattle.tmem_run.specs.declared.playing.Played.{Played}
 use Rattle.tmem_args.specs.CommandLine.{IsHelpOrVersion, HasRequest}
-use Rattle.tmem_cli.specs.Outcomes.{MayBeRead, IsNoScript, IsWhyNotRead, FailsWith}
+use Rattle.tmem_cli.specs.Outcomes.{MayBeRead, IsWhyNotRead, FailsWith}
+use Rattle.tmem_explain.specs.Limits.{IsNoScript}
 use Rattle.tmem_run.specs.Printed.{PlaysFrom}
 use Rattle.tmem_run.specs.Stored.{PlaysWhere, StopsWhere}
 use Rattle.tmem_run.proofs.Laws.{Appends-keeps}

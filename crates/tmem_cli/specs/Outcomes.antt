@@ -5,6 +5,7 @@ use Rattle.clap.specs.Walk.{Text}
 use Rattle.std.specs.Io.KnownBytes.{Appends}
 use Rattle.tmem_fault.specs.declared.fault.Fault.{Fault}
 use Rattle.tmem_record.specs.Layout.{IsLayout}
+use Rattle.tmem_explain.specs.Limits.{IsNoScript}
 use Rattle.tmem_effect.specs.State.{State}
 use Rattle.tmem_script.specs.Scripts.{IsScriptText}
 use Rattle.tmem_script.specs.Statuses.{status_of}
@@ -47,10 +48,6 @@ pub record PlaysText (disk : Option Text) (device : Option Played) (text : List 
 -- a text that may have been read was played
 abbrev pub PlaysRead : (List ℕ → Type 0) → Option Text → Option Played → Option (List ℕ) → Option (List ℕ) → Type 0
 PlaysRead IsRead disk device before after = (text : List ℕ) × IsRead text × PlaysText disk device text before after
-
--- the text is that of no script
-abbrev pub IsNoScript : List ℕ → Type 0
-IsNoScript text = (vars slots : ℕ) (entries : List ScriptEntry) → ¬ IsScriptText vars slots entries text
 
 -- the text is that of a script, which was not played to its end for this reason
 abbrev pub StopsText : Option Text → Option Played → List ℕ → ProgramFailure → Type 0

@@ -33,8 +33,8 @@ meanings_of (linear ∷ others) = meaning_also linear.name linear.footprint.item
 abbrev pub program_of : List Linear → Program
 program_of all = record { steps = builtin_steps; names = names_in all; tests = meanings_of all }
 
--- The text is that of a shape, each of whose invariants some sum keeps, and a store of it is on this device: an opening finds that every variable is 0, and that the invariants
--- are registered that always hold, and no others.
+-- The text is that of a shape, each of whose invariants some sum keeps, and a store of it is on this device: an opening finds that every
+-- variable is 0, and that the invariants are registered that always hold, and no others.
 pub record IsStoreOf (text : List ℕ) (d : DeviceView) : Type 0 where
   pub shape : StoreShape
   pub is : IsShapeText shape text

@@ -31,9 +31,10 @@ use tmem_threads::Work;
 
 /// Does what the words of a command line say, the program's name first, and answers the status: 0 where help or the
 /// version was printed, a script was played to its end, threads counted up, jobs were timed, or a store was shown, made, or served to the
-/// end of the input, or a script was checked, and a run refuses none of its numbers and transactions; 1 where that failed on the way; 2 where the words were refused, or memory did not
-/// suffice to read them; 3 where there was no script to play, or to check. Beside it stands the device of the file that a script was
-/// played on, and how it was found. Behind `--explain` more is told on the error stream of what failed.
+/// end of the input, or a script was checked, and a run refuses none of its numbers and transactions; 1 where that failed on the way; 2
+/// where the words were refused, or memory did not suffice to read them; 3 where there was no script to play, or to check. Beside it
+/// stands the device of the file that a script was played on, and how it was found. Behind `--explain` more is told on the error stream of
+/// what failed.
 pub fn run_words<R: Read, W: Write, E: Write>(
     rt: &(impl Files<File = File> + AllocGlobal + Threads + Wait + Clock + Sync),
     words: Vec<String>,

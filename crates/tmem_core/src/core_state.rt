@@ -228,8 +228,7 @@ impl<T: Invariants + Drop> Core<T> {
     }
 
     /// Settles an attempt as `settle` does, and is refused as it is. The answer leaves out the registers: they are those of the
-    /// attempt, and are not copied. (As a part of its callers: an answer that came by way of memory would be waited for.)
-    #[inline(always)]
+    /// attempt, and are not copied.
     pub fn decide(&mut self, attempt: &Attempt) -> Result<Decision, Fault>
         requires variables { IsForVariables (length (core_state self.old).values) attempt.now }
         requires names { IsForNames (T.names (core_table self.old)) attempt.now }

@@ -42,7 +42,7 @@ PrintsBeginning prints text = (part : List ℕ) × (rest : List ℕ) × (text �
 abbrev pub PrintsPart : (List ℕ → Type 0) → List Told → Type 0
 PrintsPart prints all = PrintsBeginning prints (told_lines all)
 
--- so much of a want of memory, and of nothing else
+-- so much of a want of memory, and of nothing else: who is told of it, and whether anybody is, stays open
 abbrev pub PrintsWant : (List ℕ → Type 0) → Type 0
 PrintsWant prints = (all : List Told) × All (TellsOnly Memory) all × PrintsPart prints all
 
@@ -53,8 +53,8 @@ pub record PrintsWhy (s : Store) (AreLines : List (List ℕ) → Type 0) (v : De
   pub lines : AreLines texts
   pub tells : TellsEach s texts v fault (PrintsBeginning prints)
 
--- The output failed. No more than the beginning was printed: of what is told once all ran and is durable; or of why the store cannot go
--- on, told to each; or of a want of memory.
+-- The output failed. No more than the beginning was printed, and maybe nothing: of what is told once all ran and is durable; or of why the
+-- store cannot go on, told to each; or of a want of memory, where who is told stays open.
 abbrev pub OutputFailed : Store → (List (List ℕ) → Type 0) → (DeskView → Type 0) → DeskView → (List ℕ → Type 0) → Type 0
 OutputFailed s AreLines Ran v prints = ((ran : DeskView) × Ran ran × PrintsPart prints ran.told) ⊎ (PrintsWhy s AreLines v prints ⊎ PrintsWant prints)
 

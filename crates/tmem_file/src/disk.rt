@@ -40,10 +40,14 @@ impl FileDisk {
 
     /// Opens a file or a block device that is there, and locks it for as long as the device lives. Its first bytes are the device,
     /// as many as there are, but no more than `most`: those are read once, and then synced, and nothing behind them is read or
-    /// written. Where it has a second name, as a new file has whose folder is not known to be synced, the folder of the path is synced
-    /// first (of a link the link's; none that this user may not read, or whose file system refuses). Refused by `Device` where the file is
-    /// missing, is no regular file and no block device, may not be read and written, or is open as a device already, and where a call fails.
-    pub fn open<R: Files<File = File>>(rt: &R, path: &str, most: u64) -> Result<FileDisk, Fault>
+    /// written. Where it has a second name, as a new file has whose folder is not known to be synced, the folder in which it stands is
+    /// synced first. Refused by `Device` where the file is missing, is no regular file and no block device, may not be read and written, or
+    /// is open as a device already, and where a call fails, also one by which that folder is found, opened and synced.
+    pub fn open<R: Files<File = File> + AllocGlobal>(
+        rt: &R,
+        path: &str,
+        most: u64,
+    ) -> Result<FileDisk, Fault>
         ensures opened { IfOk result (λ disk. IsFreshlyOpened (file_view disk)) }
         ensures most { IfOk result (λ disk. (file_view disk).capacity ≤ most) }
         ensures refused { IsOkUnless result Fault.Device }

@@ -61,35 +61,30 @@ pub(crate) fn open_folder<R: Files<File = File>>(rt: &R, path: &str) -> io::Resu
     }
 }
 
-/// Has the system put on the disk that an open file stands in the folder of its path, where that is in doubt: a new file has a second
-/// name until its folder is synced.
-pub(crate) fn keep_name<R: Files<File = File>>(rt: &R, path: &str, file: &File) -> io::Result<()> {
-    if !is_in_doubt(file.metadata()?.nlink()) {
-        return Ok(());
+/// Has the system put on the disk that an open file stands in its folder, where that is in doubt: a new file has a second name until its
+/// folder is synced.
+pub(crate) fn keep_name<R: Files<File = File> + AllocGlobal>(
+    rt: &R,
+    path: &str,
+    file: &File,
+) -> io::Result<()> {
+    if is_in_doubt(file.metadata()?.nlink()) {
+        sync_folder(rt, path)?;
     }
-    match sync_folder(rt, path) {
-        Err(error) if may_stay_unsynced(error.kind()) => Ok(()),
-        outcome => outcome,
-    }
+    Ok(())
 }
 
-// Whether a file of so many names may not have its own for good.
+// Whether a crash may take the name of a file that has so many.
 fn is_in_doubt(names: u64) -> bool
     ensures { IsTrue result ↔ 1 < names }
 {
     names > 1
 }
 
-fn sync_folder<R: Files<File = File>>(rt: &R, path: &str) -> io::Result<()> {
-    open_folder(rt, path)?.sync_all()
-}
-
-// Whether a folder is left unsynced that fails so: this user may not read it (EACCES), or its file system syncs none (EINVAL). What
-// stands there is opened all the same. (Nothing is made there: that needs the sync.)
-fn may_stay_unsynced(kind: ErrorKind) -> bool
-    ensures { IsTrue result ↔ (kind ≡ ErrorKind.PermissionDenied) ⊎ (kind ≡ ErrorKind.InvalidInput) }
-{
-    matches!(kind, ErrorKind::PermissionDenied | ErrorKind::InvalidInput)
+// Syncs the folder in which a file stands. Where a link leads to the file, that is not the link's.
+fn sync_folder<R: Files<File = File> + AllocGlobal>(rt: &R, path: &str) -> io::Result<()> {
+    let own_path = rt.canonicalize(rt.alloc(), path)?;
+    open_folder(rt, own_path.as_str())?.sync_all()
 }
 
 /// Locks an open file or block device, under a number that is none of the standard streams'. The lock lasts until the file is closed.

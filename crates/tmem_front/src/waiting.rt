@@ -27,7 +27,7 @@ use tmem_invariants::Invariants;
 use tmem_seats::{CoreSeat, StoreNaming};
 use tmem_spine::PassSide;
 use tmem_tentative::{Attempt, Cursor};
-use tmem_tree::{Plan, REGISTERS, StoredSteps};
+use tmem_tree::{Plan, StoredSteps};
 
 // After so many conflicts a plan is evaluated under the core's lock.
 const MOST_CONFLICTS: u32 = 2;
@@ -120,7 +120,7 @@ impl<D: Disk + Drop, N: StoreNaming, T: Invariants + Drop, S: StoredSteps + Drop
             };
             let answer = self.take_turn(rt, patience, &mut pass.seat, &mut pass.cursor, plan, how);
             if is_last(&answer, waits_for_room) || is_waited_for(&answer) && is_late {
-                return whole(&answer, &pass.cursor);
+                return whole(answer, &pass.cursor);
             }
             left = conflicts_left(left, &answer);
         }
@@ -156,8 +156,7 @@ impl<D: Disk + Drop, N: StoreNaming, T: Invariants + Drop, S: StoredSteps + Drop
 
     // Settles an attempt under the core's lock, and lets that go. What retries waits under the same lock until another transaction has
     // written what it read, and what finds no room until a flush made some, if it is to wait for that; or until the front is shut.
-    // Values that are present give no conflict. (As a part of its callers: an answer that came by way of memory would be waited for.)
-    #[inline(always)]
+    // Values that are present give no conflict.
     fn settle_or_wait<R: Wait, P: Patience>(
         &self,
         rt: &R,
@@ -369,41 +368,13 @@ fn is_to_flush<N: StoreNaming, T: Invariants + Drop>(core: MutexGuard<CoreSeat<N
     core.has_waiting()
 }
 
-// The whole answer to the attempt that a cursor has ended with. Only here the registers are copied, and only once. (This and the next two
-// have frames of their own, so that they are copied to their place at once.)
-#[inline(never)]
-fn whole(decision: &Result<Decision, Fault>, cursor: &Cursor) -> Result<Settled, Fault>
-    requires { IfOk decision.now (λ _. HasEnded cursor.now) }
-    ensures { result ≡ answer_of decision.now (attempt_of cursor.now).registers }
+// The whole answer to the attempt that a cursor has ended with. Only here the registers are copied.
+fn whole(decision: Result<Decision, Fault>, cursor: &Cursor) -> Result<Settled, Fault>
+    requires { IfOk decision (λ _. HasEnded cursor.now) }
+    ensures { result ≡ answer_of decision (attempt_of cursor.now).registers }
 {
-    match decision {
-        Ok(Decision::Committed(number)) => committed(*number, &cursor.attempt().registers),
-        Ok(Decision::Seen(at)) => seen(*at, &cursor.attempt().registers),
-        Ok(decision) => Ok(decision.settled(&cursor.attempt().registers)),
-        Err(fault) => Err(*fault),
-    }
-}
-
-// What was committed as the one of this number, and ended with these registers.
-#[inline(never)]
-fn committed(number: u64, registers: &[i64; REGISTERS]) -> Result<Settled, Fault>
-    ensures { result ≡ Ok (Settled.Committed number registers.now) }
-{
-    Ok(Settled::Committed {
-        number,
-        registers: *registers,
-    })
-}
-
-// What changes nothing, after so many committed ones, and ended with these registers.
-#[inline(never)]
-fn seen(at: u64, registers: &[i64; REGISTERS]) -> Result<Settled, Fault>
-    ensures { result ≡ Ok (Settled.Seen at registers.now) }
-{
-    Ok(Settled::Seen {
-        at,
-        registers: *registers,
-    })
+    let decision = decision?;
+    Ok(decision.settled(&cursor.attempt().registers))
 }
 
 // How many conflicts are left to meet after this answer. After a wait they are counted anew.

@@ -1,84 +1,143 @@
 //! What a run leaves that is not durable.
 ghost use Rattle.std.specs.Prelude.{◌≡◌};
-ghost use Rattle.tmem_run.specs.Counted.{counts_after, found_counts, lost_of};
+ghost use Rattle.tmem_run.specs.Counted.{commit_counts_after, first_lost_of, found_counts, is_flush_event, lost_of, reopened_counts};
 
 use std::fmt;
 use tmem_fault::Fault;
-use tmem_world::{Reply, Settled};
+use tmem_world::{Event, Reply, Settled};
 
-/// How many transactions are committed, and how many of them are known durable.
+/// How many transactions are committed, how many of them are known durable, and how many are gone.
 #[derive(Clone, Copy)]
-pub(crate) struct Counts {
+pub(crate) struct CommitCounts {
     pub(crate) committed: u64,
     pub(crate) durable: u64,
-    /// A sync failed, so that one more batch may be durable.
+    /// A sync of a flush failed, so that one more batch may be durable.
     pub(crate) in_doubt: bool,
+    /// So many were committed, and an opening in the run did not find them.
+    pub(crate) gone: u64,
+    /// The number of the first of these.
+    pub(crate) first_gone: u64,
 }
 
-impl Counts {
-    /// Those of a store in which an opening found so many.
-    pub(crate) fn found(count: u64) -> Counts
+impl CommitCounts {
+    /// Those of a store in which the first opening found so many.
+    pub(crate) fn found(count: u64) -> CommitCounts
         ensures { result ≡ found_counts count }
     {
-        Counts {
+        CommitCounts {
             committed: count,
             durable: count,
             in_doubt: false,
+            gone: 0,
+            first_gone: 0,
         }
     }
 
-    /// Those behind an event that was answered so.
-    pub(crate) fn after(self, reply: &Reply) -> Counts
-        ensures { result ≡ counts_after self reply.now }
+    /// Those behind an event, which was a flush or not, that was answered so.
+    pub(crate) fn after(self, is_flush: bool, reply: &Reply) -> CommitCounts
+        ensures { result ≡ commit_counts_after self is_flush reply.now }
     {
-        let Counts {
+        let CommitCounts {
             committed,
             durable,
             in_doubt,
+            gone,
+            first_gone,
         } = self;
         match reply {
-            Reply::Opened(found) => Counts::found(*found),
-            Reply::Durable(durable) | Reply::Looked(durable) => Counts {
+            Reply::Opened(found) => self.reopened(*found),
+            Reply::Durable(durable) | Reply::Looked(durable) => CommitCounts {
                 committed,
                 durable: *durable,
                 in_doubt,
+                gone,
+                first_gone,
             },
-            Reply::Settled(Settled::Committed { number, .. }) => Counts {
+            Reply::Settled(Settled::Committed { number, .. }) => CommitCounts {
                 committed: number.saturating_add(1),
                 durable,
                 in_doubt,
+                gone,
+                first_gone,
             },
-            Reply::Fault(Fault::Unknown) => Counts {
+            Reply::Fault(Fault::Unknown) => CommitCounts {
                 committed,
                 durable,
-                in_doubt: true,
+                in_doubt: in_doubt || is_flush,
+                gone,
+                first_gone,
             },
             _ => self,
         }
+    }
+
+    // Those behind a further opening, which found so many.
+    fn reopened(self, found: u64) -> CommitCounts
+        ensures { result ≡ reopened_counts self found }
+    {
+        let first_gone = if self.gone == 0 { found } else { self.first_gone };
+        if found < self.committed {
+            CommitCounts {
+                committed: found,
+                durable: found,
+                in_doubt: false,
+                gone: self.gone.saturating_add(self.committed - found),
+                first_gone,
+            }
+        } else {
+            CommitCounts {
+                committed: found,
+                durable: found,
+                in_doubt: false,
+                gone: self.gone,
+                first_gone: self.first_gone,
+            }
+        }
+    }
+
+    // The number of the first one that is lost, where one is. (Each opening finds at least those that were durable.)
+    fn first_lost(self) -> u64
+        ensures { result ≡ first_lost_of self }
+    {
+        if self.gone == 0 { self.durable } else { self.first_gone }
     }
 
     /// What is lost where the run ends so.
     pub(crate) fn lost(self) -> Option<Lost>
         ensures { result ≡ lost_of self }
     {
+        let first = self.first_lost();
         if self.durable < self.committed {
             Some(Lost {
-                first: self.durable,
-                count: self.committed - self.durable,
+                first,
+                count: self.gone.saturating_add(self.committed - self.durable),
                 in_doubt: self.in_doubt,
             })
-        } else {
+        } else if self.gone == 0 {
             None
+        } else {
+            Some(Lost {
+                first,
+                count: self.gone,
+                in_doubt: false,
+            })
         }
     }
 }
 
-/// So many transactions, from this number on, that a run committed and that are not known durable at its end.
+/// Whether a failed sync of this event leaves a batch in doubt.
+pub(crate) fn is_flush(event: &Event) -> bool
+    ensures { result ≡ is_flush_event event.now }
+{
+    matches!(event, Event::Flush)
+}
+
+/// So many transactions, from this number on, that a run committed, and that are not known durable at its end or were gone at an opening.
 #[derive(Clone, Copy, Debug, PartialEq, Eq)]
 pub struct Lost {
     pub first: u64,
     pub count: u64,
-    /// A sync failed, so that the first of them may be durable: those of one batch.
+    /// A sync of a flush failed, so that those of one batch may be durable.
     pub in_doubt: bool,
 }
 
@@ -97,12 +156,12 @@ impl fmt::Display for Lost {
         if in_doubt {
             write!(
                 f,
-                "not known durable: {count} of the committed transactions, from number {first} on; those of the flush that met fault 4 are all there or none, and the others are gone; open the store again, and it says how many there are"
+                "not known durable: {count} of the committed transactions, from number {first} on; those of the flush that met fault 4 are all there or none, and the others are gone; open the store again, after an error of the disk once the machine was started anew, and it says how many there are"
             )
         } else {
             write!(
                 f,
-                "not durable, and so gone: {count} of the committed transactions, from number {first} on; what a flush answers by durable stays"
+                "not durable, and so gone: {count} of the committed transactions, from number {first} on; `durable N` keeps the first N"
             )
         }
     }

@@ -1,9 +1,9 @@
 //! What is kept of a run, so that more can be told of what fails.
 ghost use Rattle.std.specs.Prelude.{◌≡◌, ◌+◌, ◌<◌, ◌^◌, [], true, false, if◌then◌else◌};
-ghost use Rattle.tmem_run.specs.Counted.{counts_after, found_counts, lost_of};
+ghost use Rattle.tmem_run.specs.Counted.{commit_counts_after, found_counts, lost_of};
 ghost use Rattle.tmem_run.specs.Noted.{IsNotedOf, KeepsEntries, KeepsOthers};
 
-use crate::counts::{Counts, Lost};
+use crate::counts::{CommitCounts, Lost};
 use std::alloc::Global;
 use tmem_fault::Fault;
 use tmem_world::Reply;
@@ -19,8 +19,8 @@ pub struct Notes {
     // how many entries were played
     played: usize,
     refused: Vec<Refused>,
-    // what is committed and what is durable
-    counts: Counts,
+    // what is committed, durable and gone
+    counts: CommitCounts,
 }
 
 /// An entry that was refused.
@@ -46,7 +46,7 @@ impl Notes {
             is_held: false,
             played: 0,
             refused: Vec::new(alloc),
-            counts: Counts::found(0),
+            counts: CommitCounts::found(0),
         }
     }
 
@@ -68,20 +68,20 @@ impl Notes {
         ensures refused { self.new.refused ≡ self.old.refused }
         ensures others { KeepsOthers self.old self.new }
     {
-        self.counts = Counts::found(count);
+        self.counts = CommitCounts::found(count);
     }
 
-    /// Takes what the next entry is answered.
-    pub(crate) fn note(&mut self, reply: &Reply)
+    /// Takes what the next entry, which is a flush or not, is answered.
+    pub(crate) fn note(&mut self, is_flush: bool, reply: &Reply)
         ensures refused { IsNotedOf self.old.explains self.old.played reply.now self.old.refused.items self.new.refused.items }
         ensures played { self.old.played + 1 < 2 ^ 64 → self.new.played ≡ self.old.played + 1 }
-        ensures counts { self.new.counts ≡ counts_after self.old.counts reply.now }
+        ensures counts { self.new.counts ≡ commit_counts_after self.old.counts is_flush reply.now }
         ensures others { KeepsOthers self.old self.new }
     {
         if let Reply::Fault(fault) = reply {
             self.note_fault(*fault);
         }
-        self.counts = self.counts.after(reply);
+        self.counts = self.counts.after(is_flush, reply);
         self.played = self.played.saturating_add(1);
     }
 
@@ -96,7 +96,7 @@ impl Notes {
         if is_open {
             self.played = self.played.saturating_add(1);
         } else {
-            self.note(&Reply::Fault(Fault::Closed));
+            self.note(false, &Reply::Fault(Fault::Closed));
         }
     }
 
@@ -137,7 +137,7 @@ impl Notes {
         self.refused.as_slice()
     }
 
-    /// What was committed and is not known durable as the run ends.
+    /// What was committed, and is not known durable as the run ends or was gone at an opening.
     pub fn lost(&self) -> Option<Lost>
         ensures { result ≡ lost_of self.now.counts }
     {

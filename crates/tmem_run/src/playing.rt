@@ -10,6 +10,7 @@ ghost use Rattle.tmem_run.specs.Chains.{PlaysEntriesOn, PlaysFirstOn};
 ghost use Rattle.tmem_run.specs.Printed.{PlaysEntries};
 ghost use Rattle.tmem_run.specs.Stored.{PlaysOver, StopsOver, RefusesOver, PlaysWhere, StopsWhere, StopsPlaying};
 
+use crate::counts::is_flush;
 use crate::device::{device_in_file, device_in_memory};
 use crate::notes::Notes;
 use crate::print::{print_line, print_state};
@@ -228,8 +229,9 @@ fn play_entry<D: Disk + Drop, T: Invariants + Drop, S: StoredSteps + Drop, W: Wr
 {
     match entry {
         ScriptEntry::Event(playable) => {
+            let is_flush = is_flush(&playable.event);
             let reply = world.step(playable.event);
-            notes.note(&reply);
+            notes.note(is_flush, &reply);
             print_line(out, ReplyLine(reply))
         }
         ScriptEntry::Show => {

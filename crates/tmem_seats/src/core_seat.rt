@@ -92,9 +92,7 @@ impl<N: StoreNaming, T: Invariants + Drop> CoreSeat<N, T> {
 
     /// Settles an attempt for a pass. The core first learns how many are durable, at least as many as the pass saw, and
     /// then answers by its present state. The answer leaves out the registers, which are those of the attempt. What commits
-    /// is committed under the mark of the pass, which has it as its own. The pass knows all that is committed then. (As a part of its
-    /// callers: an answer that came by way of memory would be waited for.)
-    #[inline(always)]
+    /// is committed under the mark of the pass, which has it as its own. The pass knows all that is committed then.
     pub fn decide(
         &mut self,
         spine: &Spine<N>,

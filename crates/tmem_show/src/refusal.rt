@@ -36,8 +36,8 @@ impl fmt::Display for Refusal {
     }
 }
 
-/// Why an opening of these bytes is refused, if it is. The only error is want of memory, or a failure of the copy of the bytes, which does
-/// not happen.
+/// Why an opening of these bytes is refused, if it is. The only error that happens is want of memory: the copy of the bytes that is
+/// opened does not fail.
 pub fn refusal_of(alloc: Global, source: &Source) -> Result<Option<Refusal>, Fault>
     ensures told { IfOk result (TellsOf source.now.bytes.items) }
     ensures refused { IfErr result (λ fault. (fault ≡ Fault.Memory) ⊎ (fault ≡ Fault.Device)) }

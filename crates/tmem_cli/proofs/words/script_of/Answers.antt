@@ -1,6 +1,6 @@
 use Rattle.std.proofs.Common.{◌≡◌, rules, subst}
 use Rattle.std.proofs.lemmas.Result.{IfErr-weaker}
-use Rattle.tmem_cli.specs.Outcomes.{IsNoScript}
+use Rattle.tmem_explain.specs.Limits.{IsNoScript}
 use Rattle.tmem_cli.proofs.Outcomes.{refused_text}
 use Rattle.tmem_cli.proofs.words.script_of.Goals as goal
 
