@@ -75,7 +75,11 @@ impl CommitCounts {
     fn reopened(self, found: u64) -> CommitCounts
         ensures { result ≡ reopened_counts self found }
     {
-        let first_gone = if self.gone == 0 { found } else { self.first_gone };
+        let first_gone = if self.gone == 0 {
+            found
+        } else {
+            self.first_gone
+        };
         if found < self.committed {
             CommitCounts {
                 committed: found,
@@ -99,7 +103,11 @@ impl CommitCounts {
     fn first_lost(self) -> u64
         ensures { result ≡ first_lost_of self }
     {
-        if self.gone == 0 { self.durable } else { self.first_gone }
+        if self.gone == 0 {
+            self.durable
+        } else {
+            self.first_gone
+        }
     }
 
     /// What is lost where the run ends so.
