@@ -24,8 +24,8 @@ use tmem_front::Pass;
 use tmem_invariants::Invariants;
 use tmem_lines::MAX_LINE_BYTES;
 use tmem_requests::{
-    Answer, AnswerLine, NoRequest, NoRequestLine, RequestBody, RequestError, RequestFlaw,
-    RequestPlace,
+    Answer, AnswerLine, NoRequest, NoRequestLine, ReadBuffer, RequestBody, RequestError,
+    RequestFlaw, RequestPlace,
 };
 use tmem_tree::{StoredSteps, Tx};
 
@@ -47,6 +47,8 @@ pub struct Desk<N: ServedNaming> {
     pub(crate) lines: u64,
     // what was counted of the answers
     pub(crate) counts: AnswerCounts,
+    // what lines are read over
+    pub(crate) buffer: ReadBuffer,
 }
 
 impl<N: ServedNaming> Desk<N> {
@@ -62,6 +64,7 @@ impl<N: ServedNaming> Desk<N> {
             told: Vec::new(alloc),
             lines: 0,
             counts: AnswerCounts::new(),
+            buffer: ReadBuffer::new(alloc),
         }
     }
 
@@ -119,7 +122,7 @@ impl<N: ServedNaming> Desk<N> {
         ensures err { IfErr result (λ f. OrMemory f (AnswersLine (store N.name.start N.opening N.program N.arities N.always) text.now (desk_view self.old) (desk_view self.new))) }
     {
         self.lines = self.lines.wrapping_add(1);
-        match service.read(text) {
+        match service.read(&mut self.buffer, text) {
             Ok(request) => self.take_or_fail(service, request.id, request.ask),
             Err(RequestError::NoRequest(refusal)) => self.refuse(refusal),
             Err(RequestError::Memory(_)) => Err(Fault::Memory),
@@ -136,7 +139,7 @@ impl<N: ServedNaming> Desk<N> {
         ensures err { IfErr result (λ f. f ≡ Fault.Memory) }
     {
         self.lines = self.lines.wrapping_add(1);
-        match service.read(text) {
+        match service.read(&mut self.buffer, text) {
             Ok(request) => self.tell(request.id, Answer::Fault(Fault::Closed)),
             Err(RequestError::NoRequest(refusal)) => self.refuse(refusal),
             Err(RequestError::Memory(_)) => Err(Fault::Memory),

@@ -12,7 +12,7 @@ use tmem_disk::Disk;
 use tmem_fault::Name;
 use tmem_front::Front;
 use tmem_invariants::Invariants;
-use tmem_requests::{Request, RequestError};
+use tmem_requests::{ReadBuffer, Request, RequestError};
 use tmem_tree::StoredSteps;
 
 /// The store that a desk serves: its front, lent for as long as it does, and the numbers and names that requests are held to.
@@ -66,12 +66,12 @@ impl<'a, R, D: Disk + Drop, N: ServedNaming, T: Invariants + Drop, S: StoredStep
     }
 
     /// Reads a line: a request that can be made of this store.
-    pub(crate) fn read(&self, text: &[u8]) -> Result<Request, RequestError>
+    pub(crate) fn read(&self, buffer: &mut ReadBuffer, text: &[u8]) -> Result<Request, RequestError>
         ensures request { IfOk result (λ request. IsAskedOf (store N.name.start N.opening N.program N.arities N.always) request.id request.ask text.now) }
         ensures none { IfErr result (λ e. IsNoRequest e → (id : ℤ) (ask : RequestBody) → ¬ IsAskedOf (store N.name.start N.opening N.program N.arities N.always) id ask text.now) }
         ensures why { IfErr result (λ e. TellsReason (length N.opening.values) N.program.names N.always text.now e) }
     {
-        let request = Request::read(self.alloc, text)?;
+        let request = Request::read(self.alloc, buffer, text)?;
         match request.fits(self.alloc, self.vars, self.names, self.always) {
             Ok(()) => Ok(request),
             Err(refusal) => Err(RequestError::NoRequest(refusal)),

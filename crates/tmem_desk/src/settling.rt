@@ -1,5 +1,5 @@
 // How transactions are settled for a desk, which is the only caller of its store.
-ghost use Rattle.std.specs.Prelude.{◌≡◌, ◌≢◌, ◌⊎◌, IfOk, IfErr};
+ghost use Rattle.std.specs.Prelude.{◌≡◌, ◌≢◌, ◌⊎◌, Ok, Err, OnOk, IfOk, IfErr};
 ghost use Rattle.tmem_requests.specs.declared.answer.Answer.TheVariants.{Checkpointed, Fault as FaultOf};
 ghost use Rattle.tmem_requests.specs.declared.request.RequestBody.TheVariants.{Try};
 ghost use Rattle.tmem_front.specs.Settling.{KnowsMore};
@@ -83,10 +83,19 @@ impl<R: Wait, D: Disk + Drop, N: ServedNaming, T: Invariants + Drop, S: StoredSt
         ensures refused { IfErr result IsCheckpointRefusal }
         ensures ends { IfErr result (λ fault. fault ≢ Fault.Spent) }
     {
-        match self.front.checkpoint(self.rt) {
-            Ok(()) => Ok(Answer::Checkpointed),
-            Err(Fault::Spent) => Ok(Answer::Fault(Fault::Spent)),
-            Err(fault) => Err(fault),
-        }
+        told_image(self.front.checkpoint(self.rt))
+    }
+}
+
+// How it is told what a checkpoint was answered. Where it was refused otherwise than by `Spent`, the store cannot go on.
+fn told_image(written: Result<(), Fault>) -> Result<Answer, Fault>
+    ensures made { OnOk written (result ≡ Ok Checkpointed) }
+    ensures spent { written ≡ Err Fault.Spent → result ≡ Ok (FaultOf Fault.Spent) }
+    ensures other { IfErr written (λ fault. fault ≢ Fault.Spent → result ≡ Err fault) }
+{
+    match written {
+        Ok(()) => Ok(Answer::Checkpointed),
+        Err(Fault::Spent) => Ok(Answer::Fault(Fault::Spent)),
+        Err(fault) => Err(fault),
     }
 }

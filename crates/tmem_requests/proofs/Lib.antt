@@ -3,6 +3,7 @@ mod Each
 pub mod Laws
 mod Members
 mod Misfits
+mod Numerals
 mod OneReading
 mod Puts
 mod Reading
@@ -10,5 +11,6 @@ mod Reasoned
 mod Registers
 mod Retired
 mod Same
+mod Spelled
 mod Texts
 mod Wrongs

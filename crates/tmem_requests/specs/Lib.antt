@@ -7,4 +7,5 @@ pub mod Proposals
 pub mod Reasons
 pub mod Refusals
 pub mod Requests
+pub mod Tokens
 pub mod Wrong

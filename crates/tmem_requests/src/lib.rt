@@ -9,6 +9,7 @@ mod answer;
 mod array;
 mod ask;
 mod attempt;
+mod buffer;
 mod explain;
 mod fault;
 mod fits;
@@ -25,6 +26,7 @@ mod why;
 
 pub use answer::{Answer, Stats};
 pub use attempt::proposed_attempt;
+pub use buffer::ReadBuffer;
 pub use explain::{WrongValue, find_in_tx};
 pub use fault::words_of;
 pub use keys::has_only;

@@ -13,6 +13,7 @@ ghost use Rattle.tmem_requests.specs.Wrong.{TellsTruth, TellsTruthOf, store};
 ghost use Rattle.tmem_requests.specs.declared.request.RequestBody.{RequestBody};
 
 use crate::ask::ask_of;
+use crate::buffer::ReadBuffer;
 use crate::explain::{explained, explained_misfit};
 use crate::fits::fits_store;
 use crate::keys::{asked_in, has_keys_by};
@@ -63,13 +64,17 @@ pub enum RequestBody {
 impl Request {
     /// Reads a line, without its line break: an object with an id and with what is asked for, in any order of its keys. Of a key that
     /// stands twice the last value counts. Refused with `NoRequest`, which says what is wrong and where, and with `Memory`.
-    pub fn read(alloc: Global, line: &[u8]) -> Result<Request, RequestError>
+    pub fn read(
+        alloc: Global,
+        buffer: &mut ReadBuffer,
+        line: &[u8],
+    ) -> Result<Request, RequestError>
         ensures request { IfOk result (λ request. IsRequestText request.id request.ask line.now) }
         ensures no_request { IfErr result (λ e. IsNoRequest e → (id : ℤ) (ask : RequestBody) → ¬ IsRequestText id ask line.now) }
         ensures told { IfErr result (λ e. (value : Data) → IsNoRequest e → IsUtf8 line.now → read line.now ≡ Some value → TellsTruthOf value e) }
         ensures no_json { IfErr result (λ e. IsNoJson line.now → IsNoRequest e → IsNotJson e) }
     {
-        let value = Value::from_slice(alloc, line)?;
+        let value = buffer.read(alloc, line)?;
         match Request::from_value(alloc, &value) {
             Ok(request) => Ok(request),
             Err(FormError::Memory(error)) => Err(RequestError::Memory(error)),

@@ -1,12 +1,10 @@
 //! How what is told is written, by outputs that take it in pieces, hold it back or fail.
-use super::store::{Case, serve_into};
+use super::store::{Case, ServedBy, ServingEnd, serve_into};
 use std::alloc::Global;
 use std::io::{self, ErrorKind, Write};
 use std::process::Abort;
 use std::sync::Wait;
 use std::test::Fail;
-use tmem_desk::DeskFailure;
-use tmem_fault::Fault;
 
 /// What a write is answered.
 #[derive(Clone, Copy)]
@@ -17,14 +15,6 @@ enum WriteTurn {
     Signal,
     /// It fails.
     Fails,
-}
-
-/// How serving ended.
-#[derive(Clone, Copy, Debug, PartialEq, Eq)]
-enum ServingEnd {
-    InputRead,
-    OutputFailed,
-    Fault,
 }
 
 /// What is served, how the output answers, and what it is to have taken.
@@ -161,23 +151,54 @@ static ROWS: &[Row<'static>] = &[
     },
 ];
 
+// the line that `serve_store` prints before it reads anything: 33 bytes with its line break
+const OPENED: &str = "{\"opened\":0,\"vars\":4,\"names\":{}}\n";
+
+static WHOLE_ROWS: &[Row<'static>] = &[
+    Row {
+        name: "the first line is flushed before anything is read",
+        writes: &[WriteTurn::Takes(ALL)],
+        flush_fails: false,
+        ends: ServingEnd::InputRead,
+        takes: concat!(
+            "{\"opened\":0,\"vars\":4,\"names\":{}}\n",
+            "{\"id\":1,\"durable\":0}\n{\"id\":2,\"durable\":0}\n{\"id\":3,\"durable\":0}\n{\"id\":4,\"fault\":3,\"word\":\"closed\"}\n"
+        ),
+        flushed: &[33, 75, 96, 131],
+    },
+    Row {
+        name: "a flush of the first line that fails",
+        writes: &[WriteTurn::Takes(ALL)],
+        flush_fails: true,
+        ends: ServingEnd::OutputFailed,
+        takes: OPENED,
+        flushed: &[],
+    },
+];
+
 #[test]
 fn what_is_told_is_written_and_flushed(rt: HostRuntime) -> Result<(), Fail> {
     for row in ROWS {
-        serve_row(&rt, rt.alloc(), *row)?;
+        serve_row(&rt, rt.alloc(), *row, ServedBy::Desk)?;
+    }
+    for row in WHOLE_ROWS {
+        serve_row(&rt, rt.alloc(), *row, ServedBy::Store)?;
     }
     Ok(())
 }
 
 // Serves the same into the output of a row.
-fn serve_row<R: Abort + Wait>(rt: &R, alloc: Global, row: Row) -> Result<(), Fail> {
+fn serve_row<R: Abort + Wait>(rt: &R, alloc: Global, row: Row, by: ServedBy) -> Result<(), Fail> {
     let mut out = Output {
         row,
         at: 0,
         taken: Vec::new(alloc),
         flushed: Vec::new(alloc),
     };
-    let ends = end_of(serve_into(rt, alloc, &SERVED, &mut out));
+    let ends = match serve_into(rt, alloc, &SERVED, by, &mut out) {
+        Ok(ends) => ends,
+        Err(_) => ServingEnd::Fault,
+    };
     compare(rt, out, ends)
 }
 
@@ -197,12 +218,4 @@ fn compare<R: Abort>(rt: &R, out: Output, ends: ServingEnd) -> Result<(), Fail> 
     );
     assert!(rt; flushed.as_slice() == row.flushed, "{name}: {flushed:?}");
     Ok(())
-}
-
-fn end_of(served: Result<Result<(), DeskFailure>, Fault>) -> ServingEnd {
-    match served {
-        Ok(Ok(())) => ServingEnd::InputRead,
-        Ok(Err(DeskFailure::Output)) => ServingEnd::OutputFailed,
-        Ok(Err(DeskFailure::Fault(_))) | Err(_) => ServingEnd::Fault,
-    }
 }

@@ -6,7 +6,7 @@ ghost use Rattle.tmem_builtins.specs.Invariants.{has_no_negative, is_negative};
 ghost use Rattle.tmem_desk_tests.specs.Examples.{solvent};
 
 use std::alloc::Global;
-use std::io::Write;
+use std::io::{self, Read, Write};
 use std::marker::Brand;
 use std::process::Abort;
 use std::sync::Wait;
@@ -19,6 +19,7 @@ use tmem_front::{Front, OpenedFront};
 use tmem_invariants::Invariants;
 use tmem_journal::{Layout, format};
 use tmem_lines::Lines;
+use tmem_serve::{InputEnd, ServeError, Served, serve_store};
 use tmem_tables::{Invariant, Table};
 use tmem_tree::StoredSteps;
 
@@ -35,6 +36,43 @@ pub(super) struct Case<'a> {
     pub(super) pieces: &'a [&'a str],
     /// The lines that are printed, each with its line break.
     pub(super) prints: &'a [&'a str],
+}
+
+/// Who serves the pieces of a case.
+#[derive(Clone, Copy)]
+pub(super) enum ServedBy {
+    /// A desk is handed each.
+    Desk,
+    /// `serve_store` reads each by a read of its own, once it has printed the first line.
+    Store,
+}
+
+/// How serving ended.
+#[derive(Clone, Copy, Debug, PartialEq, Eq)]
+pub(super) enum ServingEnd {
+    InputRead,
+    OutputFailed,
+    /// By a fault, or there is no store.
+    Fault,
+}
+
+/// An input that gives a piece by each read.
+#[derive(Drop)]
+struct Pieces<'a> {
+    pieces: &'a [&'a str],
+    // the next of them
+    at: usize,
+}
+
+impl Read for Pieces<'_> {
+    fn read(&mut self, buf: &mut [u8]) -> io::Result<usize> {
+        let mut piece = match self.pieces.get(self.at) {
+            Some(piece) => piece.as_bytes(),
+            None => return Ok(0),
+        };
+        self.at = self.at.wrapping_add(1);
+        piece.read(buf)
+    }
 }
 
 /// Serves the cases of a table, each in a new store.
@@ -61,7 +99,7 @@ pub(super) fn serve_all<R: Abort + Wait>(
 /// What is printed for a case.
 pub(super) fn serve_case<R: Wait>(rt: &R, alloc: Global, case: &Case) -> Vec<u8> {
     let mut out = Vec::new(alloc);
-    let _ = serve_into(rt, alloc, case, &mut out);
+    let _ = serve_into(rt, alloc, case, ServedBy::Desk, &mut out);
     out
 }
 
@@ -70,8 +108,9 @@ pub(super) fn serve_into<R: Wait, W: Write>(
     rt: &R,
     alloc: Global,
     case: &Case,
+    by: ServedBy,
     out: &mut W,
-) -> Result<Result<(), DeskFailure>, Fault> {
+) -> Result<ServingEnd, Fault> {
     let test = Box::new(
         alloc,
         |values: &[i64]| -> bool
@@ -80,7 +119,7 @@ pub(super) fn serve_into<R: Wait, W: Write>(
     )?;
     let invariant = Invariant::new(Name::new("solvent")?, vec![in alloc; 0, 1]?, test)?;
     let table = Table::of(alloc, vec![in alloc; invariant]?, VARS)?;
-    serve_new_store(rt, alloc, case, table, stored_steps(), out)
+    serve_new_store(rt, alloc, case, by, table, stored_steps(), out)
 }
 
 // Whether a value is below zero.
@@ -95,22 +134,86 @@ fn serve_new_store<R: Wait, T: Invariants + Drop, S: StoredSteps + Drop, W: Writ
     rt: &R,
     alloc: Global,
     case: &Case,
+    by: ServedBy,
     table: T,
     steps: S,
     out: &mut W,
-) -> Result<Result<(), DeskFailure>, Fault>
+) -> Result<ServingEnd, Fault>
     requires vars { T.vars table ≡ VARS }
     requires names { T.names table ≡ solvent.names }
     requires tests { T.is_stated table solvent.tests }
     requires steps { S.is_stated steps solvent.steps }
     requires arities { S.arities steps ≡ 2 ∷ 2 ∷ 2 ∷ [] }
 {
+    let disk = new_store(alloc, case)?;
+    match by {
+        ServedBy::Desk => serve_by_desk(rt, alloc, case, disk, table, steps, out),
+        ServedBy::Store => Ok(serve_whole(rt, alloc, case, disk, table, steps, out)),
+    }
+}
+
+// The device of a new store, whose sync fails as a case says.
+fn new_store(alloc: Global, case: &Case) -> Result<SimDisk, Fault> {
     let mut disk = SimDisk::new(alloc, Layout::new(VARS, SLOTS)?.end())?;
     format(&mut disk, VARS, SLOTS)?;
     if let Some(k) = case.fails {
         // an opening makes one sync
         disk.fail_sync(k.saturating_add(1));
     }
+    Ok(disk)
+}
+
+// Serves the pieces of a case by `serve_store`.
+fn serve_whole<R: Wait, T: Invariants + Drop, S: StoredSteps + Drop, W: Write>(
+    rt: &R,
+    alloc: Global,
+    case: &Case,
+    disk: SimDisk,
+    table: T,
+    steps: S,
+    out: &mut W,
+) -> ServingEnd
+    requires vars { T.vars table ≡ VARS }
+    requires names { T.names table ≡ solvent.names }
+    requires tests { T.is_stated table solvent.tests }
+    requires steps { S.is_stated steps solvent.steps }
+{
+    let names = [Name::new("solvent").unwrap()];
+    let (variables, always) = (Vec::new(alloc), Vec::new(alloc));
+    let served = Served {
+        vars: VARS,
+        slots: SLOTS,
+        variables: &variables,
+        names: &names,
+        always: &always,
+    };
+    let mut input = Pieces {
+        pieces: case.pieces,
+        at: 0,
+    };
+    match serve_store(rt, alloc, disk, served, table, steps, &mut input, out) {
+        Ok(InputEnd::Reached) => ServingEnd::InputRead,
+        Err(ServeError::Ended(failure)) => end_by(failure),
+        Ok(InputEnd::Failed) | Err(ServeError::Unregistered(_)) => ServingEnd::Fault,
+    }
+}
+
+// Serves them by a desk.
+fn serve_by_desk<R: Wait, T: Invariants + Drop, S: StoredSteps + Drop, W: Write>(
+    rt: &R,
+    alloc: Global,
+    case: &Case,
+    disk: SimDisk,
+    table: T,
+    steps: S,
+    out: &mut W,
+) -> Result<ServingEnd, Fault>
+    requires vars { T.vars table ≡ VARS }
+    requires names { T.names table ≡ solvent.names }
+    requires tests { T.is_stated table solvent.tests }
+    requires steps { S.is_stated steps solvent.steps }
+    requires arities { S.arities steps ≡ 2 ∷ 2 ∷ 2 ∷ [] }
+{
     match OpenedFront::open(alloc, disk, VARS, SLOTS, table, steps) {
         Ok(opened) => serve_named::<Brand, T, S, R, W>(rt, alloc, case, opened, out),
         Err((fault, _disk)) => Err(fault),
@@ -124,7 +227,7 @@ fn serve_named<N: ServedNaming, T: Invariants + Drop, S: StoredSteps + Drop, R: 
     case: &Case,
     opened: OpenedFront<SimDisk, T, S>,
     out: &mut W,
-) -> Result<Result<(), DeskFailure>, Fault>
+) -> Result<ServingEnd, Fault>
     requires spine { spine_of opened ≡ N.name }
     requires opening { front_found opened ≡ N.opening }
     requires program { N.program ≡ solvent }
@@ -142,8 +245,19 @@ fn serve_named<N: ServedNaming, T: Invariants + Drop, S: StoredSteps + Drop, R: 
     let mut lines = Lines::new(alloc);
     for piece in case.pieces {
         if let Err(failure) = desk.serve(&service, &mut lines, piece.as_bytes(), out) {
-            return Ok(Err(failure));
+            return Ok(end_by(failure));
         }
     }
-    Ok(desk.end(&service, &mut lines, out))
+    match desk.end(&service, &mut lines, out) {
+        Ok(()) => Ok(ServingEnd::InputRead),
+        Err(failure) => Ok(end_by(failure)),
+    }
+}
+
+// How serving ended that ended early.
+fn end_by(failure: DeskFailure) -> ServingEnd {
+    match failure {
+        DeskFailure::Output => ServingEnd::OutputFailed,
+        DeskFailure::Fault(_) => ServingEnd::Fault,
+    }
 }

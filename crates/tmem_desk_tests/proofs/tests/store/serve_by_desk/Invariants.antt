@@ -1,7 +1,7 @@
 use Rattle.std.specs.Prelude.{[], ◌∷◌}
 use Rattle.tmem_front.specs.Held.{front_found, spine_of}
 use Rattle.tmem_desk_tests.specs.Examples.{solvent}
-use Rattle.tmem_desk_tests.proofs.tests.store.serve_new_store.Given as goal
+use Rattle.tmem_desk_tests.proofs.tests.store.serve_by_desk.Given as goal
 
 -- the store that was just opened
 abbrev pub ghosts-serve_named-N-Naming : goal.ghosts-serve_named-N-Naming
