@@ -9,6 +9,7 @@ pub mod Opens
 pub mod Indices
 pub mod Present
 pub mod Probed
+pub mod Rings
 pub mod Windows
 pub mod Versions
 pub mod SettleAnswers

@@ -2,7 +2,7 @@
 use Rattle.std.proofs.Common.{◌≡◌, ℕ, ◌+◌, ◌-◌, ◌%◌, ◌<◌, ◌≤◌, ◌⊎◌, List, [], ◌∷◌, ◌++◌, length, get_or, take, drop, set, ap, sym, ◌∙◌, inl, inr, mod-eq_of_lt, arith, length-append, length-drop, length-set, length-take-le, get_or-drop, get_or-take}
 use Rattle.std.specs.Prelude.{slice_get, Some}
 use native.Mathlib.Nat.{mod-eq-sub-mod, mod-add-mod}
-use Rattle.std.proofs.lemmas.List.{same_lists, get_or_append_left, get_or-append_right}
+use Rattle.std.proofs.lemmas.List.{same_lists, get_or_append_left, get_or-append_right, take_at, drop-drop, drop-append-le}
 use Rattle.std.proofs.lemmas.Option.{slice_get_read}
 use Rattle.std.proofs.lemmas.Bool.{cases_lt}
 use Rattle.std.proofs.lemmas.Grind.{common_steps}
@@ -66,3 +66,22 @@ module _ {X : Type 0} (N k n : ℕ) (xs : List X) (within : k < N) (few : n ≤ 
       ∙ ap (λ (j : ℕ). get_or xs (j % N) d) (omega arith)
       ∙ sym (get_or-window N k n xs within few long (many + i) d (omega arith))
       ∙ sym (get_or-drop many (window k n xs) i d))
+
+-- where the places end behind the last one in use
+module _ {X : Type 0} (k n : ℕ) (xs : List X) (ends : k + n ≡ length xs) where
+  pub window-end : window k n xs ≡ drop k xs
+  window-end = take_at (drop k xs) (take k xs) n (length-drop k xs ∙ omega (arith, ends))
+
+  -- the one at an index
+  pub slice_get-end : (i : ℕ) (x : X) → i < n → x ≡ get_or xs (k + i) x → slice_get (window k n xs) i ≡ Some x
+  slice_get-end i x below is =
+      ap (λ (l : List X). slice_get l i) window-end ∙ slice_get_read (drop k xs) n i x (omega (arith, ends, length-drop k xs)) below (is ∙ sym (get_or-drop k xs i x))
+
+-- a place that is made behind the last one in use
+pub window-made : {X : Type 0} (k n : ℕ) (xs : List X) (x : X) → k + n ≡ length xs → window k (n + 1) (xs ++ x ∷ []) ≡ window k n xs ++ x ∷ []
+window-made {X} k n xs x ends =
+    window-end k (n + 1) (xs ++ x ∷ []) (omega (arith, ends, length-append xs (x ∷ []))) ∙ drop-append-le k xs (x ∷ []) (omega (arith, ends)) ∙ ap (λ (l : List X). l ++ x ∷ []) (sym (window-end k n xs ends))
+
+pub window-end-later : {X : Type 0} (k n : ℕ) (xs : List X) (many : ℕ) → k + n ≡ length xs → many ≤ n → window (k + many) (n - many) xs ≡ drop many (window k n xs)
+window-end-later k n xs many ends fits =
+    window-end (k + many) (n - many) xs (omega (arith, ends, fits)) ∙ sym (drop-drop many k xs) ∙ ap (drop many) (sym (window-end k n xs ends))

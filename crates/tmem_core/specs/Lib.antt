@@ -3,6 +3,7 @@ pub mod History
 pub mod Held
 pub mod Opening
 pub mod Program
+pub mod Ring
 pub mod SettleAnswer
 pub mod Settling
 pub mod Taking

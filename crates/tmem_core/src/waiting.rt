@@ -1,5 +1,5 @@
 // The effects that are committed and not known durable.
-ghost use Rattle.std.specs.Prelude.{◌≡◌, ◌≤◌, ◌<◌, [], ◌∷◌, ◌++◌, length, drop, slice_get, Some, IfOk};
+ghost use Rattle.std.specs.Prelude.{◌≡◌, ◌≤◌, ◌<◌, [], ◌∷◌, ◌++◌, length, drop, set, slice_get, vec_capacity, Some, IfOk};
 
 use std::alloc::{AllocError, Global};
 use std::marker::Model;
@@ -11,21 +11,23 @@ pub const MAX_WAITING: usize = 256;
 /// The effects that wait, the oldest first. There is room for all of them from the start.
 #[derive(Drop)]
 pub(crate) struct Waiting {
-    // a ring, made beforehand: the oldest stands at `start`, and the others behind it, around the end
+    // a ring, with room for all: the oldest stands at `start`, and the others behind it, around the end. Its places are made as they are
+    // first used: to make all of them would be much of what an opening takes
     effects: Vec<Effect>,
     start: usize,
     len: usize,
 }
 
 impl Model for Waiting {
-    ghost use Rattle.std.specs.Prelude.{List, take, drop, length, ◌≡◌, ◌≤◌, ◌<◌, ◌^◌, ◌++◌};
+    ghost use Rattle.std.specs.Prelude.{List, take, drop, ◌++◌, vec_capacity};
     ghost use Rattle.tmem_effect.specs.declared.effect.Effect.{Effect as EffectOf};
+    ghost use Rattle.tmem_core.specs.Ring.{IsRing};
 
     ghost Value = { List EffectOf };
 
     ghost view = { λ w. take w.len (drop w.start w.effects.items ++ take w.start w.effects.items) };
 
-    ghost invariant = { λ w. (length w.effects.items ≡ 2 ^ 8) × (w.start < 2 ^ 8) × (w.len ≤ 2 ^ 8) };
+    ghost invariant = { λ w. IsRing w.effects.items (vec_capacity w.effects) w.start w.len };
 }
 
 impl Waiting {
@@ -33,10 +35,7 @@ impl Waiting {
     pub(crate) fn new(alloc: Global) -> Result<Waiting, AllocError>
         ensures { IfOk result (λ waiting. waiting ≡ []) }
     {
-        let mut effects = Vec::with_capacity(alloc, MAX_WAITING)?;
-        for _ in 0..MAX_WAITING {
-            effects.push(Effect::new()).unwrap();
-        }
+        let effects = Vec::with_capacity(alloc, MAX_WAITING)?;
         Ok(Waiting {
             effects,
             start: 0,
@@ -64,7 +63,8 @@ impl Waiting {
         requires { length self.old < MAX_WAITING }
         ensures { self.new ≡ self.old ++ effect.now ∷ [] }
     {
-        self.effects[(self.start + self.len) % MAX_WAITING].copy_from(effect);
+        let place = (self.start + self.len) % MAX_WAITING;
+        fill(&mut self.effects, place, effect);
         self.len += 1;
     }
 
@@ -76,4 +76,19 @@ impl Waiting {
         self.start = (self.start + many) % MAX_WAITING;
         self.len -= many;
     }
+}
+
+// Fills a place with an effect. Where it is not there, it is made, behind all that are.
+#[inline(always)]
+fn fill(places: &mut Vec<Effect>, place: usize, effect: &Effect)
+    requires { place < vec_capacity places.old }
+    ensures there { place < length places.old.items → places.new.items ≡ set places.old.items place effect.now }
+    ensures made { length places.old.items ≤ place → places.new.items ≡ places.old.items ++ effect.now ∷ [] }
+    ensures room { vec_capacity places.old ≤ vec_capacity places.new }
+{
+    if place < places.len() {
+        places[place].copy_from(effect);
+        return;
+    }
+    places.push(effect.copy()).unwrap();
 }

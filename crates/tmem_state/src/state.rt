@@ -142,7 +142,18 @@ fn set_all(values: &mut Vec<i64>, writes: &[(u16, i64)])
     }
 }
 
+// Removes names from a set. Few transactions retire one, and the others are spared the call.
+#[inline(always)]
 fn remove_all(names: &mut NameSet, fewer: &[Name])
+    ensures { names.new ≡ without_names names.old fewer.now }
+{
+    if !fewer.is_empty() {
+        remove_each(names, fewer);
+    }
+}
+
+#[inline(never)]
+fn remove_each(names: &mut NameSet, fewer: &[Name])
     ensures { names.new ≡ without_names names.old fewer.now }
 {
     for name in fewer {
@@ -150,7 +161,19 @@ fn remove_all(names: &mut NameSet, fewer: &[Name])
     }
 }
 
+// Adds names to a set. Few transactions check one, too.
+#[inline(always)]
 fn insert_all(names: &mut NameSet, more: &[Name])
+    requires { length (with_names names.old more.now) ≤ MAX_NAMES }
+    ensures { names.new ≡ with_names names.old more.now }
+{
+    if !more.is_empty() {
+        insert_each(names, more);
+    }
+}
+
+#[inline(never)]
+fn insert_each(names: &mut NameSet, more: &[Name])
     requires { length (with_names names.old more.now) ≤ MAX_NAMES }
     ensures { names.new ≡ with_names names.old more.now }
 {

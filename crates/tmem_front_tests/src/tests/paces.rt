@@ -1,10 +1,10 @@
 //! How the pace of a flusher lets callers in.
-use std::io;
 use std::process::Abort;
 use std::rt::Clock;
 use std::sync::atomic::{AtomicU64, Ordering};
 use std::test::Fail;
 use std::time::Duration;
+use std::{io, mem};
 use tmem_front::{Gathering, Pace};
 
 /// How often a turn reads its clock at the most.
@@ -42,11 +42,31 @@ impl Clock for Still {
     }
 }
 
+/// A pace of one turn. It does not say how a turn with a whole batch goes on.
+#[derive(Drop)]
+struct OneTurn {
+    is_left: bool,
+}
+
+impl Pace for OneTurn {
+    fn next(&mut self) -> bool {
+        mem::replace(&mut self.is_left, false)
+    }
+}
+
 // How often the clock is read at a turn, after which the flusher goes on.
 fn readings_of_a_turn<R: Abort>(rt: &R, has_several: bool) -> u64 {
     let clock = Still::new();
     assert!(rt; Gathering::new(&clock, has_several).next());
     clock.readings()
+}
+
+#[test]
+fn a_turn_with_a_whole_batch_goes_on_as_any_other(rt: HostRuntime) -> Result<(), Fail> {
+    let mut pace = OneTurn { is_left: true };
+    assert!(&rt; pace.next_when_full());
+    assert!(&rt; !pace.next_when_full());
+    Ok(())
 }
 
 #[test]

@@ -1,7 +1,7 @@
 use Rattle.std.proofs.Common.{sym, ◌∙◌, ap, take}
 use Rattle.tmem_effect.specs.Names.{with_names, insert_name}
 use Rattle.tmem_effect.proofs.Laws.{room_for_next, with_names-next}
-use Rattle.tmem_state.proofs.state.insert_all.Goals as goal
+use Rattle.tmem_state.proofs.state.insert_each.Goals as goal
 
 pub insert-requires : goal.insert-requires
 insert-requires c absent =

@@ -1,7 +1,7 @@
 use Rattle.std.proofs.Common.{sym, ◌∙◌, ap, take}
 use Rattle.tmem_effect.specs.Names.{without_names, without_name}
 use Rattle.tmem_effect.proofs.Laws.{without_names-next}
-use Rattle.tmem_state.proofs.state.remove_all.Goals as goal
+use Rattle.tmem_state.proofs.state.remove_each.Goals as goal
 
 pub loop-name-preserved : goal.loop-name-preserved
 loop-name-preserved c =

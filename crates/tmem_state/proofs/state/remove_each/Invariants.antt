@@ -1,6 +1,6 @@
 use Rattle.std.proofs.Common.{◌≡◌, take}
 use Rattle.tmem_effect.specs.Names.{without_names}
-use Rattle.tmem_state.proofs.state.remove_all.Given as goal
+use Rattle.tmem_state.proofs.state.remove_each.Given as goal
 
 abbrev pub invariant-loop-name : goal.invariant-loop-name
 invariant-loop-name l = l.names ≡ without_names l.initial.names (take l.name-index l.fewer)
