@@ -124,3 +124,12 @@ def ask(it, seconds, where):
     """A sample: the slice, and what it came to."""
     figures = ask_tmem(it, seconds, where) if it.line else ask_driver(it, seconds, where)
     return {"part": it.part, "job": it.job, "name": name_of(it.part, it.job), "peer": it.peer, "callers": it.callers, "at": it.at, **figures}
+
+
+def ask_in_folder(it, seconds, where, room, in_memory=False):
+    """A sample of a slice that runs in a new folder, which is removed."""
+    where.folder = room.new("slice", in_memory)
+    try:
+        return ask(it, seconds, where)
+    finally:
+        shutil.rmtree(where.folder)

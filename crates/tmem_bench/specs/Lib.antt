@@ -1,3 +1,4 @@
 pub mod Accounts
 pub mod Printed
 pub mod Transactions
+pub mod Works

@@ -1,9 +1,10 @@
 // Where a store is kept.
-ghost use Rattle.std.specs.Prelude.{◌≡◌, ◌≢◌, ◌≤◌, ◌↔◌, length, IfOk, IsTrue};
+ghost use Rattle.std.specs.Prelude.{◌≡◌, ◌≢◌, ◌≤◌, ◌↔◌, length, Ok, IfOk, IsTrue};
 ghost use Rattle.tmem_bench.specs.declared.device.Medium.TheVariants.{Memory};
+ghost use Rattle.tmem_bench.specs.declared.figures.Work.TheVariants.{SyncTwice};
 
 use crate::error::{BenchError, now, since};
-use crate::figures::Figures;
+use crate::figures::{Figures, Work};
 use std::alloc::AllocGlobal;
 use std::fs::{self, File, Files};
 use std::rt::Clock;
@@ -59,7 +60,9 @@ pub fn removed<R: Files<File = File>, X: Drop>(
     rt: &R,
     path: &str,
     had: Result<X, BenchError>,
-) -> Result<X, BenchError> {
+) -> Result<X, BenchError>
+    ensures { IfOk result (λ it. had ≡ Ok it) }
+{
     let removed = fs::remove_file(rt, path);
     let had = had?;
     match removed {
@@ -73,7 +76,9 @@ pub fn two_syncs<R: Clock + Files<File = File> + AllocGlobal>(
     rt: &R,
     place: Medium<'_>,
     time: Duration,
-) -> Result<Figures, BenchError> {
+) -> Result<Figures, BenchError>
+    ensures { IfOk result (λ had. had.work ≡ SyncTwice) }
+{
     match place {
         Medium::Memory => sync_on(rt, SimDisk::new(rt.alloc(), SYNCED_BYTES as u64)?, time),
         Medium::File(path) => {
@@ -91,9 +96,10 @@ fn sync_on<D: Disk + Drop, R: Clock>(
     time: Duration,
 ) -> Result<Figures, BenchError>
     requires { SYNCED_BYTES ≤ (D.view disk).capacity }
+    ensures { IfOk result (λ had. had.work ≡ SyncTwice) }
 {
     let start = now(rt)?;
-    let mut had = Figures::zero();
+    let mut had = Figures::zero(Work::SyncTwice);
     let batch = [1; SYNCED_BYTES];
     for _ in 0..u64::MAX {
         put(&mut disk, &batch)?;

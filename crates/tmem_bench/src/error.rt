@@ -16,18 +16,35 @@ pub enum BenchError {
 }
 
 impl From<Fault> for BenchError {
+    ghost use Rattle.std.specs.Prelude.{◌≡◌};
+    ghost use Rattle.tmem_bench.specs.declared.error.BenchError.TheVariants.{Refused};
+
+    ghost from_gives = { λ fault e. e ≡ Refused fault };
+
     fn from(fault: Fault) -> BenchError {
         BenchError::Refused(fault)
     }
 }
 
 impl From<AllocError> for BenchError {
+    ghost use Rattle.std.specs.Prelude.{◌≡◌};
+    ghost use Rattle.tmem_bench.specs.declared.error.BenchError.TheVariants.{Refused};
+    ghost use Rattle.tmem_fault.specs.declared.fault.Fault.TheVariants as fault;
+
+    ghost from_gives = { λ _ e. e ≡ Refused fault.Memory };
+
     fn from(_: AllocError) -> BenchError {
         BenchError::Refused(Fault::Memory)
     }
 }
 
 impl<T: Drop> From<AllocFailed<T>> for BenchError {
+    ghost use Rattle.std.specs.Prelude.{◌≡◌};
+    ghost use Rattle.tmem_bench.specs.declared.error.BenchError.TheVariants.{Refused};
+    ghost use Rattle.tmem_fault.specs.declared.fault.Fault.TheVariants as fault;
+
+    ghost from_gives = { λ _ e. e ≡ Refused fault.Memory };
+
     fn from(_: AllocFailed<T>) -> BenchError {
         BenchError::Refused(Fault::Memory)
     }

@@ -2,14 +2,46 @@
 ghost use Rattle.std.specs.Prelude.{◌≡◌, ◌+◌, ◌-◌, ◌^◌, min};
 ghost use Rattle.std.specs.Duration.{as_nanos, max_nanos};
 
-use crate::jobs::Callers;
+use crate::jobs::{Act, Callers};
 use std::fmt;
 use std::num::nearest_u64_to_f64;
 use std::time::Duration;
 
+/// What was done.
+#[derive(Clone, Copy, PartialEq, Eq)]
+pub enum Work {
+    /// Transactions on the core alone.
+    OnCore(Act),
+    /// Transactions on a store.
+    OnStore(Act),
+    /// The log of a store was filled.
+    Fill,
+    /// A store was opened.
+    Open,
+    /// A device was synced twice, each time behind a write.
+    SyncTwice,
+    /// A file was read twice.
+    ReadTwice,
+}
+
+impl Work {
+    /// What a line of the table calls it.
+    pub fn name(self) -> &'static str {
+        match self {
+            Work::OnCore(act) => act.name_on_core(),
+            Work::OnStore(act) => act.name(),
+            Work::Fill => "fill",
+            Work::Open => "open 1024 variables",
+            Work::SyncTwice => "two syncs",
+            Work::ReadTwice => "two reads of the file",
+        }
+    }
+}
+
 /// How often something was done, in how many flushes, and how long that took.
 #[derive(Clone, Copy)]
 pub struct Figures {
+    pub work: Work,
     pub operations: u64,
     pub flushes: u64,
     pub time: Duration,
@@ -17,10 +49,12 @@ pub struct Figures {
 
 impl Figures {
     /// Nothing yet.
-    pub fn zero() -> Figures
-        ensures { (result.operations ≡ 0) × (result.flushes ≡ 0) × (as_nanos result.time ≡ 0) }
+    pub fn zero(work: Work) -> Figures
+        ensures work { result.work ≡ work }
+        ensures zero { (result.operations ≡ 0) × (result.flushes ≡ 0) × (as_nanos result.time ≡ 0) }
     {
         Figures {
+            work,
             operations: 0,
             flushes: 0,
             time: Duration::ZERO,
@@ -28,23 +62,27 @@ impl Figures {
     }
 
     /// Of one that took so long.
-    pub fn once(time: Duration) -> Figures
-        ensures { (result.operations ≡ 1) × (result.flushes ≡ 0) × (result.time ≡ time) }
+    pub fn once(work: Work, time: Duration) -> Figures
+        ensures { (result.work ≡ work) × (result.operations ≡ 1) × (result.flushes ≡ 0) × (result.time ≡ time) }
     {
         Figures {
+            work,
             operations: 1,
             flushes: 0,
             time,
         }
     }
 
-    /// Both together.
+    /// Both together, of the same work.
     pub fn with(self, other: Figures) -> Figures
+        requires { other.work ≡ self.work }
+        ensures work { result.work ≡ self.work }
         ensures operations { result.operations ≡ min (self.operations + other.operations) (2 ^ 64 - 1) }
         ensures flushes { result.flushes ≡ min (self.flushes + other.flushes) (2 ^ 64 - 1) }
         ensures time { as_nanos result.time ≡ min (as_nanos self.time + as_nanos other.time) max_nanos }
     {
         Figures {
+            work: self.work,
             operations: self.operations.saturating_add(other.operations),
             flushes: self.flushes.saturating_add(other.flushes),
             time: self.time.saturating_add(other.time),
@@ -62,7 +100,6 @@ impl Figures {
 #[derive(Drop)]
 pub struct Line {
     pub device: &'static str,
-    pub name: &'static str,
     pub callers: Callers,
     pub had: Figures,
     pub baseline: Option<Figures>,
@@ -74,7 +111,8 @@ impl fmt::Display for Line {
         write!(
             f,
             "{:<8}{:<25}{callers:>7}  {flusher:<9}",
-            self.device, self.name
+            self.device,
+            self.had.work.name()
         )?;
         write!(f, "{:>15.0}{:>9}", self.had.rate(), self.had.flushes)?;
         match self.baseline {

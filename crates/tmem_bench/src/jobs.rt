@@ -1,7 +1,7 @@
 // What the callers of a store do.
 ghost use Rattle.tmem_bench.specs.Accounts.{callers_in, stride_of, variables_of};
 ghost use Rattle.std.specs.Prelude.{◌≡◌, IfOk};
-ghost use Rattle.tmem_bench.specs.Transactions.{Does, MovesOne, ReadsAccounts};
+ghost use Rattle.tmem_bench.specs.Transactions.{Deposits, Does, MovesOne, ReadsAccounts};
 
 use std::alloc::{AllocError, Global};
 use std::time::Duration;
@@ -168,7 +168,9 @@ pub const LOOSE_JOBS: usize = 4;
 
 impl Job {
     /// The jobs, in the order of the table.
-    pub fn at(place: usize, time: Duration) -> Job {
+    pub fn at(place: usize, time: Duration) -> Job
+        ensures { result.time ≡ time }
+    {
         Job {
             act: ACTS[place / 5 % 4],
             callers: CALLERS[place % 5],
@@ -177,7 +179,9 @@ impl Job {
     }
 
     /// The jobs in memory alone.
-    pub fn loose_at(place: usize, time: Duration) -> Job {
+    pub fn loose_at(place: usize, time: Duration) -> Job
+        ensures { result.time ≡ time }
+    {
         Job {
             act: LOOSE_ACTS[place / 2 % 2],
             callers: LOOSE_CALLERS[place % 2],
@@ -187,7 +191,9 @@ impl Job {
 }
 
 /// Puts something into both accounts, and registers the invariant.
-pub fn deposits(alloc: Global) -> Result<Tx, Fault> {
+pub fn deposits(alloc: Global) -> Result<Tx, Fault>
+    ensures { IfOk result Deposits }
+{
     let name = Name::new(SOLVENT)?;
     let (payer, payee) = (put(alloc, PAYER, DEPOSIT)?, put(alloc, PAYEE, DEPOSIT)?);
     Ok(all_of(vec![in alloc; payer, payee, Tx::Check { name }]?))

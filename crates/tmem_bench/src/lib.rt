@@ -17,6 +17,6 @@ mod service;
 mod store;
 
 pub use error::BenchError;
-pub use figures::{Figures, Line};
-pub use jobs::Callers;
+pub use figures::{Figures, Line, Work};
+pub use jobs::{Act, Callers};
 pub use run::{JobsWanted, run_jobs};

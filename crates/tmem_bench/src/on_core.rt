@@ -1,16 +1,17 @@
 // The core alone: no device, and no other thread.
-ghost use Rattle.std.specs.Prelude.{◌≡◌, [], length, IfOk};
+ghost use Rattle.std.specs.Prelude.{◌≡◌, ◌-◌, [], length, IfOk};
 ghost use Rattle.tmem_core.specs.Held.{core_state};
 ghost use Rattle.tmem_bench.specs.Accounts.{bench_bank, variables_of};
+ghost use Rattle.tmem_bench.specs.Transactions.{Does};
+ghost use Rattle.tmem_bench.specs.declared.figures.Work.TheVariants.{OnCore};
 ghost use Rattle.tmem_tree.specs.Plans.{FitsSteps, FitsVariables, FitsNames};
 
 use crate::error::{BenchError, now, since};
-use crate::figures::Figures;
+use crate::figures::{Figures, Work};
 use crate::jobs::{DEPOSIT, Job, SOLVENT};
 use crate::service::is_over;
 use std::alloc::Global;
 use std::rt::Clock;
-use std::time::Duration;
 use tmem_core::Core;
 use tmem_fault::{Fault, Name};
 use tmem_invariants::Invariants;
@@ -33,6 +34,7 @@ pub fn run_on_core<R: Clock, T: Invariants + Drop, S: StoredSteps>(
     requires vars { T.vars table ≡ vars }
     requires names { T.names table ≡ (bench_bank (variables_of job.act)).names }
     requires stated { T.is_stated table (bench_bank (variables_of job.act)).tests }
+    ensures { IfOk result (λ had. had.work ≡ OnCore job.act) }
 {
     let mut core = new_core(alloc, vars, table)?;
     plan_on(rt, alloc, vars, job, &mut core, steps)
@@ -48,20 +50,13 @@ fn plan_on<R: Clock, T: Invariants + Drop, S: StoredSteps>(
     steps: &S,
 ) -> Result<Figures, BenchError>
     requires { length (core_state core.old).values ≡ vars }
+    ensures { IfOk result (λ had. had.work ≡ OnCore job.act) }
 {
     let plan = Plan::new(job.act.transaction(alloc)?, steps, vars, &[])?;
-    settle_on(
-        rt,
-        core,
-        &mut Cursor::idle(alloc),
-        &plan,
-        steps,
-        vars,
-        job.time,
-    )
+    settle_on(rt, core, &mut Cursor::idle(alloc), &plan, steps, vars, job)
 }
 
-// Settles a plan over so many variables for so long.
+// Settles the plan of a job over so many variables, for as long as the job goes on. What the core committed by then is counted.
 fn settle_on<R: Clock, T: Invariants + Drop, S: StoredSteps>(
     rt: &R,
     core: &mut Core<T>,
@@ -69,24 +64,30 @@ fn settle_on<R: Clock, T: Invariants + Drop, S: StoredSteps>(
     plan: &Plan,
     steps: &S,
     vars: u16,
-    time: Duration,
+    job: Job,
 ) -> Result<Figures, BenchError>
+    requires does { Does job.act plan.now.tree }
     requires sized { length (core_state core.old).values ≡ vars }
     requires steps { FitsSteps (S.arities steps.now) plan.now.tree }
     requires variables { FitsVariables vars plan.now }
     requires names { FitsNames [] plan.now.tree }
+    ensures work { IfOk result (λ had. had.work ≡ OnCore job.act) }
+    ensures counted { IfOk result (λ had. had.operations ≡ (core_state core.new).count - (core_state core.old).count) }
 {
-    let mut had = Figures::zero();
+    let begun = core.count();
     let start = now(rt)?;
     for _ in 0..u64::MAX {
         settle_round(core, cursor, plan, steps, vars)?;
-        had.operations = had.operations.saturating_add(ROUND);
-        if is_over(rt, start, time) {
+        if is_over(rt, start, job.time) {
             break;
         }
     }
-    had.time = since(rt, start)?;
-    Ok(had)
+    Ok(Figures {
+        work: Work::OnCore(job.act),
+        operations: core.count().saturating_sub(begun),
+        flushes: 0,
+        time: since(rt, start)?,
+    })
 }
 
 // A core whose variables all have something, with the invariant registered.

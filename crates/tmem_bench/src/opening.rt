@@ -1,7 +1,10 @@
 // Opens a store again and again.
+ghost use Rattle.std.specs.Prelude.{◌≡◌, IfOk};
+ghost use Rattle.tmem_bench.specs.declared.figures.Work.TheVariants.{Open, ReadTwice};
+
 use crate::device::{new_file, removed};
 use crate::error::{BenchError, now, since};
-use crate::figures::Figures;
+use crate::figures::{Figures, Work};
 use crate::jobs::{MANY, SLOTS};
 use crate::service::is_over;
 use crate::store::{On, StoreUse, with_bank};
@@ -20,7 +23,10 @@ pub fn open_again<R: Clock + Files<File = File> + AllocGlobal + Threads + Wait +
     rt: &R,
     path: &str,
     time: Duration,
-) -> Result<(Figures, Figures), BenchError> {
+) -> Result<(Figures, Figures), BenchError>
+    ensures opened { IfOk result (λ had. had.0.work ≡ Open) }
+    ensures read { IfOk result (λ had. had.1.work ≡ ReadTwice) }
+{
     let disk = new_file(rt, path, Layout::new(MANY, SLOTS)?.end())?;
     let had = fill_and_open(rt, disk, path, time);
     removed(rt, path, had)
@@ -32,11 +38,14 @@ fn fill_and_open<R: Clock + Files<File = File> + AllocGlobal + Threads + Wait + 
     mut disk: FileDisk,
     path: &str,
     time: Duration,
-) -> Result<(Figures, Figures), BenchError> {
+) -> Result<(Figures, Figures), BenchError>
+    ensures opened { IfOk result (λ had. had.0.work ≡ Open) }
+    ensures read { IfOk result (λ had. had.1.work ≡ ReadTwice) }
+{
     format(&mut disk, MANY, SLOTS)?;
     with_bank(rt, MANY, On::Store(disk, StoreUse::Fill))?;
     let start = now(rt)?;
-    let (mut opened, mut read) = (Figures::zero(), Figures::zero());
+    let (mut opened, mut read) = (Figures::zero(Work::Open), Figures::zero(Work::ReadTwice));
     for _ in 0..u64::MAX {
         if is_over(rt, start, time) {
             break;
@@ -51,23 +60,27 @@ fn fill_and_open<R: Clock + Files<File = File> + AllocGlobal + Threads + Wait + 
 fn open_once<R: Clock + Files<File = File> + AllocGlobal + Threads + Wait + Sync>(
     rt: &R,
     path: &str,
-) -> Result<Figures, BenchError> {
+) -> Result<Figures, BenchError>
+    ensures { IfOk result (λ had. had.work ≡ Open) }
+{
     let start = now(rt)?;
     let disk = FileDisk::open(rt, path, u64::MAX)?;
     with_bank(rt, MANY, On::Store(disk, StoreUse::Open))?;
-    Ok(Figures::once(since(rt, start)?))
+    Ok(Figures::once(Work::Open, since(rt, start)?))
 }
 
 // Reads a file, twice.
 fn read_twice<R: Clock + Files<File = File> + AllocGlobal>(
     rt: &R,
     path: &str,
-) -> Result<Figures, BenchError> {
+) -> Result<Figures, BenchError>
+    ensures { IfOk result (λ had. had.work ≡ ReadTwice) }
+{
     let start = now(rt)?;
     for _ in 0..2u8 {
         if fs::read(rt, path).is_err() {
             return Err(BenchError::Refused(Fault::Device));
         }
     }
-    Ok(Figures::once(since(rt, start)?))
+    Ok(Figures::once(Work::ReadTwice, since(rt, start)?))
 }

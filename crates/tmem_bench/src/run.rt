@@ -1,8 +1,11 @@
 // Runs the jobs, and prints what they did.
-ghost use Rattle.std.specs.Prelude.{◌≡◌, ◌≤◌, ◌+◌, ◌*◌, ◌∷◌, ℕ, List, IfSome, OnOk, length};
+ghost use Rattle.std.specs.Prelude.{◌≡◌, ◌≢◌, ◌≤◌, ◌+◌, ◌*◌, ◌∷◌, ◌⊎◌, ℕ, List, None, IfSome, IsSomeAnd, IfOk, OnOk, length};
 ghost use Rattle.std.specs.Io.KnownBytes.{Appends};
 ghost use Rattle.std.specs.Duration.{as_nanos};
 ghost use Rattle.tmem_bench.specs.Printed.{head, line, lines_wanted, printed, PrintsTable};
+ghost use Rattle.tmem_bench.specs.declared.device.Medium.TheVariants.{Memory};
+ghost use Rattle.tmem_bench.specs.declared.figures.Work.TheVariants.{OnCore, OnStore, SyncTwice};
+ghost use Rattle.tmem_bench.specs.declared.jobs.Act.TheVariants.{Look};
 
 use crate::device::{Medium, new_file, removed, two_syncs};
 use crate::error::BenchError;
@@ -130,24 +133,53 @@ fn line_of_core<R: Clock + AllocGlobal + Threads + Wait + Sync>(
     time: Duration,
 ) -> Result<String, BenchError> {
     let callers = Callers::Alone;
-    let job = Job { act, callers, time };
     let line = Line {
         device: "core",
-        name: act.name_on_core(),
         callers,
-        had: with_bank::<SimDisk, R>(rt, VARS, On::Core(job))?,
+        had: run_on_core_alone(rt, Job { act, callers, time })?,
         baseline: None,
     };
     Ok(format!(in rt.alloc(); "{line}")?)
 }
 
-// A job on a device. One that makes a file durable runs between two loops of syncs, each for so long.
+// Runs a job on a new core.
+fn run_on_core_alone<R: Clock + AllocGlobal + Threads + Wait + Sync>(
+    rt: &R,
+    job: Job,
+) -> Result<Figures, BenchError>
+    ensures { IfOk result (λ had. had.work ≡ OnCore job.act) }
+{
+    with_bank::<SimDisk, R>(rt, VARS, On::Core(job))
+}
+
+// A job on a device.
 fn line_of_job<R: Clock + Files<File = File> + AllocGlobal + Threads + Wait + Sync>(
     rt: &R,
     place: Medium<'_>,
     job: Job,
     sync_time: Duration,
 ) -> Result<String, BenchError> {
+    let (had, baseline) = run_beside_syncs(rt, place, job, sync_time)?;
+    let line = Line {
+        device: place.name(),
+        callers: job.callers,
+        had,
+        baseline,
+    };
+    Ok(format!(in rt.alloc(); "{line}")?)
+}
+
+// Runs a job on a new device. One that makes a file durable runs between two loops of syncs, each for so long, with which it is compared.
+fn run_beside_syncs<R: Clock + Files<File = File> + AllocGlobal + Threads + Wait + Sync>(
+    rt: &R,
+    place: Medium<'_>,
+    job: Job,
+    sync_time: Duration,
+) -> Result<(Figures, Option<Figures>), BenchError>
+    ensures work { IfOk result (λ told. told.0.work ≡ OnStore job.act) }
+    ensures compared { place.entry ≢ Memory → job.act ≢ Look → IfOk result (λ told. IsSomeAnd told.1 (λ other. other.work ≡ SyncTwice)) }
+    ensures alone { (place.entry ≡ Memory) ⊎ (job.act ≡ Look) → IfOk result (λ told. told.1 ≡ None) }
+{
     let (had, baseline) = if place.is_file() && job.act != Act::Look {
         let before = two_syncs(rt, place, sync_time)?;
         let had = run(rt, place, job)?;
@@ -156,14 +188,7 @@ fn line_of_job<R: Clock + Files<File = File> + AllocGlobal + Threads + Wait + Sy
     } else {
         (run(rt, place, job)?, None)
     };
-    let line = Line {
-        device: place.name(),
-        name: job.act.name(),
-        callers: job.callers,
-        had,
-        baseline,
-    };
-    Ok(format!(in rt.alloc(); "{line}")?)
+    Ok((had, baseline))
 }
 
 // Runs a job on a new device.
@@ -171,7 +196,9 @@ fn run<R: Clock + Files<File = File> + AllocGlobal + Threads + Wait + Sync>(
     rt: &R,
     place: Medium<'_>,
     job: Job,
-) -> Result<Figures, BenchError> {
+) -> Result<Figures, BenchError>
+    ensures { IfOk result (λ had. had.work ≡ OnStore job.act) }
+{
     let size = Layout::new(VARS, SLOTS)?.end();
     match place {
         Medium::Memory => run_in(rt, SimDisk::new(rt.alloc(), size)?, job),
@@ -188,7 +215,9 @@ fn run_in<D: Disk + Drop + Send, R: Clock + AllocGlobal + Threads + Wait + Sync>
     rt: &R,
     mut disk: D,
     job: Job,
-) -> Result<Figures, BenchError> {
+) -> Result<Figures, BenchError>
+    ensures { IfOk result (λ had. had.work ≡ OnStore job.act) }
+{
     format(&mut disk, VARS, SLOTS)?;
     with_bank(rt, VARS, On::Store(disk, StoreUse::Serve(job)))
 }
@@ -202,7 +231,6 @@ fn line_of_openings<R: Clock + Files<File = File> + AllocGlobal + Threads + Wait
     let (had, baseline) = open_again(rt, path, time)?;
     let line = Line {
         device: "file",
-        name: "open 1024 variables",
         callers: Callers::Alone,
         had,
         baseline: Some(baseline),

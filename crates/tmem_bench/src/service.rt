@@ -1,8 +1,11 @@
 // Threads that share a store.
+ghost use Rattle.std.specs.Prelude.{◌≡◌, ◌+◌, ◌-◌, ◌^◌, min, IfOk};
+ghost use Rattle.tmem_bench.specs.Transactions.{Does};
+ghost use Rattle.tmem_bench.specs.declared.figures.Work.TheVariants.{OnStore};
 ghost use Rattle.tmem_tree.specs.Plans.{FitsSteps, FitsVariables, FitsNames, FitsShapes};
 
 use crate::error::{BenchError, now, since};
-use crate::figures::Figures;
+use crate::figures::{Figures, Work};
 use crate::jobs::{Callers, Job, MANY, SLOTS, deposits};
 use std::alloc::Global;
 use std::rt::Clock;
@@ -37,12 +40,16 @@ struct Counted<'a, R: Clock> {
 }
 
 impl<R: Clock> Pace for Counted<'_, R> {
-    fn next(&mut self) -> bool {
+    fn next(&mut self) -> bool
+        ensures { self.new.turns ≡ min (self.old.turns + 1) (2 ^ 64 - 1) }
+    {
         self.turns = self.turns.saturating_add(1);
         self.pace.next()
     }
 
-    fn next_when_full(&mut self) -> bool {
+    fn next_when_full(&mut self) -> bool
+        ensures { self.new.turns ≡ min (self.old.turns + 1) (2 ^ 64 - 1) }
+    {
         self.turns = self.turns.saturating_add(1);
         self.pace.next_when_full()
     }
@@ -60,7 +67,8 @@ pub trait SharedStore {
         alloc: Global,
         job: Job,
         start: Instant,
-    ) -> Result<Figures, Fault>;
+    ) -> Result<Figures, Fault>
+        ensures { IfOk result (λ had. had.work ≡ OnStore job.act) };
 
     /// Makes durable what is committed by one caller or by several, until the store is shut. Answers in how many flushes.
     fn flush<R: Clock + Wait>(&self, rt: &R, has_several: bool) -> Result<u64, Fault>;
@@ -86,7 +94,9 @@ impl<D: Disk + Drop, N: StoreNaming, T: Invariants + Drop, S: StoredSteps + Drop
         alloc: Global,
         job: Job,
         start: Instant,
-    ) -> Result<Figures, Fault> {
+    ) -> Result<Figures, Fault>
+        ensures { IfOk result (λ had. had.work ≡ OnStore job.act) }
+    {
         let plan = self.plan(job.act.transaction(alloc)?)?;
         let mut pass = self.acquire_pass(rt)?;
         let had = settle_until(rt, self, &mut pass, &plan, job, start);
@@ -175,12 +185,14 @@ fn settle_until<
     job: Job,
     start: Instant,
 ) -> Result<Figures, Fault>
+    requires does { Does job.act plan.now.tree }
     requires steps { FitsSteps (S.arities front.now.steps) plan.now.tree }
     requires variables { FitsVariables front.now.vars plan.now }
     requires names { FitsNames N.program.names plan.now.tree }
     requires shapes { FitsShapes N.program.tests plan.now }
+    ensures { IfOk result (λ had. had.work ≡ OnStore job.act) }
 {
-    let mut had = Figures::zero();
+    let mut had = Figures::zero(Work::OnStore(job.act));
     for _ in rt.forever() {
         settle_some(rt, front, pass, plan, job, &mut had)?;
         if is_over(rt, start, job.time) {
@@ -209,6 +221,7 @@ fn settle_some<
     requires variables { FitsVariables front.now.vars plan.now }
     requires names { FitsNames N.program.names plan.now.tree }
     requires shapes { FitsShapes N.program.tests plan.now }
+    ensures { had.new.work ≡ had.old.work }
 {
     let mut last = None;
     for _ in 0..job.act.stride() {
@@ -249,7 +262,9 @@ pub fn serve<F: SharedStore + Sync, R: Clock + Threads + Wait + Sync>(
     alloc: Global,
     store: &F,
     job: Job,
-) -> Result<Figures, BenchError> {
+) -> Result<Figures, BenchError>
+    ensures { IfOk result (λ had. had.work ≡ OnStore job.act) }
+{
     store.prepare(rt, alloc)?;
     let start = now(rt)?;
     let mut had = match job.callers {
@@ -269,16 +284,24 @@ fn work_beside<F: SharedStore + Sync, R: Clock + Threads + Wait + Sync>(
     job: Job,
     callers: usize,
     start: Instant,
-) -> Result<Figures, Fault> {
-    thread::scope(thread::scope_env(), rt, |scope| {
-        let Ok(flusher) = scope.spawn(move || store.flush(rt, callers > 1)) else {
-            return Err(Fault::Memory);
-        };
-        let had = work_all(rt, alloc, store, job, callers, start);
-        store.close(rt);
-        let flushes = flusher.join(rt)?;
-        Ok(Figures { flushes, ..had? })
-    })
+) -> Result<Figures, Fault>
+    ensures { IfOk result (λ had. had.work ≡ OnStore job.act) }
+{
+    thread::scope(
+        thread::scope_env(),
+        rt,
+        |scope| -> Result<Figures, Fault>
+            ensures { IfOk result (λ had. had.work ≡ OnStore job.act) }
+        {
+            let Ok(flusher) = scope.spawn(move || store.flush(rt, callers > 1)) else {
+                return Err(Fault::Memory);
+            };
+            let had = work_all(rt, alloc, store, job, callers, start);
+            store.close(rt);
+            let flushes = flusher.join(rt)?;
+            Ok(Figures { flushes, ..had? })
+        },
+    )
 }
 
 // All callers, each in a thread of its own where one can be made, and else one after another.
@@ -289,9 +312,18 @@ fn work_all<F: SharedStore + Sync, R: Clock + Threads + Wait + Sync>(
     job: Job,
     callers: usize,
     start: Instant,
-) -> Result<Figures, Fault> {
-    let all = map_indices(rt, alloc, callers, &|_| store.work(rt, alloc, job, start))?;
-    let mut sum = Figures::zero();
+) -> Result<Figures, Fault>
+    ensures { IfOk result (λ had. had.work ≡ OnStore job.act) }
+{
+    let all = map_indices(
+        rt,
+        alloc,
+        callers,
+        &|_| -> Result<Figures, Fault>
+            ensures { IfOk result (λ had. had.work ≡ OnStore job.act) }
+        { store.work(rt, alloc, job, start) },
+    )?;
+    let mut sum = Figures::zero(Work::OnStore(job.act));
     for had in all {
         sum = sum.with(had?);
     }

@@ -1,12 +1,13 @@
 // A store for the jobs, with what its closures mean.
-ghost use Rattle.std.specs.Prelude.{◌≡◌, length};
+ghost use Rattle.std.specs.Prelude.{◌≡◌, length, IfOk};
 ghost use Rattle.std.specs.List.{list_any};
 ghost use Rattle.tmem_front.specs.Held.{front_found, spine_of, front_steps, front_table};
 ghost use Rattle.tmem_builtins.specs.Invariants.{has_no_negative, is_negative};
 ghost use Rattle.tmem_bench.specs.Accounts.{bench_bank, variables_in, variables_on};
+ghost use Rattle.tmem_bench.specs.Works.{work_in, work_on};
 
 use crate::error::BenchError;
-use crate::figures::Figures;
+use crate::figures::{Figures, Work};
 use crate::jobs::{Act, Job, SLOTS, SOLVENT};
 use crate::on_core::run_on_core;
 use crate::service::{SharedStore, serve};
@@ -61,7 +62,9 @@ pub fn with_bank<D: Disk + Drop + Send, R: Clock + AllocGlobal + Threads + Wait 
     rt: &R,
     vars: u16,
     on: On<D>,
-) -> Result<Figures, BenchError> {
+) -> Result<Figures, BenchError>
+    ensures { IfOk result (λ had. had.work ≡ work_on on) }
+{
     let alloc = rt.alloc();
     let solvent = Box::new(
         alloc,
@@ -96,6 +99,7 @@ fn open<
     requires names { T.names table ≡ (bench_bank (variables_in task)).names }
     requires stated { T.is_stated table (bench_bank (variables_in task)).tests }
     requires steps { S.is_stated steps (bench_bank (variables_in task)).steps }
+    ensures { IfOk result (λ had. had.work ≡ work_in task) }
 {
     let alloc = rt.alloc();
     match OpenedFront::open(alloc, disk, vars, SLOTS, table, steps) {
@@ -122,6 +126,7 @@ fn with_front<
     requires names { T.names (front_table opened) ≡ N.program.names }
     requires stated { T.is_stated (front_table opened) N.program.tests }
     requires steps { S.is_stated (front_steps opened) N.program.steps }
+    ensures { IfOk result (λ had. had.work ≡ work_in task) }
 {
     let front = opened.named::<N>();
     use_front(rt, alloc, &front, task)
@@ -133,13 +138,15 @@ fn use_front<
     T: Invariants + Drop + Send,
     S: StoredSteps + Drop + Send + Sync,
     R: Clock + Threads + Wait + Sync,
->(rt: &R, alloc: Global, front: &Front<D, N, T, S>, task: StoreUse) -> Result<Figures, BenchError> {
+>(rt: &R, alloc: Global, front: &Front<D, N, T, S>, task: StoreUse) -> Result<Figures, BenchError>
+    ensures { IfOk result (λ had. had.work ≡ work_in task) }
+{
     match task {
         StoreUse::Serve(job) => serve(rt, alloc, front, job),
         StoreUse::Fill => {
             front.fill(rt, alloc)?;
-            Ok(Figures::zero())
+            Ok(Figures::zero(Work::Fill))
         }
-        StoreUse::Open => Ok(Figures::zero()),
+        StoreUse::Open => Ok(Figures::zero(Work::Open)),
     }
 }

@@ -1,11 +1,12 @@
 //! The table of the jobs of a service.
 use std::test::Fail;
 use std::time::Duration;
-use tmem_bench::{Callers, Figures, Line};
+use tmem_bench::{Act, Callers, Figures, Line, Work};
 
-// So much was done in so many milliseconds, in so many flushes.
-fn figures(operations: u64, flushes: u64, millis: u64) -> Figures {
+// So much of a work was done in so many milliseconds, in so many flushes.
+fn figures(work: Work, operations: u64, flushes: u64, millis: u64) -> Figures {
     Figures {
+        work,
         operations,
         flushes,
         time: Duration::from_millis(millis),
@@ -17,25 +18,22 @@ fn a_line_has_a_column_for_each_figure(rt: HostRuntime) -> Result<(), Fail> {
     // 300 a second, in 150 flushes, where the baseline is 200 a second
     let beside = Line {
         device: "file",
-        name: "add, each awaited",
         callers: Callers::Beside(16),
-        had: figures(600, 150, 2000),
-        baseline: Some(figures(100, 0, 500)),
+        had: figures(Work::OnStore(Act::Add), 600, 150, 2000),
+        baseline: Some(figures(Work::SyncTwice, 100, 0, 500)),
     };
     // 3 a second, where the baseline is 12 a second: one caller alone has no flusher
     let alone = Line {
         device: "file",
-        name: "open 1024 variables",
         callers: Callers::Alone,
-        had: figures(9, 0, 3000),
-        baseline: Some(figures(48, 0, 4000)),
+        had: figures(Work::Open, 9, 0, 3000),
+        baseline: Some(figures(Work::ReadTwice, 48, 0, 4000)),
     };
     // 50 a second, and no baseline
     let core = Line {
         device: "core",
-        name: "transfer",
         callers: Callers::Alone,
-        had: figures(100, 0, 2000),
+        had: figures(Work::OnCore(Act::Transfer), 100, 0, 2000),
         baseline: None,
     };
     let lines = [
