@@ -94,7 +94,7 @@ script_to_check = record (new_rule (codes "script")) { value_names = 1; required
 
 -- `check`, with the path of a script
 abbrev pub check_words : Shape
-check_words = record (new_shape (codes "check")) { rules = script_to_check ∷ [] }
+check_words = record (new_shape (codes "check")) { rules = script_to_check ∷ explain_words ∷ [] }
 
 -- the program, which takes a request for its version and wants a subcommand, before it has one
 abbrev pub program_alone : App
@@ -302,11 +302,11 @@ pub record Serves (words : List Text) (store : Text) (shape : Option Text) : Typ
   pub path : store_in words ≡ Some store
   pub with_shape : shape_path_in words ≡ shape
 
--- the script of this path is to be checked
-pub record ChecksScript (words : List Text) (script : Text) : Type 0 where
+-- the script of this path is to be checked, and more is to be told of what fails or not
+pub record ChecksScript (words : List Text) (script explain : Text) : Type 0 where
   pub asks : AsksToCheck words
   pub path : path_in words ≡ Some script
-  pub explains : ExplainsNothing words
+  pub explains : text_in (codes "explain") words ≡ Some explain
 
 -- more is to be told of what fails where a script is played, and less where the word is left out
 pub record ExplainsPlainly (name : Text) : Type 0 where
@@ -323,7 +323,7 @@ pub record ExplainsPlainly (name : Text) : Type 0 where
 -- `--disk` with no path and `--disk` twice are neither. `threads` takes two numbers, from 1 to 16 and from 1 to 1000: other ones,
 -- what is no number, and fewer than two are neither. `bench` takes numbers behind its options alone. `show` takes the path of a store, and both of its flags or none, in any
 -- order. `init` takes the path of a store and that of a file, and maybe its flag, and `serve` the path of a store, and maybe that of a
--- shape. `check` takes the path of a script alone. `--explain` stands behind each of the others.
+-- shape. `check` takes the path of a script. `--explain` stands behind each of them.
 pub record ReadsPlainly (name : Text) : Type 0 where
   pub input : AsksToPlayFrom (name ∷ codes "run" ∷ []) None None
   pub file : AsksToPlayFrom (name ∷ codes "run" ∷ codes "first.json" ∷ []) (Some (codes "first.json")) None
@@ -363,7 +363,8 @@ pub record ReadsPlainly (name : Text) : Type 0 where
   pub serve : Serves (name ∷ codes "serve" ∷ codes "store" ∷ []) (codes "store") None
   pub serve_with_shape : Serves (name ∷ codes "serve" ∷ codes "store" ∷ codes "--shape" ∷ codes "a.json" ∷ []) (codes "store") (Some (codes "a.json"))
   pub serve_nothing : AreRefused (name ∷ codes "serve" ∷ [])
-  pub check : ChecksScript (name ∷ codes "check" ∷ codes "first.json" ∷ []) (codes "first.json")
+  pub check : ChecksScript (name ∷ codes "check" ∷ codes "first.json" ∷ []) (codes "first.json") (codes "false")
   pub check_nothing : AreRefused (name ∷ codes "check" ∷ [])
-  pub check_explained : AreRefused (name ∷ codes "check" ∷ codes "first.json" ∷ codes "--explain" ∷ [])
+  pub check_explained : ChecksScript (name ∷ codes "check" ∷ codes "first.json" ∷ codes "--explain" ∷ []) (codes "first.json") (codes "true")
+  pub check_two : AreRefused (name ∷ codes "check" ∷ codes "a" ∷ codes "b" ∷ [])
   pub explained : ExplainsPlainly name

@@ -385,7 +385,7 @@ fn init_command<'a>(alloc: Global) -> Result<Command<'a>, AllocError>
         .arg(flag_arg(
             alloc,
             "in-place",
-            "Make it on a blank file or block device that is there, and put nothing beside it",
+            "Make it on a file or block device that is there, whose first bytes, as many as it takes, are 0, and put nothing beside it",
         ))?
         .arg(explain_arg(alloc))
 }
@@ -407,7 +407,8 @@ fn check_command<'a>(alloc: Global) -> Result<Command<'a>, AllocError>
 {
     Command::new(alloc, "check")
         .about("Says all that is wrong with a script, and touches no store")
-        .arg(checked_arg(alloc))
+        .arg(checked_arg(alloc))?
+        .arg(idle_explain_arg(alloc))
 }
 
 // The path of a script, which has to be given.
@@ -427,6 +428,14 @@ fn explain_arg<'a>(alloc: Global) -> Arg<'a>
     ensures local { result.global ≡ false }
 {
     flag_arg(alloc, "explain", "Say more of what fails, and what to do")
+}
+
+// The same where all is said without it.
+fn idle_explain_arg<'a>(alloc: Global) -> Arg<'a>
+    ensures rule { rule_of result ≡ explain_words }
+    ensures local { result.global ≡ false }
+{
+    flag_arg(alloc, "explain", "Changes nothing: all is said without it")
 }
 
 // The file of a shape, which has to be given.

@@ -13,8 +13,8 @@ use std::os::unix::fs::FileTypeExt;
 use tmem_args::Asked;
 use tmem_desk::DeskFailure;
 use tmem_explain::{
-    CUT_OFF, CallCause, DeviceCause, Expected, FaultHelp, NumbersHelp, TOO_SHORT, Wanted, cause_of,
-    flaws_in, is_cut_off, plan_flaw,
+    CUT_OFF, CallCause, DeviceCause, Expected, FaultHelp, NumbersHelp, RefusalHelp, Wanted,
+    cause_of, flaws_in, is_cut_off, plan_flaw,
 };
 use tmem_fault::{Cause, Fault};
 use tmem_init::InitError;
@@ -52,15 +52,24 @@ const A_STORE: &str = "it is a store already; serve that store, or name another 
 
 const NO_STORE: &str = "what is there is no store";
 
+const UNSEEN: &str = "what is there could not be looked at";
+
+const EMPTY_STORE: &str =
+    "the file is empty, and so no store; remove it, or put a copy of the store in its place";
+
+const STORE_FOR_FILE: &str =
+    "it is a store, and no shape; STORE is named first, and FILE, its shape, second; no store was touched";
+
+const STORE_FOR_SHAPE: &str =
+    "it is a store, and no shape; name its shape by --shape; no store was touched";
+
 const A_DEVICE: &str = "it is a block device; add --in-place to make a store on it";
 
 const PLACED_OR_NOT: &str =
     "the device failed while the store was made on it, so it is made or not; look into the system's log (dmesg), start the machine anew after an error of the disk, and give the same words again: they make it, or say that the device is not blank, and then it is made";
 
 const NOT_BLANK: &str =
-    "it has bytes other than 0, and a store is made in place of nothing else; name another, or fill it with zeros";
-
-const LOOK_AGAIN: &str = "if a program has it open, look again";
+    "it has bytes other than 0 where the store would be, and what is on it would be lost; look first what it is (lsblk, mount), and name another, or fill it with zeros only if nothing on it is needed";
 
 /// Tells more of why a run ended before its last line, and of each entry that was refused.
 pub(crate) fn explain<E: Write>(
@@ -92,20 +101,12 @@ fn tell_bytes<E: Write>(
     let Ok(Some(refusal)) = refusal_of(rt.alloc(), &source) else {
         return Ok(false);
     };
-    match refusal.fault {
-        Fault::Geometry => tell(err, format_args!("{path}: {refusal}: {TOO_SHORT}"))?,
-        Fault::Damaged if is_shown => {
-            let help = FaultHelp(Fault::Damaged);
-            tell(
-                err,
-                format_args!("{path}: {refusal}: {LOOK_AGAIN}; else {help}"),
-            )?;
-        }
-        fault => {
-            let help = FaultHelp(fault);
-            tell(err, format_args!("{path}: {refusal}: {help}"))?;
-        }
-    }
+    let help = RefusalHelp {
+        fault: refusal.fault,
+        is_of_no_store: refusal.is_of_no_store(),
+        is_shown,
+    };
+    tell(err, format_args!("{path}: {refusal}: {help}"))?;
     Ok(true)
 }
 
@@ -215,6 +216,7 @@ fn tell_no_store<E: Write>(
             err,
             format_args!("{path}: {NO_STORE}; move it away, or name another path"),
         ),
+        DeviceCause::Call(cause) => tell(err, format_args!("{path}: {UNSEEN}: {cause}")),
         cause => tell(err, format_args!("{path}: {NO_STORE}: {cause}")),
     }
 }
@@ -241,11 +243,11 @@ fn tell_no_shape<E: Write>(
     err: &mut E,
 ) -> io::Result<()> {
     match asked {
-        Asked::Init(making) => tell_of_shape(rt, err, making.file.unwrap_or("")),
+        Asked::Init(making) => tell_of_shape(rt, err, making.file.unwrap_or(""), STORE_FOR_FILE),
         Asked::Serve(serving) => match serving.shape {
-            Some(path) => tell_of_shape(rt, err, path),
+            Some(path) => tell_of_shape(rt, err, path, STORE_FOR_SHAPE),
             None => match shape_beside(rt.alloc(), serving.store.unwrap_or("")) {
-                Ok(beside) => tell_of_shape(rt, err, beside.as_str()),
+                Ok(beside) => tell_of_shape(rt, err, beside.as_str(), STORE_FOR_SHAPE),
                 Err(_) => tell(err, NO_SHAPE),
             },
         },
@@ -253,11 +255,16 @@ fn tell_no_shape<E: Write>(
     }
 }
 
+// Tells what to do with what has the path of a shape and is none; of a store it says this.
 fn tell_of_shape<E: Write>(
     rt: &(impl Files<File = File> + AllocGlobal),
     err: &mut E,
     path: &str,
+    of_store: &str,
 ) -> io::Result<()> {
+    if begins_as_store(rt, path) {
+        return tell(err, format_args!("{path}: {of_store}"));
+    }
     if is_file_empty(rt, path) {
         return tell(err, format_args!("{path}: {EMPTY_FILE}; {NO_SHAPE}"));
     }
@@ -284,12 +291,42 @@ fn is_file_cut_off(rt: &(impl Files<File = File> + AllocGlobal), path: &str) -> 
 
 // Whether what is to become a store is one already.
 fn is_store(rt: &(impl Files<File = File> + AllocGlobal), asked: Asked) -> bool {
+    match store_of(asked) {
+        Some((path, _)) => begins_as_store(rt, path),
+        None => false,
+    }
+}
+
+// The same, and that it was not cut off.
+fn is_whole_store(rt: &(impl Files<File = File> + AllocGlobal), asked: Asked) -> bool {
     let Some((path, _)) = store_of(asked) else {
         return false;
     };
+    let Ok(source) = Source::read(rt, path) else {
+        return false;
+    };
+    match block_of(&source.bytes) {
+        Ok(block) => source.size >= block.layout.end(),
+        Err(_) => false,
+    }
+}
+
+// Whether what has a path begins as a store does.
+fn begins_as_store(rt: &(impl Files<File = File> + AllocGlobal), path: &str) -> bool {
     match Source::read(rt, path) {
         Ok(source) => block_of(&source.bytes).is_ok(),
         Err(_) => false,
+    }
+}
+
+// Whether an empty file has the path of a store that was to be there. (One on which a store is to be made is only too short.)
+fn is_store_empty(rt: &(impl Files<File = File> + AllocGlobal), asked: Asked) -> bool {
+    match (asked, store_of(asked)) {
+        (Asked::Init(_), _) | (_, None) => false,
+        (_, Some((path, _))) => match Source::read(rt, path) {
+            Ok(source) => source.size == 0,
+            Err(_) => false,
+        },
     }
 }
 
@@ -442,10 +479,16 @@ fn tell_geometry<E: Write>(
     if has_no_bytes(rt, asked) {
         return tell_of(err, asked, DeviceCause::NoBytes);
     }
+    if is_store_empty(rt, asked) {
+        return tell_of(err, asked, EMPTY_STORE);
+    }
     let Some((vars, slots)) = numbers_in(rt, asked, notes) else {
         return tell_cut_off(rt, asked, err);
     };
     match Layout::new(vars, slots) {
+        Ok(_) if matches!(asked, Asked::Init(_)) && is_whole_store(rt, asked) => {
+            tell_of(err, asked, A_STORE)
+        }
         Ok(layout) => match found_in(rt, asked, layout) {
             Some(help) => tell_of(err, asked, help),
             None => tell_of(err, asked, FaultHelp(Fault::Geometry)),
@@ -504,7 +547,7 @@ fn numbers_of_shape(
     }
 }
 
-// What a file has in place of a store of these numbers.
+// Why there is no store of this layout in a file, or why no new one is put there.
 fn found_in(
     rt: &(impl Files<File = File> + AllocGlobal),
     asked: Asked,
@@ -514,34 +557,15 @@ fn found_in(
     let Ok(source) = Source::read(rt, path) else {
         return None;
     };
-    let Layout { vars, slots, .. } = layout;
-    if let Ok(block) = block_of(&source.bytes) {
-        let (had_vars, had_slots) = (block.layout.vars, block.layout.slots);
-        if had_vars != vars || had_slots != slots {
-            return Some(NumbersHelp::Other {
-                vars,
-                slots,
-                had_vars,
-                had_slots,
-            });
-        }
+    if let Asked::Init(_) = asked {
+        let is_blank = source.bytes.iter().all(|byte| *byte == 0);
+        return NumbersHelp::of_new(layout, is_blank, source.size);
     }
-    let (has, wants) = (source.size, layout.end());
-    if has >= wants {
-        return None;
-    }
-    match asked {
-        Asked::Init(_) if source.bytes.iter().any(|byte| *byte != 0) => {
-            Some(NumbersHelp::NotBlank { has, wants })
-        }
-        Asked::Init(_) => Some(NumbersHelp::NoRoom { has, wants }),
-        _ => Some(NumbersHelp::Short {
-            vars,
-            slots,
-            has,
-            wants,
-        }),
-    }
+    let had = match block_of(&source.bytes) {
+        Ok(block) => Some((block.layout.vars, block.layout.slots)),
+        Err(_) => None,
+    };
+    NumbersHelp::of_store(layout, had, source.size)
 }
 
 // The path of the store, and what was to have it.

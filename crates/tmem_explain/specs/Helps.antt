@@ -1,23 +1,24 @@
 -- What is told of a fault, and of numbers that do not fit.
-use Rattle.std.specs.Prelude.{ℕ, List, ◌++◌, codes}
+use Rattle.std.specs.Prelude.{ℕ, Bool, true, false, List, ◌++◌, codes}
 use Rattle.std.specs.Fmt.{decimal}
 use Rattle.tmem_fault.specs.declared.fault.Fault.{Fault}
 use Rattle.tmem_fault.specs.declared.fault.Fault.TheVariants as fault
 use Rattle.tmem_requests.specs.Answers.{cause_text}
+use Rattle.tmem_explain.specs.declared.help.RefusalHelp.{RefusalHelp}
 use Rattle.tmem_explain.specs.declared.numbers.NumbersHelp.{NumbersHelp}
 use Rattle.tmem_explain.specs.declared.numbers.NumbersHelp.TheVariants as numbers
 
 -- what went wrong, and what to do
 abbrev pub fault_help : Fault → List ℕ
 fault_help fault.Memory = codes "memory did not suffice, or no thread could be started; give the program more (ulimit -v, ulimit -u), or ask for less"
-fault_help fault.Device = codes "a call on the file failed; look at its rights, at room (df), at limits (ulimit -f, ulimit -n), whether the device is read-only, and into the system's log (dmesg), and run the program again"
-fault_help fault.Closed = codes "an earlier failure has closed the store: a call on its file failed, or it could not be opened again; mend that, and run the program again"
+fault_help fault.Device = codes "a call on the file failed; look at its rights, at room (df), at limits (ulimit -f, ulimit -n), whether the device is read-only, and into the system's log (dmesg); then open the store again, and see what it has before anything is repeated"
+fault_help fault.Closed = codes "an earlier failure has closed the store: a call on its file failed, or it could not be opened again; mend that, open the store again, and see what it has before anything is repeated"
 fault_help fault.Unknown =
-    codes "the device failed while a batch was made durable, and all of the batch is durable or nothing; open the store again, after an error of the disk once the machine was started anew, and it says how many transactions there are"
+    codes "the device failed; of a flush, all of the batch is durable or nothing; a checkpoint puts no transaction in doubt; open the store again, after an error of the disk once the machine was started anew, and it says how many transactions there are"
 fault_help fault.Full = codes "256 transactions wait to be durable; flush, and settle again"
 fault_help fault.LogFull = codes "every slot of the log is used; make a checkpoint, and flush again"
 fault_help fault.Conflict = codes "a value that the transaction read has changed; begin it again"
-fault_help fault.NotFormatted = codes "this does not begin as a store; check the path, or restore a copy"
+fault_help fault.NotFormatted = codes "this does not begin as a store; check the path, and restore a copy only if a store was there"
 fault_help fault.Damaged =
     codes "the file is not as tmem leaves one: something else changed it, or a later version of tmem wrote it; run that version, or put a copy of the file in its place (nothing repairs it)"
 fault_help (fault.Missing name) =
@@ -31,6 +32,16 @@ fault_help fault.Spent = codes "the count of transactions or of images is at 2^6
 fault_help fault.NoSeat = codes "all 32 passes were given out; keep passes, or borrow them of the pool"
 fault_help fault.Geometry =
     codes "the numbers of variables and log slots that were asked for are out of limits (1 to 1024, 2 to 64) or not the store's own, or its file was cut off; state those that tmem show PATH prints, or put a copy of the file in its place"
+
+-- what to do where an opening refuses bytes by a fault: whether no store is so short, and whether they were read without a lock
+abbrev help_of : Fault → Bool → Bool → List ℕ
+help_of fault.Geometry true shown = fault_help fault.NotFormatted
+help_of fault.Geometry false shown = codes "the file was cut off, or is no store; restore a copy, or check the path"
+help_of fault.Damaged no_store true = codes "if a program has it open, look again; else " ++ fault_help fault.Damaged
+help_of f no_store shown = fault_help f
+
+abbrev pub refusal_help : RefusalHelp → List ℕ
+refusal_help help = help_of help.fault help.is_of_no_store help.is_shown
 
 -- the numbers that were asked for, beside what there is
 abbrev pub numbers_help : NumbersHelp → List ℕ

@@ -1,4 +1,4 @@
-//! What is told of texts and files that end too soon.
+//! What is told of texts that end too soon.
 ghost use Rattle.std.specs.Prelude.{IsTrue};
 ghost use Rattle.tmem_requests.specs.Reasons.{IsNoJson};
 
@@ -8,10 +8,6 @@ use std::alloc::Global;
 /// What is wrong with a text that ends too soon.
 pub const CUT_OFF: &str =
     "the text ends before its JSON does: a bracket or a quotation mark is left open";
-
-/// What to do with a store whose file is shorter than its first bytes say.
-pub const TOO_SHORT: &str =
-    "the file was cut off, or is no store; restore a copy, or check the path";
 
 /// Whether a text ends before its JSON does. One that is JSON does not, nor is it told where memory does not suffice.
 pub fn is_cut_off(alloc: Global, text: &[u8]) -> bool

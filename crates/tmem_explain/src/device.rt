@@ -38,6 +38,8 @@ pub enum DeviceCause {
     /// Something has the path.
     There,
     MissingFolder,
+    /// A part of it that is used as a folder is none.
+    NoFolder,
     /// The path ends as that of a folder does.
     Slash,
     /// No file may be made in its folder.
@@ -96,7 +98,7 @@ impl fmt::Display for CallCause {
     fn fmt<W: fmt::Write>(&self, f: &mut fmt::Formatter<W>) -> fmt::Result {
         f.write_str(match self {
             CallCause::NoPermission =>
-                "this user may not use it; change its rights, or run as its owner",
+                "this user may not use it; look at its rights, at those of each folder on the path, and at its attributes (lsattr), and change what forbids it, or run as its owner",
             CallCause::ReadOnly =>
                 "its file system is mounted read-only; mount it for writing, or name a path on another",
             CallCause::NoRoom =>
@@ -109,7 +111,7 @@ impl fmt::Display for CallCause {
             CallCause::DiskError =>
                 "the disk reports an error (EIO); look into the system's log (dmesg), and restore a copy on another disk",
             CallCause::Other =>
-                "a call on it failed, and what was tried again did not; look at its rights, at room (df), at limits (ulimit -f, ulimit -n), whether the device is read-only, and into the system's log (dmesg)",
+                "a call on it failed, for a reason that this look does not show; look at its rights, at room (df), at limits (ulimit -f, ulimit -n), whether the device is read-only, and into the system's log (dmesg)",
         })
     }
 }
@@ -131,15 +133,17 @@ impl fmt::Display for DeviceCause {
             DeviceCause::There =>
                 "something has this path, and a new file was to be made; name another path",
             DeviceCause::MissingFolder => "its folder is not there; make it, or check the path",
+            DeviceCause::NoFolder =>
+                "a part of this path, or of a link on it, is used as a folder and is none; check the path",
             DeviceCause::Slash => "it ends in /, as the path of a folder does; name a file",
             DeviceCause::ClosedFolder =>
-                "this user may not make a file in its folder; change the folder's rights, or name a path in another",
+                "this user may not make a file in its folder; change the folder's rights or attributes (lsattr), or name a path in another",
             DeviceCause::NoLinks =>
                 "its file system makes no hard links, by which a new file gets its name; name a path on another",
             DeviceCause::NoBytes =>
                 "the device has 0 bytes; look whether anything is attached to it",
             DeviceCause::SecondName =>
-                "it has a second name, as a new file has until its folder is synced, and its folder cannot be synced; let one who may read the folder sync it (sync FOLDER), and then remove PATH.new0",
+                "it has a second name, as a new file has until its folder is synced, and its folder cannot be synced; let one who may read it do that (sync FOLDER), and then remove that name",
             DeviceCause::Call(cause) => return write!(f, "{cause}"),
         };
         f.write_str(text)
@@ -181,7 +185,7 @@ pub fn cause_of<R: Files<File = File> + AllocGlobal>(
         Err(error) => match error.kind() {
             ErrorKind::NotFound => cause_of_missing(rt, path, wanted, size),
             ErrorKind::NotADirectory if ends_in_slash(path) => DeviceCause::Slash,
-            ErrorKind::NotADirectory => DeviceCause::MissingFolder,
+            ErrorKind::NotADirectory => DeviceCause::NoFolder,
             _ => DeviceCause::Call(CallCause::of(error)),
         },
     }

@@ -21,15 +21,15 @@ impl fmt::Display for FaultHelp {
             ),
             Fault::Device => write!(
                 f,
-                "a call on the file failed; look at its rights, at room (df), at limits (ulimit -f, ulimit -n), whether the device is read-only, and into the system's log (dmesg), and run the program again"
+                "a call on the file failed; look at its rights, at room (df), at limits (ulimit -f, ulimit -n), whether the device is read-only, and into the system's log (dmesg); then open the store again, and see what it has before anything is repeated"
             ),
             Fault::Closed => write!(
                 f,
-                "an earlier failure has closed the store: a call on its file failed, or it could not be opened again; mend that, and run the program again"
+                "an earlier failure has closed the store: a call on its file failed, or it could not be opened again; mend that, open the store again, and see what it has before anything is repeated"
             ),
             Fault::Unknown => write!(
                 f,
-                "the device failed while a batch was made durable, and all of the batch is durable or nothing; open the store again, after an error of the disk once the machine was started anew, and it says how many transactions there are"
+                "the device failed; of a flush, all of the batch is durable or nothing; a checkpoint puts no transaction in doubt; open the store again, after an error of the disk once the machine was started anew, and it says how many transactions there are"
             ),
             Fault::Full => write!(
                 f,
@@ -45,7 +45,7 @@ impl fmt::Display for FaultHelp {
             ),
             Fault::NotFormatted => write!(
                 f,
-                "this does not begin as a store; check the path, or restore a copy"
+                "this does not begin as a store; check the path, and restore a copy only if a store was there"
             ),
             Fault::Damaged => write!(
                 f,
@@ -80,6 +80,44 @@ impl fmt::Display for FaultHelp {
                 f,
                 "the numbers of variables and log slots that were asked for are out of limits (1 to 1024, 2 to 64) or not the store's own, or its file was cut off; state those that tmem show PATH prints, or put a copy of the file in its place"
             ),
+        }
+    }
+}
+
+/// What to do where an opening refuses the bytes of a store by a fault, in a line for it.
+#[derive(Clone, Copy)]
+pub struct RefusalHelp {
+    pub fault: Fault,
+    /// The bytes are fewer than those of any store, and do not begin as one.
+    pub is_of_no_store: bool,
+    /// They were read without the lock of their file.
+    pub is_shown: bool,
+}
+
+impl fmt::Display for RefusalHelp {
+    ghost use Rattle.std.specs.Prelude.{Some};
+    ghost use Rattle.tmem_explain.specs.Helps.{refusal_help};
+
+    ghost output = { λ help. Some (refusal_help help) };
+
+    fn fmt<W: fmt::Write>(&self, f: &mut fmt::Formatter<W>) -> fmt::Result {
+        let RefusalHelp {
+            fault,
+            is_of_no_store,
+            is_shown,
+        } = *self;
+        match fault {
+            Fault::Geometry if is_of_no_store => write!(f, "{}", FaultHelp(Fault::NotFormatted)),
+            Fault::Geometry => write!(
+                f,
+                "the file was cut off, or is no store; restore a copy, or check the path"
+            ),
+            Fault::Damaged if is_shown => write!(
+                f,
+                "if a program has it open, look again; else {}",
+                FaultHelp(Fault::Damaged)
+            ),
+            _ => write!(f, "{}", FaultHelp(fault)),
         }
     }
 }

@@ -1,5 +1,6 @@
 //! Which numbers a store has, beside those that were asked for.
 use std::fmt;
+use tmem_record::Layout;
 
 /// Why numbers of variables and log slots are refused, and what to do.
 #[derive(Clone, Copy)]
@@ -33,6 +34,53 @@ pub enum NumbersHelp {
         has: u64,
         wants: u64,
     },
+}
+
+impl NumbersHelp {
+    ghost use Rattle.std.specs.Prelude.{◌≡◌};
+    ghost use Rattle.tmem_explain.specs.Numbers.{new_numbers, store_numbers};
+
+    /// Why a store of this layout is not in a file of so many bytes, whose block 0 has these numbers of variables and log slots, if it is
+    /// that of a store: those are others, or the bytes are too few.
+    pub fn of_store(layout: Layout, had: Option<(u16, u16)>, has: u64) -> Option<NumbersHelp>
+        ensures { result ≡ store_numbers layout.vars layout.slots had has }
+    {
+        let (vars, slots) = (layout.vars, layout.slots);
+        if let Some((had_vars, had_slots)) = had {
+            if had_vars != vars || had_slots != slots {
+                return Some(NumbersHelp::Other {
+                    vars,
+                    slots,
+                    had_vars,
+                    had_slots,
+                });
+            }
+        }
+        let wants = layout.end();
+        if has >= wants {
+            return None;
+        }
+        Some(NumbersHelp::Short {
+            vars,
+            slots,
+            has,
+            wants,
+        })
+    }
+
+    /// Why a new store of this layout is not put where there are so many bytes, which are all 0 or not: they are too few.
+    pub fn of_new(layout: Layout, is_blank: bool, has: u64) -> Option<NumbersHelp>
+        ensures { result ≡ new_numbers layout.vars layout.slots is_blank has }
+    {
+        let wants = layout.end();
+        if has >= wants {
+            None
+        } else if is_blank {
+            Some(NumbersHelp::NoRoom { has, wants })
+        } else {
+            Some(NumbersHelp::NotBlank { has, wants })
+        }
+    }
 }
 
 impl fmt::Display for NumbersHelp {

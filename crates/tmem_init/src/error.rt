@@ -23,7 +23,7 @@ impl fmt::Display for InitError {
     fn fmt<W: fmt::Write>(&self, f: &mut fmt::Formatter<W>) -> fmt::Result {
         match self {
             InitError::Refused(fault) => write!(f, "{fault}"),
-            InitError::StoreIsThere => write!(f, "the store is there already"),
+            InitError::StoreIsThere => write!(f, "something is there already"),
             InitError::TextIsThere => write!(f, "another shape is there already"),
             InitError::TextUnread(why) => write!(f, "cannot read the shape that is there: {why}"),
             InitError::NotBlank => write!(f, "the device is not blank"),

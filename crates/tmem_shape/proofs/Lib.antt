@@ -1,3 +1,4 @@
+mod First
 mod Kept
 pub mod Arrays
 pub mod Found

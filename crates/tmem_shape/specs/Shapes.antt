@@ -1,5 +1,5 @@
 -- The shape of a store, and its JSON form. In which order the keys of an object stand in the text makes no difference.
-use Rattle.std.specs.Prelude.{◌≡◌, ◌⊎◌, ℕ, ℤ, ◌<◌, ◌≤◌, ◌||◌, Bool, true, false, if◌then◌else◌, List, [], ◌∷◌, length, map, codes, slice_index, All, FitsSigned, IsUtf8, Option, Some, None, option_map, is_some, IfSome, String, string_bytes}
+use Rattle.std.specs.Prelude.{◌≡◌, ◌⊎◌, ℕ, ℤ, ◌<◌, ◌≤◌, ◌+◌, ◌||◌, Bool, true, false, if◌then◌else◌, List, [], ◌∷◌, length, map, codes, slice_index, take, All, FitsSigned, IsUtf8, Option, Some, None, option_map, is_some, IfSome, String, string_bytes}
 use Rattle.std.specs.Int.{w32, w64}
 use Rattle.std.specs.List.{AllZip}
 use Rattle.std.specs.declared.alloc.Global.{Global}
@@ -91,6 +91,10 @@ are_bounds_met (Some least) most = is_to most least
 
 abbrev pub CanHold : Linear → Type 0
 CanHold linear = are_bounds_met linear.least linear.most ≡ true
+
+-- what holds of those before a place does not with the one there
+abbrev pub BreaksFirst : {X : Type 0} → (List X → Type 0) → List X → ℕ → Type 0
+BreaksFirst Holds xs i = Holds (take i xs) × (i < length xs) × ¬ Holds (take (i + 1) xs)
 
 -- an array of the forms of these invariants, in order, stands at `invariants`: at most 64, and no name twice
 pub record HasInvariants (vars : ℕ) (invariants : List Linear) (d : Data) : Type 0 where

@@ -8,7 +8,7 @@ ghost use Rattle.tmem_invariants.specs.TableNames.{AreDistinct, has_name};
 ghost use Rattle.tmem_linear.specs.declared.linear.Linear.{Linear};
 ghost use Rattle.tmem_shape.specs.Errors.{RefusesText};
 ghost use Rattle.tmem_shape.specs.Keys.{key_text};
-ghost use Rattle.tmem_shape.specs.Shapes.{CanHold, HasAlways, HasBound, HasInvariants, HasName, IsInvariant};
+ghost use Rattle.tmem_shape.specs.Shapes.{BreaksFirst, CanHold, HasAlways, HasBound, HasInvariants, HasName, IsInvariant};
 
 use crate::error::ShapeError;
 use crate::key::Key;
@@ -68,7 +68,8 @@ fn linears_of(alloc: Global, items: &[Value], vars: u16) -> Result<Vec<Linear>, 
 
 // The place of the first invariant whose name an earlier one has, if there is one.
 fn name_repeated(invariants: &[Linear]) -> Option<usize>
-    ensures { MatchOption result (AreDistinct (map (λ linear. linear.name) invariants.now)) (λ place. ¬ AreDistinct (map (λ linear. linear.name) invariants.now)) }
+    ensures repeated { MatchOption result (AreDistinct (map (λ linear. linear.name) invariants.now)) (λ place. ¬ AreDistinct (map (λ linear. linear.name) invariants.now)) }
+    ensures first { IfSome result (BreaksFirst AreDistinct (map (λ linear. linear.name) invariants.now)) }
 {
     for (i, linear) in invariants.iter().enumerate() {
         if is_named(&invariants[..i], &linear.name) {
@@ -80,7 +81,8 @@ fn name_repeated(invariants: &[Linear]) -> Option<usize>
 
 /// The place of the first invariant whose least is above its most, if there is one.
 pub(crate) fn first_crossed(invariants: &[Linear]) -> Option<usize>
-    ensures { MatchOption result (All CanHold invariants.now) (λ place. ¬ All CanHold invariants.now) }
+    ensures crossed { MatchOption result (All CanHold invariants.now) (λ place. ¬ All CanHold invariants.now) }
+    ensures first { IfSome result (BreaksFirst (All CanHold) invariants.now) }
 {
     for (i, linear) in invariants.iter().enumerate() {
         if !can_hold(linear) {

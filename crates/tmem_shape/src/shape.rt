@@ -2,7 +2,7 @@
 ghost use Rattle.std.specs.Prelude.{◌≡◌, None, Some, IsUtf8, IfOk, IfErr};
 ghost use Rattle.serde_json.specs.Read.{read};
 ghost use Rattle.serde_json.specs.View.{view};
-ghost use Rattle.tmem_shape.specs.Errors.{RefusesText};
+ghost use Rattle.tmem_shape.specs.Errors.{RefusesText, TellsFirstCrossed};
 
 use crate::error::ShapeError;
 use crate::invariants::{first_crossed, invariants_of};
@@ -72,6 +72,7 @@ impl StoreShape {
     pub fn check_bounds(&self) -> Result<(), ShapeError>
         ensures ok { OnOk result (All CanHold self.now.invariants.items) }
         ensures refused { IfErr result (λ e. RefusesText e (¬ All CanHold self.now.invariants.items)) }
+        ensures first { IfErr result (TellsFirstCrossed self.now.invariants.items) }
     {
         match first_crossed(&self.invariants) {
             None => Ok(()),

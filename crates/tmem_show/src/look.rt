@@ -198,15 +198,22 @@ pub(crate) fn opening_without_block(
     ensures found { IfOk result (IsOpening 1 2 source.now.bytes.items) }
     ensures refused { IfErr result (λ fault. fault ≡ Fault.Memory) }
 {
-    let least = Layout {
-        vars: 1,
-        slots: LEAST_SLOTS,
-    };
-    match recovery_of(alloc, &source.bytes, least) {
+    match recovery_of(alloc, &source.bytes, least_layout()) {
         Recovery::Found(state) => Ok(OpeningResult::Found(state)),
         Recovery::Refused(Fault::Memory) => Err(Fault::Memory),
         Recovery::Refused(Fault::Geometry) => Ok(too_short(source)),
         Recovery::Refused(fault) => Ok(OpeningResult::Refused(fault, wrong)),
+    }
+}
+
+/// The layout of the shortest store.
+pub(crate) fn least_layout() -> Layout
+    ensures vars { result.vars ≡ 1 }
+    ensures slots { result.slots ≡ 2 }
+{
+    Layout {
+        vars: 1,
+        slots: LEAST_SLOTS,
     }
 }
 

@@ -1,8 +1,9 @@
 //! What of a store an opening refuses.
-ghost use Rattle.std.specs.Prelude.{◌≡◌, ◌⊎◌, ℕ, List, IfErr, IfOk};
-ghost use Rattle.tmem_show.specs.Refusals.{IsInPart, IsOpening, TellsOf, TellsOpening};
+ghost use Rattle.std.specs.Prelude.{◌≡◌, ◌⊎◌, ℕ, List, IfErr, IfOk, IfSome};
+ghost use Rattle.tmem_parts.specs.Block.{IsBlockWrong};
+ghost use Rattle.tmem_show.specs.Refusals.{IsInPart, IsOpening, IsPlaced, IsPlacedBefore, IsPlacedBehind, IsPlacedIn, TellsOf, TellsOpening, is_of_no_store};
 
-use crate::look::{OpeningResult, ShownStore, opening_without_block, too_short};
+use crate::look::{OpeningResult, ShownStore, least_layout, opening_without_block, too_short};
 use crate::source::Source;
 use std::alloc::Global;
 use std::fmt;
@@ -10,12 +11,21 @@ use tmem_fault::Fault;
 use tmem_parts::{Block, WrongByte, block_of};
 use tmem_record::{BLOCK_BYTES, Layout, SLOT_BYTES};
 
-/// Why an opening of a store is refused, and where. It prints as the part, the byte, and what is wrong there.
+/// Why an opening of a store is refused, and where. It prints as the part, the byte, and what is wrong there; of bytes that are fewer than
+/// those of any store, behind how many there are.
 #[derive(Drop)]
 pub struct Refusal {
     pub fault: Fault,
-    part: Part,
-    wrong: WrongByte,
+    place: Place,
+}
+
+// Where something is wrong.
+#[derive(Clone, Copy)]
+enum Place {
+    /// In this part.
+    In(Part, WrongByte),
+    /// In block 0, of so many bytes as no store has.
+    Before(u64, WrongByte),
 }
 
 // A part of a store.
@@ -28,11 +38,25 @@ enum Part {
 
 impl fmt::Display for Refusal {
     fn fmt<W: fmt::Write>(&self, f: &mut fmt::Formatter<W>) -> fmt::Result {
-        match self.part {
-            Part::Block => write!(f, "block 0, {}", self.wrong),
-            Part::Image(copy) => write!(f, "image {copy}, {}", self.wrong),
-            Part::Slot(k) => write!(f, "slot {k}, {}", self.wrong),
+        match self.place {
+            Place::In(Part::Block, wrong) => write!(f, "block 0, {wrong}"),
+            Place::In(Part::Image(copy), wrong) => write!(f, "image {copy}, {wrong}"),
+            Place::In(Part::Slot(k), wrong) => write!(f, "slot {k}, {wrong}"),
+            Place::Before(size, wrong) => write!(
+                f,
+                "it has {size} bytes, and the shortest store has {}; block 0, {wrong}",
+                least_layout().end()
+            ),
         }
+    }
+}
+
+impl Refusal {
+    /// Whether there are too few bytes of what does not begin as a store.
+    pub fn is_of_no_store(&self) -> bool
+        ensures { result ≡ is_of_no_store self.now.place }
+    {
+        matches!(self.place, Place::Before(_, _))
     }
 }
 
@@ -40,51 +64,87 @@ impl fmt::Display for Refusal {
 /// opened does not fail.
 pub fn refusal_of(alloc: Global, source: &Source) -> Result<Option<Refusal>, Fault>
     ensures told { IfOk result (TellsOf source.now.bytes.items) }
+    ensures placed { IfOk result (λ told. IfSome told (λ refusal. IsPlaced source.now.size source.now.bytes.items refusal.place)) }
     ensures refused { IfErr result (λ fault. (fault ≡ Fault.Memory) ⊎ (fault ≡ Fault.Device)) }
 {
     match block_of(&source.bytes) {
         Ok(block) => refusal_behind(alloc, source, block),
-        Err(wrong) => {
-            let opening = opening_without_block(alloc, source, wrong)?;
-            Ok(refusal_in(None, &opening))
-        }
+        Err(wrong) => refusal_before(alloc, source, wrong),
     }
 }
 
 // The same of a store with this block 0.
 fn refusal_behind(alloc: Global, source: &Source, block: Block) -> Result<Option<Refusal>, Fault>
     ensures told { IfOk result (TellsOpening block.layout.vars block.layout.slots source.now.bytes.items) }
+    ensures placed { IfOk result (λ told. IfSome told (λ refusal. IsPlacedBehind block.layout.vars block.layout.slots source.now.size source.now.bytes.items refusal.place)) }
     ensures refused { IfErr result (λ fault. (fault ≡ Fault.Memory) ⊎ (fault ≡ Fault.Device)) }
 {
     let Block { version, layout } = block;
     if (source.bytes.len() as u64) < layout.end() {
-        return Ok(refusal_in(Some(layout), &too_short(source)));
+        return Ok(refusal_in(layout, &too_short(source)));
     }
     match &ShownStore::new(alloc, &source.bytes, layout) {
         Ok(look) => {
             let opening = look.opening(version)?;
-            Ok(refusal_in(Some(layout), &opening))
+            Ok(refusal_in(layout, &opening))
         }
         Err(fault) => Err(*fault),
     }
 }
 
 // What is refused by what an opening finds in a store of this layout.
-fn refusal_in(layout: Option<Layout>, opening: &OpeningResult) -> Option<Refusal>
-    ensures { (vars slots : ℕ) (c : List ℕ) → IsOpening vars slots c opening.now → TellsOpening vars slots c result }
+fn refusal_in(layout: Layout, opening: &OpeningResult) -> Option<Refusal>
+    ensures told { (vars slots : ℕ) (c : List ℕ) → IsOpening vars slots c opening.now → TellsOpening vars slots c result }
+    ensures placed { IfSome result (λ refusal. IsPlacedIn layout.vars opening.now refusal.place) }
 {
     let OpeningResult::Refused(fault, wrong) = opening else {
         return None;
     };
-    let part = match layout {
-        Some(layout) => part_at(layout, wrong.at),
-        None => Part::Block,
-    };
     Some(Refusal {
         fault: *fault,
-        part,
-        wrong: *wrong,
+        place: Place::In(part_at(layout, wrong.at), *wrong),
     })
+}
+
+// Why an opening is refused where this is wrong with block 0.
+fn refusal_before(
+    alloc: Global,
+    source: &Source,
+    wrong: WrongByte,
+) -> Result<Option<Refusal>, Fault>
+    requires { IsBlockWrong wrong.why wrong.at source.now.bytes.items }
+    ensures told { IfOk result (TellsOpening 1 2 source.now.bytes.items) }
+    ensures placed { IfOk result (λ told. IfSome told (λ refusal. IsPlacedBefore source.now.size source.now.bytes.items refusal.place)) }
+    ensures refused { IfErr result (λ fault. fault ≡ Fault.Memory) }
+{
+    let opening = opening_without_block(alloc, source, wrong)?;
+    Ok(refusal_at(place_before(source, wrong), &opening))
+}
+
+// What is refused, if it is, told at this place.
+fn refusal_at(place: Place, opening: &OpeningResult) -> Option<Refusal>
+    ensures told { (vars slots : ℕ) (c : List ℕ) → IsOpening vars slots c opening.now → TellsOpening vars slots c result }
+    ensures placed { IfSome result (λ refusal. refusal.place ≡ place) }
+{
+    match opening {
+        OpeningResult::Found(_) => None,
+        OpeningResult::Refused(fault, _) => Some(Refusal {
+            fault: *fault,
+            place,
+        }),
+    }
+}
+
+// Where that is told: of bytes that no store has so few of, with their number.
+fn place_before(source: &Source, wrong: WrongByte) -> Place
+    requires { IsBlockWrong wrong.why wrong.at source.now.bytes.items }
+    ensures { IsPlacedBefore source.now.size source.now.bytes.items result }
+{
+    if (source.bytes.len() as u64) < least_layout().end() {
+        Place::Before(source.size, wrong)
+    } else {
+        Place::In(Part::Block, wrong)
+    }
 }
 
 // The part that a byte belongs to.

@@ -43,9 +43,10 @@ returns c = λ name. record {
   serve = record { asks = (refl, refl); path = refl; with_shape = refl };
   serve_with_shape = record { asks = (refl, refl); path = refl; with_shape = refl };
   serve_nothing = (λ e. cc, λ is. elim is [ inl e ↦ e | inr e ↦ e ]);
-  check = record { asks = (refl, refl); path = refl; explains = inl refl };
+  check = record { asks = (refl, refl); path = refl; explains = refl };
   check_nothing = (λ e. cc, λ is. elim is [ inl e ↦ e | inr e ↦ e ]);
-  check_explained = (λ e. cc, λ is. elim is [ inl e ↦ e | inr e ↦ e ]);
+  check_explained = record { asks = (refl, refl); path = refl; explains = refl };
+  check_two = (λ e. cc, λ is. elim is [ inl e ↦ e | inr e ↦ e ]);
   explained = record {
     given = refl;
     before_a_script = refl;

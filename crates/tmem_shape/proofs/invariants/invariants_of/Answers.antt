@@ -44,7 +44,7 @@ returns-in-Some-clause-refused c = λ linears has.
     let first = subst (λ (vs : List Value). AllZip (IsInvariant c.args.vars) read (map view vs)) c.deref.ensures.value c.in_ok-invariants.ensures.ok in
     let second = forms_found (view c.args.value.now) v items.now.items c.args.vars linears c.in_ok-found.ensures.ok is has in
     let same = ap (map (λ (l : Linear). l.name)) c.deref-2.ensures.value ∙ names_once c.args.vars read linears (map view items.now.items) first second in
-    c.in-Some.ensures (subst AreDistinct (sym same) has.distinct)
+    c.in-Some.ensures.repeated (subst AreDistinct (sym same) has.distinct)
 
 pub returns-clause-ok : goal.returns-clause-ok
 returns-clause-ok c =
@@ -60,5 +60,5 @@ returns-clause-ok c =
       stands = c.in_ok-found.ensures.ok ∙ ap Some is;
       forms = forms;
       few = omega (arith, c.len.ensures);
-      distinct = subst AreDistinct (ap (map (λ (l : Linear). l.name)) c.deref-2.ensures.value) c.in_default.ensures;
+      distinct = subst AreDistinct (ap (map (λ (l : Linear). l.name)) c.deref-2.ensures.value) c.in_default.ensures.repeated;
     }
