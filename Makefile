@@ -1,13 +1,13 @@
 # The README's commands.
 
-# Plays a script, by default the first one, on a device in memory, or with DISK=PATH in a file. The build is not proved, and is kept
-# until a source changes.
+# Plays a script, by default the first one, on a device in memory, or with DISK=PATH in a file. With EXPLAIN=1 more is told of what
+# fails. The build is not proved, and is kept until a source changes.
 SCRIPT = examples/first.json
 UNPROVED = crates/tmem/out/unproved
 
 run: $(UNPROVED)
 	@echo "This build was not proved: make build proves the program."
-	@$(UNPROVED) run "$(SCRIPT)" $(if $(DISK),--disk "$(DISK)")
+	@$(UNPROVED) run "$(SCRIPT)" $(if $(DISK),--disk "$(DISK)") $(if $(EXPLAIN),--explain)
 
 $(UNPROVED): .ci/unproved crates.txt $(shell find crates -name '*.rt')
 	@echo "Building the program without a proof, which takes one to three minutes" >&2
@@ -36,7 +36,7 @@ fuzz: $(UNPROVED)
 	@fuzz/fuzz $(UNPROVED) $(CASES) $(SEED)
 	@fuzz/serve $(UNPROVED) $(REQUESTS) $(SEED)
 
-# Proves the program, and times the jobs of a service. bench/check compares what it prints with a simulated clock.
+# Proves the program, and times the jobs of a service.
 bench: build
 	crates/tmem/out/tmem bench
 

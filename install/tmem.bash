@@ -37,7 +37,7 @@ _tmem() {
         show) options="--json --hex $each" takes=(file) ;;
         init) options="--in-place $each" takes=(file file) ;;
         serve) options="--shape $each" takes=(file) ;;
-        check) options="--help -h" takes=(file) ;;
+        check) options="$each" takes=(file) ;;
         help) takes=(subcommand) ;;
     esac
 

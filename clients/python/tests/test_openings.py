@@ -76,7 +76,7 @@ class Making(StoreCase):
         with self.assertRaisesRegex(tmem.TmemError, f"cannot be read: {beside}: this is not JSON"):
             self.create(self.path)
         os.unlink(beside)
-        with self.assertRaisesRegex(tmem.TmemError, f"the store is there already, and its shape cannot be read: {beside}: No such file"):
+        with self.assertRaisesRegex(tmem.TmemError, f"something is there already, and its shape cannot be read: {beside}: No such file"):
             self.create(self.path)
 
     def test_without_the_keyword_nothing_may_be_there(self):
@@ -85,9 +85,15 @@ class Making(StoreCase):
             for kind in (tmem.Exists, FileExistsError):
                 with self.assertRaises(kind) as caught:
                     tmem.create(self.path, shape)
-                self.assertEqual(str(caught.exception), f"cannot create {self.path}: tmem: the store is there already")
+                self.assertEqual(str(caught.exception), f"cannot create {self.path}: tmem: something is there already")
                 self.assertEqual(caught.exception.path, self.path)
         self.assertEqual(self.store.get("a"), 5)
+
+    def test_a_program_of_before_says_it_in_other_words(self):
+        for said, kind in (("tmem: the store is there already", tmem.Exists), ("tmem: another shape is there already", tmem.TmemError)):
+            with self.assertRaisesRegex(tmem.TmemError, said) as caught:
+                tmem.create(f"{self.folder}/new.store", SHAPE, program=["sh", "-c", f"echo '{said}' >&2; exit 1"])
+            self.assertIs(type(caught.exception), kind)
 
     def cut_off(self, text):
         """A store of which only the shape got to its place."""
@@ -122,7 +128,7 @@ class Making(StoreCase):
         self.written(other, json.dumps({**SHAPE, "vars": 9}))
         # (the first call in each is the one of the other process)
         same, another = ['"$0" "$@"; exec "$0" "$@"', f'"$0" init "$2" {other}; exec "$0" "$@"']
-        for number, (script, exist_ok, why) in enumerate([(same, True, None), (same, False, "the store is there already"), (another, True, "has 9 at /vars")]):
+        for number, (script, exist_ok, why) in enumerate([(same, True, None), (same, False, "something is there already"), (another, True, "has 9 at /vars")]):
             path, program = f"{self.folder}/{number}.store", ["sh", "-c", script, PROGRAM]
             if why is None:
                 tmem.create(path, SHAPE, exist_ok=exist_ok, program=program)

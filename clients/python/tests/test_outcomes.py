@@ -23,7 +23,7 @@ class Errors(unittest.TestCase):
         tmem.NoRequest("there is no id", "/do"),
         tmem.Closed("the store is closed"),
         tmem.NotOpened("a.store", "tmem: fault 2 device", 1, ", which is not there"),
-        tmem.Exists("a.store", "cannot create a.store: the store is there already"),
+        tmem.Exists("a.store", "cannot create a.store: something is there already"),
         tmem.NoProgram("/nothing/here", "No such file or directory"),
         tmem.Timeout("the time was over"),
         tmem.Stuck("it had read nothing"),

@@ -11,8 +11,8 @@ from typing import Any, Iterator, Mapping, Sequence, Tuple
 from .errors import Exists, TmemError
 from .link import Program, command, failure_of, not_started
 
-# What the program says where something has the path of a new store.
-THERE = "tmem: the store is there already"
+# What the program says where something has the path of a new store, and what that of 1.0.0 said.
+THERE = "tmem: something is there already", "tmem: the store is there already"
 # Whether something has the store's path, and that of its shape.
 There = Tuple[bool, bool]
 
@@ -50,7 +50,7 @@ def _same_text(path: str, text: bytes, there: There) -> bytes:
         had, wanted = json.loads(found), json.loads(text)
     except (OSError, ValueError, RecursionError) as error:
         why = error.strerror if isinstance(error, OSError) else "this is not JSON"
-        what = "the store is there already, and its shape" if there[0] else "a shape is there already, and"
+        what = "something is there already, and its shape" if there[0] else "a shape is there already, and"
         raise TmemError(f"cannot create {path}: {what} cannot be read: {beside}: {why}") from None
     for at, here, there_too in _differences(had, wanted, ""):
         differ = f"{beside} has {here} at {at or 'its top'}, where the one given has {there_too}"
@@ -100,6 +100,6 @@ def _init(path: str, text: bytes, words: Sequence[str]) -> TmemError | None:
 def _refusal(path: str, told: str, given: str) -> TmemError:
     """What the program said, which is to name no file that is gone again."""
     line = told.split("\n")[0]
-    if line == THERE:
+    if line in THERE:
         return Exists(path, f"cannot create {path}: {line}")
     return TmemError(f"cannot create {path}: {told.replace(given, 'the shape')}")
