@@ -49,7 +49,7 @@ def json_of(text):
     try:
         return json.loads(text.decode("utf-8"), parse_int=_integer, parse_float=_number, parse_constant=_constant)
     except (ValueError, RecursionError):
-        raise NoRequest("this is not JSON", "line 1 column 1") from None
+        raise NoRequest("this is not JSON (which may nest 127 levels deep)", "line 1 column 1") from None
 
 
 def want(condition, why, at):

@@ -12,7 +12,7 @@ use Rattle.tmem_requests.specs.declared.why.RequestFlaw.TheVariants as why
 -- what is wrong, in words
 abbrev pub request_why_text : RequestFlaw → List ℕ
 request_why_text why.TooLong = codes "the line is longer than 65536 bytes"
-request_why_text why.NotJson = codes "this is not JSON"
+request_why_text why.NotJson = codes "this is not JSON (which may nest 127 levels deep)"
 request_why_text why.NotObject = codes "this is not an object"
 request_why_text why.NoId = codes "there is no id"
 request_why_text why.NoAsk = codes "nothing is asked for"

@@ -51,7 +51,7 @@ impl fmt::Display for RequestFlaw {
     fn fmt<W: fmt::Write>(&self, f: &mut fmt::Formatter<W>) -> fmt::Result {
         f.write_str(match self {
             RequestFlaw::TooLong => "the line is longer than 65536 bytes",
-            RequestFlaw::NotJson => "this is not JSON",
+            RequestFlaw::NotJson => "this is not JSON (which may nest 127 levels deep)",
             RequestFlaw::NotObject => "this is not an object",
             RequestFlaw::NoId => "there is no id",
             RequestFlaw::NoAsk => "nothing is asked for",

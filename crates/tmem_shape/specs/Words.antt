@@ -7,7 +7,7 @@ use Rattle.tmem_shape.specs.declared.why.ShapeFlaw.TheVariants as why
 
 -- what is wrong, in words
 abbrev pub shape_why_text : ShapeFlaw → List ℕ
-shape_why_text why.NotJson = codes "this is not JSON"
+shape_why_text why.NotJson = codes "this is not JSON (which may nest 127 levels deep)"
 shape_why_text why.NotObject = codes "this is not an object"
 shape_why_text why.NotArray = codes "this is not an array"
 shape_why_text why.UnknownKey = codes "this key is not known"

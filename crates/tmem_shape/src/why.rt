@@ -48,7 +48,7 @@ impl fmt::Display for ShapeFlaw {
 
     fn fmt<W: fmt::Write>(&self, f: &mut fmt::Formatter<W>) -> fmt::Result {
         match self {
-            ShapeFlaw::NotJson => write!(f, "this is not JSON"),
+            ShapeFlaw::NotJson => write!(f, "this is not JSON (which may nest 127 levels deep)"),
             ShapeFlaw::NotObject => write!(f, "this is not an object"),
             ShapeFlaw::NotArray => write!(f, "this is not an array"),
             ShapeFlaw::UnknownKey => write!(f, "this key is not known"),

@@ -70,7 +70,7 @@ static CASES: &[Case<'static>] = &[
         prints: &[
             "{\"id\":1,\"durable\":0}",
             "{\"line\":2,\"fault\":0,\"word\":\"norequest\",\"why\":\"this is not an object\",\"at\":\"\"}",
-            "{\"line\":3,\"fault\":0,\"word\":\"norequest\",\"why\":\"this is not JSON\",\"at\":\"line 1 column 1\"}",
+            "{\"line\":3,\"fault\":0,\"word\":\"norequest\",\"why\":\"this is not JSON (which may nest 127 levels deep)\",\"at\":\"line 1 column 1\"}",
             "{\"line\":4,\"fault\":0,\"word\":\"norequest\",\"why\":\"the store has no such variable\",\"at\":\"/get/0\"}",
             "{\"id\":3,\"durable\":0}",
         ],
@@ -103,7 +103,7 @@ static CASES: &[Case<'static>] = &[
             "{\"id\":1,\"committed\":0,\"registers\":[8]}",
             "{\"id\":3,\"fault\":4,\"word\":\"unknown\"}",
             "{\"id\":4,\"fault\":4,\"word\":\"unknown\"}",
-            "{\"line\":5,\"fault\":0,\"word\":\"norequest\",\"why\":\"this is not JSON\",\"at\":\"line 1 column 1\"}",
+            "{\"line\":5,\"fault\":0,\"word\":\"norequest\",\"why\":\"this is not JSON (which may nest 127 levels deep)\",\"at\":\"line 1 column 1\"}",
             "{\"id\":5,\"fault\":4,\"word\":\"unknown\"}",
             "{\"id\":2,\"fault\":4,\"word\":\"unknown\"}",
         ],
