@@ -81,7 +81,9 @@ class Kept:
 
 
 def check_store(it, least, most, figures, count, values):
-    """The values of a store after a job are those that the printed line comes to, in a time between these two."""
+    """The values of a store after a job are those that the printed line comes to, in a time between these two. Answers how many operations
+    that were, and in how many seconds."""
+    done = 0
     if it.job == OPEN:
         good = len(values) == MANY_VARS and set(values) == {1} and count == 4096
     else:
@@ -95,6 +97,7 @@ def check_store(it, least, most, figures, count, values):
             good = good and done == figures["flushes"]
     if not good:
         raise WrongWork(f"tmem bench, line {it.line}: {figures} does not agree with {count} transactions and the values {values[:4]}")
+    return {"operations": done, "seconds": done / figures["rate"]} if done else {}
 
 
 def ask_tmem(it, seconds, where):
@@ -116,7 +119,7 @@ def ask_tmem(it, seconds, where):
         figures["baseline"] = float(text[75:87])
     if kept:
         kept.copy(f"{store}.kept")
-        check_store(it, least, most, figures, *values_of(where.program, f"{store}.kept"))
+        figures.update(check_store(it, least, most, figures, *values_of(where.program, f"{store}.kept")))
     return figures
 
 

@@ -74,6 +74,20 @@ def table(rows):
     return "\n".join(lines)
 
 
+def batches(samples):
+    """Of each durable job of `tmem bench`, how many operations a flush made durable, and how long one took from the last, as a multiple of
+    the two syncs that were timed before the job and after it."""
+    groups, lines = defaultdict(list), []
+    for it in samples:
+        if it["part"] == "durable" and it.get("flushes"):
+            groups[it["job"], it["callers"]].append((it["operations"] / it["flushes"], it["seconds"] / it["flushes"] * it["baseline"]))
+    for (job, callers), those in sorted(groups.items(), key=lambda group: (list(NAMES).index(group[0][0]), group[0][1])):
+        size, time = (spread([had[k] for had in those]) for k in (0, 1))
+        text = [f"{figure(it['median'])} ({figure(it['least'])} to {figure(it['most'])})" for it in (size, time)]
+        lines.append(f"- {NAMES[job]}, {callers}: {text[0]} a flush, and one each {text[1]} of two syncs.")
+    return "\n".join(lines)
+
+
 def markdown(rows, part, key):
     """A table of medians, a column for each peer, whose least and most stand in brackets."""
     those = [row for row in rows if row["part"] == part and row["job"] != SYNCS]
