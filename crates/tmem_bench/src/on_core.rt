@@ -93,7 +93,8 @@ fn settle_on<R: Clock, T: Invariants + Drop, S: StoredSteps>(
 // A core whose variables all have something, with the invariant registered.
 fn new_core<T: Invariants + Drop>(alloc: Global, vars: u16, table: T) -> Result<Core<T>, Fault>
     requires { T.vars table ≡ vars }
-    ensures { IfOk result (λ core. length (core_state core).values ≡ vars) }
+    ensures sized { IfOk result (λ core. length (core_state core).values ≡ vars) }
+    ensures registered { IfOk result (λ core. length (core_state core).names ≡ 1) }
 {
     let mut names = NameSet::new(alloc)?;
     names.push(&Name::new(SOLVENT)?);
