@@ -55,18 +55,18 @@ const NO_STORE: &str = "what is there is no store";
 const UNSEEN: &str = "what is there could not be looked at";
 
 const EMPTY_STORE: &str =
-    "the file is empty, and so no store; remove it, or put a copy of the store in its place";
+    "the file is empty, and so no store; if a store was there, put a copy of it in its place; only else remove it";
 
 const STORE_FOR_FILE: &str =
     "it is a store, and no shape; STORE is named first, and FILE, its shape, second; no store was touched";
 
 const STORE_FOR_SHAPE: &str =
-    "it is a store, and no shape; name its shape by --shape; no store was touched";
+    "it is a store, and no shape; name the shape of the store to be served by --shape; no store was touched";
 
 const A_DEVICE: &str = "it is a block device; add --in-place to make a store on it";
 
 const PLACED_OR_NOT: &str =
-    "the device failed while the store was made on it, so it is made or not; look into the system's log (dmesg), start the machine anew after an error of the disk, and give the same words again: they make it, or say that the device is not blank, and then it is made";
+    "the device failed while the store was made on it, so it is made or not; look into the system's log (dmesg), start the machine anew after an error of the disk, and give the same words again: they make it, or say that the device is not blank, and then tmem show tells whether it is made; if it is not, fill those bytes with zeros and begin again";
 
 const NOT_BLANK: &str =
     "it has bytes other than 0 where the store would be, and what is on it would be lost; look first what it is (lsblk, mount), and name another, or fill it with zeros only if nothing on it is needed";

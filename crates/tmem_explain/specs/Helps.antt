@@ -14,13 +14,13 @@ fault_help fault.Memory = codes "memory did not suffice, or no thread could be s
 fault_help fault.Device = codes "a call on the file failed; look at its rights, at room (df), at limits (ulimit -f, ulimit -n), whether the device is read-only, and into the system's log (dmesg); then open the store again, and see what it has before anything is repeated"
 fault_help fault.Closed = codes "an earlier failure has closed the store: a call on its file failed, or it could not be opened again; mend that, open the store again, and see what it has before anything is repeated"
 fault_help fault.Unknown =
-    codes "the device failed; of a flush, all of the batch is durable or nothing; a checkpoint puts no transaction in doubt; open the store again, after an error of the disk once the machine was started anew, and it says how many transactions there are"
+    codes "the device failed; of a flush, all of the batch is durable, or none of it; a checkpoint puts no transaction in doubt; open the store again, after an error of the disk once the machine was started anew, and it says how many transactions there are"
 fault_help fault.Full = codes "256 transactions wait to be durable; flush, and settle again"
 fault_help fault.LogFull = codes "every slot of the log is used; make a checkpoint, and flush again"
 fault_help fault.Conflict = codes "a value that the transaction read has changed; begin it again"
 fault_help fault.NotFormatted = codes "this does not begin as a store; check the path, and restore a copy only if a store was there"
 fault_help fault.Damaged =
-    codes "the file is not as tmem leaves one: something else changed it, or a later version of tmem wrote it; run that version, or put a copy of the file in its place (nothing repairs it)"
+    codes "the file is not as tmem leaves one: something else changed it, or a later version of tmem wrote it; run that version, or else move the file away and put a copy in its place (nothing repairs it)"
 fault_help (fault.Missing name) =
     codes "the invariant " ++ name ++ codes " is registered in the store, and the program or shape has none of this name; open the store with the one that it belongs to"
 fault_help (fault.Broken name) =
@@ -28,14 +28,14 @@ fault_help (fault.Broken name) =
 fault_help (fault.BadPlan c) = cause_text c ++ codes "; change the transaction"
 fault_help fault.BadName = codes "a name is not 1 to 16 letters from a to z, or stands twice, or there are more than 64; change the program"
 fault_help fault.BadFootprint = codes "an invariant is over no variable, over more than 16, over one twice, or over one that the store lacks (they count from 0); correct that invariant"
-fault_help fault.Spent = codes "the count of transactions or of images is at 2^64 - 1, to which no use comes, so something changed the file; restore a copy"
+fault_help fault.Spent = codes "the count of transactions or of images is at 2^64 - 1, to which no use comes, so something changed the file; make a new store of the values that tmem show PATH tells, or restore a copy that has all its transactions"
 fault_help fault.NoSeat = codes "all 32 passes were given out; keep passes, or borrow them of the pool"
 fault_help fault.Geometry =
     codes "the numbers of variables and log slots that were asked for are out of limits (1 to 1024, 2 to 64) or not the store's own, or its file was cut off; state those that tmem show PATH prints, or put a copy of the file in its place"
 
 -- what to do where an opening refuses bytes by a fault: whether no store is so short, and whether they were read without a lock
 abbrev help_of : Fault → Bool → Bool → List ℕ
-help_of fault.Geometry true shown = fault_help fault.NotFormatted
+help_of fault.Geometry true shown = codes "these bytes are too few for a store; check the path, and restore a copy only if a store was there"
 help_of fault.Geometry false shown = codes "the file was cut off, or is no store; restore a copy, or check the path"
 help_of fault.Damaged no_store true = codes "if a program has it open, look again; else " ++ fault_help fault.Damaged
 help_of f no_store shown = fault_help f

@@ -29,7 +29,7 @@ impl fmt::Display for FaultHelp {
             ),
             Fault::Unknown => write!(
                 f,
-                "the device failed; of a flush, all of the batch is durable or nothing; a checkpoint puts no transaction in doubt; open the store again, after an error of the disk once the machine was started anew, and it says how many transactions there are"
+                "the device failed; of a flush, all of the batch is durable, or none of it; a checkpoint puts no transaction in doubt; open the store again, after an error of the disk once the machine was started anew, and it says how many transactions there are"
             ),
             Fault::Full => write!(
                 f,
@@ -49,7 +49,7 @@ impl fmt::Display for FaultHelp {
             ),
             Fault::Damaged => write!(
                 f,
-                "the file is not as tmem leaves one: something else changed it, or a later version of tmem wrote it; run that version, or put a copy of the file in its place (nothing repairs it)"
+                "the file is not as tmem leaves one: something else changed it, or a later version of tmem wrote it; run that version, or else move the file away and put a copy in its place (nothing repairs it)"
             ),
             Fault::Missing(name) => write!(
                 f,
@@ -70,7 +70,7 @@ impl fmt::Display for FaultHelp {
             ),
             Fault::Spent => write!(
                 f,
-                "the count of transactions or of images is at 2^64 - 1, to which no use comes, so something changed the file; restore a copy"
+                "the count of transactions or of images is at 2^64 - 1, to which no use comes, so something changed the file; make a new store of the values that tmem show PATH tells, or restore a copy that has all its transactions"
             ),
             Fault::NoSeat => write!(
                 f,
@@ -88,7 +88,7 @@ impl fmt::Display for FaultHelp {
 #[derive(Clone, Copy)]
 pub struct RefusalHelp {
     pub fault: Fault,
-    /// The bytes are fewer than those of any store, and do not begin as one.
+    /// The bytes are fewer than those of any store.
     pub is_of_no_store: bool,
     /// They were read without the lock of their file.
     pub is_shown: bool,
@@ -107,7 +107,10 @@ impl fmt::Display for RefusalHelp {
             is_shown,
         } = *self;
         match fault {
-            Fault::Geometry if is_of_no_store => write!(f, "{}", FaultHelp(Fault::NotFormatted)),
+            Fault::Geometry if is_of_no_store => write!(
+                f,
+                "these bytes are too few for a store; check the path, and restore a copy only if a store was there"
+            ),
             Fault::Geometry => write!(
                 f,
                 "the file was cut off, or is no store; restore a copy, or check the path"
