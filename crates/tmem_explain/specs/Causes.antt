@@ -72,7 +72,7 @@ call_help call.Other = codes "a call on it failed, for a reason that this look d
 -- why a file could not be used, and what to do
 abbrev pub device_help : DeviceCause → List ℕ
 device_help cause.Empty = codes "the path is empty; name a file"
-device_help cause.Locked = codes "another program has it open; wait until that ends, or end it"
+device_help cause.Locked = codes "another program has it open (fuser or lsof says which); wait until that ends, or end it"
 device_help cause.Folder = codes "it is a folder; name a file"
 device_help cause.NoFile = codes "it is no file and no block device; name one"
 device_help cause.Missing = codes "nothing has this path; check it"

@@ -125,7 +125,8 @@ impl fmt::Display for DeviceCause {
     fn fmt<W: fmt::Write>(&self, f: &mut fmt::Formatter<W>) -> fmt::Result {
         let text = match self {
             DeviceCause::Empty => "the path is empty; name a file",
-            DeviceCause::Locked => "another program has it open; wait until that ends, or end it",
+            DeviceCause::Locked =>
+                "another program has it open (fuser or lsof says which); wait until that ends, or end it",
             DeviceCause::Folder => "it is a folder; name a file",
             DeviceCause::NoFile => "it is no file and no block device; name one",
             DeviceCause::Missing => "nothing has this path; check it",
