@@ -36,8 +36,8 @@ link_cause k number = cause.Call (call_cause k number)
 abbrev pub last_byte : List ℕ → Option ℕ
 last_byte text = slice_get text (length text - 1)
 
--- A lock is told only of what this program does not have open itself, that something is there only of a new file, and that nothing is
--- only of what was to be there. That a second name is in the way is told only of what was to be used.
+-- A lock is told only of what this program does not have open itself, that something is there, maybe as this program made it, only of a
+-- new file, and that nothing is only of what was to be there. That a second name is in the way is told only of what was to be used.
 abbrev pub may_be_told : Wanted → DeviceCause → Bool
 may_be_told wanted.Read cause.Locked = false
 may_be_told wanted.Held cause.Locked = false
@@ -48,6 +48,10 @@ may_be_told wanted.Read cause.There = false
 may_be_told wanted.Found cause.There = false
 may_be_told wanted.Held cause.There = false
 may_be_told wanted.FoundOrMade cause.There = false
+may_be_told wanted.Read cause.NameInDoubt = false
+may_be_told wanted.Found cause.NameInDoubt = false
+may_be_told wanted.Held cause.NameInDoubt = false
+may_be_told wanted.FoundOrMade cause.NameInDoubt = false
 may_be_told wanted.Read cause.ClosedFolder = false
 may_be_told wanted.Found cause.ClosedFolder = false
 may_be_told wanted.Held cause.ClosedFolder = false
@@ -78,6 +82,7 @@ device_help cause.NoFile = codes "it is no file and no block device; name one"
 device_help cause.Missing = codes "nothing has this path; check it"
 device_help cause.DeadLink = codes "it is a link to nothing; mend the link, or name a file"
 device_help cause.There = codes "something has this path, and a new file was to be made; name another path"
+device_help cause.NameInDoubt = codes "it has a second name, as a new file has (PATH.new0) until its folder is synced; if it was not there before, this run made it, and that sync failed: remove both names, and look into the system's log (dmesg); else name another path"
 device_help cause.MissingFolder = codes "its folder is not there; make it, or check the path"
 device_help cause.NoFolder = codes "a part of this path, or of a link on it, is used as a folder and is none; check the path"
 device_help cause.Slash = codes "it ends in /, as the path of a folder does; name a file"

@@ -1,5 +1,5 @@
 //! Why a file could not be used.
-ghost use Rattle.std.specs.Prelude.{◌≡◌, ◌↔◌, ◌<◌, [], true, Some, IsTrue, IsOk, IfErr, IfSome};
+ghost use Rattle.std.specs.Prelude.{◌≡◌, ◌↔◌, ◌<◌, ◌≤◌, [], true, Some, IsTrue, IsOk, IfErr, IfSome};
 ghost use Rattle.std.specs.Fs.{IsDir};
 ghost use Rattle.std.specs.IoError.{error_kind, raw_os_error};
 ghost use Rattle.tmem_explain.specs.Causes.{call_cause, last_byte, link_cause, may_be_told};
@@ -37,6 +37,8 @@ pub enum DeviceCause {
     DeadLink,
     /// Something has the path.
     There,
+    /// A new file was to be made, and the file that has the path has a second name.
+    NameInDoubt,
     MissingFolder,
     /// A part of it that is used as a folder is none.
     NoFolder,
@@ -133,6 +135,8 @@ impl fmt::Display for DeviceCause {
             DeviceCause::DeadLink => "it is a link to nothing; mend the link, or name a file",
             DeviceCause::There =>
                 "something has this path, and a new file was to be made; name another path",
+            DeviceCause::NameInDoubt =>
+                "it has a second name, as a new file has (PATH.new0) until its folder is synced; if it was not there before, this run made it, and that sync failed: remove both names, and look into the system's log (dmesg); else name another path",
             DeviceCause::MissingFolder => "its folder is not there; make it, or check the path",
             DeviceCause::NoFolder =>
                 "a part of this path, or of a link on it, is used as a folder and is none; check the path",
@@ -181,7 +185,7 @@ pub fn cause_of<R: Files<File = File> + AllocGlobal>(
         return DeviceCause::Empty;
     }
     match fs::metadata(rt, path) {
-        Ok(_) if wanted == Wanted::Made => DeviceCause::There,
+        Ok(found) if wanted == Wanted::Made => cause_of_there(found.is_file(), found.nlink()),
         Ok(found) => cause_of_found(rt, path, wanted, found.file_type()),
         Err(error) => match error.kind() {
             ErrorKind::NotFound => cause_of_missing(rt, path, wanted, size),
@@ -189,6 +193,21 @@ pub fn cause_of<R: Files<File = File> + AllocGlobal>(
             ErrorKind::NotADirectory => DeviceCause::NoFolder,
             _ => DeviceCause::Call(CallCause::of(error)),
         },
+    }
+}
+
+// Why no new file was made where a file or something else is found, which has so many names. It may be new, if only the sync of its folder
+// failed. Another sync of that would show nothing: behind one that failed it may succeed.
+fn cause_of_there(is_file: bool, names: u64) -> DeviceCause
+    ensures told { may_be_told Wanted.Made result ≡ true }
+    ensures in_doubt { IsTrue is_file → 1 < names → result ≡ DeviceCause.NameInDoubt }
+    ensures other { ¬ IsTrue is_file → result ≡ DeviceCause.There }
+    ensures one_name { names ≤ 1 → result ≡ DeviceCause.There }
+{
+    if is_file && names > 1 {
+        DeviceCause::NameInDoubt
+    } else {
+        DeviceCause::There
     }
 }
 
